@@ -1,0 +1,18 @@
+//! The outside of the program as traits: what is read, what is written and the files by name, each with
+//! a count of what went wrong.
+#![tactic(auto)]
+
+mod mem_sink;
+mod mem_source;
+mod piece;
+mod read;
+mod sink;
+mod source;
+mod store;
+
+pub use mem_sink::MemSink;
+pub use mem_source::MemSource;
+pub use read::{FileFault, read_file};
+pub use sink::Sink;
+pub use source::{Failed, Source};
+pub use store::{Store, StoreFault};
