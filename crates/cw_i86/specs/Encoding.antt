@@ -1,0 +1,149 @@
+-- The bytes of each instruction.
+use Rattle.std.specs.Prelude.{◌≡◌, ℕ, ◌+◌, ◌*◌, ◌<◌, ◌^◌, ◌≢◌, Bool, true, false, List, [], ◌∷◌, ◌++◌}
+use Rattle.std.specs.Int.{w16, to_le_bytes}
+use Rattle.cw_i86.specs.declared.instr.Place.{Place}
+use Rattle.cw_i86.specs.declared.instr.Place.TheVariants.{Direct, Plain, Near, Far}
+use Rattle.cw_i86.specs.declared.instr.Mem.{Mem}
+use Rattle.cw_i86.specs.declared.instr.Rm.{Rm}
+use Rattle.cw_i86.specs.declared.instr.Rm.TheVariants as rms
+use Rattle.cw_i86.specs.declared.instr.Imm.{Imm}
+use Rattle.cw_i86.specs.declared.instr.Imm.TheVariants.{Byte, Word}
+use Rattle.cw_i86.specs.declared.instr.Instr.{Instr}
+use Rattle.cw_i86.specs.declared.instr.Instr.TheVariants.{AluRm, AluAcc, Inc, Dec, Push, Pop, JumpIf, AluImm, AluShort, TestRm, XchgRm, Mov, Lea, XchgAx, Cbw, Cwd, PushF, PopF, Sahf, Lahf, MovAcc, TestAcc, MovImm, RetAdd, Ret, MovRm, Shift, Loop, In, Out, Call, Jump, JumpShort, Hlt, Cmc, Clc, Stc, TestImm, Unary, IncDec, CallRm, JumpRm, PushRm}
+
+abbrev pub is_word : Imm → Bool
+is_word (Byte b) = false
+is_word (Word w) = true
+
+abbrev pub bit : Bool → ℕ
+bit true = 1
+bit false = 0
+
+-- a word, its low byte first
+abbrev pub word : ℕ → List ℕ
+word n = to_le_bytes w16 n
+
+abbrev pub imm_bytes : Imm → List ℕ
+imm_bytes (Byte b) = b ∷ []
+imm_bytes (Word w) = word w
+
+-- the byte of mode, register or extension, and register or address form
+abbrev pub mod_reg_rm : ℕ → ℕ → ℕ → ℕ
+mod_reg_rm mode reg rm = 64 * mode + 8 * reg + rm
+
+abbrev pub place_bytes : ℕ → Place → List ℕ
+place_bytes reg (Direct at) = mod_reg_rm 0 reg 6 ∷ word at
+place_bytes reg (Plain rm) = mod_reg_rm 0 reg rm ∷ []
+place_bytes reg (Near rm by) = mod_reg_rm 1 reg rm ∷ by ∷ []
+place_bytes reg (Far rm by) = mod_reg_rm 2 reg rm ∷ word by
+
+-- the prefix that selects the code segment
+abbrev pub prefixed : Bool → List ℕ → List ℕ
+prefixed true bytes = 0x2E ∷ bytes
+prefixed false bytes = bytes
+
+abbrev pub with_mem : ℕ → ℕ → Mem → List ℕ
+with_mem opcode reg mem = prefixed mem.cs (opcode ∷ place_bytes reg mem.place)
+
+abbrev pub with_rm : ℕ → ℕ → Rm → List ℕ
+with_rm opcode reg (rms.Reg r) = opcode ∷ mod_reg_rm 3 reg r ∷ []
+with_rm opcode reg (rms.Mem mem) = with_mem opcode reg mem
+
+abbrev pub bytes_of : Instr → List ℕ
+bytes_of (AluRm op wide to_reg reg rm) = with_rm (8 * op + 2 * bit to_reg + bit wide) reg rm
+bytes_of (AluAcc op imm) = (8 * op + 4 + bit (is_word imm)) ∷ imm_bytes imm
+bytes_of (Inc reg) = (0x40 + reg) ∷ []
+bytes_of (Dec reg) = (0x48 + reg) ∷ []
+bytes_of (Push reg) = (0x50 + reg) ∷ []
+bytes_of (Pop reg) = (0x58 + reg) ∷ []
+bytes_of (JumpIf cond by) = (0x70 + cond) ∷ by ∷ []
+bytes_of (AluImm op rm imm) = with_rm (0x80 + bit (is_word imm)) op rm ++ imm_bytes imm
+bytes_of (AluShort op rm imm) = with_rm 0x83 op rm ++ imm ∷ []
+bytes_of (TestRm wide reg rm) = with_rm (0x84 + bit wide) reg rm
+bytes_of (XchgRm wide reg rm) = with_rm (0x86 + bit wide) reg rm
+bytes_of (Mov wide to_reg reg rm) = with_rm (0x88 + 2 * bit to_reg + bit wide) reg rm
+bytes_of (Lea reg mem) = with_mem 0x8D reg mem
+bytes_of (XchgAx reg) = (0x90 + reg) ∷ []
+bytes_of Cbw = 0x98 ∷ []
+bytes_of Cwd = 0x99 ∷ []
+bytes_of PushF = 0x9C ∷ []
+bytes_of PopF = 0x9D ∷ []
+bytes_of Sahf = 0x9E ∷ []
+bytes_of Lahf = 0x9F ∷ []
+bytes_of (MovAcc cs wide store at) = prefixed cs ((0xA0 + 2 * bit store + bit wide) ∷ word at)
+bytes_of (TestAcc imm) = (0xA8 + bit (is_word imm)) ∷ imm_bytes imm
+bytes_of (MovImm reg imm) = (0xB0 + 8 * bit (is_word imm) + reg) ∷ imm_bytes imm
+bytes_of (RetAdd n) = 0xC2 ∷ word n
+bytes_of Ret = 0xC3 ∷ []
+bytes_of (MovRm rm imm) = with_rm (0xC6 + bit (is_word imm)) 0 rm ++ imm_bytes imm
+bytes_of (Shift op wide by_cl rm) = with_rm (0xD0 + 2 * bit by_cl + bit wide) op rm
+bytes_of (Loop kind by) = (0xE0 + kind) ∷ by ∷ []
+bytes_of (In port) = 0xE4 ∷ port ∷ []
+bytes_of (Out port) = 0xE6 ∷ port ∷ []
+bytes_of (Call by) = 0xE8 ∷ word by
+bytes_of (Jump by) = 0xE9 ∷ word by
+bytes_of (JumpShort by) = 0xEB ∷ by ∷ []
+bytes_of Hlt = 0xF4 ∷ []
+bytes_of Cmc = 0xF5 ∷ []
+bytes_of Clc = 0xF8 ∷ []
+bytes_of Stc = 0xF9 ∷ []
+bytes_of (TestImm rm imm) = with_rm (0xF6 + bit (is_word imm)) 0 rm ++ imm_bytes imm
+bytes_of (Unary op wide rm) = with_rm (0xF6 + bit wide) op rm
+bytes_of (IncDec down wide rm) = with_rm (0xFE + bit wide) (bit down) rm
+bytes_of (CallRm rm) = with_rm 0xFF 2 rm
+bytes_of (JumpRm rm) = with_rm 0xFF 4 rm
+bytes_of (PushRm rm) = with_rm 0xFF 6 rm
+
+-- The numbers that the table's rows have.
+abbrev pub IsPlace : Place → Type 0
+IsPlace (Direct at) = at < 2 ^ 16
+IsPlace (Plain rm) = (rm < 8) × (rm ≢ 6)
+IsPlace (Near rm by) = (rm < 8) × (by < 2 ^ 8)
+IsPlace (Far rm by) = (rm < 8) × (by < 2 ^ 16)
+
+abbrev pub IsRm : Rm → Type 0
+IsRm (rms.Reg r) = r < 8
+IsRm (rms.Mem mem) = IsPlace mem.place
+
+abbrev pub IsImm : Imm → Type 0
+IsImm (Byte b) = b < 2 ^ 8
+IsImm (Word w) = w < 2 ^ 16
+
+abbrev pub IsInstr : Instr → Type 0
+IsInstr (AluRm op wide to_reg reg rm) = (op < 8) × (reg < 8) × IsRm rm
+IsInstr (AluAcc op imm) = (op < 8) × IsImm imm
+IsInstr (Inc reg) = reg < 8
+IsInstr (Dec reg) = reg < 8
+IsInstr (Push reg) = (reg < 8) × (reg ≢ 4)
+IsInstr (Pop reg) = (reg < 8) × (reg ≢ 4)
+IsInstr (JumpIf cond by) = (cond < 16) × (by < 2 ^ 8)
+IsInstr (AluImm op rm imm) = (op < 8) × IsRm rm × IsImm imm
+IsInstr (AluShort op rm imm) = (op < 8) × (op ≢ 1) × (op ≢ 4) × (op ≢ 6) × IsRm rm × (imm < 2 ^ 8)
+IsInstr (TestRm wide reg rm) = (reg < 8) × IsRm rm
+IsInstr (XchgRm wide reg rm) = (reg < 8) × IsRm rm
+IsInstr (Mov wide to_reg reg rm) = (reg < 8) × IsRm rm
+IsInstr (Lea reg mem) = (reg < 8) × IsPlace mem.place
+IsInstr (XchgAx reg) = reg < 8
+IsInstr (MovAcc cs wide store at) = at < 2 ^ 16
+IsInstr (TestAcc imm) = IsImm imm
+IsInstr (MovImm reg imm) = (reg < 8) × IsImm imm
+IsInstr (RetAdd n) = n < 2 ^ 16
+IsInstr (MovRm rm imm) = IsRm rm × IsImm imm
+IsInstr (Shift op wide by_cl rm) = (op < 8) × (op ≢ 6) × IsRm rm
+IsInstr (Loop kind by) = (kind < 4) × (by < 2 ^ 8)
+IsInstr (In port) = port < 2 ^ 8
+IsInstr (Out port) = port < 2 ^ 8
+IsInstr (Call by) = by < 2 ^ 16
+IsInstr (Jump by) = by < 2 ^ 16
+IsInstr (JumpShort by) = by < 2 ^ 8
+IsInstr (TestImm rm imm) = IsRm rm × IsImm imm
+IsInstr (Unary op wide rm) = (op < 8) × (1 < op) × IsRm rm
+IsInstr (IncDec down wide rm) = IsRm rm
+IsInstr (CallRm rm) = IsRm rm
+IsInstr (JumpRm rm) = IsRm rm
+IsInstr (PushRm rm) = IsRm rm × (rm ≢ rms.Reg 4)
+IsInstr i = Unit {0}
+
+-- the bytes begin with those of the instruction
+abbrev pub BeginsWith : List ℕ → Instr → Type 0
+BeginsWith bytes i = (rest : List ℕ) × (bytes ≡ bytes_of i ++ rest)
