@@ -1,0 +1,61 @@
+-- Pieces that are written one after the other.
+use Rattle.std.proofs.Common.{◌≡◌, ℕ, zero, suc, ◌+◌, ◌<◌, ◌≤◌, List, [], ◌∷◌, ◌++◌, length, take, drop, get_or, min, Option, None, Some, Result, Ok, Err, refl, ap, arith, sym, ◌∙◌, append_assoc}
+use Rattle.std.proofs.lemmas.List.{take_min, take-append-le}
+use Rattle.std.proofs.Math.Seq.{take-add, take-append-add, take-length}
+use Rattle.std.specs.Borrow.{Bor}
+use Rattle.cw_io.specs.Bytes.{after_told}
+use Rattle.cw_top.specs.Said.{joined, Says, Writes}
+use Rattle.cw_io.specs.declared.source.Failed.{Failed}
+
+pub after_told-append : (told : Option (List ℕ)) (xs ys : List ℕ) → after_told (after_told told xs) ys ≡ after_told told (xs ++ ys)
+after_told-append None xs ys = refl
+after_told-append (Some held) xs ys = ap (λ bytes. Some bytes) (append_assoc held xs ys)
+
+-- one more part of a piece
+pub piece_goes_on : (told now next : Option (List ℕ)) (piece : List ℕ) (done count : ℕ) → now ≡ after_told told (take done piece)
+    → next ≡ after_told now (take count (drop done piece)) → next ≡ after_told told (take (done + count) piece)
+piece_goes_on told now next piece done count is more =
+    more ∙ ap (λ t. after_told t (take count (drop done piece))) is ∙ after_told-append told _ _ ∙ ap (λ xs. after_told told xs) (sym (take-add done count piece))
+
+take_within : (whole before piece after : List ℕ) (count : ℕ) → whole ≡ before ++ (piece ++ after)
+    → take (length before + min count (length piece)) whole ≡ before ++ take count piece
+take_within whole before piece after count is =
+    let cut : min count (length piece) ≤ length piece = omega arith in
+    rw (is, take-append-add, take-append-le, take_min) refl
+
+joined_splits : (pieces : List (Bor (List ℕ))) (i : ℕ) (d : Bor (List ℕ)) → i < length pieces
+    → joined pieces ≡ joined (take i pieces) ++ ((get_or pieces i d).now ++ joined (drop (suc i) pieces))
+joined_splits [] i d within = absurd (omega arith)
+joined_splits (piece ∷ pieces) zero d within = refl
+joined_splits (piece ∷ pieces) (suc i) d within = rw (joined_splits pieces i d (omega arith), append_assoc) refl
+
+-- a piece was cut short
+pub line_is_cut : (told now next : Option (List ℕ)) (pieces : List (Bor (List ℕ))) (i count : ℕ) (d : Bor (List ℕ)) → i < length pieces
+    → now ≡ after_told told (joined (take i pieces)) → next ≡ after_told now (take count (get_or pieces i d).now)
+    → (n : ℕ) × (next ≡ after_told told (take n (joined pieces)))
+line_is_cut told now next pieces i count d within is more =
+    let piece = (get_or pieces i d).now in
+    let whole = take_within (joined pieces) (joined (take i pieces)) piece (joined (drop (suc i) pieces)) count (joined_splits pieces i d within) in (
+      length (joined (take i pieces)) + min count (length piece),
+      more ∙ ap (λ t. after_told t (take count piece)) is ∙ after_told-append told _ _ ∙ ap (λ xs. after_told told xs) (sym whole),
+    )
+
+pub whole_is_prefix : (told next : Option (List ℕ)) (text : List ℕ) → next ≡ after_told told text
+    → (n : ℕ) × (next ≡ after_told told (take n text))
+whole_is_prefix told next text is = (length text, is ∙ ap (λ xs. after_told told xs) (sym (take-length text)))
+
+-- what was said, whatever the call answered
+pub says : (told next : Option (List ℕ)) (faults faults' : ℕ) (text : List ℕ) (r : Result (Unit {0}) Failed)
+    → Writes told next faults faults' text r → Says told next faults faults' text
+says told next faults faults' text (Ok x) w = record {
+  count = length text;
+  said = w.ok ∙ ap (λ xs. after_told told xs) (sym (take-length text));
+  later = w.later;
+  cause = λ less. absurd (omega arith);
+}
+says told next faults faults' text (Err e) w = record {
+  count = w.prefix.0;
+  said = w.prefix.1;
+  later = w.later;
+  cause = λ less. w.err;
+}

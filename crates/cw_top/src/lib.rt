@@ -1,0 +1,8 @@
+//! The command: actions, statuses, closing lines; carries the correctness theorem.
+#![tactic(auto)]
+
+mod last;
+mod say;
+mod status;
+
+pub use status::{LinkFault, Long, Refused, Status, Which};
