@@ -1,5 +1,5 @@
 -- Pieces that are written one after the other.
-use Rattle.std.proofs.Common.{◌≡◌, ℕ, zero, suc, ◌+◌, ◌<◌, ◌≤◌, List, [], ◌∷◌, ◌++◌, length, take, drop, get_or, min, Option, None, Some, Result, Ok, Err, refl, ap, arith, sym, ◌∙◌, append_assoc}
+use Rattle.std.proofs.Common.{◌≡◌, ℕ, zero, suc, ◌+◌, ◌<◌, ◌≤◌, List, [], ◌∷◌, ◌++◌, length, take, drop, get_or, min, Option, None, Some, Result, Ok, Err, refl, ap, arith, sym, ◌∙◌, append_assoc, append-nil}
 use Rattle.std.proofs.lemmas.List.{take_min, take-append-le}
 use Rattle.std.proofs.Math.Seq.{take-add, take-append-add, take-length}
 use Rattle.std.specs.Borrow.{Bor}
@@ -59,3 +59,43 @@ says told next faults faults' text (Err e) w = record {
   later = w.later;
   cause = λ less. w.err;
 }
+
+whole_text : (s t : List ℕ) (count : ℕ) → take (length s + min count (length t)) (s ++ t) ≡ s ++ take count t
+whole_text s t count =
+    let e : s ++ t ≡ s ++ (t ++ []) = ap (λ x. s ++ x) (sym (append-nil t)) in
+    take_within (s ++ t) s t [] count e
+
+-- a text was written whole, and then another as the result says
+pub writes_then : (old between new : Option (List ℕ)) (faults middle faults' : ℕ) (s t : List ℕ) (r : Result (Unit {0}) Failed)
+    → between ≡ after_told old s → middle ≡ faults → Writes between new middle faults' t r → Writes old new faults faults' (s ++ t) r
+writes_then old between new faults middle faults' s t (Ok x) is same w = record {
+  later = omega (arith, w.later, same);
+  prefix = whole_is_prefix old new (s ++ t) (w.ok ∙ ap (λ told. after_told told t) is ∙ after_told-append old s t);
+  ok = w.ok ∙ ap (λ told. after_told told t) is ∙ after_told-append old s t;
+  ok_faults = w.ok_faults ∙ same;
+  err = tt;
+}
+writes_then old between new faults middle faults' s t (Err e) is same w = record {
+  later = omega (arith, w.later, same);
+  prefix = (
+    length s + min w.prefix.0 (length t),
+    w.prefix.1 ∙ ap (λ told. after_told told (take w.prefix.0 t)) is ∙ after_told-append old s _ ∙ ap (λ xs. after_told old xs) (sym (whole_text s t w.prefix.0)),
+  );
+  ok = tt;
+  ok_faults = tt;
+  err = rw (sym same) w.err;
+}
+
+-- A sink that failed in a first part failed in the whole.
+pub writes_cut : (old new : Option (List ℕ)) (faults faults' : ℕ) (s t : List ℕ) (e : Failed)
+    → Writes {E = Failed} old new faults faults' s (Err e) → Writes {E = Failed} old new faults faults' (s ++ t) (Err e)
+writes_cut old new faults faults' s t e w =
+    let n = w.prefix.0 in
+    let cut : take (min n (length s)) (s ++ t) ≡ take n s = take-append-le (min n (length s)) s t (omega arith) ∙ take_min n s in
+    record {
+      later = w.later;
+      prefix = (min n (length s), w.prefix.1 ∙ ap (λ xs. after_told old xs) (sym cut));
+      ok = tt;
+      ok_faults = tt;
+      err = w.err;
+    }

@@ -2,6 +2,7 @@
 #![tactic(auto)]
 
 mod last;
+mod listing;
 mod say;
 mod status;
 
