@@ -18,11 +18,7 @@ fn home(layout: &Layout, item: u32) -> (u16, u16)
 }
 
 /// Adds the orders that put the address of a reference.
-pub fn emit_address(
-    out: &mut List<Order>,
-    layout: &Layout,
-    spot: &Spot,
-) -> Result<(), NoMemory>
+pub fn emit_address(out: &mut List<Order>, layout: &Layout, spot: &Spot) -> Result<(), NoMemory>
     ensures { OnOk result (out.new ≡ out.old ++ spot_orders layout.now spot.now) }
 {
     match spot {

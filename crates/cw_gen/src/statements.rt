@@ -17,11 +17,7 @@ fn emit_begin(out: &mut List<Order>, line: u16) -> Result<(), NoMemory>
     out.push(Order::Line(line))
 }
 
-fn emit_statement(
-    out: &mut List<Order>,
-    layout: &Layout,
-    statement: &Stmt,
-) -> Result<(), NoMemory>
+fn emit_statement(out: &mut List<Order>, layout: &Layout, statement: &Stmt) -> Result<(), NoMemory>
     ensures { OnOk result (out.new ≡ out.old ++ statement_orders layout.now statement.now) }
 {
     match statement {

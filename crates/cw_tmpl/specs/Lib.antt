@@ -4,3 +4,4 @@ pub mod Library
 pub mod Templates
 pub mod ReferenceCode
 pub mod Assembling
+pub mod Blanks

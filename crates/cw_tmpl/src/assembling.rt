@@ -35,8 +35,11 @@ struct Assembly {
 }
 
 const AX: u8 = 0;
+
 const CX: u8 = 1;
+
 const DX: u8 = 2;
+
 const BX: u8 = 3;
 
 /// The word of the activation record that holds the line, at BP - 2.
@@ -52,7 +55,9 @@ const AT_BX: Rm = Rm::Mem(Mem {
 });
 
 const PUSH_AX: Coded = Coded::Whole(Instr::Push(AX));
+
 const POP_AX: Coded = Coded::Whole(Instr::Pop(AX));
+
 const POP_BX: Coded = Coded::Whole(Instr::Pop(BX));
 
 const DOUBLE_BX: Coded = Coded::Whole(Instr::Shift {
@@ -63,6 +68,7 @@ const DOUBLE_BX: Coded = Coded::Whole(Instr::Shift {
 });
 
 const SKIP_CALL: Coded = Coded::Whole(Instr::JumpIf { cond: 1, by: 3 });
+
 const CALL_OVERFLOW: Coded = Coded::Call(Target::LibraryAhead(OVERFLOW));
 
 /// The relocation of a word at a place.
@@ -131,12 +137,10 @@ impl Assembly {
         match *piece {
             Coded::Whole(instruction) => self.put_instruction(&instruction),
             Coded::Move { reg, target } => {
-                self.put_instruction(
-                    &Instr::MovImm {
-                        reg,
-                        imm: Imm::Word(0),
-                    },
-                )?;
+                self.put_instruction(&Instr::MovImm {
+                    reg,
+                    imm: Imm::Word(0),
+                })?;
                 self.relocate(target)
             }
             Coded::Call(target) => {
@@ -167,27 +171,25 @@ impl Assembly {
     fn put_entry(&mut self) -> Result<(), NoMemory>
         ensures { OnOk result (Adds self.old entry_pieces self.new) }
     {
-        self.put_all(
-            &[
-                Coded::Move {
-                    reg: AX,
-                    target: Target::Limit(Limit::DataWords),
-                },
-                Coded::Move {
-                    reg: BX,
-                    target: Target::Limit(Limit::FrameWords),
-                },
-                Coded::Move {
-                    reg: CX,
-                    target: Target::Limit(Limit::Calls),
-                },
-                Coded::Move {
-                    reg: DX,
-                    target: Target::Limit(Limit::Segment),
-                },
-                Coded::Call(Target::LibraryAhead(START)),
-            ],
-        )
+        self.put_all(&[
+            Coded::Move {
+                reg: AX,
+                target: Target::Limit(Limit::DataWords),
+            },
+            Coded::Move {
+                reg: BX,
+                target: Target::Limit(Limit::FrameWords),
+            },
+            Coded::Move {
+                reg: CX,
+                target: Target::Limit(Limit::Calls),
+            },
+            Coded::Move {
+                reg: DX,
+                target: Target::Limit(Limit::Segment),
+            },
+            Coded::Call(Target::LibraryAhead(START)),
+        ])
     }
 
     /// Adds the code of an operation on the two operands on top.
@@ -202,16 +204,14 @@ impl Assembly {
             reg: AX,
             rm: Rm::Reg(BX),
         };
-        self.put_all(
-            &[
-                POP_BX,
-                POP_AX,
-                Coded::Whole(operation),
-                SKIP_CALL,
-                CALL_OVERFLOW,
-                PUSH_AX,
-            ],
-        )
+        self.put_all(&[
+            POP_BX,
+            POP_AX,
+            Coded::Whole(operation),
+            SKIP_CALL,
+            CALL_OVERFLOW,
+            PUSH_AX,
+        ])
     }
 
     /// Adds the code of an order.
@@ -231,15 +231,13 @@ impl Assembly {
                     family: *family,
                     offset: *offset,
                 };
-                self.put_all(
-                    &[
-                        Coded::Move {
-                            reg: AX,
-                            target: address,
-                        },
-                        PUSH_AX,
-                    ],
-                )
+                self.put_all(&[
+                    Coded::Move {
+                        reg: AX,
+                        target: address,
+                    },
+                    PUSH_AX,
+                ])
             }
             Order::Load => {
                 let load = Instr::Mov {
@@ -267,15 +265,13 @@ impl Assembly {
                     wide: true,
                     rm: Rm::Reg(AX),
                 };
-                self.put_all(
-                    &[
-                        POP_AX,
-                        Coded::Whole(negate),
-                        SKIP_CALL,
-                        CALL_OVERFLOW,
-                        PUSH_AX,
-                    ],
-                )
+                self.put_all(&[
+                    POP_AX,
+                    Coded::Whole(negate),
+                    SKIP_CALL,
+                    CALL_OVERFLOW,
+                    PUSH_AX,
+                ])
             }
             Order::WriteByte => self.put_all(&[POP_AX, Coded::Whole(Instr::Out(0x12))]),
             Order::Line(line) => {

@@ -2,6 +2,7 @@
 #![tactic(auto)]
 
 mod assembling;
+pub mod laws;
 mod library;
 mod pieces;
 
