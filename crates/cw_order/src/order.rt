@@ -1,0 +1,143 @@
+//! The orders.
+//!
+//! An order works on the operand stack, whose words are the operands of the expression at work, and on one memory of
+//! words. An address counts words from 0. Descriptors, items, labels, switches and procedures are named by their numbers
+//! in the unit, control parameters (labels, switches and procedures) by their number among those of their procedure.
+//! Marks number the code labels of the unit.
+use cw_word::List;
+
+/// The comparisons of two words as signed numbers, the operand below with the top one.
+#[derive(Clone, Copy, PartialEq, Eq)]
+pub enum Comparator {
+    Less,
+    LessEqual,
+    Equal,
+    GreaterEqual,
+    Greater,
+    Unequal,
+}
+
+/// One order. "Takes" removes operands from the top of the stack, "puts" adds one; words of memory stay where nothing
+/// is said of them.
+#[derive(Drop)]
+pub enum Order {
+    /// Puts a word.
+    Const(u16),
+    /// Puts the address of a word of a storage family.
+    Home { family: u16, offset: u16 },
+    /// Puts the address of a word of the frame of the activation.
+    FrameHome(u16),
+    /// Takes an address and puts the word there.
+    Load,
+    /// Takes an address, then the word below it, and stores the word there.
+    Store,
+    /// Takes an address and puts `t` bits, from bit `b`, of the word there.
+    LoadPart { t: u8, b: u8, signed: bool },
+    /// Takes an address, then the word below it, and stores the word's low `t` bits from bit `b` of the word there.
+    StorePart { t: u8, b: u8 },
+    /// Takes a word of scale `from` and puts it at scale `to`, rounded down; stops with Overflow where it does not fit.
+    Rescale { from: u8, to: u8 },
+    /// Takes two words and puts their sum; stops with Overflow where it does not fit.
+    Add,
+    /// Takes two words and puts the lower less the top one; stops with Overflow where it does not fit.
+    Sub,
+    /// Takes a word and puts its negative; stops with Overflow where it does not fit.
+    Neg,
+    /// Takes two words and puts their product times 2^s, rounded down; stops with Overflow where it does not fit.
+    Mul(i8),
+    /// Takes two words and puts the lower times 2^s over the top one, rounded toward zero; stops with ZeroDivisor at 0,
+    /// and with Overflow where the quotient does not fit.
+    Div(i8),
+    /// Takes two words and puts the bits that both have.
+    And,
+    /// Takes two words and puts the bits that either has.
+    Or,
+    /// Takes two words and puts the bits that one of them has.
+    Xor,
+    /// Takes a word and puts its `t` bits from bit `b`, without a sign.
+    Take { t: u8, b: u8 },
+    /// Takes an index and puts it less the lower bound; stops with Address where that does not fit.
+    IndexLess(i16),
+    /// Takes an index and puts it times the length of a row or an entry; stops with Address where that does not fit.
+    IndexTimes(u16),
+    /// Takes an index and puts it with the number added; stops with Address where that does not fit.
+    IndexPlus(u16),
+    /// Takes two indexes and puts their sum; stops with Address where that does not fit.
+    IndexAdd,
+    /// Stops with Address where the top operand is no address of the data area.
+    InArea,
+    /// Takes two words and puts the lower less the top one, modulo 65,536.
+    Less,
+    /// Takes a word.
+    Drop,
+    /// Goes on at the mark.
+    Jump(u32),
+    /// Takes two words, and goes on at the mark where the lower compares so with the top one.
+    JumpIf { comparator: Comparator, mark: u32 },
+    /// Takes the value of a control variable and the address of its loop descriptor, and goes on at the mark where the
+    /// element's limit is passed.
+    Exhausted(u32),
+    /// Takes the number of a loop's element, from 1, and goes on at the mark of that number; further on where it has
+    /// none.
+    LoopWay(List<u32>),
+    /// The place of a mark. Does nothing.
+    Mark,
+    /// Puts a label of this unit, with the activation that owns it, as an argument.
+    LabelOut(u32),
+    /// Puts the label of a descriptor as an argument.
+    LabelCommon(u16),
+    /// Puts a switch of this unit, with the activation that owns it, as an argument.
+    SwitchOut(u32),
+    /// Puts the switch of a descriptor as an argument.
+    SwitchCommon(u16),
+    /// Puts a procedure of this unit as an argument.
+    ProcOut(u16),
+    /// Puts the procedure of a descriptor as an argument.
+    ProcCommon(u16),
+    /// Puts a control parameter as an argument.
+    SpecialOut(u8),
+    /// Jumps to a label parameter.
+    GoSpecial(u8),
+    /// Takes an index, from 1, and jumps to that label of a switch of this unit; stops with Switch where it has none.
+    GoSwitch(u32),
+    /// The same with the switch of a descriptor.
+    GoSwitchCommon(u16),
+    /// The same with a switch parameter.
+    GoSwitchSpecial(u8),
+    /// Drops all activations and all operands, and goes on at the mark of a label of the segment's body.
+    GoMain(u32),
+    /// Jumps to the label of a descriptor.
+    GoCommon(u16),
+    /// Calls a procedure of this unit, with the arguments on the stack.
+    CallProc(u16),
+    /// Calls the procedure of a descriptor.
+    CallCommon(u16),
+    /// Calls a procedure parameter.
+    CallSpecial(u8),
+    /// Begins an activation whose frame has so many words; stops with Depth or Frames, at the caller's line, where there
+    /// is no room.
+    Enter(u16),
+    /// Puts the word that was handed over as this argument, from 0.
+    Bind(u8),
+    /// Ends the activation and takes its arguments; the top operand, where an answer is wanted, stays.
+    Return,
+    /// Puts the next byte of the input, or -1 where there is none.
+    ReadByte,
+    /// Takes a word and writes its low byte to the output.
+    WriteByte,
+    /// Sets the line that a stop tells.
+    Line(u16),
+    /// The place where a statement of this line begins. Does nothing; a `Line` follows it where the statement can stop.
+    Start(u16),
+    /// Goes on with the body of the next segment; where there is none, the program ends.
+    NextBody,
+}
+
+/// The orders of a unit: the segment's body begins at place `entry` of the list, and `marks` tells the place of each
+/// mark.
+#[derive(Drop)]
+pub struct Orders {
+    pub list: List<Order>,
+    pub entry: u32,
+    pub marks: List<u32>,
+}

@@ -1,0 +1,74 @@
+-- Code grows piece by piece.
+use Rattle.std.proofs.Common.{◌≡◌, ℕ, ◌+◌, ◌-◌, List, [], ◌∷◌, ◌++◌, length, refl, sym, ap, ap₂, ◌∙◌, arith, append_assoc, length-append, Some}
+use Rattle.std.proofs.lemmas.List.{append-nil}
+use Rattle.cw_i86.specs.Encoding.{bytes_of}
+use Rattle.cw_i86.specs.declared.instr.Instr.{Instr}
+use Rattle.cw_unit.specs.declared.layout.Reloc.{Reloc}
+use Rattle.cw_tmpl.specs.declared.assembling.Assembly.{Assembly}
+use Rattle.cw_tmpl.specs.declared.pieces.Target.{Target}
+use Rattle.cw_tmpl.specs.declared.pieces.Coded.{Coded}
+use Rattle.cw_tmpl.specs.declared.pieces.Coded.TheVariants as coded
+use Rattle.cw_tmpl.specs.Pieces.{bytes_with, size_of, target_of, blanks, relocation_of, relocation_before, relocations}
+use Rattle.cw_tmpl.specs.Assembling.{Adds}
+
+pub blanks-append : (ps qs : List Coded) → blanks (ps ++ qs) ≡ blanks ps ++ blanks qs
+blanks-append [] qs = refl
+blanks-append (p ∷ ps) qs = ap (λ l. bytes_with 0 p ++ l) (blanks-append ps qs) ∙ sym (append_assoc (bytes_with 0 p) (blanks ps) (blanks qs))
+
+pub relocations-append : (at : ℕ) (ps qs : List Coded) → relocations at (ps ++ qs) ≡ relocations at ps ++ relocations (at + length (blanks ps)) qs
+relocations-append at [] qs = ap (λ n. relocations n qs) (omega arith)
+relocations-append at (p ∷ ps) qs =
+    let end = at + size_of p in
+    let far : end + length (blanks ps) ≡ at + length (blanks (p ∷ ps)) = omega (arith, length-append (bytes_with 0 p) (blanks ps)) in
+    let here = relocation_before end (target_of p) in
+    ap (λ l. here ++ l) (relocations-append end ps qs)
+    ∙ sym (append_assoc here (relocations end ps) (relocations (end + length (blanks ps)) qs))
+    ∙ ap (λ n. (here ++ relocations end ps) ++ relocations n qs) far
+
+-- ---- one piece
+
+pub whole_added : (old new : Assembly) (i : Instr) → new.bytes ≡ old.bytes ++ bytes_of i → new.relocs ≡ old.relocs → Adds old (coded.Whole i ∷ []) new
+whole_added old new i bytes relocs = record {
+  bytes = bytes ∙ ap (λ l. old.bytes ++ l) (sym (append-nil (bytes_of i)));
+  relocs = relocs ∙ sym (append-nil old.relocs);
+}
+
+pub word_added : (old new : Assembly) (p : Coded) (t : Target) → target_of p ≡ Some t → new.bytes ≡ old.bytes ++ bytes_with 0 p
+    → new.relocs ≡ old.relocs ++ relocation_of (length new.bytes - 2) t ∷ [] → Adds old (p ∷ []) new
+word_added old new p t target bytes relocs =
+    let long : length new.bytes ≡ length old.bytes + size_of p = ap length bytes ∙ length-append old.bytes (bytes_with 0 p) in
+    record {
+      bytes = bytes ∙ ap (λ l. old.bytes ++ l) (sym (append-nil (bytes_with 0 p)));
+      relocs = relocs ∙ ap (λ n. old.relocs ++ relocation_of (n - 2) t ∷ []) long
+          ∙ ap (λ o. old.relocs ++ (relocation_before (length old.bytes + size_of p) o ++ [])) (sym target);
+    }
+
+-- ---- many pieces
+
+-- With the rest behind it the code has these bytes and relocations.
+pub record Coming (now : Assembly) (rest : List Coded) (bytes : List ℕ) (relocs : List Reloc) : Type 0 where
+  pub bytes_whole : now.bytes ++ blanks rest ≡ bytes
+  pub relocs_whole : now.relocs ++ relocations (length now.bytes) rest ≡ relocs
+
+pub coming_all : (now : Assembly) (rest : List Coded) → Coming now rest (now.bytes ++ blanks rest) (now.relocs ++ relocations (length now.bytes) rest)
+coming_all now rest = record { bytes_whole = refl; relocs_whole = refl }
+
+pub coming_more : (old new : Assembly) (ps rest : List Coded) (bytes : List ℕ) (relocs : List Reloc) → Adds old ps new
+    → Coming old (ps ++ rest) bytes relocs → Coming new rest bytes relocs
+coming_more old new ps rest bytes relocs added coming =
+    let long : length new.bytes ≡ length old.bytes + length (blanks ps) = ap length added.bytes ∙ length-append old.bytes (blanks ps) in
+    record {
+      bytes_whole =
+          ap (λ l. l ++ blanks rest) added.bytes ∙ append_assoc old.bytes (blanks ps) (blanks rest)
+          ∙ ap (λ l. old.bytes ++ l) (sym (blanks-append ps rest)) ∙ coming.bytes_whole;
+      relocs_whole =
+          ap₂ (λ l n. l ++ relocations n rest) added.relocs long
+          ∙ append_assoc old.relocs (relocations (length old.bytes) ps) (relocations (length old.bytes + length (blanks ps)) rest)
+          ∙ ap (λ l. old.relocs ++ l) (sym (relocations-append (length old.bytes) ps rest)) ∙ coming.relocs_whole;
+    }
+
+pub coming_done : (old new : Assembly) (ps : List Coded) → Coming new [] (old.bytes ++ blanks ps) (old.relocs ++ relocations (length old.bytes) ps) → Adds old ps new
+coming_done old new ps coming = record {
+  bytes = sym (append-nil new.bytes) ∙ coming.bytes_whole;
+  relocs = sym (append-nil new.relocs) ∙ coming.relocs_whole;
+}

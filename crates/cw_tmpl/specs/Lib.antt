@@ -1,0 +1,7 @@
+pub mod Assembly
+pub mod Pieces
+pub mod Library
+pub mod Templates
+pub mod ReferenceCode
+pub mod Assembling
+pub mod Blanks

@@ -1,0 +1,27 @@
+//! Laws of the definitions.
+ghost use Rattle.std.specs.Prelude.{◌≡◌, ℕ, ◌≤◌, List, ◌++◌, length, take, slice_index, All};
+ghost use Rattle.cw_order.specs.declared.order.Order.{Order};
+ghost use Rattle.cw_tmpl.specs.declared.pieces.Coded.{Coded};
+ghost use Rattle.cw_tmpl.specs.Pieces.{blanks, relocations, Filling, filled, fill};
+ghost use Rattle.cw_tmpl.specs.Blanks.{FillsBlank, Rise};
+ghost use Rattle.cw_tmpl.specs.Library.{library_bytes};
+ghost use Rattle.cw_tmpl.specs.Templates.{entry_pieces, order_size};
+ghost use Rattle.cw_tmpl.specs.ReferenceCode.{templates, order_places};
+
+/// The linker's filling of an object's relocations, one after another, gives the code with its words filled.
+pub fn filling()
+    ensures { (value : Filling) (pieces : List Coded) (before behind : List ℕ) → fill value (length before) (relocations 0 pieces) (before ++ (blanks pieces ++ behind)) ≡ before ++ (filled value (length before) pieces ++ behind) }
+{}
+
+/// The relocations are as an object has them.
+pub fn relocating()
+    ensures blank { (pieces : List Coded) → All (FillsBlank (blanks pieces)) (relocations 0 pieces) }
+    ensures rise { (pieces : List Coded) → Rise 0 (relocations 0 pieces) }
+{}
+
+/// The sizes of the code.
+pub fn sizes()
+    ensures order { (o : Order) → order_size o ≤ 10 }
+    ensures library { length library_bytes ≤ 4096 }
+    ensures places { (orders : List Order) (k : ℕ) → k ≤ length orders → slice_index (order_places orders) k ≡ length (blanks (entry_pieces ++ templates (take k orders))) }
+{}
