@@ -1,3 +1,4 @@
 pub mod Said
 pub mod Closing
 pub mod Listing
+pub mod ReferenceImage
