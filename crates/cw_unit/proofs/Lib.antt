@@ -1,2 +1,7 @@
 pub mod Equality
 pub mod Equations
+pub mod Families
+pub mod FirstFit
+pub mod OwnSingles
+pub mod Placing
+pub mod ValidMap
