@@ -1,3 +1,4 @@
 pub mod Said
 pub mod Closing
 pub mod Lines
+pub mod Singles

@@ -2,3 +2,4 @@ pub mod Said
 pub mod Closing
 pub mod Listing
 pub mod ReferenceImage
+pub mod Correct

@@ -6,5 +6,6 @@ mod last;
 mod listing;
 mod say;
 mod status;
+mod storage;
 
 pub use status::{LinkFault, Long, Refused, Status, Which};
