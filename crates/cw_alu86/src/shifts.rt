@@ -45,7 +45,7 @@ fn once(shift: ShiftOp, half: u32, n: u32, carry: bool) -> (u32, bool)
     }
 }
 
-#[tactic(auto, using(crate::proofs::Repeats::more), unfolding(crate::specs::Shifts::repeated))]
+#[tactic(auto, using(crate::proofs::Repeats::more), unfolding(cw_i86::specs::Shifts::repeated))]
 fn repeated(shift: ShiftOp, half: u32, n: u32, carry: bool, count: u8) -> (u32, bool)
     requires some { 0 < half }
     requires half { half ≤ 2 ^ 15 }
