@@ -223,7 +223,11 @@ impl Cpu {
         ensures { self.new ≡ shifted self.old op wide by_cl rm }
     {
         let a = self.operand(wide, rm);
-        let count = if by_cl { (self.registers[1] % 256) as u8 } else { 1 };
+        let count = if by_cl {
+            (self.registers[1] % 256) as u8
+        } else {
+            1
+        };
         let (value, flags) = shift(op, wide, self.flags, a, count);
         self.set_flags(flags);
         self.set_operand(wide, rm, value);
