@@ -13,6 +13,3 @@ pub use shifts::{
 pub use sums::{
     add8, add16, and8, and16, dec8, dec16, inc8, inc16, or8, or16, sub8, sub16, xor8, xor16,
 };
-
-#[cfg(test)]
-mod tests;

@@ -4,8 +4,8 @@ ghost use Rattle.std.specs.Int.{w8, w16, w32, cast_signed, cast_unsigned};
 ghost use Rattle.cw_i86.specs.Sums.{overflows};
 ghost use Rattle.cw_i86.specs.Products.{product_flags, quotient_of, truncated, signed_quotient_of};
 
-use cw_i86::Flags;
 use crate::sums::overflows;
+use cw_i86::Flags;
 
 /// The product of two bytes. The carry and the overflow tell that it is no byte.
 pub fn mul8(flags: Flags, a: u8, b: u8) -> (u16, Flags)

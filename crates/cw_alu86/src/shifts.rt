@@ -2,8 +2,8 @@ ghost use Rattle.std.specs.Prelude.{◌≡◌, ℕ, ◌+◌, ◌*◌, ◌/◌, �
 ghost use Rattle.cw_i86.specs.declared.shift.ShiftOp.TheVariants.{Rol, Ror, Rcl, Rcr, Shl, Shr, Sar};
 ghost use Rattle.cw_i86.specs.Shifts.{up, down, once, repeated, overflow_of_one, overflow_of, shifted_flags, shift_of, shift_flags};
 
-use cw_i86::{Flags, ShiftOp};
 use crate::sums::has_even_parity;
+use cw_i86::{Flags, ShiftOp};
 
 /// The number one place up, and the bit that went out.
 fn up(half: u32, n: u32, low: bool) -> (u32, bool)
@@ -45,7 +45,7 @@ fn once(shift: ShiftOp, half: u32, n: u32, carry: bool) -> (u32, bool)
     }
 }
 
-#[tactic(auto, using(crate::proofs::Repeats::more), unfolding(crate::specs::Shifts::repeated))]
+#[tactic(auto, using(crate::proofs::Repeats::more), unfolding(cw_i86::specs::Shifts::repeated))]
 fn repeated(shift: ShiftOp, half: u32, n: u32, carry: bool, count: u8) -> (u32, bool)
     requires some { 0 < half }
     requires half { half ≤ 2 ^ 15 }

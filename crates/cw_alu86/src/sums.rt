@@ -3,7 +3,7 @@ ghost use Rattle.cw_i86.specs.Sums.{bit, has_even_parity, signed, overflows, sum
 
 use cw_i86::Flags;
 
-#[tactic(auto, unfolding(crate::specs::Sums::has_even_parity))]
+#[tactic(auto, unfolding(cw_i86::specs::Sums::has_even_parity))]
 pub(crate) fn has_even_parity(n: u32) -> bool
     ensures { result ≡ has_even_parity n }
 {
@@ -11,7 +11,7 @@ pub(crate) fn has_even_parity(n: u32) -> bool
 }
 
 /// The number in two's complement, where half is half of what the width holds.
-#[tactic(auto, unfolding(crate::specs::Sums::signed))]
+#[tactic(auto, unfolding(cw_i86::specs::Sums::signed))]
 pub(crate) fn signed(half: u32, a: u32) -> i32
     requires half { half ≤ 2 ^ 15 }
     requires a { a < half + half }

@@ -1,46 +1,57 @@
 // The processor.
-ghost use Rattle.std.specs.Prelude.{◌≡◌, ◌≤◌, ◌<◌, ◌+◌, ◌*◌, ◌/◌, ◌%◌, ◌^◌, ℕ, length, drop, slice_index, slice_set, IfOk, IfSome, Some, ◌++◌, List};
-ghost use Rattle.cw_i86.specs.Encoding.{bytes_of, IsInstr};
-ghost use Rattle.cw_i86.specs.declared.instr.Instr.{Instr};
-ghost use Rattle.cw_i86.specs.Encoding.{BeginsWith};
-ghost use Rattle.cw_i86.specs.State.{State, window};
-ghost use Rattle.cw_cpu86.specs.Running.{Seen, Steps, Stands, RunAnswers, IsStart, code_at};
+ghost use Rattle.std.specs.Prelude.{◌≡◌, ◌≤◌, ◌<◌, ◌^◌, length, slice_index, slice_set, IfOk};
+ghost use Rattle.cw_i86.specs.State.{State, data_segment, stack_segment};
+ghost use Rattle.cw_i86.specs.MachineRun.{IsStart};
+ghost use Rattle.cw_cpu86.specs.Answers.{StepAnswers, StepCounts, RunAnswers, RunCounts};
 
-use crate::memory::{MEMORY, address, read_byte};
+use crate::fetch::fetch;
+use crate::memory::MEMORY;
 use crate::ports::Ports;
-use cw_i86::Flags;
-use cw_dec86::{Decoded, decode};
-use cw_i86::Instr;
-use std::alloc::{AllocError, Global};
+use crate::start::{put_code, put_words, zeros};
+use cw_i86::{Flags, Instr};
+use cw_word::NoMemory;
+use std::alloc::Global;
 use std::marker::Model;
 
 const CODE_SEGMENT: u16 = 0x1000;
 
+/// What DS and ES hold, since no instruction loads them.
 pub(crate) const DATA_SEGMENT: u16 = 0x2000;
 
+/// What SS holds, since no instruction loads it.
 pub(crate) const STACK_SEGMENT: u16 = 0x3000;
 
 /// What a step did.
 #[derive(Clone, Copy, PartialEq, Eq, Debug)]
 pub enum Step {
+    /// The instruction at CS:IP.
     Ran,
+    /// HLT. IP is past it.
     Halted,
+    /// Nothing: no instruction stands at CS:IP, where IP is the offset.
     BadCode { offset: u16 },
+    /// Nothing: the quotient of the division at CS:IP does not fit, or the divisor is 0.
     Divide { offset: u16 },
+    /// Nothing: the port of the IN or OUT at CS:IP failed.
     PortFault,
 }
 
-/// How a run ended.
+/// How a run ended. The steps are those that ran, HLT among them.
 #[derive(Clone, Copy, PartialEq, Eq, Debug)]
 pub enum RunEnd {
+    /// HLT was the last of so many steps.
     Halted { steps: u64 },
+    /// As many steps as were allowed ran, and none halted.
     Limit,
+    /// After so many steps no instruction stands at CS:IP.
     BadCode { offset: u16, steps: u64 },
+    /// After so many steps the division at CS:IP cannot be done.
     Divide { offset: u16, steps: u64 },
+    /// After so many steps the port of the IN or OUT at CS:IP failed.
     PortFault { steps: u64 },
 }
 
-/// A processor and its memory.
+/// A processor 8086 with its memory of one mebibyte.
 #[derive(Drop)]
 pub struct Cpu {
     pub(crate) memory: Vec<u8>,
@@ -58,66 +69,28 @@ impl Model for Cpu {
     ghost invariant = { λ c. length c.memory.items ≡ 2 ^ 20 };
 }
 
-/// The registers, with the segment of the code, and the flags.
-#[derive(Clone, Copy, PartialEq, Eq, Debug)]
+/// The registers and the flags.
+#[derive(Clone, Copy)]
 pub struct Regs {
-    pub words: [u16; 8],
-    pub code_segment: u16,
-    pub instruction_pointer: u16,
+    /// AX, CX, DX, BX, SP, BP, SI and DI.
+    pub general: [u16; 8],
+    pub cs: u16,
+    pub ds: u16,
+    pub es: u16,
+    pub ss: u16,
+    pub ip: u16,
     pub flags: Flags,
 }
 
-// The instruction that stands at a place, and how many bytes it has.
-#[inline(always)]
-fn fetch(memory: &[u8], segment: u16, offset: u16) -> Option<(Instr, u8)>
-    requires { length memory.now ≡ 2 ^ 20 }
-    ensures found { IfSome result (λ f. IsInstr f.0 × BeginsWith (window 7 memory.now segment offset) f.0 × (f.1 ≡ length (bytes_of f.0))) }
-    ensures again { (i : Instr) (rest : List ℕ) → IsInstr i → window 7 memory.now segment offset ≡ bytes_of i ++ rest → result ≡ Some (i, length (bytes_of i)) }
-{
-    let mut bytes = [0; 7];
-    load(memory, segment, offset, &mut bytes);
-    match decode(&bytes) {
-        Decoded::Done { instr, length } => Some((instr, length)),
-        Decoded::NeedMore | Decoded::Unknown => None,
-    }
-}
-
-#[inline(always)]
-fn load(memory: &[u8], segment: u16, offset: u16, bytes: &mut [u8; 7])
-    requires { length memory.now ≡ 2 ^ 20 }
-    ensures { bytes.new ≡ window 7 memory.now segment offset }
-{
-    let at = address(segment, offset);
-    if offset < 0xFFF9 && at < 0xF_FFF9 {
-        bytes.copy_from_slice(&memory[at..at + 7]);
-    } else {
-        *bytes = wrapped_bytes(memory, segment, offset);
-    }
-}
-
-// The bytes from a place near the end of the segment or of memory.
-#[inline(never)]
-#[tactic(auto, unfolding(cw_i86::specs::State::window))]
-fn wrapped_bytes(memory: &[u8], segment: u16, offset: u16) -> [u8; 7]
-    requires { length memory.now ≡ 2 ^ 20 }
-    ensures { result ≡ window 7 memory.now segment offset }
-{
-    [
-        read_byte(memory, segment, offset),
-        read_byte(memory, segment, offset.wrapping_add(1)),
-        read_byte(memory, segment, offset.wrapping_add(2)),
-        read_byte(memory, segment, offset.wrapping_add(3)),
-        read_byte(memory, segment, offset.wrapping_add(4)),
-        read_byte(memory, segment, offset.wrapping_add(5)),
-        read_byte(memory, segment, offset.wrapping_add(6)),
-    ]
-}
-
 impl Cpu {
-    /// The instruction that stands at CS:IP, if one does.
+    /// The instruction that stands at CS:IP, if one does. IN takes one byte from its port and OUT gives one to it, and
+    /// no other instruction uses the ports.
+    ///
+    /// BadCode, Divide and PortFault leave the processor as it was. A halted processor goes on where it is stepped again.
     #[inline(always)]
     pub fn step<P: Ports>(&mut self, ports: &mut P) -> Step
-        ensures { Steps (record { device = P.device ports.old; faults = P.faults ports.old }) self.old (record { device = P.device ports.new; faults = P.faults ports.new }) self.new result }
+        ensures answers { StepAnswers result self.old (P.device ports.old) self.new (P.device ports.new) }
+        ensures counts { StepCounts result (P.faults ports.old) (P.faults ports.new) }
     {
         let offset = self.instruction_pointer;
         let Some((instr, length)) = fetch(&self.memory, self.code_segment, offset) else {
@@ -158,9 +131,10 @@ impl Cpu {
         }
     }
 
-    /// At most so many steps.
+    /// Steps until one doesn't go on, and at most so many. Allocates nothing.
     pub fn run<P: Ports>(&mut self, ports: &mut P, limit: u64) -> RunEnd
-        ensures { RunAnswers limit (record { device = P.device ports.old; faults = P.faults ports.old }) self.old (record { device = P.device ports.new; faults = P.faults ports.new }) self.new result }
+        ensures answers { RunAnswers result limit self.old (P.device ports.old) self.new (P.device ports.new) }
+        ensures counts { RunCounts result (P.faults ports.old) (P.faults ports.new) }
     {
         for steps in 0..limit {
             match self.step(ports) {
@@ -174,7 +148,7 @@ impl Cpu {
         RunEnd::Limit
     }
 
-    /// The byte at an address.
+    /// The byte at a physical address.
     pub fn byte_at(&self, address: u32) -> u8
         requires { address < 2 ^ 20 }
         ensures { result ≡ slice_index self.now.memory address }
@@ -182,7 +156,7 @@ impl Cpu {
         self.memory[address as usize]
     }
 
-    /// Puts a byte at an address.
+    /// Puts a byte at a physical address.
     pub fn put_byte(&mut self, address: u32, value: u8)
         requires { address < 2 ^ 20 }
         ensures { self.new ≡ record self.old { memory = slice_set self.old.memory address value } }
@@ -190,30 +164,39 @@ impl Cpu {
         self.memory[address as usize] = value;
     }
 
-    /// Goes on at a place.
-    pub fn set_place(&mut self, segment: u16, offset: u16)
-        ensures { self.new ≡ record self.old { code_segment = segment; instruction_pointer = offset } }
+    /// Sets CS and IP, so that the next step is at that place.
+    pub fn set_place(&mut self, cs: u16, ip: u16)
+        ensures { self.new ≡ record self.old { code_segment = cs; instruction_pointer = ip } }
     {
-        self.code_segment = segment;
-        self.instruction_pointer = offset;
+        self.code_segment = cs;
+        self.instruction_pointer = ip;
     }
 
+    /// The registers and the flags.
     pub fn regs(&self) -> Regs
-        ensures words { result.words ≡ self.now.registers }
-        ensures code_segment { result.code_segment ≡ self.now.code_segment }
-        ensures instruction_pointer { result.instruction_pointer ≡ self.now.instruction_pointer }
+        ensures general { result.general ≡ self.now.registers }
+        ensures cs { result.cs ≡ self.now.code_segment }
+        ensures ds { result.ds ≡ data_segment }
+        ensures es { result.es ≡ data_segment }
+        ensures ss { result.ss ≡ stack_segment }
+        ensures ip { result.ip ≡ self.now.instruction_pointer }
         ensures flags { result.flags ≡ self.now.flags }
     {
         Regs {
-            words: self.registers,
-            code_segment: self.code_segment,
-            instruction_pointer: self.instruction_pointer,
+            general: self.registers,
+            cs: self.code_segment,
+            ds: DATA_SEGMENT,
+            es: DATA_SEGMENT,
+            ss: STACK_SEGMENT,
+            ip: self.instruction_pointer,
             flags: self.flags,
         }
     }
 
-    /// The state in which a program begins: its code and its words stand at their places, and all else is 0.
-    pub fn start(alloc: Global, code: &[u8], words: &[u16]) -> Result<Cpu, AllocError>
+    /// The state in which a program begins: its code stands from 10000h and its words from 20000h, CS is 1000h, DS and
+    /// ES are 2000h, SS is 3000h, and all else is 0.
+    pub fn start(alloc: Global, code: &[u8], words: &[u16]) -> Result<Cpu, NoMemory>
+        requires some { 0 < length code.now }
         requires code { length code.now ≤ 65536 }
         requires words { length words.now ≤ 32768 }
         ensures { IfOk result (λ cpu. IsStart code.now words.now cpu) }
@@ -235,40 +218,5 @@ impl Cpu {
                 of: false,
             },
         })
-    }
-}
-// So many bytes of 0. The number is a variable here, since a proof would write out a list of a known length.
-fn zeros(alloc: Global, count: usize) -> Result<Vec<u8>, AllocError>
-    ensures length { IfOk result (λ bytes. length bytes.items ≡ count) }
-    ensures zeros { IfOk result (λ bytes. (a : ℕ) → slice_index bytes.items a ≡ 0) }
-{
-    vec![in alloc; 0u8; count]
-}
-
-fn put_code(memory: &mut [u8], code: &[u8])
-    requires length { length memory.old ≡ 2 ^ 20 }
-    requires code { length code.now ≤ 65536 }
-    requires zeros { (a : ℕ) → slice_index memory.old a ≡ 0 }
-    ensures below { (a : ℕ) → a < 0x10000 → slice_index memory.new a ≡ 0 }
-    ensures code { (k : ℕ) → k < length code.now → slice_index memory.new (0x10000 + k) ≡ slice_index code.now k }
-    ensures above { (a : ℕ) → 0x10000 + length code.now ≤ a → slice_index memory.new a ≡ 0 }
-{
-    for k in 0..code.len() {
-        memory[0x1_0000 + k] = code[k];
-    }
-}
-
-fn put_words(memory: &mut [u8], words: &[u16])
-    requires length { length memory.old ≡ 2 ^ 20 }
-    requires words { length words.now ≤ 32768 }
-    ensures low { (a : ℕ) → a < 0x20000 → slice_index memory.new a ≡ slice_index memory.old a }
-    ensures even { (k : ℕ) → k < length words.now → slice_index memory.new (0x20000 + 2 * k) ≡ slice_index words.now k % 256 }
-    ensures odd { (k : ℕ) → k < length words.now → slice_index memory.new (0x20000 + 2 * k + 1) ≡ slice_index words.now k / 256 }
-    ensures high { (a : ℕ) → 0x20000 + 2 * length words.now ≤ a → slice_index memory.new a ≡ slice_index memory.old a }
-{
-    for k in 0..words.len() {
-        let at = 0x2_0000 + 2 * k;
-        memory[at] = (words[k] % 256) as u8;
-        memory[at + 1] = (words[k] / 256) as u8;
     }
 }

@@ -12,7 +12,7 @@ use crate::operands::{flags_of_word, flags_word, imm_value, low_flags, sign_exte
 use cw_alu86::*;
 use cw_i86::{Imm, Instr, Rm};
 
-#[tactic(auto, unfolding(crate::specs::Effects::alu_value, crate::specs::Effects::alu_flags))]
+#[tactic(auto, unfolding(cw_i86::specs::Effect::alu_value, cw_i86::specs::Effect::alu_flags))]
 fn alu8(op: u8, flags: Flags, a: u8, b: u8) -> (u8, Flags)
     ensures value { result.0 ≡ alu_value op (2 ^ 7) a b flags.cf }
     ensures flags { result.1 ≡ alu_flags op (2 ^ 7) a b flags }
@@ -28,7 +28,7 @@ fn alu8(op: u8, flags: Flags, a: u8, b: u8) -> (u8, Flags)
     }
 }
 
-#[tactic(auto, unfolding(crate::specs::Effects::alu_value, crate::specs::Effects::alu_flags))]
+#[tactic(auto, unfolding(cw_i86::specs::Effect::alu_value, cw_i86::specs::Effect::alu_flags))]
 fn alu16(op: u8, flags: Flags, a: u16, b: u16) -> (u16, Flags)
     ensures value { result.0 ≡ alu_value op (2 ^ 15) a b flags.cf }
     ensures flags { result.1 ≡ alu_flags op (2 ^ 15) a b flags }
@@ -103,7 +103,7 @@ fn shift(op: u8, wide: bool, flags: Flags, a: u16, count: u8) -> (u16, Flags)
     }
 }
 
-#[tactic(auto, unfolding(crate::specs::Effects::holds))]
+#[tactic(auto, unfolding(cw_i86::specs::Effect::holds))]
 fn holds(f: Flags, cond: u8) -> bool
     ensures { result ≡ holds f cond }
 {
@@ -127,7 +127,7 @@ impl Cpu {
         self.flags = flags;
     }
 
-    #[tactic(auto, unfolding(crate::specs::Effects::operated))]
+    #[tactic(auto, unfolding(cw_i86::specs::Effect::operated))]
     fn operate(&mut self, op: u8, wide: bool, rm: Rm, b: u16)
         requires rm { IsRm rm }
         requires b { b < limit_of wide }
@@ -141,7 +141,7 @@ impl Cpu {
         }
     }
 
-    #[tactic(auto, unfolding(crate::specs::Effects::tested))]
+    #[tactic(auto, unfolding(cw_i86::specs::Effect::tested))]
     fn test(&mut self, wide: bool, a: u16, b: u16)
         requires a { a < limit_of wide }
         requires b { b < limit_of wide }
@@ -155,7 +155,7 @@ impl Cpu {
         self.set_flags(flags);
     }
 
-    #[tactic(auto, unfolding(crate::specs::Effects::counted))]
+    #[tactic(auto, unfolding(cw_i86::specs::Effect::counted))]
     fn count(&mut self, down: bool, wide: bool, rm: Rm)
         requires { IsRm rm }
         ensures { self.new ≡ counted self.old down wide rm }
@@ -174,7 +174,7 @@ impl Cpu {
         }
     }
 
-    #[tactic(auto, unfolding(crate::specs::Effects::looped))]
+    #[tactic(auto, unfolding(cw_i86::specs::Effect::looped))]
     fn repeat(&mut self, kind: u8, by: u8)
         ensures { self.new ≡ looped self.old kind by }
     {
@@ -199,7 +199,7 @@ impl Cpu {
         self.instruction_pointer = place;
     }
 
-    #[tactic(auto, unfolding(crate::specs::Effects::returned))]
+    #[tactic(auto, unfolding(cw_i86::specs::Effect::returned))]
     fn return_past(&mut self, n: u16)
         ensures { self.new ≡ returned self.old n }
     {
@@ -208,7 +208,7 @@ impl Cpu {
         self.pop(n.wrapping_add(2));
     }
 
-    #[tactic(auto, unfolding(crate::specs::Effects::called))]
+    #[tactic(auto, unfolding(cw_i86::specs::Effect::called))]
     fn call(&mut self, place: u16)
         ensures { self.new ≡ called self.old place }
     {
@@ -217,19 +217,23 @@ impl Cpu {
         self.go_to(place);
     }
 
-    #[tactic(auto, unfolding(crate::specs::Effects::shifted))]
+    #[tactic(auto, unfolding(cw_i86::specs::Effect::shifted))]
     fn shift(&mut self, op: u8, wide: bool, by_cl: bool, rm: Rm)
         requires { IsRm rm }
         ensures { self.new ≡ shifted self.old op wide by_cl rm }
     {
         let a = self.operand(wide, rm);
-        let count = if by_cl { (self.registers[1] % 256) as u8 } else { 1 };
+        let count = if by_cl {
+            (self.registers[1] % 256) as u8
+        } else {
+            1
+        };
         let (value, flags) = shift(op, wide, self.flags, a, count);
         self.set_flags(flags);
         self.set_operand(wide, rm, value);
     }
 
-    #[tactic(auto, unfolding(crate::specs::Effects::complemented))]
+    #[tactic(auto, unfolding(cw_i86::specs::Effect::complemented))]
     fn complement(&mut self, wide: bool, rm: Rm)
         requires { IsRm rm }
         ensures { self.new ≡ complemented self.old wide rm }
@@ -239,7 +243,7 @@ impl Cpu {
         self.set_operand(wide, rm, value);
     }
 
-    #[tactic(auto, unfolding(crate::specs::Effects::negated))]
+    #[tactic(auto, unfolding(cw_i86::specs::Effect::negated))]
     fn negate(&mut self, wide: bool, rm: Rm)
         requires { IsRm rm }
         ensures { self.new ≡ negated self.old wide rm }
@@ -263,7 +267,7 @@ impl Cpu {
         self.registers[2] = (n / 65536) as u16;
     }
 
-    #[tactic(auto, unfolding(crate::specs::Effects::multiplied))]
+    #[tactic(auto, unfolding(cw_i86::specs::Effect::multiplied))]
     fn multiply(&mut self, wide: bool, b: u16)
         requires { b < limit_of wide }
         ensures { self.new ≡ multiplied self.old wide b }
@@ -279,7 +283,7 @@ impl Cpu {
         }
     }
 
-    #[tactic(auto, unfolding(crate::specs::Effects::signed_multiplied))]
+    #[tactic(auto, unfolding(cw_i86::specs::Effect::signed_multiplied))]
     fn multiply_signed(&mut self, wide: bool, b: u16)
         requires { b < limit_of wide }
         ensures { self.new ≡ signed_multiplied self.old wide b }
@@ -296,7 +300,7 @@ impl Cpu {
     }
 
     // Answers whether the division is possible; where not, nothing changes.
-    #[tactic(auto, unfolding(crate::specs::Effects::divided))]
+    #[tactic(auto, unfolding(cw_i86::specs::Effect::divided))]
     fn divide(&mut self, wide: bool, b: u16) -> bool
         requires { b < limit_of wide }
         ensures effect { divided self.old wide b ≡ (if result then Some self.new else None) }
@@ -317,7 +321,7 @@ impl Cpu {
         true
     }
 
-    #[tactic(auto, unfolding(crate::specs::Effects::signed_divided))]
+    #[tactic(auto, unfolding(cw_i86::specs::Effect::signed_divided))]
     fn divide_signed(&mut self, wide: bool, b: u16) -> bool
         requires { b < limit_of wide }
         ensures effect { signed_divided self.old wide b ≡ (if result then Some self.new else None) }
@@ -338,7 +342,7 @@ impl Cpu {
         true
     }
 
-    #[tactic(auto, unfolding(crate::specs::Effects::unary))]
+    #[tactic(auto, unfolding(cw_i86::specs::Effect::unary))]
     fn unary(&mut self, op: u8, wide: bool, rm: Rm) -> bool
         requires rm { IsRm rm }
         requires op { 1 < op }
@@ -368,7 +372,7 @@ impl Cpu {
         true
     }
 
-    #[tactic(auto, unfolding(crate::specs::Effects::moved))]
+    #[tactic(auto, unfolding(cw_i86::specs::Effect::moved))]
     fn move_operand(&mut self, wide: bool, to_reg: bool, reg: u8, rm: Rm)
         requires reg { reg < 8 }
         requires rm { IsRm rm }
@@ -383,7 +387,7 @@ impl Cpu {
         }
     }
 
-    #[tactic(auto, unfolding(crate::specs::Effects::exchanged))]
+    #[tactic(auto, unfolding(cw_i86::specs::Effect::exchanged))]
     fn exchange(&mut self, wide: bool, reg: u8, rm: Rm)
         requires reg { reg < 8 }
         requires rm { IsRm rm }
@@ -395,7 +399,7 @@ impl Cpu {
         self.set_sized_register(wide, reg, b);
     }
 
-    #[tactic(auto, unfolding(crate::specs::Effects::moved_acc))]
+    #[tactic(auto, unfolding(cw_i86::specs::Effect::moved_acc))]
     fn move_acc(&mut self, cs: bool, wide: bool, store: bool, at: u16)
         ensures { self.new ≡ moved_acc self.old cs wide store at }
     {
@@ -409,7 +413,7 @@ impl Cpu {
         }
     }
 
-    #[tactic(auto, unfolding(crate::specs::Effects::byte_extended))]
+    #[tactic(auto, unfolding(cw_i86::specs::Effect::byte_extended))]
     fn extend_byte(&mut self)
         ensures { self.new ≡ byte_extended self.old }
     {
@@ -417,7 +421,7 @@ impl Cpu {
         self.set_register(0, sign_extended(byte));
     }
 
-    #[tactic(auto, unfolding(crate::specs::Effects::word_extended))]
+    #[tactic(auto, unfolding(cw_i86::specs::Effect::word_extended))]
     fn extend_word(&mut self)
         ensures { self.new ≡ word_extended self.old }
     {
@@ -425,7 +429,7 @@ impl Cpu {
         self.set_register(2, high);
     }
 
-    #[tactic(auto, unfolding(crate::specs::Effects::pop_to))]
+    #[tactic(auto, unfolding(cw_i86::specs::Effect::pop_to))]
     fn pop_to(&mut self, r: u8)
         requires { r < 8 }
         ensures { self.new ≡ pop_to self.old r }

@@ -6,8 +6,7 @@ ghost use Rattle.cw_i86.specs.State.{sign_extended, limit_of, imm_value, registe
 
 use crate::cpu::{Cpu, DATA_SEGMENT, STACK_SEGMENT};
 use crate::memory::{read_byte, read_word, write_byte, write_word};
-use cw_i86::Flags;
-use cw_i86::{Imm, Mem, Place, Rm};
+use cw_i86::{Flags, Imm, Mem, Place, Rm};
 
 /// A byte as a word with its sign.
 pub(crate) fn sign_extended(by: u8) -> u16

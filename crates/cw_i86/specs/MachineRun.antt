@@ -1,5 +1,5 @@
 -- A step of the machine, a run, and what a run shows.
-use Rattle.std.specs.Prelude.{◌≡◌, ℕ, zero, suc, ◌+◌, ◌*◌, ◌<◌, ◌^◌, ◌==◌, ◌⊎◌, List, [], ◌∷◌, ◌++◌, Option, Some, None, length, drop, slice_index, if◌then◌else◌}
+use Rattle.std.specs.Prelude.{◌≡◌, ℕ, zero, suc, ◌+◌, ◌*◌, ◌/◌, ◌%◌, ◌<◌, ◌≤◌, ◌^◌, ◌==◌, ◌||◌, ◌⊎◌, Bool, false, List, [], ◌∷◌, ◌++◌, Option, Some, None, length, drop, slice_index, if◌then◌else◌}
 use Rattle.cw_i86.specs.Encoding.{bytes_of, IsInstr, BeginsWith}
 use Rattle.cw_i86.specs.State.{State, window, byte_register, with_byte_register, past}
 use Rattle.cw_i86.specs.Effect.{executed}
@@ -43,10 +43,15 @@ Does (Out port) s o = o ≡ GoesOn s (Gives port (byte_register s 0))
 Does Hlt s o = o ≡ Halts s
 Does i s o = o ≡ completed (executed i s)
 
--- A step is that of the instruction which stands at CS:IP, and undefined where none does.
+-- A step is that of the instruction which stands at CS:IP, and undefined where none does. Only IN leaves a choice: the byte that the port gives.
 abbrev pub Steps : State → Outcome → Type 0
 Steps s o =
     ((i : Instr) × Stands s i × Does i (past s (length (bytes_of i))) o) ⊎ (NothingStands s × (o ≡ Undefined))
+
+-- the two outcomes took no different bytes from one port
+abbrev pub TakeAlike : Outcome → Outcome → Type 0
+TakeAlike (GoesOn s (Takes port value)) (GoesOn t (Takes other given)) = port ≡ other → value ≡ given
+TakeAlike o p = Unit {0}
 
 -- ---- a run
 
@@ -74,6 +79,22 @@ abbrev pub FitsInput : List ℕ → List Event → Type 0
 FitsInput input [] = Unit {0}
 FitsInput input (Takes port value ∷ events) = (value ≡ taken port input) × FitsInput (left_after port input) events
 FitsInput input (event ∷ events) = FitsInput input events
+
+-- the input left after these events
+abbrev pub left_behind : List Event → List ℕ → List ℕ
+left_behind [] input = input
+left_behind (Takes port value ∷ events) input = left_behind events (left_after port input)
+left_behind (event ∷ events) input = left_behind events input
+
+-- the port tells of the input
+abbrev pub is_of_input : (port : ℕ) → Bool
+is_of_input port = port == 0x10 || port == 0x11
+
+-- a byte was taken from a port that tells of the input
+abbrev pub asks_input : List Event → Bool
+asks_input [] = false
+asks_input (Takes port value ∷ events) = is_of_input port || asks_input events
+asks_input (event ∷ events) = asks_input events
 
 abbrev pub written_by : Event → List ℕ
 written_by (Gives port value) = if port == 0x12 then value ∷ [] else []
@@ -135,8 +156,16 @@ pub record Shows (s : State) (input : List ℕ) (n : ℕ) (shown : Observed) : T
 
 -- ---- the start
 
--- the code stands from 10000h, the words from 20000h, and all else is 0
+-- The code stands from 10000h, the words from 20000h with the low byte first, and all else in memory is 0. So are the registers, IP and the flags.
 pub record IsStart (code words : List ℕ) (s : State) : Type 0 where
   pub bytes : length s.memory ≡ 2 ^ 20
   pub below : (a : ℕ) → a < 0x10000 → slice_index s.memory a ≡ 0
   pub code_bytes : (k : ℕ) → k < length code → slice_index s.memory (0x10000 + k) ≡ slice_index code k
+  pub between : (a : ℕ) → 0x10000 + length code ≤ a → a < 0x20000 → slice_index s.memory a ≡ 0
+  pub low_bytes : (k : ℕ) → k < length words → slice_index s.memory (0x20000 + 2 * k) ≡ slice_index words k % 256
+  pub high_bytes : (k : ℕ) → k < length words → slice_index s.memory (0x20000 + 2 * k + 1) ≡ slice_index words k / 256
+  pub above : (a : ℕ) → 0x20000 + 2 * length words ≤ a → slice_index s.memory a ≡ 0
+  pub registers : s.registers ≡ 0 ∷ 0 ∷ 0 ∷ 0 ∷ 0 ∷ 0 ∷ 0 ∷ 0 ∷ []
+  pub code_segment : s.code_segment ≡ 0x1000
+  pub instruction_pointer : s.instruction_pointer ≡ 0
+  pub flags : s.flags ≡ record { cf = false; pf = false; af = false; zf = false; sf = false; of = false }

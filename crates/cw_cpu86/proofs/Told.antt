@@ -1,0 +1,149 @@
+-- What the ports tell after one event more.
+use Rattle.std.proofs.Common.{◌≡◌, ℕ, List, [], ◌∷◌, ◌++◌, Bool, true, false, refl, sym, ap, subst, ◌∙◌}
+use Rattle.std.proofs.lemmas.List.{append-nil, append_assoc}
+use Rattle.std.proofs.Math.Bool.{or_assoc}
+use Rattle.std.specs.Prelude.{◌==◌, ◌||◌, Option, Some, None, option_map, if◌then◌else◌}
+use Rattle.cw_io.specs.Bytes.{after_told}
+use Rattle.cw_i86.specs.MachineRun.{Event, Silent, Takes, Gives, left_after, left_behind, FitsInput, is_of_input, asks_input, written_by, written, given_to, last_given}
+use Rattle.cw_cpu86.specs.Ports.{Device, Answers, FitsTold, Follows, IsTaken}
+
+-- ---- lists of events
+
+written-append : (a b : List Event) → written (a ++ b) ≡ written a ++ written b
+written-append [] b = refl
+written-append (event ∷ a) b = ap (λ bytes. written_by event ++ bytes) (written-append a b) ∙ sym (append_assoc (written_by event) (written a) (written b))
+
+last_given-append : (port : ℕ) (a b : List Event) (before : ℕ) → last_given port (a ++ b) before ≡ last_given port b (last_given port a before)
+last_given-append port [] b before = refl
+last_given-append port (event ∷ a) b before = last_given-append port a b (given_to port event before)
+
+left_behind-append : (a b : List Event) (input : List ℕ) → left_behind (a ++ b) input ≡ left_behind b (left_behind a input)
+left_behind-append [] b input = refl
+left_behind-append (Silent ∷ a) b input = left_behind-append a b input
+left_behind-append (Takes port value ∷ a) b input = left_behind-append a b (left_after port input)
+left_behind-append (Gives port value ∷ a) b input = left_behind-append a b input
+
+asks_input-append : (a b : List Event) → asks_input (a ++ b) ≡ (asks_input a || asks_input b)
+asks_input-append [] b = refl
+asks_input-append (Silent ∷ a) b = asks_input-append a b
+asks_input-append (Takes port value ∷ a) b =
+    ap (λ rest. is_of_input port || rest) (asks_input-append a b) ∙ sym (or_assoc (is_of_input port) (asks_input a) (asks_input b))
+asks_input-append (Gives port value ∷ a) b = asks_input-append a b
+
+pub FitsInput-append : (a b : List Event) (input : List ℕ) → FitsInput input a → FitsInput (left_behind a input) b → FitsInput input (a ++ b)
+FitsInput-append [] b input fits more = more
+FitsInput-append (Silent ∷ a) b input fits more = FitsInput-append a b input fits more
+FitsInput-append (Takes port value ∷ a) b input fits more = (fits.0, FitsInput-append a b (left_after port input) fits.1 more)
+FitsInput-append (Gives port value ∷ a) b input fits more = FitsInput-append a b input fits more
+
+pub FitsInput-parts : (a b : List Event) (input : List ℕ) → FitsInput input (a ++ b) → FitsInput input a × FitsInput (left_behind a input) b
+FitsInput-parts [] b input fits = (tt, fits)
+FitsInput-parts (Silent ∷ a) b input fits = FitsInput-parts a b input fits
+FitsInput-parts (Takes port value ∷ a) b input fits =
+    let parts = FitsInput-parts a b (left_after port input) fits.1 in
+    ((fits.0, parts.0), parts.1)
+FitsInput-parts (Gives port value ∷ a) b input fits = FitsInput-parts a b input fits
+
+-- ---- what is told
+
+told-nil : (told : Option (List ℕ)) → after_told told [] ≡ told
+told-nil None = refl
+told-nil (Some held) = ap Some (append-nil held)
+
+told-append : (told : Option (List ℕ)) (a b : List ℕ) → after_told (after_told told a) b ≡ after_told told (a ++ b)
+told-append None a b = refl
+told-append (Some held) a b = ap Some (append_assoc held a b)
+
+map-same : (left : Option (List ℕ)) → option_map (λ input. input) left ≡ left
+map-same None = refl
+map-same (Some input) = refl
+
+or-false : (b : Bool) → (b || false) ≡ b
+or-false true = refl
+or-false false = refl
+
+-- ---- one event
+
+held_after : (event : Event) (old new : Device) → Answers event old new → new.held ≡ after_told old.held (written (event ∷ []))
+held_after Silent old new is = ap (λ d. d.held) is ∙ sym (told-nil old.held)
+held_after (Takes port value) old new is = ap (λ d. d.held) is.1 ∙ sym (told-nil old.held)
+held_after (Gives port value) old new is =
+    let given : (test : Bool) → (if test then after_told old.held (value ∷ []) else old.held) ≡ after_told old.held ((if test then value ∷ [] else []) ++ []) =
+    elim [ true ↦ refl | false ↦ sym (told-nil old.held) ] in
+    ap (λ d. d.held) is ∙ given (port == 0x12)
+
+kind_after : (event : Event) (old new : Device) → Answers event old new → new.kind ≡ given_to 0x13 event old.kind
+kind_after Silent old new is = ap (λ d. d.kind) is
+kind_after (Takes port value) old new is = ap (λ d. d.kind) is.1
+kind_after (Gives port value) old new is = ap (λ d. d.kind) is
+
+segment_after : (event : Event) (old new : Device) → Answers event old new → new.segment ≡ given_to 0x14 event old.segment
+segment_after Silent old new is = ap (λ d. d.segment) is
+segment_after (Takes port value) old new is = ap (λ d. d.segment) is.1
+segment_after (Gives port value) old new is = ap (λ d. d.segment) is
+
+line_low_after : (event : Event) (old new : Device) → Answers event old new → new.line_low ≡ given_to 0x15 event old.line_low
+line_low_after Silent old new is = ap (λ d. d.line_low) is
+line_low_after (Takes port value) old new is = ap (λ d. d.line_low) is.1
+line_low_after (Gives port value) old new is = ap (λ d. d.line_low) is
+
+line_high_after : (event : Event) (old new : Device) → Answers event old new → new.line_high ≡ given_to 0x16 event old.line_high
+line_high_after Silent old new is = ap (λ d. d.line_high) is
+line_high_after (Takes port value) old new is = ap (λ d. d.line_high) is.1
+line_high_after (Gives port value) old new is = ap (λ d. d.line_high) is
+
+is_used_after : (event : Event) (old new : Device) → Answers event old new → new.is_used ≡ (old.is_used || asks_input (event ∷ []))
+is_used_after Silent old new is = ap (λ d. d.is_used) is ∙ sym (or-false old.is_used)
+is_used_after (Takes port value) old new is = ap (λ d. d.is_used) is.1 ∙ ap (λ b. old.is_used || b) (sym (or-false (is_of_input port)))
+is_used_after (Gives port value) old new is = ap (λ d. d.is_used) is ∙ sym (or-false old.is_used)
+
+left_after_event : (event : Event) (old new : Device) → Answers event old new → new.left ≡ option_map (left_behind (event ∷ [])) old.left
+left_after_event Silent old new is = ap (λ d. d.left) is ∙ sym (map-same old.left)
+left_after_event (Takes port value) old new is = ap (λ d. d.left) is.1
+left_after_event (Gives port value) old new is = ap (λ d. d.left) is ∙ sym (map-same old.left)
+
+-- ---- one more event
+
+left_more : (left : Option (List ℕ)) (a b : List Event) → option_map (left_behind b) (option_map (left_behind a) left) ≡ option_map (left_behind (a ++ b)) left
+left_more None a b = refl
+left_more (Some input) a b = ap Some (sym (left_behind-append a b input))
+
+fits_more : (left : Option (List ℕ)) (events : List Event) (event : Event) (old new : Device) → old.left ≡ option_map (left_behind events) left
+    → FitsTold left events → Answers event old new → FitsTold left (events ++ event ∷ [])
+fits_more None events event old new is fits answers = tt
+fits_more (Some input) events Silent old new is fits answers = FitsInput-append events (Silent ∷ []) input fits tt
+fits_more (Some input) events (Takes port value) old new is fits answers =
+    FitsInput-append events (Takes port value ∷ []) input fits (subst (λ left. IsTaken left port value) is answers.0, tt)
+fits_more (Some input) events (Gives port value) old new is fits answers = FitsInput-append events (Gives port value ∷ []) input fits tt
+
+pub follows_more : (events : List Event) (event : Event) (d e f : Device) → Follows events d e → Answers event e f → Follows (events ++ event ∷ []) d f
+follows_more events event d e f so_far answers =
+    let one = event ∷ [] in
+    record {
+      fits = fits_more d.left events event e f so_far.left so_far.fits answers;
+      left = left_after_event event e f answers ∙ ap (option_map (left_behind one)) so_far.left ∙ left_more d.left events one;
+      is_used = is_used_after event e f answers ∙ ap (λ b. b || asks_input one) so_far.is_used ∙ or_assoc d.is_used (asks_input events) (asks_input one)
+          ∙ ap (λ b. d.is_used || b) (sym (asks_input-append events one));
+      held = held_after event e f answers ∙ ap (λ told. after_told told (written one)) so_far.held ∙ told-append d.held (written events) (written one)
+          ∙ ap (after_told d.held) (sym (written-append events one));
+      kind = kind_after event e f answers ∙ ap (given_to 0x13 event) so_far.kind ∙ sym (last_given-append 0x13 events one d.kind);
+      segment = segment_after event e f answers ∙ ap (given_to 0x14 event) so_far.segment ∙ sym (last_given-append 0x14 events one d.segment);
+      line_low = line_low_after event e f answers ∙ ap (given_to 0x15 event) so_far.line_low ∙ sym (last_given-append 0x15 events one d.line_low);
+      line_high = line_high_after event e f answers ∙ ap (given_to 0x16 event) so_far.line_high ∙ sym (last_given-append 0x16 events one d.line_high);
+    }
+
+pub follows_none : (d : Device) → Follows [] d d
+follows_none d = record {
+  fits = fits_none d.left;
+  left = sym (map-same d.left);
+  is_used = sym (or-false d.is_used);
+  held = sym (told-nil d.held);
+  kind = refl;
+  segment = refl;
+  line_low = refl;
+  line_high = refl;
+}
+  where
+    fits_none : (left : Option (List ℕ)) → FitsTold left []
+    fits_none None = tt
+    fits_none (Some input) = tt

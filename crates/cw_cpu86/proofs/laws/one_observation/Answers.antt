@@ -1,0 +1,5 @@
+use Rattle.cw_cpu86.proofs.Once.{shows_same}
+use Rattle.cw_cpu86.proofs.laws.one_observation.Goals as goal
+
+pub returns : goal.returns
+returns c = shows_same c.one_reading.ensures
