@@ -91,6 +91,7 @@ impl Cpu {
     pub fn step<P: Ports>(&mut self, ports: &mut P) -> Step
         ensures answers { StepAnswers result self.old (P.device ports.old) self.new (P.device ports.new) }
         ensures counts { StepCounts result (P.faults ports.old) (P.faults ports.new) }
+        ensures lent { P.lent ports.new ≡ P.lent ports.old }
     {
         let offset = self.instruction_pointer;
         let Some((instr, length)) = fetch(&self.memory, self.code_segment, offset) else {
@@ -135,6 +136,7 @@ impl Cpu {
     pub fn run<P: Ports>(&mut self, ports: &mut P, limit: u64) -> RunEnd
         ensures answers { RunAnswers result limit self.old (P.device ports.old) self.new (P.device ports.new) }
         ensures counts { RunCounts result (P.faults ports.old) (P.faults ports.new) }
+        ensures lent { P.lent ports.new ≡ P.lent ports.old }
     {
         for steps in 0..limit {
             match self.step(ports) {

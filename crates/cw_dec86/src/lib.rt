@@ -47,4 +47,5 @@ pub fn decode(bytes: &[u8]) -> Decoded
 pub fn no_instruction_begins_another()
     ensures same { (i j : Instr) → IsInstr i → IsInstr j → bytes_of i ≡ bytes_of j → i ≡ j }
     ensures begins { (i j : Instr) → IsInstr i → IsInstr j → BeginsWith (bytes_of i) j → i ≡ j }
+    ensures one_front { (bytes : List ℕ) (i j : Instr) → IsInstr i → IsInstr j → BeginsWith bytes i → BeginsWith bytes j → i ≡ j }
 {}

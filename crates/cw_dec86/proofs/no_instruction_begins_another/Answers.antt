@@ -7,5 +7,6 @@ use Rattle.cw_dec86.proofs.no_instruction_begins_another.Goals as goal
 pub returns : goal.returns
 returns c = record {
   same = λ i j is js e. one i j [] [] is js (append-nil (bytes_of i) ∙ (e ∙ sym (append-nil (bytes_of j))));
+  one_front = λ bytes i j is js (rest, e) (more, f). one i j rest more is js (sym e ∙ f);
   begins = λ i j is js (rest, e). one i j [] rest is js (append-nil (bytes_of i) ∙ e);
 }

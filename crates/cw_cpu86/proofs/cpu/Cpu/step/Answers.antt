@@ -35,4 +35,5 @@ returns-then-execute g c =
         refl,
       );
       counts = refl;
+      lent = refl;
     }
