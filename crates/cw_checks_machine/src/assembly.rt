@@ -24,7 +24,7 @@ pub fn is_assembly(i: &Instr, text: &str) -> bool {
 }
 
 /// A mnemonic and its operands.
-#[derive(Clone, Copy)]
+#[derive(Drop)]
 struct Line(&'static str, Operand, Operand);
 
 #[derive(Clone, Copy)]
@@ -63,60 +63,27 @@ fn line_of(i: &Instr) -> Line {
             rm,
         } => Line(alu(op), Operand::Reg(wide, reg), Operand::Rm(wide, rm)),
         Instr::AluAcc { op, imm } => Line(alu(op), Operand::Reg(imm.is_word(), 0), strict(imm)),
-        Instr::Inc(reg) => with("inc", Operand::Reg(true, reg)),
-        Instr::Dec(reg) => with("dec", Operand::Reg(true, reg)),
-        Instr::Push(reg) => with("push", Operand::Reg(true, reg)),
-        Instr::Pop(reg) => with("pop", Operand::Reg(true, reg)),
-        Instr::JumpIf { cond, by } => with(condition(cond), near_target(by)),
         Instr::AluImm { op, rm, imm } => Line(alu(op), Operand::Rm(imm.is_word(), rm), strict(imm)),
         Instr::AluShort { op, rm, imm } => Line(alu(op), Operand::Rm(true, rm), Operand::Byte(imm)),
+        Instr::Inc(reg) => with("inc", Operand::Reg(true, reg)),
+        Instr::Dec(reg) => with("dec", Operand::Reg(true, reg)),
+        Instr::IncDec {
+            down: false,
+            wide,
+            rm,
+        } => with("inc", Operand::Rm(wide, rm)),
+        Instr::IncDec {
+            down: true,
+            wide,
+            rm,
+        } => with("dec", Operand::Rm(wide, rm)),
         Instr::TestRm { wide, reg, rm } => Line(
             "test",
             Operand::Rm(wide, rm),
             Operand::Reg(wide, reg),
         ),
-        Instr::XchgRm { wide, reg, rm } => Line(
-            "xchg",
-            Operand::Reg(wide, reg),
-            Operand::Rm(wide, rm),
-        ),
-        Instr::Mov {
-            wide,
-            to_reg: false,
-            reg,
-            rm,
-        } => Line("mov", Operand::Rm(wide, rm), Operand::Reg(wide, reg)),
-        Instr::Mov {
-            wide,
-            to_reg: true,
-            reg,
-            rm,
-        } => Line("mov", Operand::Reg(wide, reg), Operand::Rm(wide, rm)),
-        Instr::Lea { reg, mem } => Line("lea", Operand::Reg(true, reg), Operand::At(mem)),
-        Instr::XchgAx(reg) => Line("xchg", Operand::Reg(true, 0), Operand::Reg(true, reg)),
-        Instr::Cbw => plain("cbw"),
-        Instr::Cwd => plain("cwd"),
-        Instr::PushF => plain("pushf"),
-        Instr::PopF => plain("popf"),
-        Instr::Sahf => plain("sahf"),
-        Instr::Lahf => plain("lahf"),
-        Instr::MovAcc {
-            cs,
-            wide,
-            store: false,
-            at,
-        } => Line("mov", Operand::Reg(wide, 0), offset(cs, at)),
-        Instr::MovAcc {
-            cs,
-            wide,
-            store: true,
-            at,
-        } => Line("mov", offset(cs, at), Operand::Reg(wide, 0)),
         Instr::TestAcc(imm) => Line("test", Operand::Reg(imm.is_word(), 0), number(imm)),
-        Instr::MovImm { reg, imm } => Line("mov", Operand::Reg(imm.is_word(), reg), number(imm)),
-        Instr::RetAdd(n) => with("ret", Operand::Number(n)),
-        Instr::Ret => plain("ret"),
-        Instr::MovRm { rm, imm } => Line("mov", Operand::Rm(imm.is_word(), rm), number(imm)),
+        Instr::TestImm { rm, imm } => Line("test", Operand::Rm(imm.is_word(), rm), number(imm)),
         Instr::Shift {
             op,
             wide,
@@ -129,31 +96,83 @@ fn line_of(i: &Instr) -> Line {
             by_cl: true,
             rm,
         } => Line(shift(op), Operand::Rm(wide, rm), Operand::Text("cl")),
-        Instr::Loop { kind, by } => with(loop_kind(kind), near_target(by)),
+        Instr::Unary { op, wide, rm } => with(unary(op), Operand::Rm(wide, rm)),
+        _ => transfer(i),
+    }
+}
+
+fn transfer(i: &Instr) -> Line {
+    match *i {
+        Instr::Mov {
+            wide,
+            to_reg: false,
+            reg,
+            rm,
+        } => Line("mov", Operand::Rm(wide, rm), Operand::Reg(wide, reg)),
+        Instr::Mov {
+            wide,
+            to_reg: true,
+            reg,
+            rm,
+        } => Line("mov", Operand::Reg(wide, reg), Operand::Rm(wide, rm)),
+        Instr::MovAcc {
+            cs,
+            wide,
+            store: false,
+            at,
+        } => Line("mov", Operand::Reg(wide, 0), offset(cs, at)),
+        Instr::MovAcc {
+            cs,
+            wide,
+            store: true,
+            at,
+        } => Line("mov", offset(cs, at), Operand::Reg(wide, 0)),
+        Instr::MovImm { reg, imm } => Line("mov", Operand::Reg(imm.is_word(), reg), number(imm)),
+        Instr::MovRm { rm, imm } => Line("mov", Operand::Rm(imm.is_word(), rm), number(imm)),
+        Instr::Lea { reg, mem } => Line("lea", Operand::Reg(true, reg), Operand::At(mem)),
+        Instr::XchgRm { wide, reg, rm } => Line(
+            "xchg",
+            Operand::Reg(wide, reg),
+            Operand::Rm(wide, rm),
+        ),
+        Instr::XchgAx(reg) => Line("xchg", Operand::Reg(true, 0), Operand::Reg(true, reg)),
+        Instr::Push(reg) => with("push", Operand::Reg(true, reg)),
+        Instr::Pop(reg) => with("pop", Operand::Reg(true, reg)),
+        Instr::PushRm(rm) => with("push", Operand::Rm(true, rm)),
         Instr::In(port) => Line("in", Operand::Text("al"), Operand::Number(u16::from(port))),
         Instr::Out(port) => Line("out", Operand::Number(u16::from(port)), Operand::Text("al")),
+        _ => control(i),
+    }
+}
+
+fn control(i: &Instr) -> Line {
+    match *i {
+        Instr::JumpIf { cond, by } => with(condition(cond), near_target(by)),
+        Instr::Loop { kind, by } => with(loop_kind(kind), near_target(by)),
+        Instr::RetAdd(n) => with("ret", Operand::Number(n)),
+        Instr::Ret => plain("ret"),
         Instr::Call(by) => with("call", Operand::Target(by.wrapping_add(3))),
         Instr::Jump(by) => with("jmp near", Operand::Target(by.wrapping_add(3))),
         Instr::JumpShort(by) => with("jmp short", near_target(by)),
-        Instr::Hlt => plain("hlt"),
-        Instr::Cmc => plain("cmc"),
-        Instr::Clc => plain("clc"),
-        Instr::Stc => plain("stc"),
-        Instr::TestImm { rm, imm } => Line("test", Operand::Rm(imm.is_word(), rm), number(imm)),
-        Instr::Unary { op, wide, rm } => with(unary(op), Operand::Rm(wide, rm)),
-        Instr::IncDec {
-            down: false,
-            wide,
-            rm,
-        } => with("inc", Operand::Rm(wide, rm)),
-        Instr::IncDec {
-            down: true,
-            wide,
-            rm,
-        } => with("dec", Operand::Rm(wide, rm)),
         Instr::CallRm(rm) => with("call", Operand::Rm(true, rm)),
         Instr::JumpRm(rm) => with("jmp", Operand::Rm(true, rm)),
-        Instr::PushRm(rm) => with("push", Operand::Rm(true, rm)),
+        _ => plain(one_byte(i)),
+    }
+}
+
+fn one_byte(i: &Instr) -> &'static str {
+    match i {
+        Instr::Cbw => "cbw",
+        Instr::Cwd => "cwd",
+        Instr::PushF => "pushf",
+        Instr::PopF => "popf",
+        Instr::Sahf => "sahf",
+        Instr::Lahf => "lahf",
+        Instr::Hlt => "hlt",
+        Instr::Cmc => "cmc",
+        Instr::Clc => "clc",
+        Instr::Stc => "stc",
+        _ => "?",
     }
 }
 
