@@ -1,4 +1,5 @@
--- The instruction at the front of bytes that go on with zeros, without end.
+-- The instruction at the front of bytes that go on with zeros, without end: what the decoder's private functions compute.
+-- What bytes are, Decoding says, and nothing here.
 use Rattle.std.specs.Prelude.{ℕ, zero, suc, ◌+◌, ◌-◌, ◌/◌, ◌%◌, Bool, true, false, ◌==◌, nat_lt, ◌||◌, if◌then◌else◌, List, [], ◌∷◌, drop, slice_index, Option, Some, None}
 use Rattle.std.specs.Int.{w16, from_le_bytes, is_in_range}
 use Rattle.std.specs.Option.{option_and_then}
