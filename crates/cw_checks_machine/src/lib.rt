@@ -1,0 +1,7 @@
+//! Checks of the 8086 crates against values from outside.
+#![tactic(auto)]
+
+#[cfg(test)]
+mod arithmetic;
+#[cfg(test)]
+mod steps;
