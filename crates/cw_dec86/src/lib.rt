@@ -43,17 +43,10 @@ pub fn decode(bytes: &[u8]) -> Decoded
     }
 }
 
-/// A law, and no work: bytes that begin with an instruction have no other reading.
-pub fn one_reading()
-    ensures { (bytes rest : List ℕ) (i : Instr) (decoded : Decoded) →
-        IsInstr i → bytes ≡ bytes_of i ++ rest → Reads bytes decoded → decoded ≡ Decoded.Done i (length (bytes_of i)) }
-{}
-
 /// A law, and no work: bytes begin with at most one instruction.
 /// So no two instructions have the same bytes, and none's bytes begin another's.
 pub fn no_instruction_begins_another()
     ensures front { (bytes : List ℕ) (i j : Instr) → IsInstr i → IsInstr j → BeginsWith bytes i → BeginsWith bytes j → i ≡ j }
     ensures same { (i j : Instr) → IsInstr i → IsInstr j → bytes_of i ≡ bytes_of j → i ≡ j }
     ensures begins { (i j : Instr) → IsInstr i → IsInstr j → BeginsWith (bytes_of i) j → i ≡ j }
-    ensures one_front { (bytes : List ℕ) (i j : Instr) → IsInstr i → IsInstr j → BeginsWith bytes i → BeginsWith bytes j → i ≡ j }
 {}

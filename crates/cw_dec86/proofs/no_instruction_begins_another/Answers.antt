@@ -8,6 +8,5 @@ pub returns : goal.returns
 returns c = record {
   front = λ bytes i j is js (rest, e) (others, f). one i j rest others is js (sym e ∙ f);
   same = λ i j is js e. one i j [] [] is js (append-nil (bytes_of i) ∙ (e ∙ sym (append-nil (bytes_of j))));
-  one_front = λ bytes i j is js (rest, e) (more, f). one i j rest more is js (sym e ∙ f);
   begins = λ i j is js (rest, e). one i j [] rest is js (append-nil (bytes_of i) ∙ e);
 }
