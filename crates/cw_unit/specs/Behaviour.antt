@@ -25,6 +25,9 @@ pub record Shown : Type 0 where
 abbrev pub shown : Configuration → Shown
 shown (at s k acts w e) = record { output = w.output; end = e }
 
+abbrev pub configuration_after : Program → (input : List ℕ) → (m : ℕ) → Configuration
+configuration_after p input m = steps p m (initial_configuration p input)
+
 -- what the source semantics shows after m steps
 abbrev pub observed : Program → (input : List ℕ) → (m : ℕ) → Shown
-observed p input m = shown (steps p m (initial_configuration p input))
+observed p input m = shown (configuration_after p input m)

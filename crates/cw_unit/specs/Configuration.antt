@@ -1,5 +1,5 @@
 -- A configuration of the abstract machine.
-use Rattle.std.specs.Prelude.{ℕ, ◌+◌, ◌-◌, List, [], ◌∷◌, Bool, Option, Some, None, slice_get, slice_index}
+use Rattle.std.specs.Prelude.{◌≡◌, ℕ, ◌+◌, ◌-◌, ◌<◌, ◌≤◌, List, [], ◌∷◌, Bool, Option, Some, None, slice_get, slice_index}
 use Rattle.cw_unit.specs.declared.unit.Unit.{Unit as SourceUnit}
 use Rattle.cw_unit.specs.declared.unit.Proc.{Proc}
 use Rattle.cw_unit.specs.Program.{Program, layout_at, item_address}
@@ -22,6 +22,12 @@ pub record Activation : Type 0 where
 -- the segment whose body is running, the work, the activations, last first, the words, and how the run stands
 pub data Configuration : Type 0 where
   at : (segment : ℕ) → Work → List Activation → Words → End → Configuration
+
+abbrev pub activations_of : Configuration → List Activation
+activations_of (at s k acts w e) = acts
+
+abbrev pub words_of : Configuration → Words
+words_of (at s k acts w e) = w
 
 -- the segment of the work
 abbrev pub segment_of : (segment : ℕ) → List Activation → ℕ
@@ -64,3 +70,10 @@ answer_scale_of p (a ∷ rest) = fraction_of_answer (procedure_at p a.segment a.
 -- the address of an item of the work's segment
 abbrev pub address_at : Program → (segment : ℕ) → List Activation → (item : ℕ) → ℕ
 address_at p s acts i = item_address p (segment_of s acts) i (base_of acts)
+
+-- the frames of activations that are active together: they are in the frame area, and those of later calls are above those of earlier
+-- ones, which come after them in the list
+pub record FramesApart (p : Program) (acts : List Activation) : Type 0 where
+  pub above : (n : ℕ) (a : Activation) → slice_get acts n ≡ Some a → p.limits.area - p.limits.frames ≤ a.frame_base
+  pub below : (n : ℕ) (a : Activation) → slice_get acts n ≡ Some a → a.frame_base + frame_size_of p a.segment a.procedure ≤ p.limits.area
+  pub apart : (n m : ℕ) (a b : Activation) → n < m → slice_get acts n ≡ Some a → slice_get acts m ≡ Some b → b.frame_base + frame_size_of p b.segment b.procedure ≤ a.frame_base
