@@ -1,12 +1,10 @@
 -- Roots, families and frames of a unit whose storage is well formed.
-use Rattle.std.proofs.Common.{◌≡◌, ◌≢◌, ℕ, zero, suc, ◌+◌, ◌<◌, ◌≤◌, max, List, [], ◌∷◌, length, take, Bool, true, false, ◌&&◌, cond, nat_eq, Option, Some, None, is_none, slice_get, refl, sym, ap, subst, ap₂, ◌∙◌, arith}
+use Rattle.std.proofs.Common.{◌≡◌, ℕ, zero, suc, ◌+◌, ◌<◌, ◌≤◌, List, [], ◌∷◌, length, take, ◌&&◌, cond, nat_eq, Option, Some, None, is_none, slice_get, refl, sym, ap, subst, ap₂, ◌∙◌, arith}
 use Rattle.std.proofs.lemmas.Bool.{eq-eqb}
 use Rattle.std.proofs.lemmas.Option.{none-some, same_Some, slice_get_within}
 use Rattle.cw_unit.specs.declared.unit.Unit.{Unit as SourceUnit}
 use Rattle.cw_unit.specs.declared.unit.Item.{Item}
-use Rattle.cw_unit.specs.declared.unit.Home.{Home}
 use Rattle.cw_unit.specs.declared.unit.Home.TheVariants as home
-use Rattle.cw_unit.specs.declared.layout.Family.{Family}
 use Rattle.cw_unit.specs.Storage.{base_of_home, base_of_item, base_of, root_within, root_of, family_offset, extent_from, family_extent, roots_in, family_of, is_frame_home, is_owner, frame_words_from, frame_words, frame_size, family_at, families_from, layout_of}
 use Rattle.cw_unit.specs.ValidStorage.{IsStorable}
 

@@ -1,5 +1,5 @@
 -- The layout and the map of a unit whose items are single words of its own.
-use Rattle.std.proofs.Common.{◌≡◌, ◌≢◌, ℕ, zero, suc, ◌+◌, ◌<◌, ◌≤◌, max, List, [], ◌∷◌, ◌++◌, map, length, take, replicate, Bool, true, false, ◌&&◌, cond, nat_eq, Option, Some, None, is_none, All, slice_get, refl, sym, ap, ap₂, ◌∙◌, arith, eqb, length-take-le, inl, inr, subst, true≢false, append-nil}
+use Rattle.std.proofs.Common.{◌≡◌, ◌≢◌, ℕ, zero, suc, ◌+◌, ◌<◌, ◌≤◌, max, List, [], ◌∷◌, ◌++◌, map, length, take, replicate, Bool, true, false, ◌&&◌, cond, nat_eq, Some, None, is_none, All, slice_get, refl, sym, ap, ap₂, ◌∙◌, arith, length-take-le, inl, inr, subst, true≢false, append-nil}
 use Rattle.std.proofs.lemmas.List.Elements.{All-head, All-tail, All-take, All-nil}
 use Rattle.std.proofs.lemmas.Option.{none-some, same_Some}
 use Rattle.std.proofs.lemmas.Bool.{eq-eqb, eqb-true}
@@ -7,13 +7,11 @@ use Rattle.std.proofs.lemmas.Bool.Decides.{eqb_tells}
 use Rattle.cw_unit.specs.declared.unit.Unit.{Unit as SourceUnit}
 use Rattle.cw_unit.specs.declared.unit.Item.{Item}
 use Rattle.cw_unit.specs.declared.unit.Proc.{Proc}
-use Rattle.cw_unit.specs.declared.unit.Home.{Home}
 use Rattle.cw_unit.specs.declared.unit.Home.TheVariants as home
 use Rattle.cw_unit.specs.declared.layout.Family.{Family}
 use Rattle.cw_unit.specs.declared.layout.Layout.{Layout}
 use Rattle.cw_unit.specs.declared.layout.Preset.{Preset}
-use Rattle.cw_unit.specs.declared.layout.Sort.TheVariants as sort
-use Rattle.cw_unit.specs.Storage.{base_of_home, base_of_item, base_of, root_within, offset_within, root_of, family_offset, extent_from, family_extent, roots_in, family_of, is_frame_home, is_owner, frame_words_from, frame_size, frame_sizes_from, family_at, families_from, positions_from, presets_from, preset_at, layout_of, sort_of}
+use Rattle.cw_unit.specs.Storage.{base_of_home, base_of_item, base_of, root_within, offset_within, root_of, family_offset, extent_from, family_extent, roots_in, family_of, is_frame_home, is_owner, frame_words_from, frame_sizes_from, family_at, families_from, positions_from, presets_from, preset_at, layout_of, sort_of}
 use Rattle.cw_unit.specs.OwnSingles.{IsOwnSingle, numbers_from, own_word, own_layout, own_map}
 use Rattle.cw_unit.specs.declared.layout.Map.{Map}
 use Rattle.cw_unit.specs.declared.layout.Limits.{Limits}

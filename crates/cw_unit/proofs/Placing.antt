@@ -1,12 +1,8 @@
 -- Families that are placed meet no absolute family, and no two of them share a word.
-use Rattle.std.proofs.Common.{◌≡◌, ◌≢◌, ◌⊎◌, ℕ, zero, suc, ◌+◌, ◌<◌, ◌≤◌, max, List, [], ◌∷◌, ◌++◌, length, Bool, true, false, ◌&&◌, cond, nat_eq, Option, Some, None, slice_get, refl, sym, ap, ap₂, ◌∙◌, arith, inl, inr, eqb-true, true≢false}
+use Rattle.std.proofs.Common.{◌≡◌, ◌⊎◌, ℕ, suc, ◌+◌, ◌≤◌, List, [], ◌∷◌, ◌++◌, Bool, true, false, ◌&&◌, cond, nat_eq, Some, slice_get, refl, sym, ap, ap₂, ◌∙◌, arith, inl, inr, eqb-true, true≢false}
 use Rattle.std.proofs.lemmas.Bool.{cases_Bool, eq-eqb}
-use Rattle.std.proofs.lemmas.Option.{none-some, same_Some}
 use Rattle.std.proofs.lemmas.Slice.Eq.{bytes_eq-Decides}
-use Rattle.cw_unit.specs.declared.layout.Family.{Family}
-use Rattle.cw_unit.specs.declared.layout.Sort.{Sort}
-use Rattle.cw_unit.specs.declared.layout.Sort.TheVariants as sort
-use Rattle.cw_unit.specs.Allocation.{Name, FamilyKey, Shared, Private, is_same_name, is_same_key, SegmentStorage, name_at, Range, absolute_range, absolute_ranges_in, absolute_ranges, extent_of_name, extent_in_segment, common_extent, extent_of_family, extent_in_storage, key_extent, placed_key, keys_in_segment, keys_from, without, first_keys, meets, first_fit, Placed, placed_from, last_end_of, start_of, family_address}
+use Rattle.cw_unit.specs.Allocation.{FamilyKey, Shared, Private, is_same_key, SegmentStorage, Range, key_extent, without, first_keys, meets, first_fit, Placed, placed_from, last_end_of, start_of}
 use Rattle.cw_unit.proofs.FirstFit.{first_fit-after, first_fit-clear}
 
 -- ---- membership

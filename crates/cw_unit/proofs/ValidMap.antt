@@ -1,7 +1,7 @@
 -- The storage map is valid.
-use Rattle.std.proofs.Common.{◌≡◌, ◌≢◌, ◌⊎◌, ◌↔◌, ℕ, zero, suc, ◌+◌, ◌-◌, ◌<◌, ◌≤◌, min, max, List, [], ◌∷◌, ◌++◌, map, length, take, Bool, true, false, cond, nat_eq, nat_lt, Option, Some, None, All, option_map, slice_get, slice_index, slice_index_or, refl, sym, ap, ap₂, subst, ◌∙◌, arith, inl, inr, ltb-true, ltb-false, true≢false}
-use Rattle.std.proofs.lemmas.Bool.{cases_Bool, eq-eqb}
-use Rattle.std.proofs.lemmas.Option.{none-some, same_Some, slice_get_within, slice_get-map, get_or_from_slice_get}
+use Rattle.std.proofs.Common.{◌≡◌, ◌↔◌, ℕ, zero, suc, ◌+◌, ◌-◌, ◌<◌, ◌≤◌, min, max, List, [], ◌∷◌, map, take, Bool, true, false, cond, nat_lt, Option, Some, None, All, option_map, slice_get, slice_index, slice_index_or, refl, sym, ap, ap₂, subst, ◌∙◌, arith, inl, inr, ltb-true, ltb-false, true≢false}
+use Rattle.std.proofs.lemmas.Bool.{cases_Bool}
+use Rattle.std.proofs.lemmas.Option.{none-some, same_Some, slice_get-map}
 use Rattle.std.proofs.lemmas.List.Elements.{All-head, All-tail}
 use Rattle.std.proofs.lemmas.Slice.Eq.{bytes_eq-Decides}
 use Rattle.cw_unit.specs.declared.unit.Unit.{Unit as SourceUnit}
@@ -10,14 +10,13 @@ use Rattle.cw_unit.specs.declared.unit.Home.{Home}
 use Rattle.cw_unit.specs.declared.unit.Home.TheVariants as home
 use Rattle.cw_unit.specs.declared.layout.Family.{Family}
 use Rattle.cw_unit.specs.declared.layout.Limits.{Limits}
-use Rattle.cw_unit.specs.declared.layout.Map.{Map}
 use Rattle.cw_unit.specs.declared.layout.Sort.{Sort}
 use Rattle.cw_unit.specs.declared.layout.Sort.TheVariants as sort
-use Rattle.cw_unit.specs.Storage.{root_of, roots_in, family_of, family_offset, family_extent, family_at, sort_of, frame_offset, frame_words, frame_size, layout_of}
-use Rattle.cw_unit.specs.Allocation.{Name, FamilyKey, Shared, Private, is_same_name, SegmentStorage, storage_of, name_at, Range, absolute_range, absolute_ranges_in, absolute_ranges, extent_of_name, extent_in_segment, common_extent, extent_of_family, extent_in_storage, key_extent, placed_key, keys_in_segment, keys_from, first_keys, meets, Placed, placed_families, last_end_of, start_of, family_address, addresses_from, homes_from, storage_map}
-use Rattle.cw_unit.specs.ValidStorage.{StoredItem, key_of, sort_of_family, stored_item, owner_in, IsStored, IsAbsolute, IsInFrame, word_of, frame_size_in, IsStorable, FitsArea, Disjoint, InPlace, ValidStorageMap}
+use Rattle.cw_unit.specs.Storage.{root_of, roots_in, family_of, family_extent, family_at, sort_of, frame_words, frame_size, layout_of}
+use Rattle.cw_unit.specs.Allocation.{Name, FamilyKey, Shared, Private, SegmentStorage, storage_of, name_at, Range, absolute_range, absolute_ranges_in, absolute_ranges, extent_of_name, extent_in_segment, common_extent, extent_of_family, extent_in_storage, key_extent, placed_key, keys_in_segment, keys_from, first_keys, meets, Placed, placed_families, start_of, family_address, addresses_from, homes_from, storage_map}
+use Rattle.cw_unit.specs.ValidStorage.{StoredItem, key_of, sort_of_family, stored_item, owner_in, IsStored, IsAbsolute, IsInFrame, word_of, frame_size_in, IsStorable, FitsArea, ValidStorageMap}
 use Rattle.cw_unit.proofs.Families.{Root, root_at, family_found, inside_family, inside_frame, past_in_frame}
-use Rattle.cw_unit.proofs.Placing.{In, in-left, in-right, in-first_keys, Fits, fits, AreApart, apart}
+use Rattle.cw_unit.proofs.Placing.{In, in-left, in-right, in-first_keys, Fits, fits, apart}
 
 -- ---- keys, ranges and extents of the families of a list of segments
 

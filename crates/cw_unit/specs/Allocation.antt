@@ -1,9 +1,8 @@
 -- Storage allocation: where the families of a list of segments stand. It needs of a segment the names of its descriptors and its
 -- families, whether they are those of a unit or those that an object tells.
-use Rattle.std.specs.Prelude.{ℕ, zero, suc, ◌+◌, min, max, nat_eq, nat_lt, ◌&&◌, not, List, [], ◌∷◌, ◌++◌, map, length, Bool, true, false, Option, Some, None, slice_get, if◌then◌else◌}
+use Rattle.std.specs.Prelude.{ℕ, zero, suc, ◌+◌, min, max, nat_eq, nat_lt, ◌&&◌, List, [], ◌∷◌, ◌++◌, map, length, Bool, false, Option, Some, None, slice_get, if◌then◌else◌}
 use Rattle.std.specs.Str.{bytes_eq}
 use Rattle.cw_unit.specs.declared.unit.Unit.{Unit as SourceUnit}
-use Rattle.cw_unit.specs.declared.descriptor.Desc.{Desc}
 use Rattle.cw_unit.specs.declared.layout.Family.{Family}
 use Rattle.cw_unit.specs.declared.layout.Map.{Map}
 use Rattle.cw_unit.specs.declared.layout.Sort.{Sort}

@@ -1,5 +1,5 @@
 -- The data words before the first step.
-use Rattle.std.specs.Prelude.{ℕ, zero, suc, ◌+◌, ◌-◌, nat_eq, ℤ, List, [], ◌∷◌, ◌++◌, map, slice_index, slice_index_or, if◌then◌else◌}
+use Rattle.std.specs.Prelude.{ℕ, zero, suc, ◌+◌, nat_eq, ℤ, List, [], ◌∷◌, ◌++◌, map, slice_index, slice_index_or, if◌then◌else◌}
 use Rattle.cw_word.specs.Word.{signed}
 use Rattle.cw_unit.specs.declared.unit.Unit.{Unit as SourceUnit}
 use Rattle.cw_unit.specs.declared.layout.Map.{Map}

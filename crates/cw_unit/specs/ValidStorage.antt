@@ -1,5 +1,5 @@
 -- What makes a storage map valid: items share words exactly as OVERLAY declares it.
-use Rattle.std.specs.Prelude.{◌≡◌, ◌≢◌, ◌↔◌, ℕ, ◌+◌, ◌-◌, ◌<◌, ◌≤◌, List, [], ◌∷◌, map, Option, Some, None, slice_get, slice_index, slice_index_or, ⊤}
+use Rattle.std.specs.Prelude.{◌≡◌, ◌≢◌, ◌↔◌, ℕ, ◌+◌, ◌-◌, ◌<◌, ◌≤◌, List, [], map, Option, Some, None, slice_get, slice_index, slice_index_or, ⊤}
 use Rattle.std.specs.List.{All}
 use Rattle.cw_unit.specs.declared.unit.Unit.{Unit as SourceUnit}
 use Rattle.cw_unit.specs.declared.unit.Item.{Item}
@@ -10,7 +10,7 @@ use Rattle.cw_unit.specs.declared.layout.Map.{Map}
 use Rattle.cw_unit.specs.declared.layout.Sort.{Sort}
 use Rattle.cw_unit.specs.declared.layout.Sort.TheVariants as sort
 use Rattle.cw_unit.specs.Storage.{layout_of, base_of, root_of, family_of, family_offset, frame_size}
-use Rattle.cw_unit.specs.Allocation.{Name, FamilyKey, Shared, Private, SegmentStorage, absolute_ranges, storage_of, storage_map, name_at}
+use Rattle.cw_unit.specs.Allocation.{Name, FamilyKey, Shared, Private, absolute_ranges, storage_of, storage_map, name_at}
 
 -- an item with its place: its family, the family's address, which for a frame family is its offset in the frame, its own offset in the
 -- family, its words, and the procedure in whose frame the family stands

@@ -1,11 +1,16 @@
 //! Laws of the definitions.
-ghost use Rattle.std.specs.Prelude.{◌≡◌, ℕ, ◌+◌, ◌≤◌, List, [], ◌∷◌, length, Some, slice_get, IsFalse};
+ghost use Rattle.std.specs.Prelude.{◌≡◌, ◌≢◌, ℕ, ◌+◌, ◌≤◌, List, [], ◌∷◌, ◌++◌, length, IsFalse};
 ghost use Rattle.std.specs.List.{All};
 ghost use Rattle.cw_unit.specs.declared.unit.Unit.{Unit as SourceUnit};
 ghost use Rattle.cw_unit.specs.declared.layout.Limits.{Limits};
 ghost use Rattle.cw_unit.specs.Storage.{layout_of};
 ghost use Rattle.cw_unit.specs.Allocation.{Range, meets, first_fit, storage_map};
 ghost use Rattle.cw_unit.specs.ValidStorage.{IsStorable, FitsArea, ValidStorageMap};
+ghost use Rattle.cw_unit.specs.Program.{Program};
+ghost use Rattle.cw_unit.specs.Stop.{Running};
+ghost use Rattle.cw_unit.specs.Words.{Words};
+ghost use Rattle.cw_unit.specs.Configuration.{FramesApart, activations_of, words_of};
+ghost use Rattle.cw_unit.specs.Behaviour.{configuration_after, observed};
 ghost use Rattle.cw_unit.specs.OwnSingles.{IsOwnSingle, own_layout, own_map};
 
 /// A first fit is the least address that is not below the given one and at which the words meet no range.
@@ -25,4 +30,18 @@ pub fn own_singles()
     ensures layout { (u : SourceUnit) → All IsOwnSingle u.items → layout_of u ≡ own_layout (length u.items) (length u.procs) }
     ensures map { (u : SourceUnit) → All IsOwnSingle u.items → storage_map (u ∷ []) ≡ own_map (length u.items) }
     ensures valid { (u : SourceUnit) (limits : Limits) → All IsOwnSingle u.items → length u.items + limits.frames ≤ limits.area → ValidStorageMap (u ∷ []) limits (storage_map (u ∷ [])) }
+{}
+
+/// What a run of the source shows: after an end or a stop always the same, and the output only grows.
+pub fn runs()
+    ensures over { (p : Program) (input : List ℕ) (m n : ℕ) → (observed p input m).end ≢ Running → observed p input (m + n) ≡ observed p input m }
+    ensures grows { (p : Program) (input : List ℕ) (m n : ℕ) → (piece : List ℕ) × ((observed p input (m + n)).output ≡ (observed p input m).output ++ piece) }
+{}
+
+/// What each configuration of a run keeps: the data area has its length, no more calls are active than are allowed, and the frames of
+/// active calls are apart and in the frame area.
+pub fn configurations()
+    ensures memory { (p : Program) (input : List ℕ) (m : ℕ) → length (words_of (configuration_after p input m)).memory ≡ p.limits.area }
+    ensures calls { (p : Program) (input : List ℕ) (m : ℕ) → length (activations_of (configuration_after p input m)) ≤ p.limits.depth }
+    ensures frames { (p : Program) (input : List ℕ) (m : ℕ) → FramesApart p (activations_of (configuration_after p input m)) }
 {}

@@ -1,4 +1,4 @@
-use Rattle.std.proofs.Common.{◌≡◌, false, subst, get_or, slice_get}
+use Rattle.std.proofs.Common.{◌≡◌, false, subst, get_or}
 use Rattle.std.proofs.lemmas.Option.{slice_get-get_or, slice_get_within, get_or_from_slice_get}
 use Rattle.cw_unit.specs.Allocation.{meets}
 use Rattle.cw_unit.proofs.FirstFit.{first_fit-after, first_fit-clear, first_fit-least}
