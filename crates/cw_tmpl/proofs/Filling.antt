@@ -101,3 +101,23 @@ filled_is value (p ∷ ps) base at pre post e =
     ∙ append_assoc pre B (F ++ post)
     ∙ ap (λ l. pre ++ l) (sym (append_assoc B F post))
     ∙ ap (λ n. pre ++ ((bytes_with (word_before value n (target_of p)) p ++ filled value n ps) ++ post)) place
+
+-- ---- many pieces
+
+pub filled-append : (value : Filling) (at : ℕ) (ps qs : List Coded)
+    → filled value at (ps ++ qs) ≡ filled value at ps ++ filled value (at + length (blanks ps)) qs
+filled-append value at [] qs = ap (λ n. filled value n qs) (omega arith)
+filled-append value at (p ∷ ps) qs =
+    let end = at + size_of p in
+    let B = bytes_with (word_before value end (target_of p)) p in
+    let far : end + length (blanks ps) ≡ at + length (blanks (p ∷ ps)) = omega (arith, length-append (bytes_with 0 p) (blanks ps)) in
+    ap (λ l. B ++ l) (filled-append value end ps qs)
+    ∙ sym (append_assoc B (filled value end ps) (filled value (end + length (blanks ps)) qs))
+    ∙ ap (λ n. (B ++ filled value end ps) ++ filled value n qs) far
+
+pub length-filled : (value : Filling) (at : ℕ) (ps : List Coded) → length (filled value at ps) ≡ length (blanks ps)
+length-filled value at [] = refl
+length-filled value at (p ∷ ps) =
+    let end = at + size_of p in
+    let B = bytes_with (word_before value end (target_of p)) p in
+    omega (arith, length-append B (filled value end ps), length-append (bytes_with 0 p) (blanks ps), size_with (word_before value end (target_of p)) p, length-filled value end ps)

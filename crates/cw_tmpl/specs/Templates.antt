@@ -20,13 +20,14 @@ use Rattle.cw_tmpl.specs.Pieces.{blanks}
 abbrev pub call_library : ℕ → Coded
 call_library entry = coded.Call (target.LibraryAhead entry)
 
--- AX on the stack, unless the instruction before overflowed
-abbrev pub put_checked : List Coded
-put_checked = coded.Whole (jump_if_no_overflow 3) ∷ call_library overflow_entry ∷ coded.Whole (i86.Push ax) ∷ []
+-- an operation on AX that may overflow; where it did not, AX on the stack
+abbrev pub checked : Instr → List Coded
+checked operation =
+    coded.Whole operation ∷ coded.Whole (jump_if_no_overflow 3) ∷ call_library overflow_entry ∷ coded.Whole (i86.Push ax) ∷ []
 
--- an operation on the two operands on top, the lower one in AX and the top one in BX
+-- such an operation on the two operands on top, the lower one in AX and the top one in BX
 abbrev pub on_two : Instr → List Coded
-on_two operation = coded.Whole (i86.Pop bx) ∷ coded.Whole (i86.Pop ax) ∷ coded.Whole operation ∷ put_checked
+on_two operation = coded.Whole (i86.Pop bx) ∷ coded.Whole (i86.Pop ax) ∷ checked operation
 
 abbrev pub template : Order → List Coded
 template (order.Const w) = coded.Whole (set_word ax w) ∷ coded.Whole (i86.Push ax) ∷ []
@@ -37,7 +38,7 @@ template order.Store =
     coded.Whole (i86.Pop bx) ∷ coded.Whole (i86.Pop ax) ∷ coded.Whole (double bx) ∷ coded.Whole (store at_bx ax) ∷ []
 template order.Add = on_two (add ax bx)
 template order.Sub = on_two (subtract ax bx)
-template order.Neg = coded.Whole (i86.Pop ax) ∷ coded.Whole (negate ax) ∷ put_checked
+template order.Neg = coded.Whole (i86.Pop ax) ∷ checked (negate ax)
 template order.WriteByte = coded.Whole (i86.Pop ax) ∷ coded.Whole (i86.Out 0x12) ∷ []
 template (order.Line n) = coded.Whole (i86.MovRm (slot line_slot) (imm.Word n)) ∷ []
 template order.NextBody = coded.Move ax target.NextSegment ∷ coded.Whole (jump_to ax) ∷ []

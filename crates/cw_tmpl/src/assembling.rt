@@ -1,17 +1,19 @@
 //! From orders to code.
 ghost use Rattle.std.specs.Prelude.{◌≡◌, ℕ, ◌<◌, ◌≤◌, ◌++◌, ◌-◌, ◌∷◌, [], true, map, length, slice_index, IfOk, OnOk};
 ghost use Rattle.cw_i86.specs.Encoding.{bytes_of, IsInstr};
-ghost use Rattle.cw_i86.specs.declared.instr.Instr.TheVariants.{AluRm};
-ghost use Rattle.cw_i86.specs.declared.instr.Rm.TheVariants.{Reg};
 ghost use Rattle.cw_tmpl.specs.Assembling.{Adds};
 ghost use Rattle.cw_tmpl.specs.Pieces.{relocation_of, IsCoded, AllCoded};
-ghost use Rattle.cw_tmpl.specs.Templates.{template, on_two, entry_pieces, order_size};
+ghost use Rattle.cw_tmpl.specs.Templates.{template, checked, on_two, entry_pieces, order_size};
 ghost use Rattle.cw_tmpl.specs.ReferenceCode.{order_places, orders_code};
 
+use crate::instructions::{
+    AT_BX, AX, BX, CX, DX, LINE, add, double, jump_if_no_overflow, load, negate, set_word, store,
+    subtract,
+};
 use crate::library::{OVERFLOW, START};
 use crate::pieces::{Coded, Limit, Target};
 use cw_enc86::encode;
-use cw_i86::{Imm, Instr, Mem, Place, Rm};
+use cw_i86::{Imm, Instr, Rm};
 use cw_order::{Order, Orders};
 use cw_unit::layout::Reloc;
 use cw_word::{List, NoMemory};
@@ -33,43 +35,6 @@ struct Assembly {
     bytes: List<u8>,
     relocs: List<Reloc>,
 }
-
-const AX: u8 = 0;
-
-const CX: u8 = 1;
-
-const DX: u8 = 2;
-
-const BX: u8 = 3;
-
-/// The word of the activation record that holds the line, at BP - 2.
-const LINE: Rm = Rm::Mem(Mem {
-    cs: false,
-    place: Place::Near(6, 0xFE),
-});
-
-/// The word of the data segment at BX.
-const AT_BX: Rm = Rm::Mem(Mem {
-    cs: false,
-    place: Place::Plain(7),
-});
-
-const PUSH_AX: Coded = Coded::Whole(Instr::Push(AX));
-
-const POP_AX: Coded = Coded::Whole(Instr::Pop(AX));
-
-const POP_BX: Coded = Coded::Whole(Instr::Pop(BX));
-
-const DOUBLE_BX: Coded = Coded::Whole(Instr::Shift {
-    op: 4,
-    wide: true,
-    by_cl: false,
-    rm: Rm::Reg(BX),
-});
-
-const SKIP_CALL: Coded = Coded::Whole(Instr::JumpIf { cond: 1, by: 3 });
-
-const CALL_OVERFLOW: Coded = Coded::Call(Target::LibraryAhead(OVERFLOW));
 
 /// The relocation of a word at a place.
 fn relocation(place: u32, target: Target) -> Reloc
@@ -192,26 +157,26 @@ impl Assembly {
         ])
     }
 
-    /// Adds the code of an operation on the two operands on top.
-    fn put_sum(&mut self, op: u8) -> Result<(), NoMemory>
-        requires { op < 8 }
-        ensures { OnOk result (Adds self.old (on_two (AluRm op true true 0 (Reg 3))) self.new) }
+    /// Adds the code of an operation on AX that may overflow, and puts AX on the stack where it did not.
+    fn put_checked(&mut self, operation: Instr) -> Result<(), NoMemory>
+        requires { IsInstr operation }
+        ensures { OnOk result (Adds self.old (checked operation) self.new) }
     {
-        let operation = Instr::AluRm {
-            op,
-            wide: true,
-            to_reg: true,
-            reg: AX,
-            rm: Rm::Reg(BX),
-        };
         self.put_all(&[
-            POP_BX,
-            POP_AX,
             Coded::Whole(operation),
-            SKIP_CALL,
-            CALL_OVERFLOW,
-            PUSH_AX,
+            Coded::Whole(jump_if_no_overflow(3)),
+            Coded::Call(Target::LibraryAhead(OVERFLOW)),
+            Coded::Whole(Instr::Push(AX)),
         ])
+    }
+
+    /// Adds the code of such an operation on the two operands on top, the lower one in AX and the top one in BX.
+    fn put_on_two(&mut self, operation: Instr) -> Result<(), NoMemory>
+        requires { IsInstr operation }
+        ensures { OnOk result (Adds self.old (on_two operation) self.new) }
+    {
+        self.put_all(&[Coded::Whole(Instr::Pop(BX)), Coded::Whole(Instr::Pop(AX))])?;
+        self.put_checked(operation)
     }
 
     /// Adds the code of an order.
@@ -219,75 +184,53 @@ impl Assembly {
         ensures { OnOk result (Adds self.old (template order.now) self.new) }
     {
         match order {
-            Order::Const(word) => {
-                let set = Instr::MovImm {
+            Order::Const(word) => self.put_all(&[
+                Coded::Whole(set_word(AX, *word)),
+                Coded::Whole(Instr::Push(AX)),
+            ]),
+            Order::Home { family, offset } => self.put_all(&[
+                Coded::Move {
                     reg: AX,
-                    imm: Imm::Word(*word),
-                };
-                self.put_all(&[Coded::Whole(set), PUSH_AX])
-            }
-            Order::Home { family, offset } => {
-                let address = Target::Word {
-                    family: *family,
-                    offset: *offset,
-                };
-                self.put_all(&[
-                    Coded::Move {
-                        reg: AX,
-                        target: address,
+                    target: Target::Word {
+                        family: *family,
+                        offset: *offset,
                     },
-                    PUSH_AX,
-                ])
-            }
-            Order::Load => {
-                let load = Instr::Mov {
-                    wide: true,
-                    to_reg: true,
-                    reg: AX,
-                    rm: AT_BX,
-                };
-                self.put_all(&[POP_BX, DOUBLE_BX, Coded::Whole(load), PUSH_AX])
-            }
-            Order::Store => {
-                let store = Instr::Mov {
-                    wide: true,
-                    to_reg: false,
-                    reg: AX,
-                    rm: AT_BX,
-                };
-                self.put_all(&[POP_BX, POP_AX, DOUBLE_BX, Coded::Whole(store)])
-            }
-            Order::Add => self.put_sum(0),
-            Order::Sub => self.put_sum(5),
+                },
+                Coded::Whole(Instr::Push(AX)),
+            ]),
+            Order::Load => self.put_all(&[
+                Coded::Whole(Instr::Pop(BX)),
+                Coded::Whole(double(BX)),
+                Coded::Whole(load(AX, AT_BX)),
+                Coded::Whole(Instr::Push(AX)),
+            ]),
+            Order::Store => self.put_all(&[
+                Coded::Whole(Instr::Pop(BX)),
+                Coded::Whole(Instr::Pop(AX)),
+                Coded::Whole(double(BX)),
+                Coded::Whole(store(AT_BX, AX)),
+            ]),
+            Order::Add => self.put_on_two(add(AX, BX)),
+            Order::Sub => self.put_on_two(subtract(AX, BX)),
             Order::Neg => {
-                let negate = Instr::Unary {
-                    op: 3,
-                    wide: true,
-                    rm: Rm::Reg(AX),
-                };
-                self.put_all(&[
-                    POP_AX,
-                    Coded::Whole(negate),
-                    SKIP_CALL,
-                    CALL_OVERFLOW,
-                    PUSH_AX,
-                ])
+                self.put_all(&[Coded::Whole(Instr::Pop(AX))])?;
+                self.put_checked(negate(AX))
             }
-            Order::WriteByte => self.put_all(&[POP_AX, Coded::Whole(Instr::Out(0x12))]),
-            Order::Line(line) => {
-                let set = Instr::MovRm {
-                    rm: LINE,
-                    imm: Imm::Word(*line),
-                };
-                self.put_all(&[Coded::Whole(set)])
-            }
-            Order::NextBody => {
-                let next = Coded::Move {
+            Order::WriteByte => self.put_all(&[
+                Coded::Whole(Instr::Pop(AX)),
+                Coded::Whole(Instr::Out(0x12)),
+            ]),
+            Order::Line(line) => self.put_all(&[Coded::Whole(Instr::MovRm {
+                rm: LINE,
+                imm: Imm::Word(*line),
+            })]),
+            Order::NextBody => self.put_all(&[
+                Coded::Move {
                     reg: AX,
                     target: Target::NextSegment,
-                };
-                self.put_all(&[next, Coded::Whole(Instr::JumpRm(Rm::Reg(AX)))])
-            }
+                },
+                Coded::Whole(Instr::JumpRm(Rm::Reg(AX))),
+            ]),
             _ => Ok(()),
         }
     }

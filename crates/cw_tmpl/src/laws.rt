@@ -1,5 +1,5 @@
 //! Laws of the definitions.
-ghost use Rattle.std.specs.Prelude.{◌≡◌, ℕ, ◌≤◌, List, ◌++◌, length, take, slice_index, All};
+ghost use Rattle.std.specs.Prelude.{◌≡◌, ℕ, ◌+◌, ◌≤◌, List, ◌++◌, length, take, slice_index, All};
 ghost use Rattle.cw_order.specs.declared.order.Order.{Order};
 ghost use Rattle.cw_tmpl.specs.declared.pieces.Coded.{Coded};
 ghost use Rattle.cw_tmpl.specs.Pieces.{blanks, relocations, Filling, filled, fill};
@@ -8,9 +8,12 @@ ghost use Rattle.cw_tmpl.specs.Library.{library_bytes};
 ghost use Rattle.cw_tmpl.specs.Templates.{entry_pieces, order_size};
 ghost use Rattle.cw_tmpl.specs.ReferenceCode.{templates, order_places};
 
-/// The linker's filling of an object's relocations, one after another, gives the code with its words filled.
+/// The linker's filling of an object's relocations, one after another, gives the code with its words filled. That is as
+/// long as the object's, and goes on behind the first pieces with the rest.
 pub fn filling()
-    ensures { (value : Filling) (pieces : List Coded) (before behind : List ℕ) → fill value (length before) (relocations 0 pieces) (before ++ (blanks pieces ++ behind)) ≡ before ++ (filled value (length before) pieces ++ behind) }
+    ensures gives { (value : Filling) (pieces : List Coded) (before behind : List ℕ) → fill value (length before) (relocations 0 pieces) (before ++ (blanks pieces ++ behind)) ≡ before ++ (filled value (length before) pieces ++ behind) }
+    ensures long { (value : Filling) (at : ℕ) (pieces : List Coded) → length (filled value at pieces) ≡ length (blanks pieces) }
+    ensures joins { (value : Filling) (at : ℕ) (first rest : List Coded) → filled value at (first ++ rest) ≡ filled value at first ++ filled value (at + length (blanks first)) rest }
 {}
 
 /// The relocations are as an object has them.

@@ -2,6 +2,7 @@
 #![tactic(auto)]
 
 mod assembling;
+mod instructions;
 pub mod laws;
 mod library;
 mod pieces;
