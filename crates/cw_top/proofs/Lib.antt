@@ -2,3 +2,4 @@ pub mod Said
 pub mod Closing
 pub mod Lines
 pub mod Singles
+pub mod Shown

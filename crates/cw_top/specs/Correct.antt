@@ -77,6 +77,13 @@ Tells (BadCode offset) end = end ≡ run.Bad offset
 Tells (Divided offset) end = end ≡ run.Divided offset
 Tells _ end = ⊥
 
+-- What a run from a state does to `out`: it gets the output, and the status tells the end; or it failed, after a first part.
+abbrev pub RunShows : State → (old new : Option (List ℕ)) → (faults faults' : ℕ) → Status → Type 0
+RunShows s old new faults faults' (Outside Out) =
+    (n : ℕ) × (shown : run.Observed) × (n ≤ run_steps) × run.Shows s [] n shown × (new ≡ after_told old shown.output) × Rose faults faults'
+RunShows s old new faults faults' status =
+    (shown : run.Observed) × run.Shows s [] run_steps shown × Tells status shown.end × (new ≡ after_told old shown.output) × (faults' ≡ faults)
+
 -- what is outside before and after a call: the counts of faults and absences, and what `out` holds
 pub record Outer : Type 0 where
   pub store_faults : ℕ

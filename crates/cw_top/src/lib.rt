@@ -4,6 +4,8 @@
 mod image;
 mod last;
 mod listing;
+mod ports;
+mod running;
 mod say;
 mod status;
 mod storage;
