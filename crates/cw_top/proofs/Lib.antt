@@ -3,3 +3,4 @@ pub mod Closing
 pub mod Lines
 pub mod Singles
 pub mod Shown
+pub mod Built

@@ -1,6 +1,7 @@
 //! The command: actions, statuses, closing lines; carries the correctness theorem.
 #![tactic(auto)]
 
+mod building;
 mod image;
 mod last;
 mod listing;
