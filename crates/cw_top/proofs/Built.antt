@@ -14,6 +14,7 @@ use Rattle.cw_top.specs.Correct.{default_limits, addresses_of, image_of}
 pub image_is : (u : SourceUnit) (l : Layout) (a : List ℕ) (os : Orders) (code : Code) (limits : Limits) (bytes : List ℕ)
     → l ≡ layout_of u → a ≡ addresses_of u → os ≡ unit_orders u l → code ≡ orders_code os → limits ≡ default_limits
     → bytes ≡ linked_code code a limits → bytes ≡ image_of u
+unfolding image_of
 image_is u l a os code limits bytes l-is a-is os-is code-is limits-is is =
     let orders-are : os ≡ unit_orders u (layout_of u) = os-is ∙ ap (λ x. unit_orders u x) l-is in
     let made : code ≡ orders_code (unit_orders u (layout_of u)) = code-is ∙ ap (λ x. orders_code x) orders-are in

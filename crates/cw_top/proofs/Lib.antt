@@ -4,3 +4,4 @@ pub mod Lines
 pub mod Singles
 pub mod Shown
 pub mod Built
+pub mod Causes

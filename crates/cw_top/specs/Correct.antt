@@ -26,7 +26,7 @@ use Rattle.cw_top.specs.declared.status.Long.TheVariants.{File}
 
 -- the words are the command: `go` and a file
 abbrev pub IsCommand : List (List ℕ) → Type 0
-IsCommand words = (file : List ℕ) × (words ≡ codes "go" ∷ file ∷ [])
+IsCommand words = (length words ≡ 2) × (slice_index_or words 0 [] ≡ codes "go")
 
 -- the most bytes of a source text
 abbrev pub text_limit : ℕ
@@ -53,11 +53,11 @@ pub record Compiles (file : Told) (unit : SourceUnit) : Type 0 where
 abbrev pub addresses_of : SourceUnit → List ℕ
 addresses_of u = slice_index_or (storage_map (u ∷ [])).homes 0 []
 
-abbrev pub map_text : SourceUnit → List ℕ
+unfoldable pub map_text : SourceUnit → List ℕ
 map_text u = listing u (layout_of u) (addresses_of u) default_limits
 
 -- the linked code of the unit
-abbrev pub image_of : SourceUnit → List ℕ
+unfoldable pub image_of : SourceUnit → List ℕ
 image_of u = linked_code (orders_code (unit_orders u (layout_of u))) (addresses_of u) default_limits
 
 -- What the image of a unit shows after n instructions. No input is read so far.
@@ -167,3 +167,11 @@ pub record SaysAll (words : List (List ℕ)) (file : Told) (old new : Option (Li
   pub middle : ℕ
   pub later : faults ≤ middle
   pub closing : Says (after_told old first) new middle faults' (closing_line words segment status)
+
+-- the first part was said, and nothing else so far
+abbrev pub SaysFirst : (file : Told) → (old new : Option (List ℕ)) → Status → (segment : Option (List ℕ)) → Type 0
+SaysFirst file old new status segment = (first : List ℕ) × IsFirstPart file status segment first × (new ≡ after_told old first)
+
+abbrev pub outer : (store_faults absences : ℕ) → (out : Option (List ℕ)) → (out_faults say_faults : ℕ) → Outer
+outer store_faults absences out out_faults say_faults =
+    record { store_faults = store_faults; absences = absences; out = out; out_faults = out_faults; say_faults = say_faults }

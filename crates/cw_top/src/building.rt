@@ -1,5 +1,5 @@
 // From a unit to its storage map and its image.
-ghost use Rattle.std.specs.Prelude.{◌≡◌, ◌≤◌, [], length, IfOk};
+ghost use Rattle.std.specs.Prelude.{◌≡◌, ◌≤◌, ◌<◌, [], length, IfOk};
 ghost use Rattle.std.specs.List.{All};
 ghost use Rattle.cw_unit.specs.OwnSingles.{IsOwnSingle};
 ghost use Rattle.cw_unit.specs.Storage.{layout_of};
@@ -42,6 +42,7 @@ pub(crate) fn build(alloc: Global, unit: &Unit) -> Result<Built, NoMemory>
     ensures layout { IfOk result (λ built. built.layout ≡ layout_of unit.now) }
     ensures addresses { IfOk result (λ built. built.addresses ≡ addresses_of unit.now) }
     ensures code { IfOk result (λ built. built.code.items ≡ image_of unit.now) }
+    ensures some { IfOk result (λ built. 0 < length built.code.items) }
 {
     own_singles();
     let items = unit.items.as_slice().len() as u16;

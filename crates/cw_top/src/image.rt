@@ -84,7 +84,8 @@ pub(crate) fn link(
     addresses: &[u16],
     limits: &Limits,
 ) -> Result<Vec<u8>, NoMemory>
-    ensures { IfOk result (λ image. image.items ≡ linked_code code.now addresses.now limits.now) }
+    ensures code { IfOk result (λ image. image.items ≡ linked_code code.now addresses.now limits.now) }
+    ensures some { IfOk result (λ image. 0 < length image.items) }
 {
     let start = base_code();
     let mut image = Vec::new(alloc);

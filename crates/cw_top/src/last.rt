@@ -60,7 +60,8 @@ pub(crate) fn write_last<S: Sink>(
     segment: Option<Name>,
     status: Status,
 ) -> Result<(), Failed>
-    ensures { Writes (S.held say.old) (S.held say.new) (S.faults say.old) (S.faults say.new) (closing_line (map string_bytes words.now) segment status) result }
+    ensures line { Writes (S.held say.old) (S.held say.new) (S.faults say.old) (S.faults say.new) (closing_line (map string_bytes words.now) segment status) result }
+    ensures none { status ≡ Status.Ended → S.faults say.new ≡ S.faults say.old }
 {
     match status {
         Status::Ended => Ok(()),

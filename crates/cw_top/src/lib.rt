@@ -2,6 +2,8 @@
 #![tactic(auto)]
 
 mod building;
+mod command;
+mod go;
 mod image;
 mod last;
 mod listing;

@@ -1,0 +1,64 @@
+-- The cause of each status, from what the parts of a call have told.
+use Rattle.std.proofs.Common.{◌≡◌, ◌≤◌, ℕ, List, [], Option, Some, refl, ap, ◌∙◌, arith}
+use Rattle.cw_io.specs.File.{Told}
+use Rattle.cw_i86.specs.State.{State}
+use Rattle.cw_i86.specs.MachineRun.{IsStart}
+use Rattle.cw_unit.specs.declared.unit.Unit.{Unit as SourceUnit}
+use Rattle.cw_unit.specs.declared.layout.Layout.{Layout}
+use Rattle.cw_unit.specs.declared.layout.Limits.{Limits}
+use Rattle.cw_unit.specs.Storage.{layout_of}
+use Rattle.cw_top.specs.Listing.{listing}
+use Rattle.cw_top.specs.Correct.{addresses_of, default_limits, IsCommand, Compiles, Causes, SaysFirst, RunShows, Outer, outer, image_of, map_text}
+use Rattle.cw_io.specs.Bytes.{after_told}
+use Rattle.cw_top.specs.declared.status.Status.{Status}
+use Rattle.cw_top.specs.declared.status.Status.TheVariants.{Ended, Usage, Refused, Unlinked, Stopped, Unfinished, NoFile, Outside, NoMemory, TooLong, BadCode, Divided}
+use Rattle.cw_top.specs.declared.status.Which.TheVariants.{Store, Out, Say}
+
+-- a run of the image
+pub run_causes : (words : List (List ℕ)) (file : Told) (f a : ℕ) (u : SourceUnit) (s : State) (old new : Option (List ℕ)) (n m k l : ℕ) (status : Status)
+    → IsCommand words → Compiles file u → IsStart (image_of u) [] s → RunShows s old new n m status → l ≡ k
+    → Causes words file (outer f a old n k) (outer f a new m l) status
+run_causes words file f a u s old new n m k l Ended command compiles start (shown, shows, tells, is, same) quiet =
+    (command, record { unit = u; compiles = compiles; shown = shown; shows = record { start = s; is_start = start; shows = shows }; tells = tells; output = is; no_store_fault = refl; no_absence = refl; no_out_fault = same; no_say_fault = λ _. quiet })
+run_causes words file f a u s old new n m k l (Stopped kind segment line) command compiles start (shown, shows, tells, is, same) quiet =
+    (command, record { unit = u; compiles = compiles; shown = shown; shows = record { start = s; is_start = start; shows = shows }; tells = tells; output = is; no_store_fault = refl; no_absence = refl; no_out_fault = same; no_say_fault = λ _. quiet })
+run_causes words file f a u s old new n m k l (Unfinished steps) command compiles start (shown, shows, tells, is, same) quiet =
+    (command, record { unit = u; compiles = compiles; shown = shown; shows = record { start = s; is_start = start; shows = shows }; tells = tells; output = is; no_store_fault = refl; no_absence = refl; no_out_fault = same; no_say_fault = λ _. quiet })
+run_causes words file f a u s old new n m k l (BadCode offset) command compiles start (shown, shows, tells, is, same) quiet =
+    (command, record { unit = u; compiles = compiles; shown = shown; shows = record { start = s; is_start = start; shows = shows }; tells = tells; output = is; no_store_fault = refl; no_absence = refl; no_out_fault = same; no_say_fault = λ _. quiet })
+run_causes words file f a u s old new n m k l (Divided offset) command compiles start (shown, shows, tells, is, same) quiet =
+    (command, record { unit = u; compiles = compiles; shown = shown; shows = record { start = s; is_start = start; shows = shows }; tells = tells; output = is; no_store_fault = refl; no_absence = refl; no_out_fault = same; no_say_fault = λ _. quiet })
+run_causes words file f a u s old new n m k l (Outside Out) command compiles start (steps, shown, within, shows, is, rose) quiet =
+    (command, record { unit = u; compiles = compiles; steps = steps; within = within; shown = shown; shows = record { start = s; is_start = start; shows = shows }; output = is; cause = rose })
+run_causes words file f a u s old new n m k l (Outside Store) command compiles start (shown, shows, tells, is, same) quiet = absurd tells
+run_causes words file f a u s old new n m k l (Outside Say) command compiles start (shown, shows, tells, is, same) quiet = absurd tells
+run_causes words file f a u s old new n m k l Usage command compiles start (shown, shows, tells, is, same) quiet = absurd tells
+run_causes words file f a u s old new n m k l (Refused number fault) command compiles start (shown, shows, tells, is, same) quiet = absurd tells
+run_causes words file f a u s old new n m k l (Unlinked fault) command compiles start (shown, shows, tells, is, same) quiet = absurd tells
+run_causes words file f a u s old new n m k l (NoFile number) command compiles start (shown, shows, tells, is, same) quiet = absurd tells
+run_causes words file f a u s old new n m k l NoMemory command compiles start (shown, shows, tells, is, same) quiet = absurd tells
+run_causes words file f a u s old new n m k l (TooLong long) command compiles start (shown, shows, tells, is, same) quiet = absurd tells
+
+-- the map stands whole before it
+pub run_says : (file : Told) (u : SourceUnit) (s : State) (old new : Option (List ℕ)) (n m : ℕ) (told now : Option (List ℕ)) (status : Status)
+    → Compiles file u → RunShows s old new n m status → now ≡ after_told told (map_text u) → SaysFirst file told now status (Some u.name)
+run_says file u s old new n m told now Ended compiles shows is = (map_text u, (u, compiles, refl, refl), is)
+run_says file u s old new n m told now (Stopped kind segment line) compiles shows is = (map_text u, (u, compiles, refl, refl), is)
+run_says file u s old new n m told now (Unfinished steps) compiles shows is = (map_text u, (u, compiles, refl, refl), is)
+run_says file u s old new n m told now (BadCode offset) compiles shows is = (map_text u, (u, compiles, refl, refl), is)
+run_says file u s old new n m told now (Divided offset) compiles shows is = (map_text u, (u, compiles, refl, refl), is)
+run_says file u s old new n m told now (Outside Out) compiles shows is = (map_text u, (u, compiles, refl, refl), is)
+run_says file u s old new n m told now (Outside Store) compiles (shown, shows, tells, more, same) is = absurd tells
+run_says file u s old new n m told now (Outside Say) compiles (shown, shows, tells, more, same) is = absurd tells
+run_says file u s old new n m told now Usage compiles (shown, shows, tells, more, same) is = absurd tells
+run_says file u s old new n m told now (Refused number fault) compiles (shown, shows, tells, more, same) is = absurd tells
+run_says file u s old new n m told now (Unlinked fault) compiles (shown, shows, tells, more, same) is = absurd tells
+run_says file u s old new n m told now (NoFile number) compiles (shown, shows, tells, more, same) is = absurd tells
+run_says file u s old new n m told now NoMemory compiles (shown, shows, tells, more, same) is = absurd tells
+run_says file u s old new n m told now (TooLong long) compiles (shown, shows, tells, more, same) is = absurd tells
+
+pub map_is : (u : SourceUnit) (l : Layout) (addresses : List ℕ) (limits : Limits) → l ≡ layout_of u → addresses ≡ addresses_of u → limits ≡ default_limits
+    → listing u l addresses limits ≡ map_text u
+unfolding map_text
+map_is u l addresses limits l-is a-is limits-is =
+    ap (λ x. listing u x addresses limits) l-is ∙ ap (λ x. listing u (layout_of u) x limits) a-is ∙ ap (λ x. listing u (layout_of u) (addresses_of u) x) limits-is

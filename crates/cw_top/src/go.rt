@@ -1,0 +1,59 @@
+// The action `go`: reads and compiles a file, writes the storage map, and runs the image.
+ghost use Rattle.std.specs.Prelude.{◌≡◌, ◌≤◌, ℕ, List, Option, Some, None, [], length, map, string_bytes};
+ghost use Rattle.std.specs.List.{All};
+ghost use Rattle.cw_unit.specs.OwnSingles.{IsOwnSingle};
+ghost use Rattle.cw_io.specs.File.{Told, Is, AllStay};
+ghost use Rattle.cw_top.specs.Closing.{file_name};
+ghost use Rattle.cw_top.specs.Correct.{IsCommand, Compiles, Causes, SaysFirst, outer};
+
+use crate::building::{Built, build, default_limits};
+use crate::command::file_of;
+use crate::listing::write_listing;
+use crate::running::run_image;
+use crate::status::{LinkFault, Long, Refused, Status, Which};
+use cw_cpu86::Cpu;
+use cw_form::read_unit;
+use cw_io::{FileFault, Sink, Store, read_file};
+use cw_unit::unit::Unit;
+use cw_word::Name;
+use std::alloc::Global;
+
+/// The most bytes of a source text.
+const TEXT_LIMIT: usize = 1_048_576;
+
+/// The most bytes of linked code.
+const CODE_LIMIT: usize = 65_536;
+
+/// What a run came to, and the name of the segment that was compiled.
+#[derive(Clone, Copy)]
+pub(crate) struct Answer {
+    pub(crate) status: Status,
+    pub(crate) segment: Option<Name>,
+}
+
+// Builds a unit, writes its storage map and runs its image.
+fn run_unit<O: Sink, S: Sink>(alloc: Global, unit: &Unit, out: &mut O, say: &mut S) -> Status
+    requires own { All IsOwnSingle unit.now.items }
+    requires few { length unit.now.items ≤ 100 }
+    requires no_procedures { unit.now.procs ≡ [] }
+    ensures causes { (words : List (List ℕ)) (file : Told) (f a : ℕ) → IsCommand words → Compiles file unit.now → Causes words file (outer f a (O.held out.old) (O.faults out.old) (S.faults say.old)) (outer f a (O.held out.new) (O.faults out.new) (S.faults say.new)) result }
+    ensures says { (file : Told) → Compiles file unit.now → SaysFirst file (S.held say.old) (S.held say.new) result (Some unit.now.name) }
+    ensures later { S.faults say.old ≤ S.faults say.new }
+{
+    let Ok(built) = build(alloc, unit) else {
+        return Status::NoMemory;
+    };
+    let code = built.code.as_slice();
+    if code.len() > CODE_LIMIT {
+        let bytes = code.len() as u64;
+        return Status::Unlinked(LinkFault::CodeTooBig { bytes });
+    }
+    let Ok(mut cpu) = Cpu::start(alloc, code, &[]) else {
+        return Status::NoMemory;
+    };
+    let addresses = built.addresses.as_slice();
+    if write_listing(say, unit, &built.layout, addresses, &default_limits()).is_err() {
+        return Status::Outside(Which::Say);
+    }
+    run_image(&mut cpu, out)
+}
