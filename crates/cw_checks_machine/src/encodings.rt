@@ -50,8 +50,9 @@ fn value_of(digit: u8) -> u8
     }
 }
 
-/// Bytes, and what they are: those of the text behind them, for nasm 2.16.01 (`bits 16`, `cpu 8086`).
-/// Those from 03C3 on have other bytes, which ndisasm reads as that text. The last are no instruction.
+/// Bytes, and what they are: every row of the table, every address form with and without the prefix, and the edges of
+/// displacements and immediates. The first are the bytes that nasm 2.16.01 (`bits 16`, `cpu 8086`) makes of the text.
+/// Those from 03C3 on it does not choose: ndisasm makes the text of them. The last are no instruction.
 const ENCODINGS: &str = "\
 8800 mov byte [bx+si],al
 895800 mov word [byte bx+si+0x0],bx
