@@ -4,4 +4,8 @@
 #[cfg(test)]
 mod arithmetic;
 #[cfg(test)]
+mod assembly;
+#[cfg(test)]
+mod encodings;
+#[cfg(test)]
 mod steps;

@@ -7,20 +7,20 @@ ghost use Rattle.cw_cpu86.specs.Ports.{Device};
 ghost use Rattle.cw_cpu86.specs.Answers.{RunAnswers, NoneTold, steps_shown, end_shown};
 ghost use Rattle.cw_cpu86.specs.declared.cpu.RunEnd.{RunEnd};
 
-use cw_dec86::one_reading;
+use cw_dec86::no_instruction_begins_another;
 
 /// A step has one outcome for the byte that a port gives.
 pub fn one_outcome()
     ensures { (s : State) (o p : Outcome) → Steps s o → Steps s p → TakeAlike o p → o ≡ p }
 {
-    one_reading();
+    no_instruction_begins_another();
 }
 
 /// What a run shows is a function of the state, the input and the number of steps.
 pub fn one_observation()
     ensures { (s : State) (input : List ℕ) (n : ℕ) (a b : Observed) → Shows s input n a → Shows s input n b → a ≡ b }
 {
-    one_reading();
+    no_instruction_begins_another();
 }
 
 /// The state in which a program begins is a function of its code and its words.

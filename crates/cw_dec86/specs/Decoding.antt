@@ -1,15 +1,15 @@
--- What bytes are, as the table of instructions has it.
+-- What bytes are, read as an instruction from the first on.
 use Rattle.std.specs.Prelude.{ℕ, ◌≡◌, List, ◌++◌, length}
 use Rattle.cw_i86.specs.declared.instr.Instr.{Instr}
 use Rattle.cw_i86.specs.Encoding.{bytes_of, IsInstr, BeginsWith}
 use Rattle.cw_dec86.specs.declared.Decoded.{Decoded}
 use Rattle.cw_dec86.specs.declared.Decoded.TheVariants.{Done, NeedMore, Unknown}
 
--- no front of the bytes is an instruction
+-- they begin with no instruction
 abbrev pub BeginsNone : List ℕ → Type 0
 BeginsNone bytes = (i : Instr) → IsInstr i → BeginsWith bytes i → ⊥
 
--- the bytes and some that follow begin with an instruction
+-- they and some bytes behind them, or none, begin with an instruction
 abbrev pub GoesOn : List ℕ → Type 0
 GoesOn bytes = (i : Instr) × IsInstr i × (more : List ℕ) × BeginsWith (bytes ++ more) i
 

@@ -1,4 +1,5 @@
--- The instruction at the front of bytes that go on with zeros, without end.
+-- The instruction at the front of bytes that go on with zeros, without end: what the decoder's private functions compute.
+-- What bytes are, Decoding says, and nothing here.
 use Rattle.std.specs.Prelude.{ℕ, zero, suc, ◌+◌, ◌-◌, ◌/◌, ◌%◌, Bool, true, false, ◌==◌, nat_lt, ◌||◌, if◌then◌else◌, List, [], ◌∷◌, drop, slice_index, Option, Some, None}
 use Rattle.std.specs.Int.{w16, from_le_bytes, is_in_range}
 use Rattle.std.specs.Option.{option_and_then}
@@ -148,26 +149,7 @@ abbrev pub front : ℕ → List ℕ → List ℕ
 front zero bytes = []
 front (suc n) bytes = slice_index bytes 0 ∷ front n (drop 1 bytes)
 
--- how many bytes stand behind the operand, or the opcode where there is none
-abbrev pub imm_size : Imm → ℕ
-imm_size (Byte b) = 1
-imm_size (Word w) = 2
-
-abbrev pub tail_size : Instr → ℕ
-tail_size (AluAcc op imm) = imm_size imm
-tail_size (JumpIf cond by) = 1
-tail_size (AluImm op rm imm) = imm_size imm
-tail_size (AluShort op rm imm) = 1
-tail_size (MovAcc cs wide store at) = 2
-tail_size (TestAcc imm) = imm_size imm
-tail_size (MovImm reg imm) = imm_size imm
-tail_size (RetAdd n) = 2
-tail_size (MovRm rm imm) = imm_size imm
-tail_size (Loop kind by) = 1
-tail_size (In port) = 1
-tail_size (Out port) = 1
-tail_size (Call by) = 2
-tail_size (Jump by) = 2
-tail_size (JumpShort by) = 1
-tail_size (TestImm rm imm) = imm_size imm
-tail_size i = 0
+-- how many bytes an immediate has
+abbrev pub imm_size : Bool → ℕ
+imm_size true = 2
+imm_size false = 1

@@ -1,8 +1,8 @@
-//! Bytes as instructions.
+//! 8086 instruction decoder, inverse of the encoder.
 #![tactic(auto)]
 
-ghost use Rattle.std.specs.Prelude.{◌≡◌, ℕ, List, ◌++◌, length};
-ghost use Rattle.cw_i86.specs.Encoding.{bytes_of, IsInstr};
+ghost use Rattle.std.specs.Prelude.{◌≡◌, List, ◌++◌, length, ℕ};
+ghost use Rattle.cw_i86.specs.Encoding.{bytes_of, IsInstr, BeginsWith};
 ghost use Rattle.cw_i86.specs.declared.instr.Instr.{Instr};
 ghost use Rattle.cw_dec86.specs.declared.Decoded.{Decoded};
 ghost use Rattle.cw_dec86.specs.Decoding.{Reads};
@@ -11,23 +11,22 @@ mod rows;
 
 use cw_i86::Instr;
 
-/// What bytes are.
-#[derive(Clone, Copy, Debug, PartialEq, Eq)]
+/// What bytes are, read as an instruction from the first on.
+#[derive(Clone, Copy)]
 pub enum Decoded {
-    /// They begin with the instruction, which has so many of them.
+    /// They begin with this instruction, which has so many bytes: 1 to 7.
     Done { instr: Instr, length: u8 },
-    /// They begin with no instruction, and with more bytes they may.
+    /// They begin with no instruction, but some bytes that begin with these do.
     NeedMore,
-    /// They begin no instruction, whatever follows them.
+    /// No bytes that begin with these begin with an instruction.
     Unknown,
 }
 
-/// The instruction that the bytes begin with.
+/// Reads the instruction that the bytes begin with. What follows it is not looked at.
 #[inline(always)]
 pub fn decode(bytes: &[u8]) -> Decoded
     ensures reads { Reads bytes.now result }
-    // What begins with an instruction has no other reading.
-    ensures again { (i : Instr) (rest : List ℕ) → IsInstr i → bytes.now ≡ bytes_of i ++ rest → result ≡ Decoded.Done i (length (bytes_of i)) }
+    ensures done { (i : Instr) (rest : List ℕ) → IsInstr i → bytes.now ≡ bytes_of i ++ rest → result ≡ Decoded.Done i (length (bytes_of i)) }
 {
     match rows::instr_at(bytes) {
         None => Decoded::Unknown,
@@ -44,11 +43,16 @@ pub fn decode(bytes: &[u8]) -> Decoded
     }
 }
 
-/// Bytes that begin with an instruction have no other reading.
+/// A law, and no work: bytes that begin with an instruction have no other reading.
 pub fn one_reading()
     ensures { (bytes rest : List ℕ) (i : Instr) (decoded : Decoded) →
         IsInstr i → bytes ≡ bytes_of i ++ rest → Reads bytes decoded → decoded ≡ Decoded.Done i (length (bytes_of i)) }
 {}
 
-#[cfg(test)]
-mod tests;
+/// A law, and no work: bytes begin with at most one instruction.
+/// So no two instructions have the same bytes, and none's bytes begin another's.
+pub fn no_instruction_begins_another()
+    ensures front { (bytes : List ℕ) (i j : Instr) → IsInstr i → IsInstr j → BeginsWith bytes i → BeginsWith bytes j → i ≡ j }
+    ensures same { (i j : Instr) → IsInstr i → IsInstr j → bytes_of i ≡ bytes_of j → i ≡ j }
+    ensures begins { (i j : Instr) → IsInstr i → IsInstr j → BeginsWith (bytes_of i) j → i ≡ j }
+{}

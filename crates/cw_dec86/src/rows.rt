@@ -3,7 +3,7 @@
 ghost use Rattle.std.specs.Prelude.{ℕ, ◌≡◌, ◌<◌, ◌≤◌, ◌+◌, ◌*◌, ◌/◌, ◌%◌, ◌∷◌, [], ◌++◌, drop, slice_index, IfSome, IsTrue, MatchOption, Some, None};
 ghost use Rattle.std.specs.Int.{w16, to_le_bytes};
 ghost use Rattle.cw_i86.specs.Encoding.{IsRm, IsInstr, with_rm, prefixed, bytes_of};
-ghost use Rattle.cw_dec86.specs.Rows.{word_at, imm_at, operand_at, place_size, rm_size, has_operand, operand_row, low_row, middle_row, high_row, plain_row, row, instr_at, front, tail_size, imm_size};
+ghost use Rattle.cw_dec86.specs.Rows.{word_at, imm_at, operand_at, place_size, rm_size, has_operand, operand_row, low_row, middle_row, high_row, plain_row, row, instr_at, front, imm_size};
 
 use cw_i86::{Imm, Instr, Mem, Place, Rm};
 
@@ -105,79 +105,104 @@ fn has_operand(opcode: u8) -> bool
     }
 }
 
-/// The row of an opcode that an operand follows. The bytes are those behind the operand.
+/// The row of an opcode that an operand follows, and how many of the bytes behind the operand it has.
 #[tactic(auto, unfolding(crate::specs::Rows::operand_row))]
 #[inline(always)]
-fn operand_row(opcode: u8, reg: u8, rm: Rm, bytes: &[u8]) -> Option<Instr>
+fn operand_row(opcode: u8, reg: u8, rm: Rm, bytes: &[u8]) -> Option<(Instr, usize)>
     requires reg { reg < 8 }
     requires rm { IsRm rm }
     requires has { IsTrue (has_operand opcode) }
-    ensures row { result ≡ operand_row opcode reg rm bytes.now }
-    ensures valid { IfSome result IsInstr }
-    ensures bytes { IfSome result (λ i. bytes_of i ≡ with_rm opcode reg rm ++ front (tail_size i) bytes.now) }
+    ensures row { MatchOption result (operand_row opcode reg rm bytes.now ≡ None) (λ found. operand_row opcode reg rm bytes.now ≡ Some found.0) }
+    ensures valid { IfSome result (λ found. IsInstr found.0) }
+    ensures bytes { IfSome result (λ found. bytes_of found.0 ≡ with_rm opcode reg rm ++ front found.1 bytes.now) }
+    ensures size { IfSome result (λ found. found.1 ≤ 2) }
 {
     let wide = opcode % 2 == 1;
     match opcode {
-        0x00..=0x3F => Some(Instr::AluRm {
-            op: opcode / 8,
-            wide,
-            to_reg: opcode / 2 % 2 == 1,
-            reg,
-            rm,
-        }),
-        0x80..=0x81 => Some(Instr::AluImm {
-            op: reg,
-            rm,
-            imm: imm(wide, bytes),
-        }),
-        0x83 => match reg {
-            1 | 4 | 6 => None,
-            _ => Some(Instr::AluShort {
+        0x00..=0x3F => Some((
+            Instr::AluRm {
+                op: opcode / 8,
+                wide,
+                to_reg: opcode / 2 % 2 == 1,
+                reg,
+                rm,
+            },
+            0,
+        )),
+        0x80..=0x81 => Some((
+            Instr::AluImm {
                 op: reg,
                 rm,
-                imm: byte_at(bytes, 0),
-            }),
+                imm: imm(wide, bytes),
+            },
+            imm_size(wide),
+        )),
+        0x83 => match reg {
+            1 | 4 | 6 => None,
+            _ => Some((
+                Instr::AluShort {
+                    op: reg,
+                    rm,
+                    imm: byte_at(bytes, 0),
+                },
+                1,
+            )),
         },
-        0x84..=0x85 => Some(Instr::TestRm { wide, reg, rm }),
-        0x86..=0x87 => Some(Instr::XchgRm { wide, reg, rm }),
-        0x88..=0x8B => Some(Instr::Mov {
-            wide,
-            to_reg: opcode / 2 % 2 == 1,
-            reg,
-            rm,
-        }),
+        0x84..=0x85 => Some((Instr::TestRm { wide, reg, rm }, 0)),
+        0x86..=0x87 => Some((Instr::XchgRm { wide, reg, rm }, 0)),
+        0x88..=0x8B => Some((
+            Instr::Mov {
+                wide,
+                to_reg: opcode / 2 % 2 == 1,
+                reg,
+                rm,
+            },
+            0,
+        )),
         0x8D => match rm {
             Rm::Reg(_) => None,
-            Rm::Mem(mem) => Some(Instr::Lea { reg, mem }),
+            Rm::Mem(mem) => Some((Instr::Lea { reg, mem }, 0)),
         },
-        0xC6..=0xC7 if reg == 0 => Some(Instr::MovRm {
-            rm,
-            imm: imm(wide, bytes),
-        }),
-        0xD0..=0xD3 if reg != 6 => Some(Instr::Shift {
-            op: reg,
-            wide,
-            by_cl: opcode / 2 % 2 == 1,
-            rm,
-        }),
-        0xF6..=0xF7 => match reg {
-            0 => Some(Instr::TestImm {
+        0xC6..=0xC7 if reg == 0 => Some((
+            Instr::MovRm {
                 rm,
                 imm: imm(wide, bytes),
-            }),
+            },
+            imm_size(wide),
+        )),
+        0xD0..=0xD3 if reg != 6 => Some((
+            Instr::Shift {
+                op: reg,
+                wide,
+                by_cl: opcode / 2 % 2 == 1,
+                rm,
+            },
+            0,
+        )),
+        0xF6..=0xF7 => match reg {
+            0 => Some((
+                Instr::TestImm {
+                    rm,
+                    imm: imm(wide, bytes),
+                },
+                imm_size(wide),
+            )),
             1 => None,
-            _ => Some(Instr::Unary { op: reg, wide, rm }),
+            _ => Some((Instr::Unary { op: reg, wide, rm }, 0)),
         },
-        0xFE..=0xFF if reg < 2 => Some(Instr::IncDec {
-            down: reg == 1,
-            wide,
-            rm,
-        }),
+        0xFE..=0xFF if reg < 2 => Some((
+            Instr::IncDec {
+                down: reg == 1,
+                wide,
+                rm,
+            },
+            0,
+        )),
         0xFF => match (reg, rm) {
-            (2, _) => Some(Instr::CallRm(rm)),
-            (4, _) => Some(Instr::JumpRm(rm)),
+            (2, _) => Some((Instr::CallRm(rm), 0)),
+            (4, _) => Some((Instr::JumpRm(rm), 0)),
             (6, Rm::Reg(4)) => None,
-            (6, _) => Some(Instr::PushRm(rm)),
+            (6, _) => Some((Instr::PushRm(rm), 0)),
             _ => None,
         },
         _ => None,
@@ -186,94 +211,116 @@ fn operand_row(opcode: u8, reg: u8, rm: Rm, bytes: &[u8]) -> Option<Instr>
 
 #[tactic(auto, unfolding(crate::specs::Rows::low_row))]
 #[inline(always)]
-fn low_row(opcode: u8, bytes: &[u8]) -> Option<Instr>
-    ensures row { result ≡ low_row opcode bytes.now }
-    ensures valid { IfSome result IsInstr }
-    ensures bytes { IfSome result (λ i. bytes_of i ≡ opcode ∷ front (tail_size i) bytes.now) }
+fn low_row(opcode: u8, bytes: &[u8]) -> Option<(Instr, usize)>
+    ensures row { MatchOption result (low_row opcode bytes.now ≡ None) (λ found. low_row opcode bytes.now ≡ Some found.0) }
+    ensures valid { IfSome result (λ found. IsInstr found.0) }
+    ensures bytes { IfSome result (λ found. bytes_of found.0 ≡ opcode ∷ front found.1 bytes.now) }
+    ensures size { IfSome result (λ found. found.1 ≤ 2) }
 {
     match opcode {
         0x00..=0x3F => match opcode % 8 {
-            4 | 5 => Some(Instr::AluAcc {
-                op: opcode / 8,
-                imm: imm(opcode % 2 == 1, bytes),
-            }),
+            4 | 5 => Some((
+                Instr::AluAcc {
+                    op: opcode / 8,
+                    imm: imm(opcode % 2 == 1, bytes),
+                },
+                imm_size(opcode % 2 == 1),
+            )),
             _ => None,
         },
-        0x40..=0x47 => Some(Instr::Inc(opcode - 0x40)),
-        0x48..=0x4F => Some(Instr::Dec(opcode - 0x48)),
+        0x40..=0x47 => Some((Instr::Inc(opcode - 0x40), 0)),
+        0x48..=0x4F => Some((Instr::Dec(opcode - 0x48), 0)),
         0x54 | 0x5C => None,
-        0x50..=0x57 => Some(Instr::Push(opcode - 0x50)),
-        0x58..=0x5F => Some(Instr::Pop(opcode - 0x58)),
-        0x70..=0x7F => Some(Instr::JumpIf {
-            cond: opcode - 0x70,
-            by: byte_at(bytes, 0),
-        }),
+        0x50..=0x57 => Some((Instr::Push(opcode - 0x50), 0)),
+        0x58..=0x5F => Some((Instr::Pop(opcode - 0x58), 0)),
+        0x70..=0x7F => Some((
+            Instr::JumpIf {
+                cond: opcode - 0x70,
+                by: byte_at(bytes, 0),
+            },
+            1,
+        )),
         _ => None,
     }
 }
 
 #[tactic(auto, unfolding(crate::specs::Rows::middle_row))]
 #[inline(always)]
-fn middle_row(opcode: u8, bytes: &[u8]) -> Option<Instr>
-    ensures row { result ≡ middle_row opcode bytes.now }
-    ensures valid { IfSome result IsInstr }
-    ensures bytes { IfSome result (λ i. bytes_of i ≡ opcode ∷ front (tail_size i) bytes.now) }
+fn middle_row(opcode: u8, bytes: &[u8]) -> Option<(Instr, usize)>
+    ensures row { MatchOption result (middle_row opcode bytes.now ≡ None) (λ found. middle_row opcode bytes.now ≡ Some found.0) }
+    ensures valid { IfSome result (λ found. IsInstr found.0) }
+    ensures bytes { IfSome result (λ found. bytes_of found.0 ≡ opcode ∷ front found.1 bytes.now) }
+    ensures size { IfSome result (λ found. found.1 ≤ 2) }
 {
     match opcode {
-        0x90..=0x97 => Some(Instr::XchgAx(opcode - 0x90)),
-        0x98 => Some(Instr::Cbw),
-        0x99 => Some(Instr::Cwd),
-        0x9C => Some(Instr::PushF),
-        0x9D => Some(Instr::PopF),
-        0x9E => Some(Instr::Sahf),
-        0x9F => Some(Instr::Lahf),
-        0xA8..=0xA9 => Some(Instr::TestAcc(imm(opcode % 2 == 1, bytes))),
-        0xB0..=0xB7 => Some(Instr::MovImm {
-            reg: opcode - 0xB0,
-            imm: imm(false, bytes),
-        }),
-        0xB8..=0xBF => Some(Instr::MovImm {
-            reg: opcode - 0xB8,
-            imm: imm(true, bytes),
-        }),
-        0xC2 => Some(Instr::RetAdd(word(bytes, 0))),
-        0xC3 => Some(Instr::Ret),
+        0x90..=0x97 => Some((Instr::XchgAx(opcode - 0x90), 0)),
+        0x98 => Some((Instr::Cbw, 0)),
+        0x99 => Some((Instr::Cwd, 0)),
+        0x9C => Some((Instr::PushF, 0)),
+        0x9D => Some((Instr::PopF, 0)),
+        0x9E => Some((Instr::Sahf, 0)),
+        0x9F => Some((Instr::Lahf, 0)),
+        0xA8..=0xA9 => Some((
+            Instr::TestAcc(imm(opcode % 2 == 1, bytes)),
+            imm_size(opcode % 2 == 1),
+        )),
+        0xB0..=0xB7 => Some((
+            Instr::MovImm {
+                reg: opcode - 0xB0,
+                imm: imm(false, bytes),
+            },
+            1,
+        )),
+        0xB8..=0xBF => Some((
+            Instr::MovImm {
+                reg: opcode - 0xB8,
+                imm: imm(true, bytes),
+            },
+            2,
+        )),
+        0xC2 => Some((Instr::RetAdd(word(bytes, 0)), 2)),
+        0xC3 => Some((Instr::Ret, 0)),
         _ => None,
     }
 }
 
 #[tactic(auto, unfolding(crate::specs::Rows::high_row))]
 #[inline(always)]
-fn high_row(opcode: u8, bytes: &[u8]) -> Option<Instr>
-    ensures row { result ≡ high_row opcode bytes.now }
-    ensures valid { IfSome result IsInstr }
-    ensures bytes { IfSome result (λ i. bytes_of i ≡ opcode ∷ front (tail_size i) bytes.now) }
+fn high_row(opcode: u8, bytes: &[u8]) -> Option<(Instr, usize)>
+    ensures row { MatchOption result (high_row opcode bytes.now ≡ None) (λ found. high_row opcode bytes.now ≡ Some found.0) }
+    ensures valid { IfSome result (λ found. IsInstr found.0) }
+    ensures bytes { IfSome result (λ found. bytes_of found.0 ≡ opcode ∷ front found.1 bytes.now) }
+    ensures size { IfSome result (λ found. found.1 ≤ 2) }
 {
     match opcode {
-        0xE0..=0xE3 => Some(Instr::Loop {
-            kind: opcode - 0xE0,
-            by: byte_at(bytes, 0),
-        }),
-        0xE4 => Some(Instr::In(byte_at(bytes, 0))),
-        0xE6 => Some(Instr::Out(byte_at(bytes, 0))),
-        0xE8 => Some(Instr::Call(word(bytes, 0))),
-        0xE9 => Some(Instr::Jump(word(bytes, 0))),
-        0xEB => Some(Instr::JumpShort(byte_at(bytes, 0))),
-        0xF4 => Some(Instr::Hlt),
-        0xF5 => Some(Instr::Cmc),
-        0xF8 => Some(Instr::Clc),
-        0xF9 => Some(Instr::Stc),
+        0xE0..=0xE3 => Some((
+            Instr::Loop {
+                kind: opcode - 0xE0,
+                by: byte_at(bytes, 0),
+            },
+            1,
+        )),
+        0xE4 => Some((Instr::In(byte_at(bytes, 0)), 1)),
+        0xE6 => Some((Instr::Out(byte_at(bytes, 0)), 1)),
+        0xE8 => Some((Instr::Call(word(bytes, 0)), 2)),
+        0xE9 => Some((Instr::Jump(word(bytes, 0)), 2)),
+        0xEB => Some((Instr::JumpShort(byte_at(bytes, 0)), 1)),
+        0xF4 => Some((Instr::Hlt, 0)),
+        0xF5 => Some((Instr::Cmc, 0)),
+        0xF8 => Some((Instr::Clc, 0)),
+        0xF9 => Some((Instr::Stc, 0)),
         _ => None,
     }
 }
 
-/// The row of an opcode that no operand follows. The bytes are those behind the opcode.
+/// The row of an opcode that no operand follows, and how many of the bytes behind the opcode it has.
 #[tactic(auto, unfolding(crate::specs::Rows::plain_row))]
 #[inline(always)]
-fn plain_row(opcode: u8, bytes: &[u8]) -> Option<Instr>
-    ensures row { result ≡ plain_row opcode bytes.now }
-    ensures valid { IfSome result IsInstr }
-    ensures bytes { IfSome result (λ i. bytes_of i ≡ opcode ∷ front (tail_size i) bytes.now) }
+fn plain_row(opcode: u8, bytes: &[u8]) -> Option<(Instr, usize)>
+    ensures row { MatchOption result (plain_row opcode bytes.now ≡ None) (λ found. plain_row opcode bytes.now ≡ Some found.0) }
+    ensures valid { IfSome result (λ found. IsInstr found.0) }
+    ensures bytes { IfSome result (λ found. bytes_of found.0 ≡ opcode ∷ front found.1 bytes.now) }
+    ensures size { IfSome result (λ found. found.1 ≤ 2) }
 {
     match opcode {
         0x00..=0x8F => low_row(opcode, bytes),
@@ -282,39 +329,13 @@ fn plain_row(opcode: u8, bytes: &[u8]) -> Option<Instr>
     }
 }
 
-/// How many bytes stand behind the operand, or behind the opcode where there is none.
+/// How many bytes an immediate has.
 #[inline(always)]
-fn tail_size(i: &Instr) -> usize
-    ensures value { result ≡ tail_size i.now }
+fn imm_size(wide: bool) -> usize
+    ensures value { result ≡ imm_size wide }
     ensures bound { result ≤ 2 }
 {
-    match i {
-        Instr::AluAcc { imm, .. }
-        | Instr::AluImm { imm, .. }
-        | Instr::TestAcc(imm)
-        | Instr::MovImm { imm, .. }
-        | Instr::MovRm { imm, .. }
-        | Instr::TestImm { imm, .. } => imm_size(imm),
-        Instr::JumpIf { .. }
-        | Instr::AluShort { .. }
-        | Instr::Loop { .. }
-        | Instr::In(_)
-        | Instr::Out(_)
-        | Instr::JumpShort(_) => 1,
-        Instr::MovAcc { .. } | Instr::RetAdd(_) | Instr::Call(_) | Instr::Jump(_) => 2,
-        _ => 0,
-    }
-}
-
-#[inline(always)]
-fn imm_size(imm: &Imm) -> usize
-    ensures value { result ≡ imm_size imm.now }
-    ensures bound { result ≤ 2 }
-{
-    match imm {
-        Imm::Byte(_) => 1,
-        Imm::Word(_) => 2,
-    }
+    if wide { 2 } else { 1 }
 }
 
 /// The instruction behind the prefix, and how many bytes it has there.
@@ -330,8 +351,13 @@ fn row(cs: bool, bytes: &[u8]) -> Option<(Instr, usize)>
     if has_operand(opcode) {
         let rm = operand(cs, behind(bytes, 1))?;
         let next = 1 + size(&rm);
-        let instr = operand_row(opcode, byte_at(bytes, 1) / 8 % 8, rm, behind(bytes, next))?;
-        return Some((instr, next + tail_size(&instr)));
+        let (instr, tail) = operand_row(
+            opcode,
+            byte_at(bytes, 1) / 8 % 8,
+            rm,
+            behind(bytes, next),
+        )?;
+        return Some((instr, next + tail));
     }
     if let 0xA0..=0xA3 = opcode {
         let instr = Instr::MovAcc {
@@ -345,8 +371,8 @@ fn row(cs: bool, bytes: &[u8]) -> Option<(Instr, usize)>
     if cs {
         return None;
     }
-    let instr = plain_row(opcode, behind(bytes, 1))?;
-    Some((instr, 1 + tail_size(&instr)))
+    let (instr, tail) = plain_row(opcode, behind(bytes, 1))?;
+    Some((instr, 1 + tail))
 }
 
 /// The instruction that the bytes begin, where zeros follow them without end, and how many bytes it has.

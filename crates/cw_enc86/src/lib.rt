@@ -1,4 +1,4 @@
-//! Instructions as bytes.
+//! 8086 instruction encoder.
 #![tactic(auto)]
 
 ghost use Rattle.std.specs.Prelude.{ℕ, ◌≡◌, ◌<◌, drop, ◌≤◌, ◌+◌, ◌*◌, length, ◌∷◌, [], ◌++◌};
@@ -7,6 +7,104 @@ ghost use Rattle.cw_i86.specs.Encoding.{bit, imm_bytes, prefixed, place_bytes, w
 ghost use Rattle.cw_enc86.specs.Writing.{Puts};
 
 use cw_i86::{Imm, Instr, Mem, Place, Rm};
+
+/// Writes the bytes of an instruction at the front of `out`, and answers how many they are: 1 to 7.
+/// The rest of `out` stays.
+pub fn encode(i: &Instr, out: &mut [u8; 7]) -> usize
+    requires { IsInstr i.now }
+    ensures length { result ≡ length (bytes_of i.now) }
+    ensures fits { result ≤ 7 }
+    ensures bytes { out.new ≡ bytes_of i.now ++ drop result out.old }
+{
+    put_instr(i, out)
+}
+
+fn put_instr(i: &Instr, out: &mut [u8]) -> usize
+    requires room { 7 ≤ length out.old }
+    requires instr { IsInstr i.now }
+    ensures { Puts out.old (bytes_of i.now) out.new result }
+{
+    match *i {
+        Instr::AluRm {
+            op,
+            wide,
+            to_reg,
+            reg,
+            rm,
+        } => { put_rm(out, 8 * op + 2 * u8::from(to_reg) + u8::from(wide), reg, rm) }
+        Instr::AluAcc { op, imm } => {
+            put_opcode_imm(out, 8 * op + 4 + u8::from(imm.is_word()), imm)
+        }
+        Instr::Inc(reg) => put(out, &[0x40 + reg]),
+        Instr::Dec(reg) => put(out, &[0x48 + reg]),
+        Instr::Push(reg) => put(out, &[0x50 + reg]),
+        Instr::Pop(reg) => put(out, &[0x58 + reg]),
+        Instr::JumpIf { cond, by } => put(out, &[0x70 + cond, by]),
+        Instr::AluImm { op, rm, imm } => put_rm_imm(
+            out,
+            0x80 + u8::from(imm.is_word()),
+            op,
+            rm,
+            imm,
+        ),
+        Instr::AluShort { op, rm, imm } => put_rm_imm(out, 0x83, op, rm, Imm::Byte(imm)),
+        Instr::TestRm { wide, reg, rm } => put_rm(out, 0x84 + u8::from(wide), reg, rm),
+        Instr::XchgRm { wide, reg, rm } => put_rm(out, 0x86 + u8::from(wide), reg, rm),
+        Instr::Mov {
+            wide,
+            to_reg,
+            reg,
+            rm,
+        } => { put_rm(out, 0x88 + 2 * u8::from(to_reg) + u8::from(wide), reg, rm) }
+        Instr::Lea { reg, mem } => put_mem(out, 0x8D, reg, mem),
+        Instr::XchgAx(reg) => put(out, &[0x90 + reg]),
+        Instr::Cbw => put(out, &[0x98]),
+        Instr::Cwd => put(out, &[0x99]),
+        Instr::PushF => put(out, &[0x9C]),
+        Instr::PopF => put(out, &[0x9D]),
+        Instr::Sahf => put(out, &[0x9E]),
+        Instr::Lahf => put(out, &[0x9F]),
+        Instr::MovAcc {
+            cs,
+            wide,
+            store,
+            at,
+        } => { put_offset(out, cs, 0xA0 + 2 * u8::from(store) + u8::from(wide), at) }
+        Instr::TestAcc(imm) => put_opcode_imm(out, 0xA8 + u8::from(imm.is_word()), imm),
+        Instr::MovImm { reg, imm } => put_opcode_imm(
+            out,
+            0xB0 + 8 * u8::from(imm.is_word()) + reg,
+            imm,
+        ),
+        Instr::RetAdd(n) => put_word(out, 0xC2, n),
+        Instr::Ret => put(out, &[0xC3]),
+        Instr::MovRm { rm, imm } => put_rm_imm(out, 0xC6 + u8::from(imm.is_word()), 0, rm, imm),
+        Instr::Shift {
+            op,
+            wide,
+            by_cl,
+            rm,
+        } => { put_rm(out, 0xD0 + 2 * u8::from(by_cl) + u8::from(wide), op, rm) }
+        Instr::Loop { kind, by } => put(out, &[0xE0 + kind, by]),
+        Instr::In(port) => put(out, &[0xE4, port]),
+        Instr::Out(port) => put(out, &[0xE6, port]),
+        Instr::Call(by) => put_word(out, 0xE8, by),
+        Instr::Jump(by) => put_word(out, 0xE9, by),
+        Instr::JumpShort(by) => put(out, &[0xEB, by]),
+        Instr::Hlt => put(out, &[0xF4]),
+        Instr::Cmc => put(out, &[0xF5]),
+        Instr::Clc => put(out, &[0xF8]),
+        Instr::Stc => put(out, &[0xF9]),
+        Instr::TestImm { rm, imm } => put_rm_imm(out, 0xF6 + u8::from(imm.is_word()), 0, rm, imm),
+        Instr::Unary { op, wide, rm } => put_rm(out, 0xF6 + u8::from(wide), op, rm),
+        Instr::IncDec { down, wide, rm } => put_rm(out, 0xFE + u8::from(wide), u8::from(down), rm),
+        Instr::CallRm(rm) => put_rm(out, 0xFF, 2, rm),
+        Instr::JumpRm(rm) => put_rm(out, 0xFF, 4, rm),
+        Instr::PushRm(rm) => put_rm(out, 0xFF, 6, rm),
+    }
+}
+
+// Each of these writes at the front of a buffer, and answers how many bytes it wrote.
 
 fn put(out: &mut [u8], bytes: &[u8]) -> usize
     requires { length bytes.now ≤ length out.old }
@@ -119,98 +217,4 @@ fn put_rm_imm(out: &mut [u8], opcode: u8, reg: u8, rm: Rm, imm: Imm) -> usize
 {
     let n = put_rm(out, opcode, reg, rm);
     n + put_imm(&mut out[n..], imm)
-}
-
-/// Puts the bytes of the instruction at the front of the buffer, and says how many they are.
-pub fn encode(i: &Instr, out: &mut [u8; 7]) -> usize
-    requires { IsInstr i.now }
-    ensures length { result ≡ length (bytes_of i.now) }
-    ensures bytes { out.new ≡ bytes_of i.now ++ drop result out.old }
-{
-    encode_at(i, out)
-}
-
-fn encode_at(i: &Instr, out: &mut [u8]) -> usize
-    requires room { 7 ≤ length out.old }
-    requires instr { IsInstr i.now }
-    ensures { Puts out.old (bytes_of i.now) out.new result }
-{
-    match *i {
-        Instr::AluRm {
-            op,
-            wide,
-            to_reg,
-            reg,
-            rm,
-        } => { put_rm(out, 8 * op + 2 * u8::from(to_reg) + u8::from(wide), reg, rm) }
-        Instr::AluAcc { op, imm } => {
-            put_opcode_imm(out, 8 * op + 4 + u8::from(imm.is_word()), imm)
-        }
-        Instr::Inc(reg) => put(out, &[0x40 + reg]),
-        Instr::Dec(reg) => put(out, &[0x48 + reg]),
-        Instr::Push(reg) => put(out, &[0x50 + reg]),
-        Instr::Pop(reg) => put(out, &[0x58 + reg]),
-        Instr::JumpIf { cond, by } => put(out, &[0x70 + cond, by]),
-        Instr::AluImm { op, rm, imm } => put_rm_imm(
-            out,
-            0x80 + u8::from(imm.is_word()),
-            op,
-            rm,
-            imm,
-        ),
-        Instr::AluShort { op, rm, imm } => put_rm_imm(out, 0x83, op, rm, Imm::Byte(imm)),
-        Instr::TestRm { wide, reg, rm } => put_rm(out, 0x84 + u8::from(wide), reg, rm),
-        Instr::XchgRm { wide, reg, rm } => put_rm(out, 0x86 + u8::from(wide), reg, rm),
-        Instr::Mov {
-            wide,
-            to_reg,
-            reg,
-            rm,
-        } => { put_rm(out, 0x88 + 2 * u8::from(to_reg) + u8::from(wide), reg, rm) }
-        Instr::Lea { reg, mem } => put_mem(out, 0x8D, reg, mem),
-        Instr::XchgAx(reg) => put(out, &[0x90 + reg]),
-        Instr::Cbw => put(out, &[0x98]),
-        Instr::Cwd => put(out, &[0x99]),
-        Instr::PushF => put(out, &[0x9C]),
-        Instr::PopF => put(out, &[0x9D]),
-        Instr::Sahf => put(out, &[0x9E]),
-        Instr::Lahf => put(out, &[0x9F]),
-        Instr::MovAcc {
-            cs,
-            wide,
-            store,
-            at,
-        } => { put_offset(out, cs, 0xA0 + 2 * u8::from(store) + u8::from(wide), at) }
-        Instr::TestAcc(imm) => put_opcode_imm(out, 0xA8 + u8::from(imm.is_word()), imm),
-        Instr::MovImm { reg, imm } => put_opcode_imm(
-            out,
-            0xB0 + 8 * u8::from(imm.is_word()) + reg,
-            imm,
-        ),
-        Instr::RetAdd(n) => put_word(out, 0xC2, n),
-        Instr::Ret => put(out, &[0xC3]),
-        Instr::MovRm { rm, imm } => put_rm_imm(out, 0xC6 + u8::from(imm.is_word()), 0, rm, imm),
-        Instr::Shift {
-            op,
-            wide,
-            by_cl,
-            rm,
-        } => { put_rm(out, 0xD0 + 2 * u8::from(by_cl) + u8::from(wide), op, rm) }
-        Instr::Loop { kind, by } => put(out, &[0xE0 + kind, by]),
-        Instr::In(port) => put(out, &[0xE4, port]),
-        Instr::Out(port) => put(out, &[0xE6, port]),
-        Instr::Call(by) => put_word(out, 0xE8, by),
-        Instr::Jump(by) => put_word(out, 0xE9, by),
-        Instr::JumpShort(by) => put(out, &[0xEB, by]),
-        Instr::Hlt => put(out, &[0xF4]),
-        Instr::Cmc => put(out, &[0xF5]),
-        Instr::Clc => put(out, &[0xF8]),
-        Instr::Stc => put(out, &[0xF9]),
-        Instr::TestImm { rm, imm } => put_rm_imm(out, 0xF6 + u8::from(imm.is_word()), 0, rm, imm),
-        Instr::Unary { op, wide, rm } => put_rm(out, 0xF6 + u8::from(wide), op, rm),
-        Instr::IncDec { down, wide, rm } => put_rm(out, 0xFE + u8::from(wide), u8::from(down), rm),
-        Instr::CallRm(rm) => put_rm(out, 0xFF, 2, rm),
-        Instr::JumpRm(rm) => put_rm(out, 0xFF, 4, rm),
-        Instr::PushRm(rm) => put_rm(out, 0xFF, 6, rm),
-    }
 }
