@@ -112,7 +112,10 @@ const ROWS: [Row; 15] = [
     // MOV DX,-1; MOV AX,8000h; MOV CX,1; IDIV CX
     Row {
         code: &[0xBA, 0xFF, 0xFF, 0xB8, 0, 0x80, 0xB9, 1, 0, 0xF7, 0xF9],
-        end: RunEnd::Divide { offset: 9, steps: 3 },
+        end: RunEnd::Divide {
+            offset: 9,
+            steps: 3,
+        },
         general: [0x8000, 1, 0xFFFF, 0, 0, 0, 0, 0],
         ip: 9,
         flags: 0,
@@ -120,7 +123,10 @@ const ROWS: [Row; 15] = [
     // MOV DX,1; MOV AX,0; MOV CX,1; DIV CX
     Row {
         code: &[0xBA, 1, 0, 0xB8, 0, 0, 0xB9, 1, 0, 0xF7, 0xF1],
-        end: RunEnd::Divide { offset: 9, steps: 3 },
+        end: RunEnd::Divide {
+            offset: 9,
+            steps: 3,
+        },
         general: [0, 1, 1, 0, 0, 0, 0, 0],
         ip: 9,
         flags: 0,
@@ -136,8 +142,8 @@ const ROWS: [Row; 15] = [
     // MOV BP,200h; MOV [BP+2],1234h; PUSH [BP+2]; POP CX; MOV [10h],CX; CALL +1; HLT; MOV DL,[11h]; RET 2
     Row {
         code: &[
-            0xBD, 0, 2, 0xC7, 0x46, 2, 0x34, 0x12, 0xFF, 0x76, 2, 0x59, 0x89, 0x0E, 0x10, 0, 0xE8, 1, 0, 0xF4,
-            0x8A, 0x16, 0x11, 0, 0xC2, 2, 0,
+            0xBD, 0, 2, 0xC7, 0x46, 2, 0x34, 0x12, 0xFF, 0x76, 2, 0x59, 0x89, 0x0E, 0x10, 0, 0xE8,
+            1, 0, 0xF4, 0x8A, 0x16, 0x11, 0, 0xC2, 2, 0,
         ],
         end: RunEnd::Halted { steps: 9 },
         general: [0, 0x1234, 0x12, 0, 2, 0x200, 0, 0],
@@ -165,7 +171,10 @@ const ROWS: [Row; 15] = [
     // XCHG AX,AX; no instruction
     Row {
         code: &[0x90, 0x0F],
-        end: RunEnd::BadCode { offset: 1, steps: 1 },
+        end: RunEnd::BadCode {
+            offset: 1,
+            steps: 1,
+        },
         general: [0, 0, 0, 0, 0, 0, 0, 0],
         ip: 1,
         flags: 0,

@@ -36,8 +36,8 @@ impl Ports for Closed {
 /// again: MOV AX,[100h]; ADD AX,CX; MOV [100h],AX; MOV BX,[102h]; ADD BX,AX; MOV [102h],BX; CALL add; DEC CX; JNZ again;
 /// JMP again; NOP; add: ADD AX,1; RET
 const LOOP: [u8; 31] = [
-    0xA1, 0x00, 0x01, 0x01, 0xC8, 0xA3, 0x00, 0x01, 0x8B, 0x1E, 0x02, 0x01, 0x01, 0xC3, 0x89, 0x1E, 0x02, 0x01,
-    0xE8, 0x06, 0x00, 0x49, 0x75, 0xE8, 0xEB, 0xE6, 0x90, 0x05, 0x01, 0x00, 0xC3,
+    0xA1, 0x00, 0x01, 0x01, 0xC8, 0xA3, 0x00, 0x01, 0x8B, 0x1E, 0x02, 0x01, 0x01, 0xC3, 0x89, 0x1E,
+    0x02, 0x01, 0xE8, 0x06, 0x00, 0x49, 0x75, 0xE8, 0xEB, 0xE6, 0x90, 0x05, 0x01, 0x00, 0xC3,
 ];
 
 fn main(rt: HostRuntime) -> anyhow::Result<()> {
@@ -49,10 +49,16 @@ fn main(rt: HostRuntime) -> anyhow::Result<()> {
     let end = cpu.run(&mut Closed, INSTRUCTIONS);
     let took = start.elapsed(&rt)?.as_micros();
     if end == RunEnd::Limit {
-        println!(rt; "ran {INSTRUCTIONS} instructions, AX {}", cpu.regs().general[0])?;
+        println!(rt;
+            "ran {INSTRUCTIONS} instructions, AX {}",
+            cpu.regs().general[0]
+        )?;
     }
     if took > 0 {
-        eprintln!(rt; "{} million instructions a second", u128::from(INSTRUCTIONS) / took)?;
+        eprintln!(rt;
+            "{} million instructions a second",
+            u128::from(INSTRUCTIONS) / took
+        )?;
     }
     Ok(())
 }
