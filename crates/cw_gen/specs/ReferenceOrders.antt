@@ -43,6 +43,7 @@ ref_step r = record { address = r.at; scale = r.f; field = r.field }
 
 -- ---- expressions
 
+-- As yet a part of a word is neither read nor stored.
 abbrev pub load_orders : Option Field → List Order
 load_orders None = order.Load ∷ []
 load_orders (Some field) = []

@@ -127,7 +127,7 @@ pub enum Order {
     WriteByte,
     /// Sets the line that a stop tells.
     Line(u16),
-    /// The place where a statement of this line begins. Does nothing; a `Line` follows it where the statement can stop.
+    /// The place where a statement of this line begins. Does nothing; the statement's `Line` follows it.
     Start(u16),
     /// Goes on with the body of the next segment; where there is none, the program ends.
     NextBody,

@@ -1,4 +1,4 @@
-pub mod Assembly
+pub mod Mnemonics
 pub mod Pieces
 pub mod Library
 pub mod Templates

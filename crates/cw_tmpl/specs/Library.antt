@@ -4,7 +4,7 @@ use Rattle.cw_i86.specs.declared.instr.Instr.{Instr}
 use Rattle.cw_i86.specs.declared.instr.Instr.TheVariants as i86
 use Rattle.cw_i86.specs.declared.instr.Imm.TheVariants as imm
 use Rattle.cw_i86.specs.declared.instr.Rm.TheVariants as rms
-use Rattle.cw_tmpl.specs.Assembly.{ax, bx, cx, dx, sp, bp, si, di, al, ah, line_slot, segment_slot, slot, set_word, load, move, subtract, jump_to, bytes_of_all}
+use Rattle.cw_tmpl.specs.Mnemonics.{ax, bx, cx, dx, sp, bp, si, di, al, ah, line_slot, segment_slot, slot, set_word, load, move, subtract, jump_to, bytes_of_all}
 
 -- ---- the routines
 

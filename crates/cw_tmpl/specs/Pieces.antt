@@ -19,6 +19,7 @@ bytes_with w (coded.Call t) = bytes_of (i86.Call w)
 bytes_with w (coded.Jump t) = bytes_of (i86.Jump w)
 bytes_with w (coded.Word t) = word w
 
+-- the same with every word
 abbrev pub size_of : Coded → ℕ
 size_of p = length (bytes_with 0 p)
 
@@ -29,6 +30,7 @@ target_of (coded.Call t) = Some t
 target_of (coded.Jump t) = Some t
 target_of (coded.Word t) = Some t
 
+-- The instruction has the numbers of its row.
 abbrev pub IsCoded : Coded → Type 0
 IsCoded (coded.Whole i) = IsInstr i
 IsCoded (coded.Move reg t) = IsInstr (i86.MovImm reg (imm.Word 0))

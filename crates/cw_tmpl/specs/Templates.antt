@@ -13,7 +13,7 @@ use Rattle.cw_tmpl.specs.declared.pieces.Limit.TheVariants as limit
 use Rattle.cw_tmpl.specs.declared.pieces.Target.TheVariants as target
 use Rattle.cw_tmpl.specs.declared.pieces.Coded.{Coded}
 use Rattle.cw_tmpl.specs.declared.pieces.Coded.TheVariants as coded
-use Rattle.cw_tmpl.specs.Assembly.{ax, bx, cx, dx, line_slot, slot, at_bx, set_word, load, store, add, subtract, negate, double, jump_to, jump_if_no_overflow}
+use Rattle.cw_tmpl.specs.Mnemonics.{ax, bx, cx, dx, line_slot, slot, at_bx, set_word, load, store, add, subtract, negate, double, jump_to, jump_if_no_overflow}
 use Rattle.cw_tmpl.specs.Library.{start_entry, overflow_entry}
 use Rattle.cw_tmpl.specs.Pieces.{blanks}
 

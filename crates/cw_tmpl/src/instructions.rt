@@ -1,6 +1,6 @@
 //! Registers, and short words for the instructions that the templates use.
 ghost use Rattle.std.specs.Prelude.{◌≡◌};
-ghost use Rattle.cw_tmpl.specs.Assembly as assembly;
+ghost use Rattle.cw_tmpl.specs.Mnemonics as mnemonics;
 
 use cw_i86::{Imm, Instr, Mem, Place, Rm};
 
@@ -26,7 +26,7 @@ pub const AT_BX: Rm = Rm::Mem(Mem {
 
 /// MOV of a word into a register.
 pub fn set_word(reg: u8, word: u16) -> Instr
-    ensures { result ≡ assembly.set_word reg word }
+    ensures { result ≡ mnemonics.set_word reg word }
 {
     Instr::MovImm {
         reg,
@@ -36,7 +36,7 @@ pub fn set_word(reg: u8, word: u16) -> Instr
 
 /// MOV of an operand into a register.
 pub fn load(reg: u8, rm: Rm) -> Instr
-    ensures { result ≡ assembly.load reg rm }
+    ensures { result ≡ mnemonics.load reg rm }
 {
     Instr::Mov {
         wide: true,
@@ -48,7 +48,7 @@ pub fn load(reg: u8, rm: Rm) -> Instr
 
 /// MOV of a register into an operand.
 pub fn store(rm: Rm, reg: u8) -> Instr
-    ensures { result ≡ assembly.store rm reg }
+    ensures { result ≡ mnemonics.store rm reg }
 {
     Instr::Mov {
         wide: true,
@@ -60,7 +60,7 @@ pub fn store(rm: Rm, reg: u8) -> Instr
 
 /// ADD of registers.
 pub fn add(to: u8, from: u8) -> Instr
-    ensures { result ≡ assembly.add to from }
+    ensures { result ≡ mnemonics.add to from }
 {
     Instr::AluRm {
         op: 0,
@@ -73,7 +73,7 @@ pub fn add(to: u8, from: u8) -> Instr
 
 /// SUB of registers.
 pub fn subtract(to: u8, from: u8) -> Instr
-    ensures { result ≡ assembly.subtract to from }
+    ensures { result ≡ mnemonics.subtract to from }
 {
     Instr::AluRm {
         op: 5,
@@ -86,7 +86,7 @@ pub fn subtract(to: u8, from: u8) -> Instr
 
 /// NEG of a register.
 pub fn negate(reg: u8) -> Instr
-    ensures { result ≡ assembly.negate reg }
+    ensures { result ≡ mnemonics.negate reg }
 {
     Instr::Unary {
         op: 3,
@@ -97,7 +97,7 @@ pub fn negate(reg: u8) -> Instr
 
 /// SHL of a register by one.
 pub fn double(reg: u8) -> Instr
-    ensures { result ≡ assembly.double reg }
+    ensures { result ≡ mnemonics.double reg }
 {
     Instr::Shift {
         op: 4,
@@ -109,7 +109,7 @@ pub fn double(reg: u8) -> Instr
 
 /// JNO.
 pub fn jump_if_no_overflow(by: u8) -> Instr
-    ensures { result ≡ assembly.jump_if_no_overflow by }
+    ensures { result ≡ mnemonics.jump_if_no_overflow by }
 {
     Instr::JumpIf { cond: 1, by }
 }
