@@ -1,9 +1,10 @@
 //! Laws of the definitions.
-ghost use Rattle.std.specs.Prelude.{◌≡◌, ◌≢◌, ℕ, ◌+◌, ◌≤◌, List, [], ◌∷◌, ◌++◌, length, IsFalse};
+ghost use Rattle.std.specs.Prelude.{◌≡◌, ◌≢◌, ℕ, ◌+◌, ◌≤◌, List, [], ◌∷◌, ◌++◌, length, Some, None, slice_get, IsFalse};
 ghost use Rattle.std.specs.List.{All};
 ghost use Rattle.cw_unit.specs.declared.unit.Unit.{Unit as SourceUnit};
+ghost use Rattle.cw_unit.specs.declared.unit.Item.{Item};
 ghost use Rattle.cw_unit.specs.declared.layout.Limits.{Limits};
-ghost use Rattle.cw_unit.specs.Storage.{layout_of};
+ghost use Rattle.cw_unit.specs.Storage.{base_of, root_of, family_offset, family_extent, layout_of};
 ghost use Rattle.cw_unit.specs.Allocation.{Range, meets, first_fit, storage_map};
 ghost use Rattle.cw_unit.specs.ValidStorage.{IsStorable, FitsArea, ValidStorageMap};
 ghost use Rattle.cw_unit.specs.Program.{Program};
@@ -12,6 +13,16 @@ ghost use Rattle.cw_unit.specs.Words.{Words};
 ghost use Rattle.cw_unit.specs.Configuration.{FramesApart, activations_of, words_of};
 ghost use Rattle.cw_unit.specs.Behaviour.{configuration_after, observed};
 ghost use Rattle.cw_unit.specs.OwnSingles.{IsOwnSingle, own_layout, own_map};
+
+/// How items stand in their families: a root has no base and stands at 0, an item is in the family of its base, and an extent reaches to
+/// the ends of the items and no further.
+pub fn families()
+    ensures roots { (u : SourceUnit) (n : ℕ) → IsStorable u → base_of u (root_of u n) ≡ None }
+    ensures alone { (u : SourceUnit) (n : ℕ) → base_of u n ≡ None → (root_of u n ≡ n) × (family_offset u n ≡ 0) }
+    ensures bases { (u : SourceUnit) (n : ℕ) (b : ℕ × ℕ) → IsStorable u → base_of u n ≡ Some b → (root_of u n ≡ root_of u b.0) × (family_offset u n ≡ b.1 + family_offset u b.0) }
+    ensures reaches { (u : SourceUnit) (n : ℕ) (i : Item) → slice_get u.items n ≡ Some i → family_offset u n + i.words ≤ family_extent u (root_of u n) }
+    ensures least { (u : SourceUnit) (r m : ℕ) → ((n : ℕ) (i : Item) → slice_get u.items n ≡ Some i → root_of u n ≡ r → family_offset u n + i.words ≤ m) → family_extent u r ≤ m }
+{}
 
 /// A first fit is the least address that is not below the given one and at which the words meet no range.
 pub fn fits_first()
