@@ -144,30 +144,33 @@ abbrev SameWay : SourceUnit → (n m item : ℕ) → Type 0
 SameWay u n m i = (root_within n u i ≡ root_within m u i) × (offset_within n u i ≡ offset_within m u i)
 
 way-next : (u : SourceUnit) (n m i : ℕ) (o : Option (ℕ × ℕ)) → ((b : ℕ × ℕ) → base_of u i ≡ Some b → SameWay u n m b.0) → base_of u i ≡ o → SameWay u (suc n) (suc m) i
-way-next u n m i None rest e =
-    (ap (λ o. elim o [ None ↦ i | Some b ↦ root_within n u b.0 ]) e ∙ sym (ap (λ o. elim o [ None ↦ i | Some b ↦ root_within m u b.0 ]) e),
-      ap (λ o. elim o [ None ↦ 0 | Some b ↦ b.1 + offset_within n u b.0 ]) e ∙ sym (ap (λ o. elim o [ None ↦ 0 | Some b ↦ b.1 + offset_within m u b.0 ]) e))
+way-next u n m i None rest e = (
+  ap (λ o. elim o [ None ↦ i | Some b ↦ root_within n u b.0 ]) e ∙ sym (ap (λ o. elim o [ None ↦ i | Some b ↦ root_within m u b.0 ]) e),
+  ap (λ o. elim o [ None ↦ 0 | Some b ↦ b.1 + offset_within n u b.0 ]) e ∙ sym (ap (λ o. elim o [ None ↦ 0 | Some b ↦ b.1 + offset_within m u b.0 ]) e),
+)
 way-next u n m i (Some b) rest e =
-    let r : SameWay u n m b.0 = rest b e in
-    (ap (λ o. elim o [ None ↦ i | Some b ↦ root_within n u b.0 ]) e ∙ r.0
-        ∙ sym (ap (λ o. elim o [ None ↦ i | Some b ↦ root_within m u b.0 ]) e),
+    let r : SameWay u n m b.0 = rest b e in (
+      ap (λ o. elim o [ None ↦ i | Some b ↦ root_within n u b.0 ]) e ∙ r.0
+          ∙ sym (ap (λ o. elim o [ None ↦ i | Some b ↦ root_within m u b.0 ]) e),
       ap (λ o. elim o [ None ↦ 0 | Some b ↦ b.1 + offset_within n u b.0 ]) e ∙ ap (λ k. b.1 + k) r.1
-        ∙ sym (ap (λ o. elim o [ None ↦ 0 | Some b ↦ b.1 + offset_within m u b.0 ]) e))
+          ∙ sym (ap (λ o. elim o [ None ↦ 0 | Some b ↦ b.1 + offset_within m u b.0 ]) e),
+    )
 
 same-way : (u : SourceUnit) → IsStorable u → (n m i : ℕ) → i ≤ n → i ≤ m → SameWay u n m i
 same-way u h zero m i a b = let z : (root_within m u i ≡ i) × (offset_within m u i ≡ 0) = same-zero u h m i a in (sym z.0, sym z.1)
 same-way u h (suc n) zero i a b = let z : (root_within (suc n) u i ≡ i) × (offset_within (suc n) u i ≡ 0) = same-zero u h (suc n) i b in z
 same-way u h (suc n) (suc m) i a b =
     way-next u n m i (base_of u i)
-      (λ c e. let k : c.0 < i = h.base_before i c e in same-way u h n m c.0 (omega (arith, k, a)) (omega (arith, k, b)))
-      refl
+    (λ c e. let k : c.0 < i = h.base_before i c e in same-way u h n m c.0 (omega (arith, k, a)) (omega (arith, k, b)))
+    refl
 
 base-way : (u : SourceUnit) → IsStorable u → (n i : ℕ) (b : ℕ × ℕ) → i ≤ suc n → base_of u i ≡ Some b → (root_within (suc n) u i ≡ root_of u b.0) × (offset_within (suc n) u i ≡ b.1 + family_offset u b.0)
 base-way u h n i b k e =
     let l : b.0 < i = h.base_before i b e in
-    let r : SameWay u n b.0 b.0 = same-way u h n b.0 b.0 (omega (arith, k, l)) (omega arith) in
-    (ap (λ o. elim o [ None ↦ i | Some c ↦ root_within n u c.0 ]) e ∙ r.0,
-      ap (λ o. elim o [ None ↦ 0 | Some c ↦ c.1 + offset_within n u c.0 ]) e ∙ ap (λ m. b.1 + m) r.1)
+    let r : SameWay u n b.0 b.0 = same-way u h n b.0 b.0 (omega (arith, k, l)) (omega arith) in (
+      ap (λ o. elim o [ None ↦ i | Some c ↦ root_within n u c.0 ]) e ∙ r.0,
+      ap (λ o. elim o [ None ↦ 0 | Some c ↦ c.1 + offset_within n u c.0 ]) e ∙ ap (λ m. b.1 + m) r.1,
+    )
 
 pub base_family : (u : SourceUnit) → IsStorable u → (i : ℕ) (b : ℕ × ℕ) → base_of u i ≡ Some b → (root_of u i ≡ root_of u b.0) × (family_offset u i ≡ b.1 + family_offset u b.0)
 base_family u h i b e =
@@ -192,20 +195,20 @@ extent-least u r m n (i ∷ is) h =
     let at : n + 0 ≡ n = omega arith in
     let here : root_of u n ≡ r → family_offset u n + i.words ≤ m = λ e. subst (λ k. family_offset u k + i.words ≤ m) at (h 0 i refl (ap (root_of u) at ∙ e)) in
     let first : cond (nat_eq (root_of u n) r) (family_offset u n + i.words) 0 ≤ m =
-          first-least (nat_eq (root_of u n) r) (family_offset u n + i.words) m (λ t. here (eqb-true (root_of u n) r t)) in
+    first-least (nat_eq (root_of u n) r) (family_offset u n + i.words) m (λ t. here (eqb-true (root_of u n) r t)) in
     let rest : extent_from (n + 1) u r is ≤ m =
-          extent-least u r m (n + 1) is
-            (λ k j e f.
-              let there : n + suc k ≡ n + 1 + k = omega arith in
-              subst (λ x. family_offset u x + j.words ≤ m) there (h (suc k) j e (ap (root_of u) there ∙ f))) in
+    extent-least u r m (n + 1) is
+    (λ k j e f.
+    let there : n + suc k ≡ n + 1 + k = omega arith in
+    subst (λ x. family_offset u x + j.words ≤ m) there (h (suc k) j e (ap (root_of u) there ∙ f))) in
     omega (arith, first, rest)
 
 pub least_extent : (u : SourceUnit) (r m : ℕ) → ((k : ℕ) (i : Item) → slice_get u.items k ≡ Some i → root_of u k ≡ r → family_offset u k + i.words ≤ m) → family_extent u r ≤ m
 least_extent u r m h =
     extent-least u r m 0 u.items
-      (λ k i e f.
-        let at : k ≡ 0 + k = omega arith in
-        subst (λ x. family_offset u x + i.words ≤ m) at (h k i e (ap (root_of u) at ∙ f)))
+    (λ k i e f.
+    let at : k ≡ 0 + k = omega arith in
+    subst (λ x. family_offset u x + i.words ≤ m) at (h k i e (ap (root_of u) at ∙ f)))
 
 pub root_baseless : (u : SourceUnit) → IsStorable u → (i : ℕ) → base_of u (root_of u i) ≡ None
 root_baseless u h i = (root-within i u h i (omega arith)).0

@@ -3,6 +3,7 @@ pub mod Equality
 pub mod Equations
 pub mod Families
 pub mod FirstFit
+pub mod Memory
 pub mod Operations
 pub mod OwnSingles
 pub mod Placing

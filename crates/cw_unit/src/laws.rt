@@ -1,15 +1,17 @@
 //! Laws of the definitions.
-ghost use Rattle.std.specs.Prelude.{◌≡◌, ◌≢◌, ℕ, ◌+◌, ◌≤◌, List, [], ◌∷◌, ◌++◌, length, Some, None, slice_get, IsFalse};
+ghost use Rattle.std.specs.Prelude.{◌≡◌, ◌≢◌, ℕ, ◌+◌, ◌<◌, ◌≤◌, pos, List, [], ◌∷◌, ◌++◌, length, replicate, Some, None, slice_get, IsFalse};
 ghost use Rattle.std.specs.List.{All};
 ghost use Rattle.cw_unit.specs.declared.unit.Unit.{Unit as SourceUnit};
 ghost use Rattle.cw_unit.specs.declared.unit.Item.{Item};
 ghost use Rattle.cw_unit.specs.declared.layout.Limits.{Limits};
+ghost use Rattle.cw_unit.specs.declared.layout.Map.{Map};
 ghost use Rattle.cw_unit.specs.Storage.{base_of, root_of, family_offset, family_extent, layout_of};
 ghost use Rattle.cw_unit.specs.Allocation.{Range, meets, first_fit, storage_map};
 ghost use Rattle.cw_unit.specs.ValidStorage.{IsStorable, FitsArea, ValidStorageMap};
-ghost use Rattle.cw_unit.specs.Program.{Program};
+ghost use Rattle.cw_unit.specs.InitialMemory.{filled_words, initial_word, initial_memory};
+ghost use Rattle.cw_unit.specs.Program.{Program, item_address, program_of};
 ghost use Rattle.cw_unit.specs.Stop.{Running};
-ghost use Rattle.cw_unit.specs.Words.{Words};
+ghost use Rattle.cw_unit.specs.Words.{Words, word_at};
 ghost use Rattle.cw_unit.specs.Configuration.{FramesApart, activations_of, words_of};
 ghost use Rattle.cw_unit.specs.Behaviour.{configuration_after, observed};
 ghost use Rattle.cw_unit.specs.OwnSingles.{IsOwnSingle, own_layout, own_map};
@@ -36,10 +38,17 @@ pub fn storage_maps()
     ensures { (us : List SourceUnit) (limits : Limits) → All IsStorable us → FitsArea us limits → ValidStorageMap us limits (storage_map us) }
 {}
 
+/// Each word of the initial memory is the one that is filled there, or 0.
+pub fn initial_words()
+    ensures { (us : List SourceUnit) (m : Map) (area a : ℕ) → a < area → word_at (initial_memory us m area) a ≡ initial_word (filled_words us m) a }
+{}
+
 /// The storage of a unit whose items are single words of its own, none with a preset: item k stands at address k.
 pub fn own_singles()
     ensures layout { (u : SourceUnit) → All IsOwnSingle u.items → layout_of u ≡ own_layout (length u.items) (length u.procs) }
     ensures map { (u : SourceUnit) → All IsOwnSingle u.items → storage_map (u ∷ []) ≡ own_map (length u.items) }
+    ensures addresses { (u : SourceUnit) (limits : Limits) (n base : ℕ) → All IsOwnSingle u.items → n < length u.items → item_address (program_of (u ∷ []) limits) 0 n base ≡ n }
+    ensures memory { (u : SourceUnit) (m : Map) (area : ℕ) → All IsOwnSingle u.items → initial_memory (u ∷ []) m area ≡ replicate area (pos 0) }
     ensures valid { (u : SourceUnit) (limits : Limits) → All IsOwnSingle u.items → length u.items + limits.frames ≤ limits.area → ValidStorageMap (u ∷ []) limits (storage_map (u ∷ [])) }
 {}
 
