@@ -1,4 +1,5 @@
 pub mod Activations
+pub mod Continuations
 pub mod Equality
 pub mod Equations
 pub mod Families

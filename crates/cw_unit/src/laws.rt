@@ -12,6 +12,13 @@ ghost use Rattle.cw_unit.specs.InitialMemory.{filled_words, initial_word, initia
 ghost use Rattle.cw_unit.specs.Program.{Program, item_address, program_of};
 ghost use Rattle.cw_unit.specs.Stop.{Running};
 ghost use Rattle.cw_unit.specs.Words.{Words, word_at};
+ghost use Rattle.cw_unit.specs.declared.unit.Stmt.{Stmt};
+ghost use Rattle.cw_unit.specs.declared.unit.Stmt.TheVariants as stmt;
+ghost use Rattle.cw_unit.specs.declared.unit.Cond.{Cond};
+ghost use Rattle.cw_unit.specs.declared.unit.Ref.{Ref};
+ghost use Rattle.cw_unit.specs.declared.unit.Felem.{Felem};
+ghost use Rattle.cw_unit.specs.Work.{Work, Run, On, loop_of};
+ghost use Rattle.cw_unit.specs.LabelContinuation.{label_continuation, list_continuation, first_work, work_if, has_label};
 ghost use Rattle.cw_unit.specs.Configuration.{FramesApart, activations_of, words_of};
 ghost use Rattle.cw_unit.specs.Behaviour.{configuration_after, observed};
 ghost use Rattle.cw_unit.specs.OwnSingles.{IsOwnSingle, own_layout, own_map};
@@ -50,6 +57,14 @@ pub fn own_singles()
     ensures addresses { (u : SourceUnit) (limits : Limits) (n base : ℕ) → All IsOwnSingle u.items → n < length u.items → item_address (program_of (u ∷ []) limits) 0 n base ≡ n }
     ensures memory { (u : SourceUnit) (m : Map) (area : ℕ) → All IsOwnSingle u.items → initial_memory (u ∷ []) m area ≡ replicate area (pos 0) }
     ensures valid { (u : SourceUnit) (limits : Limits) → All IsOwnSingle u.items → length u.items + limits.frames ≤ limits.area → ValidStorageMap (u ∷ []) limits (storage_map (u ∷ [])) }
+{}
+
+/// The continuation of a label in each kind of statement that holds others.
+pub fn continuations()
+    ensures lists { (l : ℕ) (ss : List Stmt) (k : Work) → label_continuation l (stmt.Seq ss) k ≡ list_continuation l ss k }
+    ensures choices { (l line : ℕ) (c : Cond) (a b : Stmt) (k : Work) → label_continuation l (stmt.If line c a b) k ≡ first_work (label_continuation l a k) (label_continuation l b k) }
+    ensures loops { (l line item : ℕ) (r : Ref) (es : List Felem) (s : Stmt) (k : Work) → label_continuation l (stmt.For line item r es s) k ≡ label_continuation l s (On (loop_of line item r es s) k) }
+    ensures labelled { (l : ℕ) (ls : List ℕ) (s : Stmt) (k : Work) → label_continuation l (stmt.Mark ls s) k ≡ work_if (has_label l ls) (Run s k) (label_continuation l s k) }
 {}
 
 /// What a run of the source shows: after an end or a stop always the same, and the output only grows.
