@@ -1,11 +1,11 @@
 -- Roots, families and frames of a unit whose storage is well formed.
-use Rattle.std.proofs.Common.{◌≡◌, ℕ, zero, suc, ◌+◌, ◌<◌, ◌≤◌, List, [], ◌∷◌, length, take, ◌&&◌, cond, nat_eq, Option, Some, None, is_none, slice_get, refl, sym, ap, subst, ap₂, ◌∙◌, arith}
+use Rattle.std.proofs.Common.{◌≡◌, ℕ, zero, suc, ◌+◌, ◌<◌, ◌≤◌, List, [], ◌∷◌, length, take, Bool, true, false, ◌&&◌, cond, nat_eq, Option, Some, None, is_none, slice_get, refl, sym, ap, subst, ap₂, ◌∙◌, arith, eqb-true}
 use Rattle.std.proofs.lemmas.Bool.{eq-eqb}
 use Rattle.std.proofs.lemmas.Option.{none-some, same_Some, slice_get_within}
 use Rattle.cw_unit.specs.declared.unit.Unit.{Unit as SourceUnit}
 use Rattle.cw_unit.specs.declared.unit.Item.{Item}
 use Rattle.cw_unit.specs.declared.unit.Home.TheVariants as home
-use Rattle.cw_unit.specs.Storage.{base_of_home, base_of_item, base_of, root_within, root_of, family_offset, extent_from, family_extent, roots_in, family_of, is_frame_home, is_owner, frame_words_from, frame_words, frame_size, family_at, families_from, layout_of}
+use Rattle.cw_unit.specs.Storage.{base_of_home, base_of_item, base_of, root_within, offset_within, root_of, family_offset, extent_from, family_extent, roots_in, family_of, is_frame_home, is_owner, frame_words_from, frame_words, frame_size, family_at, families_from, layout_of}
 use Rattle.cw_unit.specs.ValidStorage.{IsStorable}
 
 -- ---- roots
@@ -130,3 +130,85 @@ past_in_frame u q k m i b e h o =
     subst (λ xs. frame_words u q xs + family_extent u k ≤ frame_words u q (take m u.items)) same
     (subst (λ n. frame_words u q (take k (take m u.items)) + family_extent u n ≤ frame_words u q (take m u.items)) at
     (frame-reaches u q 0 (take m u.items) k i there h o))
+
+-- ---- the family of a base
+
+same-zero : (u : SourceUnit) → IsStorable u → (m i : ℕ) → i ≤ 0 → (root_within m u i ≡ i) × (offset_within m u i ≡ 0)
+same-zero u h zero i z = (refl, refl)
+same-zero u h (suc m) i z =
+    let e : base_of u i ≡ None = no-base-at-0 u h i (base_of u i) refl z in
+    (ap (λ o. elim o [ None ↦ i | Some b ↦ root_within m u b.0 ]) e, ap (λ o. elim o [ None ↦ 0 | Some b ↦ b.1 + offset_within m u b.0 ]) e)
+
+-- it does not matter how many bases may be followed back, where these are enough
+abbrev SameWay : SourceUnit → (n m item : ℕ) → Type 0
+SameWay u n m i = (root_within n u i ≡ root_within m u i) × (offset_within n u i ≡ offset_within m u i)
+
+way-next : (u : SourceUnit) (n m i : ℕ) (o : Option (ℕ × ℕ)) → ((b : ℕ × ℕ) → base_of u i ≡ Some b → SameWay u n m b.0) → base_of u i ≡ o → SameWay u (suc n) (suc m) i
+way-next u n m i None rest e = (
+  ap (λ o. elim o [ None ↦ i | Some b ↦ root_within n u b.0 ]) e ∙ sym (ap (λ o. elim o [ None ↦ i | Some b ↦ root_within m u b.0 ]) e),
+  ap (λ o. elim o [ None ↦ 0 | Some b ↦ b.1 + offset_within n u b.0 ]) e ∙ sym (ap (λ o. elim o [ None ↦ 0 | Some b ↦ b.1 + offset_within m u b.0 ]) e),
+)
+way-next u n m i (Some b) rest e =
+    let r : SameWay u n m b.0 = rest b e in (
+      ap (λ o. elim o [ None ↦ i | Some b ↦ root_within n u b.0 ]) e ∙ r.0
+          ∙ sym (ap (λ o. elim o [ None ↦ i | Some b ↦ root_within m u b.0 ]) e),
+      ap (λ o. elim o [ None ↦ 0 | Some b ↦ b.1 + offset_within n u b.0 ]) e ∙ ap (λ k. b.1 + k) r.1
+          ∙ sym (ap (λ o. elim o [ None ↦ 0 | Some b ↦ b.1 + offset_within m u b.0 ]) e),
+    )
+
+same-way : (u : SourceUnit) → IsStorable u → (n m i : ℕ) → i ≤ n → i ≤ m → SameWay u n m i
+same-way u h zero m i a b = let z : (root_within m u i ≡ i) × (offset_within m u i ≡ 0) = same-zero u h m i a in (sym z.0, sym z.1)
+same-way u h (suc n) zero i a b = let z : (root_within (suc n) u i ≡ i) × (offset_within (suc n) u i ≡ 0) = same-zero u h (suc n) i b in z
+same-way u h (suc n) (suc m) i a b =
+    way-next u n m i (base_of u i)
+    (λ c e. let k : c.0 < i = h.base_before i c e in same-way u h n m c.0 (omega (arith, k, a)) (omega (arith, k, b)))
+    refl
+
+base-way : (u : SourceUnit) → IsStorable u → (n i : ℕ) (b : ℕ × ℕ) → i ≤ suc n → base_of u i ≡ Some b → (root_within (suc n) u i ≡ root_of u b.0) × (offset_within (suc n) u i ≡ b.1 + family_offset u b.0)
+base-way u h n i b k e =
+    let l : b.0 < i = h.base_before i b e in
+    let r : SameWay u n b.0 b.0 = same-way u h n b.0 b.0 (omega (arith, k, l)) (omega arith) in (
+      ap (λ o. elim o [ None ↦ i | Some c ↦ root_within n u c.0 ]) e ∙ r.0,
+      ap (λ o. elim o [ None ↦ 0 | Some c ↦ c.1 + offset_within n u c.0 ]) e ∙ ap (λ m. b.1 + m) r.1,
+    )
+
+pub base_family : (u : SourceUnit) → IsStorable u → (i : ℕ) (b : ℕ × ℕ) → base_of u i ≡ Some b → (root_of u i ≡ root_of u b.0) × (family_offset u i ≡ b.1 + family_offset u b.0)
+base_family u h i b e =
+    let l : b.0 < i = h.base_before i b e in
+    let r : (root_within (suc i) u i ≡ root_of u b.0) × (offset_within (suc i) u i ≡ b.1 + family_offset u b.0) = base-way u h i i b (omega arith) e in
+    let s : SameWay u i (suc i) i = same-way u h i (suc i) i (omega arith) (omega arith) in
+    (s.0 ∙ r.0, s.1 ∙ r.1)
+
+pub root_alone : (u : SourceUnit) (i : ℕ) → base_of u i ≡ None → (root_of u i ≡ i) × (family_offset u i ≡ 0)
+root_alone u zero e = (refl, refl)
+root_alone u (suc n) e =
+    (ap (λ o. elim o [ None ↦ suc n | Some b ↦ root_within n u b.0 ]) e, ap (λ o. elim o [ None ↦ 0 | Some b ↦ b.1 + offset_within n u b.0 ]) e)
+
+first-least : (b : Bool) (n m : ℕ) → (b ≡ true → n ≤ m) → cond b n 0 ≤ m
+first-least true n m h = h refl
+first-least false n m h = omega arith
+
+-- the extent is the least that holds the items of a family
+extent-least : (u : SourceUnit) (r m n : ℕ) (is : List Item) → ((k : ℕ) (i : Item) → slice_get is k ≡ Some i → root_of u (n + k) ≡ r → family_offset u (n + k) + i.words ≤ m) → extent_from n u r is ≤ m
+extent-least u r m n [] h = omega arith
+extent-least u r m n (i ∷ is) h =
+    let at : n + 0 ≡ n = omega arith in
+    let here : root_of u n ≡ r → family_offset u n + i.words ≤ m = λ e. subst (λ k. family_offset u k + i.words ≤ m) at (h 0 i refl (ap (root_of u) at ∙ e)) in
+    let first : cond (nat_eq (root_of u n) r) (family_offset u n + i.words) 0 ≤ m =
+    first-least (nat_eq (root_of u n) r) (family_offset u n + i.words) m (λ t. here (eqb-true (root_of u n) r t)) in
+    let rest : extent_from (n + 1) u r is ≤ m =
+    extent-least u r m (n + 1) is
+    (λ k j e f.
+    let there : n + suc k ≡ n + 1 + k = omega arith in
+    subst (λ x. family_offset u x + j.words ≤ m) there (h (suc k) j e (ap (root_of u) there ∙ f))) in
+    omega (arith, first, rest)
+
+pub least_extent : (u : SourceUnit) (r m : ℕ) → ((k : ℕ) (i : Item) → slice_get u.items k ≡ Some i → root_of u k ≡ r → family_offset u k + i.words ≤ m) → family_extent u r ≤ m
+least_extent u r m h =
+    extent-least u r m 0 u.items
+    (λ k i e f.
+    let at : k ≡ 0 + k = omega arith in
+    subst (λ x. family_offset u x + i.words ≤ m) at (h k i e (ap (root_of u) at ∙ f)))
+
+pub root_baseless : (u : SourceUnit) → IsStorable u → (i : ℕ) → base_of u (root_of u i) ≡ None
+root_baseless u h i = (root-within i u h i (omega arith)).0

@@ -1,8 +1,10 @@
 pub mod Activations
+pub mod Continuations
 pub mod Equality
 pub mod Equations
 pub mod Families
 pub mod FirstFit
+pub mod Memory
 pub mod Operations
 pub mod OwnSingles
 pub mod Placing

@@ -5,7 +5,7 @@ use Rattle.cw_unit.specs.declared.unit.Stmt.{Stmt, Row_of-Stmt, end_of-Stmt, mor
 use Rattle.cw_unit.specs.declared.unit.Stmt.TheVariants as stmt
 use Rattle.cw_unit.specs.declared.unit.Felem.{Felem}
 use Rattle.cw_unit.specs.declared.unit.Ref.{Ref}
-use Rattle.cw_unit.specs.Work.{Work, Run, On, loop_of}
+use Rattle.cw_unit.specs.Work.{Work, Run, On, loop_of, run_all}
 
 -- whether a statement behind these labels is that of this one
 abbrev pub has_label : ℕ → List ℕ → Bool
@@ -52,3 +52,8 @@ abbrev mutual
   pub mark_continuation : (label : ℕ) → List ℕ → {m : _} → Row_of-Stmt m → Work → Option Work
   mark_continuation l ls end_of-Stmt k = None
   mark_continuation l ls (more_of-Stmt s ss) k = work_if (has_label l ls) (Run s k) (label_continuation l s k)
+
+-- the same in a list of statements as a list
+abbrev pub list_continuation : (label : ℕ) → List Stmt → Work → Option Work
+list_continuation l [] k = None
+list_continuation l (s ∷ ss) k = first_work (label_continuation l s (run_all ss k)) (list_continuation l ss k)

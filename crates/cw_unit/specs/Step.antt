@@ -1,4 +1,4 @@
--- The steps of the source semantics, and what a run shows.
+-- The steps of the source semantics: one equation of `advance` for each kind of pending work.
 use Rattle.std.specs.Prelude.{ℕ, zero, suc, ◌+◌, ◌-◌, nat_lt, nat_le, ℤ, pos, negsuc, ◌-ℤ◌, List, [], ◌∷◌, ◌++◌, length, take, drop, set, Bool, true, false, Option, Some, None, slice_get}
 use Rattle.cw_word.specs.Decimal.{decimal_floor}
 use Rattle.cw_unit.specs.declared.unit.Unit.{Unit as SourceUnit}
@@ -345,7 +345,7 @@ module _ (p : Program) where
   abbrev pub element_step : Option Felem → (segment number : ℕ) → Loop → Work → List Activation → Words → Configuration
   element_step None s i c k acts w = at s k acts w Running
   element_step (Some e) s i c k acts w =
-      at s (element_work e (c.scale) i c k) acts
+      at s (element_work e i c k) acts
       (with_memory w (set w.memory (address_at p s acts c.item + 3) (pos i)))
       Running
 

@@ -1,4 +1,5 @@
--- Pending work, and what statements, expressions and conditions become.
+-- Pending work, and what statements, expressions, references and conditions become: the rows of the table of steps (docs/MEANING).
+-- Official Definition of CORAL 66, "Statements" and "Expressions".
 use Rattle.std.specs.Prelude.{ℕ, zero, suc, ◌+◌, max, pos, ◌-ℤ◌, List, [], ◌∷◌, Bool, true, false, Option, Some, None, slice_get}
 use Rattle.cw_unit.specs.declared.unit.Unit.{Unit as SourceUnit}
 use Rattle.cw_unit.specs.declared.unit.Stmt.{Stmt, Stmt-F}
@@ -27,22 +28,30 @@ pub record Loop : Type 0 where
   pub elements : List Felem
   pub body : Stmt
 
--- a work list: each constructor is its first work, and holds the work that follows it. A test holds the work that follows
--- where it holds and where it fails
+-- pending work: each constructor is its first work, and holds the work that follows it. Each that can stop has the line of its statement
 pub data Work : Type 0 where
+  -- the end of a segment's body
   Nothing : Work
+  -- a statement
   Run : Stmt → Work → Work
+  -- an expression at a context scale, and the address of a reference, whose indexes come first
   Eval : Expr → (scale line : ℕ) → Work → Work
   Address : Ref → (line : ℕ) → Work → Work
   FormAt : Spot → (line : ℕ) → Work → Work
+  -- an operation on words
   Do : Operation → (line : ℕ) → Work → Work
+  -- a condition, and a comparison of the two words in hand: each holds what follows where it holds and where it fails
   Test : Cond → (line : ℕ) → (pass fail : Work) → Work
   Choose : CompareOp → (line : ℕ) → (pass fail : Work) → Work
+  -- a jump, after the index of its switch, if it has one
   Jump : Dest → (line : ℕ) → Work
+  -- an argument, the entry of a call and whether its answer is wanted, the return with an answer and at the end of a body
   Give : Arg → (line : ℕ) → Work → Work
   Enter : Target → (line : ℕ) → (wanted : Bool) → Work → Work
   Return : Work
   Leave : Work
+  -- of a FOR: a word is kept in one of its loop words, the control variable is set, an element begins, a turn of a STEP element, its
+  -- step, and what comes after the body
   KeepAt : (word : ℕ) → Loop → Work → Work
   SetVar : Loop → Work → Work
   Element : (number : ℕ) → Loop → Work → Work
@@ -50,6 +59,7 @@ pub data Work : Type 0 where
   Bump : (number : ℕ) → Loop → Work → Work
   On : Loop → Work → Work
 
+-- the bits after the point of what a reference names
 abbrev pub scale_of : Ref → ℕ
 scale_of r = (out-Ref r).f
 
@@ -64,6 +74,7 @@ abbrev pub give_all : List Arg → (line : ℕ) → Work → Work
 give_all [] line k = k
 give_all (a ∷ args) line k = Give a line (give_all args line k)
 
+-- a jump's index, if it has one, and the jump
 abbrev pub go_work : Dest → Dest → (line : ℕ) → Work
 go_work d (dest.Goal g) line = Jump d line
 go_work d (dest.Special n) line = Jump d line
@@ -129,12 +140,12 @@ condition_work u (layer.Or c d) line pass fail = Test c line pass (Test d line p
 
 -- ---- FOR
 
--- what an element becomes, past the note of its number, for a control variable of this scale
-abbrev pub element_work : Felem → (scale number : ℕ) → Loop → Work → Work
-element_work (element.One e) f i c k = Eval e f c.line (SetVar c (Run c.body (On c k)))
-element_work (element.While e t) f i c k = Eval e f c.line (SetVar c (Test t c.line (Run c.body (On c k)) (Element (i + 1) c k)))
-element_work (element.Step a b d) f i c k =
-    Eval a f c.line (SetVar c (Eval b f c.line (KeepAt 1 c (Eval d f c.line (KeepAt 2 c (Turn i c k))))))
+-- what an element becomes, past the note of its number
+abbrev pub element_work : Felem → (number : ℕ) → Loop → Work → Work
+element_work (element.One e) i c k = Eval e c.scale c.line (SetVar c (Run c.body (On c k)))
+element_work (element.While e t) i c k = Eval e c.scale c.line (SetVar c (Test t c.line (Run c.body (On c k)) (Element (i + 1) c k)))
+element_work (element.Step a b d) i c k =
+    Eval a c.scale c.line (SetVar c (Eval b c.scale c.line (KeepAt 1 c (Eval d c.scale c.line (KeepAt 2 c (Turn i c k))))))
 
 -- what follows the body of an element
 abbrev pub next_work : Felem → (number : ℕ) → Loop → Work → Work

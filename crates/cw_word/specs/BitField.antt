@@ -1,5 +1,5 @@
 -- Bit fields of a word, seen as 0 to 65535: the field of t bits from bit b, where bit 0 is the least significant.
--- Official Definition of CORAL 66, "Part-word reference" and "Packed data".
+-- Official Definition of CORAL 66 and BS 5905, "Packed data".
 use Rattle.std.specs.Prelude.{◌≡◌, ℕ, ◌+◌, ◌-◌, ◌*◌, ◌/◌, ◌%◌, ◌^◌, ℤ, pos, ◌-ℤ◌, nat_lt, if◌then◌else◌}
 
 -- bits b to b + t - 1 of w

@@ -1,5 +1,5 @@
 -- Fixed-point arithmetic on exact whole numbers: a word w of scale f stands for w / 2 ^ f.
--- Official Definition of CORAL 66, "FIXED"; what is rounded, and which way, is this project's profile (docs/LANGUAGE).
+-- Official Definition of CORAL 66 and BS 5905, "Numeric types" and "Evaluation of expressions"; what is rounded, and which way, is this project's profile.
 use Rattle.std.specs.Prelude.{◌≡◌, ℕ, suc, ◌^◌, ◌<◌, ℤ, pos, negsuc, ◌+ℤ◌, ◌-ℤ◌, ◌*ℤ◌, ◌≤ℤ◌, ◌<ℤ◌, unsigned_abs, FitsSigned, int_div, Bool, nat_lt}
 use Rattle.std.specs.Int.{w16, int_div_euclid}
 

@@ -1,4 +1,5 @@
 use Rattle.cw_unit.proofs.OwnSingles.{own-layout, own-storage_map, own-valid}
+use Rattle.cw_unit.proofs.Memory.{own-address, own-memory}
 use Rattle.cw_unit.proofs.laws.own_singles.Goals as goal
 
 pub returns-clause-layout : goal.returns-clause-layout
@@ -9,3 +10,9 @@ returns-clause-map c u all = own-storage_map u all
 
 pub returns-clause-valid : goal.returns-clause-valid
 returns-clause-valid c u limits all h = own-valid u limits all h
+
+pub returns-clause-addresses : goal.returns-clause-addresses
+returns-clause-addresses c u limits n base all h = own-address u limits n base all h
+
+pub returns-clause-memory : goal.returns-clause-memory
+returns-clause-memory c u m area all = own-memory u m area all
