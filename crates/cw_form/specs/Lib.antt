@@ -1,0 +1,4 @@
+pub mod Items
+pub mod OwnSingles
+pub mod Segment
+pub mod Trees
