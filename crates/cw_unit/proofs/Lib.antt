@@ -1,2 +1,10 @@
+pub mod Activations
 pub mod Equality
 pub mod Equations
+pub mod Families
+pub mod FirstFit
+pub mod Operations
+pub mod OwnSingles
+pub mod Placing
+pub mod Steps
+pub mod ValidMap

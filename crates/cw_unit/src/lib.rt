@@ -2,6 +2,7 @@
 #![tactic(auto)]
 
 pub mod descriptor;
+pub mod laws;
 pub mod layout;
 pub mod same;
 pub mod scales;

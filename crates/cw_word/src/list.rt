@@ -1,4 +1,4 @@
-//! Lists that contracts see as lists.
+//! Vectors that contracts see as lists, also inside a type that leads back to itself.
 ghost use Rattle.std.specs.Prelude.{◌≡◌, [], ◌∷◌, ◌++◌, OnOk, OnErr};
 
 use std::alloc::{AllocError, Global};
@@ -26,7 +26,7 @@ impl<T> Model for List<T> {
 }
 
 impl<T> List<T> {
-    /// An empty list.
+    /// An empty list, which takes its memory from `alloc` as it grows.
     pub fn new(alloc: Global) -> Self
         ensures { result ≡ [] }
     {
@@ -35,7 +35,7 @@ impl<T> List<T> {
         }
     }
 
-    /// The list of the vector's items.
+    /// The list of the vector's items, taken over without a copy.
     pub fn of(items: Vec<T>) -> Self
         ensures { result ≡ items.items }
     {
@@ -51,7 +51,7 @@ impl<T> List<T> {
 }
 
 impl<T: Drop> List<T> {
-    /// Appends an item. On an error the list is unchanged and the item is dropped.
+    /// Appends an item, with the allocator that the list keeps. On an error the list is unchanged and the item is dropped.
     pub fn push(&mut self, item: T) -> Result<(), NoMemory>
         ensures ok { OnOk result (self.new ≡ self.old ++ item ∷ []) }
         ensures err { OnErr result (self.new ≡ self.old) }

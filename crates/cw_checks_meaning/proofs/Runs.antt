@@ -1,0 +1,35 @@
+-- The examples are computed: the trees open, and everything else is a definition that computes.
+use Rattle.std.specs.Prelude.{◌≡◌, refl, map}
+use Rattle.cw_unit.specs.declared.unit.Stmt.{Stmt, roll-Stmt}
+use Rattle.cw_unit.specs.declared.unit.Expr.{roll-Expr}
+use Rattle.cw_unit.specs.declared.unit.Arg.{Arg}
+use Rattle.cw_unit.specs.declared.unit.Spot.{roll-Spot}
+use Rattle.cw_checks_meaning.specs.Examples.{result_of, wanted_of, before_of, running_of, expressions, addresses, control, procedures, frame_area_full, several_segments, counted}
+
+pub expressions-run : map result_of expressions ≡ map wanted_of expressions
+unfolding Rattle.cw_unit.specs.declared.unit.Stmt.TheViews.out-Stmt denote.Hole.Carrier.out Rattle.cw_unit.specs.declared.unit.Stmt.TheViews.roll-Stmt denote.Hole.Carrier.roll Rattle.cw_unit.specs.declared.unit.Stmt.TheBlock.shown-the_row-Stmt-1 denote.Hole.Carrier.shown denote.Hole.Carrier.hidden Rattle.cw_unit.specs.declared.unit.Arg.TheViews.out-Expr Rattle.cw_unit.specs.declared.unit.Arg.TheViews.roll-Expr Rattle.cw_unit.specs.declared.unit.Arg.TheViews.out-Arg Rattle.cw_unit.specs.declared.unit.Arg.TheViews.roll-Arg Rattle.cw_unit.specs.declared.unit.Arg.TheViews.out-Spot Rattle.cw_unit.specs.declared.unit.Arg.TheViews.roll-Spot Rattle.cw_unit.specs.declared.unit.Arg.TheViews.out-Cond Rattle.cw_unit.specs.declared.unit.Arg.TheViews.roll-Cond Rattle.cw_unit.specs.declared.unit.Arg.TheBlock.shown-the_row-Expr-3
+expressions-run = refl
+
+pub addresses-run : map result_of addresses ≡ map wanted_of addresses
+unfolding Rattle.cw_unit.specs.declared.unit.Stmt.TheViews.out-Stmt denote.Hole.Carrier.out Rattle.cw_unit.specs.declared.unit.Stmt.TheViews.roll-Stmt denote.Hole.Carrier.roll Rattle.cw_unit.specs.declared.unit.Stmt.TheBlock.shown-the_row-Stmt-1 denote.Hole.Carrier.shown denote.Hole.Carrier.hidden Rattle.cw_unit.specs.declared.unit.Arg.TheViews.out-Expr Rattle.cw_unit.specs.declared.unit.Arg.TheViews.roll-Expr Rattle.cw_unit.specs.declared.unit.Arg.TheViews.out-Arg Rattle.cw_unit.specs.declared.unit.Arg.TheViews.roll-Arg Rattle.cw_unit.specs.declared.unit.Arg.TheViews.out-Spot Rattle.cw_unit.specs.declared.unit.Arg.TheViews.roll-Spot Rattle.cw_unit.specs.declared.unit.Arg.TheViews.out-Cond Rattle.cw_unit.specs.declared.unit.Arg.TheViews.roll-Cond Rattle.cw_unit.specs.declared.unit.Arg.TheBlock.shown-the_row-Expr-3
+addresses-run = refl
+
+pub control-run : map result_of control ≡ map wanted_of control
+unfolding Rattle.cw_unit.specs.declared.unit.Stmt.TheViews.out-Stmt denote.Hole.Carrier.out Rattle.cw_unit.specs.declared.unit.Stmt.TheViews.roll-Stmt denote.Hole.Carrier.roll Rattle.cw_unit.specs.declared.unit.Stmt.TheBlock.shown-the_row-Stmt-1 denote.Hole.Carrier.shown denote.Hole.Carrier.hidden Rattle.cw_unit.specs.declared.unit.Arg.TheViews.out-Expr Rattle.cw_unit.specs.declared.unit.Arg.TheViews.roll-Expr Rattle.cw_unit.specs.declared.unit.Arg.TheViews.out-Arg Rattle.cw_unit.specs.declared.unit.Arg.TheViews.roll-Arg Rattle.cw_unit.specs.declared.unit.Arg.TheViews.out-Spot Rattle.cw_unit.specs.declared.unit.Arg.TheViews.roll-Spot Rattle.cw_unit.specs.declared.unit.Arg.TheViews.out-Cond Rattle.cw_unit.specs.declared.unit.Arg.TheViews.roll-Cond Rattle.cw_unit.specs.declared.unit.Arg.TheBlock.shown-the_row-Expr-3
+control-run = refl
+
+pub procedures-run : map result_of procedures ≡ map wanted_of procedures
+unfolding Rattle.cw_unit.specs.declared.unit.Stmt.TheViews.out-Stmt denote.Hole.Carrier.out Rattle.cw_unit.specs.declared.unit.Stmt.TheViews.roll-Stmt denote.Hole.Carrier.roll Rattle.cw_unit.specs.declared.unit.Stmt.TheBlock.shown-the_row-Stmt-1 denote.Hole.Carrier.shown denote.Hole.Carrier.hidden Rattle.cw_unit.specs.declared.unit.Arg.TheViews.out-Expr Rattle.cw_unit.specs.declared.unit.Arg.TheViews.roll-Expr Rattle.cw_unit.specs.declared.unit.Arg.TheViews.out-Arg Rattle.cw_unit.specs.declared.unit.Arg.TheViews.roll-Arg Rattle.cw_unit.specs.declared.unit.Arg.TheViews.out-Spot Rattle.cw_unit.specs.declared.unit.Arg.TheViews.roll-Spot Rattle.cw_unit.specs.declared.unit.Arg.TheViews.out-Cond Rattle.cw_unit.specs.declared.unit.Arg.TheViews.roll-Cond Rattle.cw_unit.specs.declared.unit.Arg.TheBlock.shown-the_row-Expr-3
+procedures-run = refl
+
+pub frames-run : result_of frame_area_full ≡ wanted_of frame_area_full
+unfolding Rattle.cw_unit.specs.declared.unit.Stmt.TheViews.out-Stmt denote.Hole.Carrier.out Rattle.cw_unit.specs.declared.unit.Stmt.TheViews.roll-Stmt denote.Hole.Carrier.roll Rattle.cw_unit.specs.declared.unit.Stmt.TheBlock.shown-the_row-Stmt-1 denote.Hole.Carrier.shown denote.Hole.Carrier.hidden Rattle.cw_unit.specs.declared.unit.Arg.TheViews.out-Expr Rattle.cw_unit.specs.declared.unit.Arg.TheViews.roll-Expr Rattle.cw_unit.specs.declared.unit.Arg.TheViews.out-Arg Rattle.cw_unit.specs.declared.unit.Arg.TheViews.roll-Arg Rattle.cw_unit.specs.declared.unit.Arg.TheViews.out-Spot Rattle.cw_unit.specs.declared.unit.Arg.TheViews.roll-Spot Rattle.cw_unit.specs.declared.unit.Arg.TheViews.out-Cond Rattle.cw_unit.specs.declared.unit.Arg.TheViews.roll-Cond Rattle.cw_unit.specs.declared.unit.Arg.TheBlock.shown-the_row-Expr-3
+frames-run = refl
+
+pub segments-run : map result_of several_segments ≡ map wanted_of several_segments
+unfolding Rattle.cw_unit.specs.declared.unit.Stmt.TheViews.out-Stmt denote.Hole.Carrier.out Rattle.cw_unit.specs.declared.unit.Stmt.TheViews.roll-Stmt denote.Hole.Carrier.roll Rattle.cw_unit.specs.declared.unit.Stmt.TheBlock.shown-the_row-Stmt-1 denote.Hole.Carrier.shown denote.Hole.Carrier.hidden Rattle.cw_unit.specs.declared.unit.Arg.TheViews.out-Expr Rattle.cw_unit.specs.declared.unit.Arg.TheViews.roll-Expr Rattle.cw_unit.specs.declared.unit.Arg.TheViews.out-Arg Rattle.cw_unit.specs.declared.unit.Arg.TheViews.roll-Arg Rattle.cw_unit.specs.declared.unit.Arg.TheViews.out-Spot Rattle.cw_unit.specs.declared.unit.Arg.TheViews.roll-Spot Rattle.cw_unit.specs.declared.unit.Arg.TheViews.out-Cond Rattle.cw_unit.specs.declared.unit.Arg.TheViews.roll-Cond Rattle.cw_unit.specs.declared.unit.Arg.TheBlock.shown-the_row-Expr-3
+segments-run = refl
+
+pub counted-run : map before_of counted ≡ map running_of counted
+unfolding Rattle.cw_unit.specs.declared.unit.Stmt.TheViews.out-Stmt denote.Hole.Carrier.out Rattle.cw_unit.specs.declared.unit.Stmt.TheViews.roll-Stmt denote.Hole.Carrier.roll Rattle.cw_unit.specs.declared.unit.Stmt.TheBlock.shown-the_row-Stmt-1 denote.Hole.Carrier.shown denote.Hole.Carrier.hidden Rattle.cw_unit.specs.declared.unit.Arg.TheViews.out-Expr Rattle.cw_unit.specs.declared.unit.Arg.TheViews.roll-Expr Rattle.cw_unit.specs.declared.unit.Arg.TheViews.out-Arg Rattle.cw_unit.specs.declared.unit.Arg.TheViews.roll-Arg Rattle.cw_unit.specs.declared.unit.Arg.TheViews.out-Spot Rattle.cw_unit.specs.declared.unit.Arg.TheViews.roll-Spot Rattle.cw_unit.specs.declared.unit.Arg.TheViews.out-Cond Rattle.cw_unit.specs.declared.unit.Arg.TheViews.roll-Cond Rattle.cw_unit.specs.declared.unit.Arg.TheBlock.shown-the_row-Expr-3
+counted-run = refl
