@@ -1,3 +1,4 @@
+<<<<<<< HEAD
 //! stub
 #![tactic(auto)]
 ghost use Rattle.std.specs.Prelude.{◌≡◌, ◌≤◌, ℕ, [], IfOk, List, length, Some};
@@ -24,3 +25,13 @@ pub fn read_unit(alloc: Global, text: &[u8]) -> Result<Option<Unit>, NoMemory>
 pub fn own_singles()
     ensures { (text : List ℕ) (u : SourceUnit) → unit_of text ≡ Some u → All IsOwnSingle u.items × (length u.items ≤ 100) × (u.procs ≡ []) }
 {}
+=======
+//! The form of text that is compiled so far, and its reader. It goes when the lexer and the grammar come.
+#![tactic(auto)]
+
+pub mod laws;
+mod segment;
+mod token;
+
+pub use segment::read_unit;
+>>>>>>> ce8e5dc1ab9412e532ee0ea30aadd96b93972887

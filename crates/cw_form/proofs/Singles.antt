@@ -1,0 +1,88 @@
+-- The items of each unit of the form.
+use Rattle.std.proofs.Common.{◌≡◌, ℕ, ◌<◌, ◌≤◌, Bool, true, false, cond, not, ◌&&◌, nat_lt, List, [], ◌∷◌, ◌++◌, length, map, drop, take, get_or, codes, Option, Some, None, option_map, option_and_then, refl, subst, arith, length-append}
+use Rattle.std.specs.Prelude.{IfSome, All, nat_le}
+use Rattle.std.specs.List.{slice_split, list_any, prefix_len}
+use Rattle.std.proofs.lemmas.Bool.Decides.{nat_tests}
+use Rattle.std.proofs.lemmas.List.{length-map}
+use Rattle.std.proofs.lemmas.List.Elements.{All-map}
+use Rattle.cw_unit.specs.declared.unit.Unit.{Unit as SourceUnit}
+use Rattle.cw_form.specs.Items.{Item, items_of}
+use Rattle.cw_form.specs.Trees.{Name, own_single, unit}
+use Rattle.cw_form.specs.Segment.{is, same, is_name, is_new, name_of, add_name, steps, declare, each, statement_of, with_names, is_declaration, unit_of_pieces, before_end, named, segment_of, begins, library_line, unit_of_items, unit_of}
+use Rattle.cw_form.specs.OwnSingles.{IsOwnSingle, IsOwnSingles}
+use Rattle.cw_form.proofs.Numbers.{both}
+
+abbrev IsFine : SourceUnit → Type 0
+IsFine u = IsOwnSingles u × (length u.items ≤ 100)
+
+abbrev IsFew : List Name → Type 0
+IsFew names = length names ≤ 100
+
+when : {B : Type 0} (P : B → Type 0) (b : Bool) (x : Option B) → (b ≡ true → IfSome x P) → IfSome (cond b x None) P
+when P true x h = h refl
+when P false x h = tt
+
+after : {A B : Type 0} (P : B → Type 0) (Q : A → Type 0) (o : Option A) (f : A → Option B) → IfSome o Q → ((a : A) → Q a → IfSome (f a) P) → IfSome (option_and_then f o) P
+after P Q None f h k = tt
+after P Q (Some a) f h k = k a h
+
+any_some : {A : Type 0} (o : Option A) → IfSome o (λ _. Unit {0})
+any_some None = tt
+any_some (Some a) = tt
+
+room_of : (n : ℕ) → nat_lt n 100 ≡ true → n < 100
+room_of n e = grind (arith, nat_tests)
+
+few_more : (names : List Name) (item : Item) → (is_name item.text && is_new names item) ≡ true → IsFew (names ++ item.text ∷ [])
+few_more names item e =
+    let new = both (is_name item.text) (is_new names item) e in
+    let room = both (not (is (codes "WRITEBYTE") item)) (not (list_any (λ name. same name item.text) names) && nat_lt (length names) 100) new.1 in
+    let below = both (not (list_any (λ name. same name item.text) names)) (nat_lt (length names) 100) room.1 in
+    let lt : length names < 100 = room_of (length names) below.1 in
+    omega (arith, length-append names (item.text ∷ []))
+
+add_few : (names : List Name) (piece : List Item) → IsFew names → IfSome (add_name names piece) IsFew
+add_few names [] h = tt
+add_few names (item ∷ []) h = when IsFew (is_name item.text && is_new names item) (Some (names ++ item.text ∷ [])) (few_more names item)
+add_few names (item ∷ next ∷ items) h = tt
+
+steps_few : {X : Type 0} (f : List Name → X → Option (List Name)) → ((s : List Name) (x : X) → IsFew s → IfSome (f s x) IsFew) → (s : List Name) (xs : List X) → IsFew s → IfSome (steps f s xs) IsFew
+steps_few f keeps s [] h = h
+steps_few f keeps s (x ∷ xs) h = after IsFew IsFew (f s x) (λ t. steps f t xs) (keeps s x h) (λ t few. steps_few f keeps t xs few)
+
+declare_few : (names : List Name) (piece : List Item) → IsFew names → IfSome (declare names piece) IsFew
+declare_few names piece h = steps_few add_name add_few names (slice_split (is (codes ",")) (drop 1 piece)) h
+
+singles : (names : List Name) → All IsOwnSingle (map own_single names)
+singles names = All-map IsOwnSingle own_single names (λ k d h. (get_or names k d, refl))
+
+named_fine : (library : Bool) (name : Name) (tokens : ℕ) (pieces : List (List Item)) (names : List Name) → IsFew names → IfSome (with_names library name tokens pieces names) IsFine
+named_fine library name tokens pieces names few =
+    elim (each (statement_of library names) pieces) as (λ o. IfSome (option_map (unit name tokens (map own_single names)) o) IsFine)
+    [ None ↦ tt | Some body ↦ (singles names, omega (arith, few, length-map names own_single)) ]
+
+pieces_fine : (library : Bool) (name : Name) (tokens : ℕ) (pieces : List (List Item)) → IfSome (unit_of_pieces library name tokens pieces) IsFine
+pieces_fine library name tokens pieces =
+    let count = prefix_len is_declaration pieces in
+    when IsFine (nat_lt count (length pieces)) (option_and_then (with_names library name tokens (drop count pieces)) (steps declare [] (take count pieces)))
+    (λ _. after IsFine IsFew (steps declare [] (take count pieces)) (with_names library name tokens (drop count pieces))
+    (steps_few declare declare_few [] (take count pieces) (omega arith)) (λ names few. named_fine library name tokens (drop count pieces) names few))
+
+segment_fine : (library : Bool) (tokens : ℕ) (items : List Item) → IfSome (segment_of library tokens items) IsFine
+segment_fine library tokens [] = tt
+segment_fine library tokens (first ∷ []) = tt
+segment_fine library tokens (first ∷ second ∷ []) = tt
+segment_fine library tokens (first ∷ second ∷ third ∷ rest) =
+    when IsFine (is (codes "SEGMENT") first && is (codes "BEGIN") third) (option_and_then (named library tokens rest) (name_of second))
+    (λ _. after IsFine (λ _. Unit {0}) (name_of second) (named library tokens rest) (any_some (name_of second))
+    (λ name _. after IsFine (λ _. Unit {0}) (before_end rest) (λ body. unit_of_pieces library name tokens (slice_split (is (codes ";")) body)) (any_some (before_end rest))
+    (λ body _. pieces_fine library name tokens (slice_split (is (codes ";")) body))))
+
+items_fine : (items : List Item) → IfSome (unit_of_items items) IsFine
+items_fine items =
+    when IsFine (nat_le (length items) 2000) (cond (begins library_line items) (segment_of true (length items) (drop 10 items)) (segment_of false (length items) items))
+    (λ _. elim (begins library_line items) as (λ b. IfSome (cond b (segment_of true (length items) (drop 10 items)) (segment_of false (length items) items)) IsFine)
+    [ true ↦ segment_fine true (length items) (drop 10 items) | false ↦ segment_fine false (length items) items ])
+
+pub unit_fine : (text : List ℕ) (u : SourceUnit) → unit_of text ≡ Some u → IsFine u
+unit_fine text u e = subst (λ o. IfSome o IsFine) e (items_fine (items_of text))

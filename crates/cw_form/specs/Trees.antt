@@ -1,0 +1,75 @@
+-- The parts of a unit that sums need.
+use Rattle.std.specs.Prelude.{ℕ, List, [], ◌∷◌, Some, None}
+use Rattle.cw_unit.specs.declared.unit.Unit.{Unit as SourceUnit}
+use Rattle.cw_unit.specs.declared.unit.Item.{Item}
+use Rattle.cw_unit.specs.declared.unit.ItemKind.TheVariants as kind
+use Rattle.cw_unit.specs.declared.unit.Home.TheVariants as home
+use Rattle.cw_unit.specs.declared.unit.Stmt.{Stmt, roll-Stmt}
+use Rattle.cw_unit.specs.declared.unit.Stmt.TheOpen as statement
+use Rattle.cw_unit.specs.declared.unit.Target.TheVariants as target
+use Rattle.cw_unit.specs.declared.unit.Expr.{Expr, roll-Expr}
+use Rattle.cw_unit.specs.declared.unit.Arg.{Arg, roll-Arg}
+use Rattle.cw_unit.specs.declared.unit.Cond.{Cond}
+use Rattle.cw_unit.specs.declared.unit.Spot.{Spot, roll-Spot}
+use Rattle.cw_unit.specs.declared.unit.Ref.{Ref, roll-Ref}
+use Rattle.cw_unit.specs.declared.unit.Arg.TheOpen as layer
+use Rattle.cw_unit.specs.declared.unit.Arg.TheOpen.{Ref-F}
+
+abbrev pub Name : Type 0
+Name = List ℕ
+
+-- the number n
+abbrev pub number : ℕ → Expr
+number n = roll-Expr (layer.Num (record { whole = n; digits = 0; places = 0 }))
+
+abbrev pub direct_layer : ℕ → Ref-F Arg Cond Expr Spot Ref
+direct_layer i = record { «at» = roll-Spot (layer.Direct i); f = 0; field = None }
+
+-- the word of item i
+abbrev pub direct : ℕ → Ref
+direct i = roll-Ref (direct_layer i)
+
+abbrev pub read : ℕ → Expr
+read i = roll-Expr (layer.Read (direct i))
+
+abbrev pub sum : Expr → Expr → Expr
+sum a b = roll-Expr (layer.Sum a b)
+
+-- item i becomes e
+abbrev pub assign : (line i : ℕ) → Expr → Stmt
+assign line i e = roll-Stmt (statement.Put line (direct i) e)
+
+-- WRITEBYTE(e)
+abbrev pub write : (line : ℕ) → Expr → Stmt
+write line e = roll-Stmt (statement.Call line target.Write (roll-Arg (layer.Value e 0) ∷ []))
+
+abbrev pub row : List Stmt → Stmt
+row ss = roll-Stmt (statement.Seq ss)
+
+-- one word of the segment's own, of 16 bits and no fraction
+abbrev pub own_single : Name → Item
+own_single name =
+    record {
+      name = Some name;
+      owner = None;
+      line = 0;
+      kind = kind.Single;
+      home = home.Own;
+      words = 1;
+      scale = record { t = 16; f = 0 };
+      presets = [];
+    }
+
+abbrev pub unit : Name → (tokens : ℕ) → List Item → List Stmt → SourceUnit
+unit name tokens items body =
+    record {
+      name = name;
+      tokens = tokens;
+      descs = [];
+      items = items;
+      procs = [];
+      labels = [];
+      switches = [];
+      defined = [];
+      body = row body;
+    }
