@@ -13,12 +13,15 @@ pub down_factor-pos : (s : ℤ) → 0 < down_factor s
 down_factor-pos (pos n) = omega arith
 down_factor-pos (negsuc n) = pow_pos (suc n)
 
+pub times-none : (x : ℤ) → x *ℤ pos (2 ^ 0) ≡ x
+times-none x = times_one x
+
+pub floor_div-none : (x : ℤ) → floor_div x (2 ^ 0) ≡ x
+floor_div-none (pos a) = omega (arith, ints)
+floor_div-none (negsuc a) = omega (arith, ints)
+
 pub floor_scaled-up : (x : ℤ) (n : ℕ) → floor_scaled x (pos n) ≡ x *ℤ pos (2 ^ n)
-floor_scaled-up x n = one (x *ℤ pos (2 ^ n))
-  where
-    one : (z : ℤ) → floor_div z 1 ≡ z
-    one (pos a) = omega (arith, ints)
-    one (negsuc a) = omega (arith, ints)
+floor_scaled-up x n = floor_div-none (x *ℤ pos (2 ^ n))
 
 pub floor_scaled-down : (x : ℤ) (n : ℕ) → floor_scaled x (negsuc n) ≡ floor_div x (2 ^ suc n)
 floor_scaled-down x n = ap (λ z. floor_div z (2 ^ suc n)) (times_one x)
@@ -101,6 +104,6 @@ module _ (a b : ℕ) (ha : a < 65536) (hb : b < 65536) where
           let f : y * m ≡ m * y = omega arith in
           ap₂ (λ p q. p / q) e f ∙ sym (div-div-eq-div-mul x m y)
 
-pub ruleset scaling = (down_factor-pos, floor_scaled-up, floor_scaled-down, floor_div-halved, times-doubled, doubled-no_word)
+pub ruleset scaling = (down_factor-pos, floor_scaled-up, floor_scaled-down, times-none, floor_div-none, floor_div-halved, times-doubled, doubled-no_word)
 
 pub ruleset magnitudes = (quotient-up, quotient-down, magnitude-is, negative_if-fits, negative_if-word, pair-divides)
