@@ -11,19 +11,11 @@ use Rattle.cw_cpu86.proofs.Told.{FitsInput-parts}
 
 -- ---- a step
 
-<<<<<<< HEAD
--- bytes begin with one instruction
-abbrev OneFront : Type 0
-OneFront = (bytes : List ℕ) (i j : Instr) → IsInstr i → IsInstr j → BeginsWith bytes i → BeginsWith bytes j → i ≡ j
-
-same_instr : OneFront → (s : State) (i j : Instr) → Stands s i → Stands s j → i ≡ j
-=======
 -- bytes begin with at most one instruction
 abbrev OneInstr : Type 0
 OneInstr = (bytes : List ℕ) (i j : Instr) → IsInstr i → IsInstr j → BeginsWith bytes i → BeginsWith bytes j → i ≡ j
 
 same_instr : OneInstr → (s : State) (i j : Instr) → Stands s i → Stands s j → i ≡ j
->>>>>>> b5daaf3fc7d1d429225c18f84ab33ca4e5a12d6e
 same_instr one s i j a b = one (code_at s) i j a.0 b.0 a.1 b.1
 
 does_same : (i : Instr) (s : State) (o p : Outcome) → Does i s o → Does i s p → TakeAlike o p → o ≡ p
@@ -36,11 +28,7 @@ does_same (Out port) s o p a b alike = a ∙ sym b
 does_same Hlt s o p a b alike = a ∙ sym b
 does_same i s o p a b alike = a ∙ sym b
 
-<<<<<<< HEAD
-pub steps_same : OneFront → (s : State) (o p : Outcome) → Steps s o → Steps s p → TakeAlike o p → o ≡ p
-=======
 pub steps_same : OneInstr → (s : State) (o p : Outcome) → Steps s o → Steps s p → TakeAlike o p → o ≡ p
->>>>>>> b5daaf3fc7d1d429225c18f84ab33ca4e5a12d6e
 steps_same one s o p (inl (i, a, does)) (inl (j, b, also)) alike =
     let same = same_instr one s i j a b in
     does_same i (past s (length (bytes_of i))) o p does (subst (λ k. Does k (past s (length (bytes_of k))) p) (sym same) also) alike
@@ -58,11 +46,7 @@ alike_here input (Takes port value) (Gives other given) t u fits also = tt
 alike_here input Silent b t u fits also = tt
 alike_here input (Gives port value) b t u fits also = tt
 
-<<<<<<< HEAD
-pub runs_same : OneFront → (n : ℕ) (s : State) (input : List ℕ) (a b : List Event) (t u : State)
-=======
 pub runs_same : OneInstr → (n : ℕ) (s : State) (input : List ℕ) (a b : List Event) (t u : State)
->>>>>>> b5daaf3fc7d1d429225c18f84ab33ca4e5a12d6e
     → Runs n s a t → Runs n s b u → FitsInput input a → FitsInput input b → (a ≡ b) × (t ≡ u)
 runs_same one zero s input a b t u ra rb fa fb = (ra.0 ∙ sym rb.0, ra.1 ∙ sym rb.1)
 runs_same one (suc n) s input a b t u (v, a0, x, ra, sa, ea) (w, b0, y, rb, sb, eb) fa fb =
@@ -105,20 +89,12 @@ Over t events end =
     ⊎ (Steps t Undefined × (end ≡ Bad t.instruction_pointer))
     ⊎ (Steps t Divides × (end ≡ Divided t.instruction_pointer))
 
-<<<<<<< HEAD
-over_goes_on : OneFront → (t : State) (events : List Event) (end : End) (u : State) (event : Event) → Over t events end → Steps t (GoesOn u event) → ⊥
-=======
 over_goes_on : OneInstr → (t : State) (events : List Event) (end : End) (u : State) (event : Event) → Over t events end → Steps t (GoesOn u event) → ⊥
->>>>>>> b5daaf3fc7d1d429225c18f84ab33ca4e5a12d6e
 over_goes_on one t events end u event (inl (v, steps, is)) on = let same = steps_same one t (Halts v) (GoesOn u event) steps on tt in cc
 over_goes_on one t events end u event (inr (inl (steps, is))) on = let same = steps_same one t Undefined (GoesOn u event) steps on tt in cc
 over_goes_on one t events end u event (inr (inr (steps, is))) on = let same = steps_same one t Divides (GoesOn u event) steps on tt in cc
 
-<<<<<<< HEAD
-over_same : OneFront → (t : State) (events : List Event) (a b : End) → Over t events a → Over t events b → a ≡ b
-=======
 over_same : OneInstr → (t : State) (events : List Event) (a b : End) → Over t events a → Over t events b → a ≡ b
->>>>>>> b5daaf3fc7d1d429225c18f84ab33ca4e5a12d6e
 over_same one t events a b (inl (u, sa, ea)) (inl (v, sb, eb)) = ea ∙ sym eb
 over_same one t events a b (inl (u, sa, ea)) (inr (inl (sb, eb))) = let same = steps_same one t (Halts u) Undefined sa sb tt in cc
 over_same one t events a b (inl (u, sa, ea)) (inr (inr (sb, eb))) = let same = steps_same one t (Halts u) Divides sa sb tt in cc
@@ -130,22 +106,14 @@ over_same one t events a b (inr (inr (sa, ea))) (inr (inl (sb, eb))) = let same 
 over_same one t events a b (inr (inr (sa, ea))) (inr (inr (sb, eb))) = ea ∙ sym eb
 
 -- a machine that is over at k is not at work after more steps
-<<<<<<< HEAD
-over_before : OneFront → (k n : ℕ) → k < n → (s : State) (input : List ℕ) (a b : List Event) (t u : State) (end : End)
-=======
 over_before : OneInstr → (k n : ℕ) → k < n → (s : State) (input : List ℕ) (a b : List Event) (t u : State) (end : End)
->>>>>>> b5daaf3fc7d1d429225c18f84ab33ca4e5a12d6e
     → Runs k s a t → FitsInput input a → Over t a end → Runs n s b u → FitsInput input b → ⊥
 over_before one k n less s input a b t u end ra fa over rb fb =
     let part = shorter n k less s input b u rb fb in
     let same = runs_same one k s input a part.events t part.state ra part.runs fa part.fits in
     over_goes_on one t a end part.after part.event over (subst (λ z. Steps z (GoesOn part.after part.event)) (sym same.1) part.steps)
 
-<<<<<<< HEAD
-ends_same : OneFront → (s : State) (input : List ℕ) (n : ℕ) (a b : List Event) (x y : End)
-=======
 ends_same : OneInstr → (s : State) (input : List ℕ) (n : ℕ) (a b : List Event) (x y : End)
->>>>>>> b5daaf3fc7d1d429225c18f84ab33ca4e5a12d6e
     → FitsInput input a → FitsInput input b → IsAtWork s n a x ⊎ IsOver s n a x → IsAtWork s n b y ⊎ IsOver s n b y → (a ≡ b) × (x ≡ y)
 ends_same one s input n a b x y fa fb (inl (t, ra, ea)) (inl (u, rb, eb)) =
     ((runs_same one n s input a b t u ra rb fa fb).0, ea ∙ sym eb)
@@ -162,11 +130,7 @@ ends_same one s input n a b x y fa fb (inr (k, t, less, ra, over)) (inr (m, u, f
       | inr (inr gt) ↦ absurd (over_before one m k gt s input b a u t y rb fb also ra fa)
     ]
 
-<<<<<<< HEAD
-pub shows_same : OneFront → (s : State) (input : List ℕ) (n : ℕ) (a b : Observed) → Shows s input n a → Shows s input n b → a ≡ b
-=======
 pub shows_same : OneInstr → (s : State) (input : List ℕ) (n : ℕ) (a b : Observed) → Shows s input n a → Shows s input n b → a ≡ b
->>>>>>> b5daaf3fc7d1d429225c18f84ab33ca4e5a12d6e
 shows_same one s input n a b p q =
     let same = ends_same one s input n p.events q.events a.end b.end p.fits q.fits p.end q.end in
     let outputs : a.output ≡ b.output = p.output ∙ ap written same.0 ∙ sym q.output in

@@ -1,9 +1,3 @@
-<<<<<<< HEAD
-use Rattle.std.specs.Prelude.{ℕ, List, Option, None}
-use Rattle.cw_unit.specs.declared.unit.Unit.{Unit as SourceUnit}
-unfoldable pub unit_of : List ℕ → Option SourceUnit
-unit_of text = None
-=======
 -- Segments of sums, and their units.
 use Rattle.std.specs.Prelude.{ℕ, ◌-◌, ◌==◌, Bool, true, false, not, ◌&&◌, ◌||◌, List, [], ◌∷◌, ◌++◌, map, length, take, drop, Option, Some, None, option_map, option_and_then, nat_eq, nat_le, nat_lt, codes, slice_get, if◌then◌else◌}
 use Rattle.std.specs.List.{prefix_len, position, slice_split, list_all, list_any}
@@ -180,4 +174,3 @@ unit_of_items items =
 -- the unit of a text, if it is of the form
 abbrev pub unit_of : List ℕ → Option SourceUnit
 unit_of text = unit_of_items (items_of text)
->>>>>>> ce8e5dc1ab9412e532ee0ea30aadd96b93972887
