@@ -6,14 +6,14 @@ use Rattle.std.proofs.lemmas.Bool.Decides.{nat_tests}
 use Rattle.std.proofs.lemmas.List.{length-map}
 use Rattle.std.proofs.lemmas.List.Elements.{All-map}
 use Rattle.cw_unit.specs.declared.unit.Unit.{Unit as SourceUnit}
+use Rattle.cw_unit.specs.OwnSingles.{IsOwnSingle}
 use Rattle.cw_form.specs.Items.{Item, items_of}
 use Rattle.cw_form.specs.Trees.{Name, own_single, unit}
 use Rattle.cw_form.specs.Segment.{is, same, is_name, is_new, name_of, add_name, steps, declare, each, statement_of, with_names, is_declaration, unit_of_pieces, before_end, named, segment_of, begins, library_line, unit_of_items, unit_of}
-use Rattle.cw_form.specs.OwnSingles.{IsOwnSingle, IsOwnSingles}
 use Rattle.cw_form.proofs.Numbers.{both}
 
 abbrev IsFine : SourceUnit → Type 0
-IsFine u = IsOwnSingles u × (length u.items ≤ 100)
+IsFine u = All IsOwnSingle u.items × (length u.items ≤ 100) × (u.procs ≡ [])
 
 abbrev IsFew : List Name → Type 0
 IsFew names = length names ≤ 100
@@ -54,12 +54,12 @@ declare_few : (names : List Name) (piece : List Item) → IsFew names → IfSome
 declare_few names piece h = steps_few add_name add_few names (slice_split (is (codes ",")) (drop 1 piece)) h
 
 singles : (names : List Name) → All IsOwnSingle (map own_single names)
-singles names = All-map IsOwnSingle own_single names (λ k d h. (get_or names k d, refl))
+singles names = All-map IsOwnSingle own_single names (λ k d h. record { own = refl; single = refl; unfilled = refl })
 
 named_fine : (library : Bool) (name : Name) (tokens : ℕ) (pieces : List (List Item)) (names : List Name) → IsFew names → IfSome (with_names library name tokens pieces names) IsFine
 named_fine library name tokens pieces names few =
     elim (each (statement_of library names) pieces) as (λ o. IfSome (option_map (unit name tokens (map own_single names)) o) IsFine)
-    [ None ↦ tt | Some body ↦ (singles names, omega (arith, few, length-map names own_single)) ]
+    [ None ↦ tt | Some body ↦ (singles names, omega (arith, few, length-map names own_single), refl) ]
 
 pieces_fine : (library : Bool) (name : Name) (tokens : ℕ) (pieces : List (List Item)) → IfSome (unit_of_pieces library name tokens pieces) IsFine
 pieces_fine library name tokens pieces =

@@ -1,4 +1,3 @@
 pub mod Items
-pub mod OwnSingles
 pub mod Segment
 pub mod Trees

@@ -13,6 +13,8 @@ use Rattle.cw_io.specs.Bytes.{after_told}
 use Rattle.cw_top.specs.declared.status.Status.{Status}
 use Rattle.cw_top.specs.declared.status.Status.TheVariants.{Ended, Usage, Refused, Unlinked, Stopped, Unfinished, NoFile, Outside, NoMemory, TooLong, BadCode, Divided}
 use Rattle.cw_top.specs.declared.status.Which.TheVariants.{Store, Out, Say}
+use Rattle.cw_top.specs.declared.status.LinkFault.TheVariants.{DataTooBig, CodeTooBig}
+use Rattle.cw_top.specs.declared.status.Long.TheVariants.{File}
 
 -- a run of the image
 pub run_causes : (words : List (List ℕ)) (file : Told) (f a : ℕ) (u : SourceUnit) (s : State) (old new : Option (List ℕ)) (n m k l : ℕ) (status : Status)
@@ -62,3 +64,28 @@ pub map_is : (u : SourceUnit) (l : Layout) (addresses : List ℕ) (limits : Limi
 unfolding map_text
 map_is u l addresses limits l-is a-is limits-is =
     ap (λ x. listing u x addresses limits) l-is ∙ ap (λ x. listing u (layout_of u) x limits) a-is ∙ ap (λ x. listing u (layout_of u) (addresses_of u) x) limits-is
+
+-- The cause of a status stands when the closing line is written.
+pub closing_causes : (words : List (List ℕ)) (file : Told) (before : Outer) (f a : ℕ) (out : Option (List ℕ)) (n m l : ℕ) (status : Status)
+    → Causes words file before (outer f a out n m) status → m ≤ l → (status ≡ Ended → l ≡ m) → Causes words file before (outer f a out n l) status
+closing_causes words file before f a out n m l Ended (command, ran) later quiet =
+    (command, record { unit = ran.unit; compiles = ran.compiles; shown = ran.shown; shows = ran.shows; tells = ran.tells; output = ran.output; no_store_fault = ran.no_store_fault; no_absence = ran.no_absence; no_out_fault = ran.no_out_fault; no_say_fault = λ e. quiet e ∙ ran.no_say_fault e })
+closing_causes words file before f a out n m l (Stopped kind segment line) (command, ran) later quiet =
+    (command, record { unit = ran.unit; compiles = ran.compiles; shown = ran.shown; shows = ran.shows; tells = ran.tells; output = ran.output; no_store_fault = ran.no_store_fault; no_absence = ran.no_absence; no_out_fault = ran.no_out_fault; no_say_fault = λ e. cc })
+closing_causes words file before f a out n m l (Unfinished steps) (command, ran) later quiet =
+    (command, record { unit = ran.unit; compiles = ran.compiles; shown = ran.shown; shows = ran.shows; tells = ran.tells; output = ran.output; no_store_fault = ran.no_store_fault; no_absence = ran.no_absence; no_out_fault = ran.no_out_fault; no_say_fault = λ e. cc })
+closing_causes words file before f a out n m l (BadCode offset) (command, ran) later quiet =
+    (command, record { unit = ran.unit; compiles = ran.compiles; shown = ran.shown; shows = ran.shows; tells = ran.tells; output = ran.output; no_store_fault = ran.no_store_fault; no_absence = ran.no_absence; no_out_fault = ran.no_out_fault; no_say_fault = λ e. cc })
+closing_causes words file before f a out n m l (Divided offset) (command, ran) later quiet =
+    (command, record { unit = ran.unit; compiles = ran.compiles; shown = ran.shown; shows = ran.shows; tells = ran.tells; output = ran.output; no_store_fault = ran.no_store_fault; no_absence = ran.no_absence; no_out_fault = ran.no_out_fault; no_say_fault = λ e. cc })
+closing_causes words file before f a out n m l (Outside Out) (command, failed) later quiet =
+    (command, record { unit = failed.unit; compiles = failed.compiles; steps = failed.steps; within = failed.within; shown = failed.shown; shows = failed.shows; output = failed.output; cause = failed.cause })
+closing_causes words file before f a out n m l (Outside Store) cause later quiet = cause
+closing_causes words file before f a out n m l (Outside Say) (command, rose, same) later quiet = (command, omega (arith, rose, later), same)
+closing_causes words file before f a out n m l Usage cause later quiet = cause
+closing_causes words file before f a out n m l (Refused number fault) cause later quiet = cause
+closing_causes words file before f a out n m l (Unlinked (DataTooBig need)) cause later quiet = cause
+closing_causes words file before f a out n m l (Unlinked (CodeTooBig bytes)) cause later quiet = cause
+closing_causes words file before f a out n m l (NoFile number) cause later quiet = cause
+closing_causes words file before f a out n m l NoMemory cause later quiet = cause
+closing_causes words file before f a out n m l (TooLong (File number)) cause later quiet = cause

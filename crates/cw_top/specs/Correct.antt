@@ -9,6 +9,7 @@ use Rattle.cw_unit.specs.declared.unit.Unit.{Unit as SourceUnit}
 use Rattle.cw_unit.specs.declared.layout.Limits.{Limits}
 use Rattle.cw_unit.specs.Storage.{layout_of}
 use Rattle.cw_unit.specs.Allocation.{storage_map}
+use Rattle.cw_unit.specs.ValidStorage.{ValidStorageMap}
 use Rattle.cw_gen.specs.ReferenceOrders.{unit_orders}
 use Rattle.cw_tmpl.specs.ReferenceCode.{orders_code}
 use Rattle.cw_form.specs.Segment.{unit_of}
@@ -175,3 +176,7 @@ SaysFirst file old new status segment = (first : List ℕ) × IsFirstPart file s
 abbrev pub outer : (store_faults absences : ℕ) → (out : Option (List ℕ)) → (out_faults say_faults : ℕ) → Outer
 outer store_faults absences out out_faults say_faults =
     record { store_faults = store_faults; absences = absences; out = out; out_faults = out_faults; say_faults = say_faults }
+
+-- the storage map of each unit of the file is valid
+abbrev pub CompilesValid : (file : Told) → Type 0
+CompilesValid file = (u : SourceUnit) → Compiles file u → ValidStorageMap (u ∷ []) default_limits (storage_map (u ∷ []))

@@ -6,12 +6,13 @@ ghost use Rattle.cw_io.specs.File.{Told, Is, AllStay};
 ghost use Rattle.cw_top.specs.Closing.{file_name};
 ghost use Rattle.cw_top.specs.Correct.{IsCommand, Compiles, Causes, SaysFirst, outer};
 
-use crate::building::{Built, build, default_limits};
+use crate::building::{build, default_limits};
 use crate::command::file_of;
 use crate::listing::write_listing;
 use crate::running::run_image;
 use crate::status::{LinkFault, Long, Refused, Status, Which};
 use cw_cpu86::Cpu;
+use cw_form::laws::own_singles;
 use cw_form::read_unit;
 use cw_io::{FileFault, Sink, Store, read_file};
 use cw_unit::unit::Unit;
@@ -29,6 +30,19 @@ const CODE_LIMIT: usize = 65_536;
 pub(crate) struct Answer {
     pub(crate) status: Status,
     pub(crate) segment: Option<Name>,
+}
+
+impl Answer {
+    // An answer without a segment.
+    fn of(status: Status) -> Answer
+        ensures status { result.status ≡ status }
+        ensures segment { result.segment ≡ None }
+    {
+        Answer {
+            status,
+            segment: None,
+        }
+    }
 }
 
 // Builds a unit, writes its storage map and runs its image.
@@ -56,4 +70,50 @@ fn run_unit<O: Sink, S: Sink>(alloc: Global, unit: &Unit, out: &mut O, say: &mut
         return Status::Outside(Which::Say);
     }
     run_image(&mut cpu, out)
+}
+
+// Compiles a text and runs it.
+fn run_text<O: Sink, S: Sink>(alloc: Global, text: &[u8], out: &mut O, say: &mut S) -> Answer
+    requires within { length text.now ≤ 1048576 }
+    ensures causes { (words : List (List ℕ)) (file : Told) (f a : ℕ) → IsCommand words → Is file text.now → Causes words file (outer f a (O.held out.old) (O.faults out.old) (S.faults say.old)) (outer f a (O.held out.new) (O.faults out.new) (S.faults say.new)) result.status }
+    ensures says { (file : Told) → Is file text.now → SaysFirst file (S.held say.old) (S.held say.new) result.status result.segment }
+    ensures later { S.faults say.old ≤ S.faults say.new }
+{
+    own_singles();
+    match read_unit(alloc, text) {
+        Ok(Some(unit)) => Answer {
+            status: run_unit(alloc, &unit, out, say),
+            segment: Some(unit.name),
+        },
+        Ok(None) => Answer::of(Status::Refused {
+            file: 0,
+            fault: Refused::NotBuilt,
+        }),
+        Err(_) => Answer::of(Status::NoMemory),
+    }
+}
+
+/// The action `go`, but for the closing line.
+pub(crate) fn go<F: Store, O: Sink, S: Sink>(
+    alloc: Global,
+    words: &[String],
+    files: &mut F,
+    out: &mut O,
+    say: &mut S,
+) -> Answer
+    ensures causes { Causes (map string_bytes words.now) (F.file files.old (file_name (map string_bytes words.now) 0)) (outer (F.faults files.old) (F.absences files.old) (O.held out.old) (O.faults out.old) (S.faults say.old)) (outer (F.faults files.new) (F.absences files.new) (O.held out.new) (O.faults out.new) (S.faults say.new)) result.status }
+    ensures says { SaysFirst (F.file files.old (file_name (map string_bytes words.now) 0)) (S.held say.old) (S.held say.new) result.status result.segment }
+    ensures later { S.faults say.old ≤ S.faults say.new }
+    ensures files_stay { AllStay (F.file files.old) (F.file files.new) }
+{
+    let Some(name) = file_of(words) else {
+        return Answer::of(Status::Usage);
+    };
+    match read_file(alloc, files, name, TEXT_LIMIT) {
+        Ok(text) => run_text(alloc, text.as_slice(), out, say),
+        Err(FileFault::Missing) => Answer::of(Status::NoFile { file: 0 }),
+        Err(FileFault::Failed) => Answer::of(Status::Outside(Which::Store)),
+        Err(FileFault::TooLong) => Answer::of(Status::TooLong(Long::File(0))),
+        Err(FileFault::NoMemory) => Answer::of(Status::NoMemory),
+    }
 }

@@ -12,5 +12,7 @@ mod running;
 mod say;
 mod status;
 mod storage;
+mod top;
 
 pub use status::{LinkFault, Long, Refused, Status, Which};
+pub use top::coral66;
