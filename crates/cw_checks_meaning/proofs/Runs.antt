@@ -4,6 +4,7 @@ use Rattle.cw_unit.specs.declared.unit.Stmt.{Stmt, roll-Stmt}
 use Rattle.cw_unit.specs.declared.unit.Expr.{roll-Expr}
 use Rattle.cw_unit.specs.declared.unit.Arg.{Arg}
 use Rattle.cw_unit.specs.declared.unit.Spot.{roll-Spot}
+use Rattle.cw_checks_meaning.specs.MoreExamples.{more_examples}
 use Rattle.cw_checks_meaning.specs.Examples.{result_of, wanted_of, before_of, running_of, expressions, addresses, control, procedures, frame_area_full, several_segments, counted}
 
 pub expressions-run : map result_of expressions ≡ map wanted_of expressions
@@ -33,3 +34,7 @@ segments-run = refl
 pub counted-run : map before_of counted ≡ map running_of counted
 unfolding Rattle.cw_unit.specs.declared.unit.Stmt.TheViews.out-Stmt denote.Hole.Carrier.out Rattle.cw_unit.specs.declared.unit.Stmt.TheViews.roll-Stmt denote.Hole.Carrier.roll Rattle.cw_unit.specs.declared.unit.Stmt.TheBlock.shown-the_row-Stmt-1 denote.Hole.Carrier.shown denote.Hole.Carrier.hidden Rattle.cw_unit.specs.declared.unit.Arg.TheViews.out-Expr Rattle.cw_unit.specs.declared.unit.Arg.TheViews.roll-Expr Rattle.cw_unit.specs.declared.unit.Arg.TheViews.out-Arg Rattle.cw_unit.specs.declared.unit.Arg.TheViews.roll-Arg Rattle.cw_unit.specs.declared.unit.Arg.TheViews.out-Spot Rattle.cw_unit.specs.declared.unit.Arg.TheViews.roll-Spot Rattle.cw_unit.specs.declared.unit.Arg.TheViews.out-Cond Rattle.cw_unit.specs.declared.unit.Arg.TheViews.roll-Cond Rattle.cw_unit.specs.declared.unit.Arg.TheBlock.shown-the_row-Expr-3
 counted-run = refl
+
+pub more-run : map result_of more_examples ≡ map wanted_of more_examples
+unfolding Rattle.cw_unit.specs.declared.unit.Stmt.TheViews.out-Stmt denote.Hole.Carrier.out Rattle.cw_unit.specs.declared.unit.Stmt.TheViews.roll-Stmt denote.Hole.Carrier.roll Rattle.cw_unit.specs.declared.unit.Stmt.TheBlock.shown-the_row-Stmt-1 denote.Hole.Carrier.shown denote.Hole.Carrier.hidden Rattle.cw_unit.specs.declared.unit.Arg.TheViews.out-Expr Rattle.cw_unit.specs.declared.unit.Arg.TheViews.roll-Expr Rattle.cw_unit.specs.declared.unit.Arg.TheViews.out-Arg Rattle.cw_unit.specs.declared.unit.Arg.TheViews.roll-Arg Rattle.cw_unit.specs.declared.unit.Arg.TheViews.out-Spot Rattle.cw_unit.specs.declared.unit.Arg.TheViews.roll-Spot Rattle.cw_unit.specs.declared.unit.Arg.TheViews.out-Cond Rattle.cw_unit.specs.declared.unit.Arg.TheViews.roll-Cond Rattle.cw_unit.specs.declared.unit.Arg.TheBlock.shown-the_row-Expr-3
+more-run = refl

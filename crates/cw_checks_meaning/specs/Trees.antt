@@ -20,6 +20,7 @@ use Rattle.cw_unit.specs.declared.unit.Felem.{Felem}
 use Rattle.cw_unit.specs.declared.unit.Dest.{Dest}
 use Rattle.cw_unit.specs.declared.unit.Dest.TheVariants as dest
 use Rattle.cw_unit.specs.declared.unit.CompareOp.{CompareOp}
+use Rattle.cw_unit.specs.declared.unit.LogicOp.{LogicOp}
 use Rattle.cw_unit.specs.declared.unit.Target.{Target}
 use Rattle.cw_unit.specs.declared.unit.Target.TheVariants as target
 use Rattle.cw_unit.specs.declared.unit.Expr.{Expr, roll-Expr}
@@ -65,6 +66,9 @@ entry_word i t n q e = ref_to (roll-Spot (layer.Elem i t n q e))
 abbrev pub entry_part : (item : ℕ) → (unsigned : Bool) → (t b : ℕ) → Expr → Ref
 entry_part i u t b e = roll-Ref (ref_layer (roll-Spot (layer.Elem i false 1 0 e)) 0 (Some (record { t = t; b = b; unsigned = u })))
 
+abbrev pub element_2 : (item : ℕ) → (lower lower2 : ℤ) → (width : ℕ) → Expr → Expr → Ref
+element_2 i l m n e g = ref_to (roll-Spot (layer.Two i l m n e g))
+
 abbrev pub bare : Expr → Ref
 bare e = ref_to (roll-Spot (layer.Bare e))
 
@@ -90,6 +94,12 @@ locate r = roll-Expr (layer.Locate r)
 
 abbrev pub bits : (t b : ℕ) → Expr → Expr
 bits t b e = roll-Expr (layer.Bits t b e)
+
+abbrev pub logic : LogicOp → Expr → Expr → Expr
+logic op a b = roll-Expr (layer.Logic op a b)
+
+abbrev pub string : (item : ℕ) → Expr
+string i = roll-Expr (layer.Text i)
 
 abbrev pub sum : Expr → Expr → Expr
 sum a b = roll-Expr (layer.Sum a b)
@@ -146,11 +156,17 @@ put_on line r e = roll-Stmt (statement.Put line r e)
 abbrev pub put : Ref → Expr → Stmt
 put r e = put_on 1 r e
 
+abbrev pub put_bits : (t b : ℕ) → Ref → Expr → Stmt
+put_bits t b r e = roll-Stmt (statement.PutBits 1 t b r e)
+
 abbrev pub assign : (item : ℕ) → Expr → Stmt
 assign i e = put (item i) e
 
+abbrev pub call_on : (line : ℕ) → Target → List Arg → Stmt
+call_on line t args = roll-Stmt (statement.Call line t args)
+
 abbrev pub call : Target → List Arg → Stmt
-call t args = roll-Stmt (statement.Call 1 t args)
+call t args = call_on 1 t args
 
 abbrev pub writes : Expr → Stmt
 writes e = call target.Write (by_value e ∷ [])

@@ -4,6 +4,7 @@
 ghost use Rattle.std.specs.Prelude.{◌≡◌, [], ◌∷◌, map};
 ghost use Rattle.cw_unit.specs.Allocation.{storage_map};
 ghost use Rattle.cw_unit.specs.StackBound.{control_need};
+ghost use Rattle.cw_checks_meaning.specs.MoreExamples.{more_examples};
 ghost use Rattle.cw_checks_meaning.specs.Examples.{Example, result_of, wanted_of, before_of, running_of, expressions, addresses, control, procedures, frame_area_full, several_segments, counted, calls_300, filter_and_control, first_sum, packed_table_overlay, map_of_example, absolute_word, absolute_map, filter_map, packed_map};
 
 /// Each example shows what is wanted of it.
@@ -14,6 +15,7 @@ pub fn examples()
     ensures procedures { map result_of procedures ≡ map wanted_of procedures }
     ensures frames { result_of frame_area_full ≡ wanted_of frame_area_full }
     ensures segments { map result_of several_segments ≡ map wanted_of several_segments }
+    ensures more { map result_of more_examples ≡ map wanted_of more_examples }
 {}
 
 /// These examples are running up to just before the step with which they end.

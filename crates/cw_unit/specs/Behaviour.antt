@@ -1,9 +1,9 @@
 -- What a run of the source shows.
-use Rattle.std.specs.Prelude.{ℕ, List, [], Option, Some, None, slice_get}
+use Rattle.std.specs.Prelude.{ℕ, List, [], Bool, true, false, Option, Some, None, slice_get}
 use Rattle.cw_unit.specs.declared.unit.Unit.{Unit as SourceUnit}
 use Rattle.cw_unit.specs.Program.{Program}
 use Rattle.cw_unit.specs.InitialMemory.{initial_memory}
-use Rattle.cw_unit.specs.Stop.{End, Running}
+use Rattle.cw_unit.specs.Stop.{End, Running, Ended, Stopped, Stuck}
 use Rattle.cw_unit.specs.Work.{Work, Nothing, Run}
 use Rattle.cw_unit.specs.Configuration.{Configuration, at}
 use Rattle.cw_unit.specs.Step.{steps}
@@ -21,6 +21,10 @@ initial_configuration p input =
 pub record Shown : Type 0 where
   pub output : List ℕ
   pub end : End
+
+-- whether a run that shows this goes on
+abbrev pub is_running : Shown → Bool
+is_running s = elim s.end [ Running ↦ true | Ended ↦ false | Stopped kind segment line ↦ false | Stuck ↦ false ]
 
 abbrev pub shown : Configuration → Shown
 shown (at s k acts w e) = record { output = w.output; end = e }

@@ -1,4 +1,4 @@
-use Rattle.cw_checks_meaning.proofs.Runs.{expressions-run, addresses-run, control-run, procedures-run, frames-run, segments-run}
+use Rattle.cw_checks_meaning.proofs.Runs.{expressions-run, addresses-run, control-run, procedures-run, frames-run, segments-run, more-run}
 use Rattle.cw_checks_meaning.proofs.examples.Goals as goal
 
 pub returns-clause-expressions : goal.returns-clause-expressions
@@ -18,3 +18,6 @@ returns-clause-frames c = frames-run
 
 pub returns-clause-segments : goal.returns-clause-segments
 returns-clause-segments c = segments-run
+
+pub returns-clause-more : goal.returns-clause-more
+returns-clause-more c = more-run
