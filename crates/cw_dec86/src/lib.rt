@@ -43,12 +43,6 @@ pub fn decode(bytes: &[u8]) -> Decoded
     }
 }
 
-/// A law, and no work: bytes that begin with an instruction have no other reading.
-pub fn one_reading()
-    ensures { (bytes rest : List ℕ) (i : Instr) (decoded : Decoded) →
-        IsInstr i → bytes ≡ bytes_of i ++ rest → Reads bytes decoded → decoded ≡ Decoded.Done i (length (bytes_of i)) }
-{}
-
 /// A law, and no work: bytes begin with at most one instruction.
 /// So no two instructions have the same bytes, and none's bytes begin another's.
 pub fn no_instruction_begins_another()

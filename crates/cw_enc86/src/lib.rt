@@ -9,7 +9,7 @@ ghost use Rattle.cw_enc86.specs.Writing.{Puts};
 use cw_i86::{Imm, Instr, Mem, Place, Rm};
 
 /// Writes the bytes of an instruction at the front of `out`, and answers how many they are: 1 to 7.
-/// The rest of `out` stays.
+/// The rest of `out` stays. The instruction's numbers are those that its row has (`IsInstr`).
 pub fn encode(i: &Instr, out: &mut [u8; 7]) -> usize
     requires { IsInstr i.now }
     ensures length { result ≡ length (bytes_of i.now) }
