@@ -1,5 +1,5 @@
 // What each instruction does.
-ghost use Rattle.std.specs.Prelude.{◌≡◌, ◌<◌, ◌+◌, ◌*◌, ◌^◌, ◌&&◌, not, false, if◌then◌else◌, bit_and, IfSome, Option, Some, None, MatchOption, IsTrue};
+ghost use Rattle.std.specs.Prelude.{◌≡◌, ◌<◌, ◌+◌, ◌*◌, ◌^◌, ◌&&◌, not, true, false, if◌then◌else◌, bit_and, IfSome, Option, Some, None, MatchOption, IsTrue};
 ghost use Rattle.cw_i86.specs.Sums.{logic_flags, sum_of, difference_of, sum_flags, difference_flags, keeping_carry};
 ghost use Rattle.cw_i86.specs.Shifts.{shift_of, shift_flags};
 ghost use Rattle.cw_i86.specs.declared.instr.Instr.TheVariants.{Lahf, Sahf, PopF};
@@ -141,6 +141,17 @@ impl Cpu {
         }
     }
 
+    // The same at a register. The operand is made here and not in `execute`, where each operand of its own costs a store
+    // in every step.
+    #[inline(never)]
+    fn operate_register(&mut self, op: u8, wide: bool, reg: u8, b: u16)
+        requires reg { reg < 8 }
+        requires b { b < limit_of wide }
+        ensures { self.new ≡ operated self.old op wide (Rm.Reg reg) b }
+    {
+        self.operate(op, wide, Rm::Reg(reg), b);
+    }
+
     #[tactic(auto, unfolding(cw_i86::specs::Effect::tested))]
     fn test(&mut self, wide: bool, a: u16, b: u16)
         requires a { a < limit_of wide }
@@ -164,6 +175,15 @@ impl Cpu {
         let (value, flags) = stepped(down, wide, self.flags, a);
         self.set_flags(flags);
         self.set_operand(wide, rm, value);
+    }
+
+    // The same at a register of a word.
+    #[inline(never)]
+    fn count_register(&mut self, down: bool, reg: u8)
+        requires { reg < 8 }
+        ensures { self.new ≡ counted self.old down true (Rm.Reg reg) }
+    {
+        self.count(down, true, Rm::Reg(reg));
     }
 
     fn jump_if(&mut self, holds: bool, by: u8)
@@ -399,6 +419,15 @@ impl Cpu {
         self.set_sized_register(wide, reg, b);
     }
 
+    // The same of AX and a register.
+    #[inline(never)]
+    fn exchange_ax(&mut self, reg: u8)
+        requires { reg < 8 }
+        ensures { self.new ≡ exchanged self.old true 0 (Rm.Reg reg) }
+    {
+        self.exchange(true, 0, Rm::Reg(reg));
+    }
+
     #[tactic(auto, unfolding(cw_i86::specs::Effect::moved_acc))]
     fn move_acc(&mut self, cs: bool, wide: bool, store: bool, at: u16)
         ensures { self.new ≡ moved_acc self.old cs wide store at }
@@ -478,17 +507,17 @@ impl Cpu {
             } => {
                 if to_reg {
                     let b = self.operand(wide, rm);
-                    self.operate(op, wide, Rm::Reg(reg), b);
+                    self.operate_register(op, wide, reg, b);
                 } else {
                     let b = self.sized_register(wide, reg);
                     self.operate(op, wide, rm, b);
                 }
             }
             Instr::AluAcc { op, imm } => {
-                self.operate(op, imm.is_word(), Rm::Reg(0), imm_value(imm))
+                self.operate_register(op, imm.is_word(), 0, imm_value(imm))
             }
-            Instr::Inc(reg) => self.count(false, true, Rm::Reg(reg)),
-            Instr::Dec(reg) => self.count(true, true, Rm::Reg(reg)),
+            Instr::Inc(reg) => self.count_register(false, reg),
+            Instr::Dec(reg) => self.count_register(true, reg),
             Instr::Push(reg) => {
                 let word = self.register(reg);
                 self.push(word);
@@ -516,7 +545,7 @@ impl Cpu {
                 let offset = self.offset_of(mem.place);
                 self.set_register(reg, offset);
             }
-            Instr::XchgAx(reg) => self.exchange(true, 0, Rm::Reg(reg)),
+            Instr::XchgAx(reg) => self.exchange_ax(reg),
             Instr::Cbw => self.extend_byte(),
             Instr::Cwd => self.extend_word(),
             Instr::PushF => {
