@@ -1,5 +1,5 @@
 -- The cause of each status, from what the parts of a call have told.
-use Rattle.std.proofs.Common.{◌≡◌, ◌≤◌, ℕ, List, [], Option, Some, refl, ap, ◌∙◌, arith}
+use Rattle.std.proofs.Common.{◌≡◌, ◌≤◌, ℕ, List, [], Option, Some, Result, refl, sym, ap, subst, ◌∙◌, arith}
 use Rattle.cw_io.specs.File.{Told}
 use Rattle.cw_i86.specs.State.{State}
 use Rattle.cw_i86.specs.MachineRun.{IsStart}
@@ -8,8 +8,12 @@ use Rattle.cw_unit.specs.declared.layout.Layout.{Layout}
 use Rattle.cw_unit.specs.declared.layout.Limits.{Limits}
 use Rattle.cw_unit.specs.Storage.{layout_of}
 use Rattle.cw_top.specs.Listing.{listing}
-use Rattle.cw_top.specs.Correct.{addresses_of, default_limits, IsCommand, Compiles, Causes, SaysFirst, RunShows, Outer, outer, image_of, map_text}
+use Rattle.cw_top.specs.Correct.{SaysAll, addresses_of, default_limits, IsCommand, Compiles, Causes, SaysFirst, RunShows, Outer, outer, image_of, map_text}
 use Rattle.cw_io.specs.Bytes.{after_told}
+use Rattle.cw_io.specs.declared.source.Failed.{Failed}
+use Rattle.cw_top.specs.Closing.{closing_line}
+use Rattle.cw_top.specs.Said.{Says, Writes}
+use Rattle.cw_top.proofs.Said.{says}
 use Rattle.cw_top.specs.declared.status.Status.{Status}
 use Rattle.cw_top.specs.declared.status.Status.TheVariants.{Ended, Usage, Refused, Unlinked, Stopped, Unfinished, NoFile, Outside, NoMemory, TooLong, BadCode, Divided}
 use Rattle.cw_top.specs.declared.status.Which.TheVariants.{Store, Out, Say}
@@ -89,3 +93,26 @@ closing_causes words file before f a out n m l (Unlinked (CodeTooBig bytes)) cau
 closing_causes words file before f a out n m l (NoFile number) cause later quiet = cause
 closing_causes words file before f a out n m l NoMemory cause later quiet = cause
 closing_causes words file before f a out n m l (TooLong (File number)) cause later quiet = cause
+
+-- the store's counts under other names
+pub same_counts : (words : List (List ℕ)) (file : Told) (f f' a a' : ℕ) (old new : Option (List ℕ)) (n m k l : ℕ) (status : Status) → f' ≡ f → a' ≡ a
+    → Causes words file (outer f a old n k) (outer f a new m l) status → Causes words file (outer f a old n k) (outer f' a' new m l) status
+same_counts words file f f' a a' old new n m k l status f-is a-is causes =
+    let P : ℕ → Type 0 = λ x. Causes words file (outer f a old n k) (outer x a new m l) status in
+    let Q : ℕ → Type 0 = λ x. Causes words file (outer f a old n k) (outer f' x new m l) status in
+    subst Q (sym a-is) (subst P (sym f-is) causes)
+
+-- what was said, whatever the call answered
+pub says_all : (words : List (List ℕ)) (file : Told) (old between new : Option (List ℕ)) (faults middle faults' : ℕ) (segment : Option (List ℕ)) (status : Status) (r : Result (Unit {0}) Failed)
+    → SaysFirst file old between status segment → faults ≤ middle → Writes between new middle faults' (closing_line words segment status) r
+    → SaysAll words file old new faults faults' status
+says_all words file old between new faults middle faults' segment status r (first, is-first, is) later closing =
+    let P : Option (List ℕ) → Type 0 = λ told. Says told new middle faults' (closing_line words segment status) in
+    record {
+      first = first;
+      segment = segment;
+      is_first = is-first;
+      middle = middle;
+      later = later;
+      closing = subst P is (says between new middle faults' (closing_line words segment status) r closing);
+    }

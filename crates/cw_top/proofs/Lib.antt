@@ -5,3 +5,4 @@ pub mod Singles
 pub mod Shown
 pub mod Built
 pub mod Causes
+pub mod Texts

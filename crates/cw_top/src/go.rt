@@ -4,9 +4,11 @@ ghost use Rattle.std.specs.List.{All};
 ghost use Rattle.cw_unit.specs.OwnSingles.{IsOwnSingle};
 ghost use Rattle.cw_io.specs.File.{Told, Is, AllStay};
 ghost use Rattle.cw_top.specs.Closing.{file_name};
-ghost use Rattle.cw_top.specs.Correct.{IsCommand, Compiles, Causes, SaysFirst, outer};
+ghost use Rattle.cw_unit.specs.Storage.{layout_of};
+ghost use Rattle.cw_i86.specs.MachineRun.{IsStart};
+ghost use Rattle.cw_top.specs.Correct.{IsCommand, Compiles, Causes, SaysFirst, outer, addresses_of, image_of};
 
-use crate::building::{build, default_limits};
+use crate::building::{Built, build, default_limits};
 use crate::command::file_of;
 use crate::listing::write_listing;
 use crate::running::run_image;
@@ -45,6 +47,29 @@ impl Answer {
     }
 }
 
+// Writes the storage map of a unit, and runs its image, which is loaded.
+fn show_and_run<O: Sink, S: Sink>(
+    cpu: &mut Cpu,
+    unit: &Unit,
+    built: &Built,
+    out: &mut O,
+    say: &mut S,
+) -> Status
+    requires layout { built.now.layout ≡ layout_of unit.now }
+    requires addresses { built.now.addresses ≡ addresses_of unit.now }
+    requires start { IsStart (image_of unit.now) [] cpu.old }
+    ensures causes { (words : List (List ℕ)) (file : Told) (f a : ℕ) → IsCommand words → Compiles file unit.now → Causes words file (outer f a (O.held out.old) (O.faults out.old) (S.faults say.old)) (outer f a (O.held out.new) (O.faults out.new) (S.faults say.new)) result }
+    ensures says { (file : Told) → Compiles file unit.now → SaysFirst file (S.held say.old) (S.held say.new) result (Some unit.now.name) }
+    ensures later { S.faults say.old ≤ S.faults say.new }
+{
+    let limits = default_limits();
+    let addresses = built.addresses.as_slice();
+    match write_listing(say, unit, &built.layout, addresses, &limits) {
+        Ok(()) => run_image(cpu, out),
+        Err(_) => Status::Outside(Which::Say),
+    }
+}
+
 // Builds a unit, writes its storage map and runs its image.
 fn run_unit<O: Sink, S: Sink>(alloc: Global, unit: &Unit, out: &mut O, say: &mut S) -> Status
     requires own { All IsOwnSingle unit.now.items }
@@ -65,11 +90,7 @@ fn run_unit<O: Sink, S: Sink>(alloc: Global, unit: &Unit, out: &mut O, say: &mut
     let Ok(mut cpu) = Cpu::start(alloc, code, &[]) else {
         return Status::NoMemory;
     };
-    let addresses = built.addresses.as_slice();
-    if write_listing(say, unit, &built.layout, addresses, &default_limits()).is_err() {
-        return Status::Outside(Which::Say);
-    }
-    run_image(&mut cpu, out)
+    show_and_run(&mut cpu, unit, &built, out, say)
 }
 
 // Compiles a text and runs it.

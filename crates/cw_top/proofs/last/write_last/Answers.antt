@@ -1,7 +1,7 @@
 use Rattle.cw_top.proofs.last.write_last.Goals as goal
 
-pub returns-in-Usage : goal.returns-in-Usage
-returns-in-Usage g c = rw c.in-Usage.is c.write_piece.ensures
+pub returns-in-Usage-clause-line : goal.returns-in-Usage-clause-line
+returns-in-Usage-clause-line g c = rw c.in-Usage.is c.write_piece.ensures
 
-pub returns-in-Unfinished : goal.returns-in-Unfinished
-returns-in-Unfinished g c = rw c.in-Unfinished.is c.write_number.ensures
+pub returns-in-Unfinished-clause-line : goal.returns-in-Unfinished-clause-line
+returns-in-Unfinished-clause-line g c = rw c.in-Unfinished.is c.write_number.ensures
