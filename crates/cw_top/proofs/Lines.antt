@@ -1,5 +1,5 @@
 -- The lines of the items, one after the other.
-use Rattle.std.proofs.Common.{◌≡◌, ℕ, zero, suc, ◌+◌, ◌-◌, ◌<◌, List, [], ◌++◌, length, Option, Some, Result, Ok, Err, slice_get, get_or, refl, subst, sym, ap, ◌∙◌, arith, add-zero, append_assoc, append-nil}
+use Rattle.std.proofs.Common.{◌≡◌, ℕ, zero, suc, ◌+◌, ◌-◌, ◌<◌, List, [], ◌++◌, length, Option, Some, Err, slice_get, get_or, refl, subst, sym, ap, ◌∙◌, arith, add-zero, append_assoc, append-nil}
 use Rattle.std.proofs.lemmas.Option.{slice_get_read}
 use Rattle.cw_io.specs.Bytes.{after_told}
 use Rattle.cw_io.specs.declared.source.Failed.{Failed}

@@ -1,7 +1,6 @@
 -- Lists that grow by one.
-use Rattle.std.proofs.Common.{◌≡◌, ℕ, zero, suc, ◌+◌, List, [], ◌∷◌, ◌++◌, map, replicate, refl, sym, ap, ap₂, ◌∙◌, arith}
+use Rattle.std.proofs.Common.{◌≡◌, ℕ, zero, suc, ◌+◌, List, [], ◌∷◌, ◌++◌, map, replicate, refl, ap, ◌∙◌, arith}
 use Rattle.cw_unit.specs.OwnSingles.{numbers_from, own_word}
-use Rattle.cw_unit.specs.declared.layout.Family.{Family}
 
 numbers_end : (n k : ℕ) → numbers_from n (suc k) ≡ numbers_from n k ++ (n + k) ∷ []
 numbers_end n zero = let e : n ≡ n + 0 = omega arith in ap (λ m. m ∷ []) e

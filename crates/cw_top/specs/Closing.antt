@@ -1,5 +1,5 @@
 -- The number of each status, and the line that closes what is told of a run.
-use Rattle.std.specs.Prelude.{ℕ, ◌+◌, ◌-◌, ◌==◌, List, [], ◌∷◌, ◌++◌, Option, None, Some, slice_index_or, slice_get, codes, decimal, if◌then◌else◌}
+use Rattle.std.specs.Prelude.{ℕ, ◌+◌, ◌==◌, List, [], ◌++◌, Option, None, Some, slice_index_or, codes, decimal, if◌then◌else◌}
 use Rattle.cw_top.specs.declared.status.Status.{Status}
 use Rattle.cw_top.specs.declared.status.Status.TheVariants.{Ended, Usage, Refused, Unlinked, Stopped, Unfinished, NoFile, Outside, NoMemory, TooLong, BadCode, Divided}
 use Rattle.cw_top.specs.declared.status.Refused.{Refused as Refusal}

@@ -95,7 +95,13 @@ pub(crate) fn link(
     if image.extend_from_slice(code.bytes.as_slice()).is_err() {
         return Err(NoMemory);
     }
-    fill(&mut image, start.len(), code.relocs.as_slice(), addresses, limits);
+    fill(
+        &mut image,
+        start.len(),
+        code.relocs.as_slice(),
+        addresses,
+        limits,
+    );
     Ok(image)
 }
 

@@ -68,9 +68,11 @@ pub(crate) fn write_last<S: Sink>(
         Status::Usage => write_piece(say, USAGE),
         Status::Refused { file, fault } => write_refusal(say, file_name(words, file), fault),
         Status::Unlinked(fault) => write_link_fault(say, fault),
-        Status::Stopped { kind, segment: number, line } => {
-            write_stopped(say, segment, kind, number, line)
-        }
+        Status::Stopped {
+            kind,
+            segment: number,
+            line,
+        } => { write_stopped(say, segment, kind, number, line) }
         Status::Unfinished { steps } => write_number(say, b"unfinished: ", steps),
         Status::NoFile { file } => write_name(say, b"no file: ", file_name(words, file)),
         Status::Outside(which) => write_name(say, b"fault: ", which.name()),

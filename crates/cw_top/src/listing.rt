@@ -49,12 +49,7 @@ fn name_bytes(name: &Option<Name>) -> &[u8]
     }
 }
 
-fn write_item<S: Sink>(
-    say: &mut S,
-    segment: &Name,
-    address: u32,
-    item: &Item,
-) -> Result<(), Failed>
+fn write_item<S: Sink>(say: &mut S, segment: &Name, address: u32, item: &Item) -> Result<(), Failed>
     ensures { Writes (S.held say.old) (S.held say.new) (S.faults say.old) (S.faults say.new) (item_line segment.now address item.now) result }
 {
     let address_digits = five_digits(address);
@@ -81,7 +76,9 @@ fn write_item_parts<S: Sink>(
 {
     write_line(
         say,
-        &[address, b" ", words, b" ", segment, b".", name, b" ", kind, b"\n"],
+        &[
+            address, b" ", words, b" ", segment, b".", name, b" ", kind, b"\n",
+        ],
     )
 }
 

@@ -36,12 +36,7 @@ fn run_with<O: Sink>(cpu: &mut Cpu, ports: &mut ImagePorts<'_, O>) -> Status
 {
     observed_run();
     match cpu.run(ports, RUN_STEPS) {
-        RunEnd::Halted { .. } => halted(
-            ports.kind,
-            ports.segment,
-            ports.line_low,
-            ports.line_high,
-        ),
+        RunEnd::Halted { .. } => halted(ports.kind, ports.segment, ports.line_low, ports.line_high),
         RunEnd::Limit => Status::Unfinished { steps: RUN_STEPS },
         RunEnd::BadCode { offset, .. } => Status::BadCode { offset },
         RunEnd::Divide { offset, .. } => Status::Divided { offset },

@@ -7,9 +7,9 @@ ghost use Rattle.cw_top.specs.Correct.{Causes, SaysAll, outer, CompilesValid};
 use crate::go::go;
 use crate::last::write_last;
 use crate::status::Status;
+use cw_form::laws::own_singles;
 use cw_io::{Sink, Source, Store};
 use cw_unit::laws::own_singles as own_storage;
-use cw_form::laws::own_singles;
 use std::alloc::Global;
 
 /// Does what the words ask for, and tells of it on `say`: the storage map before the first byte of `out`, and at last the

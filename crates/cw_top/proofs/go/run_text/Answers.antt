@@ -1,5 +1,4 @@
-use Rattle.std.proofs.Common.{◌≡◌, Some, sym, ◌∙◌}
-use Rattle.cw_form.specs.Segment.{unit_of}
+use Rattle.std.proofs.Common.{sym, ◌∙◌}
 use Rattle.cw_top.proofs.go.run_text.Goals as goal
 
 pub run_unit-requires-clause-no_procedures : goal.run_unit-requires-clause-no_procedures

@@ -1,4 +1,4 @@
-use Rattle.std.proofs.Common.{◌≡◌, ℕ, List, [], take, refl, ap, ◌∙◌, rules}
+use Rattle.std.proofs.Common.{take, refl, ap, ◌∙◌}
 use Rattle.cw_io.specs.Bytes.{after_told}
 use Rattle.cw_top.specs.Correct.{map_text}
 use Rattle.cw_top.proofs.Causes.{run_causes, run_says, map_is}

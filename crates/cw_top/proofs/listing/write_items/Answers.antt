@@ -1,7 +1,4 @@
-use Rattle.std.proofs.Common.{◌≡◌, ◌<◌, length, get_or, refl, sym, ap, ◌∙◌, rules, arith}
-use Rattle.cw_io.specs.Bytes.{after_told}
-use Rattle.cw_top.specs.Said.{Writes}
-use Rattle.cw_top.specs.Listing.{item_line}
+use Rattle.std.proofs.Common.{sym, rules}
 use Rattle.cw_top.proofs.Said.{whole_is_prefix}
 use Rattle.cw_top.proofs.Lines.{lines_on, lines_cut}
 use Rattle.cw_top.proofs.listing.write_items.Goals as goal
@@ -9,8 +6,8 @@ use Rattle.cw_top.proofs.listing.write_items.Goals as goal
 pub returns-in-Err : goal.returns-in-Err
 returns-in-Err g c =
     lines_cut c.args.unit.now c.args.layout.now c.args.addresses.now c.loop-k.k c.index-items-k.result _ _ _ _ _ _ c.in-Err.failed
-      (search rules) (search rules) c.loop-k.invariant.held c.loop-k.invariant.faults
-      (rw (sym c.item_address-address.ensures) c.in-Err.ensures)
+    (search rules) (search rules) c.loop-k.invariant.held c.loop-k.invariant.faults
+    (rw (sym c.item_address-address.ensures) c.in-Err.ensures)
 
 pub loop-k-preserved : goal.loop-k-preserved
 loop-k-preserved g c = record {

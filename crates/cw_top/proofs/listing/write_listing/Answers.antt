@@ -1,4 +1,4 @@
-use Rattle.std.proofs.Common.{◌≡◌, rules}
+use Rattle.std.proofs.Common.{rules}
 use Rattle.cw_top.proofs.Said.{writes_then, writes_cut}
 use Rattle.cw_top.proofs.listing.write_listing.Goals as goal
 

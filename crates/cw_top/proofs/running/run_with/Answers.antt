@@ -1,5 +1,4 @@
-use Rattle.std.proofs.Common.{◌≡◌, [], refl, arith, rules}
-use Rattle.cw_i86.specs.MachineRun.{Observed}
+use Rattle.std.proofs.Common.{[], refl, arith}
 use Rattle.cw_cpu86.specs.declared.cpu.RunEnd.TheVariants as ends
 use Rattle.cw_top.proofs.Shown.{shows_by}
 use Rattle.cw_top.proofs.running.run_with.Goals as goal

@@ -1,4 +1,4 @@
-use Rattle.std.proofs.Common.{◌∙◌, sym, ap, ◌++◌, ◌∷◌, [], rules}
+use Rattle.std.proofs.Common.{◌∙◌, sym, ap, ◌++◌, ◌∷◌, []}
 use Rattle.cw_unit.specs.OwnSingles.{own_word}
 use Rattle.cw_top.proofs.Singles.{homes_grow, families_grow}
 use Rattle.cw_top.proofs.storage.own_layout.Goals as goal

@@ -1,0 +1,34 @@
+//! The program: makes the real files and streams and calls the command.
+#![tactic(auto)]
+
+mod outside;
+
+use cw_top::coral66;
+use outside::{Files, Reading, Writing};
+use std::process::ExitCode;
+use std::{env, io};
+
+// The words after the program's name. A word that is no text makes the words none of the command.
+fn words_of(rt: &HostRuntime) -> io::Result<Vec<String>> {
+    Ok(env::args(rt)?.skip(1).collect(rt.alloc())?)
+}
+
+fn main(rt: HostRuntime) -> ExitCode {
+    let mut files = Files::new(&rt);
+    let mut input = Reading::new(rt.stdin());
+    let mut out = Writing::new(rt.stdout());
+    let mut say = Writing::new(rt.stderr());
+    let words = match words_of(&rt) {
+        Ok(words) => words,
+        Err(_) => Vec::new(rt.alloc()),
+    };
+    let status = coral66(
+        rt.alloc(),
+        words.as_slice(),
+        &mut files,
+        &mut input,
+        &mut out,
+        &mut say,
+    );
+    ExitCode::from(status.code())
+}

@@ -1,0 +1,208 @@
+//! The command with one file, over a store, a source and sinks in memory.
+ghost use Rattle.std.specs.Prelude.{◌≡◌, length, IfOk};
+
+use cw_io::{MemFile, MemSink, MemSource, MemStore};
+use cw_top::coral66;
+use cw_word::List;
+use std::alloc::{AllocError, Global};
+use std::test::Fail;
+
+const FIRST: &str =
+    "LIBRARY (PROCEDURE WRITEBYTE(VALUE INTEGER)); SEGMENT A BEGIN INTEGER X; X := 1+2; WRITEBYTE(X+64) END FINISH";
+
+fn list(alloc: Global, bytes: &[u8]) -> Result<List<u8>, AllocError> {
+    Ok(List::of(bytes.to_vec(alloc)?))
+}
+
+fn calls(alloc: Global, calls: &[u64]) -> Result<List<u64>, AllocError> {
+    Ok(List::of(calls.to_vec(alloc)?))
+}
+
+fn words_of(alloc: Global, line: &str) -> Result<Vec<String>, AllocError> {
+    let mut words = vec![in alloc]?;
+    for word in line.split(' ') {
+        words.push(String::from_str(alloc, word)?)?;
+    }
+    Ok(words)
+}
+
+// The calls of the store, of `out` and of `say` that fail.
+#[derive(Drop)]
+struct Fails<'a> {
+    store: &'a [u64],
+    out: &'a [u64],
+    say: &'a [u64],
+}
+
+const NONE: Fails<'static> = Fails {
+    store: &[],
+    out: &[],
+    say: &[],
+};
+
+// The exit status, what `out` holds and what `say` holds, where the file `a` has this text.
+fn told(alloc: Global, line: &str, text: &[u8], fails: &Fails<'_>) -> Result<String, AllocError> {
+    let file = MemFile {
+        name: list(alloc, b"a")?,
+        bytes: list(alloc, text)?,
+    };
+    let files = List::of(vec![in alloc; file]?);
+    let Ok(mut files) = MemStore::new(alloc, files, 0, 0, 4096, calls(alloc, fails.store)?) else {
+        return Err(AllocError);
+    };
+    let mut input = MemSource::new(list(alloc, b"")?, 1, calls(alloc, &[])?);
+    let Ok(mut out) = MemSink::new(alloc, 64, 1, calls(alloc, fails.out)?) else {
+        return Err(AllocError);
+    };
+    let Ok(mut say) = MemSink::new(alloc, 4096, 4096, calls(alloc, fails.say)?) else {
+        return Err(AllocError);
+    };
+    let words = words_of(alloc, line)?;
+    let status = coral66(
+        alloc,
+        words.as_slice(),
+        &mut files,
+        &mut input,
+        &mut out,
+        &mut say,
+    );
+    let code = status.code();
+    let held = String::from_utf8_lossy(alloc, out.held())?;
+    let said = String::from_utf8_lossy(alloc, say.held())?;
+    format!(in alloc; "{code}|{held}|{said}")
+}
+
+fn blanks(alloc: Global, count: usize) -> Result<Vec<u8>, AllocError> {
+    vec![in alloc; b' '; count]
+}
+
+const MAP: &str = "0|C|00000 00001 A.X WORD\n12288 04096 FRAMES\n";
+
+const EMPTY: &str = "0||12288 04096 FRAMES\n";
+
+const NOT_BUILT: &str = "2||a: NotBuilt\n";
+
+const USAGE: &str =
+    "1||usage: coral66 [--data N] [--frames N] [--depth N] [--steps N] ACTION WORD...\n";
+
+#[test]
+fn texts(rt: HostRuntime) -> Result<(), Fail> {
+    let rows = [
+        (FIRST, MAP),
+        ("SEGMENT E BEGIN END FINISH", EMPTY),
+        ("segment e begin ;;; end finish", EMPTY),
+        (
+            "SEGMENT S BEGIN INTEGER X, Y; INTEGER LONGER; X := Y + LONGER + 32767; END FINISH",
+            "0||00000 00001 S.X WORD\n00001 00001 S.Y WORD\n00002 00001 S.LONGER WORD\n12288 04096 FRAMES\n",
+        ),
+        (
+            "SEGMENT S\nBEGIN INTEGER X;\nX := 32767;\nX :=\nX + 1 END FINISH",
+            "4||00000 00001 S.X WORD\n12288 04096 FRAMES\nstopped: Overflow S 4\n",
+        ),
+        (
+            "LIBRARY (PROCEDURE WRITEBYTE(VALUE INTEGER)); SEGMENT A BEGIN INTEGER A2; A2<-70;WRITEBYTE(A2);A2:=A2+A2+5;WRITEBYTE(65);WRITEBYTE(32767+A2) END FINISH",
+            "4|FA|00000 00001 A.A2 WORD\n12288 04096 FRAMES\nstopped: Overflow A 1\n",
+        ),
+        ("", NOT_BUILT),
+        ("SEGMENT A BEGIN WRITEBYTE(1) END FINISH", NOT_BUILT),
+        ("SEGMENT A BEGIN INTEGER X, X; END FINISH", NOT_BUILT),
+        ("SEGMENT A BEGIN INTEGER X; X := -1 END FINISH", NOT_BUILT),
+        (
+            "SEGMENT A BEGIN INTEGER X; X := 2 - 1 END FINISH",
+            NOT_BUILT,
+        ),
+        (
+            "SEGMENT A BEGIN INTEGER X; X := 32768 END FINISH",
+            NOT_BUILT,
+        ),
+        (
+            "SEGMENT A BEGIN INTEGER X; X := 0000000000001 END FINISH",
+            NOT_BUILT,
+        ),
+        ("SEGMENT A BEGIN INTEGER X; Y := 1 END FINISH", NOT_BUILT),
+        ("SEGMENT A BEGIN INTEGER X END FINISH", NOT_BUILT),
+        ("SEGMENT A BEGIN COMMENT NONE; END FINISH", NOT_BUILT),
+        ("SEGMENT A BEGIN END A FINISH", NOT_BUILT),
+        ("SEGMENT A BEGIN END FINISH;", NOT_BUILT),
+        ("?", NOT_BUILT),
+    ];
+    let alloc = rt.alloc();
+    for (text, wanted) in rows {
+        assert_eq!(rt;
+            told(alloc, "go a", text.as_bytes(), &NONE)?.as_str(),
+            wanted
+        );
+    }
+    Ok(())
+}
+
+#[test]
+fn words_and_files(rt: HostRuntime) -> Result<(), Fail> {
+    let alloc = rt.alloc();
+    let rows = [
+        ("go", USAGE),
+        ("go a b", USAGE),
+        ("list a", USAGE),
+        ("go none", "6||no file: none\n"),
+        ("go a", MAP),
+    ];
+    for (line, wanted) in rows {
+        assert_eq!(rt;
+            told(alloc, line, FIRST.as_bytes(), &NONE)?.as_str(),
+            wanted
+        );
+    }
+    let longest = blanks(alloc, 1_048_576)?;
+    assert_eq!(rt; told(alloc, "go a", &longest, &NONE)?.as_str(), NOT_BUILT);
+    let longer = blanks(alloc, 1_048_577)?;
+    assert_eq!(rt;
+        told(alloc, "go a", &longer, &NONE)?.as_str(),
+        "10||too long: a\n"
+    );
+    Ok(())
+}
+
+#[test]
+fn faults_outside(rt: HostRuntime) -> Result<(), Fail> {
+    let alloc = rt.alloc();
+    for call in 1..3 {
+        let fails = Fails {
+            store: &[call],
+            out: &[],
+            say: &[],
+        };
+        assert_eq!(rt;
+            told(alloc, "go a", FIRST.as_bytes(), &fails)?.as_str(),
+            "7||fault: store\n"
+        );
+    }
+    let fails = Fails {
+        store: &[],
+        out: &[1],
+        say: &[],
+    };
+    assert_eq!(rt;
+        told(alloc, "go a", FIRST.as_bytes(), &fails)?.as_str(),
+        "7||00000 00001 A.X WORD\n12288 04096 FRAMES\nfault: out\n"
+    );
+    let fails = Fails {
+        store: &[],
+        out: &[],
+        say: &[11],
+    };
+    assert_eq!(rt;
+        told(alloc, "go a", FIRST.as_bytes(), &fails)?.as_str(),
+        "7||00000 00001 A.X WORD\nfault: say\n"
+    );
+    // The closing line is cut short, and the status stays.
+    let fails = Fails {
+        store: &[1],
+        out: &[],
+        say: &[2],
+    };
+    assert_eq!(rt;
+        told(alloc, "go a", FIRST.as_bytes(), &fails)?.as_str(),
+        "7||fault: "
+    );
+    Ok(())
+}

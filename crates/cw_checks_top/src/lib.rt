@@ -1,0 +1,5 @@
+//! Checks of the command over memory: what it writes, what it tells and how it ends.
+#![tactic(auto)]
+
+#[cfg(test)]
+mod command;
