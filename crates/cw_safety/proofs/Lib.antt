@@ -1,2 +1,4 @@
 pub mod Typing
 pub mod Performing
+pub mod Truth
+pub mod Expanding
