@@ -227,7 +227,7 @@ module _ (p : Program) (g : ℕ) (o : Option (ℕ × ℕ)) where
     go-typed (dest.SpecialSwitch k a) line e b =
         let parts = both (is_expression p g o a) (formed.is_switch (slice_get (controls_of p o) k)) e in (parts.0, omega (arith, b), (tt, parts.1))
 
-    all-typed : (ss : List Stmt) (k : Work) → IsTrue (formed.all (map (is_statement p g o) ss)) → bound.largest (map body_depth ss) ≤ h → Ty k [] → Ty (run_all ss k) []
+    pub all-typed : (ss : List Stmt) (k : Work) → IsTrue (formed.all (map (is_statement p g o) ss)) → bound.largest (map body_depth ss) ≤ h → Ty k [] → Ty (run_all ss k) []
     all-typed [] k e d t = t
     all-typed (s ∷ ss) k e d t =
         let parts = both (is_statement p g o s) (formed.all (map (is_statement p g o) ss)) e in

@@ -2,3 +2,4 @@ pub mod Typing
 pub mod Performing
 pub mod Truth
 pub mod Expanding
+pub mod Labels
