@@ -3,3 +3,4 @@ pub mod Performing
 pub mod Truth
 pub mod Expanding
 pub mod Labels
+pub mod Jumping

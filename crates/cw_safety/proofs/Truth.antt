@@ -1,5 +1,6 @@
 -- Parts of tests that hold, and of kinds that there are.
-use Rattle.std.proofs.Common.{◌≡◌, ℕ, zero, suc, List, [], ◌∷◌, Bool, true, false, IsTrue, ◌&&◌, Option, Some, None, refl, sym, slice_get}
+use Rattle.std.proofs.Common.{◌≡◌, ℕ, zero, suc, List, [], ◌∷◌, Bool, true, false, IsTrue, ◌&&◌, Option, Some, None, refl, sym, slice_get, nat_eq}
+use Rattle.std.proofs.lemmas.Bool.{eqb-true}
 use Rattle.std.proofs.lemmas.Option.{none-some, same_Some}
 use Rattle.cw_unit.specs.declared.unit.Proc.{Proc}
 use Rattle.cw_safety.specs.Kinds.{Kind, WordKind, LabelKind, SwitchKind, ProcedureKind, control_kinds, procedure_kind}
@@ -13,6 +14,9 @@ pub both : (a b : Bool) → IsTrue (a && b) → IsTrue a × IsTrue b
 both true true h = (h, h)
 both true false h = no h
 both false b h = no h
+
+pub nat_same : (a b : ℕ) → IsTrue (nat_eq a b) → a ≡ b
+nat_same a b h = eqb-true a b h
 
 pub if-kind : (b : Bool) (k m : Kind) → kind_if b k ≡ Some m → IsTrue b × (k ≡ m)
 if-kind true k m e = (refl, same_Some k m e)
