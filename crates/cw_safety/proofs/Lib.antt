@@ -4,3 +4,4 @@ pub mod Truth
 pub mod Expanding
 pub mod Labels
 pub mod Jumping
+pub mod Calling
