@@ -1,8 +1,8 @@
 -- Calls and returns: the operands that a call finds are its arguments, and a return finds the operands that the call kept.
-use Rattle.std.proofs.Common.{◌≡◌, ℕ, zero, suc, ◌+◌, ◌≤◌, ℤ, pos, List, [], ◌∷◌, ◌++◌, map, length, take, drop, Bool, true, false, IsTrue, ◌&&◌, not, Option, Some, None, is_some, nat_lt, nat_le, refl, sym, ap, ap₂, subst, ◌∙◌, arith, append_assoc, set, slice_get}
+use Rattle.std.proofs.Common.{◌≡◌, ℕ, ◌+◌, ◌≤◌, ℤ, List, [], ◌∷◌, ◌++◌, map, length, take, drop, Bool, true, false, IsTrue, ◌&&◌, not, Option, Some, None, is_some, nat_lt, nat_le, refl, sym, ap, ap₂, subst, ◌∙◌, arith, append_assoc, set, slice_get}
 use Rattle.std.proofs.Math.Seq.{take-append_seam, drop-append_seam}
 use Rattle.std.proofs.lemmas.List.{append-nil, length-map}
-use Rattle.std.proofs.lemmas.Option.{none-some, same_Some}
+use Rattle.std.proofs.lemmas.Option.{none-some}
 use Rattle.cw_unit.specs.declared.unit.Unit.{Unit as SourceUnit}
 use Rattle.cw_unit.specs.declared.unit.Proc.{Proc}
 use Rattle.cw_unit.specs.declared.unit.Param.{Param}
@@ -12,15 +12,15 @@ use Rattle.cw_unit.specs.declared.unit.Target.TheVariants as target
 use Rattle.cw_unit.specs.Program.{Program, definition_of, item_address}
 use Rattle.cw_unit.specs.Words.{Control, LabelControl, SwitchControl, ProcedureControl, Operand, Word, Held, Words, Outcome, Changed, Refused, Impossible}
 use Rattle.cw_unit.specs.Operation.{ReadByte, WriteByte, perform}
-use Rattle.cw_unit.specs.Work.{Work, Run, Leave}
+use Rattle.cw_unit.specs.Work.{Work}
 use Rattle.cw_unit.specs.Configuration.{Activation, segment_of, control_at, procedure_in, procedure_at, frame_size_of, frame_top}
 use Rattle.cw_unit.specs.StackBound.{body_depth}
-use Rattle.cw_unit.specs.Step.{after, procedure_of_def, Callee, Reading, Writing, Calling, Missing, callee_of_place, callee_of_control, callee_of, Bound, bind_word, bind_control, bind_one, bind_all, reversed_onto, first_operands, begun, handed, come_back, come_back_with, read_step, enter_framed, enter_procedure, enter_step}
+use Rattle.cw_unit.specs.Step.{after, procedure_of_def, Writing, Calling, callee_of_place, callee_of_control, callee_of, Bound, bind_word, bind_control, bind_all, reversed_onto, first_operands, begun, handed, come_back, come_back_with, read_step, enter_framed, enter_procedure, enter_step}
 use Rattle.cw_safety.specs.Kinds.{Taken, TakesWord, TakesLabel, TakesSwitch, TakesProcedure, Kind, WordKind, LabelKind, SwitchKind, ProcedureKind, kind_of_param, parameter_kinds, control_kinds, procedure_kind, taken_of, same_taken, all_same_taken, same_kind, same_kinds, suits_one, suits}
 use Rattle.cw_safety.specs.WellFormed.{WellFormed, takes_arguments, parameter_takes, procedure_of_place, controls_of, is_call}
 use Rattle.cw_safety.specs.Depth.{depth_at, depth_of_procedure}
 use Rattle.cw_safety.proofs.Truth.{no, both}
-use Rattle.cw_safety.proofs.Typing.{owner_of, weigh, onto, result, Pop, ControlFits, HasKind, HaveKinds, Fit, Typed, Calls, Holds, Safe}
+use Rattle.cw_safety.proofs.Typing.{owner_of, weigh, onto, result, Pop, ControlFits, HasKind, HaveKinds, Fit, Typed, Holds, Safe}
 use Rattle.cw_safety.proofs.Performing.{Good, perform-good, read_byte-good}
 use Rattle.cw_safety.proofs.Jumping.{control-fits}
 
@@ -169,6 +169,7 @@ module _ (p : Program) (acts : List Activation) where
       with_top : (ys zs : List Operand) → xs ≡ reversed_onto ys zs → HaveKinds p acts ys args → HaveKinds p acts zs (k ∷ rest) → (ys' : List Operand) × (zs' : List Operand) × (xs ≡ reversed_onto ys' zs') × HaveKinds p acts ys' (k ∷ args) × HaveKinds p acts zs' rest
       with_top ys [] e a b = absurd b
       with_top ys (z ∷ zs) e a b = (z ∷ ys, zs, e, (b.0, a), b.1)
+
       at : (ys : List Operand) × (zs : List Operand) × (xs ≡ reversed_onto ys zs) × HaveKinds p acts ys args × HaveKinds p acts zs (k ∷ rest) → (ys' : List Operand) × (zs' : List Operand) × (xs ≡ reversed_onto ys' zs') × HaveKinds p acts ys' (k ∷ args) × HaveKinds p acts zs' rest
       at t = with_top t.0 t.1 t.2 t.3 t.4
 
@@ -218,7 +219,7 @@ module _ (p : Program) (acts : List Activation) where
 
 -- ---- entries
 
-unit_of-procedure : (x : Option SourceUnit) (q : ℕ) (proc : Proc) → procedure_in x q ≡ Some proc → (u : SourceUnit) × (x ≡ Some u) × (slice_get u.procs q ≡ Some proc)
+pub unit_of-procedure : (x : Option SourceUnit) (q : ℕ) (proc : Proc) → procedure_in x q ≡ Some proc → (u : SourceUnit) × (x ≡ Some u) × (slice_get u.procs q ≡ Some proc)
 unit_of-procedure None q proc e = absurd (none-some proc e)
 unit_of-procedure (Some u) q proc e = (u, refl, e)
 
@@ -237,8 +238,7 @@ module _ (p : Program) where
     begun-safe s g q proc wanted base now k acts w None rest i e b h d t = absurd b
     begun-safe s g q proc wanted base now k acts w (Some b') rest i e b h d t =
         let u = unit_of-procedure (slice_get p.units g) q proc e in
-        let deep : depth_of_procedure (procedure_at p g q) ≡ body_depth proc.body = ap depth_of_procedure e in
-        (
+        let deep : depth_of_procedure (procedure_at p g q) ≡ body_depth proc.body = ap depth_of_procedure e in (
           tt,
           (
             i.0,

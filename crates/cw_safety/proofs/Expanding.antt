@@ -1,5 +1,5 @@
 -- What a well-formed tree becomes finds the operands that it takes, within the depth of the tree.
-use Rattle.std.proofs.Common.{◌≡◌, ℕ, zero, suc, ◌+◌, ◌≤◌, max, List, [], ◌∷◌, map, Bool, true, false, IsTrue, ◌&&◌, Option, Some, None, is_some, refl, sym, ap, subst, ◌∙◌, arith, slice_get}
+use Rattle.std.proofs.Common.{◌≡◌, ℕ, ◌+◌, ◌≤◌, List, [], ◌∷◌, map, Bool, true, false, IsTrue, ◌&&◌, Option, Some, None, is_some, refl, sym, ap, subst, ◌∙◌, arith, slice_get}
 use Rattle.std.proofs.lemmas.Option.{none-some, same_Some}
 use Rattle.cw_unit.specs.declared.unit.Unit.{Unit as SourceUnit}
 use Rattle.cw_unit.specs.declared.unit.Stmt.{Stmt, Stmt-F, out-Stmt, map-Stmt}
@@ -13,7 +13,7 @@ use Rattle.cw_unit.specs.declared.unit.Expr.{Expr, Expr-F, out-Expr, map-Expr}
 use Rattle.cw_unit.specs.declared.unit.Arg.{Arg, out-Arg, map-Arg}
 use Rattle.cw_unit.specs.declared.unit.Cond.{Cond, out-Cond, map-Cond}
 use Rattle.cw_unit.specs.declared.unit.Spot.{Spot, out-Spot, map-Spot, fold-Spot}
-use Rattle.cw_unit.specs.declared.unit.Ref.{Ref, out-Ref, map-Ref}
+use Rattle.cw_unit.specs.declared.unit.Ref.{Ref, out-Ref}
 use Rattle.cw_unit.specs.declared.unit.Arg.TheOpen as layer
 use Rattle.cw_unit.specs.declared.unit.Arg.TheOpen.{Arg-F, Cond-F, Spot-F, Ref-F}
 use Rattle.cw_unit.specs.declared.unit.Arg.TheFolds.{fold_out-Expr, fold_out-Arg, fold_out-Cond, fold_out-Spot, fold_out-Ref}
@@ -21,16 +21,16 @@ use Rattle.cw_unit.specs.declared.unit.Stmt.TheFolds.{fold_out-Stmt}
 use Rattle.cw_unit.specs.Program.{Program, definition_of}
 use Rattle.cw_unit.specs.Step.{label_of_goal, switch_of_def, procedure_of_def}
 use Rattle.cw_unit.specs.Configuration.{procedure_at}
-use Rattle.cw_unit.specs.Work.{Work, Nothing, Run, Eval, Address, FormAt, Do, Test, Choose, Jump, Give, Enter, Return, Leave, KeepAt, SetVar, Element, Turn, Bump, On, Loop, statement_work, expression_work, spot_work, condition_work, element_work, run_all, give_all, go_work}
+use Rattle.cw_unit.specs.Work.{Work, FormAt, Do, Enter, Loop, statement_work, expression_work, spot_work, condition_work, element_work, run_all, give_all, go_work}
 use Rattle.cw_unit.specs.Operation.{Rescale}
 use Rattle.cw_unit.specs.Scales.{answer_scale}
 use Rattle.cw_unit.specs.StackBound as bound
 use Rattle.cw_unit.specs.StackBound.{ArgumentDepth, operand_depth, argument_depth, condition_depth, address_depth, body_depth, argument_depths, arguments_depth}
-use Rattle.cw_safety.specs.Kinds.{Kind, WordKind, LabelKind, SwitchKind, ProcedureKind, control_kinds, procedure_kind, parameter_kinds}
+use Rattle.cw_safety.specs.Kinds.{Kind, WordKind, LabelKind, SwitchKind, parameter_kinds}
 use Rattle.cw_safety.specs.WellFormed as formed
 use Rattle.cw_safety.specs.WellFormed.{is_call, kind_of, is_expression, is_reference, is_condition, is_spot, are_elements, is_element, is_statement, kinds_of, controls_of, procedure_of_place}
 use Rattle.cw_safety.proofs.Truth.{no, both, if-kind, and-kinds, procedure-weight, control-weight}
-use Rattle.cw_safety.proofs.Typing.{weight, weigh, onto, result, Pop, After, spot_shape, Typed, IsLoop}
+use Rattle.cw_safety.proofs.Typing.{weight, weigh, onto, result, After, spot_shape, Typed, IsLoop}
 
 abbrev pub spot_depth : Spot → ℕ
 spot_depth = fold-Spot ArgumentDepth ℕ ℕ ℕ ℕ bound.argument_step bound.condition_step bound.expression_step bound.spot_step bound.ref_step
@@ -155,8 +155,7 @@ module _ (p : Program) (g : ℕ) (o : Option (ℕ × ℕ)) where
     gives-typed [] ms line k ks e d t = subst (λ xs. Ty k (onto xs ks)) (sym (same_Some [] ms e)) t
     gives-typed (a ∷ args) ms line k ks e d t =
         let parts = and-kinds (kind_of p g o a) (kinds_of (map (kind_of p g o) args)) ms e in
-        let w : (argument_depth a).kept ≡ weight parts.0 = argument-kept a parts.0 parts.2 in
-        (
+        let w : (argument_depth a).kept ≡ weight parts.0 = argument-kept a parts.0 parts.2 in (
           parts.0,
           parts.2,
           omega (arith, d),

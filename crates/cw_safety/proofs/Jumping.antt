@@ -1,5 +1,5 @@
 -- Jumps: a label that is reached has work that follows it, and its owner is at work.
-use Rattle.std.proofs.Common.{◌≡◌, ℕ, zero, suc, ◌+◌, ◌-◌, ◌≤◌, ℤ, pos, negsuc, List, [], ◌∷◌, map, length, drop, Bool, true, false, IsTrue, ◌&&◌, Option, Some, None, is_some, nat_eq, refl, sym, ap, subst, ◌∙◌, arith, slice_get}
+use Rattle.std.proofs.Common.{◌≡◌, ℕ, zero, suc, ◌-◌, ◌≤◌, ℤ, pos, negsuc, List, [], ◌∷◌, length, drop, Bool, IsTrue, ◌&&◌, Option, Some, None, nat_eq, refl, sym, ap, subst, ◌∙◌, arith, slice_get}
 use Rattle.std.proofs.lemmas.Option.{none-some, same_Some}
 use Rattle.cw_unit.specs.declared.unit.Unit.{Unit as SourceUnit}
 use Rattle.cw_unit.specs.declared.unit.Proc.{Proc}
@@ -18,7 +18,7 @@ use Rattle.cw_safety.specs.Kinds.{Kind, WordKind, LabelKind, SwitchKind, Procedu
 use Rattle.cw_safety.specs.WellFormed.{WellFormed, sets, sets_in_procedure, is_at, reaches_label, reaches_unit, reaches, reaches_goals, reaches_list, reaches_switch, controls_in, controls_of, is_label, is_switch}
 use Rattle.cw_safety.specs.Depth.{depth_at, depth_of_unit, depth_of_procedure}
 use Rattle.cw_safety.proofs.Truth.{no, both, nat_same}
-use Rattle.cw_safety.proofs.Typing.{owner_of, weigh, Pop, ControlFits, HaveKinds, Fit, CanJump, Typed, Calls, Holds, Safe}
+use Rattle.cw_safety.proofs.Typing.{owner_of, Pop, ControlFits, HaveKinds, Fit, CanJump, Calls, Holds, Safe}
 use Rattle.cw_safety.proofs.Labels.{Reached, continues}
 
 -- ---- owners

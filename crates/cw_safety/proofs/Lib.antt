@@ -5,3 +5,5 @@ pub mod Expanding
 pub mod Labels
 pub mod Jumping
 pub mod Calling
+pub mod Stepping
+pub mod Testing

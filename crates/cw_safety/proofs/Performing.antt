@@ -1,15 +1,15 @@
 -- An operation that finds its operands is not stuck, and puts what its work expects.
-use Rattle.std.proofs.Common.{◌≡◌, ℕ, zero, suc, ◌+◌, ◌≤◌, ℤ, pos, negsuc, ◌+ℤ◌, ◌-ℤ◌, ◌*ℤ◌, neg_ℤ, List, [], ◌∷◌, ◌++◌, set, Bool, true, false, arith}
+use Rattle.std.proofs.Common.{ℕ, zero, suc, ◌+◌, ◌≤◌, ℤ, pos, negsuc, ◌+ℤ◌, ◌-ℤ◌, ◌*ℤ◌, neg_ℤ, List, [], ◌∷◌, ◌++◌, set, Bool, true, false, arith}
 use Rattle.cw_word.specs.FixedPoint.{fits_word, rescaled, scaled_product, scaled_quotient}
 use Rattle.cw_word.specs.BitField.{unsigned_field}
 use Rattle.cw_word.specs.Word.{signed, unsigned}
 use Rattle.cw_unit.specs.Stop.{StopKind, Overflow, AddressRange}
-use Rattle.cw_unit.specs.Words.{Control, LabelControl, SwitchControl, ProcedureControl, Operand, Word, Held, Words, Outcome, Changed, Refused, Impossible, with_operands, with_memory, put, put_if, put_value, on_one, on_two, through, at_address, is_below, word_at, read_byte, field_value, stored_value, with_bits, logic_word, byte_of}
+use Rattle.cw_unit.specs.Words.{LabelControl, SwitchControl, ProcedureControl, Operand, Word, Held, Words, Outcome, Changed, Refused, Impossible, with_operands, with_memory, put, put_if, put_value, on_one, on_two, through, at_address, is_below, word_at, read_byte, field_value, stored_value, with_bits, logic_word, byte_of}
 use Rattle.cw_unit.specs.Operation.{divide, fitting, address_of, form_address, Addressing, Known, Taken, Indexed, Indexed2, Scaled, Operation, Constant, Rescale, Fetch, Store, StoreBits, Add, Subtract, Negate, Multiply, Divide, Combine, Extract, Form, Keep, SetVariable, AddStep, ReadByte, WriteByte, store_with, store_sum, perform}
 use Rattle.cw_unit.specs.Program.{Program}
 use Rattle.cw_unit.specs.Configuration.{Activation}
 use Rattle.cw_safety.specs.Kinds.{Kind, WordKind, LabelKind, SwitchKind, ProcedureKind}
-use Rattle.cw_safety.proofs.Typing.{weigh, Pop, Shape, NoneToOne, OneToOne, TwoToOne, OneToNone, TwoToNone, Unused, shape_of, After, HaveKinds}
+use Rattle.cw_safety.proofs.Typing.{weigh, Pop, Shape, NoneToOne, OneToOne, TwoToOne, TwoToNone, shape_of, After, HaveKinds}
 
 abbrev pub addressing_shape : Addressing → Shape
 addressing_shape (Known z) = NoneToOne

@@ -3,7 +3,7 @@ use Rattle.std.specs.Prelude.{ℕ, ◌+◌, List, [], ◌∷◌, Option, Some, N
 use Rattle.cw_unit.specs.declared.unit.Unit.{Unit as SourceUnit}
 use Rattle.cw_unit.specs.declared.unit.Proc.{Proc}
 use Rattle.cw_unit.specs.Program.{Program}
-use Rattle.cw_unit.specs.Words.{Operand, Word, Held, Words}
+use Rattle.cw_unit.specs.Words.{Operand, Word, Held}
 use Rattle.cw_unit.specs.Configuration.{Configuration, at, Activation, procedure_at}
 use Rattle.cw_unit.specs.StackBound.{body_depth}
 

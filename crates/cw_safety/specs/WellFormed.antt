@@ -1,12 +1,11 @@
 -- Well-formed units: what the checks of a segment and the agreement of segments give. Every name that is used means a thing of the
 -- right sort, labels are set in the bodies to which they belong and used where they can be reached, and the arguments of each call are
 -- as its parameters take them.
-use Rattle.std.specs.Prelude.{◌≡◌, ℕ, zero, suc, nat_eq, List, [], ◌∷◌, map, Bool, true, false, IsTrue, ◌&&◌, ◌||◌, not, Option, Some, None, is_some, slice_get, if◌then◌else◌}
+use Rattle.std.specs.Prelude.{◌≡◌, ℕ, suc, nat_eq, List, [], ◌∷◌, map, Bool, true, false, IsTrue, ◌&&◌, ◌||◌, not, Option, Some, None, is_some, slice_get}
 use Rattle.cw_unit.specs.declared.unit.Unit.{Unit as SourceUnit}
 use Rattle.cw_unit.specs.declared.unit.Proc.{Proc}
 use Rattle.cw_unit.specs.declared.unit.Label.{Label}
 use Rattle.cw_unit.specs.declared.unit.Goal.{Goal}
-use Rattle.cw_unit.specs.declared.unit.Goal.TheVariants as goal
 use Rattle.cw_unit.specs.declared.unit.Stmt.{Stmt, Stmt-F, fold-Stmt}
 use Rattle.cw_unit.specs.declared.unit.Stmt.TheOpen as statement
 use Rattle.cw_unit.specs.declared.unit.Dest.{Dest}
@@ -253,3 +252,17 @@ pub record WellFormed (p : Program) : Type 0 where
   pub bodies : (g : ℕ) (u : SourceUnit) → slice_get p.units g ≡ Some u → IsTrue (is_statement p g None u.body)
   -- and that of each procedure
   pub procedures : (g q : ℕ) (u : SourceUnit) (proc : Proc) → slice_get p.units g ≡ Some u → slice_get u.procs q ≡ Some proc → IsTrue (is_statement p g (Some (g, q)) proc.body)
+
+-- ---- the same as a test
+
+module _ (p : Program) where
+  abbrev pub are_procedures : (segment procedure : ℕ) → List Proc → Bool
+  are_procedures g q [] = true
+  are_procedures g q (proc ∷ procs) = is_statement p g (Some (g, q)) proc.body && are_procedures g (suc q) procs
+
+  abbrev pub are_units : (segment : ℕ) → List SourceUnit → Bool
+  are_units g [] = true
+  are_units g (u ∷ us) = (is_statement p g None u.body && are_procedures g 0 u.procs) && are_units (suc g) us
+
+abbrev pub is_well_formed : Program → Bool
+is_well_formed p = is_some (slice_get p.units 0) && are_units p 0 p.units
