@@ -1,3 +1,4 @@
 pub mod Computed
 pub mod LongRuns
 pub mod Runs
+pub mod WellFormed

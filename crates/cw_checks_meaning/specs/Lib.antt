@@ -1,3 +1,4 @@
 pub mod Trees
 pub mod Examples
 pub mod MoreExamples
+pub mod WellFormed

@@ -1,9 +1,10 @@
 //! Example programs, carried out by the definitions of the source semantics.
 #![tactic(auto)]
 
-ghost use Rattle.std.specs.Prelude.{◌≡◌, [], ◌∷◌, map};
+ghost use Rattle.std.specs.Prelude.{◌≡◌, [], ◌∷◌, map, IsTrue};
 ghost use Rattle.cw_unit.specs.Allocation.{storage_map};
 ghost use Rattle.cw_unit.specs.StackBound.{control_need};
+ghost use Rattle.cw_checks_meaning.specs.WellFormed.{are_well_formed};
 ghost use Rattle.cw_checks_meaning.specs.MoreExamples.{more_examples};
 ghost use Rattle.cw_checks_meaning.specs.Examples.{Example, result_of, wanted_of, before_of, running_of, expressions, addresses, control, procedures, frame_area_full, several_segments, counted, calls_300, filter_and_control, first_sum, packed_table_overlay, map_of_example, absolute_word, absolute_map, filter_map, packed_map};
 
@@ -35,4 +36,17 @@ pub fn sizes()
     ensures packed { map_of_example packed_table_overlay ≡ packed_map }
     ensures filter { map_of_example filter_and_control ≡ filter_map }
     ensures need { control_need first_sum.segments 4096 ≡ 49228 }
+{}
+
+/// The segments of all these examples are well-formed units, of which the laws of `cw_safety` tell.
+pub fn well_formed()
+    ensures expressions { IsTrue (are_well_formed expressions) }
+    ensures addresses { IsTrue (are_well_formed addresses) }
+    ensures control { IsTrue (are_well_formed control) }
+    ensures procedures { IsTrue (are_well_formed procedures) }
+    ensures segments { IsTrue (are_well_formed several_segments) }
+    ensures more { IsTrue (are_well_formed more_examples) }
+    ensures frames { IsTrue (are_well_formed (frame_area_full ∷ [])) }
+    ensures calls { IsTrue (are_well_formed (calls_300 ∷ [])) }
+    ensures filter { IsTrue (are_well_formed (filter_and_control ∷ [])) }
 {}

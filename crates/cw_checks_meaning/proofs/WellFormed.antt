@@ -1,0 +1,34 @@
+-- That the segments of the examples are well formed is computed.
+use Rattle.std.proofs.Common.{IsTrue, refl, [], ◌∷◌}
+use Rattle.cw_unit.specs.declared.unit.Arg.TheFolds.{fold-roll-Expr, fold-roll-Ref, fold-roll-Arg, fold-roll-Spot, fold-roll-Cond}
+use Rattle.cw_unit.specs.declared.unit.Stmt.TheFolds.{fold-roll-Stmt}
+use Rattle.cw_checks_meaning.specs.WellFormed.{are_well_formed}
+use Rattle.cw_checks_meaning.specs.Examples.{expressions, addresses, control, procedures, several_segments, frame_area_full, calls_300, filter_and_control}
+use Rattle.cw_checks_meaning.specs.MoreExamples.{more_examples}
+
+pub expressions-formed : IsTrue (are_well_formed expressions)
+expressions-formed = simp (fold-roll-Expr, fold-roll-Ref, fold-roll-Arg, fold-roll-Spot, fold-roll-Stmt) refl
+
+pub addresses-formed : IsTrue (are_well_formed addresses)
+addresses-formed = simp (fold-roll-Expr, fold-roll-Ref, fold-roll-Arg, fold-roll-Spot, fold-roll-Stmt) refl
+
+pub control-formed : IsTrue (are_well_formed control)
+control-formed = simp (fold-roll-Expr, fold-roll-Ref, fold-roll-Arg, fold-roll-Spot, fold-roll-Cond, fold-roll-Stmt) refl
+
+pub procedures-formed : IsTrue (are_well_formed procedures)
+procedures-formed = simp (fold-roll-Expr, fold-roll-Ref, fold-roll-Arg, fold-roll-Spot, fold-roll-Cond, fold-roll-Stmt) refl
+
+pub segments-formed : IsTrue (are_well_formed several_segments)
+segments-formed = simp (fold-roll-Expr, fold-roll-Ref, fold-roll-Arg, fold-roll-Spot, fold-roll-Stmt) refl
+
+pub more-formed : IsTrue (are_well_formed more_examples)
+more-formed = simp (fold-roll-Expr, fold-roll-Ref, fold-roll-Arg, fold-roll-Spot, fold-roll-Stmt) refl
+
+pub frames-formed : IsTrue (are_well_formed (frame_area_full ∷ []))
+frames-formed = simp (fold-roll-Expr, fold-roll-Ref, fold-roll-Arg, fold-roll-Spot, fold-roll-Cond, fold-roll-Stmt) refl
+
+pub calls-formed : IsTrue (are_well_formed (calls_300 ∷ []))
+calls-formed = simp (fold-roll-Expr, fold-roll-Ref, fold-roll-Arg, fold-roll-Spot, fold-roll-Cond, fold-roll-Stmt) refl
+
+pub filter-formed : IsTrue (are_well_formed (filter_and_control ∷ []))
+filter-formed = simp (fold-roll-Expr, fold-roll-Ref, fold-roll-Arg, fold-roll-Spot, fold-roll-Cond, fold-roll-Stmt) refl
