@@ -1,10 +1,10 @@
 //! Example programs, carried out by the definitions of the source semantics.
 #![tactic(auto)]
 
-ghost use Rattle.std.specs.Prelude.{◌≡◌, [], ◌∷◌, map, IsTrue};
+ghost use Rattle.std.specs.Prelude.{◌≡◌, [], ◌∷◌, map, replicate, false, IsTrue};
 ghost use Rattle.cw_unit.specs.Allocation.{storage_map};
 ghost use Rattle.cw_unit.specs.StackBound.{control_need};
-ghost use Rattle.cw_checks_meaning.specs.WellFormed.{are_well_formed};
+ghost use Rattle.cw_checks_meaning.specs.WellFormed.{well_formed, are_well_formed, not_well_formed};
 ghost use Rattle.cw_checks_meaning.specs.MoreExamples.{more_examples};
 ghost use Rattle.cw_checks_meaning.specs.Examples.{Example, result_of, wanted_of, before_of, running_of, expressions, addresses, control, procedures, frame_area_full, several_segments, counted, calls_300, filter_and_control, first_sum, packed_table_overlay, map_of_example, absolute_word, absolute_map, filter_map, packed_map};
 
@@ -49,4 +49,10 @@ pub fn well_formed()
     ensures frames { IsTrue (are_well_formed (frame_area_full ∷ [])) }
     ensures calls { IsTrue (are_well_formed (calls_300 ∷ [])) }
     ensures filter { IsTrue (are_well_formed (filter_and_control ∷ [])) }
+{}
+
+/// These are not, and their runs are stuck.
+pub fn ill_formed()
+    ensures refused { map well_formed not_well_formed ≡ replicate 5 false }
+    ensures stuck { map result_of not_well_formed ≡ map wanted_of not_well_formed }
 {}

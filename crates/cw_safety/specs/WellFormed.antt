@@ -29,6 +29,7 @@ use Rattle.cw_safety.specs.Kinds.{Kind, WordKind, LabelKind, SwitchKind, Procedu
 
 -- ---- labels
 
+-- of a list of truth values: one holds, all hold
 abbrev pub any : List Bool → Bool
 any [] = false
 any (b ∷ bs) = b || any bs
@@ -37,6 +38,7 @@ abbrev pub all : List Bool → Bool
 all [] = true
 all (b ∷ bs) = b && all bs
 
+-- whether a label stands before a statement of this body: before one of its own, or in one that it holds
 abbrev pub sets_step : (label : ℕ) → Stmt-F Bool → Bool
 sets_step l (statement.Put line r e) = false
 sets_step l (statement.PutBits line t b r e) = false
@@ -48,7 +50,6 @@ sets_step l (statement.For line item r es s) = s
 sets_step l (statement.Seq ss) = any ss
 sets_step l (statement.Mark ls s) = has_label l ls || s
 
--- whether a label stands before a statement of this body
 abbrev pub sets : (label : ℕ) → Stmt → Bool
 sets l = fold-Stmt Bool (sets_step l)
 
@@ -61,6 +62,7 @@ abbrev pub is_at : (segment procedure : ℕ) → Option (ℕ × ℕ) → Bool
 is_at h q None = false
 is_at h q (Some o) = nat_eq o.0 h && nat_eq o.1 q
 
+-- a label that no procedure owns is the segment's, and is set in its body; another one is set in the body of the procedure at work
 abbrev pub reaches_label : SourceUnit → Option Label → (segment label : ℕ) → (at_work : Option (ℕ × ℕ)) → Bool
 reaches_label u None h l o = false
 reaches_label u (Some m) h l o = elim m.proc [ None ↦ sets l u.body | Some q ↦ is_at h q o && sets_in_procedure l (slice_get u.procs q) ]
@@ -71,18 +73,22 @@ reaches_unit (Some u) h l o = reaches_label u (slice_get u.labels l) h l o
 
 -- ---- kinds of arguments
 
+-- the control parameters of a procedure
 abbrev pub controls_in : Option Proc → List Kind
 controls_in None = []
 controls_in (Some q) = control_kinds (parameter_kinds q)
 
+-- whether there is this procedure, and its parameters take these arguments
 abbrev pub takes_arguments : Option Proc → List Kind → Bool
 takes_arguments None ks = false
 takes_arguments (Some q) ks = same_kinds ks (parameter_kinds q)
 
+-- whether this is a procedure parameter, and takes these arguments
 abbrev pub parameter_takes : Option Kind → List Kind → Bool
 parameter_takes (Some (ProcedureKind ts)) ks = suits ks ts
 parameter_takes _ ks = false
 
+-- an argument is of a kind where its parts are well formed, and a list of arguments has kinds where each has one
 abbrev pub kind_if : Bool → Kind → Option Kind
 kind_if true k = Some k
 kind_if false k = None
@@ -95,6 +101,7 @@ abbrev pub kinds_of : List (Option Kind) → Option (List Kind)
 kinds_of [] = Some []
 kinds_of (k ∷ ks) = kind_and k (kinds_of ks)
 
+-- whether there is a control parameter of this number, and it is a label, or a switch
 abbrev pub is_label : Option Kind → Bool
 is_label (Some LabelKind) = true
 is_label _ = false
@@ -103,7 +110,7 @@ abbrev pub is_switch : Option Kind → Bool
 is_switch (Some SwitchKind) = true
 is_switch _ = false
 
--- ---- trees that hold no names of their own
+-- ---- conditions and references name nothing themselves, so they are well formed where their parts are
 
 abbrev pub condition_step : Cond-F (Option Kind) Bool Bool Bool Bool → Bool
 condition_step (layer.Cmp op a b) = a && b
@@ -150,6 +157,7 @@ module _ (p : Program) where
   controls_of None = []
   controls_of (Some o) = controls_in (procedure_at p o.0 o.1)
 
+  -- a procedure by its segment and number
   abbrev pub procedure_of_place : Option (ℕ × ℕ) → Option Proc
   procedure_of_place None = None
   procedure_of_place (Some q) = procedure_at p q.0 q.1
@@ -181,6 +189,7 @@ module _ (p : Program) where
     argument_step (layer.CommonProc d) = procedure_kind (procedure_of_place (procedure_of_def (definition_of p segment d)))
     argument_step (layer.Special k) = slice_get (controls_of at_work) k
 
+    -- a call asks for an answer; other operators hold where their operands do
     abbrev pub expression_step : Expr-F (Option Kind) Bool Bool Bool Bool → Bool
     expression_step (layer.Num n) = true
     expression_step (layer.Const z) = true
@@ -222,6 +231,7 @@ module _ (p : Program) where
     are_elements [] = true
     are_elements (e ∷ es) = is_element e && are_elements es
 
+    -- a jump goes to a label that is reached, or by a switch whose labels all are, or through a parameter of that sort
     abbrev pub is_goal : Dest → Bool
     is_goal (dest.Goal g) = reaches at_work (label_of_goal p segment g)
     is_goal (dest.Special k) = is_label (slice_get (controls_of at_work) k)
