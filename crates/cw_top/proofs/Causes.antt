@@ -15,9 +15,8 @@ use Rattle.cw_top.specs.Closing.{closing_line}
 use Rattle.cw_top.specs.Said.{Says, Writes}
 use Rattle.cw_top.proofs.Said.{says}
 use Rattle.cw_top.specs.declared.status.Status.{Status}
-use Rattle.cw_top.specs.declared.status.Status.TheVariants.{Ended, Usage, Refused, Unlinked, Stopped, Unfinished, NoFile, Outside, NoMemory, TooLong, BadCode, Divided}
+use Rattle.cw_top.specs.declared.status.Status.TheVariants.{Ended, Usage, Refused, Stopped, Unfinished, NoFile, Outside, NoMemory, TooLong, BadCode, Divided}
 use Rattle.cw_top.specs.declared.status.Which.TheVariants.{Store, Out, Say}
-use Rattle.cw_top.specs.declared.status.LinkFault.TheVariants.{DataTooBig, CodeTooBig}
 use Rattle.cw_top.specs.declared.status.Long.TheVariants.{File}
 
 -- a run of the image
@@ -40,7 +39,6 @@ run_causes words file f a u s old new n m k l (Outside Store) command compiles s
 run_causes words file f a u s old new n m k l (Outside Say) command compiles start (shown, shows, tells, is, same) quiet = absurd tells
 run_causes words file f a u s old new n m k l Usage command compiles start (shown, shows, tells, is, same) quiet = absurd tells
 run_causes words file f a u s old new n m k l (Refused number fault) command compiles start (shown, shows, tells, is, same) quiet = absurd tells
-run_causes words file f a u s old new n m k l (Unlinked fault) command compiles start (shown, shows, tells, is, same) quiet = absurd tells
 run_causes words file f a u s old new n m k l (NoFile number) command compiles start (shown, shows, tells, is, same) quiet = absurd tells
 run_causes words file f a u s old new n m k l NoMemory command compiles start (shown, shows, tells, is, same) quiet = absurd tells
 run_causes words file f a u s old new n m k l (TooLong long) command compiles start (shown, shows, tells, is, same) quiet = absurd tells
@@ -58,7 +56,6 @@ run_says file u s old new n m told now (Outside Store) compiles (shown, shows, t
 run_says file u s old new n m told now (Outside Say) compiles (shown, shows, tells, more, same) is = absurd tells
 run_says file u s old new n m told now Usage compiles (shown, shows, tells, more, same) is = absurd tells
 run_says file u s old new n m told now (Refused number fault) compiles (shown, shows, tells, more, same) is = absurd tells
-run_says file u s old new n m told now (Unlinked fault) compiles (shown, shows, tells, more, same) is = absurd tells
 run_says file u s old new n m told now (NoFile number) compiles (shown, shows, tells, more, same) is = absurd tells
 run_says file u s old new n m told now NoMemory compiles (shown, shows, tells, more, same) is = absurd tells
 run_says file u s old new n m told now (TooLong long) compiles (shown, shows, tells, more, same) is = absurd tells
@@ -88,8 +85,6 @@ closing_causes words file before f a out n m l (Outside Store) cause later quiet
 closing_causes words file before f a out n m l (Outside Say) (command, rose, same) later quiet = (command, omega (arith, rose, later), same)
 closing_causes words file before f a out n m l Usage cause later quiet = cause
 closing_causes words file before f a out n m l (Refused number fault) cause later quiet = cause
-closing_causes words file before f a out n m l (Unlinked (DataTooBig need)) cause later quiet = cause
-closing_causes words file before f a out n m l (Unlinked (CodeTooBig bytes)) cause later quiet = cause
 closing_causes words file before f a out n m l (NoFile number) cause later quiet = cause
 closing_causes words file before f a out n m l NoMemory cause later quiet = cause
 closing_causes words file before f a out n m l (TooLong (File number)) cause later quiet = cause

@@ -6,3 +6,5 @@ pub mod Shown
 pub mod Built
 pub mod Causes
 pub mod Texts
+pub mod FewOrders
+pub mod Sizes

@@ -1,11 +1,9 @@
 -- The number of each status, and the line that closes what is told of a run.
 use Rattle.std.specs.Prelude.{ℕ, ◌+◌, ◌==◌, List, [], ◌++◌, Option, None, Some, slice_index_or, codes, decimal, if◌then◌else◌}
 use Rattle.cw_top.specs.declared.status.Status.{Status}
-use Rattle.cw_top.specs.declared.status.Status.TheVariants.{Ended, Usage, Refused, Unlinked, Stopped, Unfinished, NoFile, Outside, NoMemory, TooLong, BadCode, Divided}
+use Rattle.cw_top.specs.declared.status.Status.TheVariants.{Ended, Usage, Refused, Stopped, Unfinished, NoFile, Outside, NoMemory, TooLong, BadCode, Divided}
 use Rattle.cw_top.specs.declared.status.Refused.{Refused as Refusal}
 use Rattle.cw_top.specs.declared.status.Refused.TheVariants.{NotBuilt}
-use Rattle.cw_top.specs.declared.status.LinkFault.{LinkFault}
-use Rattle.cw_top.specs.declared.status.LinkFault.TheVariants.{DataTooBig, CodeTooBig}
 use Rattle.cw_top.specs.declared.status.Which.{Which}
 use Rattle.cw_top.specs.declared.status.Which.TheVariants.{Store, Out, Say}
 use Rattle.cw_top.specs.declared.status.Long.{Long}
@@ -15,7 +13,6 @@ abbrev pub status_code : Status → ℕ
 status_code Ended = 0
 status_code Usage = 1
 status_code (Refused file fault) = 2
-status_code (Unlinked fault) = 3
 status_code (Stopped kind segment line) = 4
 status_code (Unfinished steps) = 5
 status_code (NoFile file) = 6
@@ -56,10 +53,6 @@ segment_name segment number = if number == 1 then segment else None
 abbrev pub refusal_line : Refusal → List ℕ
 refusal_line NotBuilt = codes ": NotBuilt\n"
 
-abbrev pub link_line : LinkFault → List ℕ
-link_line (DataTooBig need) = codes "link: P1 DataTooBig " ++ decimal need ++ codes "\n"
-link_line (CodeTooBig bytes) = codes "link: P4 CodeTooBig " ++ decimal bytes ++ codes "\n"
-
 abbrev pub long_name : List (List ℕ) → Long → List ℕ
 long_name words (File file) = file_name words file
 
@@ -68,7 +61,6 @@ abbrev pub closing_line : List (List ℕ) → Option (List ℕ) → Status → L
 closing_line words segment Ended = []
 closing_line words segment Usage = codes "usage: coral66 [--data N] [--frames N] [--depth N] [--steps N] ACTION WORD...\n"
 closing_line words segment (Refused file fault) = file_name words file ++ refusal_line fault
-closing_line words segment (Unlinked fault) = link_line fault
 closing_line words segment (Stopped kind number line) =
     codes "stopped: " ++ name_or_number (stop_name kind) kind ++ codes " " ++ name_or_number (segment_name segment number) number ++ codes " " ++ decimal line ++ codes "\n"
 closing_line words segment (Unfinished steps) = codes "unfinished: " ++ decimal steps ++ codes "\n"

@@ -1,5 +1,5 @@
 -- What the command promises. So far its words are `go` and the name of one file, whose text is a segment of sums.
-use Rattle.std.specs.Prelude.{◌≡◌, ℕ, ◌<◌, ◌≤◌, List, [], ◌∷◌, length, take, Option, None, Some, slice_index_or, codes}
+use Rattle.std.specs.Prelude.{◌≡◌, ℕ, ◌≤◌, List, [], ◌∷◌, length, take, Option, None, Some, slice_index_or, codes}
 use Rattle.cw_io.specs.Bytes.{after_told}
 use Rattle.cw_io.specs.Count.{Rose}
 use Rattle.cw_io.specs.File.{Told, Is, IsAbsent, IsLonger}
@@ -18,8 +18,7 @@ use Rattle.cw_top.specs.Listing.{listing}
 use Rattle.cw_top.specs.ReferenceImage.{linked_code}
 use Rattle.cw_top.specs.Said.{Says}
 use Rattle.cw_top.specs.declared.status.Status.{Status}
-use Rattle.cw_top.specs.declared.status.Status.TheVariants.{Ended, Usage, Refused, Unlinked, Stopped, Unfinished, NoFile, Outside, NoMemory, TooLong, BadCode, Divided}
-use Rattle.cw_top.specs.declared.status.LinkFault.TheVariants.{DataTooBig, CodeTooBig}
+use Rattle.cw_top.specs.declared.status.Status.TheVariants.{Ended, Usage, Refused, Stopped, Unfinished, NoFile, Outside, NoMemory, TooLong, BadCode, Divided}
 use Rattle.cw_top.specs.declared.status.Which.TheVariants.{Store, Out, Say}
 use Rattle.cw_top.specs.declared.status.Long.TheVariants.{File}
 
@@ -124,19 +123,10 @@ pub record IsNotBuilt (file : Told) : Type 0 where
   pub within : length text ≤ text_limit
   pub no_unit : unit_of text ≡ None
 
--- the code is too long by this many bytes in all
-pub record IsTooBig (file : Told) (bytes : ℕ) : Type 0 where
-  pub unit : SourceUnit
-  pub compiles : Compiles file unit
-  pub length_is : bytes ≡ length (image_of unit)
-  pub too_long : 65536 < bytes
-
 -- When each status comes. Two of them never come of one file that is told and one run, so each comes exactly where its cause is.
 abbrev pub Causes : (words : List (List ℕ)) → (file : Told) → (before after : Outer) → Status → Type 0
 Causes words file before after Usage = (IsCommand words → ⊥) × (after.out ≡ before.out)
 Causes words file before after (Refused number fault) = IsCommand words × (number ≡ 0) × IsNotBuilt file × (after.out ≡ before.out)
-Causes words file before after (Unlinked (DataTooBig need)) = ⊥
-Causes words file before after (Unlinked (CodeTooBig bytes)) = IsCommand words × IsTooBig file bytes × (after.out ≡ before.out)
 Causes words file before after (NoFile number) =
     IsCommand words × (number ≡ 0) × IsAbsent file × Rose before.absences after.absences × (after.out ≡ before.out)
 Causes words file before after (Outside Store) = IsCommand words × Rose before.store_faults after.store_faults × (after.out ≡ before.out)
@@ -152,7 +142,6 @@ Causes words file before after status = IsCommand words × Ran file before after
 abbrev pub IsFirstPart : (file : Told) → Status → (segment : Option (List ℕ)) → (first : List ℕ) → Type 0
 IsFirstPart file Usage segment first = first ≡ []
 IsFirstPart file (Refused number fault) segment first = first ≡ []
-IsFirstPart file (Unlinked fault) segment first = first ≡ []
 IsFirstPart file (NoFile number) segment first = first ≡ []
 IsFirstPart file (Outside Store) segment first = first ≡ []
 IsFirstPart file (TooLong long) segment first = first ≡ []

@@ -10,9 +10,10 @@ ghost use Rattle.cw_top.specs.Correct.{IsCommand, Compiles, Causes, SaysFirst, o
 
 use crate::building::{Built, build, default_limits};
 use crate::command::file_of;
+use crate::laws::images_fit;
 use crate::listing::write_listing;
 use crate::running::run_image;
-use crate::status::{LinkFault, Long, Refused, Status, Which};
+use crate::status::{Long, Refused, Status, Which};
 use cw_cpu86::Cpu;
 use cw_form::laws::own_singles;
 use cw_form::read_unit;
@@ -23,9 +24,6 @@ use std::alloc::Global;
 
 /// The most bytes of a source text.
 const TEXT_LIMIT: usize = 1_048_576;
-
-/// The most bytes of linked code.
-const CODE_LIMIT: usize = 65_536;
 
 /// What a run came to, and the name of the segment that was compiled.
 #[derive(Clone, Copy)]
@@ -75,6 +73,7 @@ fn run_unit<O: Sink, S: Sink>(alloc: Global, unit: &Unit, out: &mut O, say: &mut
     requires own { All IsOwnSingle unit.now.items }
     requires few { length unit.now.items ≤ 100 }
     requires no_procedures { unit.now.procs ≡ [] }
+    requires fits { length (image_of unit.now) ≤ 65536 }
     ensures causes { (words : List (List ℕ)) (file : Told) (f a : ℕ) → IsCommand words → Compiles file unit.now → Causes words file (outer f a (O.held out.old) (O.faults out.old) (S.faults say.old)) (outer f a (O.held out.new) (O.faults out.new) (S.faults say.new)) result }
     ensures says { (file : Told) → Compiles file unit.now → SaysFirst file (S.held say.old) (S.held say.new) result (Some unit.now.name) }
     ensures later { S.faults say.old ≤ S.faults say.new }
@@ -82,12 +81,7 @@ fn run_unit<O: Sink, S: Sink>(alloc: Global, unit: &Unit, out: &mut O, say: &mut
     let Ok(built) = build(alloc, unit) else {
         return Status::NoMemory;
     };
-    let code = built.code.as_slice();
-    if code.len() > CODE_LIMIT {
-        let bytes = code.len() as u64;
-        return Status::Unlinked(LinkFault::CodeTooBig { bytes });
-    }
-    let Ok(mut cpu) = Cpu::start(alloc, code, &[]) else {
+    let Ok(mut cpu) = Cpu::start(alloc, built.code.as_slice(), &[]) else {
         return Status::NoMemory;
     };
     show_and_run(&mut cpu, unit, &built, out, say)
@@ -101,6 +95,7 @@ fn run_text<O: Sink, S: Sink>(alloc: Global, text: &[u8], out: &mut O, say: &mut
     ensures later { S.faults say.old ≤ S.faults say.new }
 {
     own_singles();
+    images_fit();
     match read_unit(alloc, text) {
         Ok(Some(unit)) => Answer {
             status: run_unit(alloc, &unit, out, say),

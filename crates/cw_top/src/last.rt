@@ -1,10 +1,10 @@
 // The line that closes what is told of a run.
 ghost use Rattle.std.specs.Prelude.{◌≡◌, ◌++◌, map, string_bytes, option_map, decimal, codes};
 ghost use Rattle.cw_top.specs.Said.{Writes};
-ghost use Rattle.cw_top.specs.Closing.{closing_line, file_name, refusal_line, link_line, stop_name, name_or_number, segment_name};
+ghost use Rattle.cw_top.specs.Closing.{closing_line, file_name, refusal_line, stop_name, name_or_number, segment_name};
 
 use crate::say::{write_line, write_piece};
-use crate::status::{LinkFault, Long, Refused, Status};
+use crate::status::{Long, Refused, Status};
 use cw_io::{Failed, Sink};
 use cw_word::Name;
 
@@ -44,15 +44,6 @@ fn write_refusal<S: Sink>(say: &mut S, name: &[u8], fault: Refused) -> Result<()
     }
 }
 
-fn write_link_fault<S: Sink>(say: &mut S, fault: LinkFault) -> Result<(), Failed>
-    ensures { Writes (S.held say.old) (S.held say.new) (S.faults say.old) (S.faults say.new) (link_line fault) result }
-{
-    match fault {
-        LinkFault::DataTooBig { need } => write_number(say, b"link: P1 DataTooBig ", need),
-        LinkFault::CodeTooBig { bytes } => write_number(say, b"link: P4 CodeTooBig ", bytes),
-    }
-}
-
 /// Writes the line that closes what is told of a run.
 pub(crate) fn write_last<S: Sink>(
     say: &mut S,
@@ -67,7 +58,6 @@ pub(crate) fn write_last<S: Sink>(
         Status::Ended => Ok(()),
         Status::Usage => write_piece(say, USAGE),
         Status::Refused { file, fault } => write_refusal(say, file_name(words, file), fault),
-        Status::Unlinked(fault) => write_link_fault(say, fault),
         Status::Stopped {
             kind,
             segment: number,

@@ -6,6 +6,7 @@ mod command;
 mod go;
 mod image;
 mod last;
+mod laws;
 mod listing;
 mod ports;
 mod running;
@@ -14,5 +15,5 @@ mod status;
 mod storage;
 mod top;
 
-pub use status::{LinkFault, Long, Refused, Status, Which};
+pub use status::{Long, Refused, Status, Which};
 pub use top::coral66;

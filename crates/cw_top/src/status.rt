@@ -7,8 +7,6 @@ pub enum Status {
     Usage,
     /// The text of this file has no code yet.
     Refused { file: u16, fault: Refused },
-    /// The image is not made.
-    Unlinked(LinkFault),
     /// The program stopped, for the cause of this kind, at a line of a segment, counted from 1.
     Stopped { kind: u8, segment: u8, line: u16 },
     /// The program is still running after so many instructions.
@@ -32,15 +30,6 @@ pub enum Status {
 pub enum Refused {
     /// The text is not of the form that is compiled so far.
     NotBuilt,
-}
-
-/// Why a list of segments is not linked.
-#[derive(Clone, Copy, Debug, PartialEq, Eq)]
-pub enum LinkFault {
-    /// The items and the frame area need this many data words, more than there are.
-    DataTooBig { need: u64 },
-    /// The code has more than 65,536 bytes: so many.
-    CodeTooBig { bytes: u64 },
 }
 
 /// What failed outside.
@@ -69,7 +58,6 @@ impl Status {
             Status::Ended => 0,
             Status::Usage => 1,
             Status::Refused { .. } => 2,
-            Status::Unlinked(_) => 3,
             Status::Stopped { .. } => 4,
             Status::Unfinished { .. } => 5,
             Status::NoFile { .. } => 6,

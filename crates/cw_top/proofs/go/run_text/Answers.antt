@@ -8,3 +8,6 @@ run_unit-requires-clause-no_procedures g c =
 pub returns-in-Ok-Some-clause-causes : goal.returns-in-Ok-Some-clause-causes
 returns-in-Ok-Some-clause-causes g c = λ words file f a command is.
     c.run_unit.ensures.causes words file f a command (record { text = c.args.text.now; is = is; within = c.requires.within; unit_is = sym c.in-Ok-Some.ensures ∙ c.in-Ok-Some.field-0-is })
+
+pub run_unit-requires-clause-fits : goal.run_unit-requires-clause-fits
+run_unit-requires-clause-fits g c = c.images_fit.ensures c.args.text.now c.in-Ok-Some.unit (sym c.in-Ok-Some.ensures ∙ c.in-Ok-Some.field-0-is)

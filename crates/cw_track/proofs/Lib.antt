@@ -1,0 +1,5 @@
+pub mod Paths
+pub mod Simulations
+pub mod Composition
+pub mod Budgets
+pub mod Clocks
