@@ -1,0 +1,2 @@
+pub mod OrderMachine
+pub mod Example
