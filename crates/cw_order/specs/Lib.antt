@@ -1,0 +1,3 @@
+pub mod OrderMachine
+pub mod Example
+pub mod FittingWords

@@ -1,6 +1,7 @@
 //! Intermediate code: the orders of an abstract stack machine.
 #![tactic(auto)]
 
+pub mod laws;
 mod order;
 
 pub use order::{Comparator, Order, Orders};

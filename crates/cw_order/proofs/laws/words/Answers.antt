@@ -1,0 +1,5 @@
+use Rattle.cw_order.proofs.FittingWords.{step-fits}
+use Rattle.cw_order.proofs.laws.words.Goals as goal
+
+pub returns : goal.returns
+returns c p s constants fits = step-fits p constants s fits
