@@ -3,5 +3,10 @@ pub mod Letters
 pub mod Classes
 pub mod Numbers
 pub mod Strings
+pub mod Words
+pub mod Longest
+pub mod Front
+pub mod Quoted
+pub mod Marks
 pub mod Steps
 pub mod Run

@@ -8,6 +8,11 @@ use Rattle.cw_lex.specs.Found.{Piece, piece}
 use Rattle.cw_lex.proofs.Letters.{word_lettered}
 use Rattle.cw_lex.proofs.Numbers.{number_most, number_is, number_within}
 use Rattle.cw_lex.proofs.Strings.{EndsAt, ends_quotes, quotable_ends}
+use Rattle.cw_lex.proofs.Words.{literal_end_is}
+use Rattle.cw_lex.proofs.Longest.{IsFoundAt, FoundOrNot}
+use Rattle.cw_lex.proofs.Front.{source_string}
+use Rattle.cw_lex.proofs.Quoted.{quoted_of}
+use Rattle.cw_lex.proofs.Marks.{found_is}
 use Rattle.cw_lex.proofs.Classes.{class_of}
 use Rattle.cw_lex.specs.Lexical.{IsGap, IsWrong, is_token}
 
