@@ -8,5 +8,6 @@ pub mod Longest
 pub mod Front
 pub mod Quoted
 pub mod Marks
+pub mod Matching
 pub mod Steps
 pub mod Run
