@@ -1,8 +1,8 @@
 -- With which bytes the items of each kind begin.
-use Rattle.std.proofs.Common.{◌≡◌, ℕ, suc, ◌+◌, ◌≤◌, ◌<◌, Bool, true, false, cond, ◌&&◌, ◌||◌, ◌==◌, not, List, [], ◌∷◌, ◌++◌, length, take, drop, Option, Some, None, refl, sym, ap, subst, ◌∙◌, ◌⊎◌, inl, inr, arith, append_assoc}
-use Rattle.std.specs.List.{prefix_len, list_all}
-use Rattle.std.specs.Char.{is_ascii_alphabetic, is_ascii_alphanumeric, is_ascii_digit}
-use Rattle.std.proofs.lemmas.Bool.{and_parts, and_from, eqb-true}
+use Rattle.std.proofs.Common.{◌≡◌, ℕ, ◌≤◌, Bool, true, false, cond, ◌&&◌, ◌||◌, ◌==◌, List, [], ◌∷◌, ◌++◌, Option, Some, refl, sym, ap, ◌∙◌, ◌⊎◌, inl, inr, arith}
+use Rattle.std.specs.List.{list_all}
+use Rattle.std.specs.Char.{is_ascii_alphabetic, is_ascii_digit}
+use Rattle.std.proofs.lemmas.Bool.{and_parts, eqb-true}
 use Rattle.std.proofs.lemmas.Bool.Decides.{nat_tests}
 use Rattle.cw_lex.specs.declared.token.Symbol.{Symbol}
 use Rattle.cw_lex.specs.declared.token.Form.{Form}
@@ -110,9 +110,9 @@ class_front v r c bs m h e l = sym (ap class_of h) ∙ class_append v r m e l
 
 pub literal_class : (form : Form) (v : List ℕ) → IsLiteral form v → (class_of v ≡ 0) ⊎ (class_of v ≡ 3)
 literal_class form _ (of_character w gap b p s l) = elim (word_form w words.Literal p) [
-    | is_bare e h ↦ inl (class_append w (gap ++ 40 ∷ b ∷ 41 ∷ []) 0 h (omega arith))
-    | is_quoted u e q h ↦ inr (class_append w (gap ++ 40 ∷ b ∷ 41 ∷ []) 3 h (omega arith))
-  ]
+  | is_bare e h ↦ inl (class_append w (gap ++ 40 ∷ b ∷ 41 ∷ []) 0 h (omega arith))
+  | is_quoted u e q h ↦ inr (class_append w (gap ++ 40 ∷ b ∷ 41 ∷ []) 3 h (omega arith))
+]
 
 small : (v r : List ℕ) (c : ℕ) (bs : List ℕ) (m : ℕ) → v ++ r ≡ c ∷ bs → class_of v ≡ m → m ≤ 4 → class_of v ≡ class c
 small v r c bs m h e l = e ∙ sym (class_front v r c bs m h e l)
@@ -120,15 +120,15 @@ small v r c bs m h e l = e ∙ sym (class_front v r c bs m h e l)
 -- an item is of the class of the text there
 pub item_class : (form : Form) (v r : List ℕ) (c : ℕ) (bs : List ℕ) (k : TokenKind) → v ++ r ≡ c ∷ bs → IsItem form v k → class_of v ≡ class c
 item_class form v r c bs (kinds.Word k) h i = elim (word_form v k i) [
-    | is_bare e q ↦ small v r c bs 0 h q (omega arith)
-    | is_quoted w e p q ↦ small v r c bs 3 h q (omega arith)
-  ]
+  | is_bare e q ↦ small v r c bs 0 h q (omega arith)
+  | is_quoted w e p q ↦ small v r c bs 3 h q (omega arith)
+]
 item_class form v r c bs kinds.Name h i = small v r c bs 0 h (name_class v i) (omega arith)
 item_class form v r c bs kinds.Number h i = small v r c bs 1 h (number_class v i) (omega arith)
 item_class form v r c bs kinds.Text h i = small v r c bs 2 h (text_class v i.1) (omega arith)
 item_class form v r c bs kinds.BodyText h i = small v r c bs 2 h (body_text_class v i.1) (omega arith)
 item_class form v r c bs kinds.Literal h i = elim (literal_class form v i) [
-    | inl q ↦ small v r c bs 0 h q (omega arith)
-    | inr q ↦ small v r c bs 3 h q (omega arith)
-  ]
+  | inl q ↦ small v r c bs 0 h q (omega arith)
+  | inr q ↦ small v r c bs 3 h q (omega arith)
+]
 item_class form v r c bs (kinds.Symbol s) h i = small v r c bs 4 h (symbol_class v s i) (omega arith)

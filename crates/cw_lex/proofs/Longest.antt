@@ -1,23 +1,22 @@
 -- What is found at the front of a text is the longest item there.
-use Rattle.std.proofs.Common.{◌≡◌, ℕ, zero, suc, ◌+◌, ◌≤◌, ◌<◌, Bool, true, false, cond, ◌&&◌, ◌||◌, ◌==◌, List, [], ◌∷◌, ◌++◌, length, take, drop, Option, Some, None, refl, sym, ap, subst, ◌∙◌, ◌⊎◌, inl, inr, arith, append_assoc}
+use Rattle.std.proofs.Common.{◌≡◌, ℕ, zero, suc, ◌+◌, ◌≤◌, ◌<◌, Bool, true, false, cond, ◌||◌, ◌==◌, List, [], ◌∷◌, ◌++◌, length, take, drop, Option, Some, None, refl, sym, ap, subst, ◌∙◌, arith, append_assoc}
 use Rattle.std.specs.List.{prefix_len, list_all}
 use Rattle.std.specs.Char.{is_ascii_alphabetic, is_ascii_alphanumeric, is_ascii_digit}
-use Rattle.std.proofs.lemmas.Bool.{eqb-true, and_parts}
+use Rattle.std.proofs.lemmas.Bool.{and_parts}
 use Rattle.std.proofs.lemmas.Bool.Decides.{nat_tests}
-use Rattle.std.proofs.lemmas.List.{take-append-drop, length-append, length-drop}
+use Rattle.std.proofs.lemmas.List.{take-append-drop, length-append}
 use Rattle.std.proofs.lemmas.List.Sums.{prefix_len-le-length}
 use Rattle.cw_lex.specs.declared.token.Form.{Form}
 use Rattle.cw_lex.specs.declared.token.Word.{Word}
 use Rattle.cw_lex.specs.declared.token.Word.TheVariants as words
 use Rattle.cw_lex.specs.declared.token.TokenKind.{TokenKind}
 use Rattle.cw_lex.specs.declared.token.TokenKind.TheVariants as kinds
-use Rattle.cw_lex.specs.Items.{is_separator, is_literal_byte, word_of, IsWord, bare, quoted, IsIdentifier, letter_first, IsLiteral, of_character, IsItem, HasNoItem}
-use Rattle.cw_lex.specs.Found.{Found, bare_word, word_or_name, worded, literal_end, quoted_word, closed_word, quoted_or_none, number, number_of}
+use Rattle.cw_lex.specs.Items.{is_separator, is_literal_byte, word_of, bare, IsIdentifier, letter_first, IsLiteral, of_character, IsItem, HasNoItem}
+use Rattle.cw_lex.specs.Found.{Found, bare_word, word_or_name, worded}
 use Rattle.cw_lex.proofs.Lists.{every_prefix, every_stop, every_take, length_front, cut}
 use Rattle.cw_lex.proofs.Letters.{word_lettered, lettered_digits}
-use Rattle.cw_lex.proofs.Classes.{class, class_of, WordForm, is_bare, is_quoted, word_form, name_class, number_class, text_class, body_text_class, symbol_class, item_class}
+use Rattle.cw_lex.proofs.Classes.{class, class_of, is_bare, is_quoted, word_form, number_class, text_class, body_text_class, symbol_class, item_class}
 use Rattle.cw_lex.proofs.Words.{IsWordedAt, worded_at}
-use Rattle.cw_lex.proofs.Numbers.{number_size, number_most, number_is, number_within}
 
 -- what is found is the longest item
 pub record IsFoundAt (form : Form) (bs : List ℕ) (x : TokenKind × ℕ) : Type 0 where
@@ -42,9 +41,9 @@ zero_front (c ∷ w) u e f = cc
 
 letter_literal : (form : Form) (v : List ℕ) → IsLiteral form v → class_of v ≡ 0 → LetterItem form v
 letter_literal form _ (of_character w gap b p s l) h = elim (word_form w words.Literal p) [
-    | is_bare e q ↦ a_literal w gap b e s l refl
-    | is_quoted u e q k ↦ absurd (zero_front w (gap ++ 40 ∷ b ∷ 41 ∷ []) k h)
-  ]
+  | is_bare e q ↦ a_literal w gap b e s l refl
+  | is_quoted u e q k ↦ absurd (zero_front w (gap ++ 40 ∷ b ∷ 41 ∷ []) k h)
+]
 
 letter_name : (form : Form) (v : List ℕ) → IsIdentifier v → LetterItem form v
 letter_name form _ (letter_first {c = c} {w = w} e a n) = all_letters (lettered_alnum c w e a)
@@ -54,9 +53,9 @@ letter_name form _ (letter_first {c = c} {w = w} e a n) = all_letters (lettered_
 
 letter_item : (form : Form) (v : List ℕ) (k : TokenKind) → IsItem form v k → class_of v ≡ 0 → LetterItem form v
 letter_item form v (kinds.Word k) i h = elim (word_form v k i) [
-    | is_bare e q ↦ all_letters (lettered_digits v (word_lettered v k e))
-    | is_quoted w e p q ↦ absurd cc
-  ]
+  | is_bare e q ↦ all_letters (lettered_digits v (word_lettered v k e))
+  | is_quoted w e p q ↦ absurd cc
+]
 letter_item form v kinds.Name i h = letter_name form v i
 letter_item form v kinds.Number i h = let q = number_class v i in absurd cc
 letter_item form v kinds.Text i h = let q = text_class v i.1 in absurd cc
@@ -106,11 +105,11 @@ front_class (suc n) c bs h = refl
 bare_found : (form : Form) (c : ℕ) (bs : List ℕ) (n : ℕ) (o : Option Word) → class c ≡ 0 → n ≡ prefix_len is_ascii_alphanumeric (c ∷ bs) → 0 < n → n ≤ length (c ∷ bs) → list_all is_ascii_alphanumeric (take n (c ∷ bs)) ≡ true → word_of (take n (c ∷ bs)) ≡ o
     → IsFoundAt form (c ∷ bs) (word_or_name form o n (c ∷ bs))
 bare_found form c bs n None a e some within all w = record {
-    some = some;
-    within = within;
-    is_item = identifier_of (take n (c ∷ bs)) (front_class n c bs some ∙ a) all w;
-    best = λ v r k h i. letters_best form (c ∷ bs) n e within n (omega arith) (λ gap b r k h s l. absurd cc) v r h (letter_item form v k i (item_class form v r c bs k h i ∙ a));
-  }
+  some = some;
+  within = within;
+  is_item = identifier_of (take n (c ∷ bs)) (front_class n c bs some ∙ a) all w;
+  best = λ v r k h i. letters_best form (c ∷ bs) n e within n (omega arith) (λ gap b r k h s l. absurd cc) v r h (letter_item form v k i (item_class form v r c bs k h i ∙ a));
+}
 bare_found form c bs n (Some k) a e some within all w =
     let whole = c ∷ bs in
     let front = take n whole in
@@ -133,4 +132,3 @@ bare_is form c bs a =
     let h : is_ascii_alphanumeric c ≡ true = (let g = class_letter c a in grind (arith, nat_tests, g)) in
     let n : prefix_len is_ascii_alphanumeric (c ∷ bs) ≡ 1 + prefix_len is_ascii_alphanumeric bs = rw h refl in
     bare_found form c bs (prefix_len is_ascii_alphanumeric (c ∷ bs)) (word_of (take (prefix_len is_ascii_alphanumeric (c ∷ bs)) (c ∷ bs))) a refl (omega (arith, n)) (prefix_len-le-length is_ascii_alphanumeric (c ∷ bs)) (every_take is_ascii_alphanumeric (c ∷ bs)) refl
-

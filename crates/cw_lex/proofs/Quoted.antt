@@ -1,22 +1,21 @@
 -- Words between apostrophes, and symbols, at the front of a text.
-use Rattle.std.proofs.Common.{◌≡◌, ℕ, zero, suc, ◌+◌, ◌≤◌, ◌<◌, Bool, true, false, not, cond, ◌&&◌, ◌||◌, ◌==◌, List, [], ◌∷◌, ◌++◌, length, take, drop, Option, Some, None, refl, sym, ap, subst, ◌∙◌, ◌⊎◌, inl, inr, arith, append_assoc}
+use Rattle.std.proofs.Common.{◌≡◌, ℕ, ◌+◌, ◌≤◌, true, false, cond, ◌==◌, List, [], ◌∷◌, ◌++◌, length, take, drop, Option, Some, None, refl, sym, ap, subst, ◌∙◌, arith, append_assoc}
 use Rattle.std.specs.List.{prefix_len, list_all}
-use Rattle.std.specs.Char.{is_ascii_alphabetic, is_ascii_alphanumeric, is_ascii_digit}
-use Rattle.std.proofs.lemmas.Bool.{eqb-true, and_parts}
-use Rattle.std.proofs.lemmas.List.{take-append-drop, length-append, length-drop}
+use Rattle.std.specs.Char.{is_ascii_alphanumeric}
+use Rattle.std.proofs.lemmas.Bool.{eqb-true}
+use Rattle.std.proofs.lemmas.List.{take-append-drop, length-append}
 use Rattle.std.proofs.lemmas.List.Sums.{prefix_len-le-length}
-use Rattle.std.proofs.Math.Seq.{take-append_seam, drop-append_seam, take-add}
+use Rattle.std.proofs.Math.Seq.{take-append_seam, drop-append_seam}
 use Rattle.cw_lex.specs.declared.token.Form.{Form}
 use Rattle.cw_lex.specs.declared.token.Word.{Word}
 use Rattle.cw_lex.specs.declared.token.Word.TheVariants as words
-use Rattle.cw_lex.specs.declared.token.Symbol.{Symbol}
 use Rattle.cw_lex.specs.declared.token.TokenKind.{TokenKind}
 use Rattle.cw_lex.specs.declared.token.TokenKind.TheVariants as kinds
-use Rattle.cw_lex.specs.Items.{is_separator, is_literal_byte, word_of, IsWord, bare, quoted, IsLiteral, of_character, IsItem, HasNoItem, one_mark, two_marks, symbol_of}
-use Rattle.cw_lex.specs.Found.{Found, worded, quoted_word, closed_word, quoted_or_none, of_symbol, or_else, symbol}
+use Rattle.cw_lex.specs.Items.{is_separator, is_literal_byte, word_of, quoted, IsLiteral, of_character, IsItem, HasNoItem}
+use Rattle.cw_lex.specs.Found.{worded, quoted_word, closed_word, quoted_or_none}
 use Rattle.cw_lex.proofs.Lists.{every_stop, length_front, cut}
 use Rattle.cw_lex.proofs.Letters.{word_lettered, lettered_digits}
-use Rattle.cw_lex.proofs.Classes.{class, class_of, is_bare, is_quoted, word_form, name_class, number_class, text_class, body_text_class, symbol_class, item_class}
+use Rattle.cw_lex.proofs.Classes.{class_of, is_bare, is_quoted, word_form, name_class, number_class, text_class, body_text_class, symbol_class, item_class}
 use Rattle.cw_lex.proofs.Words.{IsWordedAt, worded_at}
 use Rattle.cw_lex.proofs.Longest.{IsFoundAt, FoundOrNot}
 
@@ -31,15 +30,15 @@ three_front (c ∷ w) u e f = cc
 
 quoted_literal : (form : Form) (v : List ℕ) → IsLiteral form v → class_of v ≡ 3 → QuotedItem form v
 quoted_literal form _ (of_character w gap b p s l) h = elim (word_form w words.Literal p) [
-    | is_bare e q ↦ absurd (three_front w (gap ++ 40 ∷ b ∷ 41 ∷ []) q h)
-    | is_quoted u e q k ↦ a_literal u gap b e s l (ap (λ (z : List ℕ). z ++ (gap ++ 40 ∷ b ∷ 41 ∷ [])) q)
-  ]
+  | is_bare e q ↦ absurd (three_front w (gap ++ 40 ∷ b ∷ 41 ∷ []) q h)
+  | is_quoted u e q k ↦ a_literal u gap b e s l (ap (λ (z : List ℕ). z ++ (gap ++ 40 ∷ b ∷ 41 ∷ [])) q)
+]
 
 quoted_item : (form : Form) (v : List ℕ) (k : TokenKind) → IsItem form v k → class_of v ≡ 3 → QuotedItem form v
 quoted_item form v (kinds.Word k) i h = elim (word_form v k i) [
-    | is_bare e q ↦ absurd cc
-    | is_quoted u e p q ↦ a_word u k e p
-  ]
+  | is_bare e q ↦ absurd cc
+  | is_quoted u e p q ↦ a_word u k e p
+]
 quoted_item form v kinds.Name i h = let q = name_class v i in absurd cc
 quoted_item form v kinds.Number i h = let q = number_class v i in absurd cc
 quoted_item form v kinds.Text i h = let q = text_class v i.1 in absurd cc

@@ -1,8 +1,8 @@
 -- One more piece of a text.
-use Rattle.std.proofs.Common.{◌≡◌, ℕ, Bool, true, false, ◌+◌, ◌-◌, ◌^◌, ◌≤◌, ◌<◌, ◌==◌, List, [], ◌∷◌, ◌++◌, length, take, drop, Option, Some, None, Result, Ok, Err, refl, sym, ap, subst, ◌∙◌, append_assoc, cond, arith}
+use Rattle.std.proofs.Common.{◌≡◌, ℕ, Bool, false, ◌+◌, ◌-◌, ◌≤◌, ◌<◌, ◌==◌, List, [], ◌∷◌, ◌++◌, length, take, drop, Option, Some, None, Ok, Err, refl, sym, ap, subst, ◌∙◌, append_assoc, cond, arith}
 use Rattle.std.specs.Prelude.{count_by}
 use Rattle.std.proofs.lemmas.List.{take_all, take-append-drop, append-nil, length-take, length-drop}
-use Rattle.std.proofs.lemmas.List.Sums.{sum_by-append, count_by-le-length}
+use Rattle.std.proofs.lemmas.List.Sums.{sum_by-append}
 use Rattle.std.proofs.Math.Seq.{take-add}
 use Rattle.std.proofs.Math.ListN.{drop_of_length-le}
 use Rattle.std.proofs.Common.{drop-drop}
@@ -12,8 +12,8 @@ use Rattle.cw_lex.specs.declared.token.Problem.{Problem}
 use Rattle.cw_lex.specs.declared.token.Problem.TheVariants.{BadChar, OpenString, BadNumber, LongName, OpenComment}
 use Rattle.cw_lex.specs.declared.token.LexFault.{LexFault}
 use Rattle.cw_lex.specs.Found.{Piece, piece}
-use Rattle.cw_lex.specs.Lexical.{Lexeme, Place, line_behind, at_behind, is_after_semicolon, fault_at, IsAnswer, IsFirstFault, lexemes, Lexes, at_end, a_gap, a_token, Fails, here, behind_gap, behind_token}
-use Rattle.cw_lex.proofs.Steps.{IsGapAt, IsTokenAt, IsPiece, piece_is}
+use Rattle.cw_lex.specs.Lexical.{Lexeme, Place, line_behind, is_after_semicolon, fault_at, IsAnswer, IsFirstFault, lexemes, Lexes, at_end, a_gap, a_token, Fails, here, behind_gap, behind_token}
+use Rattle.cw_lex.proofs.Steps.{IsPiece, piece_is}
 
 -- the pieces behind a place belong to what is read there
 abbrev pub Reads : (form : Form) (start : Place) (text : List ℕ) (after : Bool) (at : ℕ) → List Lexeme → Type 0

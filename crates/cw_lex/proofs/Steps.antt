@@ -1,13 +1,12 @@
 -- What each kind of piece says of the text.
-use Rattle.std.proofs.Common.{◌≡◌, ℕ, zero, suc, ◌+◌, ◌≤◌, ◌<◌, ◌≢◌, ◌==◌, Bool, true, false, not, cond, ◌&&◌, ◌||◌, List, [], ◌∷◌, ◌++◌, length, take, drop, get_or, Option, Some, None, Result, Ok, Err, refl, sym, ap, subst, ◌∙◌, append_assoc, add-one, arith}
+use Rattle.std.proofs.Common.{◌≡◌, ℕ, zero, suc, ◌+◌, ◌≤◌, ◌<◌, ◌==◌, Bool, true, false, not, cond, ◌&&◌, List, [], ◌∷◌, ◌++◌, length, take, drop, get_or, Option, Some, None, Ok, Err, refl, sym, ap, subst, ◌∙◌, append_assoc, add-one, arith}
 use Rattle.std.specs.Prelude.{nat_lt}
-use Rattle.std.specs.List.{prefix_len, list_all}
+use Rattle.std.specs.List.{prefix_len}
 use Rattle.std.proofs.lemmas.Bool.{and_parts, eqb-true, ltb-true, ltb-false, not-false}
 use Rattle.std.proofs.lemmas.List.{take-append-drop, length-append}
 use Rattle.std.proofs.lemmas.List.Sums.{prefix_len-le-length, prefix_len_stops}
 use Rattle.std.proofs.Math.Seq.{drop-cons}
 use Rattle.cw_lex.specs.declared.token.Form.{Form}
-use Rattle.cw_lex.specs.declared.token.Form.TheVariants.{Source, MacroBody}
 use Rattle.cw_lex.specs.declared.token.Word.TheVariants as words
 use Rattle.cw_lex.specs.declared.token.Symbol.{Symbol}
 use Rattle.cw_lex.specs.declared.token.Symbol.TheVariants as symbols
@@ -15,13 +14,13 @@ use Rattle.cw_lex.specs.declared.token.TokenKind.{TokenKind}
 use Rattle.cw_lex.specs.declared.token.TokenKind.TheVariants as kinds
 use Rattle.cw_lex.specs.declared.token.Problem.{Problem}
 use Rattle.cw_lex.specs.declared.token.Problem.TheVariants.{BadChar, OpenString, BadNumber, LongName, OpenComment}
-use Rattle.cw_lex.specs.Items.{is_separator, one_mark, two_marks, symbol_of, IsItem, IsLongest, HasNoItem, keeps_limit, opens_string, not_semicolon, IsBracketed}
+use Rattle.cw_lex.specs.Items.{is_separator, one_mark, two_marks, symbol_of, IsLongest, keeps_limit, opens_string, not_semicolon}
 use Rattle.cw_lex.specs.Found.{Found, Piece, found, piece, piece_of, comment_from, limited, missing, bracket_piece, bracket_end}
 use Rattle.cw_lex.specs.Lexical.{IsGap, separator, comment, bracket_comment, IsMissing, at_point, at_quote, at_single_quote, at_other, IsWrong, no_item, long_name, long_number, open_comment, open_bracket, is_token}
 use Rattle.cw_lex.proofs.Lists.{every_take, all_of, cut, length_front}
 use Rattle.cw_lex.proofs.Longest.{IsFoundAt, FoundOrNot}
 use Rattle.cw_lex.proofs.Marks.{found_is}
-use Rattle.cw_lex.proofs.Matching.{Shuts, ShutsAt, shut, never, bracket_end_is, shuts_bracketed, bracketed_shuts}
+use Rattle.cw_lex.proofs.Matching.{ShutsAt, shut, never, bracket_end_is, shuts_bracketed, bracketed_shuts}
 
 -- the piece at the front is a gap, a token or wrong
 pub record IsGapAt (form : Form) (after : Bool) (bs : List ℕ) (n : ℕ) : Type 0 where
@@ -43,9 +42,9 @@ IsPiece form after bs (Err p) = IsWrong form after p bs
 
 longest : (form : Form) (bs : List ℕ) (k : TokenKind) (n : ℕ) → IsFoundAt form bs (k, n) → IsLongest form (take n bs) (drop n bs) k
 longest form bs k n p = record {
-    is_item = p.is_item;
-    most = λ v r j e i. omega (arith, p.best v r j (e ∙ take-append-drop n bs) i, length_front n bs p.within);
-  }
+  is_item = p.is_item;
+  most = λ v r j e i. omega (arith, p.best v r j (e ∙ take-append-drop n bs) i, length_front n bs p.within);
+}
 
 whole : (form : Form) (after : Bool) (n : ℕ) (bs : List ℕ) (p : Problem) → IsWrong form after p (take n bs ++ drop n bs) → IsWrong form after p bs
 whole form after n bs p h = let F : List ℕ → Type 0 = λ (z : List ℕ). IsWrong form after p z in subst F (take-append-drop n bs) h

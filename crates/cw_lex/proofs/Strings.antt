@@ -1,10 +1,9 @@
 -- The longest string at the front of a text.
-use Rattle.std.proofs.Common.{◌≡◌, ℕ, zero, suc, ◌+◌, ◌≤◌, ◌<◌, Bool, true, false, cond, ◌&&◌, ◌||◌, ◌==◌, not, List, [], ◌∷◌, ◌++◌, length, take, drop, Option, Some, None, refl, sym, ap, subst, ◌∙◌, ◌⊎◌, inl, inr, arith, append_assoc, add-one}
-use Rattle.std.specs.Prelude.{nat_lt, nat_le}
-use Rattle.std.specs.List.{prefix_len, list_all}
-use Rattle.std.proofs.lemmas.Bool.{eqb-true, and_parts, and_from, ltb-true, ltb-false, lt-ltb, le-ltb}
+use Rattle.std.proofs.Common.{◌≡◌, ℕ, zero, suc, ◌+◌, ◌≤◌, Bool, true, false, cond, ◌==◌, not, List, [], ◌∷◌, ◌++◌, length, take, Option, Some, refl, sym, ap, subst, ◌∙◌, ◌⊎◌, inl, inr, arith}
+use Rattle.std.specs.Prelude.{nat_lt}
+use Rattle.std.proofs.lemmas.Bool.{eqb-true}
 use Rattle.std.proofs.lemmas.Bool.Decides.{nat_tests}
-use Rattle.cw_lex.specs.Items.{is_plain, IsQuotable, empty, plain, pair, IsText, between_quotes}
+use Rattle.cw_lex.specs.Items.{is_plain, IsQuotable, empty, plain, pair}
 use Rattle.cw_lex.specs.Found.{text_end}
 
 -- Bytes with which a string ends: closed where the byte before is a quote that ends one.
@@ -65,10 +64,10 @@ begins (inside {b = b} {w = w} e d) = begins_plain b w refl refl e d
 
 never_ends : (v : List ℕ) → v ≡ [] → Ends false v → ⊥
 never_ends v h d = elim (begins d) [
-    | begins_none e q ↦ cc
-    | begins_quote w e q ↦ cc
-    | begins_plain b w c e p q ↦ cc
-  ]
+  | begins_none e q ↦ cc
+  | begins_quote w e q ↦ cc
+  | begins_plain b w c e p q ↦ cc
+]
 
 not_plain : is_plain 34 ≡ true → ⊥
 not_plain e = cc
@@ -82,9 +81,9 @@ same_tail v r w bs b h e = let g : b ∷ (w ++ r) ≡ b ∷ bs = ap (λ (z : Lis
 
 shorter : (closed next : Bool) (b m : ℕ) (bs : List ℕ) → Back closed next b bs → ((v r : List ℕ) → v ++ r ≡ bs → Ends next v → length v ≤ m) → (v r : List ℕ) → v ++ r ≡ b ∷ bs → Ends closed v → length v ≤ suc m
 shorter closed next b m bs back d v r h e = elim (back v r h e) [
-    | inl z ↦ omega (arith, ap length z)
-    | inr x ↦ omega (arith, ap length x.1, d x.0 r (same_tail v r x.0 bs b h x.1) x.2)
-  ]
+  | inl z ↦ omega (arith, ap length z)
+  | inr x ↦ omega (arith, ap length x.1, d x.0 r (same_tail v r x.0 bs b h x.1) x.2)
+]
 
 steps : (closed next : Bool) (at : ℕ) (so_far other r : Option ℕ) (b : ℕ) (bs : List ℕ) → ((w : List ℕ) → Ends next w → Ends closed (b ∷ w)) → Back closed next b bs
     → EndsAt next (at + 1) other bs r → (next ≡ false → other ≡ so_far) → (next ≡ true → other ≡ Some (at + 1)) → EndsAt closed at so_far (b ∷ bs) r
@@ -111,24 +110,24 @@ plain_quote b c e q p = let h : is_plain 34 ≡ true = ap is_plain (sym (e ∙ q
 
 back_at_quote : (closed : Bool) (b : ℕ) (bs : List ℕ) → b ≡ 34 → Back closed (not closed) b bs
 back_at_quote closed b bs q v r g d = elim (begins d) [
-    | begins_none e h ↦ inl h
-    | begins_quote w h e ↦ inr (w, h ∙ ap (λ (z : ℕ). z ∷ w) (sym q), e)
-    | begins_plain c w e h p k ↦ absurd (plain_quote b c (same_head v r w bs b c g h) q p)
-  ]
+  | begins_none e h ↦ inl h
+  | begins_quote w h e ↦ inr (w, h ∙ ap (λ (z : ℕ). z ∷ w) (sym q), e)
+  | begins_plain c w e h p k ↦ absurd (plain_quote b c (same_head v r w bs b c g h) q p)
+]
 
 back_at_other : (b : ℕ) (bs : List ℕ) → (b == 34) ≡ false → Back false false b bs
 back_at_other b bs q v r g d = elim (begins d) [
-    | begins_none e h ↦ inl h
-    | begins_quote w h e ↦ (let n : 34 ≡ b = same_head v r w bs b 34 g h in let z : (b == 34) ≡ true = ap (λ (x : ℕ). x == 34) (sym n) in absurd cc)
-    | begins_plain c w e h p k ↦ inr (w, h ∙ ap (λ (z : ℕ). z ∷ w) (same_head v r w bs b c g h), k)
-  ]
+  | begins_none e h ↦ inl h
+  | begins_quote w h e ↦ (let n : 34 ≡ b = same_head v r w bs b 34 g h in let z : (b == 34) ≡ true = ap (λ (x : ℕ). x == 34) (sym n) in absurd cc)
+  | begins_plain c w e h p k ↦ inr (w, h ∙ ap (λ (z : ℕ). z ∷ w) (same_head v r w bs b c g h), k)
+]
 
 back_at_end : (b : ℕ) (bs : List ℕ) → (b == 34) ≡ false → (v r : List ℕ) → v ++ r ≡ b ∷ bs → Ends true v → v ≡ []
 back_at_end b bs q v r g d = elim (begins d) [
-    | begins_none e h ↦ h
-    | begins_quote w h e ↦ (let n : 34 ≡ b = same_head v r w bs b 34 g h in let z : (b == 34) ≡ true = ap (λ (x : ℕ). x == 34) (sym n) in absurd cc)
-    | begins_plain c w e h p k ↦ absurd cc
-  ]
+  | begins_none e h ↦ h
+  | begins_quote w h e ↦ (let n : 34 ≡ b = same_head v r w bs b 34 g h in let z : (b == 34) ≡ true = ap (λ (x : ℕ). x == 34) (sym n) in absurd cc)
+  | begins_plain c w e h p k ↦ absurd cc
+]
 
 low_plain : (b : ℕ) → nat_lt b 32 ≡ true → is_plain b ≡ true → ⊥
 low_plain b l p = grind (arith, nat_tests, l, p)
@@ -138,10 +137,10 @@ high_plain b q l = rw q (grind (arith, nat_tests, l))
 
 back_at_low : (b : ℕ) (bs : List ℕ) → (b == 34) ≡ false → nat_lt b 32 ≡ true → (v r : List ℕ) → v ++ r ≡ b ∷ bs → Ends false v → v ≡ []
 back_at_low b bs q l v r g d = elim (begins d) [
-    | begins_none e h ↦ h
-    | begins_quote w h e ↦ (let n : 34 ≡ b = same_head v r w bs b 34 g h in let z : (b == 34) ≡ true = ap (λ (x : ℕ). x == 34) (sym n) in absurd cc)
-    | begins_plain c w e h p k ↦ absurd (low_plain b l (ap is_plain (sym (same_head v r w bs b c g h)) ∙ p))
-  ]
+  | begins_none e h ↦ h
+  | begins_quote w h e ↦ (let n : 34 ≡ b = same_head v r w bs b 34 g h in let z : (b == 34) ≡ true = ap (λ (x : ℕ). x == 34) (sym n) in absurd cc)
+  | begins_plain c w e h p k ↦ absurd (low_plain b l (ap is_plain (sym (same_head v r w bs b c g h)) ∙ p))
+]
 
 on_quote : (closed : Bool) (b : ℕ) → b ≡ 34 → (w : List ℕ) → Ends (not closed) w → Ends closed (b ∷ w)
 on_quote true b q w d = let F : ℕ → Type 0 = λ (z : ℕ). Ends true (z ∷ w) in subst F (sym q) (other_quote d)

@@ -1,19 +1,18 @@
 -- The words of the language at the front of a text, and the literals.
-use Rattle.std.proofs.Common.{◌≡◌, ℕ, zero, suc, ◌+◌, ◌≤◌, ◌<◌, Bool, true, false, cond, ◌&&◌, ◌||◌, ◌==◌, List, [], ◌∷◌, ◌++◌, length, take, drop, Option, Some, None, refl, sym, ap, subst, ◌∙◌, arith, append_assoc}
+use Rattle.std.proofs.Common.{◌≡◌, ℕ, ◌+◌, ◌≤◌, Bool, true, false, cond, ◌==◌, List, [], ◌∷◌, ◌++◌, length, take, drop, Option, Some, None, refl, sym, ap, subst, ◌∙◌, arith, append_assoc}
 use Rattle.std.specs.List.{prefix_len, list_all}
-use Rattle.std.specs.Char.{is_ascii_alphabetic, is_ascii_alphanumeric}
-use Rattle.std.proofs.lemmas.Bool.{eqb-true, and_parts}
-use Rattle.std.proofs.lemmas.List.{take-append-drop, length-append, length-drop}
+use Rattle.std.proofs.lemmas.Bool.{eqb-true}
+use Rattle.std.proofs.lemmas.List.{take-append-drop, length-append}
 use Rattle.std.proofs.lemmas.List.Sums.{prefix_len-le-length}
-use Rattle.std.proofs.Math.Seq.{take-append_seam, drop-append_seam, take-add}
+use Rattle.std.proofs.Math.Seq.{take-append_seam, drop-append_seam}
 use Rattle.cw_lex.specs.declared.token.Form.{Form}
 use Rattle.cw_lex.specs.declared.token.Word.{Word}
 use Rattle.cw_lex.specs.declared.token.Word.TheVariants as words
 use Rattle.cw_lex.specs.declared.token.TokenKind.{TokenKind}
 use Rattle.cw_lex.specs.declared.token.TokenKind.TheVariants as kinds
-use Rattle.cw_lex.specs.Items.{is_separator, is_literal_byte, word_of, IsWord, IsLiteral, of_character, IsItem}
+use Rattle.cw_lex.specs.Items.{is_separator, is_literal_byte, IsWord, IsLiteral, of_character, IsItem}
 use Rattle.cw_lex.specs.Found.{bracketed, literal_end, literal_or_word, worded}
-use Rattle.cw_lex.proofs.Lists.{every_prefix, every_stop, every_take, length_front, cut}
+use Rattle.cw_lex.proofs.Lists.{every_stop, every_take, length_front, cut}
 
 pub literal_end_of : (form : Form) (gap : List ℕ) (b : ℕ) (r : List ℕ) → list_all is_separator gap ≡ true → is_literal_byte form b ≡ true → literal_end form (gap ++ 40 ∷ b ∷ 41 ∷ r) ≡ Some (length gap + 3)
 literal_end_of form gap b r e l =
@@ -58,19 +57,19 @@ pub record IsLiteralEnd (form : Form) (bs : List ℕ) (m : ℕ) : Type 0 where
 
 pub literal_end_is : (form : Form) (bs : List ℕ) (m : ℕ) → literal_end form bs ≡ Some m → IsLiteralEnd form bs m
 literal_end_is form bs m e = elim (bracketed_is form (prefix_len is_separator bs) (drop (prefix_len is_separator bs) bs) m e) [
-    | bracketed_byte b r h l q ↦
-        let n = prefix_len is_separator bs in
-        let size : length (take n bs) ≡ n = length_front n bs (prefix_len-le-length is_separator bs) in
-        record {
-          gap = take n bs;
-          byte = b;
-          rest = r;
-          parts = sym (take-append-drop n bs) ∙ ap (λ (z : List ℕ). take n bs ++ z) h;
-          separators = every_take is_separator bs;
-          is_byte = l;
-          size = omega (arith, q, size);
-        }
-  ]
+  | bracketed_byte b r h l q ↦
+      let n = prefix_len is_separator bs in
+      let size : length (take n bs) ≡ n = length_front n bs (prefix_len-le-length is_separator bs) in
+      record {
+        gap = take n bs;
+        byte = b;
+        rest = r;
+        parts = sym (take-append-drop n bs) ∙ ap (λ (z : List ℕ). take n bs ++ z) h;
+        separators = every_take is_separator bs;
+        is_byte = l;
+        size = omega (arith, q, size);
+      }
+]
 
 -- The longest item that begins with a word w of the language.
 pub record IsWordedAt (form : Form) (w rest : List ℕ) (k : Word) (x : TokenKind × ℕ) : Type 0 where
@@ -81,11 +80,11 @@ pub record IsWordedAt (form : Form) (w rest : List ℕ) (k : Word) (x : TokenKin
 
 word_only : (form : Form) (w rest : List ℕ) (k : Word) → IsWord w k → ((gap : List ℕ) (b : ℕ) (r : List ℕ) → k ≡ words.Literal → rest ≡ gap ++ 40 ∷ b ∷ 41 ∷ r → list_all is_separator gap ≡ true → is_literal_byte form b ≡ true → ⊥) → IsWordedAt form w rest k (kinds.Word k, length w)
 word_only form w rest k p n = record {
-    more = omega arith;
-    within = omega (arith, length-append w rest);
-    is_item = subst (λ (z : List ℕ). IsWord z k) (sym (take-append_seam w rest)) p;
-    literal = λ gap b r e h s l. absurd (n gap b r e h s l);
-  }
+  more = omega arith;
+  within = omega (arith, length-append w rest);
+  is_item = subst (λ (z : List ℕ). IsWord z k) (sym (take-append_seam w rest)) p;
+  literal = λ gap b r e h s l. absurd (n gap b r e h s l);
+}
 
 literal_or_word_is : (form : Form) (w rest : List ℕ) (o : Option ℕ) → IsWord w words.Literal → literal_end form rest ≡ o → IsWordedAt form w rest words.Literal (literal_or_word (length w) o)
 literal_or_word_is form w rest None p e = word_only form w rest words.Literal p (λ gap b r k h s l. (let f : literal_end form rest ≡ Some (length gap + 3) = ap (literal_end form) h ∙ literal_end_of form gap b r s l in cc))
