@@ -10,4 +10,5 @@ pub mod Quoted
 pub mod Marks
 pub mod Matching
 pub mod Steps
+pub mod Unique
 pub mod Run

@@ -13,7 +13,7 @@ use Rattle.cw_lex.proofs.Longest.{FoundOrNot, bare_is}
 use Rattle.cw_lex.proofs.Front.{number_at, string_at}
 use Rattle.cw_lex.proofs.Quoted.{quoted_at}
 
-symbol_only : (form : Form) (v : List ℕ) (k : TokenKind) → IsItem form v k → class_of v ≡ 4 → (s : Symbol) × (symbol_of v ≡ Some s)
+pub symbol_only : (form : Form) (v : List ℕ) (k : TokenKind) → IsItem form v k → class_of v ≡ 4 → (s : Symbol) × (symbol_of v ≡ Some s)
 symbol_only form v (kinds.Word k) i h = elim (word_form v k i) [ is_bare e q ↦ absurd cc | is_quoted w e p q ↦ absurd cc ]
 symbol_only form v kinds.Name i h = let q = name_class v i in absurd cc
 symbol_only form v kinds.Number i h = let q = number_class v i in absurd cc

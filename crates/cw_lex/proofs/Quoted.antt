@@ -65,7 +65,7 @@ worded_quoted form u t k e =
     let G : List ℕ → Type 0 = λ (z : List ℕ). IsWordedAt form w t k (worded form k (length u + 2) z) in
     subst G shape (subst F size d)
 
-same_prefix : (u t x s : List ℕ) (k j : Word) → word_of u ≡ Some k → word_of x ≡ Some j → u ++ 39 ∷ t ≡ x ++ 39 ∷ s → (u ≡ x) × (t ≡ s)
+pub same_prefix : (u t x s : List ℕ) (k j : Word) → word_of u ≡ Some k → word_of x ≡ Some j → u ++ 39 ∷ t ≡ x ++ 39 ∷ s → (u ≡ x) × (t ≡ s)
 same_prefix u t x s k j e f h =
     let a : prefix_len is_ascii_alphanumeric (u ++ 39 ∷ t) ≡ length u = every_stop is_ascii_alphanumeric u 39 t (lettered_digits u (word_lettered u k e)) refl in
     let b : prefix_len is_ascii_alphanumeric (x ++ 39 ∷ s) ≡ length x = every_stop is_ascii_alphanumeric x 39 s (lettered_digits x (word_lettered x j f)) refl in

@@ -111,3 +111,15 @@ lexemes (Some kind) line at text = record { kind = kind; line = line; at = at; t
 abbrev pub is_after_semicolon : Option TokenKind → Bool → Bool
 is_after_semicolon None after = after
 is_after_semicolon (Some kind) after = is_semicolon kind
+
+-- A text has at most one list of tokens,
+abbrev pub HasOneList : Type 0
+HasOneList = (form : Form) (start : Place) (text : List ℕ) (ts us : List Lexeme) → Tokenizes form start text ts → Tokenizes form start text us → ts ≡ us
+
+-- at most one first fault,
+abbrev pub HasOneFault : Type 0
+HasOneFault = (form : Form) (start : Place) (text : List ℕ) (f g : LexFault) → IsFirstFault form start text f → IsFirstFault form start text g → f ≡ g
+
+-- and not both.
+abbrev pub HasNotBoth : Type 0
+HasNotBoth = (form : Form) (start : Place) (text : List ℕ) (ts : List Lexeme) (f : LexFault) → Tokenizes form start text ts → IsFirstFault form start text f → ⊥
