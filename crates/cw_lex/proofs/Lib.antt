@@ -1,0 +1,14 @@
+pub mod Lists
+pub mod Letters
+pub mod Classes
+pub mod Numbers
+pub mod Strings
+pub mod Words
+pub mod Longest
+pub mod Front
+pub mod Quoted
+pub mod Marks
+pub mod Matching
+pub mod Steps
+pub mod Unique
+pub mod Run
