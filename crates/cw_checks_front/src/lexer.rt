@@ -310,6 +310,17 @@ fn texts(rt: HostRuntime) -> Result<(), Fail> {
     Ok(())
 }
 
+// The text of a fault is its name.
+#[test]
+fn names_of_faults(rt: HostRuntime) -> Result<(), Fail> {
+    let alloc = rt.alloc();
+    let bad = LexFault::BadChar { line: 3 };
+    assert_eq!(rt; format!(in alloc; "{bad}")?.as_str(), "BadChar");
+    let open = LexFault::OpenComment { line: 3 };
+    assert_eq!(rt; format!(in alloc; "{open}")?.as_str(), "OpenComment");
+    Ok(())
+}
+
 // The places of a body count from where it begins.
 #[test]
 fn places(rt: HostRuntime) -> Result<(), Fail> {

@@ -178,19 +178,19 @@ pub enum Problem {
 #[derive(Debug, Drop, Error)]
 pub enum LexFault {
     /// A byte that starts no item, separator or comment.
-    #[error("{line}: L1 BadChar")]
+    #[error("BadChar")]
     BadChar { line: u32 },
     /// A string with a byte below 32 or the end inside.
-    #[error("{line}: L2 OpenString")]
+    #[error("OpenString")]
     OpenString { line: u32 },
     /// Over 12 digits on one side of the point, or no digit after it.
-    #[error("{line}: L3 BadNumber")]
+    #[error("BadNumber")]
     BadNumber { line: u32 },
     /// A name of over 31 characters.
-    #[error("{line}: L4 LongName")]
+    #[error("LongName")]
     LongName { line: u32 },
     /// A comment without its end.
-    #[error("{line}: L5 OpenComment")]
+    #[error("OpenComment")]
     OpenComment { line: u32 },
     #[error("NoMemory")]
     NoMemory,
