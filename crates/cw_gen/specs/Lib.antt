@@ -1,1 +1,3 @@
 pub mod ReferenceOrders
+pub mod Built
+pub mod Following

@@ -20,3 +20,7 @@ words_of (at g place line w e) = w
 -- each constant is a word
 abbrev pub ConstantsFit : OrderProgram → Type 0
 ConstantsFit p = (g place w : ℕ) → order_at p g place ≡ Some (order.Const w) → w < 65536
+
+-- and each line
+abbrev pub LinesFit : OrderProgram → Type 0
+LinesFit p = (g place line : ℕ) → order_at p g place ≡ Some (order.Line line) → line < 65536
