@@ -1,3 +1,5 @@
 pub mod Growing
 pub mod Filling
 pub mod Blank
+pub mod Standing
+pub mod Placement
