@@ -12,11 +12,15 @@ ghost use Rattle.cw_run86.specs.Fetching.{instruction_at};
 ghost use Rattle.cw_run86.specs.Processor.{Processor, processor_step, processor_after, processor_start, observed, with_given};
 ghost use Rattle.cw_run86.specs.Views.{View, Sees, Has, Goes, IsTop, starting_view, register, on, with_place, with_register, with_result, with_cell, with_stack, with_told, sum_overflows, difference_overflows, word_sum, word_difference};
 
+use cw_dec86::rows_read_back;
+
 /// Fetching finds exactly the instruction that stands at CS:IP.
 pub fn fetching()
     ensures finds { (s : State) (i : Instr) → Stands s i → instruction_at s ≡ Some i }
     ensures only { (s : State) (i : Instr) → instruction_at s ≡ Some i → Stands s i }
-{}
+{
+    rows_read_back();
+}
 
 /// After each number of steps the machine shows what the 8086 shows.
 pub fn shows_the_run()
