@@ -25,7 +25,9 @@ pub fn fetching()
 /// After each number of steps the machine shows what the 8086 shows.
 pub fn shows_the_run()
     ensures { (s : State) (input : List ℕ) (n : ℕ) → All (λ b. b < 256) input → Shows s input n (observed (processor_after n (processor_start s input))) }
-{}
+{
+    fetching();
+}
 
 /// At the start the code stands in the code segment, the words in the data segment, all other words are 0, and nothing was told.
 pub fn starting()
