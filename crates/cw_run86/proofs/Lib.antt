@@ -1,3 +1,6 @@
 pub mod Tests
 pub mod Told
 pub mod Runs
+pub mod Memory
+pub mod Goes
+pub mod Moves
