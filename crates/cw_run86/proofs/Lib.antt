@@ -4,3 +4,4 @@ pub mod Runs
 pub mod Memory
 pub mod Goes
 pub mod Moves
+pub mod Stack
