@@ -1,15 +1,14 @@
 -- An instruction that stands in the code is what the processor does.
-use Rattle.std.proofs.Common.{◌≡◌, ℕ, zero, suc, ◌+◌, ◌*◌, ◌%◌, ◌^◌, ◌<◌, ◌≤◌, Bool, List, [], ◌∷◌, ◌++◌, length, refl, sym, ap, subst, ◌∙◌, arith}
-use Rattle.std.specs.Prelude.{slice_index, slice_set, Some}
-use Rattle.cw_i86.specs.Encoding.{bytes_of, IsInstr}
+use Rattle.std.proofs.Common.{◌≡◌, ℕ, zero, suc, ◌+◌, ◌%◌, ◌<◌, ◌≤◌, List, [], ◌∷◌, ◌++◌, length, refl, sym, ap, subst, ◌∙◌, arith}
+use Rattle.std.specs.Prelude.{slice_index, Some}
+use Rattle.cw_i86.specs.Encoding.{bytes_of}
 use Rattle.cw_i86.specs.State.{State, byte_at, window}
-use Rattle.cw_i86.specs.Effect.{executed}
 use Rattle.cw_i86.specs.MachineRun.{code_at, Stands}
 use Rattle.cw_i86.specs.declared.instr.Instr.{Instr}
 use Rattle.cw_run86.specs.Fetching.{instruction_at}
 use Rattle.cw_run86.specs.Processor.{Processor, does, fetched, step_at, processor_step, with_state}
 use Rattle.cw_run86.specs.Views.{View, Sees, Has, Goes, code_segment}
-use Rattle.cw_run86.proofs.Memory.{Holds, holds}
+use Rattle.cw_run86.proofs.Memory.{Holds}
 
 -- what the law of fetching gives
 abbrev pub Finds : Type 0

@@ -5,3 +5,6 @@ pub mod Memory
 pub mod Goes
 pub mod Moves
 pub mod Stack
+pub mod Sums
+pub mod Jumps
+pub mod Begins

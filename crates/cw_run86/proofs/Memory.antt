@@ -1,5 +1,5 @@
 -- The memory as code and the words of two segments.
-use Rattle.std.proofs.Common.{◌≡◌, ◌≢◌, ℕ, suc, ◌+◌, ◌*◌, ◌/◌, ◌%◌, ◌^◌, ◌<◌, ◌≤◌, ◌⊎◌, Bool, true, false, List, length, set, get_or, refl, sym, ap, ◌∙◌, inl, inr, arith, get_or-set_same, get_or-set_other}
+use Rattle.std.proofs.Common.{◌≡◌, ◌≢◌, ℕ, ◌+◌, ◌*◌, ◌/◌, ◌%◌, ◌^◌, ◌<◌, ◌≤◌, ◌⊎◌, List, length, set, get_or, sym, ap, ◌∙◌, inl, inr, arith, get_or-set_same, get_or-set_other}
 use Rattle.std.proofs.Math.ListN.{length-set}
 use Rattle.std.proofs.lemmas.Nat.{div-add-mod'}
 use Rattle.std.proofs.lemmas.Bool.{cases_eq, eq-eqb, ne_eqb}
@@ -52,7 +52,7 @@ address_is : (segment offset : ℕ) → segment * 16 + offset < 2 ^ 20 → addre
 unfolding address
 address_is segment offset lt = omega arith
 
-byte_is : (m : List ℕ) (segment offset : ℕ) → segment * 16 + offset < 2 ^ 20 → byte_at m segment offset ≡ slice_index m (segment * 16 + offset)
+pub byte_is : (m : List ℕ) (segment offset : ℕ) → segment * 16 + offset < 2 ^ 20 → byte_at m segment offset ≡ slice_index m (segment * 16 + offset)
 unfolding byte_at
 byte_is m segment offset lt = ap (slice_index m) (address_is segment offset lt)
 
@@ -69,6 +69,11 @@ word_is m segment k whole lt =
     let there : segment * 16 + (2 * k + 1) ≡ segment * 16 + 2 * k + 1 = omega arith in
     let high' : byte_at m segment ((2 * k + 1) % 65536) ≡ slice_index m (segment * 16 + 2 * k + 1) = ap (byte_at m segment) one ∙ high ∙ ap (slice_index m) there in
     cc
+
+pub word_of : (m : List ℕ) (segment k low high : ℕ) → IsWhole segment → k < 32768 → slice_index m (segment * 16 + 2 * k) ≡ low → slice_index m (segment * 16 + 2 * k + 1) ≡ high
+    → word_at m segment (2 * k) ≡ low + 256 * high
+unfolding pair
+word_of m segment k low high whole lt e f = word_is m segment k whole lt ∙ ap (λ n. n + 256 * slice_index m (segment * 16 + 2 * k + 1)) e ∙ ap (λ n. low + 256 * n) f
 
 with_word_is : (m : List ℕ) (segment k w : ℕ) → IsWhole segment → k < 32768 → with_word m segment (2 * k) w ≡ put m (segment * 16 + 2 * k) w
 unfolding with_word with_byte put

@@ -1,12 +1,12 @@
 -- Moves between registers, and of numbers to registers.
-use Rattle.std.proofs.Common.{◌≡◌, ℕ, ◌+◌, ◌*◌, ◌/◌, ◌%◌, true, false, List, refl, ap, arith}
+use Rattle.std.proofs.Common.{ℕ, ◌+◌, ◌*◌, ◌/◌, ◌%◌, true, false, List, refl, ap, arith}
 use Rattle.std.specs.Prelude.{slice_index, slice_set}
 use Rattle.cw_i86.specs.State.{sized_register, with_sized_register, operand}
 use Rattle.cw_i86.specs.Effect.{moved}
 use Rattle.cw_i86.specs.declared.instr.Instr.TheVariants as i86
 use Rattle.cw_i86.specs.declared.instr.Imm.TheVariants as imm
 use Rattle.cw_i86.specs.declared.instr.Rm.TheVariants as rms
-use Rattle.cw_run86.specs.Views.{View, Sees, Has, Goes, register as register_of, on, with_register}
+use Rattle.cw_run86.specs.Views.{View, Has, Goes, register as register_of, on, with_register}
 use Rattle.cw_run86.proofs.Memory.{holds}
 use Rattle.cw_run86.proofs.Goes.{Finds, goes, sees}
 
@@ -36,4 +36,4 @@ module _ (finds : Finds) (code : List ℕ) (v : View) where
   high_byte has =
       goes finds code v _ _ has (omega arith)
       (λ p s. sees code v _ p _ s (holds code v p s) refl (ap (λ rs. slice_set rs 0 (slice_index rs 0 / 256 * 256 + slice_index rs 0 / 256)) s.registers)
-          (ap (λ n. (n + 2) % 65536) s.place) s.overflow refl refl)
+      (ap (λ n. (n + 2) % 65536) s.place) s.overflow refl refl)

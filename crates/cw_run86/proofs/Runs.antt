@@ -1,17 +1,16 @@
 -- After each number of steps the machine is where a run of the 8086 is.
-use Rattle.std.proofs.Common.{◌≡◌, ℕ, zero, suc, ◌+◌, ◌*◌, ◌<◌, ◌^◌, List, [], ◌∷◌, ◌++◌, length, drop, refl, sym, ap, subst, ◌∙◌, inl, inr, arith, eqb, true, false, Bool}
+use Rattle.std.proofs.Common.{◌≡◌, ℕ, zero, suc, ◌+◌, ◌*◌, ◌<◌, List, [], ◌∷◌, ◌++◌, length, drop, refl, sym, ap, subst, ◌∙◌, inl, inr, arith, true, false, Bool}
 use Rattle.std.proofs.lemmas.List.{append-nil}
 use Rattle.std.proofs.lemmas.List.Elements.{All-drop, All-get_or}
 use Rattle.std.specs.Prelude.{◌⊎◌, ◌==◌, if◌then◌else◌, slice_index, All, Option, Some, None}
-use Rattle.cw_i86.specs.Encoding.{bytes_of}
-use Rattle.cw_i86.specs.State.{State, byte_register, with_byte_register}
+use Rattle.cw_i86.specs.State.{State, byte_register}
 use Rattle.cw_i86.specs.Effect.{executed}
 use Rattle.cw_i86.specs.MachineRun as machine
 use Rattle.cw_i86.specs.MachineRun.{Event, Silent, Takes, Gives, Outcome, GoesOn, Halts, Divides, Undefined, Stands, NothingStands, Does, Steps, Runs, taken, left_after, left_behind, FitsInput, written, End, Running, Ended, Stopped, Bad, Divided, end_told, end_after, IsAtWork, IsOver, Observed, Shows}
 use Rattle.cw_i86.specs.declared.instr.Instr.{Instr}
 use Rattle.cw_i86.specs.declared.instr.Instr.TheVariants.{In, Out, Hlt}
 use Rattle.cw_run86.specs.Fetching.{instruction_at}
-use Rattle.cw_run86.specs.Processor.{Processor, Told, nothing_told, behind, does, fetched, completed, step_at, processor_step, processor_after, processor_start, observed}
+use Rattle.cw_run86.specs.Processor.{Processor, Told, behind, does, fetched, completed, step_at, processor_step, processor_after, processor_start, observed}
 use Rattle.cw_run86.proofs.Told.{told_by, after_event, told_more, left_behind-more, fits_more}
 
 -- ---- bytes of the input
@@ -123,7 +122,7 @@ completes s input n p i None g stands e does =
     let steps : Steps p.state Divides = step_of p.state i _ stands (does _ (ap machine.completed (sym e))) in
     inr (ends s input n p (completed None p) g refl (inr (inr (steps, refl))) refl)
 
-resting : (kind segment line : ℕ) (p : Processor) → p.end ≡ end_told kind segment line → processor_step p ≡ p
+pub resting : (kind segment line : ℕ) (p : Processor) → p.end ≡ end_told kind segment line → processor_step p ≡ p
 resting kind segment line p e =
     let stays : (test : Bool) → step_at (if test then Ended else Stopped kind segment line) p ≡ p = elim [ true ↦ refl | false ↦ refl ] in
     ap (λ end. step_at end p) e ∙ stays (kind == 0)

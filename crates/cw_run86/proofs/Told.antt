@@ -1,7 +1,7 @@
 -- What events tell, with one event more.
-use Rattle.std.proofs.Common.{◌≡◌, ℕ, ◌<◌, List, [], ◌∷◌, ◌++◌, Bool, true, false, refl, sym, ap, subst, ◌∙◌}
+use Rattle.std.proofs.Common.{◌≡◌, ℕ, List, [], ◌∷◌, ◌++◌, refl, sym, ap, ◌∙◌}
 use Rattle.std.proofs.lemmas.List.{append-nil, append_assoc}
-use Rattle.cw_i86.specs.MachineRun.{Event, Silent, Takes, Gives, left_after, left_behind, FitsInput, taken, written_by, written, given_to, last_given}
+use Rattle.cw_i86.specs.MachineRun.{Event, Silent, Takes, Gives, left_after, left_behind, FitsInput, written_by, written, given_to, last_given}
 use Rattle.cw_run86.specs.Processor.{Told}
 
 written-more : (events : List Event) (e : Event) → written (events ++ e ∷ []) ≡ written events ++ written_by e
