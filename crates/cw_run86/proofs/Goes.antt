@@ -1,18 +1,14 @@
 -- An instruction that stands in the code is what the processor does.
 use Rattle.std.proofs.Common.{◌≡◌, ℕ, zero, suc, ◌+◌, ◌%◌, ◌<◌, ◌≤◌, List, [], ◌∷◌, ◌++◌, length, refl, sym, ap, subst, ◌∙◌, arith}
-use Rattle.std.specs.Prelude.{slice_index, Some}
+use Rattle.std.specs.Prelude.{slice_index}
 use Rattle.cw_i86.specs.Encoding.{bytes_of}
 use Rattle.cw_i86.specs.State.{State, byte_at, window}
 use Rattle.cw_i86.specs.MachineRun.{code_at, Stands}
 use Rattle.cw_i86.specs.declared.instr.Instr.{Instr}
-use Rattle.cw_run86.specs.Fetching.{instruction_at}
 use Rattle.cw_run86.specs.Processor.{Processor, does, fetched, step_at, processor_step, with_state}
 use Rattle.cw_run86.specs.Views.{View, Sees, Has, Goes, code_segment}
+use Rattle.cw_run86.proofs.Tests.{Finds}
 use Rattle.cw_run86.proofs.Memory.{Holds}
-
--- what the law of fetching gives
-abbrev pub Finds : Type 0
-Finds = (s : State) (i : Instr) → Stands s i → instruction_at s ≡ Some i
 
 -- bytes that stand from a place on begin the window there
 window_begins : (m bs : List ℕ) (n at : ℕ) → length bs ≤ n → at + length bs ≤ 65536 → ((k : ℕ) → k < length bs → byte_at m code_segment (at + k) ≡ slice_index bs k)

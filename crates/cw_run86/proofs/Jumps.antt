@@ -8,8 +8,9 @@ use Rattle.cw_i86.specs.declared.instr.Instr.TheVariants as i86
 use Rattle.cw_i86.specs.declared.instr.Rm.TheVariants as rms
 use Rattle.cw_run86.specs.Processor.{Processor, Told, does, behind, with_given, with_state, processor_step, observed}
 use Rattle.cw_run86.specs.Views.{View, Sees, Has, Goes, IsTop, register as register_of, on, with_place, with_register, with_stack, with_told}
+use Rattle.cw_run86.proofs.Tests.{Finds}
 use Rattle.cw_run86.proofs.Memory.{holds}
-use Rattle.cw_run86.proofs.Goes.{Finds, goes, sees, step_is}
+use Rattle.cw_run86.proofs.Goes.{goes, sees, step_is}
 use Rattle.cw_run86.proofs.Runs.{resting}
 use Rattle.cw_run86.proofs.Stack.{register_is, stack_written, down, once_set}
 

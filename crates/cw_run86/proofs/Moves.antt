@@ -7,8 +7,9 @@ use Rattle.cw_i86.specs.declared.instr.Instr.TheVariants as i86
 use Rattle.cw_i86.specs.declared.instr.Imm.TheVariants as imm
 use Rattle.cw_i86.specs.declared.instr.Rm.TheVariants as rms
 use Rattle.cw_run86.specs.Views.{View, Has, Goes, register as register_of, on, with_register}
+use Rattle.cw_run86.proofs.Tests.{Finds}
 use Rattle.cw_run86.proofs.Memory.{holds}
-use Rattle.cw_run86.proofs.Goes.{Finds, goes, sees}
+use Rattle.cw_run86.proofs.Goes.{goes, sees}
 
 module _ (finds : Finds) (code : List ℕ) (v : View) where
   pub number : (r w : ℕ) → Has code v.place (i86.MovImm r (imm.Word w)) → Goes code v (with_register r w (on (i86.MovImm r (imm.Word w)) v))

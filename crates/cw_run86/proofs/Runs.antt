@@ -11,6 +11,7 @@ use Rattle.cw_i86.specs.declared.instr.Instr.{Instr}
 use Rattle.cw_i86.specs.declared.instr.Instr.TheVariants.{In, Out, Hlt}
 use Rattle.cw_run86.specs.Fetching.{instruction_at}
 use Rattle.cw_run86.specs.Processor.{Processor, Told, behind, does, fetched, completed, step_at, processor_step, processor_after, processor_start, observed}
+use Rattle.cw_run86.proofs.Tests.{Finds, Only}
 use Rattle.cw_run86.proofs.Told.{told_by, after_event, told_more, left_behind-more, fits_more}
 
 -- ---- bytes of the input
@@ -154,12 +155,6 @@ one_does s input n p i g stands = elim (sort_of i p) [
 ]
 
 -- ---- the runs
-
-abbrev Finds : Type 0
-Finds = (s : State) (i : Instr) → Stands s i → instruction_at s ≡ Some i
-
-abbrev Only : Type 0
-Only = (s : State) (i : Instr) → instruction_at s ≡ Some i → Stands s i
 
 fetches : Finds → Only → (s : State) (input : List ℕ) (n : ℕ) (p : Processor) (o : Option Instr) → instruction_at p.state ≡ o → Going s input n p → After s input (suc n) (fetched o p)
 fetches finds only s input n p (Some i) e g = one_does s input n p i g (only p.state i e)

@@ -9,8 +9,9 @@ use Rattle.cw_i86.specs.declared.instr.Rm.TheVariants as rms
 use Rattle.cw_i86.specs.declared.instr.Place.TheVariants as places
 use Rattle.cw_run86.specs.Processor.{Processor}
 use Rattle.cw_run86.specs.Views.{View, Sees, Has, Goes, IsTop, register, on, with_register, with_stack, with_cell, put_word}
+use Rattle.cw_run86.proofs.Tests.{Finds}
 use Rattle.cw_run86.proofs.Memory.{Holds, holds, holds_cell, holds_stack}
-use Rattle.cw_run86.proofs.Goes.{Finds, goes, sees}
+use Rattle.cw_run86.proofs.Goes.{goes, sees}
 
 -- one register of the processor
 pub register_is : (code : List ℕ) (v : View) (p : Processor) (r : ℕ) → Sees code v p → slice_index p.state.registers r ≡ register v r

@@ -10,8 +10,9 @@ use Rattle.cw_i86.specs.Effect.{alu_value, alu_flags, operated, negated as with_
 use Rattle.cw_i86.specs.declared.instr.Instr.TheVariants as i86
 use Rattle.cw_i86.specs.declared.instr.Rm.TheVariants as rms
 use Rattle.cw_run86.specs.Views.{View, Has, Goes, register, on, with_result, sum_overflows, difference_overflows, word_sum, word_difference}
+use Rattle.cw_run86.proofs.Tests.{Finds}
 use Rattle.cw_run86.proofs.Memory.{holds}
-use Rattle.cw_run86.proofs.Goes.{Finds, goes, sees}
+use Rattle.cw_run86.proofs.Goes.{goes, sees}
 
 -- no carry comes in
 plain_sum : (a b : ℕ) → (a + b + 0) % 65536 ≡ word_sum a b

@@ -141,6 +141,13 @@ begins_back (x ∷ xs) rest = both (nat_eq x x) (begins xs (xs ++ rest)) (eq-eqb
 abbrev pub ReadsBack : Type 0
 ReadsBack = (i : Instr) (rest : List ℕ) → IsInstr i → instr_at (bytes_of i ++ rest) ≡ Some i
 
+-- the two halves of the law of fetching
+abbrev pub Finds : Type 0
+Finds = (s : State) (i : Instr) → Stands s i → instruction_at s ≡ Some i
+
+abbrev pub Only : Type 0
+Only = (s : State) (i : Instr) → instruction_at s ≡ Some i → Stands s i
+
 pub found : ReadsBack → (s : State) (i : Instr) → Stands s i → instruction_at s ≡ Some i
 unfolding instruction_at
 found again s i (valid, (rest, e)) =
