@@ -6,7 +6,7 @@ use Rattle.cw_i86.specs.State.{State, byte_register, with_byte_register, past}
 use Rattle.cw_i86.specs.Effect.{executed}
 use Rattle.cw_i86.specs.declared.instr.Instr.{Instr}
 use Rattle.cw_i86.specs.declared.instr.Instr.TheVariants as i86
-use Rattle.cw_i86.specs.MachineRun.{Event, Gives, taken, left_after, written_by, given_to, End, Running, Ended, Stopped, Bad, Divided, end_told, Observed}
+use Rattle.cw_i86.specs.MachineRun.{Gives, taken, left_after, written_by, given_to, End, Running, Bad, Divided, end_told, Observed}
 use Rattle.cw_run86.specs.Fetching.{instruction_at}
 
 -- what was told to the ports: the bytes given to port 12h, and the last ones given to the four that tell a stop, 0 where none was

@@ -1,9 +1,9 @@
 -- What the code of a program deals with of a processor: registers, the words of the data segment and of the stack segment at even
 -- offsets, code that nothing changes, and what was told to the ports. And what instructions do to that.
-use Rattle.std.specs.Prelude.{◌≡◌, ◌≢◌, ℕ, suc, ◌+◌, ◌-◌, ◌*◌, ◌/◌, ◌%◌, ◌^◌, ◌<◌, ◌≤◌, nat_eq, nat_lt, Bool, true, false, not, List, [], ◌∷◌, length, slice_index, slice_set, ◌+ℤ◌, ◌-ℤ◌, if◌then◌else◌}
+use Rattle.std.specs.Prelude.{◌≡◌, ℕ, ◌+◌, ◌-◌, ◌*◌, ◌%◌, ◌^◌, ◌<◌, ◌≤◌, nat_eq, Bool, false, List, [], ◌∷◌, length, slice_index, slice_set, ◌+ℤ◌, ◌-ℤ◌, if◌then◌else◌}
 use Rattle.cw_i86.specs.Encoding.{bytes_of, IsInstr}
-use Rattle.cw_i86.specs.Sums.{sum_of, difference_of, overflows, signed}
-use Rattle.cw_i86.specs.State.{State, byte_at, word_at, data_segment, stack_segment, sign_extended}
+use Rattle.cw_i86.specs.Sums.{overflows, signed}
+use Rattle.cw_i86.specs.State.{byte_at, word_at, data_segment, stack_segment}
 use Rattle.cw_i86.specs.declared.instr.Instr.{Instr}
 use Rattle.cw_i86.specs.MachineRun.{Running}
 use Rattle.cw_run86.specs.Processor.{Processor, Told, nothing_told, processor_step}

@@ -12,16 +12,22 @@ ghost use Rattle.cw_run86.specs.Fetching.{instruction_at};
 ghost use Rattle.cw_run86.specs.Processor.{Processor, processor_step, processor_after, processor_start, observed, with_given};
 ghost use Rattle.cw_run86.specs.Views.{View, Sees, Has, Goes, IsTop, starting_view, register, on, with_place, with_register, with_result, with_cell, with_stack, with_told, sum_overflows, difference_overflows, word_sum, word_difference};
 
+use cw_dec86::rows_read_back;
+
 /// Fetching finds exactly the instruction that stands at CS:IP.
 pub fn fetching()
     ensures finds { (s : State) (i : Instr) → Stands s i → instruction_at s ≡ Some i }
     ensures only { (s : State) (i : Instr) → instruction_at s ≡ Some i → Stands s i }
-{}
+{
+    rows_read_back();
+}
 
 /// After each number of steps the machine shows what the 8086 shows.
 pub fn shows_the_run()
     ensures { (s : State) (input : List ℕ) (n : ℕ) → All (λ b. b < 256) input → Shows s input n (observed (processor_after n (processor_start s input))) }
-{}
+{
+    fetching();
+}
 
 /// At the start the code stands in the code segment, the words in the data segment, all other words are 0, and nothing was told.
 pub fn starting()
@@ -35,7 +41,9 @@ pub fn moves()
     ensures low_byte { (code : List ℕ) (v : View) (b : ℕ) → Has code v.place (i86.MovImm 0 (imm.Byte b)) → Goes code v (with_register 0 (register v 0 / 256 * 256 + b) (on (i86.MovImm 0 (imm.Byte b)) v)) }
     ensures register { (code : List ℕ) (v : View) (r q : ℕ) → Has code v.place (i86.Mov true true r (rms.Reg q)) → Goes code v (with_register r (register v q) (on (i86.Mov true true r (rms.Reg q)) v)) }
     ensures high_byte { (code : List ℕ) (v : View) → Has code v.place (i86.Mov false true 0 (rms.Reg 4)) → Goes code v (with_register 0 (register v 0 / 256 * 256 + register v 0 / 256) (on (i86.Mov false true 0 (rms.Reg 4)) v)) }
-{}
+{
+    fetching();
+}
 
 /// The stack. An empty place is below the top, and the top is not past the last word, where a word is popped.
 pub fn stacking()
@@ -43,7 +51,9 @@ pub fn stacking()
         Goes code v (with_register 4 (2 * n) (with_stack n (register v r) (on (i86.Push r) v))) }
     ensures pop { (code : List ℕ) (v : View) (r n : ℕ) → Has code v.place (i86.Pop r) → n < 32768 → IsTop v n →
         Goes code v (with_register r (v.stack n) (with_register 4 (2 * suc n % 65536) (on (i86.Pop r) v))) }
-{}
+{
+    fetching();
+}
 
 /// Words of the data segment through BX, and words of the stack segment through BP, by a displacement of one byte.
 pub fn memory()
@@ -55,7 +65,9 @@ pub fn memory()
         Goes code v (with_register r (v.stack k) (on (i86.Mov true true r (rms.Mem (record { cs = false; place = places.Near 6 by }))) v)) }
     ensures set_slot { (code : List ℕ) (v : View) (by w k : ℕ) → Has code v.place (i86.MovRm (rms.Mem (record { cs = false; place = places.Near 6 by })) (imm.Word w)) → k < 32768 → (register v 5 + sign_extended by) % 65536 ≡ 2 * k →
         Goes code v (with_stack k w (on (i86.MovRm (rms.Mem (record { cs = false; place = places.Near 6 by })) (imm.Word w)) v)) }
-{}
+{
+    fetching();
+}
 
 /// Sums and differences of registers that hold words, negatives, and doubling.
 pub fn arithmetic()
@@ -67,7 +79,9 @@ pub fn arithmetic()
         Goes code v (with_result r (word_difference 0 (register v r)) (difference_overflows 0 (register v r)) (on (i86.Unary 3 true (rms.Reg r)) v)) }
     ensures double { (code : List ℕ) (v : View) (r : ℕ) → Has code v.place (i86.Shift 4 true false (rms.Reg r)) → register v r < 32768 →
         (overflow : Bool) × Goes code v (with_result r (2 * register v r) overflow (on (i86.Shift 4 true false (rms.Reg r)) v)) }
-{}
+{
+    fetching();
+}
 
 /// Jumps and calls. A call pushes the place behind it.
 pub fn jumps()
@@ -78,7 +92,9 @@ pub fn jumps()
     ensures passes { (code : List ℕ) (v : View) (by : ℕ) → Has code v.place (i86.JumpIf 1 by) → v.overflow ≡ true → Goes code v (on (i86.JumpIf 1 by) v) }
     ensures call { (code : List ℕ) (v : View) (by n : ℕ) → Has code v.place (i86.Call by) → n < 32768 → IsTop v (suc n) →
         Goes code v (with_place ((v.place + 3 + by) % 65536) (with_register 4 (2 * n) (with_stack n ((v.place + 3) % 65536) v))) }
-{}
+{
+    fetching();
+}
 
 /// The ports, and the end.
 pub fn ports()
@@ -87,4 +103,6 @@ pub fn ports()
         observed (processor_step p) ≡ record { output = v.told.output; end = end_told v.told.kind v.told.segment (v.told.line_low + 256 * v.told.line_high) } }
     ensures rests { (code : List ℕ) (v : View) (p : Processor) → Has code v.place i86.Hlt → Sees code v p → processor_step (processor_step p) ≡ processor_step p }
     ensures runs { (code : List ℕ) (v : View) (p : Processor) → Sees code v p → observed p ≡ record { output = v.told.output; end = Running } }
-{}
+{
+    fetching();
+}
