@@ -1,12 +1,10 @@
 -- The code at a place carries out a pending work.
-use Rattle.std.proofs.Common.{◌≡◌, ℕ, zero, suc, ◌+◌, ◌<◌, ℤ, pos, List, [], ◌∷◌, ◌++◌, map, Bool, Option, Some, None, refl, sym, ap, ◌∙◌, subst, arith}
+use Rattle.std.proofs.Common.{◌≡◌, ℕ, suc, ◌+◌, ◌<◌, ℤ, pos, List, [], ◌∷◌, ◌++◌, Some, None, refl, ap, ◌∙◌, arith}
 use Rattle.std.specs.Prelude.{slice_get, IsTrue}
 use Rattle.cw_unit.specs.declared.layout.Layout.{Layout}
-use Rattle.cw_unit.specs.declared.unit.Arg.{Arg}
-use Rattle.cw_unit.specs.declared.unit.Ref.{Ref, out-Ref}
-use Rattle.cw_unit.specs.declared.unit.Target.{Target}
+use Rattle.cw_unit.specs.declared.unit.Ref.{out-Ref}
 use Rattle.cw_unit.specs.declared.unit.Target.TheVariants as target
-use Rattle.cw_unit.specs.Words.{Operand, Word, Held}
+use Rattle.cw_unit.specs.Words.{Operand, Word}
 use Rattle.cw_unit.specs.Operation.{Operation, Rescale, Fetch, Store, Add, Subtract, Negate}
 use Rattle.cw_unit.specs.Work.{Work, Nothing, Run, Eval, Address, Do, Give, Enter}
 use Rattle.cw_order.specs.declared.order.Order.{Order}

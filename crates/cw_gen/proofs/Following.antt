@@ -1,12 +1,10 @@
 -- The orders follow the source, step by step.
-use Rattle.std.proofs.Common.{◌≡◌, ◌≢◌, ◌⊎◌, inl, inr, ℕ, zero, suc, ◌+◌, ◌*◌, ◌/◌, ◌%◌, ◌^◌, ◌<◌, ◌≤◌, ℤ, pos, negsuc, ◌+ℤ◌, ◌-ℤ◌, neg_ℤ, ◌*ℤ◌, List, [], ◌∷◌, ◌++◌, map, set, Bool, true, false, Option, Some, None, refl, sym, ap, ◌∙◌, subst, arith}
-use Rattle.std.specs.Prelude.{slice_get, slice_index_or, option_map, is_none, nat_le, nat_lt, nat_eq, IsTrue, ◌&&◌, if◌then◌else◌}
+use Rattle.std.proofs.Common.{◌≡◌, ◌≢◌, ◌⊎◌, inl, inr, ℕ, zero, suc, ◌+◌, ◌%◌, ◌<◌, ◌≤◌, ℤ, pos, ◌+ℤ◌, ◌-ℤ◌, neg_ℤ, List, [], ◌∷◌, ◌++◌, map, set, Bool, true, false, Option, Some, None, refl, sym, ap, ◌∙◌, subst, arith}
+use Rattle.std.specs.Prelude.{slice_get, slice_index_or, option_map, is_none, nat_lt, nat_eq, IsTrue, ◌&&◌, if◌then◌else◌}
 use Rattle.std.proofs.lemmas.Bool.{false≢true, true≢false, lt-ltb, le-leb, eqb-true}
-use Rattle.std.proofs.lemmas.Bool.Decides.{nat_tests}
-use Rattle.std.proofs.lemmas.Int.{ints}
 use Rattle.std.proofs.lemmas.Option.{none-some, same_Some, slice_get-map}
-use Rattle.std.proofs.lemmas.List.Elements.{All-head}
-use Rattle.cw_word.specs.FixedPoint.{FitsWord, fits_word, rescaled, floor_div}
+use Rattle.std.proofs.lemmas.List.Elements.{All-head, All-nil}
+use Rattle.cw_word.specs.FixedPoint.{fits_word, rescaled}
 use Rattle.cw_word.specs.Decimal.{decimal_floor}
 use Rattle.cw_word.specs.Word.{signed}
 use Rattle.cw_track.specs.Machine.{Machine}
@@ -17,7 +15,6 @@ use Rattle.cw_unit.specs.declared.unit.Unit.{Unit as SourceUnit}
 use Rattle.cw_unit.specs.declared.layout.Layout.{Layout}
 use Rattle.cw_unit.specs.declared.layout.Limits.{Limits}
 use Rattle.cw_unit.specs.declared.layout.Map.{Map}
-use Rattle.cw_unit.specs.declared.unit.Num.{Num}
 use Rattle.cw_unit.specs.declared.unit.Field.{Field}
 use Rattle.cw_unit.specs.declared.unit.Arg.{Arg, out-Arg}
 use Rattle.cw_unit.specs.declared.unit.Cond.{Cond}
@@ -31,27 +28,26 @@ use Rattle.cw_unit.specs.declared.unit.Target.TheVariants as target
 use Rattle.cw_unit.specs.declared.unit.Arg.TheOpen as layer
 use Rattle.cw_unit.specs.declared.unit.Arg.TheOpen.{Arg-F, Cond-F, Spot-F, Ref-F}
 use Rattle.cw_unit.specs.Storage.{layout_of}
-use Rattle.cw_unit.specs.Program.{Program, program_at, layout_at, no_layout, family_address_at, item_address, is_frame_family}
+use Rattle.cw_unit.specs.Program.{Program, program_at, no_layout, family_address_at, item_address, is_frame_family}
 use Rattle.cw_unit.specs.Stop.{End, Overflow, Running, Ended, Stopped, Stuck}
-use Rattle.cw_unit.specs.Words.{Operand, Word, Held, Words, Outcome, Changed, Refused, Impossible, with_operands, put, put_if, put_value, through, word_at, field_value, stored_value, with_memory, byte_of}
-use Rattle.cw_unit.specs.Operation.{Operation, Rescale, Fetch, Store, Add, Subtract, Negate, WriteByte, perform}
+use Rattle.cw_unit.specs.Words.{Operand, Word, Words, Changed, put, put_if, put_value, through, word_at, field_value, stored_value, with_memory, byte_of}
+use Rattle.cw_unit.specs.Operation.{Operation, Rescale, Fetch, Store, Add, Subtract, Negate, perform}
 use Rattle.cw_unit.specs.Work.{Work, Nothing, Run, Eval, Address, FormAt, Do, Give, Enter, scale_of, run_all, statement_work, expression_work}
 use Rattle.cw_unit.specs.Configuration.{Configuration, at as configuration, Activation, words_of, address_at}
-use Rattle.cw_unit.specs.Step.{after as source_after, put_constant, in_unit, stuck, address_step, give_step, next_body as source_next_body, step as source_step, steps}
-use Rattle.cw_unit.specs.Behaviour.{Shown, is_running}
+use Rattle.cw_unit.specs.Step.{after as source_after, put_constant, in_unit, stuck, address_step, give_step, next_body as source_next_body, steps}
+use Rattle.cw_unit.specs.Behaviour.{Shown, is_running, first_body, initial_configuration}
 use Rattle.cw_order.specs.declared.order.Order.{Order}
 use Rattle.cw_order.specs.declared.order.Order.TheVariants as order
-use Rattle.cw_order.specs.declared.order.Orders.{Orders}
-use Rattle.cw_order.specs.OrderMachine.{OrderProgram, OrderState, at as state, home_word, action_of, operand_words, go_on, after as order_after, unrefused, next_body as order_next_body, act, order_in, order_at, carry_out, weight_of, weight_at, order_machine}
-use Rattle.cw_order.specs.FittingWords.{OperandFits, WordsFit, words_of as words_in}
-use Rattle.cw_gen.specs.Built.{is_built_number, is_built_expression, is_built_argument, is_built_ref, is_built_call, is_built_statement, all, AllBuilt}
+use Rattle.cw_order.specs.OrderMachine.{OrderProgram, OrderState, at as state, home_word, action_of, operand_words, go_on, after as order_after, unrefused, next_body as order_next_body, act, order_in, order_at, carry_out, weight_of, weight_at, entry_of, step as order_step, order_machine}
+use Rattle.cw_order.specs.FittingWords.{OperandFits, WordsFit, ConstantsFit, words_of as words_in}
+use Rattle.cw_gen.specs.Built.{is_built_expression, is_built_argument, is_built_ref, is_built_call, is_built_statement, all, AllBuilt}
 use Rattle.cw_gen.specs.ReferenceOrders.{joined, home_order, load_orders, rescale_orders, store_orders, number_word, begin_orders, call_orders, put_orders, expression_orders, argument_orders, spot_orders, ref_orders, statement_orders}
-use Rattle.cw_gen.specs.Following.{meaning, orders_for, orders_program}
-use Rattle.cw_gen.proofs.Layers.{is_built_spot, built_expression, built_argument, built_spot, built_ref, built_statement, expression-built, argument-built, spot-built, ref-built, statement-built, layer_expression_orders, layer_argument_orders, layer_spot_orders, layer_ref_orders, layer_statement_orders, expression_orders-are, argument_orders-are, spot_orders-are, ref_orders-are, statement_orders-are, total, expression_size, argument_size, statement_size, read_size, sum_size, difference_size, negative_size, value_size, list_size}
-use Rattle.cw_gen.proofs.FittingOrders.{both, has_orders}
+use Rattle.cw_gen.specs.Following.{meaning, orders_for, orders_program, first_order, Suits}
+use Rattle.cw_unit.specs.InitialMemory.{initial_memory}
+use Rattle.cw_gen.proofs.Layers.{is_built_spot, built_expression, built_argument, built_spot, built_statement, expression-built, argument-built, spot-built, ref-built, statement-built, layer_expression_orders, layer_argument_orders, layer_spot_orders, layer_statement_orders, expression_orders-are, argument_orders-are, spot_orders-are, ref_orders-are, statement_orders-are, total, expression_size, argument_size, statement_size, read_size, sum_size, difference_size, negative_size, value_size, list_size}
+use Rattle.cw_gen.proofs.FittingOrders.{both, has_orders, constants-fit}
 use Rattle.cw_gen.proofs.Numbers.{signed-small, tested, rescaled-same, number-is}
-use Rattle.cw_gen.proofs.Carried.{Stands, parted, placed, OnWord, on_word, OnAddress, on_address, OperationAt, CarriesOut}
-
+use Rattle.cw_gen.proofs.Carried.{Stands, parted, placed, on_word, on_address, OperationAt, CarriesOut}
 
 -- ---- where items stand
 
@@ -346,7 +342,7 @@ module _ (us : List SourceUnit) (m : Map) (limits : Limits) (room : ℕ) where
             spent = 1;
             reached = state g (q + 1 + 1) line w Running;
             path = move (inl refl) (ap (λ x. carry_out Q x g q l w) at_q) (let z : 1 ≡ weight_at (order_at Q g q) + 1 = omega (arith, ap weight_at at_q) in z)
-            (move (inl refl) (ap (λ x. carry_out Q x g (q + 1) l w) at_next) (let z : 1 ≡ weight_at (order_at Q g (q + 1)) + 0 = omega (arith, ap weight_at at_next) in z) (stay refl refl));
+                (move (inl refl) (ap (λ x. carry_out Q x g (q + 1) l w) at_next) (let z : 1 ≡ weight_at (order_at Q g (q + 1)) + 0 = omega (arith, ap weight_at at_next) in z) (stay refl refl));
             within = (let z : 1 ≤ 224 = omega arith in z);
             belongs = subst (λ d. Together d (state g (q + 1 + 1) line w Running)) (sym e) (going u unit_is carried);
             progress = inl (let z : 0 < 1 = omega arith in z);
@@ -440,3 +436,87 @@ module _ (us : List SourceUnit) (m : Map) (limits : Limits) (room : ℕ) where
       goes_on (Enter target.Write line wanted k) q l hand memory input output (h, on_word {z = z} {rest = rest} carried) fits roomy =
           changed (Enter target.Write line wanted k) k q l (words (Word z ∷ rest) memory input output) (words rest memory input (output ++ byte_of z ∷ [])) order.WriteByte h (omega arith) (omega arith) refl refl carried roomy
       goes_on _ q l hand memory input output carried fits roomy = absurd carried
+
+  -- ---- whole runs
+
+  -- the operands have room from here on
+  abbrev HasRoom : Configuration → Type 0
+  HasRoom c = (n : ℕ) → operand_words (words_of (steps P n c)).operands ≤ room
+
+  pub record Matches (c : Configuration) (t : OrderState) : Type 0 where
+    pub belongs : Together c t
+    pub has_room : HasRoom c
+    pub words_fit : WordsFit (words_in t)
+
+  module _ (in_words : limits.area ≤ 32768) (in_area : (h item : ℕ) → item_address P h item 0 < limits.area) (has : AllBuilt us) (keeps : (t : OrderState) → WordsFit (words_in t) → WordsFit (words_in (B.step t))) where
+    path-fits : (Allowed : Shown → Type 0) (n : ℕ) (t v : OrderState) → Path Allowed B n t v → WordsFit (words_in t) → WordsFit (words_in v)
+    path-fits Allowed n t v (stay e z) fits = subst (λ x. WordsFit (words_in x)) e fits
+    path-fits Allowed n t v (move {w' = n'} {t' = t'} a e w p) fits = path-fits Allowed n' t' v p (subst (λ x. WordsFit (words_in x)) e (keeps t fits))
+
+    going_on : (c : Configuration) (t : OrderState) → Together c t → is_running (A.shown c) ≡ true → WordsFit (words_in t) → HasRoom c → Goes c t
+    going_on c t (going {g = g} {q = q} {l = l} {k = k} {w = w} u unit_is carried) on fits room =
+        goes_on g u unit_is in_words in_area has k q l w.operands w.memory w.input w.output carried fits (room 1)
+    going_on c t (over off) on fits room = absurd (true≢false (sym on ∙ off))
+
+    agrees : (c : Configuration) (t : OrderState) → Together c t → B.shown t ≡ A.shown c
+    agrees c t (going u unit_is carried) = refl
+    agrees c t (over off) = refl
+
+    still : (s : ℕ) (k : Work) (acts : List Activation) (g q l : ℕ) (w : Words) (e : End) → is_running (record { output = w.output; end = e }) ≡ false → (A.step (configuration s k acts w e) ≡ configuration s k acts w e) × (B.step (state g q l w e) ≡ state g q l w e)
+    still s k acts g q l w Running off = absurd (true≢false off)
+    still s k acts g q l w Ended off = (refl, refl)
+    still s k acts g q l w (Stopped kind h line) off = (refl, refl)
+    still s k acts g q l w Stuck off = (refl, refl)
+
+    rests : (c : Configuration) (t : OrderState) → Together c t → is_running (A.shown c) ≡ false → (A.step c ≡ c) × (B.step t ≡ t)
+    rests c t (going u unit_is carried) off = absurd (true≢false off)
+    rests c t (over {s = s} {g = g} {q = q} {l = l} {k = k} {acts = acts} {w = w} {e = e} h) off = still s k acts g q l w e h
+
+    follows : (c : Configuration) (t : OrderState) → Matches c t → is_running (A.shown c) ≡ true → Followed A B Matches rank c t
+    follows c t match on =
+        let goes = going_on c t match.belongs on match.words_fit match.has_room in
+        record {
+          spent = goes.spent;
+          reached = goes.reached;
+          path = goes.path;
+          within = goes.within;
+          matched = record {
+            belongs = goes.belongs;
+            has_room = λ n. match.has_room (suc n);
+            words_fit = path-fits (Quiet (A.shown c) (A.shown (A.step c))) goes.spent t goes.reached goes.path match.words_fit;
+          };
+          progress = goes.progress;
+        }
+
+    simulation : Simulation is_running A B Matches rank
+    simulation = record {
+      agrees = λ c t match. agrees c t match.belongs;
+      rests = λ c t match off. rests c t match.belongs off;
+      follows = follows;
+    }
+
+    pub tracked : (c : Configuration) (t : OrderState) → Matches c t → Tracks is_running A c B t
+    tracked = tracks is_running A B Matches rank simulation
+
+-- the first body, where there is one
+first : (us : List SourceUnit) → us ≢ [] → (u : SourceUnit) × (slice_get us 0 ≡ Some u)
+first [] h = absurd (h refl)
+first (u ∷ us) h = (u, refl)
+
+pub follow_meaning : (us : List SourceUnit) (m : Map) (limits : Limits) (room : ℕ) (input : List ℕ) → ((p : OrderProgram) (t : OrderState) → ConstantsFit p → WordsFit (words_in t) → WordsFit (words_in (order_step p t))) → AllBuilt us → Suits us m limits room input → Tracks is_running (meaning (program_at us m limits)) (initial_configuration (program_at us m limits) input) (order_machine (orders_program us m limits room)) (first_order us m limits room input)
+follow_meaning us m limits room input keeps has suits =
+    let p = program_at us m limits in
+    let q = orders_program us m limits room in
+    let body = first us suits.not_empty in
+    let words : Words = record { operands = []; memory = initial_memory us m limits.area; input = input; output = [] } in
+    let starts : initial_configuration p input ≡ configuration 0 (Run body.0.body Nothing) [] words Running = ap (λ v. configuration 0 (first_body v) [] words Running) body.1 in
+    let enters : first_order us m limits room input ≡ state 0 0 0 words Running =
+    ap (λ v. state 0 (entry_of v) 0 words Running) (slice_get-map orders_for us 0 ∙ ap (option_map orders_for) body.1) in
+    tracked us m limits room suits.area suits.addresses has (λ t. keeps q t (constants-fit us m limits room has)) (initial_configuration p input) (first_order us m limits room input)
+    (record {
+      belongs =
+          subst (λ c. Together us m limits room c (first_order us m limits room input)) (sym starts)
+          (subst (Together us m limits room (configuration 0 (Run body.0.body Nothing) [] words Running)) (sym enters) (going body.0 body.1 (begins us m limits room has 0 body.0 0 body.1)));
+      has_room = suits.has_room;
+      words_fit = record { operands = All-nil OperandFits; memory = suits.words_fit };
+    })

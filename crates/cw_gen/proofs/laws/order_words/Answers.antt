@@ -1,5 +1,4 @@
 use Rattle.cw_gen.proofs.FittingOrders.{constants-fit, lines-fit, entries-first}
-use Rattle.cw_gen.proofs.Following.{Goes}
 use Rattle.cw_gen.proofs.laws.order_words.Goals as goal
 
 pub returns-clause-constants : goal.returns-clause-constants
