@@ -1,4 +1,5 @@
--- The orders follow the source, step by step.
+-- The orders follow the source, step by step: each step of the source is carried out by one order, by the two that begin a statement, or
+-- by none, and then the pending work has become smaller.
 use Rattle.std.proofs.Common.{◌≡◌, ◌≢◌, ◌⊎◌, inl, inr, ℕ, zero, suc, ◌+◌, ◌%◌, ◌<◌, ◌≤◌, ℤ, pos, ◌+ℤ◌, ◌-ℤ◌, neg_ℤ, List, [], ◌∷◌, ◌++◌, map, set, Bool, true, false, Option, Some, None, refl, sym, ap, ◌∙◌, subst, arith}
 use Rattle.std.specs.Prelude.{slice_get, slice_index_or, option_map, is_none, nat_lt, nat_eq, IsTrue, ◌&&◌, if◌then◌else◌}
 use Rattle.std.proofs.lemmas.Bool.{false≢true, true≢false, lt-ltb, le-leb, eqb-true}
@@ -32,9 +33,10 @@ use Rattle.cw_unit.specs.Program.{Program, program_at, no_layout, family_address
 use Rattle.cw_unit.specs.Stop.{End, Overflow, Running, Ended, Stopped, Stuck}
 use Rattle.cw_unit.specs.Words.{Operand, Word, Words, Changed, put, put_if, put_value, through, word_at, field_value, stored_value, with_memory, byte_of}
 use Rattle.cw_unit.specs.Operation.{Operation, Rescale, Fetch, Store, Add, Subtract, Negate, perform}
-use Rattle.cw_unit.specs.Work.{Work, Nothing, Run, Eval, Address, FormAt, Do, Give, Enter, scale_of, run_all, statement_work, expression_work}
+use Rattle.cw_unit.specs.Work.{Work, Nothing, Run, Eval, Address, Do, Give, Enter, scale_of, run_all, statement_work, expression_work}
 use Rattle.cw_unit.specs.Configuration.{Configuration, at as configuration, Activation, words_of, address_at}
 use Rattle.cw_unit.specs.Step.{after as source_after, put_constant, in_unit, stuck, address_step, give_step, next_body as source_next_body, steps}
+use Rattle.cw_unit.specs.InitialMemory.{initial_memory}
 use Rattle.cw_unit.specs.Behaviour.{Shown, is_running, first_body, initial_configuration}
 use Rattle.cw_order.specs.declared.order.Order.{Order}
 use Rattle.cw_order.specs.declared.order.Order.TheVariants as order
@@ -43,7 +45,6 @@ use Rattle.cw_order.specs.FittingWords.{OperandFits, WordsFit, ConstantsFit, wor
 use Rattle.cw_gen.specs.Built.{is_built_expression, is_built_argument, is_built_ref, is_built_call, is_built_statement, all, AllBuilt}
 use Rattle.cw_gen.specs.ReferenceOrders.{joined, home_order, load_orders, rescale_orders, store_orders, number_word, begin_orders, call_orders, put_orders, expression_orders, argument_orders, spot_orders, ref_orders, statement_orders}
 use Rattle.cw_gen.specs.Following.{meaning, orders_for, orders_program, first_order, Suits}
-use Rattle.cw_unit.specs.InitialMemory.{initial_memory}
 use Rattle.cw_gen.proofs.Layers.{is_built_spot, built_expression, built_argument, built_spot, built_statement, expression-built, argument-built, spot-built, ref-built, statement-built, layer_expression_orders, layer_argument_orders, layer_spot_orders, layer_statement_orders, expression_orders-are, argument_orders-are, spot_orders-are, ref_orders-are, statement_orders-are, total, expression_size, argument_size, statement_size, read_size, sum_size, difference_size, negative_size, value_size, list_size}
 use Rattle.cw_gen.proofs.FittingOrders.{both, has_orders, constants-fit}
 use Rattle.cw_gen.proofs.Numbers.{signed-small, tested, rescaled-same, number-is}
@@ -64,19 +65,20 @@ none_is : (f : Option Field) → IsTrue (is_none f) → f ≡ None
 none_is None h = refl
 none_is (Some f) h = absurd (false≢true h)
 
--- ---- two machines
-module _ (us : List SourceUnit) (m : Map) (limits : Limits) (room : ℕ) where
-  abbrev P : Program
-  P = program_at us m limits
+-- ---- the two machines
 
-  abbrev Q : OrderProgram
-  Q = orders_program us m limits room
+module _ (us : List SourceUnit) (m : Map) (limits : Limits) (room : ℕ) where
+  abbrev program : Program
+  program = program_at us m limits
+
+  abbrev compiled : OrderProgram
+  compiled = orders_program us m limits room
 
   abbrev A : Machine Shown
-  A = meaning P
+  A = meaning program
 
   abbrev B : Machine Shown
-  B = order_machine Q
+  B = order_machine compiled
 
   -- a configuration and a state of the orders that belong together: the words are the same, and the code carries out the work; once
   -- the run is over both rest
@@ -89,7 +91,6 @@ module _ (us : List SourceUnit) (m : Map) (limits : Limits) (room : ℕ) where
   work_size (Run s k) = statement_size s + work_size k
   work_size (Eval e scale line k) = expression_size e + work_size k
   work_size (Address r line k) = work_size k
-  work_size (FormAt s line k) = work_size k
   work_size (Do op line k) = 1 + work_size k
   work_size (Give a line k) = argument_size a + work_size k
   work_size (Enter t line wanted k) = work_size k
@@ -141,24 +142,24 @@ module _ (us : List SourceUnit) (m : Map) (limits : Limits) (room : ℕ) where
     abbrev From : Work → (q l : ℕ) → Words → Type 0
     From k q l w = Goes (configuration g k [] w Running) (state g q l w Running)
 
-    order_here : (q : ℕ) (o : Order) → slice_get code q ≡ Some o → order_at Q g q ≡ Some o
-    order_here q o h = ap (λ v. order_in Q v q) (slice_get-map orders_for us g ∙ ap (option_map orders_for) unit_is) ∙ h
+    order_here : (q : ℕ) (o : Order) → slice_get code q ≡ Some o → order_at compiled g q ≡ Some o
+    order_here q o h = ap (λ v. order_in compiled v q) (slice_get-map orders_for us g ∙ ap (option_map orders_for) unit_is) ∙ h
 
     -- by one order
-    acted : (now : Work) (c : Configuration) (q l : ℕ) (w : Words) (o : Order) (t : OrderState) → slice_get code q ≡ Some o → 0 < weight_of o → weight_of o ≤ 224 → A.step (configuration g now [] w Running) ≡ c → act Q (action_of m g o) g q l w ≡ t → Together c t → From now q l w
+    acted : (now : Work) (c : Configuration) (q l : ℕ) (w : Words) (o : Order) (t : OrderState) → slice_get code q ≡ Some o → 0 < weight_of o → weight_of o ≤ 224 → A.step (configuration g now [] w Running) ≡ c → act compiled (action_of m g o) g q l w ≡ t → Together c t → From now q l w
     acted now c q l w o t h positive small e f together =
         let at_q = order_here q o h in
         record {
           spent = weight_of o;
           reached = t;
-          path = move (inl refl) (ap (λ x. carry_out Q x g q l w) at_q ∙ f) (let s : weight_of o ≡ weight_at (order_at Q g q) + 0 = omega (arith, ap weight_at at_q) in s) (stay refl refl);
+          path = move (inl refl) (ap (λ x. carry_out compiled x g q l w) at_q ∙ f) (let s : weight_of o ≡ weight_at (order_at compiled g q) + 0 = omega (arith, ap weight_at at_q) in s) (stay refl refl);
           within = small;
           belongs = subst (λ d. Together d t) (sym e) together;
           progress = inl positive;
         }
 
     -- by an order that changes the words
-    changed : (now k : Work) (q l : ℕ) (w v : Words) (o : Order) → slice_get code q ≡ Some o → 0 < weight_of o → weight_of o ≤ 224 → A.step (configuration g now [] w Running) ≡ configuration g k [] v Running → act Q (action_of m g o) g q l w ≡ order_after room (Changed v) g q l w → Carried (q + 1) l v.operands k → Roomy now w → From now q l w
+    changed : (now k : Work) (q l : ℕ) (w v : Words) (o : Order) → slice_get code q ≡ Some o → 0 < weight_of o → weight_of o ≤ 224 → A.step (configuration g now [] w Running) ≡ configuration g k [] v Running → act compiled (action_of m g o) g q l w ≡ order_after room (Changed v) g q l w → Carried (q + 1) l v.operands k → Roomy now w → From now q l w
     changed now k q l w v o h positive small e f carried roomy =
         let fits : operand_words v.operands ≤ room = subst (λ c. operand_words (words_of c).operands ≤ room) e roomy in
         acted now (configuration g k [] v Running) q l w o (state g (q + 1) l v Running) h positive small e
@@ -166,7 +167,7 @@ module _ (us : List SourceUnit) (m : Map) (limits : Limits) (room : ℕ) where
         (going u unit_is carried)
 
     -- by an order that puts a value, or stops where it does not fit
-    valued : (b : Bool) (z : ℤ) (now k : Work) (q l line : ℕ) (w v : Words) (o : Order) → slice_get code q ≡ Some o → 0 < weight_of o → weight_of o ≤ 224 → A.step (configuration g now [] w Running) ≡ source_after (put_if b Overflow z v) g line now k [] w → act Q (action_of m g o) g q l w ≡ order_after room (put_if b Overflow z v) g q l w → line ≡ l → Carried (q + 1) l (Word z ∷ v.operands) k → Roomy now w → From now q l w
+    valued : (b : Bool) (z : ℤ) (now k : Work) (q l line : ℕ) (w v : Words) (o : Order) → slice_get code q ≡ Some o → 0 < weight_of o → weight_of o ≤ 224 → A.step (configuration g now [] w Running) ≡ source_after (put_if b Overflow z v) g line now k [] w → act compiled (action_of m g o) g q l w ≡ order_after room (put_if b Overflow z v) g q l w → line ≡ l → Carried (q + 1) l (Word z ∷ v.operands) k → Roomy now w → From now q l w
     valued true z now k q l line w v o h positive small e f same carried roomy = changed now k q l w (put z v) o h positive small e f carried roomy
     valued false z now k q l line w v o h positive small e f same carried roomy =
         acted now (configuration g now [] w (Stopped Overflow (g + 1) line)) q l w o (state g q l w (Stopped Overflow (g + 1) l)) h positive small e f
@@ -214,19 +215,19 @@ module _ (us : List SourceUnit) (m : Map) (limits : Limits) (room : ℕ) where
 
     -- ---- addresses
 
-    module _ (in_words : limits.area ≤ 32768) (in_area : (h item : ℕ) → item_address P h item 0 < limits.area) (has : AllBuilt us) where
+    module _ (in_words : limits.area ≤ 32768) (in_area : (h item : ℕ) → item_address program h item 0 < limits.area) (has : AllBuilt us) where
       abbrev home : (item : ℕ) → ℕ × ℕ
       home item = slice_index_or layout.homes item (0, 0)
 
       -- the address of an item is the number that the order puts
-      home_is : (item : ℕ) → signed (home_word m g (home item).0 (home item).1) ≡ pos (address_at P g [] item)
+      home_is : (item : ℕ) → signed (home_word m g (home item).0 (home item).1) ≡ pos (address_at program g [] item)
       home_is item =
           let q = home item in
-          let sum = family_address_at P g q.0 + q.1 in
-          let from_layout : address_at P g [] item ≡ (if is_frame_family (slice_get layout.families q.0) then 0 else 0) + sum =
-          ap (λ x. let r = slice_index_or x.homes item (0, 0) in (if is_frame_family (slice_get x.families r.0) then 0 else 0) + (family_address_at P g r.0 + r.1)) (layout_is us g u unit_is) in
+          let sum = family_address_at program g q.0 + q.1 in
+          let from_layout : address_at program g [] item ≡ (if is_frame_family (slice_get layout.families q.0) then 0 else 0) + sum =
+          ap (λ x. let r = slice_index_or x.homes item (0, 0) in (if is_frame_family (slice_get x.families r.0) then 0 else 0) + (family_address_at program g r.0 + r.1)) (layout_is us g u unit_is) in
           let none = either_way (is_frame_family (slice_get layout.families q.0)) 0 in
-          let same : address_at P g [] item ≡ sum = omega (arith, from_layout, none) in
+          let same : address_at program g [] item ≡ sum = omega (arith, from_layout, none) in
           let small = in_area g item in
           let lt : sum < 32768 = omega arith in
           let word : sum % 65536 ≡ sum = omega arith in
@@ -235,9 +236,9 @@ module _ (us : List SourceUnit) (m : Map) (limits : Limits) (room : ℕ) where
       -- a reference to an item puts its address
       addressed : (r : Ref) (x : Spot-F Arg Cond Expr Spot Ref) (line : ℕ) (k : Work) (q l next : ℕ) (w : Words) → out-Spot (out-Ref r).at ≡ x → IsTrue (built_spot x) → Stands code q (layer_spot_orders layout x) next → ((n : ℕ) → n < limits.area → Carried next l (Word (pos n) ∷ w.operands) k) → Roomy (Address r line k) w → From (Address r line k) q l w
       addressed r (layer.Direct item) line k q l next w e b (h, end) carried roomy =
-          let a = address_at P g [] item in
+          let a = address_at program g [] item in
           changed (Address r line k) k q l w (put (pos a) w) (home_order (home item)) h (omega arith) (omega arith)
-          (ap (λ x. address_step P (out-Ref r).at x g line k [] w) e)
+          (ap (λ x. address_step program (out-Ref r).at x g line k [] w) e)
           (ap (λ z. order_after room (Changed (put z w)) g q l w) (home_is item))
           (subst (λ place. Carried place l (Word (pos a) ∷ w.operands) k) (sym end) (carried a (in_area g item)))
           roomy
@@ -245,12 +246,12 @@ module _ (us : List SourceUnit) (m : Map) (limits : Limits) (room : ℕ) where
 
       -- ---- expressions
 
-      evaluates : (e : Expr) (x : Expr-F Arg Cond Expr Spot Ref) (scale line : ℕ) (k : Work) (w : Words) → out-Expr e ≡ x → A.step (configuration g (Eval e scale line k) [] w Running) ≡ configuration g (expression_work u x scale line k) [] (put_constant P x g scale [] w) Running
+      evaluates : (e : Expr) (x : Expr-F Arg Cond Expr Spot Ref) (scale line : ℕ) (k : Work) (w : Words) → out-Expr e ≡ x → A.step (configuration g (Eval e scale line k) [] w Running) ≡ configuration g (expression_work u x scale line k) [] (put_constant program x g scale [] w) Running
       evaluates e x scale line k w h =
-          ap (λ v. in_unit P v (λ t. configuration g (expression_work t (out-Expr e) scale line k) [] (put_constant P (out-Expr e) g scale [] w) Running) (stuck P g (Eval e scale line k) [] w)) unit_is ∙ ap (λ y. configuration g (expression_work u y scale line k) [] (put_constant P y g scale [] w) Running) h
+          ap (λ v. in_unit program v (λ t. configuration g (expression_work t (out-Expr e) scale line k) [] (put_constant program (out-Expr e) g scale [] w) Running) (stuck program g (Eval e scale line k) [] w)) unit_is ∙ ap (λ y. configuration g (expression_work u y scale line k) [] (put_constant program y g scale [] w) Running) h
 
       -- by no order, since the works that an expression becomes are carried out
-      unfolds : (e : Expr) (x : Expr-F Arg Cond Expr Spot Ref) (scale line : ℕ) (k : Work) (q l : ℕ) (w : Words) → out-Expr e ≡ x → put_constant P x g scale [] w ≡ w → Carried q l w.operands (expression_work u x scale line k) → work_size (expression_work u x scale line k) < expression_size e + work_size k → From (Eval e scale line k) q l w
+      unfolds : (e : Expr) (x : Expr-F Arg Cond Expr Spot Ref) (scale line : ℕ) (k : Work) (q l : ℕ) (w : Words) → out-Expr e ≡ x → put_constant program x g scale [] w ≡ w → Carried q l w.operands (expression_work u x scale line k) → work_size (expression_work u x scale line k) < expression_size e + work_size k → From (Eval e scale line k) q l w
       unfolds e x scale line k q l w h same carried less =
           silent (configuration g (Eval e scale line k) [] w Running) (configuration g (expression_work u x scale line k) [] w Running) (state g q l w Running)
           (evaluates e x scale line k w h ∙ ap (λ v. configuration g (expression_work u x scale line k) [] v Running) same)
@@ -326,7 +327,7 @@ module _ (us : List SourceUnit) (m : Map) (limits : Limits) (room : ℕ) where
           let tests = both (is_built_expression e) (nat_eq scale 0) b in
           let unscaled = eqb-true scale 0 tests.1 in
           silent (configuration g (Give a line k) [] w Running) (configuration g (Eval e scale line k) [] w Running) (state g q l w Running)
-          (ap (λ x. give_step P x g line (Give a line k) k [] w) h)
+          (ap (λ x. give_step program x g line (Give a line k) k [] w) h)
           (going u unit_is (next, tests.0, subst (λ n. Stands code q (expression_orders layout e n) next) unscaled stands, unscaled, same, carried))
           (let less : expression_size e + work_size k < argument_size a + work_size k = omega (arith, value_size a e scale h) in less)
       given a _ line k q l next w h b stands same carried = absurd (false≢true b)
@@ -341,8 +342,8 @@ module _ (us : List SourceUnit) (m : Map) (limits : Limits) (room : ℕ) where
           record {
             spent = 1;
             reached = state g (q + 1 + 1) line w Running;
-            path = move (inl refl) (ap (λ x. carry_out Q x g q l w) at_q) (let z : 1 ≡ weight_at (order_at Q g q) + 1 = omega (arith, ap weight_at at_q) in z)
-                (move (inl refl) (ap (λ x. carry_out Q x g (q + 1) l w) at_next) (let z : 1 ≡ weight_at (order_at Q g (q + 1)) + 0 = omega (arith, ap weight_at at_next) in z) (stay refl refl));
+            path = move (inl refl) (ap (λ x. carry_out compiled x g q l w) at_q) (let z : 1 ≡ weight_at (order_at compiled g q) + 1 = omega (arith, ap weight_at at_q) in z)
+                (move (inl refl) (ap (λ x. carry_out compiled x g (q + 1) l w) at_next) (let z : 1 ≡ weight_at (order_at compiled g (q + 1)) + 0 = omega (arith, ap weight_at at_next) in z) (stay refl refl));
             within = (let z : 1 ≤ 224 = omega arith in z);
             belongs = subst (λ d. Together d (state g (q + 1 + 1) line w Running)) (sym e) (going u unit_is carried);
             progress = inl (let z : 0 < 1 = omega arith in z);
@@ -408,13 +409,13 @@ module _ (us : List SourceUnit) (m : Map) (limits : Limits) (room : ℕ) where
       ends None q l memory input output e h =
           let w = words [] memory input output in
           acted Nothing (configuration g Nothing [] w Ended) q l w order.NextBody (state g q l w Ended) h (omega arith) (omega arith)
-          (ap (λ v. source_next_body P v g [] w) e)
+          (ap (λ v. source_next_body program v g [] w) e)
           (ap (λ v. order_next_body v g q l w) (slice_get-map orders_for us (g + 1) ∙ ap (option_map orders_for) e))
           (over refl)
       ends (Some v) q l memory input output e h =
           let w = words [] memory input output in
           acted Nothing (configuration (g + 1) (Run v.body Nothing) [] w Running) q l w order.NextBody (state (g + 1) 0 0 w Running) h (omega arith) (omega arith)
-          (ap (λ v. source_next_body P v g [] w) e)
+          (ap (λ v. source_next_body program v g [] w) e)
           (ap (λ v. order_next_body v g q l w) (slice_get-map orders_for us (g + 1) ∙ ap (option_map orders_for) e))
           (going v e (begins has (g + 1) v 0 e))
 
@@ -441,14 +442,14 @@ module _ (us : List SourceUnit) (m : Map) (limits : Limits) (room : ℕ) where
 
   -- the operands have room from here on
   abbrev HasRoom : Configuration → Type 0
-  HasRoom c = (n : ℕ) → operand_words (words_of (steps P n c)).operands ≤ room
+  HasRoom c = (n : ℕ) → operand_words (words_of (steps program n c)).operands ≤ room
 
   pub record Matches (c : Configuration) (t : OrderState) : Type 0 where
     pub belongs : Together c t
     pub has_room : HasRoom c
     pub words_fit : WordsFit (words_in t)
 
-  module _ (in_words : limits.area ≤ 32768) (in_area : (h item : ℕ) → item_address P h item 0 < limits.area) (has : AllBuilt us) (keeps : (t : OrderState) → WordsFit (words_in t) → WordsFit (words_in (B.step t))) where
+  module _ (in_words : limits.area ≤ 32768) (in_area : (h item : ℕ) → item_address program h item 0 < limits.area) (has : AllBuilt us) (keeps : (t : OrderState) → WordsFit (words_in t) → WordsFit (words_in (B.step t))) where
     path-fits : (Allowed : Shown → Type 0) (n : ℕ) (t v : OrderState) → Path Allowed B n t v → WordsFit (words_in t) → WordsFit (words_in v)
     path-fits Allowed n t v (stay e z) fits = subst (λ x. WordsFit (words_in x)) e fits
     path-fits Allowed n t v (move {w' = n'} {t' = t'} a e w p) fits = path-fits Allowed n' t' v p (subst (λ x. WordsFit (words_in x)) e (keeps t fits))
