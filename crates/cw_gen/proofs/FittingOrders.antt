@@ -1,5 +1,5 @@
 -- The numbers in the orders of a unit are words.
-use Rattle.std.proofs.Common.{◌≡◌, ℕ, zero, suc, ◌+◌, ◌<◌, ◌≤◌, ◌%◌, List, [], ◌∷◌, ◌++◌, map, Bool, true, false, Option, Some, None, refl, sym, ap, ◌∙◌, subst, arith}
+use Rattle.std.proofs.Common.{◌≡◌, ℕ, zero, suc, ◌+◌, ◌<◌, ◌≤◌, List, [], ◌∷◌, ◌++◌, map, Bool, true, false, Option, Some, None, refl, sym, ap, ◌∙◌, subst, arith}
 use Rattle.std.specs.Prelude.{slice_get, IsTrue, ◌&&◌, option_map, nat_lt, ◌==◌, if◌then◌else◌}
 use Rattle.std.proofs.lemmas.Bool.{false≢true, ltb-true}
 use Rattle.std.proofs.lemmas.Option.{none-some, same_Some, slice_get-map}
@@ -26,9 +26,9 @@ use Rattle.cw_order.specs.declared.order.Orders.{Orders}
 use Rattle.cw_order.specs.OrderMachine.{OrderProgram, order_in, order_at}
 use Rattle.cw_order.specs.FittingWords.{ConstantsFit, LinesFit}
 use Rattle.cw_gen.specs.Built.{is_built_expression, is_built_ref, is_built_statement, all, AllBuilt, is_built_call, is_built_argument}
-use Rattle.cw_gen.specs.ReferenceOrders.{joined, home_order, load_orders, rescale_orders, store_orders, number_word, expression_orders, argument_orders, ref_orders, spot_orders, RefOrders, begin_orders, call_orders, put_orders, statement_orders, unit_orders}
+use Rattle.cw_gen.specs.ReferenceOrders.{joined, load_orders, rescale_orders, store_orders, number_word, expression_orders, argument_orders, ref_orders, begin_orders, call_orders, statement_orders}
 use Rattle.cw_gen.specs.Following.{orders_for, orders_program}
-use Rattle.cw_gen.proofs.Layers.{built_statement, statement-built, layer_expression_orders, layer_argument_orders, layer_spot_orders, layer_ref_orders, layer_statement_orders, expression_orders-are, argument_orders-are, spot_orders-are, ref_orders-are, statement_orders-are, total, expression_size, statement_size, sum_size, difference_size, negative_size, list_size}
+use Rattle.cw_gen.proofs.Layers.{built_statement, statement-built, layer_expression_orders, layer_argument_orders, layer_spot_orders, layer_statement_orders, expression_orders-are, argument_orders-are, spot_orders-are, ref_orders-are, statement_orders-are, total, expression_size, statement_size, sum_size, difference_size, negative_size, list_size}
 
 pub both : (a b : Bool) → IsTrue (a && b) → IsTrue a × IsTrue b
 both true b h = (refl, h)
