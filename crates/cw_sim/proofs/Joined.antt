@@ -45,7 +45,7 @@ module _ (given : Given) (us : List SourceUnit) (m : Map) (limits : Limits) (inp
   means n = ap shown (steps_are p n (initial_configuration p input))
 
   not_stuck : (n : ℕ) → (shown_after (meaning p) n (initial_configuration p input)).end ≢ Stuck
-  not_stuck n e = loaded.suits.never_stuck n (ap (λ x. x.end) (sym (means n)) ∙ e)
+  not_stuck n e = loaded.never_stuck n (ap (λ x. x.end) (sym (means n)) ∙ e)
 
   upper : Tracks is_running (meaning p) (initial_configuration p input) (order_machine q) (first_order us m limits loaded.room input)
   upper = given.upper us m limits loaded.room input loaded.built loaded.suits
@@ -75,7 +75,7 @@ module _ (given : Given) (us : List SourceUnit) (m : Map) (limits : Limits) (inp
   shown_then k = ap (λ x. shown_as (observed x)) (instructions_are k (processor_start s input))
 
   shows_then : (k n : ℕ) → shown_after (processor shown_as) k (processor_start s input) ≡ shown_after (meaning p) n (initial_configuration p input) → ShowsAs (observed (processor_after k (processor_start s input))) (meant p input n)
-  shows_then k n e = shows_as _ _ (sym (shown_then k) ∙ (e ∙ means n)) (loaded.suits.never_stuck n)
+  shows_then k n e = shows_as _ _ (sym (shown_then k) ∙ (e ∙ means n)) (loaded.never_stuck n)
 
   pub preserves : (k : ℕ) (o : run.Observed) → run.Shows s input k o → Preserves p input k o
   preserves k o shows =

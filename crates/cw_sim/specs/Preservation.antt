@@ -1,14 +1,14 @@
 -- Semantic preservation: what the image of a program shows is what its source means.
-use Rattle.std.specs.Prelude.{◌≡◌, ◌⊎◌, ℕ, ◌+◌, ◌*◌, ◌<◌, ◌≤◌, false, List, All}
+use Rattle.std.specs.Prelude.{◌≡◌, ◌≢◌, ◌⊎◌, ℕ, ◌+◌, ◌*◌, ◌<◌, ◌≤◌, false, List, All}
 use Rattle.cw_track.specs.Tracking.{step_ratio}
 use Rattle.cw_i86.specs.State.{State}
 use Rattle.cw_i86.specs.MachineRun as run
 use Rattle.cw_unit.specs.declared.unit.Unit.{Unit as SourceUnit}
 use Rattle.cw_unit.specs.declared.layout.Limits.{Limits}
 use Rattle.cw_unit.specs.declared.layout.Map.{Map}
-use Rattle.cw_unit.specs.Program.{Program}
+use Rattle.cw_unit.specs.Program.{Program, program_at}
 use Rattle.cw_unit.specs.InitialMemory.{initial_memory}
-use Rattle.cw_unit.specs.Stop.{StopKind, stop_number, End, Running, Ended, Stopped}
+use Rattle.cw_unit.specs.Stop.{StopKind, stop_number, End, Running, Ended, Stopped, Stuck}
 use Rattle.cw_unit.specs.Behaviour.{Shown, is_running, observed}
 use Rattle.cw_gen.specs.Built.{AllBuilt}
 use Rattle.cw_gen.specs.Following.{orders_program, Suits}
@@ -46,12 +46,13 @@ pub record Completes (p : Program) (input : List ℕ) (steps : ℕ) (s : State) 
 
 -- ---- of which programs
 
--- Units with a storage map and limits, and a state of the 8086 that begins with their image and its words.
+-- Units with a storage map and limits, which never get stuck, and a state of the 8086 that begins with their image and its words.
 pub record IsLoaded (us : List SourceUnit) (m : Map) (limits : Limits) (input : List ℕ) (s : State) : Type 0 where
   pub room : ℕ
   pub within : room ≤ 32000
   pub built : AllBuilt us
   pub suits : Suits us m limits room input
+  pub never_stuck : (steps : ℕ) → (observed (program_at us m limits) input steps).end ≢ Stuck
   pub image : List ℕ
   pub words : List ℕ
   pub is_image : IsImage (orders_program us m limits room) image
