@@ -1,9 +1,5 @@
 -- What is known of a tree by its first layer: whether it has orders, its orders, and its size.
-<<<<<<< HEAD
-use Rattle.std.proofs.Common.{◌≡◌, ℕ, ◌+◌, List, [], ◌∷◌, Bool, true, refl, ap, ◌∙◌, arith}
-=======
 use Rattle.std.proofs.Common.{◌≡◌, ℕ, ◌+◌, List, [], ◌∷◌, Bool, ap, ◌∙◌}
->>>>>>> 0838819c5b9a061026a75a1757d6e51c863f97dc
 use Rattle.std.specs.Prelude.{map}
 use Rattle.cw_unit.specs.declared.layout.Layout.{Layout}
 use Rattle.cw_unit.specs.declared.unit.Arg.{Arg, out-Arg, map-Arg, fold-Arg, fold_out-Arg}
