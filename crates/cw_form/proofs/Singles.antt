@@ -1,5 +1,5 @@
 -- The items of each unit of the form.
-use Rattle.std.proofs.Common.{◌≡◌, ℕ, ◌<◌, ◌≤◌, Bool, true, false, cond, not, ◌&&◌, nat_lt, List, [], ◌∷◌, ◌++◌, length, map, drop, take, get_or, codes, Option, Some, None, option_map, option_and_then, refl, subst, arith, length-append}
+use Rattle.std.proofs.Common.{◌≡◌, ℕ, ◌<◌, ◌≤◌, Bool, true, false, cond, not, ◌&&◌, nat_lt, List, [], ◌∷◌, ◌++◌, length, map, drop, take, codes, Option, Some, None, option_map, option_and_then, refl, subst, arith, length-append}
 use Rattle.std.specs.Prelude.{IfSome, All, nat_le}
 use Rattle.std.specs.List.{slice_split, list_any, prefix_len}
 use Rattle.std.proofs.lemmas.Bool.Decides.{nat_tests}

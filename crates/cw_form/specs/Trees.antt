@@ -35,6 +35,12 @@ read i = roll-Expr (layer.Read (direct i))
 abbrev pub sum : Expr → Expr → Expr
 sum a b = roll-Expr (layer.Sum a b)
 
+abbrev pub difference : Expr → Expr → Expr
+difference a b = roll-Expr (layer.Less a b)
+
+abbrev pub negative : Expr → Expr
+negative a = roll-Expr (layer.Minus a)
+
 -- item i becomes e
 abbrev pub assign : (line i : ℕ) → Expr → Stmt
 assign line i e = roll-Stmt (statement.Put line (direct i) e)

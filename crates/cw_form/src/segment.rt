@@ -4,8 +4,8 @@ ghost use Rattle.std.specs.List.{prefix_len, position, slice_split, list_all, li
 ghost use Rattle.std.specs.Char.{is_ascii_digit, is_ascii_uppercase};
 ghost use Rattle.std.specs.Str.Parse.{digits_value};
 ghost use Rattle.cw_form.specs.Items.{items_of};
-ghost use Rattle.cw_form.specs.Segment.{same, is, is_word, begins_with, is_name, number_of, name_of, declared, operand_of, sum_from, sum_of, is_there, before_last, assignment, output, statement_of, each, is_new, add_name, steps, is_declaration, declare, with_names, unit_of_pieces, before_end, named, segment_of, library_line, begins, unit_of_items, unit_of};
-ghost use Rattle.cw_form.specs.Trees.{number, direct, read, sum, assign, write, own_single, unit};
+ghost use Rattle.cw_form.specs.Segment.{same, is, is_word, begins_with, is_name, number_of, name_of, declared, operand_of, sign_of, signed, joined, sum_from, signed_sum, sum_of, is_there, before_last, assignment, output, statement_of, each, is_new, add_name, steps, is_declaration, declare, with_names, unit_of_pieces, before_end, named, segment_of, library_line, begins, unit_of_items, unit_of};
+ghost use Rattle.cw_form.specs.Trees.{number, direct, read, assign, write, own_single, unit};
 
 use crate::token::{Token, capitals, tokens};
 use cw_unit::descriptor::Scale;
@@ -147,13 +147,6 @@ fn read(alloc: Global, i: u32) -> Result<Expr, NoMemory>
     Ok(Expr::Read(Boxed::new(alloc, direct(i))?))
 }
 
-fn sum(alloc: Global, a: Expr, b: Expr) -> Result<Expr, NoMemory>
-    ensures { IfOk result (λ e. e ≡ sum a b) }
-{
-    let first = Boxed::new(alloc, a)?;
-    Ok(Expr::Sum(first, Boxed::new(alloc, b)?))
-}
-
 fn operand(alloc: Global, names: &[Name], token: &Token) -> Result<Option<Expr>, NoMemory>
     requires { length names.now ≤ 100 }
     ensures { IfOk result (λ e. e ≡ operand_of names.now token.now) }
@@ -167,7 +160,45 @@ fn operand(alloc: Global, names: &[Name], token: &Token) -> Result<Option<Expr>,
     }
 }
 
-// The sum with the first operand of the rest, behind its `+`.
+#[derive(Clone, Copy)]
+enum Sign {
+    Plus,
+    Minus,
+}
+
+fn sign_of(token: &Token) -> Option<Sign>
+    ensures { result ≡ sign_of token.now }
+{
+    if token.is(b"+") {
+        Some(Sign::Plus)
+    } else if token.is(b"-") {
+        Some(Sign::Minus)
+    } else {
+        None
+    }
+}
+
+fn signed(alloc: Global, sign: Sign, e: Expr) -> Result<Expr, NoMemory>
+    ensures { IfOk result (λ s. s ≡ signed sign e) }
+{
+    match sign {
+        Sign::Plus => Ok(e),
+        Sign::Minus => Ok(Expr::Minus(Boxed::new(alloc, e)?)),
+    }
+}
+
+fn joined(alloc: Global, sign: Sign, so_far: Expr, next: Expr) -> Result<Expr, NoMemory>
+    ensures { IfOk result (λ e. e ≡ joined sign so_far next) }
+{
+    let first = Boxed::new(alloc, so_far)?;
+    let second = Boxed::new(alloc, next)?;
+    match sign {
+        Sign::Plus => Ok(Expr::Sum(first, second)),
+        Sign::Minus => Ok(Expr::Less(first, second)),
+    }
+}
+
+// The sum with the first operand of the rest, behind its sign.
 fn extended(
     alloc: Global,
     names: &[Name],
@@ -180,15 +211,13 @@ fn extended(
     ensures within { IfOk result (λ e. IfSome e (λ _. 2 ≤ length rest.now)) }
 {
     match rest {
-        [plus, token, ..] => {
-            if !plus.is(b"+") {
-                return Ok(None);
-            }
-            match operand(alloc, names, token)? {
-                Some(next) => Ok(Some(sum(alloc, so_far, next)?)),
+        [before, token, ..] => match sign_of(before) {
+            Some(sign) => match operand(alloc, names, token)? {
+                Some(next) => Ok(Some(joined(alloc, sign, so_far, next)?)),
                 None => Ok(None),
-            }
-        }
+            },
+            None => Ok(None),
+        },
         _ => Ok(None),
     }
 }
@@ -214,14 +243,32 @@ fn sum_from(
     Ok(Some(total))
 }
 
+fn signed_sum(
+    alloc: Global,
+    names: &[Name],
+    sign: Sign,
+    tokens: &[Token],
+) -> Result<Option<Expr>, NoMemory>
+    requires { length names.now ≤ 100 }
+    ensures { IfOk result (λ e. e ≡ signed_sum names.now sign tokens.now) }
+{
+    match tokens {
+        [first, rest @ ..] => match operand(alloc, names, first)? {
+            Some(e) => sum_from(alloc, names, signed(alloc, sign, e)?, rest),
+            None => Ok(None),
+        },
+        [] => Ok(None),
+    }
+}
+
 fn sum_of(alloc: Global, names: &[Name], tokens: &[Token]) -> Result<Option<Expr>, NoMemory>
     requires { length names.now ≤ 100 }
     ensures { IfOk result (λ e. e ≡ sum_of names.now tokens.now) }
 {
     match tokens {
-        [first, rest @ ..] => match operand(alloc, names, first)? {
-            Some(e) => sum_from(alloc, names, e, rest),
-            None => Ok(None),
+        [first, rest @ ..] => match sign_of(first) {
+            Some(sign) => signed_sum(alloc, names, sign, rest),
+            None => signed_sum(alloc, names, Sign::Plus, tokens),
         },
         [] => Ok(None),
     }
