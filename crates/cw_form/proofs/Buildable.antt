@@ -11,10 +11,8 @@ use Rattle.cw_unit.specs.declared.unit.Target.TheVariants as target
 use Rattle.cw_unit.specs.declared.unit.Arg.TheFolds.{fold-roll-Expr, fold-roll-Ref, fold-roll-Arg, fold-roll-Spot}
 use Rattle.cw_unit.specs.declared.unit.Stmt.TheFolds.{fold-roll-Stmt}
 use Rattle.cw_gen.specs.Built.{all, is_built_expression, is_built_argument, is_built_ref, is_built_statement, argument_step, condition_step, expression_step, spot_step, ref_step, statement_step}
-use Rattle.cw_form.specs.declared.segment.Sign.{Sign}
-use Rattle.cw_form.specs.declared.segment.Sign.TheVariants as sign
-use Rattle.cw_form.specs.Trees.{number, direct_layer, direct, read, assign, write, row}
-use Rattle.cw_form.specs.Segment.{signed, joined, unit_of}
+use Rattle.cw_form.specs.Trees.{number, direct_layer, direct, read, assign, write, row, sum, difference, negative}
+use Rattle.cw_form.specs.Segment.{unit_of}
 use Rattle.cw_form.proofs.Readings.{Reading, found}
 
 is_word : (n : ℕ) → n ≤ 32767 → nat_lt n 32768 ≡ true
@@ -38,13 +36,14 @@ built-direct i = fold-roll-Ref _ _ _ _ _ _ _ _ _ _ (direct_layer i) ∙ ap (λ b
 built-read : (i : ℕ) → Expression (read i)
 built-read i = fold-roll-Expr _ _ _ _ _ _ _ _ _ _ (layer.Read (direct i)) ∙ built-direct i
 
-built-signed : (s : Sign) (e : Expr) → Expression e → Expression (signed s e)
-built-signed sign.Plus e h = h
-built-signed sign.Minus e h = fold-roll-Expr _ _ _ _ _ _ _ _ _ _ (layer.Minus e) ∙ h
+built-negative : (e : Expr) → Expression e → Expression (negative e)
+built-negative e h = fold-roll-Expr _ _ _ _ _ _ _ _ _ _ (layer.Minus e) ∙ h
 
-built-joined : (s : Sign) (e f : Expr) → Expression e → Expression f → Expression (joined s e f)
-built-joined sign.Plus e f h k = fold-roll-Expr _ _ _ _ _ _ _ _ _ _ (layer.Sum e f) ∙ ap₂ (λ a b. a && b) h k
-built-joined sign.Minus e f h k = fold-roll-Expr _ _ _ _ _ _ _ _ _ _ (layer.Less e f) ∙ ap₂ (λ a b. a && b) h k
+built-sum : (e f : Expr) → Expression e → Expression f → Expression (sum e f)
+built-sum e f h k = fold-roll-Expr _ _ _ _ _ _ _ _ _ _ (layer.Sum e f) ∙ ap₂ (λ a b. a && b) h k
+
+built-difference : (e f : Expr) → Expression e → Expression f → Expression (difference e f)
+built-difference e f h k = fold-roll-Expr _ _ _ _ _ _ _ _ _ _ (layer.Less e f) ∙ ap₂ (λ a b. a && b) h k
 
 built-assign : (line i : ℕ) (e : Expr) → line ≤ 65535 → Expression e → Statement (assign line i e)
 built-assign line i e l h =
@@ -71,8 +70,10 @@ reading =
       Row = λ n ss. all (map is_built_statement ss) ≡ true;
       of_number = built-number;
       of_word = built-read;
-      of_first = built-signed;
-      of_joined = λ s m e f h k. built-joined s e f h k;
+      of_operand = λ e h. h;
+      of_negative = built-negative;
+      of_sum = λ m e f h k. built-sum e f h k;
+      of_difference = λ m e f h k. built-difference e f h k;
       of_assign = λ line i m e l h. built-assign line i e l h;
       of_write = λ line m e l h. built-write line e l h;
       of_nothing = row-is [];

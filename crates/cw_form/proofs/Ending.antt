@@ -24,10 +24,8 @@ use Rattle.cw_unit.specs.Work.{Work, Nothing, Run, Eval, Address, Do, Give, Ente
 use Rattle.cw_unit.specs.Configuration.{Configuration, at, answer_scale_of}
 use Rattle.cw_unit.specs.Step.{after, address_step, give_step, put_constant, step, steps}
 use Rattle.cw_unit.specs.Behaviour.{shown, observed}
-use Rattle.cw_form.specs.declared.segment.Sign.{Sign}
-use Rattle.cw_form.specs.declared.segment.Sign.TheVariants as sign
 use Rattle.cw_form.specs.Trees.{number, direct_layer, direct, read, sum, difference, negative, assign, write, row}
-use Rattle.cw_form.specs.Segment.{signed, joined, unit_of}
+use Rattle.cw_form.specs.Segment.{unit_of}
 use Rattle.cw_form.proofs.Readings.{Reading, found}
 
 -- a program of one segment
@@ -119,38 +117,42 @@ module _ (u : SourceUnit) (layouts : List Layout) (addresses : Map) (limits : Li
       (address-ends i line (suc (suc r)) (Do (Fetch (out-Ref (direct i)).field) line (Do (Rescale (scale_of (direct i)) f) line k))
       (do-ends (Fetch (out-Ref (direct i)).field) line (suc r) (Do (Rescale (scale_of (direct i)) f) line k) (do-ends (Rescale (scale_of (direct i)) f) line r k h))))
 
-  signed-takes : (s : Sign) (e : Expr) → Takes 4 e → Takes 6 (signed s e)
-  signed-takes sign.Plus e t r f line k h = more (r + 4) (r + 6) (Eval e f line k) (omega arith) (t r f line k h)
-  signed-takes sign.Minus e t r f line k h =
+  operand-takes : (e : Expr) → Takes 4 e → Takes 6 e
+  operand-takes e t r f line k h = more (r + 4) (r + 6) (Eval e f line k) (omega arith) (t r f line k h)
+
+  negative-takes : (e : Expr) → Takes 4 e → Takes 6 (negative e)
+  negative-takes e t r f line k h =
       more (suc (suc r + 4)) (r + 6) (Eval (negative e) f line k) (omega arith)
       (eval-ends (layer.Minus e) f line (suc r + 4) k (t (suc r) f line (Do Negate line k) (do-ends Negate line r k h)))
 
-  joined-takes : (s : Sign) (n : ℕ) (e g : Expr) → Takes n e → Takes 4 g → Takes (n + 6) (joined s e g)
-  joined-takes sign.Plus n e g t v r f line k h =
-      more (suc (suc r + 4 + n)) (r + (n + 6)) (Eval (sum e g) f line k) (omega arith)
-      (eval-ends (layer.Sum e g) f line (suc r + 4 + n) k
+  sum-takes : (m : ℕ) (e g : Expr) → Takes (3 * m) e → Takes 4 g → Takes (3 * (m + 2)) (sum e g)
+  sum-takes m e g t v r f line k h =
+      more (suc (suc r + 4 + 3 * m)) (r + 3 * (m + 2)) (Eval (sum e g) f line k) (omega arith)
+      (eval-ends (layer.Sum e g) f line (suc r + 4 + 3 * m) k
       (t (suc r + 4) f line (Eval g f line (Do Add line k)) (v (suc r) f line (Do Add line k) (do-ends Add line r k h))))
-  joined-takes sign.Minus n e g t v r f line k h =
-      more (suc (suc r + 4 + n)) (r + (n + 6)) (Eval (difference e g) f line k) (omega arith)
-      (eval-ends (layer.Less e g) f line (suc r + 4 + n) k
+
+  difference-takes : (m : ℕ) (e g : Expr) → Takes (3 * m) e → Takes 4 g → Takes (3 * (m + 2)) (difference e g)
+  difference-takes m e g t v r f line k h =
+      more (suc (suc r + 4 + 3 * m)) (r + 3 * (m + 2)) (Eval (difference e g) f line k) (omega arith)
+      (eval-ends (layer.Less e g) f line (suc r + 4 + 3 * m) k
       (t (suc r + 4) f line (Eval g f line (Do Subtract line k)) (v (suc r) f line (Do Subtract line k) (do-ends Subtract line r k h))))
 
   -- and so does a statement
   abbrev Runs : ℕ → Stmt → Type 0
   Runs n s = (r : ℕ) (k : Work) → Ends r k → Ends (r + n) (Run s k)
 
-  assign-runs : (line i n : ℕ) (e : Expr) → Takes n e → Runs (n + 3) (assign line i e)
-  assign-runs line i n e t r k h =
+  assign-runs : (line i m : ℕ) (e : Expr) → Takes (3 * m) e → Runs (3 * (m + 1) + 1) (assign line i e)
+  assign-runs line i m e t r k h =
       let store : Operation = Store (out-Ref (direct i)).field in
-      more (suc (suc (suc r) + n)) (r + (n + 3)) (Run (assign line i e) k) (omega arith)
-      (run-ends (statement.Put line (direct i) e) (suc (suc r) + n) k
+      more (suc (suc (suc r) + 3 * m)) (r + (3 * (m + 1) + 1)) (Run (assign line i e) k) (omega arith)
+      (run-ends (statement.Put line (direct i) e) (suc (suc r) + 3 * m) k
       (t (suc (suc r)) (scale_of (direct i)) line (Address (direct i) line (Do store line k)) (address-ends i line (suc r) (Do store line k) (do-ends store line r k h))))
 
-  write-runs : (line n : ℕ) (e : Expr) → Takes n e → Runs (n + 3) (write line e)
-  write-runs line n e t r k h =
-      more (suc (suc (suc r + n))) (r + (n + 3)) (Run (write line e) k) (omega arith)
-      (run-ends (statement.Call line target.Write (roll-Arg (layer.Value e 0) ∷ [])) (suc (suc r + n)) k
-      (give-ends e line (suc r + n) (Enter target.Write line false k) (t (suc r) 0 line (Enter target.Write line false k) (enter-ends line r k h))))
+  write-runs : (line m : ℕ) (e : Expr) → Takes (3 * m) e → Runs (3 * (m + 1) + 1) (write line e)
+  write-runs line m e t r k h =
+      more (suc (suc (suc r + 3 * m))) (r + (3 * (m + 1) + 1)) (Run (write line e) k) (omega arith)
+      (run-ends (statement.Call line target.Write (roll-Arg (layer.Value e 0) ∷ [])) (suc (suc r + 3 * m)) k
+      (give-ends e line (suc r + 3 * m) (Enter target.Write line false k) (t (suc r) 0 line (Enter target.Write line false k) (enter-ends line r k h))))
 
   abbrev AllRun : ℕ → List Stmt → Type 0
   AllRun n ss = (r : ℕ) (k : Work) → Ends r k → Ends (r + n) (run_all ss k)
@@ -164,10 +166,12 @@ module _ (u : SourceUnit) (layouts : List Layout) (addresses : Map) (limits : Li
         Row = λ n ss. AllRun (3 * n) ss;
         of_number = λ n h. number-takes n;
         of_word = read-takes;
-        of_first = signed-takes;
-        of_joined = λ s m e f t v r g line k h. more (r + (3 * m + 6)) (r + 3 * (m + 2)) (Eval (joined s e f) g line k) (omega arith) (joined-takes s (3 * m) e f t v r g line k h);
-        of_assign = λ line i m e l t r k h. more (r + (3 * m + 3)) (r + (3 * (m + 1) + 1)) (Run (assign line i e) k) (omega arith) (assign-runs line i (3 * m) e t r k h);
-        of_write = λ line m e l t r k h. more (r + (3 * m + 3)) (r + (3 * (m + 1) + 1)) (Run (write line e) k) (omega arith) (write-runs line (3 * m) e t r k h);
+        of_operand = operand-takes;
+        of_negative = negative-takes;
+        of_sum = sum-takes;
+        of_difference = difference-takes;
+        of_assign = λ line i m e l t. assign-runs line i m e t;
+        of_write = λ line m e l t. write-runs line m e t;
         of_nothing = λ r k h. more (suc r) (r + (3 * 0 + 1)) (Run (row []) k) (omega arith) (run-ends (statement.Seq []) r k h);
         of_end = λ r k h. more r (r + 3 * 0) k (omega arith) h;
         of_more = λ m n s ss t v r k h. more (r + 3 * n + (3 * m + 1)) (r + 3 * suc (m + n)) (Run s (run_all ss k)) (omega arith) (t (r + 3 * n) (run_all ss k) (v r k h));

@@ -1,5 +1,5 @@
 -- Whatever is said of numbers and words, and follows for sums and statements that are made of them, holds in each unit of the form.
-use Rattle.std.proofs.Common.{◌≡◌, ℕ, suc, ◌+◌, ◌-◌, ◌≤◌, Bool, true, cond, ◌&&◌, ◌||◌, nat_lt, List, [], ◌∷◌, length, map, drop, take, codes, Option, Some, None, option_map, option_and_then, refl, arith}
+use Rattle.std.proofs.Common.{◌≡◌, ℕ, suc, ◌+◌, ◌-◌, ◌≤◌, Bool, true, false, cond, ◌&&◌, ◌||◌, nat_lt, List, [], ◌∷◌, length, map, drop, take, codes, Option, Some, None, option_map, option_and_then, refl, arith}
 use Rattle.std.specs.Prelude.{IfSome, All, nat_le}
 use Rattle.std.specs.List.{list_all, prefix_len}
 use Rattle.std.specs.Char.{is_ascii_digit}
@@ -11,10 +11,8 @@ use Rattle.cw_unit.specs.declared.unit.Unit.{Unit as SourceUnit}
 use Rattle.cw_unit.specs.declared.unit.Expr.{Expr}
 use Rattle.cw_unit.specs.declared.unit.Stmt.{Stmt}
 use Rattle.cw_form.specs.Items.{Item}
-use Rattle.cw_form.specs.declared.segment.Sign.{Sign}
-use Rattle.cw_form.specs.declared.segment.Sign.TheVariants as sign
-use Rattle.cw_form.specs.Trees.{Name, number, read, assign, write, row, own_single, unit}
-use Rattle.cw_form.specs.Segment.{is, number_of, declared, operand, operand_of, sign_of, signed, joined, sum_from, signed_sum, sum_with, sum_of, before_last, assignment, output, statement_of, each, steps, declare, is_declaration, with_names, unit_of_pieces, unit_of}
+use Rattle.cw_form.specs.Trees.{Name, number, read, sum, difference, negative, assign, write, row, own_single, unit}
+use Rattle.cw_form.specs.Segment.{is, number_of, declared, operand, operand_of, is_sign, signed, joined, sum_from, signed_sum, unsigned_sum, sum_of, before_last, assignment, output, statement_of, each, steps, declare, is_declaration, with_names, unit_of_pieces, unit_of}
 use Rattle.cw_form.proofs.Optional.{when, either, after, after_any, mapped}
 use Rattle.cw_form.proofs.Walk.{IsLined, total, Pieces, drop-pieces, walk}
 
@@ -27,8 +25,10 @@ pub record Reading : Type 1 where
   pub Row : ℕ → List Stmt → Type 0
   pub of_number : (n : ℕ) → n ≤ 32767 → Operand (number n)
   pub of_word : (i : ℕ) → Operand (read i)
-  pub of_first : (s : Sign) (e : Expr) → Operand e → Sum 2 (signed s e)
-  pub of_joined : (s : Sign) (m : ℕ) (e f : Expr) → Sum m e → Operand f → Sum (m + 2) (joined s e f)
+  pub of_operand : (e : Expr) → Operand e → Sum 2 e
+  pub of_negative : (e : Expr) → Operand e → Sum 2 (negative e)
+  pub of_sum : (m : ℕ) (e f : Expr) → Sum m e → Operand f → Sum (m + 2) (sum e f)
+  pub of_difference : (m : ℕ) (e f : Expr) → Sum m e → Operand f → Sum (m + 2) (difference e f)
   pub of_assign : (line i m : ℕ) (e : Expr) → line ≤ 65535 → Sum m e → Statement (m + 1) (assign line i e)
   pub of_write : (line m : ℕ) (e : Expr) → line ≤ 65535 → Sum m e → Statement (m + 1) (write line e)
   pub of_nothing : Statement 0 (row [])
@@ -60,25 +60,38 @@ module _ (r : Reading) where
   item-read : (names : List Name) (item : Item) → IfSome (operand_of names item) r.Operand
   item-read names item = operand-read (number_of item.text) (declared names item) (number_small item.text)
 
+  signed-operand : (before : Item) (e : Expr) → r.Operand e → r.Sum 2 (signed before e)
+  signed-operand before e o =
+      elim (is (codes "-") before) as (λ b. r.Sum 2 (cond b (negative e) e)) [ true ↦ r.of_negative e o | false ↦ r.of_operand e o ]
+
+  joined-operand : (before : Item) (m : ℕ) (e f : Expr) → r.Sum m e → r.Operand f → r.Sum (m + 2) (joined before e f)
+  joined-operand before m e f k o =
+      elim (is (codes "-") before) as (λ b. r.Sum (m + 2) (cond b (difference e f) (sum e f))) [ true ↦ r.of_difference m e f k o | false ↦ r.of_sum m e f k o ]
+
   from-read : (names : List Name) (e : Expr) (items : List Item) (m n : ℕ) → m + length items ≤ n → r.Sum m e → IfSome (sum_from names e items) (AtMost r.Sum n)
   from-read names e [] m n h k = (m, omega (arith, h), k)
   from-read names e (before ∷ []) m n h k = tt
   from-read names e (before ∷ item ∷ items) m n h k =
-      after_any (AtMost r.Sum n) (sign_of before) (λ s. option_and_then (λ f. sum_from names (joined s e f) items) (operand_of names item))
-      (λ s. after (AtMost r.Sum n) r.Operand (operand_of names item) (λ f. sum_from names (joined s e f) items) (item-read names item)
-      (λ f o. from-read names (joined s e f) items (m + 2) n (omega (arith, h)) (r.of_joined s m e f k o)))
+      when (AtMost r.Sum n) (is_sign before) (option_and_then (λ f. sum_from names (joined before e f) items) (operand_of names item))
+      (λ _. after (AtMost r.Sum n) r.Operand (operand_of names item) (λ f. sum_from names (joined before e f) items) (item-read names item)
+      (λ f o. from-read names (joined before e f) items (m + 2) n (omega (arith, h)) (joined-operand before m e f k o)))
 
-  signed-read : (names : List Name) (s : Sign) (items : List Item) (n : ℕ) → suc (length items) ≤ n → IfSome (signed_sum names s items) (AtMost r.Sum n)
-  signed-read names s [] n h = tt
-  signed-read names s (item ∷ items) n h =
-      after (AtMost r.Sum n) r.Operand (operand_of names item) (λ e. sum_from names (signed s e) items) (item-read names item)
-      (λ e o. from-read names (signed s e) items 2 n (omega (arith, h)) (r.of_first s e o))
+  signed-read : (names : List Name) (before : Item) (items : List Item) (n : ℕ) → suc (length items) ≤ n → IfSome (signed_sum names before items) (AtMost r.Sum n)
+  signed-read names before [] n h = tt
+  signed-read names before (item ∷ items) n h =
+      after (AtMost r.Sum n) r.Operand (operand_of names item) (λ e. sum_from names (signed before e) items) (item-read names item)
+      (λ e o. from-read names (signed before e) items 2 n (omega (arith, h)) (signed-operand before e o))
+
+  unsigned-read : (names : List Name) (items : List Item) (n : ℕ) → suc (length items) ≤ n → IfSome (unsigned_sum names items) (AtMost r.Sum n)
+  unsigned-read names [] n h = tt
+  unsigned-read names (item ∷ items) n h =
+      after (AtMost r.Sum n) r.Operand (operand_of names item) (λ e. sum_from names e items) (item-read names item)
+      (λ e o. from-read names e items 2 n (omega (arith, h)) (r.of_operand e o))
 
   sum-read : (names : List Name) (items : List Item) (n : ℕ) → suc (length items) ≤ n → IfSome (sum_of names items) (AtMost r.Sum n)
   sum-read names [] n h = tt
   sum-read names (first ∷ rest) n h =
-      elim (sign_of first) as (λ o. IfSome (sum_with names first rest o) (AtMost r.Sum n))
-      [ None ↦ signed-read names sign.Plus (first ∷ rest) n h | Some s ↦ signed-read names s rest n (omega (arith, h)) ]
+      either (AtMost r.Sum n) (is_sign first) (signed_sum names first rest) (unsigned_sum names (first ∷ rest)) (signed-read names first rest n (omega (arith, h))) (unsigned-read names (first ∷ rest) n h)
 
   assignment-read : (names : List Name) (first : Item) (rest : List Item) → IsLined first → IfSome (assignment names first rest) (AtMost r.Statement (suc (suc (length rest))))
   assignment-read names first rest lined =

@@ -10,10 +10,8 @@ use Rattle.cw_unit.specs.declared.unit.Target.TheVariants as target
 use Rattle.cw_unit.specs.declared.unit.Arg.TheFolds.{fold-roll-Expr, fold-roll-Ref, fold-roll-Arg, fold-roll-Spot}
 use Rattle.cw_unit.specs.declared.unit.Stmt.TheFolds.{fold-roll-Stmt}
 use Rattle.cw_unit.specs.StackBound.{largest, word_argument, arguments_depth, two_depth, operand_depth, argument_depth, address_depth, body_depth, argument_step, condition_step, expression_step, spot_step, ref_step, statement_step}
-use Rattle.cw_form.specs.declared.segment.Sign.{Sign}
-use Rattle.cw_form.specs.declared.segment.Sign.TheVariants as sign
-use Rattle.cw_form.specs.Trees.{number, direct_layer, direct, read, negative, assign, write, row}
-use Rattle.cw_form.specs.Segment.{signed, joined, unit_of}
+use Rattle.cw_form.specs.Trees.{number, direct_layer, direct, read, negative, assign, write, row, sum, difference}
+use Rattle.cw_form.specs.Segment.{unit_of}
 use Rattle.cw_form.proofs.Readings.{Reading, found}
 
 number-depth : (n : ℕ) → operand_depth (number n) ≡ 1
@@ -25,21 +23,17 @@ direct-depth i = fold-roll-Ref _ _ _ _ _ _ _ _ _ _ (direct_layer i) ∙ fold-rol
 read-depth : (i : ℕ) → operand_depth (read i) ≡ 1
 read-depth i = fold-roll-Expr _ _ _ _ _ _ _ _ _ _ (layer.Read (direct i)) ∙ direct-depth i
 
-first-depth : (s : Sign) (e : Expr) → operand_depth e ≤ 1 → operand_depth (signed s e) ≤ 2
-first-depth sign.Plus e h = omega (arith, h)
-first-depth sign.Minus e h =
-    let same : operand_depth (negative e) ≡ operand_depth e = fold-roll-Expr _ _ _ _ _ _ _ _ _ _ (layer.Minus e) in
-    omega (arith, h, same)
+negative-depth : (e : Expr) → operand_depth (negative e) ≡ operand_depth e
+negative-depth e = fold-roll-Expr _ _ _ _ _ _ _ _ _ _ (layer.Minus e)
+
+sum-depth : (e f : Expr) → operand_depth (sum e f) ≡ two_depth (operand_depth e) (operand_depth f)
+sum-depth e f = fold-roll-Expr _ _ _ _ _ _ _ _ _ _ (layer.Sum e f)
+
+difference-depth : (e f : Expr) → operand_depth (difference e f) ≡ two_depth (operand_depth e) (operand_depth f)
+difference-depth e f = fold-roll-Expr _ _ _ _ _ _ _ _ _ _ (layer.Less e f)
 
 two-shallow : (a b : ℕ) → a ≤ 2 → b ≤ 1 → two_depth a b ≤ 2
 two-shallow a b h k = omega arith
-
-sum-depth : (s : Sign) (e f : Expr) → operand_depth (joined s e f) ≡ two_depth (operand_depth e) (operand_depth f)
-sum-depth sign.Plus e f = fold-roll-Expr _ _ _ _ _ _ _ _ _ _ (layer.Sum e f)
-sum-depth sign.Minus e f = fold-roll-Expr _ _ _ _ _ _ _ _ _ _ (layer.Less e f)
-
-joined-depth : (s : Sign) (e f : Expr) → operand_depth e ≤ 2 → operand_depth f ≤ 1 → operand_depth (joined s e f) ≤ 2
-joined-depth s e f h k = omega (arith, sum-depth s e f, two-shallow (operand_depth e) (operand_depth f) h k)
 
 assign-depth : (line i : ℕ) (e : Expr) → operand_depth e ≤ 2 → body_depth (assign line i e) ≤ 2
 assign-depth line i e h =
@@ -65,8 +59,10 @@ reading =
       Row = λ n ss. largest (map body_depth ss) ≤ 2;
       of_number = λ n h. omega (arith, number-depth n);
       of_word = λ i. omega (arith, read-depth i);
-      of_first = first-depth;
-      of_joined = λ s m e f h k. joined-depth s e f h k;
+      of_operand = λ e h. omega (arith, h);
+      of_negative = λ e h. omega (arith, h, negative-depth e);
+      of_sum = λ m e f h k. omega (arith, sum-depth e f, two-shallow (operand_depth e) (operand_depth f) h k);
+      of_difference = λ m e f h k. omega (arith, difference-depth e f, two-shallow (operand_depth e) (operand_depth f) h k);
       of_assign = λ line i m e l h. assign-depth line i e h;
       of_write = λ line m e l h. write-depth line e h;
       of_nothing = omega (arith, row-is []);

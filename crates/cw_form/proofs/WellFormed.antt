@@ -13,10 +13,8 @@ use Rattle.cw_unit.specs.declared.layout.Limits.{Limits}
 use Rattle.cw_unit.specs.Program.{Program, program_of}
 use Rattle.cw_safety.specs.Kinds.{WordKind}
 use Rattle.cw_safety.specs.WellFormed.{all, kind_if, kinds_of, is_call, is_expression, kind_of, is_reference, is_statement, argument_step, condition_step, expression_step, spot_step, reference_step, statement_step, are_procedures, is_well_formed}
-use Rattle.cw_form.specs.declared.segment.Sign.{Sign}
-use Rattle.cw_form.specs.declared.segment.Sign.TheVariants as sign
-use Rattle.cw_form.specs.Trees.{number, direct_layer, direct, read, assign, write, row}
-use Rattle.cw_form.specs.Segment.{signed, joined, unit_of}
+use Rattle.cw_form.specs.Trees.{number, direct_layer, direct, read, assign, write, row, sum, difference, negative}
+use Rattle.cw_form.specs.Segment.{unit_of}
 use Rattle.cw_form.proofs.Readings.{Reading, found}
 use Rattle.cw_form.proofs.Singles.{unit_fine}
 
@@ -39,13 +37,14 @@ module _ (p : Program) where
   formed-read : (i : ℕ) → Expression (read i)
   formed-read i = fold-roll-Expr _ _ _ _ _ _ _ _ _ _ (layer.Read (direct i)) ∙ formed-direct i
 
-  formed-signed : (s : Sign) (e : Expr) → Expression e → Expression (signed s e)
-  formed-signed sign.Plus e h = h
-  formed-signed sign.Minus e h = fold-roll-Expr _ _ _ _ _ _ _ _ _ _ (layer.Minus e) ∙ h
+  formed-negative : (e : Expr) → Expression e → Expression (negative e)
+  formed-negative e h = fold-roll-Expr _ _ _ _ _ _ _ _ _ _ (layer.Minus e) ∙ h
 
-  formed-joined : (s : Sign) (e f : Expr) → Expression e → Expression f → Expression (joined s e f)
-  formed-joined sign.Plus e f h k = fold-roll-Expr _ _ _ _ _ _ _ _ _ _ (layer.Sum e f) ∙ ap₂ (λ a b. a && b) h k
-  formed-joined sign.Minus e f h k = fold-roll-Expr _ _ _ _ _ _ _ _ _ _ (layer.Less e f) ∙ ap₂ (λ a b. a && b) h k
+  formed-sum : (e f : Expr) → Expression e → Expression f → Expression (sum e f)
+  formed-sum e f h k = fold-roll-Expr _ _ _ _ _ _ _ _ _ _ (layer.Sum e f) ∙ ap₂ (λ a b. a && b) h k
+
+  formed-difference : (e f : Expr) → Expression e → Expression f → Expression (difference e f)
+  formed-difference e f h k = fold-roll-Expr _ _ _ _ _ _ _ _ _ _ (layer.Less e f) ∙ ap₂ (λ a b. a && b) h k
 
   formed-assign : (line i : ℕ) (e : Expr) → Expression e → Statement (assign line i e)
   formed-assign line i e h =
@@ -71,8 +70,10 @@ module _ (p : Program) where
         Row = λ n ss. all (map (is_statement p 0 None) ss) ≡ true;
         of_number = λ n h. formed-number n;
         of_word = formed-read;
-        of_first = formed-signed;
-        of_joined = λ s m e f h k. formed-joined s e f h k;
+        of_operand = λ e h. h;
+        of_negative = formed-negative;
+        of_sum = λ m e f h k. formed-sum e f h k;
+        of_difference = λ m e f h k. formed-difference e f h k;
         of_assign = λ line i m e l h. formed-assign line i e h;
         of_write = λ line m e l h. formed-write line e h;
         of_nothing = row-is [];
