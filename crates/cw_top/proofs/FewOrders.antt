@@ -17,7 +17,7 @@ use Rattle.cw_unit.specs.declared.unit.Spot.{roll-Spot}
 use Rattle.cw_unit.specs.declared.unit.Arg.TheOpen as layer
 use Rattle.cw_form.specs.Items.{Item, items_of}
 use Rattle.cw_form.specs.Trees.{Name, number, read, sum, difference, negative, assign, write, row, own_single, unit, direct, direct_layer}
-use Rattle.cw_form.specs.Segment.{is, number_of, declared, operand, operand_of, is_sign, signed, joined, sum_from, signed_sum, unsigned_sum, sum_of, before_last, assignment, output, statement_of, each, steps, declare, is_declaration, with_names, unit_of_pieces, before_end, named, name_of, segment_of, begins, library_line, unit_of_items, unit_of}
+use Rattle.cw_form.specs.Segment.{is, number_of, declared, operand, operand_of, is_sign, signed, joined as joined_sum, sum_from, signed_sum, unsigned_sum, sum_of, before_last, assignment, output, statement_of, each, steps, declare, is_declaration, with_names, unit_of_pieces, before_end, named, name_of, segment_of, begins, library_line, unit_of_items, unit_of}
 use Rattle.cw_order.specs.declared.order.Order.{Order}
 use Rattle.cw_order.specs.declared.order.Order.TheVariants as order
 use Rattle.cw_gen.specs.ReferenceOrders.{joined, home_order, spot_orders, ref_orders, load_orders, rescale_orders, expression_orders, argument_orders, put_orders, call_orders, statement_step, statement_orders}
@@ -134,7 +134,7 @@ module _ (l : Layout) where
   signed_loads before e =
       elim (is (codes "-") before) as (λ b. loads (cond b (negative e) e) ≤ loads e + 1) [ true ↦ omega (arith, negative_loads e) | false ↦ omega arith ]
 
-  joined_loads : (before : Item) (e f : Expr) → loads (joined before e f) ≡ loads e + (loads f + 1)
+  joined_loads : (before : Item) (e f : Expr) → loads (joined_sum before e f) ≡ loads e + (loads f + 1)
   joined_loads before e f =
       elim (is (codes "-") before) as (λ b. loads (cond b (difference e f) (sum e f)) ≡ loads e + (loads f + 1)) [ true ↦ difference_loads e f | false ↦ sum_loads e f ]
 
@@ -165,9 +165,9 @@ module _ (l : Layout) where
   sum_from_loads names e [] n h = omega (arith, h)
   sum_from_loads names e (before ∷ []) n h = tt
   sum_from_loads names e (before ∷ item ∷ items) n h =
-      when (λ f. loads f ≤ n) (is_sign before) (option_and_then (λ f. sum_from names (joined before e f) items) (operand_of names item))
-      (λ _. after (λ f. loads f ≤ n) (λ f. loads f ≤ 2) (operand_of names item) (λ f. sum_from names (joined before e f) items) (operand_loads (number_of item.text) (declared names item))
-      (λ f small. sum_from_loads names (joined before e f) items n (omega (arith, h, small, joined_loads before e f))))
+      when (λ f. loads f ≤ n) (is_sign before) (option_and_then (λ f. sum_from names (joined_sum before e f) items) (operand_of names item))
+      (λ _. after (λ f. loads f ≤ n) (λ f. loads f ≤ 2) (operand_of names item) (λ f. sum_from names (joined_sum before e f) items) (operand_loads (number_of item.text) (declared names item))
+      (λ f small. sum_from_loads names (joined_sum before e f) items n (omega (arith, h, small, joined_loads before e f))))
 
   signed_sum_loads : (names : List Name) (before : Item) (items : List Item) (n : ℕ) → 2 * length items + 1 ≤ n → IfSome (signed_sum names before items) (λ e. loads e ≤ n)
   signed_sum_loads names before [] n h = tt
