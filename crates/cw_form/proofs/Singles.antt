@@ -1,34 +1,24 @@
 -- The items of each unit of the form.
-use Rattle.std.proofs.Common.{◌≡◌, ℕ, ◌<◌, ◌≤◌, Bool, true, false, cond, not, ◌&&◌, nat_lt, List, [], ◌∷◌, ◌++◌, length, map, drop, take, codes, Option, Some, None, option_map, option_and_then, refl, subst, arith, length-append}
-use Rattle.std.specs.Prelude.{IfSome, All, nat_le}
+use Rattle.std.proofs.Common.{◌≡◌, ℕ, ◌<◌, ◌≤◌, Bool, true, not, ◌&&◌, nat_lt, List, [], ◌∷◌, ◌++◌, length, map, drop, take, codes, Option, Some, None, option_map, option_and_then, refl, arith, length-append}
+use Rattle.std.specs.Prelude.{IfSome, All}
 use Rattle.std.specs.List.{slice_split, list_any, prefix_len}
 use Rattle.std.proofs.lemmas.Bool.Decides.{nat_tests}
 use Rattle.std.proofs.lemmas.List.{length-map}
 use Rattle.std.proofs.lemmas.List.Elements.{All-map}
 use Rattle.cw_unit.specs.declared.unit.Unit.{Unit as SourceUnit}
 use Rattle.cw_unit.specs.OwnSingles.{IsOwnSingle}
-use Rattle.cw_form.specs.Items.{Item, items_of}
+use Rattle.cw_form.specs.Items.{Item}
 use Rattle.cw_form.specs.Trees.{Name, own_single, unit}
-use Rattle.cw_form.specs.Segment.{is, same, is_name, is_new, name_of, add_name, steps, declare, each, statement_of, with_names, is_declaration, unit_of_pieces, before_end, named, segment_of, begins, library_line, unit_of_items, unit_of}
+use Rattle.cw_form.specs.Segment.{is, same, is_name, is_new, add_name, steps, declare, each, statement_of, with_names, is_declaration, unit_of_pieces, unit_of}
 use Rattle.cw_form.proofs.Numbers.{both}
+use Rattle.cw_form.proofs.Optional.{when, after}
+use Rattle.cw_form.proofs.Walk.{walk}
 
 abbrev IsFine : SourceUnit → Type 0
 IsFine u = All IsOwnSingle u.items × (length u.items ≤ 100) × (u.procs ≡ [])
 
 abbrev IsFew : List Name → Type 0
 IsFew names = length names ≤ 100
-
-when : {B : Type 0} (P : B → Type 0) (b : Bool) (x : Option B) → (b ≡ true → IfSome x P) → IfSome (cond b x None) P
-when P true x h = h refl
-when P false x h = tt
-
-after : {A B : Type 0} (P : B → Type 0) (Q : A → Type 0) (o : Option A) (f : A → Option B) → IfSome o Q → ((a : A) → Q a → IfSome (f a) P) → IfSome (option_and_then f o) P
-after P Q None f h k = tt
-after P Q (Some a) f h k = k a h
-
-any_some : {A : Type 0} (o : Option A) → IfSome o (λ _. Unit {0})
-any_some None = tt
-any_some (Some a) = tt
 
 room_of : (n : ℕ) → nat_lt n 100 ≡ true → n < 100
 room_of n e = grind (arith, nat_tests)
@@ -68,21 +58,5 @@ pieces_fine library name tokens pieces =
     (λ _. after IsFine IsFew (steps declare [] (take count pieces)) (with_names library name tokens (drop count pieces))
     (steps_few declare declare_few [] (take count pieces) (omega arith)) (λ names few. named_fine library name tokens (drop count pieces) names few))
 
-segment_fine : (library : Bool) (tokens : ℕ) (items : List Item) → IfSome (segment_of library tokens items) IsFine
-segment_fine library tokens [] = tt
-segment_fine library tokens (first ∷ []) = tt
-segment_fine library tokens (first ∷ second ∷ []) = tt
-segment_fine library tokens (first ∷ second ∷ third ∷ rest) =
-    when IsFine (is (codes "SEGMENT") first && is (codes "BEGIN") third) (option_and_then (named library tokens rest) (name_of second))
-    (λ _. after IsFine (λ _. Unit {0}) (name_of second) (named library tokens rest) (any_some (name_of second))
-    (λ name _. after IsFine (λ _. Unit {0}) (before_end rest) (λ body. unit_of_pieces library name tokens (slice_split (is (codes ";")) body)) (any_some (before_end rest))
-    (λ body _. pieces_fine library name tokens (slice_split (is (codes ";")) body))))
-
-items_fine : (items : List Item) → IfSome (unit_of_items items) IsFine
-items_fine items =
-    when IsFine (nat_le (length items) 2000) (cond (begins library_line items) (segment_of true (length items) (drop 10 items)) (segment_of false (length items) items))
-    (λ _. elim (begins library_line items) as (λ b. IfSome (cond b (segment_of true (length items) (drop 10 items)) (segment_of false (length items) items)) IsFine)
-    [ true ↦ segment_fine true (length items) (drop 10 items) | false ↦ segment_fine false (length items) items ])
-
 pub unit_fine : (text : List ℕ) (u : SourceUnit) → unit_of text ≡ Some u → IsFine u
-unit_fine text u e = subst (λ o. IfSome o IsFine) e (items_fine (items_of text))
+unit_fine text u e = walk IsFine (λ library name tokens pieces _. pieces_fine library name tokens pieces) text u e

@@ -1,19 +1,18 @@
 -- One more operand of a sum.
-use Rattle.std.proofs.Common.{◌≡◌, ℕ, ◌+◌, ◌-◌, ◌≤◌, List, [], ◌∷◌, length, take, drop, get_or, Some, arith, ap, sym, ◌∙◌, subst, option_and_then}
+use Rattle.std.proofs.Common.{◌≡◌, ℕ, ◌+◌, ◌-◌, ◌≤◌, true, cond, List, [], ◌∷◌, length, take, drop, get_or, Some, None, arith, ap, sym, ◌∙◌, subst, option_and_then}
 use Rattle.std.proofs.lemmas.List.{drop-drop, take_rest}
 use Rattle.cw_unit.specs.declared.unit.Expr.{Expr}
 use Rattle.cw_form.specs.Items.{Item}
-use Rattle.cw_form.specs.declared.segment.Sign.{Sign}
-use Rattle.cw_form.specs.Segment.{sign_of, joined, operand_of, sum_from}
+use Rattle.cw_form.specs.Segment.{is_sign, joined, operand_of, sum_from}
 
-pub sum_more : (names : List (List ℕ)) (s : Sign) (e f g : Expr) (xs : List Item) (before item : Item) → 2 ≤ length xs → before ≡ get_or xs 0 before → item ≡ get_or xs 1 item
-    → sign_of before ≡ Some s → operand_of names item ≡ Some f → g ≡ joined s e f → sum_from names e xs ≡ sum_from names g (drop 2 xs)
-sum_more names s e f g [] before item h first second sign read made = absurd (omega arith)
-sum_more names s e f g (x ∷ []) before item h first second sign read made = absurd (omega arith)
-sum_more names s e f g (x ∷ y ∷ xs) before item h first second sign read made =
-    ap (option_and_then (λ t. option_and_then (λ k. sum_from names (joined t e k) xs) (operand_of names y))) (subst (λ t. sign_of t ≡ Some s) first sign)
-    ∙ ap (option_and_then (λ k. sum_from names (joined s e k) xs)) (subst (λ t. operand_of names t ≡ Some f) second read)
-    ∙ ap (λ k. sum_from names k xs) (sym made)
+pub sum_more : (names : List (List ℕ)) (e f g : Expr) (xs : List Item) (before item : Item) → 2 ≤ length xs → before ≡ get_or xs 0 before → item ≡ get_or xs 1 item
+    → is_sign before ≡ true → operand_of names item ≡ Some f → g ≡ joined before e f → sum_from names e xs ≡ sum_from names g (drop 2 xs)
+sum_more names e f g [] before item h first second sign read made = absurd (omega arith)
+sum_more names e f g (x ∷ []) before item h first second sign read made = absurd (omega arith)
+sum_more names e f g (x ∷ y ∷ xs) before item h first second sign read made =
+    ap (λ b. cond b (option_and_then (λ k. sum_from names (joined x e k) xs) (operand_of names y)) None) (subst (λ t. is_sign t ≡ true) first sign)
+    ∙ ap (option_and_then (λ k. sum_from names (joined x e k) xs)) (subst (λ t. operand_of names t ≡ Some f) second read)
+    ∙ ap (λ k. sum_from names k xs) (sym (subst (λ t. g ≡ joined t e f) first made))
 
 pub sum_turn : (names : List (List ℕ)) (e g : Expr) (xs : List Item) (i : ℕ)
     → sum_from names e (take (length xs - i) (drop i xs)) ≡ sum_from names g (drop 2 (take (length xs - i) (drop i xs)))

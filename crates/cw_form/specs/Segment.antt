@@ -8,8 +8,6 @@ use Rattle.cw_unit.specs.declared.unit.Unit.{Unit as SourceUnit}
 use Rattle.cw_unit.specs.declared.unit.Expr.{Expr}
 use Rattle.cw_unit.specs.declared.unit.Stmt.{Stmt}
 use Rattle.cw_form.specs.Items.{Item, items_of}
-use Rattle.cw_form.specs.declared.segment.Sign.{Sign}
-use Rattle.cw_form.specs.declared.segment.Sign.TheVariants as sign
 use Rattle.cw_form.specs.Trees.{Name, number, read, sum, difference, negative, assign, write, row, own_single, unit}
 
 -- ---- items
@@ -63,40 +61,36 @@ operand None i = option_map read i
 abbrev pub operand_of : List Name → Item → Option Expr
 operand_of names item = operand (number_of item.text) (declared names item)
 
--- the sign that an item is
-abbrev pub sign_of : Item → Option Sign
-sign_of item = if is (codes "+") item then Some sign.Plus else (if is (codes "-") item then Some sign.Minus else None)
+abbrev pub is_sign : Item → Bool
+is_sign item = is (codes "+") item || is (codes "-") item
 
--- an operand with this sign
-abbrev pub signed : Sign → Expr → Expr
-signed sign.Plus e = e
-signed sign.Minus e = negative e
+-- an operand behind a sign
+abbrev pub signed : (before : Item) → Expr → Expr
+signed before e = if is (codes "-") before then negative e else e
 
--- the sum e with one more operand, which has this sign
-abbrev pub joined : Sign → Expr → Expr → Expr
-joined sign.Plus e f = sum e f
-joined sign.Minus e f = difference e f
+-- the sum e with one more operand, behind a sign
+abbrev pub joined : (before : Item) → Expr → Expr → Expr
+joined before e f = if is (codes "-") before then difference e f else sum e f
 
--- the sum e with the operands behind it, each with its sign
+-- the sum e with the operands behind it, each behind its sign
 abbrev pub sum_from : List Name → Expr → List Item → Option Expr
 sum_from names e [] = Some e
 sum_from names e (before ∷ []) = None
-sum_from names e (before ∷ item ∷ items) = option_and_then (λ s. option_and_then (λ f. sum_from names (joined s e f) items) (operand_of names item)) (sign_of before)
+sum_from names e (before ∷ item ∷ items) = if is_sign before then option_and_then (λ f. sum_from names (joined before e f) items) (operand_of names item) else None
 
--- a sum whose first operand, and that alone, has this sign
-abbrev pub signed_sum : List Name → Sign → List Item → Option Expr
-signed_sum names s [] = None
-signed_sum names s (item ∷ items) = option_and_then (λ e. sum_from names (signed s e) items) (operand_of names item)
+-- a sum whose first operand, and that alone, is behind a sign
+abbrev pub signed_sum : List Name → (before : Item) → List Item → Option Expr
+signed_sum names before [] = None
+signed_sum names before (item ∷ items) = option_and_then (λ e. sum_from names (signed before e) items) (operand_of names item)
 
--- no sign is `+`
-abbrev pub sum_with : List Name → Item → List Item → Option Sign → Option Expr
-sum_with names first rest None = signed_sum names sign.Plus (first ∷ rest)
-sum_with names first rest (Some s) = signed_sum names s rest
+abbrev pub unsigned_sum : List Name → List Item → Option Expr
+unsigned_sum names [] = None
+unsigned_sum names (item ∷ items) = option_and_then (λ e. sum_from names e items) (operand_of names item)
 
 -- an optional sign, and operands with a sign between any two
 abbrev pub sum_of : List Name → List Item → Option Expr
 sum_of names [] = None
-sum_of names (first ∷ rest) = sum_with names first rest (sign_of first)
+sum_of names (first ∷ rest) = if is_sign first then signed_sum names first rest else unsigned_sum names (first ∷ rest)
 
 -- ---- statements
 

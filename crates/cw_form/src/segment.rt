@@ -4,7 +4,7 @@ ghost use Rattle.std.specs.List.{prefix_len, position, slice_split, list_all, li
 ghost use Rattle.std.specs.Char.{is_ascii_digit, is_ascii_uppercase};
 ghost use Rattle.std.specs.Str.Parse.{digits_value};
 ghost use Rattle.cw_form.specs.Items.{items_of};
-ghost use Rattle.cw_form.specs.Segment.{same, is, is_word, begins_with, is_name, number_of, name_of, declared, operand_of, sign_of, signed, joined, sum_from, signed_sum, sum_of, is_there, before_last, assignment, output, statement_of, each, is_new, add_name, steps, is_declaration, declare, with_names, unit_of_pieces, before_end, named, segment_of, library_line, begins, unit_of_items, unit_of};
+ghost use Rattle.cw_form.specs.Segment.{same, is, is_word, begins_with, is_name, number_of, name_of, declared, operand_of, is_sign, signed, joined, sum_from, signed_sum, unsigned_sum, sum_of, is_there, before_last, assignment, output, statement_of, each, is_new, add_name, steps, is_declaration, declare, with_names, unit_of_pieces, before_end, named, segment_of, library_line, begins, unit_of_items, unit_of};
 ghost use Rattle.cw_form.specs.Trees.{number, direct, read, assign, write, own_single, unit};
 
 use crate::token::{Token, capitals, tokens};
@@ -160,41 +160,33 @@ fn operand(alloc: Global, names: &[Name], token: &Token) -> Result<Option<Expr>,
     }
 }
 
-#[derive(Clone, Copy)]
-enum Sign {
-    Plus,
-    Minus,
+fn is_sign(token: &Token) -> bool
+    ensures { result ≡ is_sign token.now }
+{
+    token.is(b"+") || token.is(b"-")
 }
 
-fn sign_of(token: &Token) -> Option<Sign>
-    ensures { result ≡ sign_of token.now }
+// The operand behind a sign.
+fn signed(alloc: Global, before: &Token, e: Expr) -> Result<Expr, NoMemory>
+    ensures { IfOk result (λ s. s ≡ signed before.now e) }
 {
-    if token.is(b"+") {
-        Some(Sign::Plus)
-    } else if token.is(b"-") {
-        Some(Sign::Minus)
+    if before.is(b"-") {
+        Ok(Expr::Minus(Boxed::new(alloc, e)?))
     } else {
-        None
+        Ok(e)
     }
 }
 
-fn signed(alloc: Global, sign: Sign, e: Expr) -> Result<Expr, NoMemory>
-    ensures { IfOk result (λ s. s ≡ signed sign e) }
-{
-    match sign {
-        Sign::Plus => Ok(e),
-        Sign::Minus => Ok(Expr::Minus(Boxed::new(alloc, e)?)),
-    }
-}
-
-fn joined(alloc: Global, sign: Sign, so_far: Expr, next: Expr) -> Result<Expr, NoMemory>
-    ensures { IfOk result (λ e. e ≡ joined sign so_far next) }
+// The sum with one more operand, behind a sign.
+fn joined(alloc: Global, before: &Token, so_far: Expr, next: Expr) -> Result<Expr, NoMemory>
+    ensures { IfOk result (λ e. e ≡ joined before.now so_far next) }
 {
     let first = Boxed::new(alloc, so_far)?;
     let second = Boxed::new(alloc, next)?;
-    match sign {
-        Sign::Plus => Ok(Expr::Sum(first, second)),
-        Sign::Minus => Ok(Expr::Less(first, second)),
+    if before.is(b"-") {
+        Ok(Expr::Less(first, second))
+    } else {
+        Ok(Expr::Sum(first, second))
     }
 }
 
@@ -211,13 +203,15 @@ fn extended(
     ensures within { IfOk result (λ e. IfSome e (λ _. 2 ≤ length rest.now)) }
 {
     match rest {
-        [before, token, ..] => match sign_of(before) {
-            Some(sign) => match operand(alloc, names, token)? {
-                Some(next) => Ok(Some(joined(alloc, sign, so_far, next)?)),
+        [before, token, ..] => {
+            if !is_sign(before) {
+                return Ok(None);
+            }
+            match operand(alloc, names, token)? {
+                Some(next) => Ok(Some(joined(alloc, before, so_far, next)?)),
                 None => Ok(None),
-            },
-            None => Ok(None),
-        },
+            }
+        }
         _ => Ok(None),
     }
 }
@@ -243,18 +237,36 @@ fn sum_from(
     Ok(Some(total))
 }
 
+// A sum whose first operand is behind a sign.
 fn signed_sum(
     alloc: Global,
     names: &[Name],
-    sign: Sign,
+    before: &Token,
     tokens: &[Token],
 ) -> Result<Option<Expr>, NoMemory>
     requires { length names.now ≤ 100 }
-    ensures { IfOk result (λ e. e ≡ signed_sum names.now sign tokens.now) }
+    ensures { IfOk result (λ e. e ≡ signed_sum names.now before.now tokens.now) }
 {
     match tokens {
         [first, rest @ ..] => match operand(alloc, names, first)? {
-            Some(e) => sum_from(alloc, names, signed(alloc, sign, e)?, rest),
+            Some(e) => sum_from(alloc, names, signed(alloc, before, e)?, rest),
+            None => Ok(None),
+        },
+        [] => Ok(None),
+    }
+}
+
+fn unsigned_sum(
+    alloc: Global,
+    names: &[Name],
+    tokens: &[Token],
+) -> Result<Option<Expr>, NoMemory>
+    requires { length names.now ≤ 100 }
+    ensures { IfOk result (λ e. e ≡ unsigned_sum names.now tokens.now) }
+{
+    match tokens {
+        [first, rest @ ..] => match operand(alloc, names, first)? {
+            Some(e) => sum_from(alloc, names, e, rest),
             None => Ok(None),
         },
         [] => Ok(None),
@@ -266,11 +278,8 @@ fn sum_of(alloc: Global, names: &[Name], tokens: &[Token]) -> Result<Option<Expr
     ensures { IfOk result (λ e. e ≡ sum_of names.now tokens.now) }
 {
     match tokens {
-        [first, rest @ ..] => match sign_of(first) {
-            Some(sign) => signed_sum(alloc, names, sign, rest),
-            None => signed_sum(alloc, names, Sign::Plus, tokens),
-        },
-        [] => Ok(None),
+        [first, rest @ ..] if is_sign(first) => signed_sum(alloc, names, first, rest),
+        _ => unsigned_sum(alloc, names, tokens),
     }
 }
 

@@ -16,10 +16,8 @@ use Rattle.cw_unit.specs.declared.unit.Arg.{roll-Arg}
 use Rattle.cw_unit.specs.declared.unit.Spot.{roll-Spot}
 use Rattle.cw_unit.specs.declared.unit.Arg.TheOpen as layer
 use Rattle.cw_form.specs.Items.{Item, items_of}
-use Rattle.cw_form.specs.declared.segment.Sign.{Sign}
-use Rattle.cw_form.specs.declared.segment.Sign.TheVariants as sign
 use Rattle.cw_form.specs.Trees.{Name, number, read, sum, difference, negative, assign, write, row, own_single, unit, direct, direct_layer}
-use Rattle.cw_form.specs.Segment.{is, number_of, declared, operand, operand_of, sign_of, signed, joined, sum_from, signed_sum, sum_with, sum_of, before_last, assignment, output, statement_of, each, steps, declare, is_declaration, with_names, unit_of_pieces, before_end, named, name_of, segment_of, begins, library_line, unit_of_items, unit_of}
+use Rattle.cw_form.specs.Segment.{is, number_of, declared, operand, operand_of, is_sign, signed, joined as joined_sum, sum_from, signed_sum, unsigned_sum, sum_of, before_last, assignment, output, statement_of, each, steps, declare, is_declaration, with_names, unit_of_pieces, before_end, named, name_of, segment_of, begins, library_line, unit_of_items, unit_of}
 use Rattle.cw_order.specs.declared.order.Order.{Order}
 use Rattle.cw_order.specs.declared.order.Order.TheVariants as order
 use Rattle.cw_gen.specs.ReferenceOrders.{joined, home_order, spot_orders, ref_orders, load_orders, rescale_orders, expression_orders, argument_orders, put_orders, call_orders, statement_step, statement_orders}
@@ -132,22 +130,13 @@ module _ (l : Layout) where
   negative_loads : (e : Expr) → loads (negative e) ≡ loads e + 1
   negative_loads e = ap (λ g. length (g 0)) (negative_is e) ∙ length-append (expression_orders l e 0) (order.Neg ∷ [])
 
-  -- the orders of a sign before a sum
-  abbrev sign_orders : Sign → ℕ
-  sign_orders sign.Plus = 0
-  sign_orders sign.Minus = 1
+  signed_loads : (before : Item) (e : Expr) → loads (signed before e) ≤ loads e + 1
+  signed_loads before e =
+      elim (is (codes "-") before) as (λ b. loads (cond b (negative e) e) ≤ loads e + 1) [ true ↦ omega (arith, negative_loads e) | false ↦ omega arith ]
 
-  one_order : (s : Sign) → sign_orders s ≤ 1
-  one_order sign.Plus = omega arith
-  one_order sign.Minus = omega arith
-
-  signed_loads : (s : Sign) (e : Expr) → loads (signed s e) ≡ loads e + sign_orders s
-  signed_loads sign.Plus e = omega arith
-  signed_loads sign.Minus e = negative_loads e
-
-  joined_loads : (s : Sign) (e f : Expr) → loads (joined s e f) ≡ loads e + (loads f + 1)
-  joined_loads sign.Plus e f = sum_loads e f
-  joined_loads sign.Minus e f = difference_loads e f
+  joined_loads : (before : Item) (e f : Expr) → loads (joined_sum before e f) ≡ loads e + (loads f + 1)
+  joined_loads before e f =
+      elim (is (codes "-") before) as (λ b. loads (cond b (difference e f) (sum e f)) ≡ loads e + (loads f + 1)) [ true ↦ difference_loads e f | false ↦ sum_loads e f ]
 
   assign_needs : (line i : ℕ) (e : Expr) → needs (assign line i e) ≡ loads e + 4
   assign_needs line i e =
@@ -176,21 +165,26 @@ module _ (l : Layout) where
   sum_from_loads names e [] n h = omega (arith, h)
   sum_from_loads names e (before ∷ []) n h = tt
   sum_from_loads names e (before ∷ item ∷ items) n h =
-      after_any (λ f. loads f ≤ n) (sign_of before) (λ s. option_and_then (λ f. sum_from names (joined s e f) items) (operand_of names item))
-      (λ s. after (λ f. loads f ≤ n) (λ f. loads f ≤ 2) (operand_of names item) (λ f. sum_from names (joined s e f) items) (operand_loads (number_of item.text) (declared names item))
-      (λ f small. sum_from_loads names (joined s e f) items n (omega (arith, h, small, joined_loads s e f))))
+      when (λ f. loads f ≤ n) (is_sign before) (option_and_then (λ f. sum_from names (joined_sum before e f) items) (operand_of names item))
+      (λ _. after (λ f. loads f ≤ n) (λ f. loads f ≤ 2) (operand_of names item) (λ f. sum_from names (joined_sum before e f) items) (operand_loads (number_of item.text) (declared names item))
+      (λ f small. sum_from_loads names (joined_sum before e f) items n (omega (arith, h, small, joined_loads before e f))))
 
-  signed_sum_loads : (names : List Name) (s : Sign) (items : List Item) (n : ℕ) → 2 * length items + sign_orders s ≤ n → IfSome (signed_sum names s items) (λ e. loads e ≤ n)
-  signed_sum_loads names s [] n h = tt
-  signed_sum_loads names s (item ∷ items) n h =
-      after (λ f. loads f ≤ n) (λ f. loads f ≤ 2) (operand_of names item) (λ e. sum_from names (signed s e) items) (operand_loads (number_of item.text) (declared names item))
-      (λ e small. sum_from_loads names (signed s e) items n (omega (arith, h, small, signed_loads s e)))
+  signed_sum_loads : (names : List Name) (before : Item) (items : List Item) (n : ℕ) → 2 * length items + 1 ≤ n → IfSome (signed_sum names before items) (λ e. loads e ≤ n)
+  signed_sum_loads names before [] n h = tt
+  signed_sum_loads names before (item ∷ items) n h =
+      after (λ f. loads f ≤ n) (λ f. loads f ≤ 2) (operand_of names item) (λ e. sum_from names (signed before e) items) (operand_loads (number_of item.text) (declared names item))
+      (λ e small. sum_from_loads names (signed before e) items n (omega (arith, h, small, signed_loads before e)))
+
+  unsigned_sum_loads : (names : List Name) (items : List Item) (n : ℕ) → 2 * length items ≤ n → IfSome (unsigned_sum names items) (λ e. loads e ≤ n)
+  unsigned_sum_loads names [] n h = tt
+  unsigned_sum_loads names (item ∷ items) n h =
+      after (λ f. loads f ≤ n) (λ f. loads f ≤ 2) (operand_of names item) (λ e. sum_from names e items) (operand_loads (number_of item.text) (declared names item))
+      (λ e small. sum_from_loads names e items n (omega (arith, h, small)))
 
   sum_of_loads : (names : List Name) (items : List Item) (n : ℕ) → 2 * length items ≤ n → IfSome (sum_of names items) (λ e. loads e ≤ n)
   sum_of_loads names [] n h = tt
   sum_of_loads names (first ∷ rest) n h =
-      elim (sign_of first) as (λ o. IfSome (sum_with names first rest o) (λ e. loads e ≤ n))
-      [ None ↦ signed_sum_loads names sign.Plus (first ∷ rest) n (omega (arith, h)) | Some s ↦ signed_sum_loads names s rest n (omega (arith, h, one_order s)) ]
+      either (λ e. loads e ≤ n) (is_sign first) (signed_sum names first rest) (unsigned_sum names (first ∷ rest)) (signed_sum_loads names first rest n (omega (arith, h))) (unsigned_sum_loads names (first ∷ rest) n h)
 
   assignment_needs : (names : List Name) (first : Item) (rest : List Item) → IfSome (assignment names first rest) (λ s. needs s ≤ 2 * suc (suc (length rest)))
   assignment_needs names first rest =
