@@ -16,6 +16,9 @@ ghost use Rattle.cw_tmpl.specs.ReferenceCode.{templates, order_places};
 ghost use Rattle.cw_tmpl.specs.Showing.{shown_as};
 ghost use Rattle.cw_tmpl.specs.Placing.{IsImage, Codable, BeginsWith, NeverStuck, startup_cost};
 
+use cw_order::laws::words;
+use cw_run86::laws::{arithmetic, jumps, memory, moves, ports, stacking, starting};
+
 /// The linker's filling of an object's relocations, one after another, gives the code with its words filled. That is as
 /// long as the object's, and goes on behind the first pieces with the rest.
 pub fn filling()
@@ -44,4 +47,13 @@ pub fn code_follows_orders()
     ensures { (p : OrderProgram) (image words : List ℕ) (memory : List ℤ) (input : List ℕ) (s : State) →
         IsImage p image → Codable p → BeginsWith p memory words → NeverStuck p memory input → IsStart image words s →
         TracksAfter is_running startup_cost (order_machine p) (order_start p memory input) (processor shown_as) (processor_start s input) }
-{}
+{
+    words();
+    starting();
+    moves();
+    stacking();
+    memory();
+    arithmetic();
+    jumps();
+    ports();
+}
