@@ -1,0 +1,10 @@
+//! Macro preprocessor over token slices.
+#![tactic(auto)]
+
+mod arguments;
+mod definition;
+mod fault;
+mod key;
+mod left;
+
+pub use fault::{MOST_BYTES, MOST_LEVELS, MOST_REPLACED, MOST_TOKENS, MacroFault};
