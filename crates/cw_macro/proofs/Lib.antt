@@ -1,1 +1,4 @@
 pub mod Tables
+pub mod Lists
+pub mod Numbers
+pub mod Sound

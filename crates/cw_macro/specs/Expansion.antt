@@ -16,8 +16,8 @@ use Rattle.cw_macro.specs.declared.fault.MacroFault.TheVariants as faults
 use Rattle.cw_macro.specs.declared.fault.TheConstants.{MOST_LEVELS, MOST_TOKENS, MOST_REPLACED}
 use Rattle.cw_macro.specs.declared.arguments.Bracket.{Bracket}
 use Rattle.cw_macro.specs.declared.arguments.Bracket.TheVariants.{Round, Square}
-use Rattle.cw_macro.specs.declared.arguments.Nesting.{Nesting}
-use Rattle.cw_macro.specs.declared.arguments.Nesting.TheVariants.{Inside, Separates, Ends, Mismatched}
+use Rattle.cw_macro.specs.declared.arguments.Role.{Role}
+use Rattle.cw_macro.specs.declared.arguments.Role.TheVariants.{Inside, Separates, Ends, Mismatched}
 
 -- a token left, with the level of the calls that brought it: 0 for those of the text
 pub record Leveled : Type 0 where
@@ -156,13 +156,13 @@ macro_of ps body = record { parameters = length ps; body = map (part ps) body }
 -- ---- calls
 
 -- What a token is inside an argument, behind the innermost bracket that is open in it: brackets are nested, and a comma or a closing bracket outside them ends the argument.
-abbrev pub nesting : Option Bracket → TokenKind → Nesting
-nesting None (kinds.Symbol symbols.Comma) = Separates
-nesting None (kinds.Symbol symbols.Close) = Ends
-nesting None (kinds.Symbol symbols.CloseSquare) = Mismatched
-nesting (Some Round) (kinds.Symbol symbols.CloseSquare) = Mismatched
-nesting (Some Square) (kinds.Symbol symbols.Close) = Mismatched
-nesting b k = Inside
+abbrev pub role_of : Option Bracket → TokenKind → Role
+role_of None (kinds.Symbol symbols.Comma) = Separates
+role_of None (kinds.Symbol symbols.Close) = Ends
+role_of None (kinds.Symbol symbols.CloseSquare) = Mismatched
+role_of (Some Round) (kinds.Symbol symbols.CloseSquare) = Mismatched
+role_of (Some Square) (kinds.Symbol symbols.Close) = Mismatched
+role_of b k = Inside
 
 abbrev pub innermost : List Bracket → Option Bracket
 innermost [] = None
@@ -193,7 +193,7 @@ with_argument None = None
 with_argument (Some (first, more, rest)) = Some ([], first ∷ more, rest)
 
 -- a token, before what the tokens behind it give
-abbrev pub given : Nesting → Leveled → List Leveled → Given → Given
+abbrev pub given : Role → Leveled → List Leveled → Given → Given
 given Inside t rest behind = with_token t behind
 given Separates t rest behind = with_argument behind
 given Ends t rest behind = Some ([], [], rest)
@@ -202,7 +202,7 @@ given Mismatched t rest behind = None
 -- The arguments up to their closing bracket, with commas between them. Some brackets are open in the first.
 abbrev pub arguments : List Bracket → List Leveled → Given
 arguments bs [] = None
-arguments bs (t ∷ rest) = given (nesting (innermost bs) t.lexeme.kind) t rest (arguments (open_behind t.lexeme.kind bs) rest)
+arguments bs (t ∷ rest) = given (role_of (innermost bs) t.lexeme.kind) t rest (arguments (open_behind t.lexeme.kind bs) rest)
 
 -- so many arguments, and the tokens behind them
 abbrev pub counted : ℕ → Given → Option (List (List Leveled) × List Leveled)

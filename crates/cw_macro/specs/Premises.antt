@@ -1,5 +1,5 @@
 -- What holds of the tokens of a text.
-use Rattle.std.specs.Prelude.{ℕ, ◌+◌, ◌≤◌, List, length, All, IfSome}
+use Rattle.std.specs.Prelude.{ℕ, ◌+◌, ◌≤◌, List, [], ◌∷◌, length, IfSome}
 use Rattle.cw_lex.specs.declared.token.Form.TheVariants.{Source}
 use Rattle.cw_lex.specs.declared.token.TokenKind.{TokenKind}
 use Rattle.cw_lex.specs.declared.token.TokenKind.TheVariants as kinds
@@ -7,6 +7,10 @@ use Rattle.cw_lex.specs.Lexical.{Lexeme, Tokenizes, first_place}
 use Rattle.cw_word.specs.Name.{IsName}
 use Rattle.cw_macro.specs.declared.fault.TheConstants.{MOST_BYTES}
 use Rattle.cw_macro.specs.Expansion.{Leveled, Part, Own, Parameter, Macro, Definitions, Expansion, name_of}
+
+abbrev pub Each : {A : Type 0} (P : A → Type 0) → List A → Type 0
+Each P [] = Unit {0}
+Each P (x ∷ xs) = P x × Each P xs
 
 -- They are all tokens of a text of MOST_BYTES at most.
 pub record AreOfText (tokens : List Lexeme) : Type 0 where
@@ -35,9 +39,9 @@ IsPartWithin (Own t) = IsWithin t
 IsPartWithin (Parameter k) = Unit {0}
 
 abbrev pub AreWithin : Definitions → Type 0
-AreWithin definitions = (name : List ℕ) → IfSome (definitions name) (λ m. All IsPartWithin m.body)
+AreWithin definitions = (name : List ℕ) → IfSome (definitions name) (λ m. Each IsPartWithin m.body)
 
 -- All that is held by an expansion comes from one text.
 pub record IsSound (e : Expansion) : Type 0 where
-  pub left : All IsPlaced e.left
+  pub left : Each IsPlaced e.left
   pub definitions : AreWithin e.definitions

@@ -1,20 +1,25 @@
 -- What the code's values stand for.
-use Rattle.std.specs.Prelude.{◌≡◌, ℕ, List, length, map, reverse}
+use Rattle.std.specs.Prelude.{◌≡◌, ℕ, Bool, true, false, Result, Ok, Err, List, [], ◌∷◌, length, map, reverse, Option, Some, None}
 use Rattle.std.specs.Option.{option_map}
 use Rattle.std.specs.BTreeMap.{btree_map_len, get}
 use Rattle.std.specs.Ordering.{nat_cmp}
 use Rattle.std.specs.declared.cmp.Ordering.{Ordering}
 use Rattle.std.specs.Cmp.Lexicographic.{slice_cmp}
-use Rattle.cw_lex.specs.Lexical.{view}
+use Rattle.std.specs.Str.{str_to_ascii_uppercase}
+use Rattle.cw_lex.specs.Lexical.{Lexeme, view}
 use Rattle.cw_macro.specs.declared.left.Item.{Item}
 use Rattle.cw_macro.specs.declared.left.Left.{Left}
+use Rattle.cw_macro.specs.declared.expansion.Expansion.{Expansion as ExpansionRead}
 use Rattle.cw_macro.specs.declared.key.Key.{Key}
 use Rattle.cw_macro.specs.declared.definition.Piece.{Piece}
 use Rattle.cw_macro.specs.declared.definition.Piece.TheVariants as pieces
 use Rattle.cw_macro.specs.declared.definition.Macro.{Macro}
 use Rattle.cw_macro.specs.declared.definition.Definitions.{Definitions}
 use Rattle.cw_macro.specs.declared.definition.Parameters.{Parameters}
-use Rattle.cw_macro.specs.Expansion.{Leveled, Part, Own, Parameter, Macro as MacroOf, Definitions as Table, number_of}
+use Rattle.cw_macro.specs.declared.definition.Heading.{Heading as HeadingRead}
+use Rattle.cw_macro.specs.Expansion.{Leveled, Part, Own, Parameter, Macro as MacroOf, Definitions as Table, Heading, number_of, part, HasBody, HasNoBody, Given, Expansion, Step, Finished, Moved, Refused, Defining, defined, expansion_step}
+use Rattle.cw_macro.specs.declared.fault.MacroFault.{MacroFault}
+use Rattle.cw_macro.specs.declared.fault.MacroFault.TheVariants as faults
 
 abbrev pub leveled : Item → Leveled
 leveled i = record { lexeme = view i.token; level = i.level }
@@ -27,7 +32,7 @@ part_of (pieces.Own t) = Own (view t)
 part_of (pieces.Parameter k) = Parameter k
 
 abbrev pub macro_view : Macro → MacroOf
-macro_view m = record { parameters = m.parameters; body = map part_of m.body.items }
+macro_view m = record { parameters = m.parameters; body = map part_of m.body }
 
 abbrev pub key : List ℕ → Key
 key name = record { name = name }
@@ -42,3 +47,58 @@ table_of d name = option_map macro_view (get key_cmp d.macros (key name))
 pub record IsNumbering (numbers : Parameters) (names : List (List ℕ)) : Type 0 where
   pub count : btree_map_len numbers.numbers ≡ length names
   pub each : (name : List ℕ) → get key_cmp numbers.numbers (key name) ≡ number_of name names
+
+-- What is read of parameters: these, with the tokens behind them.
+pub record HasParameters (numbers : Parameters) (read : Option (List (List ℕ) × List Leveled)) (rest : List Leveled) : Type 0 where
+  pub names : List (List ℕ)
+  pub numbering : IsNumbering numbers names
+  pub is : read ≡ Some (names, rest)
+
+-- What is read of a heading: this one, with the tokens behind it.
+pub record HasHeading (h : HeadingRead) (read : ℕ → Option (Heading × List Leveled)) (rest : List Leveled) : Type 0 where
+  pub names : List (List ℕ)
+  pub numbering : IsNumbering h.parameters names
+  pub is : (line : ℕ) → read line ≡ Some (record { line = line; name = str_to_ascii_uppercase h.name.now; parameters = names; string = view h.string }, rest)
+
+-- What is read of a body: its parts, or nothing.
+abbrev pub IsBodyRead : Lexeme → List (List ℕ) → Option (List Piece) → Type 0
+IsBodyRead string names None = HasNoBody string
+IsBodyRead string names (Some body) = (tokens : List Lexeme) × HasBody string tokens × (map part_of body ≡ map (part names) tokens)
+
+abbrev pub lists_of : List (List Item) → List (List Leveled)
+lists_of = map (map leveled)
+
+-- These arguments are given, with these tokens behind them.
+abbrev pub IsGiven : List (List Leveled) → List Leveled → Given → Type 0
+IsGiven [] rest o = ⊥
+IsGiven (first ∷ more) rest o = o ≡ Some (first, more, rest)
+
+abbrev pub expansion_of : ExpansionRead → Expansion
+expansion_of e = record { done = map view e.done; definitions = table_of e.definitions; left = left_of e.left; count = e.count }
+
+-- What a step leads to,
+pub data Follows (e : Expansion) : Step → Expansion → Type 0 where
+  moves : {next : Expansion} → Follows e (Moved next) next
+  defines : {h : Heading} {rest : List Leveled} {body : List Lexeme} → HasBody h.string body → Follows e (Defining h rest) (defined e h rest body)
+
+-- and its fault.
+pub data Faults : Step → MacroFault → Type 0 where
+  refuses : {fault : MacroFault} → Faults (Refused fault) fault
+  lacks_body : {h : Heading} {rest : List Leveled} → HasNoBody h.string → Faults (Defining h rest) (faults.BadDefine h.line)
+
+abbrev pub IsFaultOf : Step → MacroFault → Type 0
+IsFaultOf s faults.NoMemory = Unit {0}
+IsFaultOf s fault = Faults s fault
+
+abbrev pub IsMade : {A : Type 0} → Expansion → Step → Result A MacroFault → Expansion → Type 0
+IsMade e s (Ok x) next = Follows e s next
+IsMade e s (Err fault) next = IsFaultOf s fault
+
+abbrev pub IsCounted : Expansion → Step → Result ℕ MacroFault → List Leveled → Type 0
+IsCounted e s (Ok count) left = Follows e s (record e { left = left; count = count })
+IsCounted e s (Err fault) left = IsFaultOf s fault
+
+abbrev pub IsStep : Expansion → Result Bool MacroFault → Expansion → Type 0
+IsStep e (Ok true) next = Follows e (expansion_step e) next
+IsStep e (Ok false) next = (expansion_step e ≡ Finished) × (next.done ≡ e.done)
+IsStep e (Err fault) next = IsFaultOf (expansion_step e) fault

@@ -3,6 +3,7 @@
 
 mod arguments;
 mod definition;
+mod expansion;
 mod fault;
 mod key;
 mod left;
