@@ -18,7 +18,7 @@ use Rattle.cw_lex.specs.declared.token.LexFault.TheVariants as faults
 use Rattle.cw_lex.specs.declared.token.TokenKind.{TokenKind}
 use Rattle.cw_lex.specs.declared.token.TokenKind.TheVariants as kinds
 use Rattle.cw_lex.specs.Items.{IsItem, IsIdentifier, letter_first, IsText, between_quotes, IsBodyText, between_pairs, keeps_limit}
-use Rattle.cw_lex.specs.Lexical.{Lexeme, Place, view, Lexes, at_end, a_gap, a_token, line_behind, at_behind, first_place, is_semicolon, Tokenizes, IsAnswer}
+use Rattle.cw_lex.specs.Lexical.{Lexeme, Place, view, Lexes, at_end, a_gap, a_token, line_behind, first_place, is_semicolon, Tokenizes, IsAnswer}
 use Rattle.cw_macro.specs.declared.fault.TheConstants.{MOST_BYTES}
 use Rattle.cw_macro.specs.Expansion.{is_string, quote_length, body_place, body_text, of_text, HasNoBody, faulty}
 use Rattle.cw_macro.specs.Premises.{Each, HasForm, IsWithin, IsPlaced}
@@ -54,17 +54,17 @@ text_length _ (between_quotes w q) = omega (arith, length-append w (34 ∷ []))
 body_text_length : (w : List ℕ) → IsBodyText w → 4 ≤ length w
 body_text_length _ (between_pairs w q) = omega (arith, length-append w (34 ∷ 34 ∷ []))
 
-has_form : (form : Form) (t : Lexeme) (k : TokenKind) → IsItem form t.text k → keeps_limit k t.text ≡ true → HasForm t k
-has_form form t kinds.Name i h = name_is t.text i h
-has_form form t kinds.Text i h = text_length t.text i.1
-has_form form t kinds.BodyText i h = body_text_length t.text i.1
-has_form form t k i h = tt
+has_form : (form : Form) (text : List ℕ) (k : TokenKind) → IsItem form text k → keeps_limit k text ≡ true → HasForm text k
+has_form form text kinds.Name i h = name_is text i h
+has_form form text kinds.Text i h = text_length text i.1
+has_form form text kinds.BodyText i h = body_text_length text i.1
+has_form form text k i h = tt
 
 pub within_tokens : (form : Form) (start : Place) (before rest : List ℕ) (after : Bool) (ts : List Lexeme) → Lexes form start before after rest ts → start.at + length before + length rest ≤ MOST_BYTES → Each IsWithin ts
 within_tokens form start before _ after _ at_end h = tt
 within_tokens form start before _ after ts (a_gap {gap = gap} {rest = rest} g d) h = within_tokens form start (before ++ gap) rest after ts d (omega (arith, h, length-append before gap, length-append gap rest))
 within_tokens form start before _ after _ (a_token {w = w} {rest = rest} {kind = kind} {ts = ts} l t k d) h =
-    (record { place = omega (arith, h, length-append w rest); form = has_form form (record { kind = kind; line = line_behind start before; at = at_behind start before; text = w }) kind l.is_item k },
+    (record { place = omega (arith, h, length-append w rest); form = has_form form w kind l.is_item k },
      within_tokens form start (before ++ w) rest (is_semicolon kind) ts d (omega (arith, h, length-append before w, length-append w rest)))
 
 pub placed_tokens : (before rest : List ℕ) (after : Bool) (ts : List Lexeme) → Lexes Source first_place before after rest ts → length before + length rest ≤ MOST_BYTES → Each IsPlaced (map of_text ts)
@@ -73,19 +73,19 @@ placed_tokens before _ after ts (a_gap {gap = gap} {rest = rest} g d) h = placed
 placed_tokens before _ after _ (a_token {w = w} {rest = rest} {kind = kind} {ts = ts} l t k d) h =
     (record {
        line = omega (arith, h, count_by-le-length (λ b. b == 10) before);
-       within = record { place = omega (arith, h, length-append w rest); form = has_form Source (record { kind = kind; line = line_behind first_place before; at = at_behind first_place before; text = w }) kind l.is_item k };
+       within = record { place = omega (arith, h, length-append w rest); form = has_form Source w kind l.is_item k };
      },
      placed_tokens (before ++ w) rest (is_semicolon kind) ts d (omega (arith, h, length-append before w, length-append w rest)))
 
-pub quotes_fit : (t : Lexeme) (k : TokenKind) → is_string k ≡ true → HasForm t k → quote_length k + quote_length k ≤ length t.text
-quotes_fit t kinds.Text e h = h
-quotes_fit t kinds.BodyText e h = h
-quotes_fit t k e h = absurd cc
+pub quotes_fit : (text : List ℕ) (k : TokenKind) → is_string k ≡ true → HasForm text k → quote_length k + quote_length k ≤ length text
+quotes_fit text kinds.Text e h = h
+quotes_fit text kinds.BodyText e h = h
+quotes_fit text k e h = absurd cc
 
 pub within_body : (string : Lexeme) (ts : List Lexeme) → is_string string.kind ≡ true → IsWithin string → Tokenizes MacroBody (body_place string) (body_text string) ts → Each IsWithin ts
 within_body string ts e w d =
     let q = quote_length string.kind in
-    let fit : q + q ≤ length string.text = quotes_fit string string.kind e w.form in
+    let fit : q + q ≤ length string.text = quotes_fit string.text string.kind e w.form in
     let size : length (body_text string) ≤ length string.text - q - q = omega (arith, length-take (length string.text - q - q) (drop q string.text)) in
     within_tokens MacroBody (body_place string) [] (body_text string) false ts d (omega (arith, w.place, fit, size))
 

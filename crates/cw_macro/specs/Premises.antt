@@ -1,12 +1,13 @@
 -- What holds of the tokens of a text.
 use Rattle.std.specs.Prelude.{ℕ, ◌+◌, ◌≤◌, List, [], ◌∷◌, length, IfSome}
+use Rattle.std.specs.Str.{str_to_ascii_uppercase}
 use Rattle.cw_lex.specs.declared.token.Form.TheVariants.{Source}
 use Rattle.cw_lex.specs.declared.token.TokenKind.{TokenKind}
 use Rattle.cw_lex.specs.declared.token.TokenKind.TheVariants as kinds
 use Rattle.cw_lex.specs.Lexical.{Lexeme, Tokenizes, first_place}
 use Rattle.cw_word.specs.Name.{IsName}
 use Rattle.cw_macro.specs.declared.fault.TheConstants.{MOST_BYTES}
-use Rattle.cw_macro.specs.Expansion.{Leveled, Part, Own, Parameter, Macro, Definitions, Expansion, name_of}
+use Rattle.cw_macro.specs.Expansion.{Leveled, Part, Own, Parameter, Macro, Definitions, Expansion}
 
 abbrev pub Each : {A : Type 0} (P : A → Type 0) → List A → Type 0
 Each P [] = Unit {0}
@@ -19,16 +20,16 @@ pub record AreOfText (tokens : List Lexeme) : Type 0 where
   pub tokenizes : Tokenizes Source first_place text tokens
 
 -- A name has 31 characters at most, and a string its quotes.
-abbrev pub HasForm : Lexeme → TokenKind → Type 0
-HasForm t kinds.Name = IsName (name_of t)
-HasForm t kinds.Text = 2 ≤ length t.text
-HasForm t kinds.BodyText = 4 ≤ length t.text
-HasForm t k = Unit {0}
+abbrev pub HasForm : List ℕ → TokenKind → Type 0
+HasForm text kinds.Name = IsName (str_to_ascii_uppercase text)
+HasForm text kinds.Text = 2 ≤ length text
+HasForm text kinds.BodyText = 4 ≤ length text
+HasForm text k = Unit {0}
 
 -- a token that lies within a text
 pub record IsWithin (t : Lexeme) : Type 0 where
   pub place : t.at + length t.text ≤ MOST_BYTES
-  pub form : HasForm t t.kind
+  pub form : HasForm t.text t.kind
 
 pub record IsPlaced (t : Leveled) : Type 0 where
   pub line : t.lexeme.line ≤ MOST_BYTES + 1

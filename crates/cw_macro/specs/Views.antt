@@ -77,14 +77,14 @@ abbrev pub expansion_of : ExpansionRead → Expansion
 expansion_of e = record { done = map view e.done; definitions = table_of e.definitions; left = left_of e.left; count = e.count }
 
 -- What a step leads to,
-pub data Follows (e : Expansion) : Step → Expansion → Type 0 where
-  moves : {next : Expansion} → Follows e (Moved next) next
-  defines : {h : Heading} {rest : List Leveled} {body : List Lexeme} → HasBody h.string body → Follows e (Defining h rest) (defined e h rest body)
+pub data Follows (e : Expansion) (step : Step) (next : Expansion) : Type 0 where
+  moves : step ≡ Moved next → Follows e step next
+  defines : {h : Heading} {rest : List Leveled} {body : List Lexeme} → step ≡ Defining h rest → HasBody h.string body → next ≡ defined e h rest body → Follows e step next
 
 -- and its fault.
-pub data Faults : Step → MacroFault → Type 0 where
-  refuses : {fault : MacroFault} → Faults (Refused fault) fault
-  lacks_body : {h : Heading} {rest : List Leveled} → HasNoBody h.string → Faults (Defining h rest) (faults.BadDefine h.line)
+pub data Faults (step : Step) (fault : MacroFault) : Type 0 where
+  refuses : step ≡ Refused fault → Faults step fault
+  lacks_body : {h : Heading} {rest : List Leveled} → step ≡ Defining h rest → HasNoBody h.string → fault ≡ faults.BadDefine h.line → Faults step fault
 
 abbrev pub IsFaultOf : Step → MacroFault → Type 0
 IsFaultOf s faults.NoMemory = Unit {0}
@@ -97,8 +97,3 @@ IsMade e s (Err fault) next = IsFaultOf s fault
 abbrev pub IsCounted : Expansion → Step → Result ℕ MacroFault → List Leveled → Type 0
 IsCounted e s (Ok count) left = Follows e s (record e { left = left; count = count })
 IsCounted e s (Err fault) left = IsFaultOf s fault
-
-abbrev pub IsStep : Expansion → Result Bool MacroFault → Expansion → Type 0
-IsStep e (Ok true) next = Follows e (expansion_step e) next
-IsStep e (Ok false) next = (expansion_step e ≡ Finished) × (next.done ≡ e.done)
-IsStep e (Err fault) next = IsFaultOf (expansion_step e) fault

@@ -3,9 +3,9 @@ ghost use Rattle.std.specs.Prelude.{◌≡◌, ◌∷◌, [], ◌++◌, ◌+◌,
 ghost use Rattle.std.specs.List.{flat_map};
 ghost use Rattle.cw_lex.specs.Lexical.{view};
 ghost use Rattle.cw_word.specs.Name.{IsName};
-ghost use Rattle.cw_macro.specs.Expansion.{Expansion as ExpansionOf, brought, replacement, tokens_of, expansion_step, moving, defining, heading, deleting, naming, name_of, start, IsExpansion};
-ghost use Rattle.cw_macro.specs.Premises.{Each, IsPlaced, AreOfText, IsSound};
-ghost use Rattle.cw_macro.specs.Views.{left_of, leveled, lists_of, part_of, macro_view, table_of, expansion_of, IsMade, IsCounted, IsStep};
+ghost use Rattle.cw_macro.specs.Expansion.{Expansion as ExpansionOf, brought, replacement, tokens_of, step_at, moving, defining, heading, deleting, naming, name_of, start, IsExpansion};
+ghost use Rattle.cw_macro.specs.Premises.{Each, IsPlaced, AreOfText};
+ghost use Rattle.cw_macro.specs.Views.{left_of, leveled, lists_of, part_of, macro_view, table_of, expansion_of, IsMade, IsCounted};
 
 use crate::arguments::read_argument_list;
 use crate::definition::{Definitions, Macro, Piece, is_name, is_semicolon, read_body, read_heading};
@@ -197,16 +197,16 @@ impl<'a> Expansion<'a> {
         requires { Each IsPlaced (left_of self.old.left) }
         ensures { let e = expansion_of self.old in IsMade e (deleting e line e.left) result (expansion_of self.new) }
     {
-        match self.left.take_pair() {
-            Some((name, mark)) if is_name(name.token.kind) && is_semicolon(mark.token.kind) => {
-                if self.definitions.remove(name.token.text) {
-                    Ok(())
-                } else {
-                    Err(MacroFault::NoSuchMacro { line })
-                }
-            }
-            _ => Err(MacroFault::BadDefine { line }),
+        let Some((name, mark)) = self.left.take_pair() else {
+            return Err(MacroFault::BadDefine { line });
+        };
+        if !is_name(name.token.kind) || !is_semicolon(mark.token.kind) {
+            return Err(MacroFault::BadDefine { line });
         }
+        if !self.definitions.remove(name.token.text) {
+            return Err(MacroFault::NoSuchMacro { line });
+        }
+        Ok(())
     }
 
     fn name(&mut self, alloc: Global, item: Item<'a>) -> Result<(), MacroFault>
@@ -216,30 +216,31 @@ impl<'a> Expansion<'a> {
     {
         match self.definitions.get(item.token.text) {
             Some(definition) => {
-                self.count = call(alloc, &mut self.left, self.count, item, definition)?;
-                Ok(())
+                match call(alloc, &mut self.left, self.count, item, definition) {
+                    Ok(count) => {
+                        self.count = count;
+                        Ok(())
+                    }
+                    Err(fault) => Err(fault),
+                }
             }
             None => self.keep(item),
         }
     }
 
-    // Does a step, and says whether there was a token left.
-    fn step(&mut self, alloc: Global) -> Result<bool, MacroFault>
-        requires sound { IsSound (expansion_of self.old) }
+    // Does the step of a token, which is taken from those left.
+    fn step(&mut self, alloc: Global, item: Item<'a>) -> Result<(), MacroFault>
+        requires item { IsPlaced (leveled item) }
+        requires left { Each IsPlaced (left_of self.old.left) }
         requires small { self.old.count < 2 ^ 63 }
-        ensures { IsStep (expansion_of self.old) result (expansion_of self.new) }
+        ensures { let e = expansion_of self.old in IsMade e (step_at e (leveled item.entry) e.left item.entry.token.kind) result (expansion_of self.new) }
     {
-        let Some(item) = self.left.take() else {
-            return Ok(false);
-        };
-        let line = item.token.line;
         match item.token.kind {
-            TokenKind::Word(Word::Define) => self.define(alloc, line)?,
-            TokenKind::Word(Word::Delete) => self.delete(line)?,
-            TokenKind::Name => self.name(alloc, item)?,
-            _ => self.keep(item)?,
+            TokenKind::Word(Word::Define) => self.define(alloc, item.token.line),
+            TokenKind::Word(Word::Delete) => self.delete(item.token.line),
+            TokenKind::Name => self.name(alloc, item),
+            _ => self.keep(item),
         }
-        Ok(true)
     }
 }
 
@@ -249,6 +250,8 @@ pub fn expand<'a>(alloc: Global, tokens: &[Token<'a>]) -> Result<List<Token<'a>>
     ensures { IsExpansion (map view tokens.now) result }
 {
     let mut expansion = Expansion::new(alloc, tokens)?;
-    while expansion.step(alloc)? {}
+    'steps: while let Some(item) = expansion.left.take() {
+        expansion.step(alloc, item)?;
+    }
     Ok(expansion.done)
 }
