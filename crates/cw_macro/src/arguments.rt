@@ -1,7 +1,7 @@
 //! The arguments of a call.
-ghost use Rattle.std.specs.Prelude.{◌≡◌, ◌∷◌, [], ℕ, ◌<◌, map, reverse, length, MatchOption, OnOk, IfOk, Some, None};
+ghost use Rattle.std.specs.Prelude.{◌≡◌, ◌∷◌, [], ◌++◌, ℕ, ◌<◌, map, reverse, length, MatchOption, OnOk, IfOk, Some, None};
 ghost use Rattle.cw_macro.specs.Expansion.{role_of, innermost, open_behind, is_open, arguments, argument_list};
-ghost use Rattle.cw_macro.specs.Views.{left_of, lists_of, IsGiven};
+ghost use Rattle.cw_macro.specs.Views.{left_of, leveled, lists_of, IsGiven};
 
 use crate::left::{Item, Left};
 use cw_lex::{Symbol, TokenKind};
@@ -73,6 +73,18 @@ fn track(brackets: &mut Vec<Bracket>, kind: TokenKind) -> Result<(), NoMemory>
     }
 }
 
+fn keep_inside<'a>(
+    argument: &mut List<Item<'a>>,
+    brackets: &mut Vec<Bracket>,
+    item: Item<'a>,
+) -> Result<(), NoMemory>
+    ensures argument { OnOk result (map leveled argument.new ≡ map leveled argument.old ++ leveled item.entry ∷ []) }
+    ensures brackets { OnOk result (reverse brackets.new.items ≡ open_behind item.entry.token.kind (reverse brackets.old.items)) }
+{
+    track(brackets, item.token.kind)?;
+    argument.push(item)
+}
+
 // The arguments behind an opening bracket, up to the closing one.
 fn read_arguments<'a>(
     alloc: Global,
@@ -84,12 +96,8 @@ fn read_arguments<'a>(
     let mut argument = List::new(alloc);
     let mut brackets = Vec::new(alloc);
     while let Some(item) = left.take() {
-        let kind = item.token.kind;
-        match role_of(innermost(&brackets), kind) {
-            Role::Inside => {
-                track(&mut brackets, kind)?;
-                argument.push(item)?;
-            }
+        match role_of(innermost(&brackets), item.token.kind) {
+            Role::Inside => keep_inside(&mut argument, &mut brackets, item)?,
             Role::Separates => {
                 given.push(mem::replace(&mut argument, List::new(alloc)))?;
             }
