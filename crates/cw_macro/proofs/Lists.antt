@@ -1,10 +1,10 @@
 -- Facts that hold of each item of a list, and arguments that stand behind others.
-use Rattle.std.proofs.Common.{Bool, ◌||◌, ◌≡◌, ℕ, zero, suc, ◌+◌, ◌<◌, ◌≤◌, List, [], ◌∷◌, ◌++◌, length, map, get_or, Option, Some, None, refl, sym, ap, subst, ◌∙◌, append_assoc, arith}
+use Rattle.std.proofs.Common.{Bool, ◌||◌, ◌≡◌, ℕ, zero, suc, ◌<◌, List, [], ◌∷◌, ◌++◌, length, map, get_or, Some, None, refl, sym, ap, subst, ◌∙◌, append_assoc, arith}
 use Rattle.std.specs.List.{flat_map, list_any}
 use Rattle.std.proofs.lemmas.List.{append-nil}
 use Rattle.cw_macro.specs.Premises.{Each}
 use Rattle.cw_macro.specs.declared.arguments.Bracket.{Bracket}
-use Rattle.cw_macro.specs.declared.arguments.Role.TheVariants.{Inside, Separates, Ends, Mismatched}
+use Rattle.cw_macro.specs.declared.arguments.Role.TheVariants.{Inside}
 use Rattle.cw_macro.specs.Expansion.{Leveled, Given, with_token, with_argument, given, role_of, innermost, open_behind, arguments}
 
 module _ {A : Type 0} (P : A → Type 0) where

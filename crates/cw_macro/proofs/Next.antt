@@ -1,10 +1,10 @@
 -- What a step keeps, and that it ends.
-use Rattle.std.proofs.Common.{◌≡◌, ℕ, zero, suc, ◌+◌, ◌-◌, ◌^◌, ◌<◌, ◌≤◌, ◌==◌, Bool, true, false, cond, not, ◌&&◌, List, [], ◌∷◌, ◌++◌, length, map, Option, Some, None, refl, sym, ap, subst, ◌∙◌, arith}
-use Rattle.std.specs.Prelude.{nat_lt, nat_le, max, IfSome}
+use Rattle.std.proofs.Common.{◌≡◌, ℕ, zero, suc, ◌+◌, ◌-◌, ◌^◌, ◌<◌, ◌≤◌, ◌==◌, Bool, true, false, cond, not, ◌&&◌, List, [], ◌∷◌, ◌++◌, length, Option, Some, None, refl, sym, ap, subst, arith}
+use Rattle.std.specs.Prelude.{nat_lt, nat_le, IfSome}
 use Rattle.std.specs.List.{flat_map, slice_get}
 use Rattle.std.specs.Option.{is_some, option_map_or}
 use Rattle.std.specs.Str.{bytes_eq}
-use Rattle.std.proofs.lemmas.List.{length-map, length-append}
+use Rattle.std.proofs.lemmas.List.{length-append}
 use Rattle.std.proofs.lemmas.Bool.{and_parts}
 use Rattle.std.proofs.lemmas.Bool.Decides.{nat_tests}
 use Rattle.cw_word.specs.Name.{IsName}
@@ -15,9 +15,8 @@ use Rattle.cw_lex.specs.Lexical.{Lexeme, is_semicolon}
 use Rattle.cw_macro.specs.declared.arguments.Bracket.{Bracket}
 use Rattle.cw_macro.specs.declared.arguments.Role.{Role}
 use Rattle.cw_macro.specs.declared.arguments.Role.TheVariants.{Inside, Separates, Ends, Mismatched}
-use Rattle.cw_macro.specs.declared.fault.MacroFault.TheVariants as faults
 use Rattle.cw_macro.specs.declared.fault.TheConstants.{MOST_LEVELS, MOST_TOKENS, MOST_REPLACED, MOST_BYTES}
-use Rattle.cw_macro.specs.Expansion.{Leveled, Part, Own, Parameter, Macro, Definitions, Expansion, Step, Finished, Refused, Moved, Defining, Heading, HasBody, Given, name_of, is_name, is_string, is_open, is_close, is_comma, number_of, parameters, parameters_if_any, closed, heading, part, part_if_any, role_of, innermost, open_behind, given, with_token, with_argument, arguments, counted, argument_list, tokens_of, replacement, brought, moving, defining, defined, removing, deleting, redefined, replacing, naming, step_at, step_in, expansion_step}
+use Rattle.cw_macro.specs.Expansion.{Leveled, Part, Own, Parameter, Macro, Definitions, Expansion, Step, Finished, Refused, Moved, Defining, Heading, HasBody, Given, name_of, is_name, is_string, is_open, is_close, is_comma, number_of, parameters, parameters_if_any, closed, heading, part, part_if_any, role_of, innermost, open_behind, given, arguments, counted, argument_list, tokens_of, replacement, brought, moving, defining, defined, removing, deleting, redefined, replacing, naming, step_at, step_in, expansion_step}
 use Rattle.cw_macro.specs.Premises.{Each, HasForm, IsWithin, IsPlaced, IsPartWithin, AreWithin, IsSound}
 use Rattle.cw_macro.specs.Views.{Follows, moves, defines}
 use Rattle.cw_macro.proofs.Lists.{each_append, each_map, each_flat_map}
@@ -55,10 +54,10 @@ parameters_rest names [] h = tt
 parameters_rest names (t ∷ []) h = tt
 parameters_rest names (t ∷ u ∷ ts) h =
     either (Rest (length (t ∷ u ∷ ts))) (is_name t.lexeme.kind && not (is_some (number_of (name_of t.lexeme) names)))
-      (λ e. either (Rest (length (t ∷ u ∷ ts))) (is_comma u.lexeme.kind)
-        (λ f. rest_within (length ts) (length (t ∷ u ∷ ts)) (parameters (names ++ name_of t.lexeme ∷ []) ts) (omega arith) (parameters_rest (names ++ name_of t.lexeme ∷ []) ts h.1.1))
-        (λ f. either (Rest (length (t ∷ u ∷ ts))) (is_close u.lexeme.kind) (λ g. (h.1.1, omega arith)) (λ g. tt)))
-      (λ e. tt)
+    (λ e. either (Rest (length (t ∷ u ∷ ts))) (is_comma u.lexeme.kind)
+    (λ f. rest_within (length ts) (length (t ∷ u ∷ ts)) (parameters (names ++ name_of t.lexeme ∷ []) ts) (omega arith) (parameters_rest (names ++ name_of t.lexeme ∷ []) ts h.1.1))
+    (λ f. either (Rest (length (t ∷ u ∷ ts))) (is_close u.lexeme.kind) (λ g. (h.1.1, omega arith)) (λ g. tt)))
+    (λ e. tt)
 
 parameters_if_any_rest : (ts : List Leveled) → Each IsPlaced ts → Rest (length ts) (parameters_if_any ts)
 parameters_if_any_rest [] h = (tt, omega arith)
@@ -81,15 +80,15 @@ closed_rest line n name i (Some (ps, [])) h = tt
 closed_rest line n name i (Some (ps, t ∷ [])) h = tt
 closed_rest line n name i (Some (ps, t ∷ u ∷ ts)) h =
     either (HeadingRest n line) (is_string t.lexeme.kind && is_semicolon u.lexeme.kind)
-      (λ e. record { name = i; string = (and_parts (is_string t.lexeme.kind) (is_semicolon u.lexeme.kind) e).0; within = h.0.0.within; string_line = h.0.0.line; placed = h.0.1.1; shorter = omega (arith, h.1) })
-      (λ e. tt)
+    (λ e. record { name = i; string = (and_parts (is_string t.lexeme.kind) (is_semicolon u.lexeme.kind) e).0; within = h.0.0.within; string_line = h.0.0.line; placed = h.0.1.1; shorter = omega (arith, h.1) })
+    (λ e. tt)
 
 pub heading_rest : (line : ℕ) (ts : List Leveled) → Each IsPlaced ts → HeadingRest (length ts) line (heading line ts)
 heading_rest line [] h = tt
 heading_rest line (t ∷ ts) h =
     either (HeadingRest (length (t ∷ ts)) line) (is_name t.lexeme.kind)
-      (λ e. closed_rest line (length (t ∷ ts)) (name_of t.lexeme) (name_form t.lexeme.text t.lexeme.kind e h.0.within.form) (parameters_if_any ts) (rest_within (length ts) (length (t ∷ ts)) (parameters_if_any ts) (omega arith) (parameters_if_any_rest ts h.1)))
-      (λ e. tt)
+    (λ e. closed_rest line (length (t ∷ ts)) (name_of t.lexeme) (name_form t.lexeme.text t.lexeme.kind e h.0.within.form) (parameters_if_any ts) (rest_within (length ts) (length (t ∷ ts)) (parameters_if_any ts) (omega arith) (parameters_if_any_rest ts h.1)))
+    (λ e. tt)
 
 -- ---- arguments
 
@@ -112,7 +111,7 @@ arguments_rest : (bs : List Bracket) (ts : List Leveled) → Each IsPlaced ts �
 arguments_rest bs [] h = tt
 arguments_rest bs (t ∷ ts) h =
     given_rest (role_of (innermost bs) t.lexeme.kind) (length (t ∷ ts)) t ts (arguments (open_behind t.lexeme.kind bs) ts) h.0 h.1 (omega arith)
-      (given_within (length ts) (length (t ∷ ts)) (arguments (open_behind t.lexeme.kind bs) ts) (omega arith) (arguments_rest (open_behind t.lexeme.kind bs) ts h.1))
+    (given_within (length ts) (length (t ∷ ts)) (arguments (open_behind t.lexeme.kind bs) ts) (omega arith) (arguments_rest (open_behind t.lexeme.kind bs) ts h.1))
 
 abbrev ListRest : ℕ → Option (List (List Leveled) × List Leveled) → Type 0
 ListRest n o = IfSome o (λ x. Each (Each IsPlaced) x.0 × Each IsPlaced x.1 × (length x.1 ≤ n))
@@ -207,17 +206,19 @@ replacing_next e t rest body None n b h = tt
 replacing_next e t rest body (Some x) n b h =
     let brings = replacement t body x.0 in
     either (Allows e) (nat_le (e.count + 1 + length brings) MOST_REPLACED)
-      (λ c. record {
-        sound = record { left = each_append IsPlaced brings x.1 (replacement_placed t body x.0 n.2 b h.0) h.1; definitions = n.4 };
-        less = less (length brings) (length x.1) (length (brings ++ x.1)) c (length-append brings x.1) h.2;
-        small = small (e.count + 1 + length brings) c;
-      })
-      (λ c. tt)
+    (λ c. record {
+      sound = record { left = each_append IsPlaced brings x.1 (replacement_placed t body x.0 n.2 b h.0) h.1; definitions = n.4 };
+      less = less (length brings) (length x.1) (length (brings ++ x.1)) c (length-append brings x.1) h.2;
+      small = small (e.count + 1 + length brings) c;
+    })
+    (λ c. tt)
   where
     within : (m : ℕ) → nat_le m MOST_REPLACED ≡ true → m ≤ MOST_REPLACED
     within m c = grind (arith, nat_tests, c)
+
     less : (m j s : ℕ) → nat_le (e.count + 1 + m) MOST_REPLACED ≡ true → s ≡ m + j → j ≤ length rest → MOST_REPLACED - (e.count + 1 + m) + s < work e
     less m j s c z l = omega (arith, within (e.count + 1 + m) c, z, l, ap length n.0)
+
     small : (m : ℕ) → nat_le m MOST_REPLACED ≡ true → m < 2 ^ 63
     small m c = omega (arith, within m c)
 

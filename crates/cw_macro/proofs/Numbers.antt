@@ -1,8 +1,8 @@
 -- The numbers of parameters.
-use Rattle.std.proofs.Common.{◌≡◌, ℕ, suc, ◌+◌, Bool, true, false, cond, not, List, [], ◌∷◌, ◌++◌, length, Option, Some, None, refl, sym, ap, subst, ◌∙◌, arith}
+use Rattle.std.proofs.Common.{◌≡◌, ℕ, suc, ◌+◌, Bool, true, false, cond, List, [], ◌∷◌, ◌++◌, length, Option, Some, None, refl, sym, ap, ◌∙◌, arith}
 use Rattle.std.specs.Option.{option_map, is_some, is_none}
 use Rattle.std.specs.Str.{bytes_eq}
-use Rattle.std.specs.BTreeMap.{BTreeMap, get, Updates, btree_map_len}
+use Rattle.std.specs.BTreeMap.{get, Updates, btree_map_len}
 use Rattle.std.specs.Cmp.Lexicographic.{texts_ties, bytes_decides, nat_list_eq_equiv}
 use Rattle.cw_macro.specs.declared.key.Key.{Key}
 use Rattle.cw_macro.specs.declared.definition.Parameters.{Parameters}
@@ -18,6 +18,7 @@ number_last_at false q name ps ih h = ap (option_map suc) (ih (inner (number_of 
     inner : (o : Option ℕ) → option_map suc o ≡ None → o ≡ None
     inner None e = refl
     inner (Some k) e = absurd cc
+
     over : (b : Bool) (n : ℕ) → option_map suc (cond b (Some n) None) ≡ cond b (Some (suc n)) None
     over true n = refl
     over false n = refl
@@ -46,6 +47,7 @@ with_last q name names fresh = at (bytes_eq name q) refl (number_of q names) ref
   where
     swap : bytes_eq q name ≡ bytes_eq name q
     swap = nat_list_eq_equiv.symm q name
+
     at : (b : Bool) → bytes_eq name q ≡ b → (o : Option ℕ) → number_of q names ≡ o → cond b (Some (length names)) o ≡ number_of q (names ++ name ∷ [])
     at true e o h =
         let same : name ≡ q = (bytes_decides name q).0 e in

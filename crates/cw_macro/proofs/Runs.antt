@@ -1,10 +1,9 @@
 -- Runs of steps.
-use Rattle.std.proofs.Common.{◌≡◌, ℕ, ◌+◌, ◌≤◌, List, [], ◌∷◌, false, arith, Result, Ok, Err, sym, ap, subst}
-use Rattle.cw_lex.specs.declared.token.Token.{Token}
+use Rattle.std.proofs.Common.{◌≡◌, List, [], false, arith, Result, Ok, Err, sym, ap, subst}
 use Rattle.cw_lex.specs.Lexical.{Lexeme}
 use Rattle.cw_macro.specs.declared.fault.MacroFault.{MacroFault}
 use Rattle.cw_macro.specs.declared.fault.MacroFault.TheVariants as faults
-use Rattle.cw_macro.specs.Expansion.{Leveled, Expansion, Step, step_in, expansion_step, Leads, finished, refused, moved, with_body, no_body, start, IsExpansion}
+use Rattle.cw_macro.specs.Expansion.{Expansion, step_in, expansion_step, Leads, finished, refused, moved, with_body, no_body, start, IsExpansion}
 use Rattle.cw_macro.specs.Premises.{AreOfText, IsSound}
 use Rattle.cw_macro.specs.Views.{Follows, moves, defines, Faults, refuses, lacks_body, IsFaultOf}
 use Rattle.cw_macro.proofs.Sound.{placed_tokens}

@@ -1,6 +1,6 @@
 -- What the tokens of a text keep: they lie in it, and names and strings have their form.
-use Rattle.std.proofs.Common.{◌≡◌, ℕ, zero, suc, ◌+◌, ◌-◌, ◌≤◌, ◌==◌, Result, Ok, Err, Bool, true, false, cond, ◌||◌, ◌&&◌, ◌⊎◌, inl, inr, List, [], ◌∷◌, ◌++◌, length, map, take, drop, refl, sym, ap, subst, ◌∙◌, arith}
-use Rattle.std.specs.Prelude.{nat_le, nat_lt, All}
+use Rattle.std.proofs.Common.{◌≡◌, ℕ, suc, ◌+◌, ◌-◌, ◌≤◌, ◌==◌, Result, Ok, Err, Bool, true, false, ◌⊎◌, inl, List, [], ◌∷◌, ◌++◌, length, map, take, drop, refl, subst, arith}
+use Rattle.std.specs.Prelude.{nat_le, All}
 use Rattle.std.specs.List.{list_all}
 use Rattle.std.specs.Char.{is_ascii_alphabetic, is_ascii_alphanumeric, to_ascii_uppercase}
 use Rattle.std.specs.Str.{str_to_ascii_uppercase}
@@ -18,7 +18,7 @@ use Rattle.cw_lex.specs.declared.token.LexFault.TheVariants as faults
 use Rattle.cw_lex.specs.declared.token.TokenKind.{TokenKind}
 use Rattle.cw_lex.specs.declared.token.TokenKind.TheVariants as kinds
 use Rattle.cw_lex.specs.Items.{IsItem, IsIdentifier, letter_first, IsText, between_quotes, IsBodyText, between_pairs, keeps_limit}
-use Rattle.cw_lex.specs.Lexical.{Lexeme, Place, view, Lexes, at_end, a_gap, a_token, line_behind, first_place, is_semicolon, Tokenizes, IsAnswer}
+use Rattle.cw_lex.specs.Lexical.{Lexeme, Place, view, Lexes, at_end, a_gap, a_token, first_place, is_semicolon, Tokenizes, IsAnswer}
 use Rattle.cw_macro.specs.declared.fault.TheConstants.{MOST_BYTES}
 use Rattle.cw_macro.specs.Expansion.{is_string, quote_length, body_place, body_text, of_text, HasNoBody, faulty}
 use Rattle.cw_macro.specs.Premises.{Each, HasForm, IsWithin, IsPlaced}
@@ -63,19 +63,21 @@ has_form form text k i h = tt
 pub within_tokens : (form : Form) (start : Place) (before rest : List ℕ) (after : Bool) (ts : List Lexeme) → Lexes form start before after rest ts → start.at + length before + length rest ≤ MOST_BYTES → Each IsWithin ts
 within_tokens form start before _ after _ at_end h = tt
 within_tokens form start before _ after ts (a_gap {gap = gap} {rest = rest} g d) h = within_tokens form start (before ++ gap) rest after ts d (omega (arith, h, length-append before gap, length-append gap rest))
-within_tokens form start before _ after _ (a_token {w = w} {rest = rest} {kind = kind} {ts = ts} l t k d) h =
-    (record { place = omega (arith, h, length-append w rest); form = has_form form w kind l.is_item k },
-     within_tokens form start (before ++ w) rest (is_semicolon kind) ts d (omega (arith, h, length-append before w, length-append w rest)))
+within_tokens form start before _ after _ (a_token {w = w} {rest = rest} {kind = kind} {ts = ts} l t k d) h = (
+  record { place = omega (arith, h, length-append w rest); form = has_form form w kind l.is_item k },
+  within_tokens form start (before ++ w) rest (is_semicolon kind) ts d (omega (arith, h, length-append before w, length-append w rest)),
+)
 
 pub placed_tokens : (before rest : List ℕ) (after : Bool) (ts : List Lexeme) → Lexes Source first_place before after rest ts → length before + length rest ≤ MOST_BYTES → Each IsPlaced (map of_text ts)
 placed_tokens before _ after _ at_end h = tt
 placed_tokens before _ after ts (a_gap {gap = gap} {rest = rest} g d) h = placed_tokens (before ++ gap) rest after ts d (omega (arith, h, length-append before gap, length-append gap rest))
-placed_tokens before _ after _ (a_token {w = w} {rest = rest} {kind = kind} {ts = ts} l t k d) h =
-    (record {
-       line = omega (arith, h, count_by-le-length (λ b. b == 10) before);
-       within = record { place = omega (arith, h, length-append w rest); form = has_form Source w kind l.is_item k };
-     },
-     placed_tokens (before ++ w) rest (is_semicolon kind) ts d (omega (arith, h, length-append before w, length-append w rest)))
+placed_tokens before _ after _ (a_token {w = w} {rest = rest} {kind = kind} {ts = ts} l t k d) h = (
+  record {
+    line = omega (arith, h, count_by-le-length (λ b. b == 10) before);
+    within = record { place = omega (arith, h, length-append w rest); form = has_form Source w kind l.is_item k };
+  },
+  placed_tokens (before ++ w) rest (is_semicolon kind) ts d (omega (arith, h, length-append before w, length-append w rest)),
+)
 
 pub quotes_fit : (text : List ℕ) (k : TokenKind) → is_string k ≡ true → HasForm text k → quote_length k + quote_length k ≤ length text
 quotes_fit text kinds.Text e h = h

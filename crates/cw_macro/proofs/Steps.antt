@@ -1,5 +1,5 @@
 -- The step of an expansion, case by case.
-use Rattle.std.proofs.Common.{◌≡◌, ℕ, zero, suc, ◌+◌, ◌<◌, ◌≤◌, Bool, true, false, cond, not, ◌&&◌, List, [], ◌∷◌, ◌++◌, length, map, take, Option, Some, None, refl, sym, ap, subst, ◌∙◌, arith}
+use Rattle.std.proofs.Common.{◌≡◌, ℕ, zero, suc, ◌+◌, ◌<◌, ◌≤◌, Bool, true, false, cond, ◌&&◌, List, [], ◌∷◌, ◌++◌, length, map, take, Option, Some, None, refl, sym, ap, subst, ◌∙◌, arith}
 use Rattle.std.specs.Prelude.{nat_lt, nat_le}
 use Rattle.std.specs.List.{flat_map}
 use Rattle.std.specs.Option.{is_some}
@@ -8,11 +8,11 @@ use Rattle.std.proofs.lemmas.Bool.Decides.{nat_tests}
 use Rattle.cw_lex.specs.declared.token.Word.TheVariants as words
 use Rattle.cw_lex.specs.declared.token.TokenKind.{TokenKind}
 use Rattle.cw_lex.specs.declared.token.TokenKind.TheVariants as kinds
-use Rattle.cw_lex.specs.Lexical.{Lexeme, is_semicolon}
+use Rattle.cw_lex.specs.Lexical.{is_semicolon}
 use Rattle.cw_macro.specs.declared.fault.MacroFault.{MacroFault}
 use Rattle.cw_macro.specs.declared.fault.MacroFault.TheVariants as faults
 use Rattle.cw_macro.specs.declared.fault.TheConstants.{MOST_LEVELS, MOST_TOKENS, MOST_REPLACED}
-use Rattle.cw_macro.specs.Expansion.{Leveled, Part, Macro, Expansion, Step, Finished, Refused, Moved, Defining, Heading, HasBody, HasNoBody, name_of, is_name, moving, defining, heading, removing, deleting, redefined, replacing, naming, argument_list, tokens_of, replacement, brought, step_at, step_in, expansion_step}
+use Rattle.cw_macro.specs.Expansion.{Leveled, Part, Macro, Expansion, Step, Refused, Moved, name_of, is_name, moving, removing, deleting, redefined, replacing, naming, argument_list, tokens_of, replacement, brought, step_at, step_in, expansion_step}
 use Rattle.cw_macro.specs.Views.{Follows, moves, defines, IsFaultOf}
 
 below_true : (a b : ℕ) → a < b → nat_lt a b ≡ true

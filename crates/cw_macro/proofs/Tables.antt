@@ -1,12 +1,12 @@
 -- The table of the definitions as a function of names.
-use Rattle.std.proofs.Common.{◌≡◌, ℕ, Bool, true, false, cond, List, Option, Some, None, refl, sym, ap, ◌∙◌}
+use Rattle.std.proofs.Common.{◌≡◌, ℕ, Bool, true, false, cond, List, Option, refl, sym, ap, ◌∙◌}
 use Rattle.std.specs.Option.{option_map}
 use Rattle.std.specs.Str.{bytes_eq}
 use Rattle.std.specs.BTreeMap.{BTreeMap, get, UpdatesBy}
 use Rattle.std.specs.Cmp.Lexicographic.{texts_ties}
 use Rattle.cw_macro.specs.declared.key.Key.{Key}
 use Rattle.cw_macro.specs.declared.definition.Macro.{Macro}
-use Rattle.cw_macro.specs.Expansion.{Macro as MacroOf, Definitions, redefined}
+use Rattle.cw_macro.specs.Expansion.{Definitions, redefined}
 use Rattle.cw_macro.specs.Views.{key, key_cmp, macro_view}
 
 pub same_table : (f g : Definitions) → ((name : List ℕ) → f name ≡ g name) → f ≡ g

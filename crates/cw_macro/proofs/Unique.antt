@@ -1,5 +1,5 @@
 -- Tokens have one outcome.
-use Rattle.std.proofs.Common.{◌≡◌, Bool, List, Result, Ok, Err, true, false, refl, sym, ap, subst, ◌∙◌}
+use Rattle.std.proofs.Common.{◌≡◌, List, Result, Ok, Err, false, refl, sym, ap, subst, ◌∙◌}
 use Rattle.std.specs.List.{list_any}
 use Rattle.cw_lex.specs.declared.token.Form.TheVariants.{MacroBody}
 use Rattle.cw_lex.specs.Lexical.{Lexeme, HasOneList, HasNotBoth}
@@ -73,9 +73,9 @@ module _ (one : HasOneList) (not_both : HasNotBoth) where
     | goes g x ↦ cc
     | reads {h = k} {rest = other} {body = c} g b' x ↦
         (let same = same_heading (expansion_step e) h k rest other p g in
-         let text : c ≡ body = same_body h k body c same.0 b b' in
-         let state : defined e k other c ≡ defined e h rest body = ap (λ (z : Heading). defined e z other c) same.0 ∙ ap (λ (z : List Leveled). defined e h z c) same.1 ∙ ap (λ (z : List Lexeme). defined e h rest z) text in
-         one_outcome d s (subst (λ (z : Expansion). Leads z s) state x))
+        let text : c ≡ body = same_body h k body c same.0 b b' in
+        let state : defined e k other c ≡ defined e h rest body = ap (λ (z : Heading). defined e z other c) same.0 ∙ ap (λ (z : List Leveled). defined e h z c) same.1 ∙ ap (λ (z : List Lexeme). defined e h rest z) text in
+        one_outcome d s (subst (λ (z : Expansion). Leads z s) state x))
     | lacks {h = k} {rest = other} g n q ↦ absurd (no_both h k body (same_heading (expansion_step e) h k rest other p g).0 b n)
   ]
   one_outcome {e} (no_body {h = h} {rest = rest} p n) s f = elim (begins f) [

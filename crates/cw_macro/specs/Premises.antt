@@ -7,7 +7,7 @@ use Rattle.cw_lex.specs.declared.token.TokenKind.TheVariants as kinds
 use Rattle.cw_lex.specs.Lexical.{Lexeme, Tokenizes, first_place}
 use Rattle.cw_word.specs.Name.{IsName}
 use Rattle.cw_macro.specs.declared.fault.TheConstants.{MOST_BYTES}
-use Rattle.cw_macro.specs.Expansion.{Leveled, Part, Own, Parameter, Macro, Definitions, Expansion}
+use Rattle.cw_macro.specs.Expansion.{Leveled, Part, Own, Parameter, Definitions, Expansion}
 
 abbrev pub Each : {A : Type 0} (P : A → Type 0) → List A → Type 0
 Each P [] = Unit {0}

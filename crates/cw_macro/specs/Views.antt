@@ -1,5 +1,5 @@
 -- What the code's values stand for.
-use Rattle.std.specs.Prelude.{◌≡◌, ℕ, Bool, true, false, Result, Ok, Err, List, [], ◌∷◌, length, map, reverse, Option, Some, None}
+use Rattle.std.specs.Prelude.{◌≡◌, ℕ, Result, Ok, Err, List, [], ◌∷◌, length, map, reverse, Option, Some, None}
 use Rattle.std.specs.Option.{option_map}
 use Rattle.std.specs.BTreeMap.{btree_map_len, get}
 use Rattle.std.specs.Ordering.{nat_cmp}
@@ -17,7 +17,7 @@ use Rattle.cw_macro.specs.declared.definition.Macro.{Macro}
 use Rattle.cw_macro.specs.declared.definition.Definitions.{Definitions}
 use Rattle.cw_macro.specs.declared.definition.Parameters.{Parameters}
 use Rattle.cw_macro.specs.declared.definition.Heading.{Heading as HeadingRead}
-use Rattle.cw_macro.specs.Expansion.{Leveled, Part, Own, Parameter, Macro as MacroOf, Definitions as Table, Heading, number_of, part, HasBody, HasNoBody, Given, Expansion, Step, Finished, Moved, Refused, Defining, defined, expansion_step}
+use Rattle.cw_macro.specs.Expansion.{Leveled, Part, Own, Parameter, Macro as MacroOf, Definitions as Table, Heading, number_of, part, HasBody, HasNoBody, Given, Expansion, Step, Moved, Refused, Defining, defined}
 use Rattle.cw_macro.specs.declared.fault.MacroFault.{MacroFault}
 use Rattle.cw_macro.specs.declared.fault.MacroFault.TheVariants as faults
 

@@ -8,7 +8,9 @@ ghost use Rattle.cw_macro.specs.Premises.{Each, IsPlaced, AreOfText};
 ghost use Rattle.cw_macro.specs.Views.{left_of, leveled, lists_of, part_of, macro_view, table_of, expansion_of, IsMade, IsCounted};
 
 use crate::arguments::read_argument_list;
-use crate::definition::{Definitions, Macro, Piece, is_name, is_semicolon, read_body, read_heading};
+use crate::definition::{
+    Definitions, Macro, Piece, is_name, is_semicolon, read_body, read_heading,
+};
 use crate::fault::{MOST_LEVELS, MOST_REPLACED, MOST_TOKENS, MacroFault};
 use crate::left::{Item, Left};
 use cw_lex::{Token, TokenKind, Word};
@@ -95,11 +97,7 @@ fn length_of(piece: Piece<'_>, arguments: &[List<Item<'_>>]) -> usize
 }
 
 // The count behind a replacement, within the limit.
-fn count_behind(
-    count: usize,
-    body: &[Piece<'_>],
-    arguments: &[List<Item<'_>>],
-) -> Option<usize>
+fn count_behind(count: usize, body: &[Piece<'_>], arguments: &[List<Item<'_>>]) -> Option<usize>
     requires { count < 2 ^ 63 }
     ensures { let count = count + 1 + length (flat_map (tokens_of (lists_of arguments.now)) (map part_of body.now)) in result ≡ (if nat_le count MOST_REPLACED then Some count else None) }
 {

@@ -1,4 +1,3 @@
-use Rattle.std.proofs.Common.{◌≡◌, ℕ, arith}
 use Rattle.cw_macro.specs.Premises.{IsWithin}
 use Rattle.cw_macro.proofs.Lists.{each_at_map}
 use Rattle.cw_lex.specs.Lexical.{view}

@@ -1,9 +1,9 @@
 -- The branches of a call are those of the definition.
-use Rattle.std.proofs.Common.{◌≡◌, ℕ, ◌+◌, ◌++◌, Option, Some, List, length, map, ap, sym, ◌∙◌}
+use Rattle.std.proofs.Common.{◌≡◌, ℕ, ◌+◌, ◌++◌, Option, List, length, map, ap, sym, ◌∙◌}
 use Rattle.std.specs.List.{flat_map}
 use Rattle.cw_macro.specs.declared.definition.Piece.{Piece}
 use Rattle.cw_macro.specs.declared.left.Item.{Item}
-use Rattle.cw_macro.specs.Expansion.{Expansion, Leveled, Moved, tokens_of, replacement}
+use Rattle.cw_macro.specs.Expansion.{Leveled, Moved, tokens_of, replacement}
 use Rattle.cw_macro.specs.Views.{leveled, left_of, lists_of, part_of, macro_view, moves, refuses}
 use Rattle.cw_macro.proofs.Steps.{deep_is, bad_is, long_is, replaced_is, counted_if}
 use Rattle.cw_macro.proofs.expansion.call.Goals as goal

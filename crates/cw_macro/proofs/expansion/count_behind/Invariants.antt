@@ -1,4 +1,4 @@
-use Rattle.std.proofs.Common.{◌≡◌, ◌+◌, ◌<◌, ◌≤◌, ◌^◌, length, map, take}
+use Rattle.std.proofs.Common.{◌≡◌, ◌+◌, length, map, take}
 use Rattle.std.specs.List.{flat_map}
 use Rattle.cw_macro.specs.Expansion.{tokens_of}
 use Rattle.cw_macro.specs.Views.{lists_of, part_of}

@@ -1,5 +1,5 @@
 -- Each step goes on from those before it.
-use Rattle.std.proofs.Common.{◌≡◌, ◌+◌, ◌<◌, ◌^◌, List, Result, Ok, Err, length, map, refl, sym, ap, subst, ◌∙◌, arith}
+use Rattle.std.proofs.Common.{◌≡◌, List, Result, Ok, Err, map, refl, sym, ap, subst, arith}
 use Rattle.std.proofs.lemmas.List.{length-map}
 use Rattle.std.specs.Result.{IsErr, IsErrAnd}
 use Rattle.cw_lex.specs.declared.token.Token.{Token}
@@ -7,7 +7,7 @@ use Rattle.cw_lex.specs.Lexical.{Lexeme, view}
 use Rattle.cw_macro.specs.declared.fault.MacroFault.{MacroFault}
 use Rattle.cw_macro.specs.Expansion.{Expansion, IsExpansion}
 use Rattle.cw_macro.specs.Premises.{IsSound}
-use Rattle.cw_macro.specs.Views.{Follows, expansion_of, left_of, leveled, IsFaultOf}
+use Rattle.cw_macro.specs.Views.{expansion_of, left_of, leveled}
 use Rattle.cw_macro.proofs.Steps.{follows_in, faults_in}
 use Rattle.cw_macro.proofs.Next.{next_is}
 use Rattle.cw_macro.proofs.Runs.{Goes, goes_on, fails_at, ends, start_sound}
@@ -45,7 +45,7 @@ returns-in_err-step c =
     let e = expansion_of c.steps.expansion in
     let fault = faults_in e c.in_err-step.field-0.0 (leveled c.in-Some.item) (left_of c.take.new.self) c.in-Some.item.token.kind c.in-Some.ensures refl c.in_err-step.ensures in
     told (map view c.args.tokens.now) c.from_residual-in_err-step.result c.in_err-step.field-0.0 c.from_residual-in_err-step.ensures.0 c.from_residual-in_err-step.ensures.1
-      (fails_at (map view c.args.tokens.now) e c.in_err-step.field-0.0 c.steps.invariant.leads fault)
+    (fails_at (map view c.args.tokens.now) e c.in_err-step.field-0.0 c.steps.invariant.leads fault)
 
 pub returns : goal.returns
 returns c = ends (map view c.args.tokens.now) (expansion_of c.steps.expansion) c.steps.invariant.leads c.in_default.ensures

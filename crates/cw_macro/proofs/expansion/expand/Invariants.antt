@@ -1,8 +1,7 @@
 -- The step at hand goes on from those before it.
-use Rattle.std.proofs.Common.{◌≡◌, ◌+◌, ◌-◌, ◌^◌, ◌<◌, List, Result, length, map}
+use Rattle.std.proofs.Common.{◌^◌, ◌<◌, List, Result, map}
 use Rattle.cw_lex.specs.Lexical.{Lexeme, view}
 use Rattle.cw_macro.specs.declared.fault.MacroFault.{MacroFault}
-use Rattle.cw_macro.specs.declared.fault.TheConstants.{MOST_REPLACED}
 use Rattle.cw_macro.specs.Expansion.{Leads, start}
 use Rattle.cw_macro.specs.Premises.{IsSound}
 use Rattle.cw_macro.specs.Views.{expansion_of}

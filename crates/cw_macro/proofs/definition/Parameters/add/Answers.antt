@@ -1,4 +1,4 @@
-use Rattle.std.proofs.Common.{◌≡◌, sym, ◌∙◌, ap, subst, Option, Some, None, true, ℕ, rules}
+use Rattle.std.proofs.Common.{◌≡◌, sym, ◌∙◌, subst, Some, true, ℕ, rules}
 use Rattle.std.specs.Option.{is_none}
 use Rattle.std.specs.BTreeMap.{Updates}
 use Rattle.cw_macro.specs.Views.{key_cmp}
@@ -11,4 +11,4 @@ returns-in-Ok-clause-added c names h fresh =
     let none = size_added c.in-Ok.earlier _ _ e c.in-Ok.ensures.len in
     let P : ℕ → Type 0 = λ n. Updates key_cmp c.args.self.now.numbers c.insert.new.self c.key_of.result (Some n) in
     numbering_added c.args.self.now (record { numbers = c.insert.new.self }) c.key_of.result _ names c.key_of.ensures h
-      (subst P c.len-number.ensures.len c.in-Ok.ensures.updates) (sym c.in-Ok.ensures.old ∙ none.0) none.1
+    (subst P c.len-number.ensures.len c.in-Ok.ensures.updates) (sym c.in-Ok.ensures.old ∙ none.0) none.1

@@ -1,12 +1,12 @@
 -- A definition is read as the definition of its step says.
-use Rattle.std.proofs.Common.{◌≡◌, ℕ, List, length, map, Option, Some, subst, ap, refl, ◌∙◌}
+use Rattle.std.proofs.Common.{ℕ, List, length, map, Option, Some, subst, ap, refl, ◌∙◌}
 use Rattle.std.specs.Prelude.{IfSome}
 use Rattle.std.specs.Str.{str_to_ascii_uppercase}
-use Rattle.cw_lex.specs.Lexical.{Lexeme, view}
+use Rattle.cw_lex.specs.Lexical.{view}
 use Rattle.cw_macro.specs.declared.definition.Heading.{Heading as HeadingRead}
-use Rattle.cw_macro.specs.Expansion.{Leveled, Heading, Expansion, Macro, Definitions, Part, Defining, defining, heading, part, redefined}
+use Rattle.cw_macro.specs.Expansion.{Leveled, Heading, Macro, Definitions, Part, defining, heading, redefined}
 use Rattle.cw_macro.specs.Premises.{Each, IsPlaced}
-use Rattle.cw_macro.specs.Views.{HasHeading, left_of, expansion_of, table_of, part_of, refuses, lacks_body, defines}
+use Rattle.cw_macro.specs.Views.{HasHeading, left_of, expansion_of, part_of, refuses, lacks_body, defines}
 use Rattle.cw_macro.proofs.Next.{IsRead, heading_rest}
 use Rattle.cw_macro.proofs.expansion.Expansion.define.Goals as goal
 
@@ -48,4 +48,4 @@ returns c =
     let sizes = ap (λ (n : ℕ). made (record { parameters = n; body = map part_of c.in-Some-2.body })) (c.len-parameters.ensures x.names x.numbering) in
     let parts = ap (λ (ps : List Part). made (record { parameters = length x.names; body = ps })) body.2 in
     defines (ap (defining c.args.line) (x.is c.args.line)) body.1
-      (ap (λ (d : Definitions). record e { definitions = d; left = left_of c.read_heading.new.left }) (c.in_ok-define.ensures ∙ sizes ∙ parts))
+    (ap (λ (d : Definitions). record e { definitions = d; left = left_of c.read_heading.new.left }) (c.in_ok-define.ensures ∙ sizes ∙ parts))

@@ -1,4 +1,4 @@
-use Rattle.std.proofs.Common.{Bool, ◌&&◌, List, None, ap, ap₂, sym, ◌∙◌}
+use Rattle.std.proofs.Common.{Bool, ◌&&◌, ap, ap₂, sym, ◌∙◌}
 use Rattle.cw_macro.specs.Expansion.{Definitions, Moved}
 use Rattle.cw_macro.specs.Views.{leveled, left_of, expansion_of, moves}
 use Rattle.cw_macro.proofs.Steps.{deleted_is}

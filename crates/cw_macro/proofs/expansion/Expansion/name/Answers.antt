@@ -1,6 +1,6 @@
 use Rattle.std.proofs.Common.{Option, refl, subst}
 use Rattle.cw_macro.specs.Expansion.{Macro, naming}
-use Rattle.cw_macro.specs.Views.{IsFaultOf, expansion_of, left_of, leveled}
+use Rattle.cw_macro.specs.Views.{IsFaultOf, expansion_of, leveled}
 use Rattle.cw_macro.proofs.expansion.Expansion.name.Goals as goal
 
 pub returns-in-Err : goal.returns-in-Err
