@@ -1,13 +1,1 @@
-pub mod Lexing
-pub mod Numbers
-pub mod Sums
-pub mod Pieces
-pub mod Begins
-pub mod Optional
-pub mod Walk
-pub mod Readings
-pub mod Singles
-pub mod Buildable
-pub mod WellFormed
-pub mod Shallow
-pub mod Ending
+pub mod Stub

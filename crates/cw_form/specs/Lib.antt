@@ -1,3 +1,1 @@
-pub mod Items
 pub mod Segment
-pub mod Trees

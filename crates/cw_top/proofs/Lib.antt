@@ -1,12 +1,9 @@
 pub mod Said
-pub mod Closing
 pub mod Lines
 pub mod Singles
 pub mod Shown
 pub mod Built
 pub mod Causes
 pub mod Texts
-pub mod FewOrders
-pub mod Sizes
 pub mod Loaded
 pub mod Meant

@@ -33,21 +33,21 @@ use Rattle.cw_tmpl.specs.Pieces.{Filling, blanks, relocations, filled, fill}
 use Rattle.cw_tmpl.specs.Library.{routines, library_bytes, library_entry, entry_place}
 use Rattle.cw_tmpl.specs.ReferenceCode.{pieces_of, orders_code}
 use Rattle.cw_tmpl.specs.Placing.{Fills, AreCodes, no_code, a_code, IsImage, BeginsWith}
+use Rattle.cw_lex.specs.Lexical.{Lexeme}
 use Rattle.cw_form.specs.Segment.{unit_of}
 use Rattle.cw_sim.specs.Preservation.{IsLoaded}
 use Rattle.cw_top.specs.ReferenceImage.{code_start, entry_or_zero, word_value, linked_code}
-use Rattle.cw_top.specs.Correct.{default_limits, addresses_of, image_of}
+use Rattle.cw_top.specs.Correct.{default_limits, addresses_of, image_of, Links}
 use Rattle.cw_top.specs.Meaning.{program}
 
 -- the laws that this stands on
 pub record Given : Type 0 where
-  pub items : (text : List ℕ) (u : SourceUnit) → unit_of text ≡ Some u → All IsOwnSingle u.items
-  pub few : (text : List ℕ) (u : SourceUnit) → unit_of text ≡ Some u → length u.items ≤ 100
-  pub no_procedures : (text : List ℕ) (u : SourceUnit) → unit_of text ≡ Some u → u.procs ≡ []
-  pub built : (text : List ℕ) (u : SourceUnit) → unit_of text ≡ Some u → AllBuilt (u ∷ [])
-  pub well_formed : (text : List ℕ) (u : SourceUnit) (limits : Limits) → unit_of text ≡ Some u → WellFormed (program_of (u ∷ []) limits)
-  pub shallow : (text : List ℕ) (u : SourceUnit) → unit_of text ≡ Some u → body_depth u.body ≤ 2
-  pub fits : (text : List ℕ) (u : SourceUnit) → unit_of text ≡ Some u → length (image_of u) ≤ 65536
+  pub items : (tokens : List Lexeme) (u : SourceUnit) → unit_of tokens ≡ Some u → All IsOwnSingle u.items
+  pub few : (tokens : List Lexeme) (u : SourceUnit) → unit_of tokens ≡ Some u → length u.items ≤ 65535
+  pub no_procedures : (tokens : List Lexeme) (u : SourceUnit) → unit_of tokens ≡ Some u → u.procs ≡ []
+  pub built : (tokens : List Lexeme) (u : SourceUnit) → unit_of tokens ≡ Some u → AllBuilt (u ∷ [])
+  pub well_formed : (tokens : List Lexeme) (u : SourceUnit) (limits : Limits) → unit_of tokens ≡ Some u → WellFormed (program_of (u ∷ []) limits)
+  pub shallow : (tokens : List Lexeme) (u : SourceUnit) → unit_of tokens ≡ Some u → body_depth u.body ≤ 3
   pub layout : (u : SourceUnit) → All IsOwnSingle u.items → layout_of u ≡ own_layout (length u.items) (length u.procs)
   pub storage : (u : SourceUnit) → All IsOwnSingle u.items → storage_map (u ∷ []) ≡ own_map (length u.items)
   pub memory : (u : SourceUnit) (m : Map) (area : ℕ) → All IsOwnSingle u.items → initial_memory (u ∷ []) m area ≡ replicate area (pos 0)
@@ -62,19 +62,19 @@ words_held [] = refl
 words_held (Word z ∷ xs) = ap (λ n. 1 + n) (words_held xs)
 words_held (Held c ∷ xs) = ap (λ n. 2 + n) (words_held xs)
 
-no_procedure : (procs : List Proc) (q : ℕ) → procs ≡ [] → depth_of_procedure (slice_get procs q) ≤ 2
-no_procedure procs q e = subst (λ ps. depth_of_procedure (slice_get ps q) ≤ 2) (sym e) (let l : 0 ≤ 2 = omega arith in l)
+no_procedure : (procs : List Proc) (q : ℕ) → procs ≡ [] → depth_of_procedure (slice_get procs q) ≤ 3
+no_procedure procs q e = subst (λ ps. depth_of_procedure (slice_get ps q) ≤ 3) (sym e) (let l : 0 ≤ 3 = omega arith in l)
 
 -- the depth of any body of the one unit
-unit_depth : (u : SourceUnit) (s : ℕ) → body_depth u.body ≤ 2 → depth_of_unit (slice_get (u ∷ []) s) ≤ 2
+unit_depth : (u : SourceUnit) (s : ℕ) → body_depth u.body ≤ 3 → depth_of_unit (slice_get (u ∷ []) s) ≤ 3
 unit_depth u zero h = h
-unit_depth u (suc s) h = let l : 0 ≤ 2 = omega arith in l
+unit_depth u (suc s) h = let l : 0 ≤ 3 = omega arith in l
 
-procedure_depth : (u : SourceUnit) (g q : ℕ) → u.procs ≡ [] → depth_of_procedure (procedure_in (slice_get (u ∷ []) g) q) ≤ 2
+procedure_depth : (u : SourceUnit) (g q : ℕ) → u.procs ≡ [] → depth_of_procedure (procedure_in (slice_get (u ∷ []) g) q) ≤ 3
 procedure_depth u zero q none = no_procedure u.procs q none
-procedure_depth u (suc g) q none = let l : 0 ≤ 2 = omega arith in l
+procedure_depth u (suc g) q none = let l : 0 ≤ 3 = omega arith in l
 
-depth_small : (u : SourceUnit) (limits : Limits) (c : Configuration) → u.procs ≡ [] → body_depth u.body ≤ 2 → depth_in (program_of (u ∷ []) limits) c ≤ 2
+depth_small : (u : SourceUnit) (limits : Limits) (c : Configuration) → u.procs ≡ [] → body_depth u.body ≤ 3 → depth_in (program_of (u ∷ []) limits) c ≤ 3
 depth_small u limits (at s k [] w e) none h = unit_depth u s h
 depth_small u limits (at s k (a ∷ acts) w e) none h = procedure_depth u a.segment a.procedure none
 
@@ -108,7 +108,7 @@ base_gone base n e = omega arith
 abbrev place_in : (homes : List (ℕ × ℕ)) (addresses : List ℕ) (item : ℕ) → ℕ
 place_in homes addresses item = slice_index addresses (home_in homes item).0 + (home_in homes item).1
 
-place_small : (n item : ℕ) → n ≤ 100 → place_in (own_homes (numbers_from 0 n)) (numbers_from 0 n) item < 16384
+place_small : (n item : ℕ) → n ≤ 12288 → place_in (own_homes (numbers_from 0 n)) (numbers_from 0 n) item < 16384
 place_small n item few =
     let home = home_in (own_homes (numbers_from 0 n)) item in
     omega (arith, few, numbers_below 0 n home.0, at_start (numbers_from 0 n) item)
@@ -136,12 +136,12 @@ zero_at (suc n) (suc k) = zero_at n k
 entry_filled : (k : ℕ) → k < length routines → entry_or_zero (library_entry k) ≡ entry_place k
 entry_filled k lt = ap (λ b. entry_or_zero (cond b (Some (entry_place k)) None)) (let t : nat_lt k (length routines) ≡ true = grind (arith, nat_tests) in t)
 
-module _ (given : Given) (text : List ℕ) (u : SourceUnit) (is : unit_of text ≡ Some u) where
+module _ (given : Given) (tokens : List Lexeme) (u : SourceUnit) (is : unit_of tokens ≡ Some u) (links : Links u) where
   abbrev m : Map
   m = storage_map (u ∷ [])
 
   own : All IsOwnSingle u.items
-  own = given.items text u is
+  own = given.items tokens u is
 
   layout_is : layout_of u ≡ own_layout (length u.items) (length u.procs)
   layout_is = given.layout u own
@@ -152,10 +152,16 @@ module _ (given : Given) (text : List ℕ) (u : SourceUnit) (is : unit_of text �
   no_more : (g : ℕ) → slice_index_or m.homes (suc g) [] ≡ []
   no_more g = ap (λ x. slice_index_or x.homes (suc g) []) (given.storage u own)
 
+  -- the items end before the frame area
+  few_words : length u.items ≤ 12288
+  few_words =
+      let end : (storage_map (u ∷ [])).end ≡ length u.items = ap (λ m. m.end) (given.storage u own) in
+      omega (arith, links.words, end)
+
   addresses_small : (g item : ℕ) → item_address (program u) g item 0 < 16384
   addresses_small zero item =
       let e = item_place (program u) 0 item _ _ layout_is addresses_are in
-      subst (λ n. n < 16384) (sym e) (place_small (length u.items) item (given.few text u is))
+      subst (λ n. n < 16384) (sym e) (place_small (length u.items) item few_words)
   addresses_small (suc g) item =
       let e = item_place (program u) (suc g) item no_layout [] refl (no_more g) in
       subst (λ n. n < 16384) (sym e) (let l : 0 < 16384 = omega arith in l)
@@ -166,7 +172,7 @@ module _ (given : Given) (text : List ℕ) (u : SourceUnit) (is : unit_of text �
   has_room : (n : ℕ) → operand_words (words_of (configuration_after (program u) [] n)).operands ≤ 32000
   has_room n =
       let c = configuration_after (program u) [] n in
-      omega (arith, words_held (words_of c).operands, given.within_depth (program u) [] n (given.well_formed text u default_limits is), depth_small u default_limits c (given.no_procedures text u is) (given.shallow text u is))
+      omega (arith, words_held (words_of c).operands, given.within_depth (program u) [] n (given.well_formed tokens u default_limits is), depth_small u default_limits c (given.no_procedures tokens u is) (given.shallow tokens u is))
 
   suits : Suits (u ∷ []) m default_limits 32000 []
   suits = record {
@@ -207,7 +213,7 @@ module _ (given : Given) (text : List ℕ) (u : SourceUnit) (is : unit_of text �
     codes = filled value (length library_bytes) (pieces_of (orders_for u)) ++ [];
     is = image_is;
     coded = a_code value fills no_code;
-    fits = given.fits text u is;
+    fits = links.code;
     few = (let l : 1 ≤ 255 = omega arith in l);
   }
 
@@ -224,9 +230,9 @@ module _ (given : Given) (text : List ℕ) (u : SourceUnit) (is : unit_of text �
   loaded s start = record {
     room = 32000;
     within = (let l : 32000 ≤ 32000 = omega arith in l);
-    built = given.built text u is;
+    built = given.built tokens u is;
     suits = suits;
-    never_stuck = λ n. given.never_stuck (program u) [] n (given.well_formed text u default_limits is);
+    never_stuck = λ n. given.never_stuck (program u) [] n (given.well_formed tokens u default_limits is);
     image = image_of u;
     words = [];
     is_image = is_image;

@@ -1,9 +1,15 @@
 -- The number of each status, and the line that closes what is told of a run.
 use Rattle.std.specs.Prelude.{ℕ, ◌+◌, ◌==◌, List, [], ◌++◌, Option, None, Some, slice_index_or, codes, decimal, if◌then◌else◌}
 use Rattle.cw_top.specs.declared.status.Status.{Status}
-use Rattle.cw_top.specs.declared.status.Status.TheVariants.{Ended, Usage, Refused, Stopped, Unfinished, NoFile, Outside, NoMemory, TooLong, BadCode, Divided}
+use Rattle.cw_top.specs.declared.status.Status.TheVariants.{Ended, Usage, Refused, Unlinked, Stopped, Unfinished, NoFile, Outside, NoMemory, TooLong, BadCode, Divided}
 use Rattle.cw_top.specs.declared.status.Refused.{Refused as Refusal}
-use Rattle.cw_top.specs.declared.status.Refused.TheVariants.{NotBuilt}
+use Rattle.cw_top.specs.declared.status.Refused.TheVariants.{Lex, Macro, NotBuilt}
+use Rattle.cw_top.specs.declared.status.LinkFault.{LinkFault}
+use Rattle.cw_top.specs.declared.status.LinkFault.TheVariants.{DataTooBig, CodeTooBig}
+use Rattle.cw_lex.specs.declared.token.LexFault.{LexFault}
+use Rattle.cw_lex.specs.declared.token.LexFault.TheVariants as lexical
+use Rattle.cw_macro.specs.declared.fault.MacroFault.{MacroFault}
+use Rattle.cw_macro.specs.declared.fault.MacroFault.TheVariants as expansion
 use Rattle.cw_top.specs.declared.status.Which.{Which}
 use Rattle.cw_top.specs.declared.status.Which.TheVariants.{Store, Out, Say}
 use Rattle.cw_top.specs.declared.status.Long.{Long}
@@ -13,6 +19,7 @@ abbrev pub status_code : Status → ℕ
 status_code Ended = 0
 status_code Usage = 1
 status_code (Refused file fault) = 2
+status_code (Unlinked fault) = 3
 status_code (Stopped kind segment line) = 4
 status_code (Unfinished steps) = 5
 status_code (NoFile file) = 6
@@ -50,8 +57,35 @@ name_or_number (Some name) number = name
 abbrev pub segment_name : Option (List ℕ) → ℕ → Option (List ℕ)
 segment_name segment number = if number == 1 then segment else None
 
+-- a fault with its line: its code and its name
+abbrev pub fault_line : ℕ → List ℕ → List ℕ
+fault_line line name = codes ":" ++ decimal line ++ codes ": " ++ name ++ codes "\n"
+
+abbrev pub lexical_line : LexFault → List ℕ
+lexical_line (lexical.BadChar line) = fault_line line (codes "L1 BadChar")
+lexical_line (lexical.OpenString line) = fault_line line (codes "L2 OpenString")
+lexical_line (lexical.BadNumber line) = fault_line line (codes "L3 BadNumber")
+lexical_line (lexical.LongName line) = fault_line line (codes "L4 LongName")
+lexical_line (lexical.OpenComment line) = fault_line line (codes "L5 OpenComment")
+lexical_line lexical.NoMemory = fault_line 0 (codes "NoMemory")
+
+abbrev pub expansion_line : MacroFault → List ℕ
+expansion_line (expansion.BadDefine line) = fault_line line (codes "M1 BadDefine")
+expansion_line (expansion.BadCall line) = fault_line line (codes "M2 BadCall")
+expansion_line (expansion.TooDeep line) = fault_line line (codes "M3 TooDeep")
+expansion_line (expansion.TooLong line) = fault_line line (codes "M4 TooLong")
+expansion_line (expansion.NoSuchMacro line) = fault_line line (codes "M5 NoSuchMacro")
+expansion_line expansion.NoMemory = fault_line 0 (codes "NoMemory")
+
+-- behind the name of the file
 abbrev pub refusal_line : Refusal → List ℕ
+refusal_line (Lex fault) = lexical_line fault
+refusal_line (Macro fault) = expansion_line fault
 refusal_line NotBuilt = codes ": NotBuilt\n"
+
+abbrev pub link_line : LinkFault → List ℕ
+link_line (DataTooBig need) = codes "link: P1 DataTooBig " ++ decimal need ++ codes "\n"
+link_line (CodeTooBig bytes) = codes "link: P4 CodeTooBig " ++ decimal bytes ++ codes "\n"
 
 abbrev pub long_name : List (List ℕ) → Long → List ℕ
 long_name words (File file) = file_name words file
@@ -61,6 +95,7 @@ abbrev pub closing_line : List (List ℕ) → Option (List ℕ) → Status → L
 closing_line words segment Ended = []
 closing_line words segment Usage = codes "usage: coral66 [--data N] [--frames N] [--depth N] [--steps N] ACTION WORD...\n"
 closing_line words segment (Refused file fault) = file_name words file ++ refusal_line fault
+closing_line words segment (Unlinked fault) = link_line fault
 closing_line words segment (Stopped kind number line) =
     codes "stopped: " ++ name_or_number (stop_name kind) kind ++ codes " " ++ name_or_number (segment_name segment number) number ++ codes " " ++ decimal line ++ codes "\n"
 closing_line words segment (Unfinished steps) = codes "unfinished: " ++ decimal steps ++ codes "\n"

@@ -1,14 +1,16 @@
 -- What the command promises of the meaning of a text.
-use Rattle.std.specs.Prelude.{◌≡◌, ℕ, ◌≤◌, List, [], ◌∷◌, Some}
+use Rattle.std.specs.Prelude.{◌≡◌, ◌≢◌, ℕ, ◌+◌, ◌*◌, ◌≤◌, List, [], ◌∷◌, Some}
 use Rattle.cw_io.specs.Bytes.{after_told}
 use Rattle.cw_io.specs.Count.{Rose}
 use Rattle.cw_io.specs.File.{Told}
 use Rattle.cw_i86.specs.MachineRun as run
 use Rattle.cw_unit.specs.declared.unit.Unit.{Unit as SourceUnit}
 use Rattle.cw_unit.specs.Program.{Program, program_of}
+use Rattle.cw_unit.specs.Stop.{Running}
+use Rattle.cw_unit.specs.Behaviour.{observed}
+use Rattle.cw_track.specs.Tracking.{step_ratio}
 use Rattle.cw_sim.specs.Preservation.{Preserves}
-use Rattle.cw_form.specs.Segment.{unit_of}
-use Rattle.cw_top.specs.Correct.{IsCommand, default_limits, run_steps, Compiles, ImageShows, Tells, Outer}
+use Rattle.cw_top.specs.Correct.{IsCommand, default_limits, Compiles, Links, ImageShows, Tells, Outer}
 use Rattle.cw_top.specs.declared.status.Status.{Status}
 use Rattle.cw_top.specs.declared.status.Status.TheVariants.{Ended, Stopped, Unfinished, Outside, NoMemory, BadCode, Divided}
 use Rattle.cw_top.specs.declared.status.Which.TheVariants.{Out}
@@ -32,14 +34,14 @@ abbrev pub AnyEnd : run.End → Type 0
 AnyEnd end = Unit {0}
 
 -- What was output and told is what the source means. No run meets bad code or a division that faults, and as yet Overflow is the one stop.
-abbrev pub PreservesMeaning : (file : Told) → (before after : Outer) → Status → Type 0
-PreservesMeaning file before after Ended = IsMeant file before after run_steps (Tells Ended)
-PreservesMeaning file before after (Stopped kind segment line) = IsMeant file before after run_steps (Tells (Stopped kind segment line)) × (kind ≡ 1)
-PreservesMeaning file before after (Unfinished steps) = IsMeant file before after run_steps (Tells (Unfinished steps))
-PreservesMeaning file before after (Outside Out) = (instructions : ℕ) × (instructions ≤ run_steps) × IsMeant file before after instructions AnyEnd
-PreservesMeaning file before after (BadCode offset) = ⊥
-PreservesMeaning file before after (Divided offset) = ⊥
-PreservesMeaning file before after status = Unit {0}
+abbrev pub PreservesMeaning : (file : Told) → (steps : ℕ) → (before after : Outer) → Status → Type 0
+PreservesMeaning file steps before after Ended = IsMeant file before after steps (Tells steps Ended)
+PreservesMeaning file steps before after (Stopped kind segment line) = IsMeant file before after steps (Tells steps (Stopped kind segment line)) × (kind ≡ 1)
+PreservesMeaning file steps before after (Unfinished ran) = IsMeant file before after steps (Tells steps (Unfinished ran))
+PreservesMeaning file steps before after (Outside Out) = (instructions : ℕ) × (instructions ≤ steps) × IsMeant file before after instructions AnyEnd
+PreservesMeaning file steps before after (BadCode offset) = ⊥
+PreservesMeaning file steps before after (Divided offset) = ⊥
+PreservesMeaning file steps before after status = Unit {0}
 
 -- ---- completeness
 
@@ -57,8 +59,9 @@ IsEnd (Stopped kind segment line) = Unit {0}
 IsEnd NoMemory = Unit {0}
 IsEnd status = ⊥
 
--- A text of the form, in a store that has it, ends or stops as its meaning does, where nothing outside fails and memory is found. And no
--- run is unfinished.
-pub record CompletesRuns (words : List (List ℕ)) (file : Told) (before after : Outer) (status : Status) : Type 0 where
-  pub ends : (text : List ℕ) (u : SourceUnit) → IsCommand words → file ≡ Some (Some text) → Compiles file u → NoFault before after → IsEnd status
-  pub finishes : (steps : ℕ) → status ≡ Unfinished steps → ⊥
+-- A text that compiles and links, in a store that has it, ends or stops as its meaning does, where that has ended or stopped after so many
+-- steps that 256 instructions for each and one more are within those of the run, nothing outside fails, and memory is found.
+abbrev pub CompletesRuns : (words : List (List ℕ)) → (file : Told) → (steps : ℕ) → (before after : Outer) → Status → Type 0
+CompletesRuns words file steps before after status =
+    (text : List ℕ) (u : SourceUnit) (m : ℕ) → IsCommand words → file ≡ Some (Some text) → Compiles file u → Links u → NoFault before after
+    → step_ratio * (m + 1) ≤ steps → (observed (program u) [] m).end ≢ Running → IsEnd status

@@ -3,7 +3,7 @@ ghost use Rattle.std.specs.Prelude.{◌≡◌, ◌≤◌, ◌<◌, [], length, I
 ghost use Rattle.std.specs.List.{All};
 ghost use Rattle.cw_unit.specs.OwnSingles.{IsOwnSingle};
 ghost use Rattle.cw_unit.specs.Storage.{layout_of};
-ghost use Rattle.cw_top.specs.Correct.{default_limits, addresses_of, image_of};
+ghost use Rattle.cw_top.specs.Correct.{default_limits, addresses_of, need_of, image_of};
 
 use crate::image::link;
 use crate::storage::{own_addresses, own_layout};
@@ -37,7 +37,7 @@ pub(crate) fn default_limits() -> Limits
 /// Generates, assembles and links the code of a unit.
 pub(crate) fn build(alloc: Global, unit: &Unit) -> Result<Built, NoMemory>
     requires own { All IsOwnSingle unit.now.items }
-    requires few { length unit.now.items ≤ 100 }
+    requires few { length unit.now.items ≤ 65535 }
     requires no_procedures { unit.now.procs ≡ [] }
     ensures layout { IfOk result (λ built. built.layout ≡ layout_of unit.now) }
     ensures addresses { IfOk result (λ built. built.addresses ≡ addresses_of unit.now) }
@@ -56,4 +56,14 @@ pub(crate) fn build(alloc: Global, unit: &Unit) -> Result<Built, NoMemory>
         addresses,
         code,
     })
+}
+
+/// The words that the items of a unit and the frame area need.
+pub(crate) fn need_of(unit: &Unit) -> u64
+    requires own { All IsOwnSingle unit.now.items }
+    requires few { length unit.now.items ≤ 65535 }
+    ensures { result ≡ need_of unit.now }
+{
+    own_singles();
+    unit.items.as_slice().len() as u64 + u64::from(default_limits().frames)
 }

@@ -1,11 +1,13 @@
 // The line that closes what is told of a run.
 ghost use Rattle.std.specs.Prelude.{◌≡◌, ◌++◌, map, string_bytes, option_map, decimal, codes};
 ghost use Rattle.cw_top.specs.Said.{Writes};
-ghost use Rattle.cw_top.specs.Closing.{closing_line, file_name, refusal_line, stop_name, name_or_number, segment_name};
+ghost use Rattle.cw_top.specs.Closing.{closing_line, file_name, fault_line, lexical_line, expansion_line, refusal_line, link_line, stop_name, name_or_number, segment_name};
 
 use crate::say::{write_line, write_piece};
-use crate::status::{Long, Refused, Status};
+use crate::status::{LinkFault, Long, Refused, Status};
 use cw_io::{Failed, Sink};
+use cw_lex::LexFault;
+use cw_macro::MacroFault;
 use cw_word::Name;
 
 const USAGE: &[u8] =
@@ -36,11 +38,57 @@ fn write_name<S: Sink>(say: &mut S, text: &[u8], name: &[u8]) -> Result<(), Fail
     write_line(say, &[text, name, b"\n"])
 }
 
-fn write_refusal<S: Sink>(say: &mut S, name: &[u8], fault: Refused) -> Result<(), Failed>
-    ensures { Writes (S.held say.old) (S.held say.new) (S.faults say.old) (S.faults say.new) (name.now ++ refusal_line fault) result }
+// Writes the name of a file, a line in it, and the name of what is wrong there.
+fn write_fault<S: Sink>(say: &mut S, file: &[u8], line: u32, name: &[u8]) -> Result<(), Failed>
+    ensures { Writes (S.held say.old) (S.held say.new) (S.faults say.old) (S.faults say.new) (file.now ++ fault_line line name.now) result }
+{
+    let mut buffer = itoa::Buffer::new();
+    let digits = buffer.format(line);
+    write_line(say, &[file, b":", digits.as_bytes(), b": ", name, b"\n"])
+}
+
+fn write_lexical<S: Sink>(say: &mut S, file: &[u8], fault: &LexFault) -> Result<(), Failed>
+    ensures { Writes (S.held say.old) (S.held say.new) (S.faults say.old) (S.faults say.new) (file.now ++ lexical_line fault.now) result }
 {
     match fault {
-        Refused::NotBuilt => write_line(say, &[name, b": NotBuilt\n"]),
+        LexFault::BadChar { line } => write_fault(say, file, *line, b"L1 BadChar"),
+        LexFault::OpenString { line } => write_fault(say, file, *line, b"L2 OpenString"),
+        LexFault::BadNumber { line } => write_fault(say, file, *line, b"L3 BadNumber"),
+        LexFault::LongName { line } => write_fault(say, file, *line, b"L4 LongName"),
+        LexFault::OpenComment { line } => write_fault(say, file, *line, b"L5 OpenComment"),
+        LexFault::NoMemory => write_fault(say, file, 0, b"NoMemory"),
+    }
+}
+
+fn write_expansion<S: Sink>(say: &mut S, file: &[u8], fault: &MacroFault) -> Result<(), Failed>
+    ensures { Writes (S.held say.old) (S.held say.new) (S.faults say.old) (S.faults say.new) (file.now ++ expansion_line fault.now) result }
+{
+    match fault {
+        MacroFault::BadDefine { line } => write_fault(say, file, *line, b"M1 BadDefine"),
+        MacroFault::BadCall { line } => write_fault(say, file, *line, b"M2 BadCall"),
+        MacroFault::TooDeep { line } => write_fault(say, file, *line, b"M3 TooDeep"),
+        MacroFault::TooLong { line } => write_fault(say, file, *line, b"M4 TooLong"),
+        MacroFault::NoSuchMacro { line } => write_fault(say, file, *line, b"M5 NoSuchMacro"),
+        MacroFault::NoMemory => write_fault(say, file, 0, b"NoMemory"),
+    }
+}
+
+fn write_refusal<S: Sink>(say: &mut S, file: &[u8], fault: &Refused) -> Result<(), Failed>
+    ensures { Writes (S.held say.old) (S.held say.new) (S.faults say.old) (S.faults say.new) (file.now ++ refusal_line fault.now) result }
+{
+    match fault {
+        Refused::Lex(fault) => write_lexical(say, file, fault),
+        Refused::Macro(fault) => write_expansion(say, file, fault),
+        Refused::NotBuilt => write_line(say, &[file, b": NotBuilt\n"]),
+    }
+}
+
+fn write_unlinked<S: Sink>(say: &mut S, fault: &LinkFault) -> Result<(), Failed>
+    ensures { Writes (S.held say.old) (S.held say.new) (S.faults say.old) (S.faults say.new) (link_line fault.now) result }
+{
+    match fault {
+        LinkFault::DataTooBig { need } => write_number(say, b"link: P1 DataTooBig ", *need),
+        LinkFault::CodeTooBig { bytes } => write_number(say, b"link: P4 CodeTooBig ", *bytes),
     }
 }
 
@@ -49,29 +97,30 @@ pub(crate) fn write_last<S: Sink>(
     say: &mut S,
     words: &[String],
     segment: Option<Name>,
-    status: Status,
+    status: &Status,
 ) -> Result<(), Failed>
-    ensures line { Writes (S.held say.old) (S.held say.new) (S.faults say.old) (S.faults say.new) (closing_line (map string_bytes words.now) segment status) result }
-    ensures none { status ≡ Status.Ended → S.faults say.new ≡ S.faults say.old }
+    ensures line { Writes (S.held say.old) (S.held say.new) (S.faults say.old) (S.faults say.new) (closing_line (map string_bytes words.now) segment status.now) result }
+    ensures none { status.now ≡ Status.Ended → S.faults say.new ≡ S.faults say.old }
 {
     match status {
         Status::Ended => Ok(()),
         Status::Usage => write_piece(say, USAGE),
-        Status::Refused { file, fault } => write_refusal(say, file_name(words, file), fault),
+        Status::Refused { file, fault } => write_refusal(say, file_name(words, *file), fault),
+        Status::Unlinked(fault) => write_unlinked(say, fault),
         Status::Stopped {
             kind,
             segment: number,
             line,
-        } => { write_stopped(say, segment, kind, number, line) }
-        Status::Unfinished { steps } => write_number(say, b"unfinished: ", steps),
-        Status::NoFile { file } => write_name(say, b"no file: ", file_name(words, file)),
+        } => { write_stopped(say, segment, *kind, *number, *line) }
+        Status::Unfinished { steps } => write_number(say, b"unfinished: ", *steps),
+        Status::NoFile { file } => write_name(say, b"no file: ", file_name(words, *file)),
         Status::Outside(which) => write_name(say, b"fault: ", which.name()),
         Status::NoMemory => write_piece(say, b"no memory\n"),
         Status::TooLong(Long::File(file)) => {
-            write_name(say, b"too long: ", file_name(words, file))
+            write_name(say, b"too long: ", file_name(words, *file))
         }
-        Status::BadCode { offset } => write_number(say, b"bad code: ", u64::from(offset)),
-        Status::Divided { offset } => write_number(say, b"divided: ", u64::from(offset)),
+        Status::BadCode { offset } => write_number(say, b"bad code: ", u64::from(*offset)),
+        Status::Divided { offset } => write_number(say, b"divided: ", u64::from(*offset)),
     }
 }
 

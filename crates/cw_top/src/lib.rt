@@ -15,5 +15,5 @@ mod status;
 mod storage;
 mod top;
 
-pub use status::{Long, Refused, Status, Which};
-pub use top::coral66;
+pub use status::{LinkFault, Long, Refused, Status, Which};
+pub use top::{coral66, coral66_within};

@@ -1,12 +1,17 @@
+use cw_lex::LexFault;
+use cw_macro::MacroFault;
+
 /// What a call of the command came to.
-#[derive(Clone, Copy, Debug, PartialEq, Eq)]
+#[derive(Debug, Drop)]
 pub enum Status {
     /// The program ran to its end.
     Ended,
     /// The words are not the command.
     Usage,
-    /// The text of this file has no code yet.
+    /// The text of this file does not compile.
     Refused { file: u16, fault: Refused },
+    /// What was compiled does not link.
+    Unlinked(LinkFault),
     /// The program stopped, for the cause of this kind, at a line of a segment, counted from 1.
     Stopped { kind: u8, segment: u8, line: u16 },
     /// The program is still running after so many instructions.
@@ -26,10 +31,23 @@ pub enum Status {
 }
 
 /// Why a text is refused.
-#[derive(Clone, Copy, Debug, PartialEq, Eq)]
+#[derive(Debug, Drop)]
 pub enum Refused {
-    /// The text is not of the form that is compiled so far.
+    /// The text has no items; never for want of memory.
+    Lex(LexFault),
+    /// Its items do not expand; never for want of memory.
+    Macro(MacroFault),
+    /// The expanded items are not of the form that is compiled so far.
     NotBuilt,
+}
+
+/// Why a program does not link.
+#[derive(Clone, Copy, Debug, PartialEq, Eq)]
+pub enum LinkFault {
+    /// The items and the frame area need so many words, which is more than the data area has.
+    DataTooBig { need: u64 },
+    /// The code has so many bytes, which is more than 65,536.
+    CodeTooBig { bytes: u64 },
 }
 
 /// What failed outside.
@@ -58,6 +76,7 @@ impl Status {
             Status::Ended => 0,
             Status::Usage => 1,
             Status::Refused { .. } => 2,
+            Status::Unlinked(_) => 3,
             Status::Stopped { .. } => 4,
             Status::Unfinished { .. } => 5,
             Status::NoFile { .. } => 6,

@@ -1,5 +1,5 @@
-use Rattle.cw_form.proofs.Buildable.{body-built}
+use Rattle.cw_form.proofs.Stub.{never}
 use Rattle.cw_form.proofs.laws.built.Goals as goal
 
 pub returns : goal.returns
-returns c = λ text u e. (body-built text u e, tt)
+returns c = λ ts u e. absurd (never ts u e)

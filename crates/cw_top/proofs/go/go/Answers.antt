@@ -9,5 +9,5 @@ returns-in-Ok-clause-causes g c =
     let P : List ℕ → Type 0 = λ name. Is (g.F.Store.file c.args.files.now name) c.in-Ok.text.items in
     let is = subst P c.in-Some.ensures.file c.in-Ok.ensures.whole in
     let Q : List ℕ → Type 0 = λ text. Is (g.F.Store.file c.args.files.now (file_name (map string_bytes c.args.words.now) 0)) text in
-    same_counts _ _ _ _ _ _ _ _ _ _ _ _ _ c.in-Ok.ensures.counts.ok.0 c.in-Ok.ensures.counts.ok.1
+    same_counts _ _ _ _ _ _ _ _ _ _ _ _ _ _ c.in-Ok.ensures.counts.ok.0 c.in-Ok.ensures.counts.ok.1
     (c.run_text.ensures.causes _ _ _ _ (c.in-Some.ensures.some refl) (subst Q (sym c.as_slice.ensures.value) is))

@@ -1,13 +1,9 @@
-use Rattle.std.proofs.Common.{sym, ◌∙◌}
+use Rattle.std.proofs.Common.{map, sym, subst}
+use Rattle.cw_lex.specs.declared.token.Form.TheVariants.{Source}
+use Rattle.cw_lex.specs.Lexical.{view, first_place, Tokenizes}
 use Rattle.cw_top.proofs.go.run_text.Goals as goal
 
-pub run_unit-requires-clause-no_procedures : goal.run_unit-requires-clause-no_procedures
-run_unit-requires-clause-no_procedures g c =
-    c.own_singles.ensures.no_procedures c.args.text.now c.in-Ok-Some.unit (sym c.in-Ok-Some.ensures ∙ c.in-Ok-Some.field-0-is)
-
-pub returns-in-Ok-Some-clause-causes : goal.returns-in-Ok-Some-clause-causes
-returns-in-Ok-Some-clause-causes g c = λ words file f a command is.
-    c.run_unit.ensures.causes words file f a command (record { text = c.args.text.now; is = is; within = c.requires.within; unit_is = sym c.in-Ok-Some.ensures ∙ c.in-Ok-Some.field-0-is })
-
-pub run_unit-requires-clause-fits : goal.run_unit-requires-clause-fits
-run_unit-requires-clause-fits g c = c.images_fit.ensures c.args.text.now c.in-Ok-Some.unit (sym c.in-Ok-Some.ensures ∙ c.in-Ok-Some.field-0-is)
+pub returns-in-Ok-clause-causes : goal.returns-in-Ok-clause-causes
+returns-in-Ok-clause-causes g c = λ words file f a command is.
+    c.run_items.ensures.causes words file f a command
+    (record { text = c.args.text.now; is = is; within = c.requires.within; tokenizes = subst (λ ts. Tokenizes Source first_place c.args.text.now (map view ts)) (sym c.as_slice.ensures) c.in-Ok.ensures })

@@ -1,5 +1,4 @@
-use Rattle.cw_top.proofs.Closing.{refusal_line-is}
 use Rattle.cw_top.proofs.last.write_refusal.Goals as goal
 
-pub returns : goal.returns
-returns g c = rw (refusal_line-is c.args.fault) c.write_line.ensures
+pub returns-in-NotBuilt : goal.returns-in-NotBuilt
+returns-in-NotBuilt g c = rw c.in-NotBuilt.is c.write_line.ensures

@@ -11,7 +11,6 @@ returns c =
       built = c.built.ensures;
       well_formed = c.well_formed-2.ensures;
       shallow = c.shallow.ensures;
-      fits = c.images_fit.ensures;
       layout = c.own_singles-2.ensures.layout;
       storage = c.own_singles-2.ensures.map;
       memory = c.own_singles-2.ensures.memory;
@@ -21,13 +20,15 @@ returns c =
     } in
     let given : Given = record {
       loading = load;
-      ends = c.ends.ensures;
       preserves = c.preservation.ensures.preserves;
       completes = c.preservation.ensures.completes;
       overflow_alone = c.preservation.ensures.overflow_alone;
       once = c.one_observation.ensures;
+      one_list = c.lexical_structure.ensures.one_list;
+      not_both = c.lexical_structure.ensures.not_both;
+      one_outcome = c.macro_expansion.ensures;
     } in
     record {
-      preserves = λ words file before after status cause. preserves_meaning given words file before after status cause;
-      completes = λ words file before after status cause. completes_runs given words file before after status cause;
+      preserves = λ words file steps before after status cause. preserves_meaning given words file steps before after status cause;
+      completes = λ words file steps before after status cause. completes_runs given words file steps before after status cause;
     }
