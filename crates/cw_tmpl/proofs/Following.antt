@@ -39,7 +39,8 @@ use Rattle.cw_tmpl.specs.ReferenceCode.{templates}
 use Rattle.cw_tmpl.specs.Showing.{shown_as}
 use Rattle.cw_tmpl.specs.Placing.{Fills, IsImage, Codable, BeginsWith, NeverStuck, startup_cost}
 use Rattle.cw_tmpl.proofs.Growing.{blanks-append}
-use Rattle.cw_tmpl.proofs.Standing.{HasAll, instructions, order_place, Stands, AllStand}
+use Rattle.cw_tmpl.proofs.Sizes.{list_size}
+use Rattle.cw_tmpl.proofs.Standing.{HasAll, instructions, order_place, pieces_at, Stands, AllStand}
 use Rattle.cw_tmpl.proofs.Rows.{Rows}
 use Rattle.cw_tmpl.proofs.Chains.{Is, Leads, at_work, view, seen, number, jump_to, near, shows, more, last, done}
 use Rattle.cw_tmpl.proofs.Routines.{Stacked, Begun, Over, enters, ends, leads_on}
@@ -48,23 +49,19 @@ use Rattle.cw_tmpl.proofs.Orders.{top_is, Kept, Landed, Leading, Does, further, 
 -- ---- places
 
 -- the code of a list's orders as far as behind one of them
-templates_taken : (list : List Order) (k : ℕ) (o : Order) → slice_get list k ≡ Some o → length (blanks (templates (take (suc k) list))) ≡ length (blanks (templates (take k list))) + order_size o
-templates_taken [] k o e = absurd (cc)
-templates_taken (x ∷ xs) zero o e =
+size_taken : (list : List Order) (k : ℕ) (o : Order) → slice_get list k ≡ Some o → list_size (take (suc k) list) ≡ list_size (take k list) + order_size o
+size_taken [] k o e = absurd (cc)
+size_taken (x ∷ xs) zero o e =
     let same : x ≡ o = cc in
-    ap (λ l. length (blanks l)) (append-nil (template x)) ∙ ap order_size same ∙ (let z : order_size o ≡ 0 + order_size o = omega arith in z)
-templates_taken (x ∷ xs) (suc k) o e =
-    let r = templates_taken xs k o e in
-    let behind : (ts : List Order) → length (blanks (template x ++ templates ts)) ≡ length (blanks (template x)) + length (blanks (templates ts)) = λ ts. ap length (blanks-append (template x) (templates ts)) ∙ length-append (blanks (template x)) (blanks (templates ts)) in
-    let a = behind (take (suc k) xs) in
-    let b = behind (take k xs) in
+    let size : order_size x ≡ order_size o = ap order_size same in
     omega arith
+size_taken (x ∷ xs) (suc k) o e = omega (arith, size_taken xs k o e)
 
 order_next : (base : ℕ) (list : List Order) (k : ℕ) (o : Order) → slice_get list k ≡ Some o → order_place base list k + order_size o ≡ order_place base list (k + 1)
 order_next base list k o e =
-    let t = templates_taken list k o e in
+    let t = size_taken list k o e in
     let s : k + 1 ≡ suc k = omega arith in
-    let m : length (blanks (templates (take (k + 1) list))) ≡ length (blanks (templates (take (suc k) list))) = ap (λ n. length (blanks (templates (take n list)))) s in
+    let m : list_size (take (k + 1) list) ≡ list_size (take (suc k) list) = ap (λ n. list_size (take n list)) s in
     omega arith
 
 -- the word below the top, which is the last one below offset 0
@@ -179,7 +176,7 @@ module _ (rows : Rows) (p : OrderProgram) (image : List ℕ) (all : AllStand p i
     abbrev here : ℕ
     here = order_place (all.base g) s.orders.list place
 
-    code : (o : Order) → slice_get s.orders.list place ≡ Some o → HasAll image (order_place (all.base g) s.orders.list place) (instructions (all.stands g s.orders s.unit).value (order_place (all.base g) s.orders.list place) (template o))
+    code : (o : Order) → slice_get s.orders.list place ≡ Some o → HasAll image (order_place (all.base g) s.orders.list place) (instructions (all.stands g s.orders s.unit).value (order_place (all.base g) s.orders.list place) (pieces_at s.orders place o))
     code o e = (all.stands g s.orders s.unit).orders place o e
 
     behind : (o : Order) → slice_get s.orders.list place ≡ Some o → order_place (all.base g) s.orders.list place + order_size o ≡ order_place (all.base g) s.orders.list (place + 1)

@@ -1,6 +1,7 @@
 pub mod Growing
 pub mod Filling
 pub mod Blank
+pub mod Sizes
 pub mod Standing
 pub mod Placement
 pub mod Rows

@@ -11,8 +11,8 @@ ghost use Rattle.cw_tmpl.specs.declared.pieces.Coded.{Coded};
 ghost use Rattle.cw_tmpl.specs.Pieces.{blanks, relocations, Filling, filled, fill};
 ghost use Rattle.cw_tmpl.specs.Blanks.{FillsBlank, Rise};
 ghost use Rattle.cw_tmpl.specs.Library.{library_bytes};
-ghost use Rattle.cw_tmpl.specs.Templates.{entry_pieces, order_size};
-ghost use Rattle.cw_tmpl.specs.ReferenceCode.{templates, order_places};
+ghost use Rattle.cw_tmpl.specs.Templates.{template, entry_pieces, order_size, listed_size};
+ghost use Rattle.cw_tmpl.specs.ReferenceCode.{templates, entry_size, order_places};
 ghost use Rattle.cw_tmpl.specs.Showing.{shown_as};
 ghost use Rattle.cw_tmpl.specs.Placing.{IsImage, Codable, BeginsWith, NeverStuck, startup_cost};
 
@@ -36,8 +36,10 @@ pub fn relocating()
 /// The sizes of the code.
 pub fn sizes()
     ensures order { (o : Order) → order_size o ≤ 10 }
+    ensures each { (o : Order) → order_size o ≡ listed_size o }
+    ensures everywhere { (starts : ℕ → ℕ) (place : ℕ) (o : Order) → length (blanks (template starts place o)) ≡ order_size o }
     ensures library { length library_bytes ≤ 4096 }
-    ensures places { (orders : List Order) (k : ℕ) → k ≤ length orders → slice_index (order_places orders) k ≡ length (blanks (entry_pieces ++ templates (take k orders))) }
+    ensures places { (starts : ℕ → ℕ) (orders : List Order) (k : ℕ) → k ≤ length orders → slice_index (order_places orders) k ≡ length (blanks (entry_pieces ++ templates starts entry_size (take k orders))) }
 {}
 
 /// Started with the image of a program of orders, the processor shows what the machine of the orders shows: nothing else, and all
