@@ -16,9 +16,10 @@ use Rattle.cw_i86.specs.declared.instr.Instr.TheVariants as i86
 use Rattle.cw_i86.specs.declared.instr.Imm.TheVariants as imm
 use Rattle.cw_i86.specs.declared.instr.Rm.TheVariants as rms
 use Rattle.cw_run86.specs.Processor.{Processor, Told, processor_step}
-use Rattle.cw_run86.specs.Views.{Has, put_word, word_sum, word_difference, sum_overflows, difference_overflows}
+use Rattle.cw_run86.specs.Views.{Has, put_word, word_sum, word_difference, sum_overflows, difference_overflows, compare as compare_of, Comparison, condition_of, words_compare}
 use Rattle.cw_word.specs.FixedPoint.{FitsWord, fits_word}
 use Rattle.cw_word.specs.Word.{signed, unsigned}
+use Rattle.cw_word.proofs.Words.{unsigned-lt}
 use Rattle.cw_unit.specs.Stop.{Overflow, Running, Stopped, Ended}
 use Rattle.cw_unit.specs.Words.{Operand, Word, Held, Words, Outcome, Changed, Refused, Impossible, with_operands, with_memory, put, put_if, put_value, through, is_below, word_at, byte_of}
 use Rattle.cw_unit.specs.Operation.{Constant, Fetch, Store, Add, Subtract, Negate, WriteByte, perform}
@@ -26,7 +27,7 @@ use Rattle.cw_order.specs.OrderMachine.{OrderProgram, operand_words, unrefused}
 use Rattle.cw_tmpl.specs.Mnemonics.{at_bx, slot, line_slot}
 use Rattle.cw_tmpl.proofs.Standing.{HasAll}
 use Rattle.cw_tmpl.proofs.Rows.{Rows}
-use Rattle.cw_tmpl.proofs.Chains.{Is, Leads, view, seen, to_place, number, push, pop, load, store, set_slot, add, subtract, negate, double, no_overflow, passes, out, more, last, done}
+use Rattle.cw_tmpl.proofs.Chains.{Is, Leads, view, seen, to_place, number, push, pop, load, store, set_slot, add, subtract, negate, double, no_overflow, passes, near, compared, compare_jumps, compare_passes, out, more, last, done}
 use Rattle.cw_tmpl.proofs.Routines.{LibraryStands, Stacked, Over, stops, put_at, put_off, leads_on, with_ax}
 use Rattle.cw_tmpl.proofs.Numbers.{sum_overflows_is, difference_overflows_is, negative_overflows_is, sum_is, difference_is, negative_is, fits_tested, unsigned_pos}
 
@@ -436,3 +437,48 @@ module _ (rows : Rows) (image : List ℕ) (area g line : ℕ) where
   stores to (Word a ∷ []) memory input output low e i l = tt
   stores to (Word a ∷ Held c ∷ rest) memory input output low e i l = tt
   stores to (Word a ∷ Word z ∷ rest) memory input output low e i l = stores_word to a (is_below a area) z rest memory input output low refl e i l
+
+  -- ---- jumps
+
+  pub jumps : {p : Processor} {at : ℕ} (to by : ℕ) (w : Words) → (at + 3 + by) % 65536 ≡ to % 65536 → Has image at (i86.Jump by) → Landed image area at g line w p
+      → Leading w.output 1 p (Landed image area to g line w)
+  jumps {p} {at} to by w arrives i l =
+      let s = l.stacked in
+      further 1 (lit≤ tt) (lit< tt) (last rows s.is l.kept.wrote (landed to l.top w.operands w.memory w.input w.output refl l.operands l.kept (to_place arrives (near rows by i s.is))))
+
+  -- the two operands are compared, and the jump is passed over
+  pub goes_past : {p : Processor} {at : ℕ} (c : Comparison) (to by : ℕ) (x y : ℤ) (rest : List Operand) (memory : List ℤ) (input output : List ℕ) → at + 9 ≡ to → FitsWord x → FitsWord y
+      → words_compare c (unsigned x) (unsigned y) ≡ true → HasAll image at (i86.Pop 3 ∷ i86.Pop 0 ∷ compare_of 0 3 ∷ i86.JumpIf (condition_of c) 3 ∷ i86.Jump by ∷ [])
+      → Landed image area at g line (record { operands = Word y ∷ Word x ∷ rest; memory = memory; input = input; output = output }) p
+      → Leading output 5 p (Landed image area to g line (record { operands = rest; memory = memory; input = input; output = output }))
+  goes_past {p} {at} c to by x y rest memory input output e fx fy holds i l =
+      let s = l.stacked in
+      let k = l.kept in
+      let h = l.operands.1 in
+      let o = difference_overflows (unsigned x) (unsigned y) in
+      let e' : at + 1 + 1 + 2 + 2 + 3 ≡ to = omega arith in
+      further 4 (lit≤ tt) (lit< tt)
+      (more rows {to = at + 1} {w = view s.ax s.cx s.dx (unsigned y) (2 * suc l.top) 65532 s.si s.di s.overflow l.cells l.stack l.input l.told} s.is k.wrote (pop_bx l.top y (Word x ∷ rest) l.operands i.0 s.is) (λ q t.
+      more rows {to = at + 1 + 1} {w = view (unsigned x) s.cx s.dx (unsigned y) (2 * suc (suc l.top)) 65532 s.si s.di s.overflow l.cells l.stack l.input l.told} t k.wrote (pop_ax (suc l.top) x rest h i.1.0 t) (λ q t.
+      compared rows {v = view (unsigned x) s.cx s.dx (unsigned y) (2 * suc (suc l.top)) 65532 s.si s.di s.overflow l.cells l.stack l.input l.told} 0 3 k.wrote i.1.1.0 t
+      (done (landed to (suc (suc l.top)) rest memory input output e' h.1 k
+      (compare_jumps rows c 0 3 3 (unsigned-lt x fx) (unsigned-lt y fy) holds i.1.1.0 i.1.1.1.0 t))))))
+
+  -- the two operands are compared, and the jump is taken
+  pub goes_to : {p : Processor} {at : ℕ} (c : Comparison) (to by : ℕ) (x y : ℤ) (rest : List Operand) (memory : List ℤ) (input output : List ℕ) → (at + 9 + by) % 65536 ≡ to % 65536 → FitsWord x → FitsWord y
+      → words_compare c (unsigned x) (unsigned y) ≡ false → HasAll image at (i86.Pop 3 ∷ i86.Pop 0 ∷ compare_of 0 3 ∷ i86.JumpIf (condition_of c) 3 ∷ i86.Jump by ∷ [])
+      → Landed image area at g line (record { operands = Word y ∷ Word x ∷ rest; memory = memory; input = input; output = output }) p
+      → Leading output 5 p (Landed image area to g line (record { operands = rest; memory = memory; input = input; output = output }))
+  goes_to {p} {at} c to by x y rest memory input output arrives fx fy fails i l =
+      let s = l.stacked in
+      let k = l.kept in
+      let h = l.operands.1 in
+      let o = difference_overflows (unsigned x) (unsigned y) in
+      let v = view (unsigned x) s.cx s.dx (unsigned y) (2 * suc (suc l.top)) 65532 s.si s.di s.overflow l.cells l.stack l.input l.told in
+      let e' : (at + 1 + 1 + 2 + 2 + 3 + by) % 65536 ≡ to % 65536 = omega arith in
+      further 5 (lit≤ tt) (lit< tt)
+      (more rows {to = at + 1} {w = view s.ax s.cx s.dx (unsigned y) (2 * suc l.top) 65532 s.si s.di s.overflow l.cells l.stack l.input l.told} s.is k.wrote (pop_bx l.top y (Word x ∷ rest) l.operands i.0 s.is) (λ q t.
+      more rows {to = at + 1 + 1} {w = v} t k.wrote (pop_ax (suc l.top) x rest h i.1.0 t) (λ q t.
+      compared rows {v = v} 0 3 k.wrote i.1.1.0 t
+      (let u = compare_passes rows c 0 3 3 (unsigned-lt x fx) (unsigned-lt y fy) fails i.1.1.0 i.1.1.1.0 t in
+      last rows u k.wrote (landed to (suc (suc l.top)) rest memory input output refl h.1 k (to_place e' (near rows by i.1.1.1.1.0 u)))))))

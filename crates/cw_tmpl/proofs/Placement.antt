@@ -24,8 +24,8 @@ use Rattle.cw_tmpl.specs.ReferenceCode.{templates, pieces_of, entry_size, mark_s
 use Rattle.cw_tmpl.specs.Placing.{Fills, place_after, AreCodes, no_code, a_code, IsImage, Codable}
 use Rattle.cw_tmpl.proofs.Growing.{blanks-append}
 use Rattle.cw_tmpl.proofs.Filling.{filled-append, length-filled}
-use Rattle.cw_tmpl.proofs.Sizes.{list_size, size_of_templates}
-use Rattle.cw_tmpl.proofs.Standing.{HasAll, instruction, instructions, own_place, order_place, pieces_at, Stands, AllStand}
+use Rattle.cw_tmpl.proofs.Sizes.{list_size, size_of_templates, own_place}
+use Rattle.cw_tmpl.proofs.Standing.{HasAll, instruction, instructions, order_place, pieces_at, Stands, AllStand}
 
 -- ---- instructions one after another
 

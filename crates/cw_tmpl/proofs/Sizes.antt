@@ -1,10 +1,12 @@
 -- The sizes of the code, and the places in it.
-use Rattle.std.proofs.Common.{◌≡◌, ℕ, zero, suc, ◌+◌, ◌≤◌, List, [], ◌∷◌, length, take, get_or, refl, ap, ◌∙◌, arith, length-append}
+use Rattle.std.proofs.Common.{◌≡◌, ℕ, zero, suc, ◌+◌, ◌≤◌, List, [], ◌∷◌, length, take, get_or, Some, refl, ap, ◌∙◌, arith, length-append}
+use Rattle.std.specs.Prelude.{◌%◌, slice_get, slice_index}
 use Rattle.cw_order.specs.declared.order.Order.{Order}
 use Rattle.cw_order.specs.declared.order.Order.TheVariants as order
+use Rattle.cw_order.specs.declared.order.Orders.{Orders}
 use Rattle.cw_tmpl.specs.Pieces.{blanks}
-use Rattle.cw_tmpl.specs.Templates.{template, order_size}
-use Rattle.cw_tmpl.specs.ReferenceCode.{templates, places_from}
+use Rattle.cw_tmpl.specs.Templates.{template, order_size, distance}
+use Rattle.cw_tmpl.specs.ReferenceCode.{templates, places_from, entry_size, order_places, mark_starts}
 use Rattle.cw_tmpl.proofs.Growing.{blanks-append}
 
 -- the code of an order is as long wherever it stands
@@ -29,3 +31,20 @@ places_are at [] zero le = omega arith
 places_are at [] (suc k) le = absurd (omega arith)
 places_are at (o ∷ os) zero le = omega arith
 places_are at (o ∷ os) (suc k) le = omega (arith, places_are (at + order_size o) os k (omega arith))
+
+-- where the code of the order at a place of the list begins in that of its segment
+abbrev pub own_place : List Order → (place : ℕ) → ℕ
+own_place list k = entry_size + list_size (take k list)
+
+-- a mark that the list of marks has, at a place of the list or at its end
+pub mark_start : (o : Orders) (mark place : ℕ) → slice_get o.marks mark ≡ Some place → place ≤ length o.list → mark_starts o mark ≡ own_place o.list place
+mark_start o mark place e le = ap (slice_index (order_places o.list)) (got o.marks mark place e) ∙ places_are entry_size o.list place le
+  where
+    got : (marks : List ℕ) (mark place : ℕ) → slice_get marks mark ≡ Some place → slice_index marks mark ≡ place
+    got [] mark place e = absurd (cc)
+    got (x ∷ xs) zero place e = cc
+    got (x ∷ xs) (suc n) place e = got xs n place e
+
+-- a jump by the distance to a place
+pub jump_arrives : (base own n to : ℕ) → (base + own + n + distance (own + n) to) % 65536 ≡ (base + to) % 65536
+jump_arrives base own n to = omega arith

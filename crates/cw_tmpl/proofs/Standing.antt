@@ -16,7 +16,7 @@ use Rattle.cw_tmpl.specs.Library.{routines, joined, stop_end, past, library_byte
 use Rattle.cw_tmpl.specs.Templates.{template, entry_pieces}
 use Rattle.cw_tmpl.specs.ReferenceCode.{entry_size, mark_starts}
 use Rattle.cw_tmpl.specs.Placing.{Fills}
-use Rattle.cw_tmpl.proofs.Sizes.{list_size}
+use Rattle.cw_tmpl.proofs.Sizes.{own_place}
 
 -- these instructions stand in the code, one after another from a place
 abbrev pub HasAll : List ℕ → ℕ → List Instr → Type 0
@@ -36,10 +36,7 @@ abbrev pub instructions : Filling → ℕ → List Coded → List Instr
 instructions value at [] = []
 instructions value at (p ∷ ps) = instruction (word_before value (at + size_of p) (target_of p)) p ++ instructions value (at + size_of p) ps
 
--- where the code of the order at a place of the list begins, in the code of the segment and in the image
-abbrev pub own_place : List Order → (place : ℕ) → ℕ
-own_place list k = entry_size + list_size (take k list)
-
+-- where the code of the order at a place of the list begins in the image
 abbrev pub order_place : (base : ℕ) → List Order → (place : ℕ) → ℕ
 order_place base list k = base + own_place list k
 

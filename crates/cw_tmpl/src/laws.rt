@@ -17,7 +17,7 @@ ghost use Rattle.cw_tmpl.specs.Showing.{shown_as};
 ghost use Rattle.cw_tmpl.specs.Placing.{IsImage, Codable, BeginsWith, NeverStuck, startup_cost};
 
 use cw_order::laws::words;
-use cw_run86::laws::{arithmetic, jumps, memory, moves, ports, stacking, starting};
+use cw_run86::laws::{arithmetic, comparing, jumps, memory, moves, ports, stacking, starting};
 
 /// The linker's filling of an object's relocations, one after another, gives the code with its words filled. That is as
 /// long as the object's, and goes on behind the first pieces with the rest.
@@ -56,6 +56,7 @@ pub fn code_follows_orders()
     stacking();
     memory();
     arithmetic();
+    comparing();
     jumps();
     ports();
 }
