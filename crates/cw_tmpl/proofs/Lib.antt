@@ -3,6 +3,7 @@ pub mod Filling
 pub mod Blank
 pub mod Standing
 pub mod Placement
+pub mod WordLaws
 pub mod Rows
 pub mod Chains
 pub mod Routines

@@ -1,5 +1,5 @@
 -- Instructions that stand one after another in an image, and where those of each order do.
-use Rattle.std.proofs.Common.{◌≡◌, ◌⊎◌, ℕ, suc, ◌+◌, List, [], ◌∷◌, ◌++◌, length, take, Option, Some, None}
+use Rattle.std.proofs.Common.{◌≡◌, ℕ, suc, ◌+◌, List, [], ◌∷◌, ◌++◌, length, take, Some, None}
 use Rattle.std.specs.Prelude.{slice_get}
 use Rattle.cw_i86.specs.Encoding.{bytes_of}
 use Rattle.cw_i86.specs.declared.instr.Instr.{Instr}
@@ -8,12 +8,12 @@ use Rattle.cw_i86.specs.declared.instr.Imm.TheVariants as imm
 use Rattle.cw_run86.specs.Views.{Has}
 use Rattle.cw_order.specs.declared.order.Order.{Order}
 use Rattle.cw_order.specs.declared.order.Orders.{Orders}
-use Rattle.cw_order.specs.OrderMachine.{OrderProgram}
+use Rattle.cw_order.specs.OrderProgram.{OrderProgram}
 use Rattle.cw_tmpl.specs.declared.pieces.Coded.{Coded}
 use Rattle.cw_tmpl.specs.declared.pieces.Coded.TheVariants as coded
 use Rattle.cw_tmpl.specs.Pieces.{Filling, size_of, target_of, word_before, blanks}
 use Rattle.cw_tmpl.specs.Library.{routines, joined, stop_end, past, library_bytes, entry_place}
-use Rattle.cw_tmpl.specs.Templates.{template, entry_pieces, order_size}
+use Rattle.cw_tmpl.specs.Templates.{template, entry_pieces}
 use Rattle.cw_tmpl.specs.ReferenceCode.{templates, entry_size}
 use Rattle.cw_tmpl.specs.Placing.{Fills}
 
