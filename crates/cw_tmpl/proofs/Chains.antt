@@ -1,5 +1,5 @@
 -- Instructions, one after another.
-use Rattle.std.proofs.Common.{◌≡◌, ℕ, suc, ◌+◌, ◌*◌, ◌/◌, ◌%◌, ◌<◌, ◌≤◌, Bool, true, false, List, [], ◌∷◌, length, refl, sym, ap, ◌∙◌, subst, arith}
+use Rattle.std.proofs.Common.{◌≡◌, ℕ, suc, ◌+◌, ◌*◌, ◌/◌, ◌%◌, ◌<◌, Bool, true, false, List, [], ◌∷◌, length, refl, ap, ◌∙◌, subst, arith}
 use Rattle.cw_track.proofs.Paths.{Path, stay, next}
 use Rattle.cw_i86.specs.Encoding.{bytes_of}
 use Rattle.cw_i86.specs.State.{sign_extended}
@@ -8,7 +8,7 @@ use Rattle.cw_i86.specs.declared.instr.Instr.TheVariants as i86
 use Rattle.cw_i86.specs.declared.instr.Imm.TheVariants as imm
 use Rattle.cw_i86.specs.declared.instr.Rm.TheVariants as rms
 use Rattle.cw_run86.specs.Processor.{Processor, Told, processor, processor_step, with_given}
-use Rattle.cw_run86.specs.Views.{View, Sees, Has, Goes, IsTop, register, on, with_place, with_register, with_result, with_cell, with_stack, with_told, sum_overflows, difference_overflows, word_sum, word_difference, with_overflow, compare as compare_of, Comparison, condition_of, words_compare}
+use Rattle.cw_run86.specs.Views.{View, Sees, Has, IsTop, register, on, with_place, with_register, with_result, with_cell, with_stack, with_told, sum_overflows, difference_overflows, word_sum, word_difference, with_overflow, compare as compare_of, Comparison, condition_of, words_compare}
 use Rattle.cw_unit.specs.Stop.{Running}
 use Rattle.cw_unit.specs.Behaviour.{Shown}
 use Rattle.cw_tmpl.specs.Mnemonics.{slot, at_bx}

@@ -4,6 +4,7 @@ pub mod Blank
 pub mod Sizes
 pub mod Standing
 pub mod Placement
+pub mod WordLaws
 pub mod Rows
 pub mod Chains
 pub mod Routines

@@ -1,7 +1,6 @@
 -- What the code of each order does.
-use Rattle.std.proofs.Common.{◌≡◌, ◌≢◌, ℕ, zero, suc, ◌+◌, ◌-◌, ◌*◌, ◌/◌, ◌%◌, ◌<◌, ◌≤◌, Bool, true, false, not, ℤ, pos, negsuc, ◌+ℤ◌, ◌-ℤ◌, neg_ℤ, List, [], ◌∷◌, ◌++◌, length, length-set, set, nat_lt, Option, Some, None, refl, sym, ap, ◌∙◌, subst, arith, lit<, lit≤}
-use Rattle.std.specs.Prelude.{nat_eq, slice_index_or, if◌then◌else◌}
-use Rattle.std.proofs.lemmas.Bool.Decides.{nat_tests}
+use Rattle.std.proofs.Common.{◌≡◌, ◌≢◌, ℕ, zero, suc, ◌+◌, ◌*◌, ◌%◌, ◌<◌, ◌≤◌, Bool, true, false, not, ℤ, pos, negsuc, ◌+ℤ◌, ◌-ℤ◌, neg_ℤ, List, [], ◌∷◌, ◌++◌, length, length-set, set, None, refl, sym, ap, ◌∙◌, subst, arith, lit<, lit≤}
+use Rattle.std.specs.Prelude.{nat_eq}
 use borrow.Author.Tests.{ltb-true, eqb-true, eqb-false}
 use Rattle.std.proofs.lemmas.Bool.{false≢true}
 use Rattle.std.specs.List.{All}
@@ -11,24 +10,23 @@ use Rattle.cw_track.proofs.Paths.{join}
 use Rattle.cw_run86.specs.Processor.{processor}
 use Rattle.cw_tmpl.specs.Showing.{shown_as}
 use Rattle.cw_order.specs.FittingWords.{OperandFits}
-use Rattle.cw_i86.specs.declared.instr.Instr.{Instr}
 use Rattle.cw_i86.specs.declared.instr.Instr.TheVariants as i86
 use Rattle.cw_i86.specs.declared.instr.Imm.TheVariants as imm
 use Rattle.cw_i86.specs.declared.instr.Rm.TheVariants as rms
 use Rattle.cw_run86.specs.Processor.{Processor, Told, processor_step}
 use Rattle.cw_run86.specs.Views.{Has, put_word, word_sum, word_difference, sum_overflows, difference_overflows, compare as compare_of, Comparison, condition_of, words_compare}
 use Rattle.cw_word.specs.FixedPoint.{FitsWord, fits_word}
-use Rattle.cw_word.specs.Word.{signed, unsigned}
-use Rattle.cw_word.proofs.Words.{unsigned-lt}
-use Rattle.cw_unit.specs.Stop.{Overflow, Running, Stopped, Ended}
-use Rattle.cw_unit.specs.Words.{Operand, Word, Held, Words, Outcome, Changed, Refused, Impossible, with_operands, with_memory, put, put_if, put_value, through, is_below, word_at, byte_of}
-use Rattle.cw_unit.specs.Operation.{Constant, Fetch, Store, Add, Subtract, Negate, WriteByte, perform}
-use Rattle.cw_order.specs.OrderMachine.{OrderProgram, operand_words, unrefused}
+use Rattle.cw_word.specs.Word.{unsigned}
+use Rattle.cw_unit.specs.Stop.{Overflow, Stopped}
+use Rattle.cw_unit.specs.Words.{Operand, Word, Held, Words, Outcome, Changed, Refused, Impossible, with_memory, put, put_if, put_value, through, is_below, word_at, byte_of}
+use Rattle.cw_unit.specs.Operation.{Fetch, Store, Add, Subtract, Negate, WriteByte, perform}
+use Rattle.cw_order.specs.OrderState.{operand_words}
+use Rattle.cw_order.specs.OrderMachine.{unrefused}
 use Rattle.cw_tmpl.specs.Mnemonics.{at_bx, slot, line_slot}
 use Rattle.cw_tmpl.proofs.Standing.{HasAll}
 use Rattle.cw_tmpl.proofs.Rows.{Rows}
 use Rattle.cw_tmpl.proofs.Chains.{Is, Leads, view, seen, to_place, number, push, pop, load, store, set_slot, add, subtract, negate, double, no_overflow, passes, near, compared, compare_jumps, compare_passes, out, more, last, done}
-use Rattle.cw_tmpl.proofs.Routines.{LibraryStands, Stacked, Over, stops, put_at, put_off, leads_on, with_ax}
+use Rattle.cw_tmpl.proofs.Routines.{LibraryStands, Stacked, Over, stops, put_at, put_off, with_ax}
 use Rattle.cw_tmpl.proofs.Numbers.{sum_overflows_is, difference_overflows_is, negative_overflows_is, sum_is, difference_is, negative_is, fits_tested, unsigned_pos}
 
 -- ---- operands on the stack
@@ -327,7 +325,7 @@ module _ (rows : Rows) (image : List ℕ) (area g line : ℕ) where
       more rows {to = at + 1 + 1} {w = view (unsigned x) s.cx s.dx (unsigned y) (2 * suc (suc l.top)) 65532 s.si s.di s.overflow l.cells l.stack l.input l.told} t k.wrote (pop_ax (suc l.top) x rest h i.1.0 t) (λ q t.
       more rows {to = at + 1 + 1 + 2} {w = view a s.cx s.dx (unsigned y) (2 * suc (suc l.top)) 65532 s.si s.di o l.cells l.stack l.input l.told} t k.wrote (add rows 0 3 i.1.1.0 t) (λ q t.
       done t))))
-      (λ q t. checks to (suc l.top) by (x +ℤ y) rest memory input output library few e' arrives (sum_overflows_is x y fx fy) (sum_is x y fx fy) h.1 k i.1.1.1 t)
+      (λ q t. checks to (suc l.top) by (x +ℤ y) rest memory input output library few e' arrives (sum_overflows_is rows.words x y fx fy) (sum_is rows.words x y fx fy) h.1 k i.1.1.1 t)
 
   pub subtracts : {p : Processor} {at : ℕ} (to by : ℕ) (operands : List Operand) (memory : List ℤ) (input output : List ℕ) → LibraryStands image → g < 255 → at + 10 ≡ to → (at + 1 + 1 + 2 + 2 + 3 + by) % 65536 ≡ 27 % 65536
       → All OperandFits operands → HasAll image at (i86.Pop 3 ∷ i86.Pop 0 ∷ i86.AluRm 5 true true 0 (rms.Reg 3) ∷ i86.JumpIf 1 3 ∷ i86.Call by ∷ i86.Push 0 ∷ [])
@@ -350,7 +348,7 @@ module _ (rows : Rows) (image : List ℕ) (area g line : ℕ) where
       more rows {to = at + 1 + 1} {w = view (unsigned x) s.cx s.dx (unsigned y) (2 * suc (suc l.top)) 65532 s.si s.di s.overflow l.cells l.stack l.input l.told} t k.wrote (pop_ax (suc l.top) x rest h i.1.0 t) (λ q t.
       more rows {to = at + 1 + 1 + 2} {w = view a s.cx s.dx (unsigned y) (2 * suc (suc l.top)) 65532 s.si s.di o l.cells l.stack l.input l.told} t k.wrote (subtract rows 0 3 i.1.1.0 t) (λ q t.
       done t))))
-      (λ q t. checks to (suc l.top) by (x -ℤ y) rest memory input output library few e' arrives (difference_overflows_is x y fx fy) (difference_is x y fx fy) h.1 k i.1.1.1 t)
+      (λ q t. checks to (suc l.top) by (x -ℤ y) rest memory input output library few e' arrives (difference_overflows_is rows.words x y fx fy) (difference_is rows.words x y fx fy) h.1 k i.1.1.1 t)
 
   pub negates : {p : Processor} {at : ℕ} (to by : ℕ) (operands : List Operand) (memory : List ℤ) (input output : List ℕ) → LibraryStands image → g < 255 → at + 9 ≡ to → (at + 1 + 2 + 2 + 3 + by) % 65536 ≡ 27 % 65536
       → All OperandFits operands → HasAll image at (i86.Pop 0 ∷ i86.Unary 3 true (rms.Reg 0) ∷ i86.JumpIf 1 3 ∷ i86.Call by ∷ i86.Push 0 ∷ [])
@@ -370,7 +368,7 @@ module _ (rows : Rows) (image : List ℕ) (area g line : ℕ) where
       (more rows {to = at + 1} {w = view (unsigned x) s.cx s.dx s.bx (2 * suc l.top) 65532 s.si s.di s.overflow l.cells l.stack l.input l.told} s.is k.wrote (pop_ax l.top x rest l.operands i.0 s.is) (λ q t.
       more rows {to = at + 1 + 2} {w = view a s.cx s.dx s.bx (2 * suc l.top) 65532 s.si s.di o l.cells l.stack l.input l.told} t k.wrote (negate rows 0 i.1.0 t) (λ q t.
       done t)))
-      (λ q t. checks to l.top by (neg_ℤ x) rest memory input output library few e' arrives (negative_overflows_is x fx) (negative_is x fx) h k i.1.1 t)
+      (λ q t. checks to l.top by (neg_ℤ x) rest memory input output library few e' arrives (negative_overflows_is rows.words x fx) (negative_is rows.words x fx) h k i.1.1 t)
 
   -- ---- words of the data area
 
@@ -462,7 +460,7 @@ module _ (rows : Rows) (image : List ℕ) (area g line : ℕ) where
       more rows {to = at + 1 + 1} {w = view (unsigned x) s.cx s.dx (unsigned y) (2 * suc (suc l.top)) 65532 s.si s.di s.overflow l.cells l.stack l.input l.told} t k.wrote (pop_ax (suc l.top) x rest h i.1.0 t) (λ q t.
       compared rows {v = view (unsigned x) s.cx s.dx (unsigned y) (2 * suc (suc l.top)) 65532 s.si s.di s.overflow l.cells l.stack l.input l.told} 0 3 k.wrote i.1.1.0 t
       (done (landed to (suc (suc l.top)) rest memory input output e' h.1 k
-      (compare_jumps rows c 0 3 3 (unsigned-lt x fx) (unsigned-lt y fy) holds i.1.1.0 i.1.1.1.0 t))))))
+      (compare_jumps rows c 0 3 3 (rows.words.unsigned_fits x fx) (rows.words.unsigned_fits y fy) holds i.1.1.0 i.1.1.1.0 t))))))
 
   -- the two operands are compared, and the jump is taken
   pub goes_to : {p : Processor} {at : ℕ} (c : Comparison) (to by : ℕ) (x y : ℤ) (rest : List Operand) (memory : List ℤ) (input output : List ℕ) → (at + 9 + by) % 65536 ≡ to % 65536 → FitsWord x → FitsWord y
@@ -480,5 +478,5 @@ module _ (rows : Rows) (image : List ℕ) (area g line : ℕ) where
       (more rows {to = at + 1} {w = view s.ax s.cx s.dx (unsigned y) (2 * suc l.top) 65532 s.si s.di s.overflow l.cells l.stack l.input l.told} s.is k.wrote (pop_bx l.top y (Word x ∷ rest) l.operands i.0 s.is) (λ q t.
       more rows {to = at + 1 + 1} {w = v} t k.wrote (pop_ax (suc l.top) x rest h i.1.0 t) (λ q t.
       compared rows {v = v} 0 3 k.wrote i.1.1.0 t
-      (let u = compare_passes rows c 0 3 3 (unsigned-lt x fx) (unsigned-lt y fy) fails i.1.1.0 i.1.1.1.0 t in
+      (let u = compare_passes rows c 0 3 3 (rows.words.unsigned_fits x fx) (rows.words.unsigned_fits y fy) fails i.1.1.0 i.1.1.1.0 t in
       last rows u k.wrote (landed to (suc (suc l.top)) rest memory input output refl h.1 k (to_place e' (near rows by i.1.1.1.1.0 u)))))))

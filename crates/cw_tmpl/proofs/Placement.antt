@@ -10,7 +10,7 @@ use Rattle.cw_order.specs.declared.order.Comparator.TheVariants as comparator
 use Rattle.cw_order.specs.declared.order.Order.{Order}
 use Rattle.cw_order.specs.declared.order.Order.TheVariants as order
 use Rattle.cw_order.specs.declared.order.Orders.{Orders}
-use Rattle.cw_order.specs.OrderMachine.{OrderProgram, order_in}
+use Rattle.cw_order.specs.OrderProgram.{OrderProgram, order_in}
 use Rattle.cw_tmpl.specs.declared.pieces.Limit.TheVariants as limit
 use Rattle.cw_tmpl.specs.declared.pieces.Target.{Target}
 use Rattle.cw_tmpl.specs.declared.pieces.Target.TheVariants as target
@@ -363,8 +363,8 @@ library_instrs = (
 
 -- the order at a place has numbers that fit
 order_fits : (p : OrderProgram) → Codable p → (g k : ℕ) (o : Orders) (order : Order) → slice_get p.units g ≡ Some o → slice_get o.list k ≡ Some order → OrderFits order
-order_fits p codable g k o (order.Const w) is e = codable.constants g k w (ap (λ u. order_in p u k) is ∙ e)
-order_fits p codable g k o (order.Line n) is e = codable.lines g k n (ap (λ u. order_in p u k) is ∙ e)
+order_fits p codable g k o (order.Const w) is e = codable.constants g k w (ap (λ u. order_in u k) is ∙ e)
+order_fits p codable g k o (order.Line n) is e = codable.lines g k n (ap (λ u. order_in u k) is ∙ e)
 order_fits p codable g k o _ is e = tt
 
 way_last : (os : List Orders) (n end : ℕ) → slice_get os n ≡ None → place_after (drop n os) end ≡ entry_place 0

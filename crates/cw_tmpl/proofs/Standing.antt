@@ -8,7 +8,7 @@ use Rattle.cw_i86.specs.declared.instr.Imm.TheVariants as imm
 use Rattle.cw_run86.specs.Views.{Has}
 use Rattle.cw_order.specs.declared.order.Order.{Order}
 use Rattle.cw_order.specs.declared.order.Orders.{Orders}
-use Rattle.cw_order.specs.OrderMachine.{OrderProgram}
+use Rattle.cw_order.specs.OrderProgram.{OrderProgram}
 use Rattle.cw_tmpl.specs.declared.pieces.Coded.{Coded}
 use Rattle.cw_tmpl.specs.declared.pieces.Coded.TheVariants as coded
 use Rattle.cw_tmpl.specs.Pieces.{Filling, size_of, target_of, word_before}
