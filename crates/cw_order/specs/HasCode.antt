@@ -1,4 +1,4 @@
--- The orders that the compiler makes so far, and that have code.
+-- The orders that cw_tmpl has code for so far; the compiler makes no others.
 use Rattle.cw_order.specs.declared.order.Order.{Order}
 use Rattle.cw_order.specs.declared.order.Order.TheVariants as order
 
@@ -11,6 +11,9 @@ HasCode order.Add = Unit {0}
 HasCode order.Sub = Unit {0}
 HasCode order.Neg = Unit {0}
 HasCode order.WriteByte = Unit {0}
+HasCode (order.Jump m) = Unit {0}
+HasCode (order.JumpIf c m) = Unit {0}
+HasCode order.Mark = Unit {0}
 HasCode (order.Line n) = Unit {0}
 HasCode (order.Start n) = Unit {0}
 HasCode order.NextBody = Unit {0}

@@ -1,9 +1,9 @@
 -- The processor follows the machine of the orders.
-use Rattle.std.proofs.Common.{◌≡◌, ◌≢◌, inl, inr, ℕ, zero, suc, ◌+◌, ◌-◌, ◌*◌, ◌%◌, ◌<◌, ◌≤◌, Bool, true, false, ℤ, pos, List, [], ◌∷◌, ◌++◌, length, length-append, take, Option, Some, None, refl, sym, ap, ◌∙◌, subst, arith, lit<, lit≤}
+use Rattle.std.proofs.Common.{◌≡◌, ◌≢◌, inl, inr, ℕ, zero, suc, ◌+◌, ◌-◌, ◌*◌, ◌%◌, ◌<◌, ◌≤◌, Bool, true, false, ℤ, pos, List, [], ◌∷◌, length, take, Option, Some, None, refl, sym, ap, ◌∙◌, subst, arith, lit<, lit≤}
 use Rattle.std.specs.Prelude.{slice_get, slice_index, nat_le}
 use Rattle.std.specs.List.{All}
 use Rattle.std.proofs.lemmas.Bool.{leb-true, true≢false, false≢true}
-use Rattle.std.proofs.lemmas.List.{append-nil, get_or_default}
+use Rattle.std.proofs.lemmas.List.{get_or_default}
 use Rattle.std.proofs.lemmas.List.Elements.{All-head, All-nil, All-tail}
 use Rattle.std.proofs.lemmas.Option.{slice_get_within}
 use Rattle.cw_track.specs.Machine.{shown_after}
@@ -22,28 +22,27 @@ use Rattle.cw_tmpl.proofs.WordLaws.{WordLaws}
 use Rattle.cw_unit.specs.Stop.{Running, Ended, Stopped, Stuck}
 use Rattle.cw_unit.specs.Behaviour.{is_running}
 use Rattle.cw_unit.specs.Words.{Words, Outcome, Changed, Refused, Impossible, put, with_operands, word_at}
-use Rattle.cw_unit.specs.Operation.{Fetch, Store, Add, Subtract, Negate, WriteByte, perform}
+use Rattle.cw_unit.specs.Operation.{Fetch, Store, Add, Subtract, Negate, WriteByte, perform, holds}
 use Rattle.cw_order.specs.declared.order.Order.{Order}
 use Rattle.cw_order.specs.declared.order.Order.TheVariants as order
 use Rattle.cw_order.specs.declared.order.Orders.{Orders}
-use Rattle.cw_order.specs.OrderProgram.{OrderProgram, order_in, order_at}
+use Rattle.cw_order.specs.OrderProgram.{OrderProgram, order_in, order_at, mark_in}
+use Rattle.cw_order.specs.OrderChanges.{Way, Onward, ToMark, Nowhere, way_of_two, to_mark_if, comparison}
 use Rattle.cw_order.specs.OrderState.{OrderState, at, operand_words}
 use Rattle.cw_order.specs.OrderActions.{home_word}
 use Rattle.cw_order.specs.OrderCosts.{weight_of, weight_at}
-use Rattle.cw_order.specs.OrderMachine.{go_on, after, unrefused, next_body, carry_out, step, weight, shown, order_machine, entry_of, order_start}
+use Rattle.cw_order.specs.OrderMachine.{go_on, go_at, branch, after, unrefused, next_body, carry_out, step, weight, shown, order_machine, entry_of, order_start}
 use Rattle.cw_order.specs.FittingWords.{OperandFits, WordsFit, ActivationFits, StateFits}
-use Rattle.cw_tmpl.specs.Pieces.{blanks}
-use Rattle.cw_tmpl.specs.Templates.{template, order_size}
-use Rattle.cw_tmpl.specs.ReferenceCode.{templates}
+use Rattle.cw_tmpl.specs.Templates.{order_size, distance}
+use Rattle.cw_tmpl.specs.ReferenceCode.{mark_starts}
 use Rattle.cw_tmpl.specs.Showing.{shown_as}
 use Rattle.cw_tmpl.specs.Placing.{IsImage, Codable, BeginsWith, NeverStuck, startup_cost}
-use Rattle.cw_tmpl.proofs.Growing.{blanks-append}
-use Rattle.cw_tmpl.proofs.Sizes.{list_size}
+use Rattle.cw_tmpl.proofs.Sizes.{list_size, own_place, mark_start, jump_arrives}
 use Rattle.cw_tmpl.proofs.Standing.{HasAll, instructions, order_place, pieces_at, AllStand}
 use Rattle.cw_tmpl.proofs.Rows.{Rows}
 use Rattle.cw_tmpl.proofs.Chains.{Is, Leads, at_work, view, seen, number, jump_to, near, shows, more}
 use Rattle.cw_tmpl.proofs.Routines.{Begun, Over, enters, ends, leads_on}
-use Rattle.cw_tmpl.proofs.Orders.{top_is, Landed, Leading, Does, further, puts, sets_line, writes, adds, subtracts, negates, loads, stores}
+use Rattle.cw_tmpl.proofs.Orders.{top_is, Landed, Leading, Does, Chooses, further, puts, sets_line, writes, adds, subtracts, negates, loads, stores, jumps, chooses}
 
 -- ---- places
 
@@ -156,20 +155,20 @@ module _ (rows : Rows) (p : OrderProgram) (image : List ℕ) (all : AllStand p i
     weight_is : (o : Order) → slice_get s.orders.list place ≡ Some o → weight_of o ≤ weight p (at g place line [] w Running)
     weight_is o e = let f : weight p (at g place line [] w Running) ≡ weight_of o = ap weight_at (order_is (Some o) e) in omega arith
 
-    -- before the next order
-    sound_on : (line' : ℕ) (v : Words) (r : Processor) → step p (at g place line [] w Running) ≡ at g (place + 1) line' [] v Running → Landed image p.limits.area (order_place (all.base g) s.orders.list (place + 1)) g line' v r → Sound p image all.base g (place + 1) line' v r
-    sound_on line' v r e l = record {
+    -- before another order
+    sound_at : (to line' : ℕ) (v : Words) (r : Processor) → step p (at g place line [] w Running) ≡ at g to line' [] v Running → Landed image p.limits.area (order_place (all.base g) s.orders.list to) g line' v r → Sound p image all.base g to line' v r
+    sound_at to line' v r e l = record {
       orders = s.orders;
       unit = s.unit;
       landed = l;
       fits = (subst StateFits e (rows.words.keeps p (at g place line [] w Running) (record { words = s.fits; activations = All-nil ActivationFits }))).words;
-      never = never_on p (at g place line [] w Running) (at g (place + 1) line' [] v Running) e s.never;
+      never = never_on p (at g place line [] w Running) (at g to line' [] v Running) e s.never;
     }
 
     does : (o : Outcome) (limit : ℕ) → step p (at g place line [] w Running) ≡ after p.room o g place line [] w → limit ≤ weight p (at g place line [] w Running) → Does image p.limits.area limit (order_place (all.base g) s.orders.list (place + 1)) g line w.output q o → Follow (at g place line [] w Running) q
     does (Changed v) limit e paid d =
         let on = went_on p g place line w v e s.never in
-        leads_to g place line w (at g (place + 1) line [] v Running) limit on.goes paid (onward (λ r l. sound_on line v r on.goes l) d)
+        leads_to g place line w (at g (place + 1) line [] v Running) limit on.goes paid (onward (λ r l. sound_at (place + 1) line v r on.goes l) d)
     does (Refused kind) limit e paid d = leads_to g place line w (at g place line [] w (Stopped kind (g + 1) line)) limit e paid d
     does Impossible limit e paid d = absurd (not_stuck p g place line w (never_on p (at g place line [] w Running) (at g place line [] w Stuck) e s.never))
 
@@ -201,6 +200,59 @@ module _ (rows : Rows) (p : OrderProgram) (image : List ℕ) (all : AllStand p i
         let some : operand_words w.operands < 32760 = omega arith in
         let paid = weight_is o e in
         does (Changed (put z w)) 2 goes (let x : 2 ≤ weight p (at g place line [] w Running) = omega arith in x) (puts rows image p.limits.area g line (order_place (all.base g) s.orders.list (place + 1)) n z w to value some i s.landed)
+
+    -- there is an order where the orders go on
+    goes_within : (to line' : ℕ) (v : Words) → step p (at g place line [] w Running) ≡ at g to line' [] v Running → to ≤ length s.orders.list
+    goes_within to line' v e = cases (slice_get s.orders.list to) refl
+      where
+        never : Never p (at g to line' [] v Running)
+        never = never_on p (at g place line [] w Running) (at g to line' [] v Running) e s.never
+
+        cases : (o : Option Order) → slice_get s.orders.list to ≡ o → to ≤ length s.orders.list
+        cases None none =
+            let no_order : order_at p g to ≡ None = ap (λ u. order_in u to) s.unit ∙ none in
+            absurd (not_stuck p g to line' v (never_on p (at g to line' [] v Running) (at g to line' [] v Stuck) (ap (λ x. carry_out p x g to line' [] v) no_order) never))
+        cases (Some o) is = let lt = slice_get_within s.orders.list to o is in omega arith
+
+    -- where the code of a mark starts in the image
+    abbrev start : ℕ → ℕ
+    start m = all.base g + mark_starts s.orders m
+
+    -- the way on that an order chooses
+    chosen : (way : Way) (limit : ℕ) → step p (at g place line [] w Running) ≡ branch p way g place line [] w → limit ≤ weight p (at g place line [] w Running)
+        → Chooses image p.limits.area limit (order_place (all.base g) s.orders.list (place + 1)) start g line w.output q way → Follow (at g place line [] w Running) q
+    chosen (Onward v) limit e paid d = leads_to g place line w (at g (place + 1) line [] v Running) limit e paid (onward (λ r l. sound_at (place + 1) line v r e l) d)
+    chosen (ToMark m v) limit e paid d = cases (slice_get s.orders.marks m) refl
+      where
+        goes : (k : Option ℕ) → slice_get s.orders.marks m ≡ k → step p (at g place line [] w Running) ≡ go_at k g place line [] w v
+        goes k is = e ∙ ap (λ x. go_at x g place line [] w v) (ap (λ u. mark_in u m) s.unit ∙ is)
+
+        cases : (k : Option ℕ) → slice_get s.orders.marks m ≡ k → Follow (at g place line [] w Running) q
+        cases None none = absurd (not_stuck p g place line w (never_on p (at g place line [] w Running) (at g place line [] w Stuck) (goes None none) s.never))
+        cases (Some to) is =
+            let there : start m ≡ order_place (all.base g) s.orders.list to = ap (λ n. all.base g + n) (mark_start s.orders m to is (goes_within to line v (goes (Some to) is))) in
+            leads_to g place line w (at g to line [] v Running) limit (goes (Some to) is) paid
+            (onward (λ r l. sound_at to line v r (goes (Some to) is) (subst (λ a. Landed image p.limits.area a g line v r) there l)) d)
+    chosen Nowhere limit e paid d = absurd (not_stuck p g place line w (never_on p (at g place line [] w Running) (at g place line [] w Stuck) e s.never))
+
+    -- an order without code
+    silent : (o : Order) → slice_get s.orders.list place ≡ Some o → carry_out p (Some o) g place line [] w ≡ at g (place + 1) line [] w Running → order_size o ≡ 0 → Follow (at g place line [] w Running) q
+    silent o e acts none =
+        let goes : step p (at g place line [] w Running) ≡ at g (place + 1) line [] w Running = step_is (Some o) e ∙ acts in
+        let next = behind o e in
+        let to : here ≡ order_place (all.base g) s.orders.list (place + 1) = omega arith in
+        let matched = sound_at (place + 1) line w q goes (subst (λ a. Landed image p.limits.area a g line w q) to s.landed) in
+        let within = slice_get_within s.orders.list place o e in
+        let long : length_in (slice_get p.units g) ≡ length s.orders.list = ap length_in s.unit in
+        let falls : left p (at g (place + 1) line [] w Running) < left p (at g place line [] w Running) = omega arith in
+        record {
+          spent = 0;
+          reached = q;
+          path = stay refl refl;
+          within = (let z : 0 ≤ weight p (at g place line [] w Running) = omega arith in z);
+          matched = subst (λ x. Matches p image all.base x q) (sym goes) matched;
+          progress = inr (subst (λ x. left p x < left p (at g place line [] w Running)) (sym goes) falls);
+        }
 
     -- the next body, or the end
     ends_body : slice_get s.orders.list place ≡ Some order.NextBody → (u : Option Orders) → slice_get p.units (g + 1) ≡ u → Follow (at g place line [] w Running) q
@@ -306,22 +358,19 @@ module _ (rows : Rows) (p : OrderProgram) (image : List ℕ) (all : AllStand p i
         let small : n < 65536 = coded.lines g place n (order_is (Some (order.Line n)) e) in
         let goes : step p (at g place line [] w Running) ≡ at g (place + 1) n [] w Running = step_is (Some (order.Line n)) e in
         leads_to g place line w (at g (place + 1) n [] w Running) 1 goes (weight_is (order.Line n) e)
-        (onward (λ r l. sound_on n w r goes l) (sets_line rows image p.limits.area g line (order_place (all.base g) s.orders.list (place + 1)) n w (behind (order.Line n) e) small (code (order.Line n) e).0 s.landed))
-    follow_order (order.Start n) e =
-        let goes : step p (at g place line [] w Running) ≡ at g (place + 1) line [] w Running = step_is (Some (order.Start n)) e in
-        let to : here ≡ order_place (all.base g) s.orders.list (place + 1) = (let z : here ≡ here + 0 = omega arith in z) ∙ behind (order.Start n) e in
-        let matched = sound_on line w q goes (subst (λ a. Landed image p.limits.area a g line w q) to s.landed) in
-        let within = slice_get_within s.orders.list place (order.Start n) e in
-        let long : length_in (slice_get p.units g) ≡ length s.orders.list = ap length_in s.unit in
-        let falls : left p (at g (place + 1) line [] w Running) < left p (at g place line [] w Running) = omega arith in
-        record {
-          spent = 0;
-          reached = q;
-          path = stay refl refl;
-          within = (let z : 0 ≤ weight p (at g place line [] w Running) = omega arith in z);
-          matched = subst (λ x. Matches p image all.base x q) (sym goes) matched;
-          progress = inr (subst (λ x. left p x < left p (at g place line [] w Running)) (sym goes) falls);
-        }
+        (onward (λ r l. sound_at (place + 1) n w r goes l) (sets_line rows image p.limits.area g line (order_place (all.base g) s.orders.list (place + 1)) n w (behind (order.Line n) e) small (code (order.Line n) e).0 s.landed))
+    follow_order (order.Start n) e = silent (order.Start n) e refl refl
+    follow_order order.Mark e = silent order.Mark e refl refl
+    follow_order (order.Jump m) e =
+        let own = own_place s.orders.list place in
+        chosen (ToMark m w) 1 (step_is (Some (order.Jump m)) e) (weight_is (order.Jump m) e)
+        (jumps rows image p.limits.area g line (start m) (distance (own + 3) (mark_starts s.orders m)) w (jump_arrives (all.base g) own 3 (mark_starts s.orders m)) (code (order.Jump m) e).0 s.landed)
+    follow_order (order.JumpIf c m) e =
+        let own = own_place s.orders.list place in
+        let paid : 5 ≤ weight p (at g place line [] w Running) = let x = weight_is (order.JumpIf c m) e in omega arith in
+        chosen (way_of_two (λ x y v. to_mark_if (holds (comparison c) x y) m v) w) 5 (step_is (Some (order.JumpIf c m)) e) paid
+        (chooses rows image p.limits.area g line (order_place (all.base g) s.orders.list (place + 1)) (distance (own + 9) (mark_starts s.orders m)) start c m w.operands w.memory w.input w.output (behind (order.JumpIf c m) e)
+        (jump_arrives (all.base g) own 9 (mark_starts s.orders m)) s.fits.operands (code (order.JumpIf c m) e) s.landed)
     follow_order order.NextBody e = ends_body e (slice_get p.units (g + 1)) refl
     follow_order o e = absurd (coded.codes g place o (order_is (Some o) e))
 

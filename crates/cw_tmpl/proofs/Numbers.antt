@@ -1,16 +1,35 @@
 -- Sums and differences of the processor, and those of words as signed numbers.
-use Rattle.std.proofs.Common.{◌≡◌, ℕ, ◌<◌, true, not, ℤ, pos, negsuc, ◌+ℤ◌, ◌-ℤ◌, neg_ℤ, sym, ap, ap₂, ◌∙◌, subst, arith}
+use Rattle.std.proofs.Common.{◌≡◌, ℕ, ◌<◌, Bool, true, false, not, ℤ, pos, negsuc, ◌+ℤ◌, ◌-ℤ◌, neg_ℤ, refl, sym, ap, ap₂, ◌∙◌, subst, arith}
 use Rattle.std.proofs.lemmas.Bool.Decides.{nat_tests}
 use Rattle.std.proofs.lemmas.Int.{ints}
+use Rattle.std.specs.Prelude.{int_le, ◌&&◌}
 use Rattle.cw_i86.specs.Sums as i86
 use Rattle.cw_run86.specs.Views as run
 use Rattle.cw_word.specs.FixedPoint.{FitsWord, fits_word}
 use Rattle.cw_word.specs.Word.{signed, unsigned, word_sum, word_difference}
+use Rattle.cw_unit.specs.Operation.{holds}
+use Rattle.cw_order.specs.declared.order.Comparator.{Comparator}
+use Rattle.cw_order.specs.declared.order.Comparator.TheVariants as comparator
+use Rattle.cw_order.specs.OrderChanges.{comparison}
+use Rattle.cw_tmpl.specs.Templates.{opposite_of}
 use Rattle.cw_tmpl.proofs.WordLaws.{WordLaws}
 
 overflows_same : (z : ℤ) → i86.overflows 32768 z ≡ not (fits_word z)
 overflows_same (pos n) = grind (arith, ints, nat_tests)
 overflows_same (negsuc n) = grind (arith, ints, nat_tests)
+
+-- the opposite of a comparison
+opposite_tells : (c : Comparator) (x y : ℤ) → run.compares (opposite_of c) x y ≡ not (holds (comparison c) x y)
+opposite_tells comparator.Less x y = grind (arith, ints, nat_tests)
+opposite_tells comparator.LessEqual x y = grind (arith, ints, nat_tests)
+opposite_tells comparator.Equal x y = refl
+opposite_tells comparator.GreaterEqual x y = grind (arith, ints, nat_tests)
+opposite_tells comparator.Greater x y = grind (arith, ints, nat_tests)
+opposite_tells comparator.Unequal x y = sym (not_not (int_le x y && int_le y x))
+  where
+    not_not : (b : Bool) → not (not b) ≡ b
+    not_not true = refl
+    not_not false = refl
 
 module _ (laws : WordLaws) where
   -- the processor's reading of a word is that of the words
@@ -30,6 +49,9 @@ module _ (laws : WordLaws) where
 
     pub difference_overflows_is : run.difference_overflows (unsigned x) (unsigned y) ≡ not (fits_word (x -ℤ y))
     difference_overflows_is = ap₂ (λ a b. i86.overflows 32768 (a -ℤ b)) left right ∙ overflows_same (x -ℤ y)
+
+    pub opposite_is : (c : Comparator) → run.words_compare (opposite_of c) (unsigned x) (unsigned y) ≡ not (holds (comparison c) x y)
+    opposite_is c = ap₂ (run.compares (opposite_of c)) left right ∙ opposite_tells c x y
 
     pub sum_is : FitsWord (x +ℤ y) → run.word_sum (unsigned x) (unsigned y) ≡ unsigned (x +ℤ y)
     sum_is f =

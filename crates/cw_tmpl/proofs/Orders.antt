@@ -19,15 +19,18 @@ use Rattle.cw_word.specs.FixedPoint.{FitsWord, fits_word}
 use Rattle.cw_word.specs.Word.{unsigned}
 use Rattle.cw_unit.specs.Stop.{Overflow, Stopped}
 use Rattle.cw_unit.specs.Words.{Operand, Word, Held, Words, Outcome, Changed, Refused, Impossible, with_memory, put, put_if, put_value, through, is_below, word_at, byte_of}
-use Rattle.cw_unit.specs.Operation.{Fetch, Store, Add, Subtract, Negate, WriteByte, perform}
+use Rattle.cw_unit.specs.Operation.{Fetch, Store, Add, Subtract, Negate, WriteByte, perform, holds}
+use Rattle.cw_order.specs.declared.order.Comparator.{Comparator}
 use Rattle.cw_order.specs.OrderState.{operand_words}
+use Rattle.cw_order.specs.OrderChanges.{Way, Onward, ToMark, Nowhere, way_of_two, to_mark_if, comparison}
 use Rattle.cw_order.specs.OrderMachine.{unrefused}
 use Rattle.cw_tmpl.specs.Mnemonics.{at_bx, slot, line_slot}
+use Rattle.cw_tmpl.specs.Templates.{opposite_of}
 use Rattle.cw_tmpl.proofs.Standing.{HasAll}
 use Rattle.cw_tmpl.proofs.Rows.{Rows}
 use Rattle.cw_tmpl.proofs.Chains.{Is, Leads, view, seen, to_place, number, push, pop, load, store, set_slot, add, subtract, negate, double, no_overflow, passes, near, compared, compare_jumps, compare_passes, out, more, last, done}
 use Rattle.cw_tmpl.proofs.Routines.{LibraryStands, Stacked, Over, stops, put_at, put_off, with_ax}
-use Rattle.cw_tmpl.proofs.Numbers.{sum_overflows_is, difference_overflows_is, negative_overflows_is, sum_is, difference_is, negative_is, fits_tested, unsigned_pos}
+use Rattle.cw_tmpl.proofs.Numbers.{sum_overflows_is, difference_overflows_is, negative_overflows_is, sum_is, difference_is, negative_is, opposite_is, fits_tested, unsigned_pos}
 
 -- ---- operands on the stack
 
@@ -174,6 +177,12 @@ with_overflow : {image : List ℕ} {at ax bx cx dx sp bp si di : ℕ} {o o' : Bo
     → Is image at (view ax cx dx bx sp bp si di o cells stack input told) p → Is image at (view ax cx dx bx sp bp si di o' cells stack input told) p
 with_overflow {image} {at} {ax} {bx} {cx} {dx} {sp} {bp} {si} {di} {o} {o'} {cells} {stack} {input} {told} {p} e s =
     subst (λ b. Is image at (view ax cx dx bx sp bp si di b cells stack input told) p) e s
+
+-- an order leads within so many instructions on its way: to the next order, or to where the code of a mark starts
+abbrev pub Chooses : (image : List ℕ) (area limit to : ℕ) (start : ℕ → ℕ) (g line : ℕ) (output : List ℕ) (p : Processor) → Way → Type 0
+Chooses image area limit to start g line output p (Onward v) = Leading output limit p (Landed image area to g line v)
+Chooses image area limit to start g line output p (ToMark m v) = Leading output limit p (Landed image area (start m) g line v)
+Chooses image area limit to start g line output p Nowhere = Unit {0}
 
 module _ (rows : Rows) (image : List ℕ) (area g line : ℕ) where
   -- an operand into AX, and one into BX
@@ -480,3 +489,23 @@ module _ (rows : Rows) (image : List ℕ) (area g line : ℕ) where
       compared rows {v = v} 0 3 k.wrote i.1.1.0 t
       (let u = compare_passes rows c 0 3 3 (rows.words.unsigned_fits x fx) (rows.words.unsigned_fits y fy) fails i.1.1.0 i.1.1.1.0 t in
       last rows u k.wrote (landed to (suc (suc l.top)) rest memory input output refl h.1 k (to_place e' (near rows by i.1.1.1.1.0 u)))))))
+
+  pub chooses : {p : Processor} {at : ℕ} (to by : ℕ) (start : ℕ → ℕ) (c : Comparator) (m : ℕ) (operands : List Operand) (memory : List ℤ) (input output : List ℕ) → at + 9 ≡ to → (at + 9 + by) % 65536 ≡ start m % 65536
+      → All OperandFits operands → HasAll image at (i86.Pop 3 ∷ i86.Pop 0 ∷ compare_of 0 3 ∷ i86.JumpIf (condition_of (opposite_of c)) 3 ∷ i86.Jump by ∷ [])
+      → Landed image area at g line (record { operands = operands; memory = memory; input = input; output = output }) p
+      → Chooses image area 5 to start g line output p (way_of_two (λ x y v. to_mark_if (holds (comparison c) x y) m v) (record { operands = operands; memory = memory; input = input; output = output }))
+  chooses to by start c m [] memory input output e arrives fits i l = tt
+  chooses to by start c m (Held d ∷ rest) memory input output e arrives fits i l = tt
+  chooses to by start c m (Word y ∷ []) memory input output e arrives fits i l = tt
+  chooses to by start c m (Word y ∷ Held d ∷ rest) memory input output e arrives fits i l = tt
+  chooses {p} {at} to by start c m (Word y ∷ Word x ∷ rest) memory input output e arrives fits i l = cases (holds (comparison c) x y) refl
+    where
+      fy : FitsWord y
+      fy = All-head OperandFits (Word y) (Word x ∷ rest) fits
+
+      fx : FitsWord x
+      fx = All-head OperandFits (Word x) rest (All-tail OperandFits (Word y) (Word x ∷ rest) fits)
+
+      cases : (b : Bool) → holds (comparison c) x y ≡ b → Chooses image area 5 to start g line output p (to_mark_if b m (record { operands = rest; memory = memory; input = input; output = output }))
+      cases true b = goes_to (opposite_of c) (start m) by x y rest memory input output arrives fx fy (opposite_is rows.words x y fx fy c ∙ ap not b) i l
+      cases false b = goes_past (opposite_of c) to by x y rest memory input output e fx fy (opposite_is rows.words x y fx fy c ∙ ap not b) i l

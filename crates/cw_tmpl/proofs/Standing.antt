@@ -1,5 +1,5 @@
 -- Instructions that stand one after another in an image, and where those of each order do.
-use Rattle.std.proofs.Common.{◌≡◌, ℕ, suc, ◌+◌, List, [], ◌∷◌, ◌++◌, length, take, Some, None}
+use Rattle.std.proofs.Common.{◌≡◌, ℕ, suc, ◌+◌, List, [], ◌∷◌, ◌++◌, length, Some, None}
 use Rattle.std.specs.Prelude.{slice_get}
 use Rattle.cw_i86.specs.Encoding.{bytes_of}
 use Rattle.cw_i86.specs.declared.instr.Instr.{Instr}
@@ -14,7 +14,7 @@ use Rattle.cw_tmpl.specs.declared.pieces.Coded.TheVariants as coded
 use Rattle.cw_tmpl.specs.Pieces.{Filling, size_of, target_of, word_before}
 use Rattle.cw_tmpl.specs.Library.{routines, joined, stop_end, past, library_bytes, entry_place}
 use Rattle.cw_tmpl.specs.Templates.{template, entry_pieces}
-use Rattle.cw_tmpl.specs.ReferenceCode.{entry_size, mark_starts}
+use Rattle.cw_tmpl.specs.ReferenceCode.{mark_starts}
 use Rattle.cw_tmpl.specs.Placing.{Fills}
 use Rattle.cw_tmpl.proofs.Sizes.{own_place}
 
