@@ -301,7 +301,7 @@ found {p = p} {image = image} {segment = segment} {place = place} (a_code {o = x
     let same : x ≡ o = cc in
     let within : place + size + length codes ≤ 65536 = omega (arith, ap length e, length-append before (C ++ codes), length-append C codes, length-filled value place (pieces_of x)) in
     let here : Found p image x segment place (place_after os (place + size)) =
-    record { stands = stands_here p image before codes segment place (place_after os (place + size)) value x fills (way_near more within) (λ k order. fits 0 k x order refl) at e; way = refl } in
+    record { stands = stands_here p image before codes segment place (place_after os (place + size)) value x fills (way_near more within) (λ k order. fits 0 k x order refl) at e; way = refl {a = place_after os (place + size)} } in
     let end : place + size ≡ place + (size + 0) = omega arith in
     subst (λ (y : Orders). Found p image y (segment + 0) (place + 0) (place_after os (place + (size + 0)))) same
     (moved p image x segment (segment + 0) place (place + 0) (place_after os (place + size)) (place_after os (place + (size + 0))) (omega arith) (omega arith) (ap (place_after os) end) here)
