@@ -126,10 +126,7 @@ fn texts(rt: HostRuntime) -> Result<(), Fail> {
         ("", NOT_BUILT),
         ("SEGMENT A BEGIN WRITEBYTE(1) END FINISH", NOT_BUILT),
         ("SEGMENT A BEGIN INTEGER X, X; END FINISH", NOT_BUILT),
-        (
-            "SEGMENT A BEGIN INTEGER X; X := - -1 END FINISH",
-            NOT_BUILT,
-        ),
+        ("SEGMENT A BEGIN INTEGER X; X := - -1 END FINISH", NOT_BUILT),
         ("SEGMENT A BEGIN INTEGER X; X := 2 - END FINISH", NOT_BUILT),
         (
             "SEGMENT A BEGIN INTEGER X; X := 32768 END FINISH",

@@ -256,11 +256,7 @@ fn signed_sum(
     }
 }
 
-fn unsigned_sum(
-    alloc: Global,
-    names: &[Name],
-    tokens: &[Token],
-) -> Result<Option<Expr>, NoMemory>
+fn unsigned_sum(alloc: Global, names: &[Name], tokens: &[Token]) -> Result<Option<Expr>, NoMemory>
     requires { length names.now ≤ 100 }
     ensures { IfOk result (λ e. e ≡ unsigned_sum names.now tokens.now) }
 {
