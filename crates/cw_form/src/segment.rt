@@ -173,10 +173,10 @@ fn is_sign(token: &Token) -> bool
 }
 
 // The operand behind a sign.
-fn signed(alloc: Global, before: &Token, e: Expr) -> Result<Expr, NoMemory>
-    ensures { IfOk result (λ s. s ≡ signed before.now e) }
+fn signed(alloc: Global, sign: &Token, e: Expr) -> Result<Expr, NoMemory>
+    ensures { IfOk result (λ s. s ≡ signed sign.now e) }
 {
-    if before.is(b"-") {
+    if sign.is(b"-") {
         Ok(Expr::Minus(boxed(alloc, e)?))
     } else {
         Ok(e)
@@ -200,10 +200,10 @@ fn difference(alloc: Global, a: Expr, b: Expr) -> Result<Expr, NoMemory>
 }
 
 // The sum with one more operand, behind a sign.
-fn joined(alloc: Global, before: &Token, so_far: Expr, next: Expr) -> Result<Expr, NoMemory>
-    ensures { IfOk result (λ e. e ≡ joined before.now so_far next) }
+fn joined(alloc: Global, sign: &Token, so_far: Expr, next: Expr) -> Result<Expr, NoMemory>
+    ensures { IfOk result (λ e. e ≡ joined sign.now so_far next) }
 {
-    if before.is(b"-") {
+    if sign.is(b"-") {
         difference(alloc, so_far, next)
     } else {
         sum(alloc, so_far, next)
@@ -223,12 +223,12 @@ fn extended(
     ensures within { IfOk result (λ e. IfSome e (λ _. 2 ≤ length rest.now)) }
 {
     match rest {
-        [before, token, ..] => {
-            if !is_sign(before) {
+        [sign, token, ..] => {
+            if !is_sign(sign) {
                 return Ok(None);
             }
             match operand(alloc, names, token)? {
-                Some(next) => Ok(Some(joined(alloc, before, so_far, next)?)),
+                Some(next) => Ok(Some(joined(alloc, sign, so_far, next)?)),
                 None => Ok(None),
             }
         }
@@ -261,15 +261,15 @@ fn sum_from(
 fn signed_sum(
     alloc: Global,
     names: &[Name],
-    before: &Token,
+    sign: &Token,
     tokens: &[Token],
 ) -> Result<Option<Expr>, NoMemory>
     requires { length names.now ≤ 100 }
-    ensures { IfOk result (λ e. e ≡ signed_sum names.now before.now tokens.now) }
+    ensures { IfOk result (λ e. e ≡ signed_sum names.now sign.now tokens.now) }
 {
     match tokens {
         [first, rest @ ..] => match operand(alloc, names, first)? {
-            Some(e) => sum_from(alloc, names, signed(alloc, before, e)?, rest),
+            Some(e) => sum_from(alloc, names, signed(alloc, sign, e)?, rest),
             None => Ok(None),
         },
         [] => Ok(None),
@@ -294,7 +294,7 @@ fn sum_of(alloc: Global, names: &[Name], tokens: &[Token]) -> Result<Option<Expr
     ensures { IfOk result (λ e. e ≡ sum_of names.now tokens.now) }
 {
     match tokens {
-        [first, rest @ ..] if is_sign(first) => signed_sum(alloc, names, first, rest),
+        [sign, rest @ ..] if is_sign(sign) => signed_sum(alloc, names, sign, rest),
         _ => unsigned_sum(alloc, names, tokens),
     }
 }
