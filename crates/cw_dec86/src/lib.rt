@@ -1,11 +1,12 @@
 //! 8086 instruction decoder, inverse of the encoder.
 #![tactic(auto)]
 
-ghost use Rattle.std.specs.Prelude.{◌≡◌, List, ◌++◌, length, ℕ};
+ghost use Rattle.std.specs.Prelude.{◌≡◌, List, ◌++◌, length, ℕ, Some};
 ghost use Rattle.cw_i86.specs.Encoding.{bytes_of, IsInstr, BeginsWith};
 ghost use Rattle.cw_i86.specs.declared.instr.Instr.{Instr};
 ghost use Rattle.cw_dec86.specs.declared.Decoded.{Decoded};
 ghost use Rattle.cw_dec86.specs.Decoding.{Reads};
+ghost use Rattle.cw_dec86.specs.Rows.{instr_at};
 
 mod rows;
 
@@ -49,4 +50,9 @@ pub fn no_instruction_begins_another()
     ensures front { (bytes : List ℕ) (i j : Instr) → IsInstr i → IsInstr j → BeginsWith bytes i → BeginsWith bytes j → i ≡ j }
     ensures same { (i j : Instr) → IsInstr i → IsInstr j → bytes_of i ≡ bytes_of j → i ≡ j }
     ensures begins { (i j : Instr) → IsInstr i → IsInstr j → BeginsWith (bytes_of i) j → i ≡ j }
+{}
+
+/// A law, and no work: the rows read back each instruction from its bytes, whatever stands behind them.
+pub fn rows_read_back()
+    ensures { (i : Instr) (rest : List ℕ) → IsInstr i → instr_at (bytes_of i ++ rest) ≡ Some i }
 {}

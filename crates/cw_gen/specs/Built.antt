@@ -1,6 +1,6 @@
 -- The units that have orders so far. Whole words of items that stand at a place of their own, numbers without a fraction, sums,
 -- differences, negatives, assignments, output and lists of statements, all at scale 0.
-use Rattle.std.specs.Prelude.{ℕ, List, [], ◌∷◌, map, Bool, true, false, IsTrue, ◌&&◌, nat_eq, nat_lt, Option, is_none}
+use Rattle.std.specs.Prelude.{List, [], ◌∷◌, map, Bool, true, false, IsTrue, ◌&&◌, nat_eq, nat_lt, is_none}
 use Rattle.cw_unit.specs.declared.unit.Unit.{Unit as SourceUnit}
 use Rattle.cw_unit.specs.declared.unit.Num.{Num}
 use Rattle.cw_unit.specs.declared.unit.Target.{Target}
@@ -10,7 +10,6 @@ use Rattle.cw_unit.specs.declared.unit.Stmt.TheOpen as statement
 use Rattle.cw_unit.specs.declared.unit.Expr.{Expr, Expr-F, fold-Expr}
 use Rattle.cw_unit.specs.declared.unit.Arg.{Arg, fold-Arg}
 use Rattle.cw_unit.specs.declared.unit.Ref.{Ref, fold-Ref}
-use Rattle.cw_unit.specs.declared.unit.Spot.{Spot, fold-Spot}
 use Rattle.cw_unit.specs.declared.unit.Arg.TheOpen as layer
 use Rattle.cw_unit.specs.declared.unit.Arg.TheOpen.{Arg-F, Cond-F, Spot-F, Ref-F}
 

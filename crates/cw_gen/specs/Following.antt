@@ -1,5 +1,5 @@
 -- The source semantics as a deterministic machine, and the machine of the orders of the same units.
-use Rattle.std.specs.Prelude.{◌≢◌, ℕ, ◌<◌, ◌≤◌, List, map, All}
+use Rattle.std.specs.Prelude.{◌≢◌, ℕ, ◌<◌, ◌≤◌, List, [], map, All}
 use Rattle.cw_word.specs.FixedPoint.{FitsWord}
 use Rattle.cw_track.specs.Machine.{Machine}
 use Rattle.cw_track.specs.Tracking.{step_budget}
@@ -8,11 +8,10 @@ use Rattle.cw_unit.specs.declared.layout.Limits.{Limits}
 use Rattle.cw_unit.specs.declared.layout.Map.{Map}
 use Rattle.cw_unit.specs.Storage.{layout_of}
 use Rattle.cw_unit.specs.Program.{Program, program_at, item_address}
-use Rattle.cw_unit.specs.Stop.{Stuck}
 use Rattle.cw_unit.specs.InitialMemory.{initial_memory}
 use Rattle.cw_unit.specs.Configuration.{Configuration, words_of}
 use Rattle.cw_unit.specs.Step.{step}
-use Rattle.cw_unit.specs.Behaviour.{Shown, shown, configuration_after, observed}
+use Rattle.cw_unit.specs.Behaviour.{Shown, shown, configuration_after}
 use Rattle.cw_order.specs.declared.order.Orders.{Orders}
 use Rattle.cw_order.specs.OrderMachine.{OrderProgram, OrderState, operand_words, order_start}
 use Rattle.cw_gen.specs.ReferenceOrders.{unit_orders}
@@ -32,10 +31,11 @@ orders_program us m limits room = record { units = map orders_for us; addresses 
 abbrev pub first_order : List SourceUnit → Map → Limits → (room : ℕ) → (input : List ℕ) → OrderState
 first_order us m limits room input = order_start (orders_program us m limits room) (initial_memory us m limits.area) input
 
--- What the orders need of a program: a run that is never stuck, operands that have room, words that fit, and items whose addresses
--- are positive words
+-- What the orders need of a program: a unit, since the orders of none have no end; operands that have room, words that fit, and items
+-- that stand in the data area, whose addresses are positive words
 pub record Suits (us : List SourceUnit) (m : Map) (limits : Limits) (room : ℕ) (input : List ℕ) : Type 0 where
-  pub never_stuck : (n : ℕ) → (observed (program_at us m limits) input n).end ≢ Stuck
+  pub not_empty : us ≢ []
   pub has_room : (n : ℕ) → operand_words (words_of (configuration_after (program_at us m limits) input n)).operands ≤ room
   pub words_fit : All FitsWord (initial_memory us m limits.area)
-  pub addresses : (g item : ℕ) → item_address (program_at us m limits) g item 0 < 32768
+  pub area : limits.area ≤ 32768
+  pub addresses : (g item : ℕ) → item_address (program_at us m limits) g item 0 < limits.area

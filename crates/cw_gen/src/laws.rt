@@ -18,7 +18,9 @@ pub fn orders_follow_meaning()
     ensures { (us : List SourceUnit) (m : Map) (limits : Limits) (room : ℕ) (input : List ℕ) → AllBuilt us → Suits us m limits room input →
         Tracks is_running (meaning (program_at us m limits)) (initial_configuration (program_at us m limits) input)
         (order_machine (orders_program us m limits room)) (first_order us m limits room input) }
-{}
+{
+    cw_order::laws::words();
+}
 
 /// The numbers in such orders are words, and a body begins with the first order of its list.
 pub fn order_words()

@@ -1,3 +1,11 @@
 pub mod Growing
 pub mod Filling
 pub mod Blank
+pub mod Standing
+pub mod Placement
+pub mod Rows
+pub mod Chains
+pub mod Routines
+pub mod Numbers
+pub mod Orders
+pub mod Following

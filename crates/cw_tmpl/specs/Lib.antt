@@ -5,3 +5,5 @@ pub mod Templates
 pub mod ReferenceCode
 pub mod Assembling
 pub mod Blanks
+pub mod Showing
+pub mod Placing

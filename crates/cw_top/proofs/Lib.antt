@@ -8,3 +8,5 @@ pub mod Causes
 pub mod Texts
 pub mod FewOrders
 pub mod Sizes
+pub mod Loaded
+pub mod Meant

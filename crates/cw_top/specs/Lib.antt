@@ -3,3 +3,4 @@ pub mod Closing
 pub mod Listing
 pub mod ReferenceImage
 pub mod Correct
+pub mod Meaning

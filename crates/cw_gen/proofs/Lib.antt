@@ -1,0 +1,5 @@
+pub mod Layers
+pub mod FittingOrders
+pub mod Carried
+pub mod Numbers
+pub mod Following

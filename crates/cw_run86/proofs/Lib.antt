@@ -1,0 +1,10 @@
+pub mod Tests
+pub mod Told
+pub mod Runs
+pub mod Memory
+pub mod Goes
+pub mod Moves
+pub mod Stack
+pub mod Sums
+pub mod Jumps
+pub mod Begins

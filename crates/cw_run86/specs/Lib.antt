@@ -1,0 +1,3 @@
+pub mod Fetching
+pub mod Processor
+pub mod Views

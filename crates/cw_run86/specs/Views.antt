@@ -1,0 +1,108 @@
+-- What the code of a program deals with of a processor: registers, the words of the data segment and of the stack segment at even
+-- offsets, code that nothing changes, and what was told to the ports. And what instructions do to that.
+use Rattle.std.specs.Prelude.{◌≡◌, ℕ, ◌+◌, ◌-◌, ◌*◌, ◌%◌, ◌^◌, ◌<◌, ◌≤◌, nat_eq, Bool, false, List, [], ◌∷◌, length, slice_index, slice_set, ◌+ℤ◌, ◌-ℤ◌, if◌then◌else◌}
+use Rattle.cw_i86.specs.Encoding.{bytes_of, IsInstr}
+use Rattle.cw_i86.specs.Sums.{overflows, signed}
+use Rattle.cw_i86.specs.State.{byte_at, word_at, data_segment, stack_segment}
+use Rattle.cw_i86.specs.declared.instr.Instr.{Instr}
+use Rattle.cw_i86.specs.MachineRun.{Running}
+use Rattle.cw_run86.specs.Processor.{Processor, Told, nothing_told, processor_step}
+
+-- The words of the two segments are functions of their numbers: word k is at offset 2k, and there are 32,768 of each.
+pub record View : Type 0 where
+  pub registers : List ℕ
+  pub place : ℕ
+  pub overflow : Bool
+  pub cells : ℕ → ℕ
+  pub stack : ℕ → ℕ
+  pub input : List ℕ
+  pub told : Told
+
+abbrev pub code_segment : ℕ
+code_segment = 0x1000
+
+-- The processor is at work, has this code in its code segment, and all else is as the view says.
+pub record Sees (code : List ℕ) (v : View) (p : Processor) : Type 0 where
+  pub at_work : p.end ≡ Running
+  pub bytes : length p.state.memory ≡ 2 ^ 20
+  pub fits : length code ≤ 65536
+  pub segment : p.state.code_segment ≡ code_segment
+  pub code_bytes : (k : ℕ) → k < length code → byte_at p.state.memory code_segment k ≡ slice_index code k
+  pub registers : p.state.registers ≡ v.registers
+  pub place : p.state.instruction_pointer ≡ v.place
+  pub overflow : p.state.flags.of ≡ v.overflow
+  pub words : (k : ℕ) → k < 32768 → word_at p.state.memory data_segment (2 * k) ≡ v.cells k
+  pub stack : (k : ℕ) → k < 32768 → word_at p.state.memory stack_segment (2 * k) ≡ v.stack k
+  pub input : p.input ≡ v.input
+  pub told : p.told ≡ v.told
+
+-- the instruction stands in the code at a place
+pub record Has (code : List ℕ) (place : ℕ) (i : Instr) : Type 0 where
+  pub is_instr : IsInstr i
+  pub within : place + length (bytes_of i) ≤ length code
+  pub bytes : (k : ℕ) → k < length (bytes_of i) → slice_index code (place + k) ≡ slice_index (bytes_of i) k
+
+-- from each processor with the first view, one instruction leads to one with the second
+abbrev pub Goes : List ℕ → View → View → Type 0
+Goes code v w = (p : Processor) → Sees code v p → Sees code w (processor_step p)
+
+-- ---- what instructions do to views
+
+abbrev pub register : View → ℕ → ℕ
+register v r = slice_index v.registers r
+
+-- word k of a segment is replaced
+abbrev pub put_word : (ℕ → ℕ) → (number word : ℕ) → ℕ → ℕ
+put_word words k w n = if nat_eq n k then w else words n
+
+-- past an instruction
+abbrev pub on : Instr → View → View
+on i v = record v { place = (v.place + length (bytes_of i)) % 65536 }
+
+abbrev pub with_place : ℕ → View → View
+with_place n v = record v { place = n }
+
+abbrev pub with_register : ℕ → ℕ → View → View
+with_register r w v = record v { registers = slice_set v.registers r w }
+
+-- a register and the overflow flag
+abbrev pub with_result : ℕ → ℕ → Bool → View → View
+with_result r w overflow v = record v { registers = slice_set v.registers r w; overflow = overflow }
+
+abbrev pub with_cell : (number word : ℕ) → View → View
+with_cell k w v = record v { cells = put_word v.cells k w }
+
+abbrev pub with_stack : (number word : ℕ) → View → View
+with_stack k w v = record v { stack = put_word v.stack k w }
+
+abbrev pub with_told : Told → View → View
+with_told t v = record v { told = t }
+
+-- whether a sum or a difference of words, as signed numbers, fits no word
+abbrev pub sum_overflows : ℕ → ℕ → Bool
+sum_overflows a b = overflows 32768 (signed 32768 a +ℤ signed 32768 b)
+
+abbrev pub difference_overflows : ℕ → ℕ → Bool
+difference_overflows a b = overflows 32768 (signed 32768 a -ℤ signed 32768 b)
+
+abbrev pub word_sum : ℕ → ℕ → ℕ
+word_sum a b = (a + b) % 65536
+
+abbrev pub word_difference : ℕ → ℕ → ℕ
+word_difference a b = (a + 65536 - b) % 65536
+
+-- SP is the offset of word n; 32,768 is past the last one
+abbrev pub IsTop : View → ℕ → Type 0
+IsTop v n = register v 4 ≡ 2 * n % 65536
+
+-- the view of a start: registers, flags and all words but these are 0
+abbrev pub starting_view : (words input : List ℕ) → View
+starting_view words input = record {
+  registers = 0 ∷ 0 ∷ 0 ∷ 0 ∷ 0 ∷ 0 ∷ 0 ∷ 0 ∷ [];
+  place = 0;
+  overflow = false;
+  cells = slice_index words;
+  stack = λ k. 0;
+  input = input;
+  told = nothing_told;
+}

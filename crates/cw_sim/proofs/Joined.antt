@@ -1,0 +1,107 @@
+-- The two halves, one on the other, and the bound in steps.
+use Rattle.std.proofs.Common.{◌≡◌, ◌≢◌, ◌⊎◌, ℕ, zero, suc, ◌+◌, ◌*◌, ◌≤◌, false, List, refl, sym, ap, ◌∙◌, subst, inl, inr, ⊎_elim, arith}
+use Rattle.cw_track.specs.Machine.{state_after, shown_after}
+use Rattle.cw_track.specs.Tracking.{Tracks, TracksAfter, KeepsPace, step_ratio}
+use Rattle.cw_track.proofs.Composition.{tracks_through}
+use Rattle.cw_track.proofs.Budgets.{keeps_budget}
+use Rattle.cw_i86.specs.State.{State}
+use Rattle.cw_i86.specs.MachineRun as run
+use Rattle.cw_unit.specs.declared.unit.Unit.{Unit as SourceUnit}
+use Rattle.cw_unit.specs.declared.layout.Limits.{Limits}
+use Rattle.cw_unit.specs.declared.layout.Map.{Map}
+use Rattle.cw_unit.specs.Program.{Program, program_at}
+use Rattle.cw_unit.specs.InitialMemory.{initial_memory}
+use Rattle.cw_unit.specs.Configuration.{Configuration}
+use Rattle.cw_unit.specs.Step.{steps}
+use Rattle.cw_unit.specs.Stop.{stop_number, Stopped, Stuck}
+use Rattle.cw_unit.specs.Behaviour.{shown, is_running, initial_configuration, observed as meant}
+use Rattle.cw_order.specs.OrderMachine.{OrderProgram, order_machine}
+use Rattle.cw_gen.specs.Following.{meaning, orders_program, first_order, Suits}
+use Rattle.cw_tmpl.specs.Showing.{end_of, shown_as}
+use Rattle.cw_tmpl.specs.Placing.{Codable, NeverStuck, startup_cost}
+use Rattle.cw_run86.specs.Processor.{Processor, processor, processor_start, processor_after, processor_step, observed}
+use Rattle.cw_sim.specs.Preservation.{TellsEnd, ShowsAs, Preserves, Completes, IsLoaded}
+use Rattle.cw_sim.proofs.Given.{Given}
+use Rattle.cw_sim.proofs.Ends.{shows_as, stop_back}
+use Rattle.cw_sim.proofs.Stops.{overflow_alone as only}
+
+-- the machines go the steps of the definitions
+steps_are : (p : Program) (n : ℕ) (c : Configuration) → state_after (meaning p) n c ≡ steps p n c
+steps_are p zero c = refl
+steps_are p (suc n) c = steps_are p n _
+
+instructions_are : (n : ℕ) (q : Processor) → state_after (processor shown_as) n q ≡ processor_after n q
+instructions_are zero q = refl
+instructions_are (suc n) q = instructions_are n (processor_step q)
+
+module _ (given : Given) (us : List SourceUnit) (m : Map) (limits : Limits) (input : List ℕ) (s : State) (loaded : IsLoaded us m limits input s) where
+  abbrev p : Program
+  p = program_at us m limits
+
+  abbrev q : OrderProgram
+  q = orders_program us m limits loaded.room
+
+  means : (n : ℕ) → shown_after (meaning p) n (initial_configuration p input) ≡ meant p input n
+  means n = ap shown (steps_are p n (initial_configuration p input))
+
+  not_stuck : (n : ℕ) → (shown_after (meaning p) n (initial_configuration p input)).end ≢ Stuck
+  not_stuck n e = loaded.never_stuck n (ap (λ x. x.end) (sym (means n)) ∙ e)
+
+  upper : Tracks is_running (meaning p) (initial_configuration p input) (order_machine q) (first_order us m limits loaded.room input)
+  upper = given.upper us m limits loaded.room input loaded.built loaded.suits
+
+  orders_never_stuck : NeverStuck q (initial_memory us m limits.area) input
+  orders_never_stuck k e = let a = upper.shows_only k in not_stuck a.0 (ap (λ x. x.end) (sym a.1) ∙ e)
+
+  codable : Codable q
+  codable = record {
+    constants = given.constants us m limits loaded.room loaded.built;
+    lines = given.lines us m limits loaded.room loaded.built;
+    entries = given.entries us m limits loaded.room;
+    room = loaded.within;
+  }
+
+  lower : TracksAfter is_running startup_cost (order_machine q) (first_order us m limits loaded.room input) (processor shown_as) (processor_start s input)
+  lower = given.lower q loaded.image loaded.words (initial_memory us m limits.area) input s loaded.is_image codable loaded.begins orders_never_stuck loaded.starts
+
+  whole : TracksAfter is_running 21 (meaning p) (initial_configuration p input) (processor shown_as) (processor_start s input)
+  whole = tracks_through is_running (meaning p) (order_machine q) (processor shown_as) 0 21 21 _ _ _ refl upper lower
+
+  pace : KeepsPace is_running 256 (meaning p) (initial_configuration p input) (processor shown_as) (processor_start s input)
+  pace = keeps_budget is_running (meaning p) (processor shown_as) 21 (let l : 21 ≤ 32 = omega arith in l) (λ c. let l : 224 ≤ 224 = omega arith in l) (λ c. let l : 1 ≤ 1 = omega arith in l) _ _ whole
+
+  -- what the processor shows after so many instructions
+  shown_then : (k : ℕ) → shown_after (processor shown_as) k (processor_start s input) ≡ shown_as (observed (processor_after k (processor_start s input)))
+  shown_then k = ap (λ x. shown_as (observed x)) (instructions_are k (processor_start s input))
+
+  shows_then : (k n : ℕ) → shown_after (processor shown_as) k (processor_start s input) ≡ shown_after (meaning p) n (initial_configuration p input) → ShowsAs (observed (processor_after k (processor_start s input))) (meant p input n)
+  shows_then k n e = shows_as _ _ (sym (shown_then k) ∙ (e ∙ means n)) (loaded.never_stuck n)
+
+  pub preserves : (k : ℕ) (o : run.Observed) → run.Shows s input k o → Preserves p input k o
+  preserves k o shows =
+      let a = pace.shows_only k in
+      let same : observed (processor_after k (processor_start s input)) ≡ o = given.once s input k _ _ (given.runs s input k loaded.bytes) shows in
+      record {
+        steps = a.0;
+        shows = subst (λ x. ShowsAs x (meant p input a.0)) same (shows_then k a.0 a.1);
+        pace = ⊎_elim
+            (λ (l : k ≤ 256 * (a.0 + 1)). inl l)
+            (λ (off : is_running (shown_after (processor shown_as) k (processor_start s input)) ≡ false). inr (ap is_running (sym (a.1 ∙ means a.0)) ∙ off))
+            a.2;
+      }
+
+  pub completes : (n : ℕ) → Completes p input n s
+  completes n =
+      let a = pace.shows_all n in
+      record { k = a.0; shown = observed (processor_after a.0 (processor_start s input)); shows_at = given.runs s input a.0 loaded.bytes; shows = shows_then a.0 n a.1; pace = a.2 }
+
+  pub overflow_alone : (k : ℕ) (o : run.Observed) (kind segment line : ℕ) → run.Shows s input k o → o.end ≡ run.Stopped kind segment line → kind ≡ 1
+  overflow_alone k o kind segment line shows e =
+      let a = lower.shows_only k in
+      let h = (preserves k o shows).shows.end in
+      let t = subst (λ x. TellsEnd x (meant p input (preserves k o shows).steps).end) e h in
+      let same : observed (processor_after k (processor_start s input)) ≡ o = given.once s input k _ _ (given.runs s input k loaded.bytes) shows in
+      let first : (shown_as o).end ≡ Stopped t.0 segment line = ap end_of e ∙ ap (λ n. end_of (run.Stopped n segment line)) t.1 ∙ stop_back t.0 segment line in
+      let second : (shown_after (order_machine q) a.0 (first_order us m limits loaded.room input)).end ≡ Stopped t.0 segment line =
+      ap (λ x. x.end) (sym a.1 ∙ shown_then k ∙ ap shown_as same) ∙ first in
+      t.1 ∙ ap stop_number (only q a.0 (initial_memory us m limits.area) input t.0 segment line second)

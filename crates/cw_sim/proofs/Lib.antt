@@ -1,0 +1,4 @@
+pub mod Given
+pub mod Ends
+pub mod Stops
+pub mod Joined

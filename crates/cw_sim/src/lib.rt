@@ -1,0 +1,4 @@
+//! The simulation theorem: linked image against source semantics.
+#![tactic(auto)]
+
+pub mod laws;
