@@ -1,12 +1,13 @@
 -- A definition is read as the definition of its step says.
 use Rattle.std.proofs.Common.{ℕ, List, length, map, Option, Some, subst, ap, refl, ◌∙◌}
 use Rattle.std.specs.Prelude.{IfSome}
+use Rattle.std.specs.List.{flat_map}
 use Rattle.std.specs.Str.{str_to_ascii_uppercase}
 use Rattle.cw_lex.specs.Lexical.{view}
 use Rattle.cw_macro.specs.declared.definition.Heading.{Heading as HeadingRead}
 use Rattle.cw_macro.specs.Expansion.{Leveled, Heading, Macro, Definitions, Part, defining, heading, redefined}
 use Rattle.cw_macro.specs.Premises.{Each, IsPlaced}
-use Rattle.cw_macro.specs.Views.{HasHeading, left_of, expansion_of, part_of, refuses, lacks_body, defines}
+use Rattle.cw_macro.specs.Views.{HasHeading, left_of, expansion_of, parts_of, refuses, lacks_body, defines}
 use Rattle.cw_macro.proofs.Next.{IsRead, heading_rest}
 use Rattle.cw_macro.proofs.expansion.Expansion.define.Goals as goal
 
@@ -45,7 +46,7 @@ returns c =
     let body = (rw c.in-Some-2.is at c.in_ok-body.ensures) x.names x.numbering in
     let e = expansion_of c.args.self.now in
     let made : Macro → Definitions = λ m. redefined e.definitions (str_to_ascii_uppercase c.in-Some.heading.name.now) (Some m) in
-    let sizes = ap (λ (n : ℕ). made (record { parameters = n; body = map part_of c.in-Some-2.body })) (c.len-parameters.ensures x.names x.numbering) in
+    let sizes = ap (λ (n : ℕ). made (record { parameters = n; body = flat_map parts_of c.in-Some-2.body })) (c.len-parameters.ensures x.names x.numbering) in
     let parts = ap (λ (ps : List Part). made (record { parameters = length x.names; body = ps })) body.2 in
     defines (ap (defining c.args.line) (x.is c.args.line)) body.1
     (ap (λ (d : Definitions). record e { definitions = d; left = left_of c.read_heading.new.left }) (c.in_ok-define.ensures ∙ sizes ∙ parts))
