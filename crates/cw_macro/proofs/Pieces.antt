@@ -1,5 +1,5 @@
 -- Bodies as pieces, in which parameters stand in runs.
-use Rattle.std.proofs.Common.{◌≡◌, ℕ, zero, suc, ◌+◌, ◌<◌, ◌≤◌, Bool, true, false, cond, List, [], ◌∷◌, ◌++◌, length, map, take, get_or, Option, Some, None, refl, sym, ap, ap₂, subst, ◌∙◌, arith, Result, Ok, Err}
+use Rattle.std.proofs.Common.{◌≡◌, ℕ, zero, suc, ◌+◌, ◌<◌, ◌≤◌, Bool, true, false, cond, List, [], ◌∷◌, ◌++◌, length, take, get_or, Option, Some, None, refl, sym, ap, ap₂, subst, ◌∙◌, arith, Result, Ok, Err}
 use Rattle.std.specs.Prelude.{nat_le, OnOk}
 use Rattle.std.specs.List.{flat_map, list_all, slice_get}
 use Rattle.std.proofs.lemmas.List.{append-nil, length-append}
@@ -73,8 +73,14 @@ pub more_than : {A B C : Type 0} (g : B → List C) (f : A → List B) (xs : Lis
 more_than g f [] i d h = absurd (omega (arith, h))
 more_than g f (x ∷ xs) zero d h = omega (arith, ap length (flat_map-append g (f x) (flat_map f xs)), length-append (flat_map g (f x)) (flat_map g (flat_map f xs)))
 more_than g f (x ∷ xs) (suc i) d h =
-    omega (arith, more_than g f xs i d (omega (arith, h)), ap length (flat_map-append g (f x) (flat_map f xs)), length-append (flat_map g (f x)) (flat_map g (flat_map f xs)),
-      ap length (flat_map-append g (f x) (flat_map f (take i xs))), length-append (flat_map g (f x)) (flat_map g (flat_map f (take i xs))))
+    omega (
+      arith,
+      more_than g f xs i d (omega (arith, h)),
+      ap length (flat_map-append g (f x) (flat_map f xs)),
+      length-append (flat_map g (f x)) (flat_map g (flat_map f xs)),
+      ap length (flat_map-append g (f x) (flat_map f (take i xs))),
+      length-append (flat_map g (f x)) (flat_map g (flat_map f (take i xs))),
+    )
 
 not_within : (n : ℕ) → MOST_REPLACED < n → nat_le n MOST_REPLACED ≡ false
 not_within n h = grind (arith, nat_tests)
@@ -114,5 +120,6 @@ same_count n xs h e = at (n + length xs) (omega (arith, ap length e))
   where
     is_within : nat_le n MOST_REPLACED ≡ true
     is_within = grind (arith, nat_tests)
+
     at : (m : ℕ) → m ≡ n → Some n ≡ within_limit m
     at m q = ap (λ (b : Bool). cond b (Some n) None) (sym is_within) ∙ ap within_limit (sym q)
