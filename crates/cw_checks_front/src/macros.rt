@@ -318,6 +318,46 @@ fn long_replacements(rt: HostRuntime) -> Result<(), Fail> {
     Ok(())
 }
 
+// A macro whose body has so many times both its parameters, and so many calls with empty arguments before the last.
+fn empty_arguments(
+    alloc: Global,
+    pairs: u32,
+    calls: u32,
+    last: &[u8],
+) -> Result<Vec<u8>, AllocError> {
+    let mut text = Vec::new(alloc);
+    text.extend_from_slice(b"DEFINE K(X,Y) \"")?;
+    push_times(&mut text, b"X Y ", pairs)?;
+    text.extend_from_slice(b"\";")?;
+    push_times(&mut text, b"K(,)", calls)?;
+    text.extend_from_slice(last)?;
+    Ok(text)
+}
+
+#[test]
+fn parameters_without_tokens(rt: HostRuntime) -> Result<(), Fail> {
+    let alloc = rt.alloc();
+    assert!(rt;
+        matches!(
+            size(alloc, &empty_arguments(alloc, 20_000, 20_000, b"")?)?,
+            Ok(0)
+        )
+    );
+    assert!(rt;
+        matches!(
+            size(alloc, &empty_arguments(alloc, 600, 3, b"K(,1)")?)?,
+            Ok(600)
+        )
+    );
+    assert!(rt;
+        matches!(
+            size(alloc, &empty_arguments(alloc, 600, 3, b"K(1;2,)")?)?,
+            Ok(1_800)
+        )
+    );
+    Ok(())
+}
+
 // The text of a fault is its name.
 #[test]
 fn names_of_faults(rt: HostRuntime) -> Result<(), Fail> {

@@ -1,5 +1,5 @@
 -- Bodies as pieces, in which parameters stand in runs.
-use Rattle.std.proofs.Common.{◌≡◌, ℕ, zero, suc, ◌+◌, ◌<◌, ◌≤◌, Bool, true, false, cond, List, [], ◌∷◌, ◌++◌, length, map, take, get_or, Option, Some, None, refl, sym, ap, ap₂, subst, ◌∙◌, arith, Result, Ok, Err}
+use Rattle.std.proofs.Common.{◌≡◌, ℕ, zero, suc, ◌+◌, ◌<◌, ◌≤◌, Bool, true, false, cond, List, [], ◌∷◌, ◌++◌, length, take, get_or, Option, Some, None, refl, sym, ap, ap₂, subst, ◌∙◌, arith, Result, Ok, Err}
 use Rattle.std.specs.Prelude.{nat_le, OnOk}
 use Rattle.std.specs.List.{flat_map, list_all, slice_get}
 use Rattle.std.proofs.lemmas.List.{append-nil, length-append}
