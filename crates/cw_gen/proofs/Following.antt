@@ -1,7 +1,7 @@
 -- The orders follow the source, step by step: each step of the source is carried out by one order, by the two that begin a statement, or
 -- by none, and then the pending work has become smaller.
 use Rattle.std.proofs.Common.{◌≡◌, ◌≢◌, ◌⊎◌, inl, inr, ℕ, zero, suc, ◌+◌, ◌%◌, ◌<◌, ◌≤◌, ℤ, pos, ◌+ℤ◌, ◌-ℤ◌, neg_ℤ, List, [], ◌∷◌, ◌++◌, map, set, Bool, true, false, Option, Some, None, refl, sym, ap, ◌∙◌, subst, arith}
-use Rattle.std.specs.Prelude.{slice_get, slice_index_or, option_map, is_none, nat_lt, nat_eq, IsTrue, ◌&&◌, if◌then◌else◌}
+use Rattle.std.specs.Prelude.{All, slice_get, slice_index_or, option_map, is_none, nat_lt, nat_eq, IsTrue, ◌&&◌, if◌then◌else◌}
 use Rattle.std.proofs.lemmas.Bool.{false≢true, true≢false, lt-ltb, le-leb, eqb-true}
 use Rattle.std.proofs.lemmas.Option.{none-some, same_Some, slice_get-map}
 use Rattle.std.proofs.lemmas.List.Elements.{All-head, All-nil}
@@ -40,13 +40,17 @@ use Rattle.cw_unit.specs.InitialMemory.{initial_memory}
 use Rattle.cw_unit.specs.Behaviour.{Shown, is_running, first_body, initial_configuration}
 use Rattle.cw_order.specs.declared.order.Order.{Order}
 use Rattle.cw_order.specs.declared.order.Order.TheVariants as order
-use Rattle.cw_order.specs.OrderMachine.{OrderProgram, OrderState, at as state, home_word, action_of, operand_words, go_on, after as order_after, unrefused, next_body as order_next_body, act, order_in, order_at, carry_out, weight_of, weight_at, entry_of, step as order_step, order_machine}
-use Rattle.cw_order.specs.FittingWords.{OperandFits, WordsFit, ConstantsFit, words_of as words_in}
+use Rattle.cw_order.specs.OrderProgram.{OrderProgram, order_in, order_at}
+use Rattle.cw_order.specs.OrderState.{OrderState, at as state, operand_words}
+use Rattle.cw_order.specs.OrderActions.{home_word, action_of}
+use Rattle.cw_order.specs.OrderCosts.{weight_of, weight_at}
+use Rattle.cw_order.specs.OrderMachine.{go_on, after as order_after, unrefused, next_body as order_next_body, act, carry_out, entry_of, step as order_step, order_machine}
+use Rattle.cw_order.specs.FittingWords.{OperandFits, WordsFit, ActivationFits, StateFits}
 use Rattle.cw_gen.specs.Built.{is_built_expression, is_built_argument, is_built_ref, is_built_call, is_built_statement, all, AllBuilt}
 use Rattle.cw_gen.specs.ReferenceOrders.{joined, home_order, load_orders, rescale_orders, store_orders, number_word, begin_orders, call_orders, put_orders, expression_orders, argument_orders, spot_orders, ref_orders, statement_orders}
 use Rattle.cw_gen.specs.Following.{meaning, orders_for, orders_program, first_order, Suits}
 use Rattle.cw_gen.proofs.Layers.{is_built_spot, built_expression, built_argument, built_spot, built_statement, expression-built, argument-built, spot-built, ref-built, statement-built, layer_expression_orders, layer_argument_orders, layer_spot_orders, layer_statement_orders, expression_orders-are, argument_orders-are, spot_orders-are, ref_orders-are, statement_orders-are, total, expression_size, argument_size, statement_size, read_size, sum_size, difference_size, negative_size, value_size, list_size}
-use Rattle.cw_gen.proofs.FittingOrders.{both, has_orders, constants-fit}
+use Rattle.cw_gen.proofs.FittingOrders.{both, has_orders}
 use Rattle.cw_gen.proofs.Numbers.{signed-small, tested, rescaled-same, number-is}
 use Rattle.cw_gen.proofs.Carried.{Stands, parted, placed, on_word, on_address, OperationAt, CarriesOut}
 
@@ -80,11 +84,11 @@ module _ (us : List SourceUnit) (m : Map) (limits : Limits) (room : ℕ) where
   abbrev B : Machine Shown
   B = order_machine compiled
 
-  -- a configuration and a state of the orders that belong together: the words are the same, and the code carries out the work; once
+  -- a configuration and a state of the orders [] that belong together: the words are the same, and the code carries out the work; once
   -- the run is over both rest
   pub data Together : Configuration → OrderState → Type 0 where
-    going : {g q l : ℕ} {k : Work} {w : Words} (u : SourceUnit) → slice_get us g ≡ Some u → CarriesOut limits.area (layout_of u) (orders_for u).list q l w.operands k → Together (configuration g k [] w Running) (state g q l w Running)
-    over : {s g q l : ℕ} {k : Work} {acts : List Activation} {w : Words} {e : End} → is_running (record { output = w.output; end = e }) ≡ false → Together (configuration s k acts w e) (state g q l w e)
+    going : {g q l : ℕ} {k : Work} {w : Words} (u : SourceUnit) → slice_get us g ≡ Some u → CarriesOut limits.area (layout_of u) (orders_for u).list q l w.operands k → Together (configuration g k [] w Running) (state g q l [] w Running)
+    over : {s g q l : ℕ} {k : Work} {acts : List Activation} {w : Words} {e : End} → is_running (record { output = w.output; end = e }) ≡ false → Together (configuration s k acts w e) (state g q l [] w e)
 
   -- how many steps of the source may pass before an order is carried out
   abbrev work_size : Work → ℕ
@@ -140,38 +144,38 @@ module _ (us : List SourceUnit) (m : Map) (limits : Limits) (room : ℕ) where
     Roomy k w = operand_words (words_of (A.step (configuration g k [] w Running))).operands ≤ room
 
     abbrev From : Work → (q l : ℕ) → Words → Type 0
-    From k q l w = Goes (configuration g k [] w Running) (state g q l w Running)
+    From k q l w = Goes (configuration g k [] w Running) (state g q l [] w Running)
 
     order_here : (q : ℕ) (o : Order) → slice_get code q ≡ Some o → order_at compiled g q ≡ Some o
-    order_here q o h = ap (λ v. order_in compiled v q) (slice_get-map orders_for us g ∙ ap (option_map orders_for) unit_is) ∙ h
+    order_here q o h = ap (λ v. order_in v q) (slice_get-map orders_for us g ∙ ap (option_map orders_for) unit_is) ∙ h
 
     -- by one order
-    acted : (now : Work) (c : Configuration) (q l : ℕ) (w : Words) (o : Order) (t : OrderState) → slice_get code q ≡ Some o → 0 < weight_of o → weight_of o ≤ 224 → A.step (configuration g now [] w Running) ≡ c → act compiled (action_of m g o) g q l w ≡ t → Together c t → From now q l w
+    acted : (now : Work) (c : Configuration) (q l : ℕ) (w : Words) (o : Order) (t : OrderState) → slice_get code q ≡ Some o → 0 < weight_of o → weight_of o ≤ 224 → A.step (configuration g now [] w Running) ≡ c → act compiled (action_of compiled g [] o) g q l [] w ≡ t → Together c t → From now q l w
     acted now c q l w o t h positive small e f together =
         let at_q = order_here q o h in
         record {
           spent = weight_of o;
           reached = t;
-          path = move (inl refl) (ap (λ x. carry_out compiled x g q l w) at_q ∙ f) (let s : weight_of o ≡ weight_at (order_at compiled g q) + 0 = omega (arith, ap weight_at at_q) in s) (stay refl refl);
+          path = move (inl refl) (ap (λ x. carry_out compiled x g q l [] w) at_q ∙ f) (let s : weight_of o ≡ weight_at (order_at compiled g q) + 0 = omega (arith, ap weight_at at_q) in s) (stay refl refl);
           within = small;
           belongs = subst (λ d. Together d t) (sym e) together;
           progress = inl positive;
         }
 
     -- by an order that changes the words
-    changed : (now k : Work) (q l : ℕ) (w v : Words) (o : Order) → slice_get code q ≡ Some o → 0 < weight_of o → weight_of o ≤ 224 → A.step (configuration g now [] w Running) ≡ configuration g k [] v Running → act compiled (action_of m g o) g q l w ≡ order_after room (Changed v) g q l w → Carried (q + 1) l v.operands k → Roomy now w → From now q l w
+    changed : (now k : Work) (q l : ℕ) (w v : Words) (o : Order) → slice_get code q ≡ Some o → 0 < weight_of o → weight_of o ≤ 224 → A.step (configuration g now [] w Running) ≡ configuration g k [] v Running → act compiled (action_of compiled g [] o) g q l [] w ≡ order_after room (Changed v) g q l [] w → Carried (q + 1) l v.operands k → Roomy now w → From now q l w
     changed now k q l w v o h positive small e f carried roomy =
         let fits : operand_words v.operands ≤ room = subst (λ c. operand_words (words_of c).operands ≤ room) e roomy in
-        acted now (configuration g k [] v Running) q l w o (state g (q + 1) l v Running) h positive small e
-        (f ∙ ap (λ b. go_on b g q l w v) (le-leb (operand_words v.operands) room fits))
+        acted now (configuration g k [] v Running) q l w o (state g (q + 1) l [] v Running) h positive small e
+        (f ∙ ap (λ b. go_on b g q l [] w v) (le-leb (operand_words v.operands) room fits))
         (going u unit_is carried)
 
     -- by an order that puts a value, or stops where it does not fit
-    valued : (b : Bool) (z : ℤ) (now k : Work) (q l line : ℕ) (w v : Words) (o : Order) → slice_get code q ≡ Some o → 0 < weight_of o → weight_of o ≤ 224 → A.step (configuration g now [] w Running) ≡ source_after (put_if b Overflow z v) g line now k [] w → act compiled (action_of m g o) g q l w ≡ order_after room (put_if b Overflow z v) g q l w → line ≡ l → Carried (q + 1) l (Word z ∷ v.operands) k → Roomy now w → From now q l w
+    valued : (b : Bool) (z : ℤ) (now k : Work) (q l line : ℕ) (w v : Words) (o : Order) → slice_get code q ≡ Some o → 0 < weight_of o → weight_of o ≤ 224 → A.step (configuration g now [] w Running) ≡ source_after (put_if b Overflow z v) g line now k [] w → act compiled (action_of compiled g [] o) g q l [] w ≡ order_after room (put_if b Overflow z v) g q l [] w → line ≡ l → Carried (q + 1) l (Word z ∷ v.operands) k → Roomy now w → From now q l w
     valued true z now k q l line w v o h positive small e f same carried roomy = changed now k q l w (put z v) o h positive small e f carried roomy
     valued false z now k q l line w v o h positive small e f same carried roomy =
-        acted now (configuration g now [] w (Stopped Overflow (g + 1) line)) q l w o (state g q l w (Stopped Overflow (g + 1) l)) h positive small e f
-        (subst (λ n. Together (configuration g now [] w (Stopped Overflow (g + 1) n)) (state g q l w (Stopped Overflow (g + 1) l))) (sym same) (over refl))
+        acted now (configuration g now [] w (Stopped Overflow (g + 1) line)) q l w o (state g q l [] w (Stopped Overflow (g + 1) l)) h positive small e f
+        (subst (λ n. Together (configuration g now [] w (Stopped Overflow (g + 1) n)) (state g q l [] w (Stopped Overflow (g + 1) l))) (sym same) (over refl))
 
     -- ---- operations
 
@@ -184,7 +188,7 @@ module _ (us : List SourceUnit) (m : Map) (limits : Limits) (room : ℕ) where
         let v = words rest memory input output in
         let kept : put_value (rescaled x from to) v ≡ Changed w =
         ap (λ z. put_value z v) (rescaled-same x from to a b) ∙ ap (λ t. put_if t Overflow x v) (tested x (All-head OperandFits (Word x) rest fits.operands)) in
-        silent (configuration g (Do (Rescale from to) line k) [] w Running) (configuration g k [] w Running) (state g q l w Running) (ap (λ o. source_after o g line (Do (Rescale from to) line k) k [] w) kept) (going u unit_is carried) (omega arith)
+        silent (configuration g (Do (Rescale from to) line k) [] w Running) (configuration g k [] w Running) (state g q l [] w Running) (ap (λ o. source_after o g line (Do (Rescale from to) line k) k [] w) kept) (going u unit_is carried) (omega arith)
     operation (Fetch field) line k q l hand memory input output same (whole, h, on_address {n = n} {rest = rest} lt carried) fits roomy =
         let w = words (Word (pos n) ∷ rest) memory input output in
         let v = words rest memory input output in
@@ -192,7 +196,7 @@ module _ (us : List SourceUnit) (m : Map) (limits : Limits) (room : ℕ) where
         ap (λ b. through b (λ i t. Changed (put (field_value None (word_at t.memory i)) t)) (pos n) v) (lt-ltb n limits.area lt) in
         changed (Do (Fetch field) line k) k q l w (put (word_at memory n) v) order.Load h (omega arith) (omega arith)
         (ap (λ s. source_after (perform limits.area (Fetch s) w) g line (Do (Fetch field) line k) k [] w) whole ∙ ap (λ o. source_after o g line (Do (Fetch field) line k) k [] w) read)
-        (ap (λ o. order_after room (unrefused o) g q l w) read)
+        (ap (λ o. order_after room (unrefused o) g q l [] w) read)
         (carried (word_at memory n))
         roomy
     operation (Store field) line k q l hand memory input output same (whole, h, on_address {n = n} {rest = below} lt (on_word {z = z} {rest = rest} carried)) fits roomy =
@@ -202,7 +206,7 @@ module _ (us : List SourceUnit) (m : Map) (limits : Limits) (room : ℕ) where
         ap (λ b. through b (λ i t. Changed (with_memory t (set t.memory i (stored_value None (word_at t.memory i) z)))) (pos n) v) (lt-ltb n limits.area lt) in
         changed (Do (Store field) line k) k q l w (with_memory v (set memory n z)) order.Store h (omega arith) (omega arith)
         (ap (λ s. source_after (perform limits.area (Store s) w) g line (Do (Store field) line k) k [] w) whole ∙ ap (λ o. source_after o g line (Do (Store field) line k) k [] w) stored)
-        (ap (λ o. order_after room (unrefused o) g q l w) stored)
+        (ap (λ o. order_after room (unrefused o) g q l [] w) stored)
         carried
         roomy
     operation Add line k q l hand memory input output same (h, on_word {z = y} {rest = below} (on_word {z = x} {rest = rest} carried)) fits roomy =
@@ -239,7 +243,7 @@ module _ (us : List SourceUnit) (m : Map) (limits : Limits) (room : ℕ) where
           let a = address_at program g [] item in
           changed (Address r line k) k q l w (put (pos a) w) (home_order (home item)) h (omega arith) (omega arith)
           (ap (λ x. address_step program (out-Ref r).at x g line k [] w) e)
-          (ap (λ z. order_after room (Changed (put z w)) g q l w) (home_is item))
+          (ap (λ z. order_after room (Changed (put z w)) g q l [] w) (home_is item))
           (subst (λ place. Carried place l (Word (pos a) ∷ w.operands) k) (sym end) (carried a (in_area g item)))
           roomy
       addressed r _ line k q l next w e b stands carried roomy = absurd (false≢true b)
@@ -253,7 +257,7 @@ module _ (us : List SourceUnit) (m : Map) (limits : Limits) (room : ℕ) where
       -- by no order, since the works that an expression becomes are carried out
       unfolds : (e : Expr) (x : Expr-F Arg Cond Expr Spot Ref) (scale line : ℕ) (k : Work) (q l : ℕ) (w : Words) → out-Expr e ≡ x → put_constant program x g scale [] w ≡ w → Carried q l w.operands (expression_work u x scale line k) → work_size (expression_work u x scale line k) < expression_size e + work_size k → From (Eval e scale line k) q l w
       unfolds e x scale line k q l w h same carried less =
-          silent (configuration g (Eval e scale line k) [] w Running) (configuration g (expression_work u x scale line k) [] w Running) (state g q l w Running)
+          silent (configuration g (Eval e scale line k) [] w Running) (configuration g (expression_work u x scale line k) [] w Running) (state g q l [] w Running)
           (evaluates e x scale line k w h ∙ ap (λ v. configuration g (expression_work u x scale line k) [] v Running) same)
           (going u unit_is carried)
           less
@@ -297,7 +301,7 @@ module _ (us : List SourceUnit) (m : Map) (limits : Limits) (room : ℕ) where
           let v = put (pos (decimal_floor n.whole n.digits n.places scale)) w in
           changed (Eval e scale line k) k q l w v (order.Const (number_word n)) at_q (omega arith) (omega arith)
           (evaluates e (layer.Num n) scale line k w h)
-          (ap (λ z. order_after room (Changed (put z w)) g q l w) (number-is n scale unscaled b))
+          (ap (λ z. order_after room (Changed (put z w)) g q l [] w) (number-is n scale unscaled b))
           (from_next q next l w.operands k end carried (pos (decimal_floor n.whole n.digits n.places scale)))
           roomy
       evaluated e (layer.Read r) scale line k q l next w h b stands unscaled same carried roomy =
@@ -326,7 +330,7 @@ module _ (us : List SourceUnit) (m : Map) (limits : Limits) (room : ℕ) where
       given a (layer.Value e scale) line k q l next w h b stands same carried =
           let tests = both (is_built_expression e) (nat_eq scale 0) b in
           let unscaled = eqb-true scale 0 tests.1 in
-          silent (configuration g (Give a line k) [] w Running) (configuration g (Eval e scale line k) [] w Running) (state g q l w Running)
+          silent (configuration g (Give a line k) [] w Running) (configuration g (Eval e scale line k) [] w Running) (state g q l [] w Running)
           (ap (λ x. give_step program x g line (Give a line k) k [] w) h)
           (going u unit_is (next, tests.0, subst (λ n. Stands code q (expression_orders layout e n) next) unscaled stands, unscaled, same, carried))
           (let less : expression_size e + work_size k < argument_size a + work_size k = omega (arith, value_size a e scale h) in less)
@@ -341,11 +345,11 @@ module _ (us : List SourceUnit) (m : Map) (limits : Limits) (room : ℕ) where
           let at_next = order_here (q + 1) (order.Line line) sets in
           record {
             spent = 1;
-            reached = state g (q + 1 + 1) line w Running;
-            path = move (inl refl) (ap (λ x. carry_out compiled x g q l w) at_q) (let z : 1 ≡ weight_at (order_at compiled g q) + 1 = omega (arith, ap weight_at at_q) in z)
-                (move (inl refl) (ap (λ x. carry_out compiled x g (q + 1) l w) at_next) (let z : 1 ≡ weight_at (order_at compiled g (q + 1)) + 0 = omega (arith, ap weight_at at_next) in z) (stay refl refl));
+            reached = state g (q + 1 + 1) line [] w Running;
+            path = move (inl refl) (ap (λ x. carry_out compiled x g q l [] w) at_q) (let z : 1 ≡ weight_at (order_at compiled g q) + 1 = omega (arith, ap weight_at at_q) in z)
+                (move (inl refl) (ap (λ x. carry_out compiled x g (q + 1) l [] w) at_next) (let z : 1 ≡ weight_at (order_at compiled g (q + 1)) + 0 = omega (arith, ap weight_at at_next) in z) (stay refl refl));
             within = (let z : 1 ≤ 224 = omega arith in z);
-            belongs = subst (λ d. Together d (state g (q + 1 + 1) line w Running)) (sym e) (going u unit_is carried);
+            belongs = subst (λ d. Together d (state g (q + 1 + 1) line [] w Running)) (sym e) (going u unit_is carried);
             progress = inl (let z : 0 < 1 = omega arith in z);
           }
 
@@ -397,7 +401,7 @@ module _ (us : List SourceUnit) (m : Map) (limits : Limits) (room : ℕ) where
           called s line t args k q l next memory input output h (both (nat_lt line 65536) (is_built_call t (map is_built_argument args)) b).1 stands carried
       runs s (statement.Seq ss) k q l next memory input output h b stands carried =
           let w = words [] memory input output in
-          silent (configuration g (Run s k) [] w Running) (configuration g (run_all ss k) [] w Running) (state g q l w Running)
+          silent (configuration g (Run s k) [] w Running) (configuration g (run_all ss k) [] w Running) (state g q l [] w Running)
           (ap (λ x. configuration g (statement_work 0 x k) [] w Running) h)
           (going u unit_is (row_carried ss k q l next b stands carried))
           (let less : work_size (run_all ss k) < statement_size s + work_size k = omega (arith, row_size ss k, list_size s ss h) in less)
@@ -408,13 +412,13 @@ module _ (us : List SourceUnit) (m : Map) (limits : Limits) (room : ℕ) where
       ends : (v : Option SourceUnit) (q l : ℕ) (memory : List ℤ) (input output : List ℕ) → slice_get us (g + 1) ≡ v → slice_get code q ≡ Some order.NextBody → From Nothing q l (words [] memory input output)
       ends None q l memory input output e h =
           let w = words [] memory input output in
-          acted Nothing (configuration g Nothing [] w Ended) q l w order.NextBody (state g q l w Ended) h (omega arith) (omega arith)
+          acted Nothing (configuration g Nothing [] w Ended) q l w order.NextBody (state g q l [] w Ended) h (omega arith) (omega arith)
           (ap (λ v. source_next_body program v g [] w) e)
           (ap (λ v. order_next_body v g q l w) (slice_get-map orders_for us (g + 1) ∙ ap (option_map orders_for) e))
           (over refl)
       ends (Some v) q l memory input output e h =
           let w = words [] memory input output in
-          acted Nothing (configuration (g + 1) (Run v.body Nothing) [] w Running) q l w order.NextBody (state (g + 1) 0 0 w Running) h (omega arith) (omega arith)
+          acted Nothing (configuration (g + 1) (Run v.body Nothing) [] w Running) q l w order.NextBody (state (g + 1) 0 0 [] w Running) h (omega arith) (omega arith)
           (ap (λ v. source_next_body program v g [] w) e)
           (ap (λ v. order_next_body v g q l w) (slice_get-map orders_for us (g + 1) ∙ ap (option_map orders_for) e))
           (going v e (begins has (g + 1) v 0 e))
@@ -447,23 +451,23 @@ module _ (us : List SourceUnit) (m : Map) (limits : Limits) (room : ℕ) where
   pub record Matches (c : Configuration) (t : OrderState) : Type 0 where
     pub belongs : Together c t
     pub has_room : HasRoom c
-    pub words_fit : WordsFit (words_in t)
+    pub words_fit : StateFits t
 
-  module _ (in_words : limits.area ≤ 32768) (in_area : (h item : ℕ) → item_address program h item 0 < limits.area) (has : AllBuilt us) (keeps : (t : OrderState) → WordsFit (words_in t) → WordsFit (words_in (B.step t))) where
-    path-fits : (Allowed : Shown → Type 0) (n : ℕ) (t v : OrderState) → Path Allowed B n t v → WordsFit (words_in t) → WordsFit (words_in v)
-    path-fits Allowed n t v (stay e z) fits = subst (λ x. WordsFit (words_in x)) e fits
-    path-fits Allowed n t v (move {w' = n'} {t' = t'} a e w p) fits = path-fits Allowed n' t' v p (subst (λ x. WordsFit (words_in x)) e (keeps t fits))
+  module _ (in_words : limits.area ≤ 32768) (in_area : (h item : ℕ) → item_address program h item 0 < limits.area) (has : AllBuilt us) (keeps : (t : OrderState) → StateFits t → StateFits (B.step t)) where
+    path-fits : (Allowed : Shown → Type 0) (n : ℕ) (t v : OrderState) → Path Allowed B n t v → StateFits t → StateFits v
+    path-fits Allowed n t v (stay e z) fits = subst StateFits e fits
+    path-fits Allowed n t v (move {w' = n'} {t' = t'} a e w p) fits = path-fits Allowed n' t' v p (subst StateFits e (keeps t fits))
 
-    going_on : (c : Configuration) (t : OrderState) → Together c t → is_running (A.shown c) ≡ true → WordsFit (words_in t) → HasRoom c → Goes c t
+    going_on : (c : Configuration) (t : OrderState) → Together c t → is_running (A.shown c) ≡ true → StateFits t → HasRoom c → Goes c t
     going_on c t (going {g = g} {q = q} {l = l} {k = k} {w = w} u unit_is carried) on fits room =
-        goes_on g u unit_is in_words in_area has k q l w.operands w.memory w.input w.output carried fits (room 1)
+        goes_on g u unit_is in_words in_area has k q l w.operands w.memory w.input w.output carried fits.words (room 1)
     going_on c t (over off) on fits room = absurd (true≢false (sym on ∙ off))
 
     agrees : (c : Configuration) (t : OrderState) → Together c t → B.shown t ≡ A.shown c
     agrees c t (going u unit_is carried) = refl
     agrees c t (over off) = refl
 
-    still : (s : ℕ) (k : Work) (acts : List Activation) (g q l : ℕ) (w : Words) (e : End) → is_running (record { output = w.output; end = e }) ≡ false → (A.step (configuration s k acts w e) ≡ configuration s k acts w e) × (B.step (state g q l w e) ≡ state g q l w e)
+    still : (s : ℕ) (k : Work) (acts : List Activation) (g q l : ℕ) (w : Words) (e : End) → is_running (record { output = w.output; end = e }) ≡ false → (A.step (configuration s k acts w e) ≡ configuration s k acts w e) × (B.step (state g q l [] w e) ≡ state g q l [] w e)
     still s k acts g q l w Running off = absurd (true≢false off)
     still s k acts g q l w Ended off = (refl, refl)
     still s k acts g q l w (Stopped kind h line) off = (refl, refl)
@@ -504,20 +508,23 @@ first : (us : List SourceUnit) → us ≢ [] → (u : SourceUnit) × (slice_get 
 first [] h = absurd (h refl)
 first (u ∷ us) h = (u, refl)
 
-pub follow_meaning : (us : List SourceUnit) (m : Map) (limits : Limits) (room : ℕ) (input : List ℕ) → ((p : OrderProgram) (t : OrderState) → ConstantsFit p → WordsFit (words_in t) → WordsFit (words_in (order_step p t))) → AllBuilt us → Suits us m limits room input → Tracks is_running (meaning (program_at us m limits)) (initial_configuration (program_at us m limits) input) (order_machine (orders_program us m limits room)) (first_order us m limits room input)
-follow_meaning us m limits room input keeps has suits =
+pub follow_meaning : (us : List SourceUnit) (m : Map) (limits : Limits) (room : ℕ) (input : List ℕ) → ((p : OrderProgram) (t : OrderState) → StateFits t → StateFits (order_step p t)) → AllBuilt us → Suits us m limits room input → All (λ b. b < 256) input → Tracks is_running (meaning (program_at us m limits)) (initial_configuration (program_at us m limits) input) (order_machine (orders_program us m limits room)) (first_order us m limits room input)
+follow_meaning us m limits room input keeps has suits bytes =
     let p = program_at us m limits in
     let q = orders_program us m limits room in
     let body = first us suits.not_empty in
     let words : Words = record { operands = []; memory = initial_memory us m limits.area; input = input; output = [] } in
     let starts : initial_configuration p input ≡ configuration 0 (Run body.0.body Nothing) [] words Running = ap (λ v. configuration 0 (first_body v) [] words Running) body.1 in
-    let enters : first_order us m limits room input ≡ state 0 0 0 words Running =
-    ap (λ v. state 0 (entry_of v) 0 words Running) (slice_get-map orders_for us 0 ∙ ap (option_map orders_for) body.1) in
-    tracked us m limits room suits.area suits.addresses has (λ t. keeps q t (constants-fit us m limits room has)) (initial_configuration p input) (first_order us m limits room input)
+    let enters : first_order us m limits room input ≡ state 0 0 0 [] words Running =
+    ap (λ v. state 0 (entry_of v) 0 [] words Running) (slice_get-map orders_for us 0 ∙ ap (option_map orders_for) body.1) in
+    tracked us m limits room suits.area suits.addresses has (keeps q) (initial_configuration p input) (first_order us m limits room input)
     (record {
       belongs =
           subst (λ c. Together us m limits room c (first_order us m limits room input)) (sym starts)
           (subst (Together us m limits room (configuration 0 (Run body.0.body Nothing) [] words Running)) (sym enters) (going body.0 body.1 (begins us m limits room has 0 body.0 0 body.1)));
       has_room = suits.has_room;
-      words_fit = record { operands = All-nil OperandFits; memory = suits.words_fit };
+      words_fit = record {
+        words = record { operands = All-nil OperandFits; memory = suits.words_fit; input = bytes };
+        activations = All-nil ActivationFits;
+      };
     })

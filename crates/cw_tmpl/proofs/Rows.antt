@@ -7,9 +7,11 @@ use Rattle.cw_i86.specs.declared.instr.Imm.TheVariants as imm
 use Rattle.cw_i86.specs.declared.instr.Rm.TheVariants as rms
 use Rattle.cw_i86.specs.declared.instr.Place.TheVariants as places
 use Rattle.cw_run86.specs.Processor.{Processor, processor_step, processor_start, observed, with_given}
-use Rattle.cw_run86.specs.Views.{View, Sees, Has, Goes, IsTop, starting_view, register, on, with_place, with_register, with_result, with_cell, with_stack, with_told, sum_overflows, difference_overflows, word_sum, word_difference}
+use Rattle.cw_run86.specs.Views.{View, Sees, Has, Goes, IsTop, starting_view, register, on, with_place, with_register, with_result, with_cell, with_stack, with_told, sum_overflows, difference_overflows, word_sum, word_difference, compare as compare_of, compared, Comparison, condition_of, words_compare}
+use Rattle.cw_tmpl.proofs.WordLaws.{WordLaws}
 
 pub record Rows : Type 0 where
+  pub words : WordLaws
   -- starting
   pub starts : (code words input : List ℕ) (s : State) → length code ≤ 65536 → length words ≤ 32768 → IsStart code words s → Sees code (starting_view words input) (processor_start s input)
   -- moves
@@ -37,6 +39,10 @@ pub record Rows : Type 0 where
   pub no_overflow : (code : List ℕ) (v : View) (by : ℕ) → Has code v.place (i86.JumpIf 1 by) → v.overflow ≡ false → Goes code v (with_place ((v.place + 2 + sign_extended by) % 65536) v)
   pub passes : (code : List ℕ) (v : View) (by : ℕ) → Has code v.place (i86.JumpIf 1 by) → v.overflow ≡ true → Goes code v (on (i86.JumpIf 1 by) v)
   pub call : (code : List ℕ) (v : View) (by n : ℕ) → Has code v.place (i86.Call by) → n < 32768 → IsTop v (suc n) → Goes code v (with_place ((v.place + 3 + by) % 65536) (with_register 4 (2 * n) (with_stack n ((v.place + 3) % 65536) v)))
+  -- comparisons
+  pub compare : (code : List ℕ) (v : View) (r q : ℕ) → Has code v.place (compare_of r q) → Goes code v (compared r q v)
+  pub compare_jumps : (code : List ℕ) (v : View) (c : Comparison) (r q by : ℕ) (p : Processor) → Has code v.place (compare_of r q) → Has code (compared r q v).place (i86.JumpIf (condition_of c) by) → register v r < 65536 → register v q < 65536 → words_compare c (register v r) (register v q) ≡ true → Sees code v p → Sees code (with_place ((v.place + 4 + sign_extended by) % 65536) (compared r q v)) (processor_step (processor_step p))
+  pub compare_passes : (code : List ℕ) (v : View) (c : Comparison) (r q by : ℕ) (p : Processor) → Has code v.place (compare_of r q) → Has code (compared r q v).place (i86.JumpIf (condition_of c) by) → register v r < 65536 → register v q < 65536 → words_compare c (register v r) (register v q) ≡ false → Sees code v p → Sees code (with_place ((v.place + 4) % 65536) (compared r q v)) (processor_step (processor_step p))
   -- ports
   pub out : (code : List ℕ) (v : View) (port : ℕ) → Has code v.place (i86.Out port) → Goes code v (with_told (with_given port (register v 0 % 256) v.told) (on (i86.Out port) v))
   pub halts : (code : List ℕ) (v : View) (p : Processor) → Has code v.place i86.Hlt → Sees code v p → observed (processor_step p) ≡ record { output = v.told.output; end = end_told v.told.kind v.told.segment (v.told.line_low + 256 * v.told.line_high) }
