@@ -177,6 +177,7 @@ fn read_parameters(alloc: Global, left: &mut Left<'_>) -> Result<Option<Paramete
     Ok(None)
 }
 
+// No parameters, or those in brackets.
 fn read_parameters_if_any(
     alloc: Global,
     left: &mut Left<'_>,
@@ -229,6 +230,7 @@ fn defines(kind: TokenKind) -> bool
     matches!(kind, TokenKind::Word(Word::Define | Word::Delete))
 }
 
+// Whether DEFINE or DELETE is among the tokens.
 fn define_any(tokens: &[Token<'_>]) -> bool
     ensures { result ≡ list_any (λ t. defines t.kind) tokens.now }
 {
@@ -247,6 +249,7 @@ fn parameter_number(token: Token<'_>, parameters: &Parameters) -> Option<usize>
     }
 }
 
+// Where a number stands in the list.
 fn place_of(numbers: &[usize], number: usize) -> Option<usize>
     ensures { IfSome result (λ place. slice_get numbers.now place ≡ Some number) }
 {
@@ -268,6 +271,7 @@ impl Run {
         }
     }
 
+    // Adds a parameter at the end.
     fn add(&mut self, number: usize) -> Result<(), NoMemory>
         requires { IsRun self.old }
         ensures added { OnOk result (run_parts self.new ≡ run_parts self.old ++ Parameter number ∷ []) }
@@ -292,6 +296,7 @@ fn close<'a>(alloc: Global, body: &mut List<Piece<'a>>, run: &mut Run) -> Result
     body.push(Piece::Parameters(mem::replace(run, Run::new(alloc))))
 }
 
+// Adds a token of the body, or the parameter of the number.
 fn add_token<'a>(
     alloc: Global,
     body: &mut List<Piece<'a>>,
@@ -319,6 +324,7 @@ fn add_token<'a>(
     }
 }
 
+// The pieces of a body with these tokens.
 fn pieces<'a>(
     alloc: Global,
     tokens: &[Token<'a>],

@@ -31,6 +31,7 @@ fn brought<'a>(call: Item<'a>, item: Item<'a>) -> Item<'a>
     }
 }
 
+// Puts an argument in front of the tokens left, as the call brings it.
 fn put_argument<'a>(
     left: &mut Left<'a>,
     call: Item<'a>,
@@ -47,6 +48,7 @@ fn put_argument<'a>(
     Ok(())
 }
 
+// Puts what stands for a parameter in front of the tokens left.
 fn put_parameter<'a>(
     left: &mut Left<'a>,
     call: Item<'a>,
@@ -62,6 +64,7 @@ fn put_parameter<'a>(
     }
 }
 
+// The same for a parameter of a run.
 fn put_pick<'a>(
     left: &mut Left<'a>,
     call: Item<'a>,
@@ -78,6 +81,7 @@ fn put_pick<'a>(
     }
 }
 
+// The same for a whole run.
 fn put_run<'a>(
     left: &mut Left<'a>,
     call: Item<'a>,
@@ -115,6 +119,7 @@ fn brings_nothing(run: &Run, arguments: &[List<Item<'_>>]) -> bool
         .all(|number| is_without_tokens(arguments, *number))
 }
 
+// The same for a piece of the body.
 fn put_piece<'a>(
     left: &mut Left<'a>,
     call: Item<'a>,
@@ -165,6 +170,7 @@ fn replace<'a>(
     Ok(())
 }
 
+// How many tokens stand for a parameter of a run.
 fn length_of(numbers: &[usize], pick: usize, arguments: &[List<Item<'_>>]) -> usize
     ensures length { result ≡ length (flat_map (tokens_of (lists_of arguments.now)) (picked (slice_get numbers.now pick))) }
     ensures small { result < 2 ^ 63 }
@@ -178,6 +184,7 @@ fn length_of(numbers: &[usize], pick: usize, arguments: &[List<Item<'_>>]) -> us
     }
 }
 
+// The count behind what stands for a run, within the limit. It stops where the limit is passed.
 fn count_run(
     count: usize,
     numbers: &[usize],
@@ -197,6 +204,7 @@ fn count_run(
     Some(count)
 }
 
+// The same for a piece of the body.
 fn count_piece(count: usize, piece: &Piece<'_>, arguments: &[List<Item<'_>>]) -> Option<usize>
     requires { count ≤ MOST_REPLACED }
     ensures { result ≡ within_limit (count + length (flat_map (tokens_of (lists_of arguments.now)) (parts_of piece.now))) }
@@ -290,6 +298,7 @@ impl<'a> Expansion<'a> {
         })
     }
 
+    // Moves a token to those done.
     fn keep(&mut self, item: Item<'a>) -> Result<(), MacroFault>
         ensures { let e = expansion_of self.old in IsMade e (moving e (leveled item.entry) e.left) result (expansion_of self.new) }
     {
@@ -302,6 +311,7 @@ impl<'a> Expansion<'a> {
         Ok(())
     }
 
+    // Takes a definition, behind its DEFINE on the line.
     fn define(&mut self, alloc: Global, line: u32) -> Result<(), MacroFault>
         requires { Each IsPlaced (left_of self.old.left) }
         ensures { let e = expansion_of self.old in IsMade e (defining line (heading line e.left)) result (expansion_of self.new) }
@@ -318,6 +328,7 @@ impl<'a> Expansion<'a> {
         Ok(())
     }
 
+    // Takes the rest of a DELETE on the line.
     fn delete(&mut self, line: u32) -> Result<(), MacroFault>
         requires { Each IsPlaced (left_of self.old.left) }
         ensures { let e = expansion_of self.old in IsMade e (deleting e line e.left) result (expansion_of self.new) }
@@ -334,6 +345,7 @@ impl<'a> Expansion<'a> {
         Ok(())
     }
 
+    // Replaces a call, or moves a name that is none.
     fn name(&mut self, alloc: Global, item: Item<'a>) -> Result<(), MacroFault>
         requires is_name { IsName (name_of (view item.token)) }
         requires small { self.old.count < 2 ^ 63 }
