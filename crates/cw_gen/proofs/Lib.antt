@@ -1,5 +1,1 @@
-pub mod Layers
-pub mod FittingOrders
-pub mod Carried
-pub mod Numbers
-pub mod Following
+pub mod Making

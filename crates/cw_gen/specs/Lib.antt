@@ -1,3 +1,4 @@
 pub mod ReferenceOrders
 pub mod Built
+pub mod Output
 pub mod Following
