@@ -16,6 +16,7 @@ use Rattle.cw_unit.specs.declared.unit.Arg.TheOpen as layer
 use Rattle.cw_unit.specs.declared.unit.Arg.TheFolds.{fold-roll-Cond}
 use Rattle.cw_unit.specs.declared.unit.Stmt.TheFolds.{fold-roll-Stmt}
 use Rattle.cw_gen.specs.ReferenceOrders.{MarkedOrders, Piece, ConditionPiece, RefOrders, pick_mark, argument_step, condition_step, expression_step, spot_step, ref_step, statement_step, condition_piece, statement_piece, plain, followed_by, sequence, with_end, with_labels, begin_orders, if_piece, label_places, unit_orders}
+use Rattle.cw_gen.specs.UnitTables.{first_mark}
 use Rattle.cw_gen.specs.Output.{added}
 
 abbrev pub marked : List Order → List (ℕ × ℕ) → List ℕ → MarkedOrders
@@ -166,21 +167,31 @@ next_passed first n back ms ps i lt past e =
     let p = get_or ps i (0, 0) in
     e ∙ ap (λ l. replicate first 0 ++ (l ++ back)) (sym (none_placed n (drop (i + 1) ps) p past)) ∙ ap (λ l. replicate first 0 ++ (label_places n l ++ back)) (sym (from_here ps i lt))
 
-zeros : (a b : ℕ) → replicate {A = ℕ} (a + b) 0 ≡ replicate a 0 ++ replicate b 0
-zeros zero b = let e : 0 + b ≡ b = omega arith in ap (λ n. replicate {A = ℕ} n 0) e
-zeros (suc a) b = let e : suc a + b ≡ suc (a + b) = omega arith in ap (λ n. replicate {A = ℕ} n 0) e ∙ ap (λ l. 0 ∷ l) (zeros a b)
+two_parts : (a b : ℕ) → replicate {A = ℕ} (a + b) 0 ≡ replicate a 0 ++ replicate b 0
+two_parts zero b = let e : 0 + b ≡ b = omega arith in ap (λ n. replicate {A = ℕ} n 0) e
+two_parts (suc a) b = let e : suc a + b ≡ suc (a + b) = omega arith in ap (λ n. replicate {A = ℕ} n 0) e ∙ ap (λ l. 0 ∷ l) (two_parts a b)
+
+three_parts : (a b c : ℕ) (rest : List ℕ) → replicate (a + (b + c)) 0 ++ rest ≡ replicate a 0 ++ (replicate b 0 ++ (replicate c 0 ++ rest))
+three_parts a b c rest =
+    ap (λ l. l ++ rest) (two_parts a (b + c) ∙ ap (λ l. replicate a 0 ++ l) (two_parts b c))
+    ∙ append_assoc (replicate a 0) (replicate b 0 ++ replicate c 0) rest
+    ∙ ap (λ l. replicate a 0 ++ l) (append_assoc (replicate b 0) (replicate c 0) rest)
 
 -- the orders of a unit, as the code makes them
-pub whole : (u : SourceUnit) (layout : Layout) (first labels fixed : ℕ) (x0 x1 x2 : MarkedOrders) (ms : List ℕ) → first ≡ length u.defined → labels ≡ length u.labels → fixed ≡ first + labels → x0 ≡ marked [] [] (replicate fixed 0) → x1 ≡ added (statement_piece first layout u.body) x0 → x2 ≡ added (plain (order.NextBody ∷ [])) x1 → ((back : List ℕ) → x2.marks ≡ replicate first 0 ++ (replicate labels 0 ++ back) → ms ≡ replicate first 0 ++ (label_places labels x2.labels ++ back)) → made_orders x2.orders ms ≡ unit_orders u layout
-whole u layout first labels fixed x0 x1 x2 ms ef el e e0 e1 e2 e3 =
-    let body = λ (d n : ℕ). statement_piece d layout u.body 0 (d + n) in
-    let m = body first labels in
-    let start : length (replicate fixed 0) ≡ first + labels = length-replicate fixed 0 ∙ e in
+pub whole : (u : SourceUnit) (layout : Layout) (first labels procs fixed : ℕ) (x0 x1 x2 : MarkedOrders) (ms : List ℕ) → first ≡ length u.defined → labels ≡ length u.labels → procs ≡ length u.procs → fixed ≡ first + (labels + procs) → x0 ≡ marked [] [] (replicate fixed 0) → x1 ≡ added (statement_piece first layout u.body) x0 → x2 ≡ added (plain (order.NextBody ∷ [])) x1 → ((back : List ℕ) → x2.marks ≡ replicate first 0 ++ (replicate labels 0 ++ back) → ms ≡ replicate first 0 ++ (label_places labels x2.labels ++ back)) → made_orders x2.orders ms ≡ unit_orders u layout
+whole u layout first labels procs fixed x0 x1 x2 ms ef el ep e e0 e1 e2 e3 =
+    let body = λ (d n : ℕ). statement_piece d layout u.body 0 n in
+    let m = body first fixed in
+    let start : length (replicate fixed 0) ≡ fixed = length-replicate fixed 0 in
     let at_end : x2 ≡ marked (m.orders ++ order.NextBody ∷ []) m.labels (replicate fixed 0 ++ m.marks) =
     e2 ∙ added-plain (order.NextBody ∷ []) x1
     ∙ ap (λ x. marked (x.orders ++ order.NextBody ∷ []) x.labels x.marks) (e1 ∙ ap (added (statement_piece first layout u.body)) e0)
-    ∙ ap (λ n. let v = statement_piece first layout u.body 0 n in marked (v.orders ++ order.NextBody ∷ []) v.labels (replicate fixed 0 ++ v.marks)) start in
-    let shape : x2.marks ≡ replicate first 0 ++ (replicate labels 0 ++ m.marks) =
-    ap (λ x. x.marks) at_end ∙ ap (λ n. replicate n 0 ++ m.marks) e ∙ ap (λ l. l ++ m.marks) (zeros first labels) ∙ append_assoc (replicate first 0) (replicate labels 0) m.marks in
-    ap₂ made_orders (ap (λ x. x.orders) at_end) (e3 m.marks shape ∙ ap (λ x. replicate first 0 ++ (label_places labels x.labels ++ m.marks)) at_end)
-    ∙ ap₂ (λ d n. made_orders ((body d n).orders ++ order.NextBody ∷ []) (replicate d 0 ++ (label_places n (body d n).labels ++ (body d n).marks))) ef el
+    ∙ ap (λ n. let v = body first n in marked (v.orders ++ order.NextBody ∷ []) v.labels (replicate fixed 0 ++ v.marks)) start in
+    let back = replicate procs 0 ++ m.marks in
+    let shape : x2.marks ≡ replicate first 0 ++ (replicate labels 0 ++ back) =
+    ap (λ x. x.marks) at_end ∙ ap (λ n. replicate n 0 ++ m.marks) e ∙ three_parts first labels procs m.marks in
+    let next : fixed ≡ first_mark u = e ∙ ap₂ (λ a b. a + b) ef (ap₂ (λ a b. a + b) el ep) in
+    ap₂ made_orders (ap (λ x. x.orders) at_end) (e3 back shape ∙ ap (λ x. replicate first 0 ++ (label_places labels x.labels ++ back)) at_end)
+    ∙ ap (λ n. let v = body first n in made_orders (v.orders ++ order.NextBody ∷ []) (replicate first 0 ++ (label_places labels v.labels ++ (replicate procs 0 ++ v.marks)))) next
+    ∙ ap (λ d. let v = body d (first_mark u) in made_orders (v.orders ++ order.NextBody ∷ []) (replicate d 0 ++ (label_places labels v.labels ++ (replicate procs 0 ++ v.marks)))) ef
+    ∙ ap₂ (λ a b. let v = body (length u.defined) (first_mark u) in made_orders (v.orders ++ order.NextBody ∷ []) (replicate (length u.defined) 0 ++ (label_places a v.labels ++ (replicate b 0 ++ v.marks)))) el ep

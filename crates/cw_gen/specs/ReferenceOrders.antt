@@ -26,6 +26,7 @@ use Rattle.cw_unit.specs.declared.unit.Ref.{Ref, fold-Ref}
 use Rattle.cw_unit.specs.declared.unit.Spot.{Spot, fold-Spot}
 use Rattle.cw_unit.specs.declared.unit.Arg.TheOpen as layer
 use Rattle.cw_unit.specs.declared.unit.Arg.TheOpen.{Arg-F, Cond-F, Spot-F, Ref-F}
+use Rattle.cw_gen.specs.UnitTables.{first_mark}
 
 abbrev pub joined : List (List Order) → List Order
 joined [] = []
@@ -209,14 +210,13 @@ abbrev pub label_places : (labels : ℕ) → List (ℕ × ℕ) → List ℕ
 label_places n [] = replicate n 0
 label_places n (p ∷ ps) = set (label_places n ps) p.0 p.1
 
--- a mark for each descriptor that the unit defines, then one for each label, then those that the orders add
+-- the marks of what the unit defines, of its labels and of its procedures come before those that the orders add
 abbrev pub unit_orders : SourceUnit → Layout → Orders
 unit_orders u layout =
     let first = length u.defined in
-    let labels = length u.labels in
-    let body = statement_piece first layout u.body 0 (first + labels) in
+    let body = statement_piece first layout u.body 0 (first_mark u) in
     record {
       list = body.orders ++ order.NextBody ∷ [];
       entry = 0;
-      marks = replicate first 0 ++ (label_places labels body.labels ++ body.marks);
+      marks = replicate first 0 ++ (label_places (length u.labels) body.labels ++ (replicate (length u.procs) 0 ++ body.marks));
     }

@@ -3,7 +3,6 @@
 
 mod conditions;
 mod expressions;
-pub mod laws;
 mod output;
 mod statements;
 

@@ -70,10 +70,10 @@ fn emit_statement(
     }
 }
 
-fn sum(defined: usize, labels: usize) -> Result<usize, NoMemory>
-    ensures { IfOk result (λ sum. sum ≡ defined + labels) }
+fn sum(a: usize, b: usize) -> Result<usize, NoMemory>
+    ensures { IfOk result (λ sum. sum ≡ a + b) }
 {
-    match defined.checked_add(labels) {
+    match a.checked_add(b) {
         Some(sum) => Ok(sum),
         None => Err(NoMemory),
     }
@@ -101,7 +101,8 @@ pub fn orders(alloc: Global, unit: &Unit, layout: &Layout) -> Result<Orders, NoM
     let defined = unit.defined.as_slice().len();
     let labels = unit.labels.as_slice().len();
     let first_label = number(defined)?;
-    let mut out = Output::new(alloc, sum(defined, labels)?)?;
+    let procedures = unit.procs.as_slice().len();
+    let mut out = Output::new(alloc, sum(defined, sum(labels, procedures)?)?)?;
     emit_statement(&mut out, layout, first_label, &unit.body)?;
     out.push(Order::NextBody)?;
     set_label_places(&mut out.marks, defined, labels, out.labels.as_slice());
