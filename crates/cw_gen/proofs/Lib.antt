@@ -1,3 +1,7 @@
 pub mod Making
 pub mod Layers
 pub mod FittingOrders
+pub mod Numbers
+pub mod Placed
+pub mod Carried
+pub mod Labels
