@@ -106,7 +106,7 @@ module _ (area : ℕ) (u : SourceUnit) (code : List Order) (marks : List ℕ) wh
       (when : Bool) × (to : ℕ) × (next : ℕ) × ConditionAt q c when to next × (line ≡ l) × Anywhere next (λ x. Pick when (CarriesOut x l hand fail) (CarriesOut x l hand pass)) × Anywhere to (λ x. Pick when (CarriesOut x l hand pass) (CarriesOut x l hand fail))
   CarriesOut q l hand (Choose op line pass fail) =
       (when : Bool) × (mark : ℕ) × (to : ℕ) × (slice_get code q ≡ Some (order.JumpIf (comparator_for when op) mark)) × (slice_get marks mark ≡ Some to) × OnWord (OnWord (λ rest. Anywhere (q + 1) (λ x. Pick when (CarriesOut x l rest fail) (CarriesOut x l rest pass)) × Anywhere to (λ x. Pick when (CarriesOut x l rest pass) (CarriesOut x l rest fail)))) hand
-  CarriesOut q l hand (Jump d line) = JumpAt q d
+  CarriesOut q l hand (Jump d line) = JumpAt q d × (hand ≡ [])
   CarriesOut q l hand (Give a line k) =
       (next : ℕ) × IsTrue (is_built_argument a) × Stands code q (argument_orders layout a) next × (line ≡ l) × ((z : ℤ) → Anywhere next (λ x. CarriesOut x l (Word z ∷ hand) k))
   CarriesOut q l hand (Enter target.Write line wanted k) =

@@ -5,3 +5,4 @@ pub mod Numbers
 pub mod Placed
 pub mod Carried
 pub mod Labels
+pub mod Following

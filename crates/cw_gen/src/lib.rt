@@ -3,6 +3,7 @@
 
 mod conditions;
 mod expressions;
+pub mod laws;
 mod output;
 mod statements;
 
