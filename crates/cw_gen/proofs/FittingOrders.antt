@@ -30,7 +30,7 @@ use Rattle.cw_order.specs.OrderProgram.{OrderProgram, order_in, order_at}
 use Rattle.cw_order.specs.HasCode.{HasCode}
 use Rattle.cw_order.specs.FittingWords.{ConstantsFit, LinesFit}
 use Rattle.cw_gen.specs.Built.{is_built_expression, is_built_condition, is_built_ref, is_built_statement, is_built_within, is_built_goal, all_within, most_levels, AllBuilt, is_built_call, is_built_argument}
-use Rattle.cw_gen.specs.ReferenceOrders.{MarkedOrders, Piece, ConditionPiece, plain, followed_by, sequence, with_end, with_labels, pick_mark, comparator_for, joined, load_orders, rescale_orders, store_orders, number_word, expression_orders, condition_piece, argument_orders, ref_orders, begin_orders, call_orders, go_orders, statement_piece}
+use Rattle.cw_gen.specs.ReferenceOrders.{Piece, ConditionPiece, plain, followed_by, sequence, with_end, with_labels, pick_mark, comparator_for, joined, load_orders, rescale_orders, store_orders, number_word, expression_orders, condition_piece, argument_orders, ref_orders, begin_orders, call_orders, go_orders, statement_piece}
 use Rattle.cw_gen.specs.UnitTables.{first_mark}
 use Rattle.cw_gen.specs.Following.{orders_for, orders_program}
 use Rattle.cw_gen.proofs.Layers.{is_built_spot, built_expression, built_argument, built_condition, built_statement, expression-built, argument-built, ref-built, condition-built, statement-built, layer_expression_orders, layer_argument_orders, layer_spot_orders, layer_condition_piece, layer_statement_piece, expression_orders-are, argument_orders-are, spot_orders-are, ref_orders-are, condition_piece-is, statement_piece-is, total, expression_size, condition_size, statement_size, sum_size, difference_size, negative_size, conjunction_size, disjunction_size, list_size, choice_size, labelled_size}

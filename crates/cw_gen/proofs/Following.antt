@@ -11,7 +11,7 @@ use Rattle.cw_word.specs.Decimal.{decimal_floor}
 use Rattle.cw_word.specs.Word.{signed}
 use Rattle.cw_track.specs.Machine.{Machine}
 use Rattle.cw_track.specs.Tracking.{Tracks, step_budget}
-use Rattle.cw_track.proofs.Paths.{Path, stay, next as move, join}
+use Rattle.cw_track.proofs.Paths.{Path, stay, next as move}
 use Rattle.cw_track.proofs.Simulations.{Quiet, Followed, Simulation, tracks}
 use Rattle.cw_unit.specs.declared.unit.Unit.{Unit as SourceUnit}
 use Rattle.cw_unit.specs.declared.layout.Layout.{Layout}
@@ -49,14 +49,14 @@ use Rattle.cw_unit.specs.Behaviour.{Shown, is_running, first_body, initial_confi
 use Rattle.cw_order.specs.declared.order.Order.{Order}
 use Rattle.cw_order.specs.declared.order.Order.TheVariants as order
 use Rattle.cw_order.specs.OrderProgram.{OrderProgram, order_in, order_at, mark_in, place_of as mark_place}
-use Rattle.cw_order.specs.OrderChanges.{comparison, to_mark_if}
+use Rattle.cw_order.specs.OrderChanges.{to_mark_if}
 use Rattle.cw_order.specs.OrderState.{OrderState, at as state, operand_words}
 use Rattle.cw_order.specs.OrderActions.{home_word, action_of}
 use Rattle.cw_order.specs.OrderCosts.{weight_of, weight_at}
 use Rattle.cw_order.specs.OrderMachine.{go_on, go_at, branch, after as order_after, unrefused, next_body as order_next_body, act, carry_out, entry_of, step as order_step, order_machine}
 use Rattle.cw_order.specs.FittingWords.{OperandFits, WordsFit, ActivationFits, StateFits}
-use Rattle.cw_gen.specs.Built.{is_built_expression, is_built_condition, is_built_argument, is_built_ref, is_built_call, is_built_statement, is_built_goal, is_built_within, is_body_label, is_owned_by_body, all_within, most_levels, AllBuilt}
-use Rattle.cw_gen.specs.ReferenceOrders.{ConditionPiece, comparator_for, pick_mark, plain, followed_by, with_labels, joined, home_order, load_orders, rescale_orders, store_orders, number_word, begin_orders, call_orders, go_orders, put_orders, label_places, expression_orders, condition_piece, argument_orders, spot_orders, ref_orders, statement_piece}
+use Rattle.cw_gen.specs.Built.{is_built_expression, is_built_condition, is_built_argument, is_built_ref, is_built_call, is_built_statement, is_built_goal, is_built_within, is_body_label, is_owned_by_body, most_levels, AllBuilt}
+use Rattle.cw_gen.specs.ReferenceOrders.{comparator_for, pick_mark, followed_by, with_labels, joined, home_order, load_orders, rescale_orders, store_orders, number_word, begin_orders, call_orders, go_orders, put_orders, label_places, expression_orders, condition_piece, argument_orders, spot_orders, ref_orders, statement_piece}
 use Rattle.cw_gen.specs.UnitTables.{first_mark}
 use Rattle.cw_gen.specs.Following.{meaning, orders_for, orders_program, first_order, Suits}
 use Rattle.cw_gen.proofs.Making.{length-places}
@@ -64,8 +64,8 @@ use Rattle.cw_gen.proofs.Layers.{is_built_spot, built_expression, built_conditio
 use Rattle.cw_gen.proofs.FittingOrders.{both, has_orders}
 use Rattle.cw_gen.proofs.Numbers.{signed-small, tested, rescaled-same, number-is, unscaled as natural-zero, is_same, compared}
 use Rattle.cw_gen.proofs.Placed.{Stands, parted, placed, placed_after, behind, before, Made, both_made, end_made, choice_made, place_of, in_table}
-use Rattle.cw_gen.proofs.Carried.{on_word, on_address, Leads, here, past, over as leap, Via, wider, Pick, Anywhere, OperationAt, JumpAt, ConditionAt, CarriesOut}
-use Rattle.cw_gen.proofs.Labels.{a_level, After as AfterIn, row_carried, after_first, after_second, Reaches, body_reaches, known}
+use Rattle.cw_gen.proofs.Carried.{on_word, on_address, Leads, here, past, over as leap, wider, Pick, Anywhere, OperationAt, CarriesOut}
+use Rattle.cw_gen.proofs.Labels.{a_level, After as AfterIn, row_carried, after_first, after_second, body_reaches, known}
 
 -- ---- where items stand
 

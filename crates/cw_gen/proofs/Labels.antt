@@ -1,6 +1,6 @@
 -- The place of a label carries out the continuation of the label.
 use Rattle.std.proofs.Common.{◌≡◌, ℕ, zero, suc, ◌+◌, ◌<◌, ◌≤◌, List, [], ◌∷◌, ◌++◌, map, length, Bool, true, false, Option, Some, None, refl, sym, ap, ap₂, ◌∙◌, subst, arith, append-nil}
-use Rattle.std.specs.Prelude.{slice_get, nat_eq, nat_lt, is_some, IsTrue, ◌&&◌, if◌then◌else◌}
+use Rattle.std.specs.Prelude.{nat_eq, nat_lt, is_some, IsTrue, ◌&&◌, if◌then◌else◌}
 use Rattle.std.proofs.lemmas.Bool.{false≢true}
 use Rattle.cw_unit.specs.declared.unit.Unit.{Unit as SourceUnit}
 use Rattle.cw_unit.specs.declared.layout.Layout.{Layout}
@@ -20,13 +20,12 @@ use Rattle.cw_unit.specs.Work.{Work, Run, run_all}
 use Rattle.cw_unit.specs.LabelContinuation.{label_continuation, list_continuation, first_work, work_if, has_label}
 use Rattle.cw_unit.proofs.Continuations.{in-list, in-choice, in-mark}
 use Rattle.cw_order.specs.declared.order.Order.{Order}
-use Rattle.cw_order.specs.declared.order.Order.TheVariants as order
 use Rattle.cw_gen.specs.Built.{is_built_condition, is_built_statement, is_built_within, all_within, most_levels}
-use Rattle.cw_gen.specs.ReferenceOrders.{MarkedOrders, ConditionPiece, pick_mark, followed_by, sequence, with_labels, condition_piece, statement_piece}
+use Rattle.cw_gen.specs.ReferenceOrders.{ConditionPiece, pick_mark, sequence, with_labels, condition_piece, statement_piece}
 use Rattle.cw_gen.proofs.Layers.{built_statement, statement-built, layer_condition_piece, layer_statement_piece, condition_piece-is, statement_piece-is, total, condition_size, statement_size, conjunction_size, disjunction_size, list_size, choice_size, labelled_size}
 use Rattle.cw_gen.proofs.FittingOrders.{both}
-use Rattle.cw_gen.proofs.Placed.{Stands, Made, both_made, ChoiceMade, choice_made, first_place, place_if, place_of, place_in_both}
-use Rattle.cw_gen.proofs.Carried.{Leads, here, past, over, Via, wider, Anywhere, StatementAt, CarriesOut}
+use Rattle.cw_gen.proofs.Placed.{Made, both_made, ChoiceMade, choice_made, first_place, place_if, place_of, place_in_both}
+use Rattle.cw_gen.proofs.Carried.{Leads, here, past, over, Via, CarriesOut}
 
 -- ---- conditions have no labels
 

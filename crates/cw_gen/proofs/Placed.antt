@@ -1,5 +1,5 @@
 -- Lists that stand in the code and in the table of marks, and pieces of orders that stand in both.
-use Rattle.std.proofs.Common.{◌≡◌, ⊎_elim, ℕ, zero, suc, ◌+◌, ◌-◌, ◌<◌, ◌≤◌, List, [], ◌∷◌, ◌++◌, map, length, set, replicate, Bool, true, false, Option, Some, None, refl, sym, ap, ◌∙◌, subst, arith}
+use Rattle.std.proofs.Common.{◌≡◌, ⊎_elim, ℕ, zero, suc, ◌+◌, ◌<◌, List, [], ◌∷◌, ◌++◌, length, set, Bool, true, false, Option, Some, None, refl, sym, ap, ◌∙◌, subst, arith}
 use Rattle.std.specs.Prelude.{slice_get, nat_eq}
 use Rattle.std.proofs.lemmas.Bool.Decides.{eqb_tells}
 use Rattle.std.proofs.lemmas.Option.{none-some}
@@ -65,8 +65,7 @@ module _ (code : List Order) (marks : List ℕ) where
       let os = parted code q m.orders n.orders next o in
       let ks = parted marks free m.marks n.marks last k in
       let x = ends_at code q m.orders os.0 os.1 in
-      let y = ends_at marks free m.marks ks.0 ks.1 in
-      (
+      let y = ends_at marks free m.marks ks.0 ks.1 in (
         os.0,
         ks.0,
         (os.1, ks.1),

@@ -27,11 +27,7 @@ fn comparator(op: CompareOp, when: bool) -> Comparator
 fn pick(first: bool, m: u32, n: u32) -> u32
     ensures { result ≡ pick_mark first m n }
 {
-    if first {
-        m
-    } else {
-        n
-    }
+    if first { m } else { n }
 }
 
 /// Adds the orders that jump to the mark where the condition's truth is `when`.

@@ -5,7 +5,7 @@ ghost use Rattle.cw_gen.specs.Output.{made, added};
 
 use crate::conditions::emit_condition;
 use crate::expressions::{emit_address, emit_arguments, emit_expression, emit_store};
-use crate::output::{number, Output};
+use crate::output::{Output, number};
 use cw_order::{Order, Orders};
 use cw_unit::layout::Layout;
 use cw_unit::unit::{Dest, Goal, Stmt, Target, Unit};

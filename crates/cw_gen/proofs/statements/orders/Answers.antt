@@ -1,4 +1,4 @@
-use Rattle.std.proofs.Common.{◌+◌, length, refl, ap, ◌∙◌, ◌++◌, replicate}
+use Rattle.std.proofs.Common.{◌+◌, length, ap, ◌∙◌, ◌++◌, replicate}
 use Rattle.cw_gen.specs.ReferenceOrders.{statement_piece, label_places}
 use Rattle.cw_gen.specs.Output.{made, added}
 use Rattle.cw_gen.proofs.Making.{whole, made_orders}
