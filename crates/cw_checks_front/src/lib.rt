@@ -1,5 +1,7 @@
-//! Checks of the front end: the lexer against texts whose tokens and faults are told by hand.
+//! Checks of the front end: texts whose tokens, expanded tokens and faults are told by hand.
 #![tactic(auto)]
 
 #[cfg(test)]
 mod lexer;
+#[cfg(test)]
+mod macros;

@@ -100,6 +100,14 @@ fn texts(rt: HostRuntime) -> Result<(), Fail> {
             "4||00000 00001 S.X WORD\n12288 04096 FRAMES\nstopped: Overflow S 4\n",
         ),
         (
+            "SEGMENT A BEGIN INTEGER X;\nX := 32767;\nX := X + 1 END FINISH",
+            "4||00000 00001 A.X WORD\n12288 04096 FRAMES\nstopped: Overflow A 3\n",
+        ),
+        (
+            "LIBRARY (PROCEDURE WRITEBYTE(VALUE INTEGER)); SEGMENT A BEGIN IF 1 = 1 THEN WRITEBYTE(1) END FINISH",
+            NOT_BUILT,
+        ),
+        (
             "LIBRARY (PROCEDURE WRITEBYTE(VALUE INTEGER)); SEGMENT A BEGIN INTEGER A2; A2<-70;WRITEBYTE(A2);A2:=A2+A2+5;WRITEBYTE(65);WRITEBYTE(32767+A2) END FINISH",
             "4|FA|00000 00001 A.A2 WORD\n12288 04096 FRAMES\nstopped: Overflow A 1\n",
         ),
@@ -118,10 +126,7 @@ fn texts(rt: HostRuntime) -> Result<(), Fail> {
         ("", NOT_BUILT),
         ("SEGMENT A BEGIN WRITEBYTE(1) END FINISH", NOT_BUILT),
         ("SEGMENT A BEGIN INTEGER X, X; END FINISH", NOT_BUILT),
-        (
-            "SEGMENT A BEGIN INTEGER X; X := - -1 END FINISH",
-            NOT_BUILT,
-        ),
+        ("SEGMENT A BEGIN INTEGER X; X := - -1 END FINISH", NOT_BUILT),
         ("SEGMENT A BEGIN INTEGER X; X := 2 - END FINISH", NOT_BUILT),
         (
             "SEGMENT A BEGIN INTEGER X; X := 32768 END FINISH",

@@ -60,27 +60,27 @@ module _ (r : Reading) where
   item-read : (names : List Name) (item : Item) → IfSome (operand_of names item) r.Operand
   item-read names item = operand-read (number_of item.text) (declared names item) (number_small item.text)
 
-  signed-operand : (before : Item) (e : Expr) → r.Operand e → r.Sum 2 (signed before e)
-  signed-operand before e o =
-      elim (is (codes "-") before) as (λ b. r.Sum 2 (cond b (negative e) e)) [ true ↦ r.of_negative e o | false ↦ r.of_operand e o ]
+  signed-operand : (sign : Item) (e : Expr) → r.Operand e → r.Sum 2 (signed sign e)
+  signed-operand sign e o =
+      elim (is (codes "-") sign) as (λ b. r.Sum 2 (cond b (negative e) e)) [ true ↦ r.of_negative e o | false ↦ r.of_operand e o ]
 
-  joined-operand : (before : Item) (m : ℕ) (e f : Expr) → r.Sum m e → r.Operand f → r.Sum (m + 2) (joined before e f)
-  joined-operand before m e f k o =
-      elim (is (codes "-") before) as (λ b. r.Sum (m + 2) (cond b (difference e f) (sum e f))) [ true ↦ r.of_difference m e f k o | false ↦ r.of_sum m e f k o ]
+  joined-operand : (sign : Item) (m : ℕ) (e f : Expr) → r.Sum m e → r.Operand f → r.Sum (m + 2) (joined sign e f)
+  joined-operand sign m e f k o =
+      elim (is (codes "-") sign) as (λ b. r.Sum (m + 2) (cond b (difference e f) (sum e f))) [ true ↦ r.of_difference m e f k o | false ↦ r.of_sum m e f k o ]
 
   from-read : (names : List Name) (e : Expr) (items : List Item) (m n : ℕ) → m + length items ≤ n → r.Sum m e → IfSome (sum_from names e items) (AtMost r.Sum n)
   from-read names e [] m n h k = (m, omega (arith, h), k)
-  from-read names e (before ∷ []) m n h k = tt
-  from-read names e (before ∷ item ∷ items) m n h k =
-      when (AtMost r.Sum n) (is_sign before) (option_and_then (λ f. sum_from names (joined before e f) items) (operand_of names item))
-      (λ _. after (AtMost r.Sum n) r.Operand (operand_of names item) (λ f. sum_from names (joined before e f) items) (item-read names item)
-      (λ f o. from-read names (joined before e f) items (m + 2) n (omega (arith, h)) (joined-operand before m e f k o)))
+  from-read names e (sign ∷ []) m n h k = tt
+  from-read names e (sign ∷ item ∷ items) m n h k =
+      when (AtMost r.Sum n) (is_sign sign) (option_and_then (λ f. sum_from names (joined sign e f) items) (operand_of names item))
+      (λ _. after (AtMost r.Sum n) r.Operand (operand_of names item) (λ f. sum_from names (joined sign e f) items) (item-read names item)
+      (λ f o. from-read names (joined sign e f) items (m + 2) n (omega (arith, h)) (joined-operand sign m e f k o)))
 
-  signed-read : (names : List Name) (before : Item) (items : List Item) (n : ℕ) → suc (length items) ≤ n → IfSome (signed_sum names before items) (AtMost r.Sum n)
-  signed-read names before [] n h = tt
-  signed-read names before (item ∷ items) n h =
-      after (AtMost r.Sum n) r.Operand (operand_of names item) (λ e. sum_from names (signed before e) items) (item-read names item)
-      (λ e o. from-read names (signed before e) items 2 n (omega (arith, h)) (signed-operand before e o))
+  signed-read : (names : List Name) (sign : Item) (items : List Item) (n : ℕ) → suc (length items) ≤ n → IfSome (signed_sum names sign items) (AtMost r.Sum n)
+  signed-read names sign [] n h = tt
+  signed-read names sign (item ∷ items) n h =
+      after (AtMost r.Sum n) r.Operand (operand_of names item) (λ e. sum_from names (signed sign e) items) (item-read names item)
+      (λ e o. from-read names (signed sign e) items 2 n (omega (arith, h)) (signed-operand sign e o))
 
   unsigned-read : (names : List Name) (items : List Item) (n : ℕ) → suc (length items) ≤ n → IfSome (unsigned_sum names items) (AtMost r.Sum n)
   unsigned-read names [] n h = tt

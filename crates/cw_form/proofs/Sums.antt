@@ -5,12 +5,12 @@ use Rattle.cw_unit.specs.declared.unit.Expr.{Expr}
 use Rattle.cw_form.specs.Items.{Item}
 use Rattle.cw_form.specs.Segment.{is_sign, joined, operand_of, sum_from}
 
-pub sum_more : (names : List (List ℕ)) (e f g : Expr) (xs : List Item) (before item : Item) → 2 ≤ length xs → before ≡ get_or xs 0 before → item ≡ get_or xs 1 item
-    → is_sign before ≡ true → operand_of names item ≡ Some f → g ≡ joined before e f → sum_from names e xs ≡ sum_from names g (drop 2 xs)
-sum_more names e f g [] before item h first second sign read made = absurd (omega arith)
-sum_more names e f g (x ∷ []) before item h first second sign read made = absurd (omega arith)
-sum_more names e f g (x ∷ y ∷ xs) before item h first second sign read made =
-    ap (λ b. cond b (option_and_then (λ k. sum_from names (joined x e k) xs) (operand_of names y)) None) (subst (λ t. is_sign t ≡ true) first sign)
+pub sum_more : (names : List (List ℕ)) (e f g : Expr) (xs : List Item) (sign item : Item) → 2 ≤ length xs → sign ≡ get_or xs 0 sign → item ≡ get_or xs 1 item
+    → is_sign sign ≡ true → operand_of names item ≡ Some f → g ≡ joined sign e f → sum_from names e xs ≡ sum_from names g (drop 2 xs)
+sum_more names e f g [] sign item h first second signs read made = absurd (omega arith)
+sum_more names e f g (x ∷ []) sign item h first second signs read made = absurd (omega arith)
+sum_more names e f g (x ∷ y ∷ xs) sign item h first second signs read made =
+    ap (λ b. cond b (option_and_then (λ k. sum_from names (joined x e k) xs) (operand_of names y)) None) (subst (λ t. is_sign t ≡ true) first signs)
     ∙ ap (option_and_then (λ k. sum_from names (joined x e k) xs)) (subst (λ t. operand_of names t ≡ Some f) second read)
     ∙ ap (λ k. sum_from names k xs) (sym (subst (λ t. g ≡ joined t e f) first made))
 

@@ -82,7 +82,7 @@ lined-split p [] h = All-cons (All IsLined) [] [] h (All-nil (All IsLined))
 lined-split p (item ∷ items) h =
     let parts = slice_split p items in
     let lined : All (All IsLined) parts = lined-split p items (All-tail IsLined item items h) in
-    elim (p item) as (λ b. All (All IsLined) (cond b ([] ∷ parts) (onto_first item parts))) 
+    elim (p item) as (λ b. All (All IsLined) (cond b ([] ∷ parts) (onto_first item parts)))
     [ true ↦ All-cons (All IsLined) [] parts (All-nil IsLined) lined | false ↦ lined-onto item parts (All-head IsLined item items h) lined ]
 
 split-pieces : (p : Item → Bool) (items : List Item) → Fits items → Pieces (slice_split p items)

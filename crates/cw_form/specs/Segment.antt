@@ -65,23 +65,23 @@ abbrev pub is_sign : Item → Bool
 is_sign item = is (codes "+") item || is (codes "-") item
 
 -- an operand behind a sign
-abbrev pub signed : (before : Item) → Expr → Expr
-signed before e = if is (codes "-") before then negative e else e
+abbrev pub signed : (sign : Item) → Expr → Expr
+signed sign e = if is (codes "-") sign then negative e else e
 
 -- the sum e with one more operand, behind a sign
-abbrev pub joined : (before : Item) → Expr → Expr → Expr
-joined before e f = if is (codes "-") before then difference e f else sum e f
+abbrev pub joined : (sign : Item) → Expr → Expr → Expr
+joined sign e f = if is (codes "-") sign then difference e f else sum e f
 
 -- the sum e with the operands behind it, each behind its sign
 abbrev pub sum_from : List Name → Expr → List Item → Option Expr
 sum_from names e [] = Some e
-sum_from names e (before ∷ []) = None
-sum_from names e (before ∷ item ∷ items) = if is_sign before then option_and_then (λ f. sum_from names (joined before e f) items) (operand_of names item) else None
+sum_from names e (sign ∷ []) = None
+sum_from names e (sign ∷ item ∷ items) = if is_sign sign then option_and_then (λ f. sum_from names (joined sign e f) items) (operand_of names item) else None
 
 -- a sum whose first operand, and that alone, is behind a sign
-abbrev pub signed_sum : List Name → (before : Item) → List Item → Option Expr
-signed_sum names before [] = None
-signed_sum names before (item ∷ items) = option_and_then (λ e. sum_from names (signed before e) items) (operand_of names item)
+abbrev pub signed_sum : List Name → (sign : Item) → List Item → Option Expr
+signed_sum names sign [] = None
+signed_sum names sign (item ∷ items) = option_and_then (λ e. sum_from names (signed sign e) items) (operand_of names item)
 
 abbrev pub unsigned_sum : List Name → List Item → Option Expr
 unsigned_sum names [] = None

@@ -5,7 +5,7 @@ ghost use Rattle.std.specs.Char.{is_ascii_digit, is_ascii_uppercase};
 ghost use Rattle.std.specs.Str.Parse.{digits_value};
 ghost use Rattle.cw_form.specs.Items.{items_of};
 ghost use Rattle.cw_form.specs.Segment.{same, is, is_word, begins_with, is_name, number_of, name_of, declared, operand_of, is_sign, signed, joined, sum_from, signed_sum, unsigned_sum, sum_of, is_there, before_last, assignment, output, statement_of, each, is_new, add_name, steps, is_declaration, declare, with_names, unit_of_pieces, before_end, named, segment_of, library_line, begins, unit_of_items, unit_of};
-ghost use Rattle.cw_form.specs.Trees.{number, direct, read, assign, write, own_single, unit};
+ghost use Rattle.cw_form.specs.Trees.{number, direct, read, sum, difference, assign, write, own_single, unit};
 
 use crate::token::{Token, capitals, tokens};
 use cw_unit::descriptor::Scale;
@@ -160,6 +160,12 @@ fn operand(alloc: Global, names: &[Name], token: &Token) -> Result<Option<Expr>,
     }
 }
 
+fn boxed(alloc: Global, e: Expr) -> Result<Boxed<Expr>, NoMemory>
+    ensures { IfOk result (λ b. b ≡ e) }
+{
+    Boxed::new(alloc, e)
+}
+
 fn is_sign(token: &Token) -> bool
     ensures { result ≡ is_sign token.now }
 {
@@ -167,26 +173,40 @@ fn is_sign(token: &Token) -> bool
 }
 
 // The operand behind a sign.
-fn signed(alloc: Global, before: &Token, e: Expr) -> Result<Expr, NoMemory>
-    ensures { IfOk result (λ s. s ≡ signed before.now e) }
+fn signed(alloc: Global, sign: &Token, e: Expr) -> Result<Expr, NoMemory>
+    ensures { IfOk result (λ s. s ≡ signed sign.now e) }
 {
-    if before.is(b"-") {
-        Ok(Expr::Minus(Boxed::new(alloc, e)?))
+    if sign.is(b"-") {
+        Ok(Expr::Minus(boxed(alloc, e)?))
     } else {
         Ok(e)
     }
 }
 
-// The sum with one more operand, behind a sign.
-fn joined(alloc: Global, before: &Token, so_far: Expr, next: Expr) -> Result<Expr, NoMemory>
-    ensures { IfOk result (λ e. e ≡ joined before.now so_far next) }
+fn sum(alloc: Global, a: Expr, b: Expr) -> Result<Expr, NoMemory>
+    ensures { IfOk result (λ e. e ≡ sum a b) }
 {
-    let first = Boxed::new(alloc, so_far)?;
-    let second = Boxed::new(alloc, next)?;
-    if before.is(b"-") {
-        Ok(Expr::Less(first, second))
+    let first = boxed(alloc, a)?;
+    let second = boxed(alloc, b)?;
+    Ok(Expr::Sum(first, second))
+}
+
+fn difference(alloc: Global, a: Expr, b: Expr) -> Result<Expr, NoMemory>
+    ensures { IfOk result (λ e. e ≡ difference a b) }
+{
+    let first = boxed(alloc, a)?;
+    let second = boxed(alloc, b)?;
+    Ok(Expr::Less(first, second))
+}
+
+// The sum with one more operand, behind a sign.
+fn joined(alloc: Global, sign: &Token, so_far: Expr, next: Expr) -> Result<Expr, NoMemory>
+    ensures { IfOk result (λ e. e ≡ joined sign.now so_far next) }
+{
+    if sign.is(b"-") {
+        difference(alloc, so_far, next)
     } else {
-        Ok(Expr::Sum(first, second))
+        sum(alloc, so_far, next)
     }
 }
 
@@ -203,12 +223,12 @@ fn extended(
     ensures within { IfOk result (λ e. IfSome e (λ _. 2 ≤ length rest.now)) }
 {
     match rest {
-        [before, token, ..] => {
-            if !is_sign(before) {
+        [sign, token, ..] => {
+            if !is_sign(sign) {
                 return Ok(None);
             }
             match operand(alloc, names, token)? {
-                Some(next) => Ok(Some(joined(alloc, before, so_far, next)?)),
+                Some(next) => Ok(Some(joined(alloc, sign, so_far, next)?)),
                 None => Ok(None),
             }
         }
@@ -241,26 +261,22 @@ fn sum_from(
 fn signed_sum(
     alloc: Global,
     names: &[Name],
-    before: &Token,
+    sign: &Token,
     tokens: &[Token],
 ) -> Result<Option<Expr>, NoMemory>
     requires { length names.now ≤ 100 }
-    ensures { IfOk result (λ e. e ≡ signed_sum names.now before.now tokens.now) }
+    ensures { IfOk result (λ e. e ≡ signed_sum names.now sign.now tokens.now) }
 {
     match tokens {
         [first, rest @ ..] => match operand(alloc, names, first)? {
-            Some(e) => sum_from(alloc, names, signed(alloc, before, e)?, rest),
+            Some(e) => sum_from(alloc, names, signed(alloc, sign, e)?, rest),
             None => Ok(None),
         },
         [] => Ok(None),
     }
 }
 
-fn unsigned_sum(
-    alloc: Global,
-    names: &[Name],
-    tokens: &[Token],
-) -> Result<Option<Expr>, NoMemory>
+fn unsigned_sum(alloc: Global, names: &[Name], tokens: &[Token]) -> Result<Option<Expr>, NoMemory>
     requires { length names.now ≤ 100 }
     ensures { IfOk result (λ e. e ≡ unsigned_sum names.now tokens.now) }
 {
@@ -278,7 +294,7 @@ fn sum_of(alloc: Global, names: &[Name], tokens: &[Token]) -> Result<Option<Expr
     ensures { IfOk result (λ e. e ≡ sum_of names.now tokens.now) }
 {
     match tokens {
-        [first, rest @ ..] if is_sign(first) => signed_sum(alloc, names, first, rest),
+        [sign, rest @ ..] if is_sign(sign) => signed_sum(alloc, names, sign, rest),
         _ => unsigned_sum(alloc, names, tokens),
     }
 }

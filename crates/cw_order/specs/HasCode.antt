@@ -1,4 +1,4 @@
--- The orders that the compiler makes so far, and that have code.
+-- The orders that cw_tmpl has code for so far; the compiler makes no others.
 use Rattle.cw_order.specs.declared.order.Order.{Order}
 use Rattle.cw_order.specs.declared.order.Order.TheVariants as order
 

@@ -25,7 +25,9 @@ use Rattle.cw_unit.specs.Configuration.{Configuration, at, Activation, words_of,
 use Rattle.cw_unit.specs.Behaviour.{configuration_after, observed}
 use Rattle.cw_safety.specs.WellFormed.{WellFormed}
 use Rattle.cw_safety.specs.Depth.{operands_held, depth_of_unit, depth_of_procedure, depth_at, depth_in}
-use Rattle.cw_order.specs.OrderMachine.{OrderProgram, operand_words, home_word}
+use Rattle.cw_order.specs.OrderProgram.{OrderProgram}
+use Rattle.cw_order.specs.OrderState.{operand_words}
+use Rattle.cw_order.specs.OrderActions.{home_word}
 use Rattle.cw_gen.specs.Built.{AllBuilt}
 use Rattle.cw_gen.specs.Following.{orders_for, orders_program, Suits}
 use Rattle.cw_tmpl.specs.declared.pieces.Coded.{Coded}

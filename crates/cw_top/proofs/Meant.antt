@@ -90,15 +90,19 @@ module _ (given : Given) where
   preserves_meaning words file before after (Unfinished steps) (command, ran) = is_meant file before after (Unfinished steps) ran
   preserves_meaning words file before after (BadCode offset) (command, ran) = never_bad file ran.unit ran.compiles ran.shows.start ran.shows.is_start run_steps offset ran.shown ran.shows.shows ran.tells
   preserves_meaning words file before after (Divided offset) (command, ran) = never_divided file ran.unit ran.compiles ran.shows.start ran.shows.is_start run_steps offset ran.shown ran.shows.shows ran.tells
-  preserves_meaning words file before after (Outside Out) (command, failed) = (failed.steps, failed.within, record {
-    unit = failed.unit;
-    compiles = failed.compiles;
-    shown = failed.shown;
-    shows = failed.shows;
-    tells = tt;
-    output = failed.output;
-    preserves = preserves file failed.unit failed.compiles failed.shows.start failed.shows.is_start failed.steps failed.shown failed.shows.shows;
-  })
+  preserves_meaning words file before after (Outside Out) (command, failed) = (
+    failed.steps,
+    failed.within,
+    record {
+      unit = failed.unit;
+      compiles = failed.compiles;
+      shown = failed.shown;
+      shows = failed.shows;
+      tells = tt;
+      output = failed.output;
+      preserves = preserves file failed.unit failed.compiles failed.shows.start failed.shows.is_start failed.steps failed.shown failed.shows.shows;
+    },
+  )
   preserves_meaning words file before after (Outside Store) cause = tt
   preserves_meaning words file before after (Outside Say) cause = tt
   preserves_meaning words file before after Usage cause = tt
