@@ -9,10 +9,11 @@ use Rattle.cw_unit.specs.Operation.{perform}
 use Rattle.cw_order.specs.declared.order.Order.{Order}
 use Rattle.cw_order.specs.declared.order.Orders.{Orders}
 use Rattle.cw_order.specs.declared.order.Order.TheVariants as order
-use Rattle.cw_order.specs.OrderProgram.{OrderProgram, order_at}
+use Rattle.cw_order.specs.OrderProgram.{OrderProgram, order_at, place_of}
 use Rattle.cw_order.specs.OrderState.{OrderActivation, OrderState, at, stack_words}
-use Rattle.cw_order.specs.OrderActions.{Action, Perform, Access, SetLine, Pass, EndBody, action_of}
-use Rattle.cw_order.specs.OrderMachine.{go_on, after, unrefused, next_body, end_body, act, carry_out, step, shown, order_machine, order_start}
+use Rattle.cw_order.specs.OrderChanges.{Way, Onward, ToMark, Nowhere}
+use Rattle.cw_order.specs.OrderActions.{Action, Perform, Access, SetLine, Pass, Branch, EndBody, action_of}
+use Rattle.cw_order.specs.OrderMachine.{go_on, go_at, branch, after, unrefused, next_body, end_body, act, carry_out, step, shown, order_machine, order_start}
 use Rattle.cw_order.specs.HasCode.{HasCode}
 
 -- ---- operations
@@ -74,12 +75,22 @@ module _ (p : OrderProgram) (codes : (g place : ℕ) (o : Order) → order_at p 
   of_end g place line [] w = of_body (slice_get p.units (g + 1)) g place line w
   of_end g place line (a ∷ acts) w = tt
 
+  of_mark : (o : Option ℕ) (g place line : ℕ) (acts : List OrderActivation) (now new : Words) → OfState (go_at o g place line acts now new)
+  of_mark None g place line acts now new = tt
+  of_mark (Some q) g place line acts now new = tt
+
+  of_way : (x : Way) (g place line : ℕ) (acts : List OrderActivation) (w : Words) → OfState (branch p x g place line acts w)
+  of_way (Onward v) g place line acts w = tt
+  of_way (ToMark m v) g place line acts w = of_mark (place_of p g m) g place line acts w v
+  of_way Nowhere g place line acts w = tt
+
   -- what the orders do that have code
   abbrev Fine : Action → Type 0
   Fine (Perform op) = (w : Words) → Overflows (perform p.limits.area op w)
   Fine (Access op) = Unit {0}
   Fine (SetLine n) = Unit {0}
   Fine Pass = Unit {0}
+  Fine (Branch f) = Unit {0}
   Fine EndBody = Unit {0}
   Fine _ = ⊥
 
@@ -92,6 +103,9 @@ module _ (p : OrderProgram) (codes : (g place : ℕ) (o : Order) → order_at p 
   is_fine g acts order.Sub h = of_binary (λ x y. x -ℤ y)
   is_fine g acts order.Neg h = of_unary (λ x. neg_ℤ x)
   is_fine g acts order.WriteByte h = of_writing
+  is_fine g acts (order.Jump m) h = tt
+  is_fine g acts (order.JumpIf c m) h = tt
+  is_fine g acts order.Mark h = tt
   is_fine g acts (order.Line n) h = tt
   is_fine g acts (order.Start n) h = tt
   is_fine g acts order.NextBody h = tt
@@ -102,6 +116,7 @@ module _ (p : OrderProgram) (codes : (g place : ℕ) (o : Order) → order_at p 
   of_action (Access op) g place line acts w h = of_outcome p.room (unrefused (perform p.limits.area op w)) g place line acts w (of_access (perform p.limits.area op w))
   of_action (SetLine n) g place line acts w h = tt
   of_action Pass g place line acts w h = tt
+  of_action (Branch f) g place line acts w h = of_way (f w) g place line acts w
   of_action EndBody g place line acts w h = of_end g place line acts w
   of_action _ g place line acts w h = absurd h
 
