@@ -20,7 +20,7 @@ use Rattle.cw_form.specs.Trees.{Name, number, read, sum, difference, negative, a
 use Rattle.cw_form.specs.Segment.{is, number_of, declared, operand, operand_of, is_sign, signed, joined as joined_sum, sum_from, signed_sum, unsigned_sum, sum_of, before_last, assignment, output, statement_of, each, steps, declare, is_declaration, with_names, unit_of_pieces, before_end, named, name_of, segment_of, begins, library_line, unit_of_items, unit_of}
 use Rattle.cw_order.specs.declared.order.Order.{Order}
 use Rattle.cw_order.specs.declared.order.Order.TheVariants as order
-use Rattle.cw_gen.specs.ReferenceOrders.{joined, home_order, spot_orders, ref_orders, load_orders, rescale_orders, expression_orders, argument_orders, put_orders, call_orders, statement_step, statement_orders}
+use Rattle.cw_gen.specs.ReferenceOrders.{Piece, sequence, home_order, spot_orders, ref_orders, load_orders, rescale_orders, expression_orders, argument_orders, put_orders, call_orders, statement_step, statement_piece}
 
 -- ---- what may be absent
 
@@ -82,9 +82,15 @@ module _ (l : Layout) where
   abbrev loads : Expr → ℕ
   loads e = length (expression_orders l e 0)
 
-  -- the number of orders of a statement
-  abbrev needs : Stmt → ℕ
-  needs s = length (statement_orders l s)
+  -- the number of orders of a piece, wherever it stands, and of a statement
+  abbrev Few : Piece → ℕ → Type 0
+  Few p n = (place next : ℕ) → length (p place next).orders ≤ n
+
+  abbrev Needs : Stmt → ℕ → Type 0
+  Needs s n = (first : ℕ) → Few (statement_piece first l s) n
+
+  abbrev RowNeeds : List Stmt → ℕ → Type 0
+  RowNeeds ss n = (first : ℕ) → Few (sequence (map (statement_piece first l) ss)) n
 
   number_is : (n : ℕ) → expression_orders l (number n) ≡ (λ scale. order.Const (n % 65536) ∷ [])
   number_is n = fold-roll-Expr _ _ _ _ _ _ _ _ _ _ (layer.Num (record { whole = n; digits = 0; places = 0 }))
@@ -138,21 +144,39 @@ module _ (l : Layout) where
   joined_loads before e f =
       elim (is (codes "-") before) as (λ b. loads (cond b (difference e f) (sum e f)) ≡ loads e + (loads f + 1)) [ true ↦ difference_loads e f | false ↦ sum_loads e f ]
 
-  assign_needs : (line i : ℕ) (e : Expr) → needs (assign line i e) ≡ loads e + 4
-  assign_needs line i e =
+  assign_needs : (line i n : ℕ) (e : Expr) → loads e + 4 ≤ n → Needs (assign line i e) n
+  assign_needs line i n e h first place next =
       let home = home_order (slice_index_or l.homes i (0, 0)) in
-      ap length (fold-roll-Stmt (List Order) (statement_step l) (statement.Put line (direct i) e))
-      ∙ ap (λ r. length (put_orders line (expression_orders l e) r)) (direct_is i)
-      ∙ omega (arith, length-append (expression_orders l e 0) (home ∷ order.Store ∷ []))
+      omega (
+        arith,
+        h,
+        ap (λ p. length (p place next).orders) (fold-roll-Stmt Piece (statement_step first l) (statement.Put line (direct i) e))
+            ∙ ap (λ r. length (put_orders line (expression_orders l e) r)) (direct_is i),
+        length-append (expression_orders l e 0) (home ∷ order.Store ∷ []),
+      )
 
-  write_needs : (line : ℕ) (e : Expr) → needs (write line e) ≡ loads e + 3
-  write_needs line e =
-      ap length (fold-roll-Stmt (List Order) (statement_step l) (statement.Call line target.Write (roll-Arg (layer.Value e 0) ∷ [])))
-      ∙ ap (λ os. length (call_orders line target.Write (os ++ []))) (argument_is e)
-      ∙ omega (arith, length-append (expression_orders l e 0 ++ []) (order.WriteByte ∷ []), length-append (expression_orders l e 0) [])
+  write_needs : (line n : ℕ) (e : Expr) → loads e + 3 ≤ n → Needs (write line e) n
+  write_needs line n e h first place next =
+      omega (
+        arith,
+        h,
+        ap (λ p. length (p place next).orders) (fold-roll-Stmt Piece (statement_step first l) (statement.Call line target.Write (roll-Arg (layer.Value e 0) ∷ [])))
+            ∙ ap (λ os. length (call_orders line target.Write (os ++ []))) (argument_is e),
+        length-append (expression_orders l e 0 ++ []) (order.WriteByte ∷ []),
+        length-append (expression_orders l e 0) [],
+      )
 
-  row_needs : (ss : List Stmt) → needs (row ss) ≡ length (joined (map (statement_orders l) ss))
-  row_needs ss = simp fold-roll-Stmt refl
+  row_needs : (ss : List Stmt) (n : ℕ) → RowNeeds ss n → Needs (row ss) n
+  row_needs ss n h first place next =
+      omega (arith, h first place next, ap (λ p. length (p place next).orders) (fold-roll-Stmt Piece (statement_step first l) (statement.Seq ss)))
+
+  more_needs : (s : Stmt) (ss : List Stmt) (m n k : ℕ) → m + n ≤ k → Needs s m → RowNeeds ss n → RowNeeds (s ∷ ss) k
+  more_needs s ss m n k h few others first place next =
+      let x = statement_piece first l s place next in
+      let place' = place + length x.orders in
+      let next' = next + length x.marks in
+      let rest = (sequence (map (statement_piece first l) ss) place' next').orders in
+      omega (arith, h, few first place next, others first place' next', length-append x.orders rest)
 
   -- ---- orders of each part of the form
 
@@ -186,37 +210,37 @@ module _ (l : Layout) where
   sum_of_loads names (first ∷ rest) n h =
       either (λ e. loads e ≤ n) (is_sign first) (signed_sum names first rest) (unsigned_sum names (first ∷ rest)) (signed_sum_loads names first rest n (omega (arith, h))) (unsigned_sum_loads names (first ∷ rest) n h)
 
-  assignment_needs : (names : List Name) (first : Item) (rest : List Item) → IfSome (assignment names first rest) (λ s. needs s ≤ 2 * suc (suc (length rest)))
+  assignment_needs : (names : List Name) (first : Item) (rest : List Item) → IfSome (assignment names first rest) (λ s. Needs s (2 * suc (suc (length rest))))
   assignment_needs names first rest =
-      after_any (λ s. needs s ≤ 2 * suc (suc (length rest))) (declared names first) (λ i. option_map (assign first.line i) (sum_of names rest))
-      (λ i. mapped (λ s. needs s ≤ 2 * suc (suc (length rest))) (λ e. loads e ≤ 2 * length rest) (sum_of names rest) (assign first.line i) (sum_of_loads names rest (2 * length rest) (omega arith))
-      (λ e small. omega (arith, small, assign_needs first.line i e)))
+      after_any (λ s. Needs s (2 * suc (suc (length rest)))) (declared names first) (λ i. option_map (assign first.line i) (sum_of names rest))
+      (λ i. mapped (λ s. Needs s (2 * suc (suc (length rest)))) (λ e. loads e ≤ 2 * length rest) (sum_of names rest) (assign first.line i) (sum_of_loads names rest (2 * length rest) (omega arith))
+      (λ e small. assign_needs first.line i (2 * suc (suc (length rest))) e (omega (arith, small))))
 
-  output_needs : (names : List Name) (first : Item) (rest : List Item) → IfSome (output names first rest) (λ s. needs s ≤ 2 * suc (suc (length rest)))
+  output_needs : (names : List Name) (first : Item) (rest : List Item) → IfSome (output names first rest) (λ s. Needs s (2 * suc (suc (length rest))))
   output_needs names first rest =
-      after (λ s. needs s ≤ 2 * suc (suc (length rest))) (λ inside. length inside ≤ length rest) (before_last (codes ")") rest) (λ inside. option_map (write first.line) (sum_of names inside)) (shorter (codes ")") rest (length rest) (omega arith))
-      (λ inside short. mapped (λ s. needs s ≤ 2 * suc (suc (length rest))) (λ e. loads e ≤ 2 * length rest) (sum_of names inside) (write first.line) (sum_of_loads names inside (2 * length rest) (omega (arith, short)))
-      (λ e small. omega (arith, small, write_needs first.line e)))
+      after (λ s. Needs s (2 * suc (suc (length rest)))) (λ inside. length inside ≤ length rest) (before_last (codes ")") rest) (λ inside. option_map (write first.line) (sum_of names inside)) (shorter (codes ")") rest (length rest) (omega arith))
+      (λ inside short. mapped (λ s. Needs s (2 * suc (suc (length rest)))) (λ e. loads e ≤ 2 * length rest) (sum_of names inside) (write first.line) (sum_of_loads names inside (2 * length rest) (omega (arith, short)))
+      (λ e small. write_needs first.line (2 * suc (suc (length rest))) e (omega (arith, small))))
 
-  statement_needs : (library : Bool) (names : List Name) (piece : List Item) → IfSome (statement_of library names piece) (λ s. needs s ≤ 2 * length piece)
-  statement_needs library names [] = omega (arith, row_needs [])
+  statement_needs : (library : Bool) (names : List Name) (piece : List Item) → IfSome (statement_of library names piece) (λ s. Needs s (2 * length piece))
+  statement_needs library names [] = row_needs [] 0 (λ first place next. omega arith)
   statement_needs library names (first ∷ []) = tt
   statement_needs library names (first ∷ second ∷ rest) =
-      let P : Stmt → Type 0 = λ s. needs s ≤ 2 * length (first ∷ second ∷ rest) in
+      let P : Stmt → Type 0 = λ s. Needs s (2 * length (first ∷ second ∷ rest)) in
       let writes = library && (is (codes "WRITEBYTE") first && is (codes "(") second) in
       either P (is (codes ":=") second || is (codes "<-") second) (assignment names first rest) (cond writes (output names first rest) None)
       (assignment_needs names first rest) (when P writes (output names first rest) (λ _. output_needs names first rest))
 
-  each_needs : (library : Bool) (names : List Name) (pieces : List (List Item)) → IfSome (each (statement_of library names) pieces) (λ ss. length (joined (map (statement_orders l) ss)) ≤ 2 * total pieces)
-  each_needs library names [] = omega arith
+  each_needs : (library : Bool) (names : List Name) (pieces : List (List Item)) → IfSome (each (statement_of library names) pieces) (λ ss. RowNeeds ss (2 * total pieces))
+  each_needs library names [] = λ first place next. omega arith
   each_needs library names (piece ∷ pieces) =
-      let P : List Stmt → Type 0 = λ ss. length (joined (map (statement_orders l) ss)) ≤ 2 * total (piece ∷ pieces) in
-      after P (λ s. needs s ≤ 2 * length piece) (statement_of library names piece) (λ s. option_map (λ ss. s ∷ ss) (each (statement_of library names) pieces)) (statement_needs library names piece)
-      (λ s small. mapped P (λ ss. length (joined (map (statement_orders l) ss)) ≤ 2 * total pieces) (each (statement_of library names) pieces) (λ ss. s ∷ ss) (each_needs library names pieces)
-      (λ ss few. omega (arith, small, few, length-append (statement_orders l s) (joined (map (statement_orders l) ss)))))
+      let P : List Stmt → Type 0 = λ ss. RowNeeds ss (2 * total (piece ∷ pieces)) in
+      after P (λ s. Needs s (2 * length piece)) (statement_of library names piece) (λ s. option_map (λ ss. s ∷ ss) (each (statement_of library names) pieces)) (statement_needs library names piece)
+      (λ s small. mapped P (λ ss. RowNeeds ss (2 * total pieces)) (each (statement_of library names) pieces) (λ ss. s ∷ ss) (each_needs library names pieces)
+      (λ ss few. more_needs s ss (2 * length piece) (2 * total pieces) (2 * total (piece ∷ pieces)) (omega arith) small few))
 
   abbrev IsSmall : SourceUnit → Type 0
-  IsSmall u = needs u.body ≤ 4000
+  IsSmall u = Needs u.body 4000
 
   pieces_need : (library : Bool) (name : Name) (tokens : ℕ) (pieces : List (List Item)) → total pieces ≤ 2000 → IfSome (unit_of_pieces library name tokens pieces) IsSmall
   pieces_need library name tokens pieces h =
@@ -224,8 +248,8 @@ module _ (l : Layout) where
       let rest = drop count pieces in
       when IsSmall (nat_lt count (length pieces)) (option_and_then (with_names library name tokens rest) (steps declare [] (take count pieces)))
       (λ _. after_any IsSmall (steps declare [] (take count pieces)) (with_names library name tokens rest)
-      (λ names. mapped IsSmall (λ ss. length (joined (map (statement_orders l) ss)) ≤ 2 * total rest) (each (statement_of library names) rest) (unit name tokens (map own_single names)) (each_needs library names rest)
-      (λ ss few. omega (arith, h, few, total_drop count pieces, row_needs ss))))
+      (λ names. mapped IsSmall (λ ss. RowNeeds ss (2 * total rest)) (each (statement_of library names) rest) (unit name tokens (map own_single names)) (each_needs library names rest)
+      (λ ss few. row_needs ss 4000 (λ first place next. omega (arith, h, few first place next, total_drop count pieces)))))
 
   segment_needs : (library : Bool) (tokens : ℕ) (items : List Item) → length items ≤ 2000 → IfSome (segment_of library tokens items) IsSmall
   segment_needs library tokens [] h = tt
@@ -246,5 +270,5 @@ module _ (l : Layout) where
       either IsSmall (begins library_line items) (segment_of true (length items) (drop 10 items)) (segment_of false (length items) items)
       (segment_needs true (length items) (drop 10 items) (omega (arith, short, length-drop 10 items))) (segment_needs false (length items) items short))
 
-  pub few_orders : (text : List ℕ) (u : SourceUnit) → unit_of text ≡ Some u → length (statement_orders l u.body) ≤ 4000
+  pub few_orders : (text : List ℕ) (u : SourceUnit) → unit_of text ≡ Some u → Needs u.body 4000
   few_orders text u e = subst (λ o. IfSome o IsSmall) e (items_need (items_of text))

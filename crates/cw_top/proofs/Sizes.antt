@@ -6,7 +6,8 @@ use Rattle.cw_unit.specs.declared.layout.Reloc.{Reloc}
 use Rattle.cw_unit.specs.Storage.{layout_of}
 use Rattle.cw_order.specs.declared.order.Order.{Order}
 use Rattle.cw_order.specs.declared.order.Order.TheVariants as order
-use Rattle.cw_gen.specs.ReferenceOrders.{statement_orders}
+use Rattle.cw_gen.specs.ReferenceOrders.{statement_piece}
+use Rattle.cw_gen.specs.UnitTables.{first_mark}
 use Rattle.cw_gen.specs.Following.{orders_for}
 use Rattle.cw_tmpl.specs.declared.pieces.Coded.{Coded}
 use Rattle.cw_tmpl.specs.Library.{library_bytes}
@@ -47,9 +48,10 @@ module _ (small : (o : Order) → order_size o ≤ 10) (everywhere : (starts : �
   pub image_fits : length library_bytes ≤ 4096 → (text : List ℕ) (u : SourceUnit) → unit_of text ≡ Some u → length (image_of u) ≤ 65536
   unfolding image_of
   image_fits library text u e =
-      let body = statement_orders (layout_of u) u.body in
+      let first = length u.defined in
+      let body = (statement_piece first (layout_of u) u.body 0 (first_mark u)).orders in
       let orders = body ++ order.NextBody ∷ [] in
       let entry : length (blanks entry_pieces) ≡ 15 = refl in
-      let few : length orders ≤ 4001 = omega (arith, few_orders (layout_of u) text u e, length-append body (order.NextBody ∷ [])) in
+      let few : length orders ≤ 4001 = omega (arith, few_orders (layout_of u) text u e first 0 (first_mark u), length-append body (order.NextBody ∷ [])) in
       let starts = mark_starts (orders_for u) in
       linked_size library_bytes entry_pieces starts entry_size orders (word_value (addresses_of u) default_limits) code_start (relocations 0 (entry_pieces ++ templates starts entry_size orders)) library (omega (arith, entry)) few
