@@ -13,11 +13,7 @@ use Rattle.cw_order.specs.OrderProgram.{OrderProgram, order_at, place_of}
 use Rattle.cw_order.specs.OrderState.{OrderActivation, OrderState, at, stack_words}
 use Rattle.cw_order.specs.OrderChanges.{Way, Onward, ToMark, Nowhere}
 use Rattle.cw_order.specs.OrderActions.{Action, Perform, Access, SetLine, Pass, Branch, EndBody, action_of}
-<<<<<<< HEAD
 use Rattle.cw_order.specs.OrderMachine.{go_on, go_at, after, unrefused, branch, next_body, end_body, act, carry_out, step, shown, order_machine, order_start}
-=======
-use Rattle.cw_order.specs.OrderMachine.{go_on, go_at, branch, after, unrefused, next_body, end_body, act, carry_out, step, shown, order_machine, order_start}
->>>>>>> 3e80edba66de312ac621467b63bbe9f368a975ed
 use Rattle.cw_order.specs.HasCode.{HasCode}
 
 -- ---- operations
@@ -83,15 +79,7 @@ module _ (p : OrderProgram) (codes : (g place : ℕ) (o : Order) → order_at p 
   of_end g place line [] w = of_body (slice_get p.units (g + 1)) g place line w
   of_end g place line (a ∷ acts) w = tt
 
-<<<<<<< HEAD
   of_way : (way : Way) (g place line : ℕ) (acts : List OrderActivation) (w : Words) → OfState (branch p way g place line acts w)
-=======
-  of_mark : (o : Option ℕ) (g place line : ℕ) (acts : List OrderActivation) (now new : Words) → OfState (go_at o g place line acts now new)
-  of_mark None g place line acts now new = tt
-  of_mark (Some q) g place line acts now new = tt
-
-  of_way : (x : Way) (g place line : ℕ) (acts : List OrderActivation) (w : Words) → OfState (branch p x g place line acts w)
->>>>>>> 3e80edba66de312ac621467b63bbe9f368a975ed
   of_way (Onward v) g place line acts w = tt
   of_way (ToMark m v) g place line acts w = of_mark (place_of p g m) g place line acts w v
   of_way Nowhere g place line acts w = tt
