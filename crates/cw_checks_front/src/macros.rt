@@ -268,9 +268,19 @@ fn empty_calls(alloc: Global, semicolons: u32, calls: u32) -> Result<Vec<u8>, Al
 fn levels(rt: HostRuntime) -> Result<(), Fail> {
     let alloc = rt.alloc();
     assert!(rt; matches!(size(alloc, &tower(alloc, 31, 1)?)?, Ok(1)));
-    assert!(rt; matches!(size(alloc, &tower(alloc, 32, 1)?)?, Err(MacroFault::TooDeep { line: 1 })));
+    assert!(rt;
+        matches!(
+            size(alloc, &tower(alloc, 32, 1)?)?,
+            Err(MacroFault::TooDeep { line: 1 })
+        )
+    );
     assert!(rt; matches!(size(alloc, &nest(alloc, 32)?)?, Ok(1)));
-    assert!(rt; matches!(size(alloc, &nest(alloc, 33)?)?, Err(MacroFault::TooDeep { line: 1 })));
+    assert!(rt;
+        matches!(
+            size(alloc, &nest(alloc, 33)?)?,
+            Err(MacroFault::TooDeep { line: 1 })
+        )
+    );
     Ok(())
 }
 
@@ -279,7 +289,12 @@ fn levels(rt: HostRuntime) -> Result<(), Fail> {
 fn long_results(rt: HostRuntime) -> Result<(), Fail> {
     let alloc = rt.alloc();
     assert!(rt; matches!(size(alloc, &tower(alloc, 15, 2)?)?, Ok(32_768)));
-    assert!(rt; matches!(size(alloc, &tower(alloc, 16, 2)?)?, Err(MacroFault::TooLong { line: 1 })));
+    assert!(rt;
+        matches!(
+            size(alloc, &tower(alloc, 16, 2)?)?,
+            Err(MacroFault::TooLong { line: 1 })
+        )
+    );
     let mut text = Vec::new(alloc);
     push_times(&mut text, b";", 65_535)?;
     assert!(rt; matches!(size(alloc, &text)?, Ok(65_535)));
@@ -294,7 +309,52 @@ fn long_results(rt: HostRuntime) -> Result<(), Fail> {
 fn long_replacements(rt: HostRuntime) -> Result<(), Fail> {
     let alloc = rt.alloc();
     assert!(rt; matches!(size(alloc, &empty_calls(alloc, 8, 104_856)?)?, Ok(8)));
-    assert!(rt; matches!(size(alloc, &empty_calls(alloc, 9, 104_856)?)?, Err(MacroFault::TooLong { line: 1 })));
+    assert!(rt;
+        matches!(
+            size(alloc, &empty_calls(alloc, 9, 104_856)?)?,
+            Err(MacroFault::TooLong { line: 1 })
+        )
+    );
+    Ok(())
+}
+
+// A macro whose body has so many times both its parameters, and so many calls with empty arguments before the last.
+fn empty_arguments(
+    alloc: Global,
+    pairs: u32,
+    calls: u32,
+    last: &[u8],
+) -> Result<Vec<u8>, AllocError> {
+    let mut text = Vec::new(alloc);
+    text.extend_from_slice(b"DEFINE K(X,Y) \"")?;
+    push_times(&mut text, b"X Y ", pairs)?;
+    text.extend_from_slice(b"\";")?;
+    push_times(&mut text, b"K(,)", calls)?;
+    text.extend_from_slice(last)?;
+    Ok(text)
+}
+
+#[test]
+fn parameters_without_tokens(rt: HostRuntime) -> Result<(), Fail> {
+    let alloc = rt.alloc();
+    assert!(rt;
+        matches!(
+            size(alloc, &empty_arguments(alloc, 20_000, 20_000, b"")?)?,
+            Ok(0)
+        )
+    );
+    assert!(rt;
+        matches!(
+            size(alloc, &empty_arguments(alloc, 600, 3, b"K(,1)")?)?,
+            Ok(600)
+        )
+    );
+    assert!(rt;
+        matches!(
+            size(alloc, &empty_arguments(alloc, 600, 3, b"K(1;2,)")?)?,
+            Ok(1_800)
+        )
+    );
     Ok(())
 }
 

@@ -2,7 +2,7 @@
 ghost use Rattle.std.specs.Prelude.{◌≡◌, length, IfOk};
 
 use cw_io::{MemFile, MemSink, MemSource, MemStore};
-use cw_top::coral66;
+use cw_top::coral66_within;
 use cw_word::List;
 use std::alloc::{AllocError, Global};
 use std::test::Fail;
@@ -40,8 +40,21 @@ const NONE: Fails<'static> = Fails {
     say: &[],
 };
 
-// The exit status, what `out` holds and what `say` holds, where the file `a` has this text.
-fn told(alloc: Global, line: &str, text: &[u8], fails: &Fails<'_>) -> Result<String, AllocError> {
+// The command over memory, where the file `a` has this text.
+#[derive(Drop)]
+struct Call {
+    code: u8,
+    out: MemSink,
+    say: MemSink,
+}
+
+fn call(
+    alloc: Global,
+    line: &str,
+    text: &[u8],
+    fails: &Fails<'_>,
+    steps: u64,
+) -> Result<Call, AllocError> {
     let file = MemFile {
         name: list(alloc, b"a")?,
         bytes: list(alloc, text)?,
@@ -54,22 +67,60 @@ fn told(alloc: Global, line: &str, text: &[u8], fails: &Fails<'_>) -> Result<Str
     let Ok(mut out) = MemSink::new(alloc, 64, 1, calls(alloc, fails.out)?) else {
         return Err(AllocError);
     };
-    let Ok(mut say) = MemSink::new(alloc, 4096, 4096, calls(alloc, fails.say)?) else {
+    let Ok(mut say) = MemSink::new(alloc, 400_000, 4096, calls(alloc, fails.say)?) else {
         return Err(AllocError);
     };
     let words = words_of(alloc, line)?;
-    let status = coral66(
+    let status = coral66_within(
         alloc,
         words.as_slice(),
         &mut files,
         &mut input,
         &mut out,
         &mut say,
+        steps,
     );
-    let code = status.code();
-    let held = String::from_utf8_lossy(alloc, out.held())?;
-    let said = String::from_utf8_lossy(alloc, say.held())?;
+    Ok(Call {
+        code: status.code(),
+        out,
+        say,
+    })
+}
+
+// The exit status, what `out` holds and what `say` holds.
+fn shown(alloc: Global, call: &Call) -> Result<String, AllocError> {
+    let code = call.code;
+    let held = String::from_utf8_lossy(alloc, call.out.held())?;
+    let said = String::from_utf8_lossy(alloc, call.say.held())?;
     format!(in alloc; "{code}|{held}|{said}")
+}
+
+fn told(alloc: Global, line: &str, text: &[u8], fails: &Fails<'_>) -> Result<String, AllocError> {
+    shown(alloc, &call(alloc, line, text, fails, 200_000_000)?)
+}
+
+/// The same of `go a` where nothing fails, within so many instructions.
+pub fn within(alloc: Global, text: &[u8], steps: u64) -> Result<String, AllocError> {
+    shown(alloc, &call(alloc, "go a", text, &NONE, steps)?)
+}
+
+/// The bytes that are written, as numbers, and the closing line.
+pub fn bytes_and_end(alloc: Global, text: &[u8], steps: u64) -> Result<String, AllocError> {
+    let call = call(alloc, "go a", text, &NONE, steps)?;
+    let mut shown = String::new(alloc);
+    let mut between = "";
+    for byte in call.out.held() {
+        shown.push_str(format!(in alloc; "{between}{byte}")?.as_str())?;
+        between = " ";
+    }
+    shown.push('|')?;
+    let said = String::from_utf8_lossy(alloc, call.say.held())?;
+    if let Some(last) = said.as_str().lines().last() {
+        if !last.ends_with(" FRAMES") {
+            shown.push_str(last)?;
+        }
+    }
+    Ok(shown)
 }
 
 fn blanks(alloc: Global, count: usize) -> Result<Vec<u8>, AllocError> {
@@ -104,10 +155,6 @@ fn texts(rt: HostRuntime) -> Result<(), Fail> {
             "4||00000 00001 A.X WORD\n12288 04096 FRAMES\nstopped: Overflow A 3\n",
         ),
         (
-            "LIBRARY (PROCEDURE WRITEBYTE(VALUE INTEGER)); SEGMENT A BEGIN IF 1 = 1 THEN WRITEBYTE(1) END FINISH",
-            NOT_BUILT,
-        ),
-        (
             "LIBRARY (PROCEDURE WRITEBYTE(VALUE INTEGER)); SEGMENT A BEGIN INTEGER A2; A2<-70;WRITEBYTE(A2);A2:=A2+A2+5;WRITEBYTE(65);WRITEBYTE(32767+A2) END FINISH",
             "4|FA|00000 00001 A.A2 WORD\n12288 04096 FRAMES\nstopped: Overflow A 1\n",
         ),
@@ -126,25 +173,18 @@ fn texts(rt: HostRuntime) -> Result<(), Fail> {
         ("", NOT_BUILT),
         ("SEGMENT A BEGIN WRITEBYTE(1) END FINISH", NOT_BUILT),
         ("SEGMENT A BEGIN INTEGER X, X; END FINISH", NOT_BUILT),
-        (
-            "SEGMENT A BEGIN INTEGER X; X := - -1 END FINISH",
-            NOT_BUILT,
-        ),
+        ("SEGMENT A BEGIN INTEGER X; X := - -1 END FINISH", NOT_BUILT),
         ("SEGMENT A BEGIN INTEGER X; X := 2 - END FINISH", NOT_BUILT),
         (
             "SEGMENT A BEGIN INTEGER X; X := 32768 END FINISH",
             NOT_BUILT,
         ),
-        (
-            "SEGMENT A BEGIN INTEGER X; X := 0000000000001 END FINISH",
-            NOT_BUILT,
-        ),
         ("SEGMENT A BEGIN INTEGER X; Y := 1 END FINISH", NOT_BUILT),
         ("SEGMENT A BEGIN INTEGER X END FINISH", NOT_BUILT),
-        ("SEGMENT A BEGIN COMMENT NONE; END FINISH", NOT_BUILT),
+        ("SEGMENT A BEGIN COMMENT NONE; END FINISH", "0||12288 04096 FRAMES\n"),
         ("SEGMENT A BEGIN END A FINISH", NOT_BUILT),
         ("SEGMENT A BEGIN END FINISH;", NOT_BUILT),
-        ("?", NOT_BUILT),
+        ("SEGMENT A\nBEGIN ?", "2||a:2: L1 BadChar\n"),
     ];
     let alloc = rt.alloc();
     for (text, wanted) in rows {

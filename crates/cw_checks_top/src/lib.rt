@@ -3,3 +3,5 @@
 
 #[cfg(test)]
 mod command;
+#[cfg(test)]
+mod programs;

@@ -1,1 +1,9 @@
-pub mod Stub
+pub mod Numbers
+pub mod Numbering
+pub mod Repeats
+pub mod Levels
+pub mod Optional
+pub mod Readings
+pub mod Parts
+pub mod Singles
+pub mod Shallow

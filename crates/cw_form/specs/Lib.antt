@@ -1,1 +1,6 @@
-pub mod Segment
+pub mod Tokens
+pub mod Trees
+pub mod Grammar
+pub mod Numbering
+pub mod Readings
+pub mod Levels

@@ -1,7 +1,7 @@
--- The numbers in the orders of a unit are words.
-use Rattle.std.proofs.Common.{◌≡◌, ℕ, zero, suc, ◌+◌, ◌<◌, ◌≤◌, List, [], ◌∷◌, ◌++◌, map, Bool, true, false, Option, Some, None, refl, sym, ap, ◌∙◌, subst, arith}
-use Rattle.std.specs.Prelude.{slice_get, IsTrue, ◌&&◌, option_map, nat_lt, ◌==◌, if◌then◌else◌}
-use Rattle.std.proofs.lemmas.Bool.{false≢true, ltb-true}
+-- The numbers in the orders of a unit are words, and each order has code.
+use Rattle.std.proofs.Common.{◌≡◌, ℕ, zero, suc, ◌+◌, ◌<◌, ◌≤◌, List, [], ◌∷◌, ◌++◌, map, length, Bool, true, false, Option, Some, None, refl, sym, ap, ◌∙◌, subst, arith}
+use Rattle.std.specs.Prelude.{slice_get, IsTrue, ◌&&◌, option_map, nat_lt, nat_eq, is_none}
+use Rattle.std.proofs.lemmas.Bool.{false≢true, ltb-true, eqb-true}
 use Rattle.std.proofs.lemmas.Option.{none-some, same_Some, slice_get-map}
 use Rattle.cw_unit.specs.declared.unit.Unit.{Unit as SourceUnit}
 use Rattle.cw_unit.specs.declared.layout.Layout.{Layout}
@@ -9,7 +9,10 @@ use Rattle.cw_unit.specs.declared.layout.Limits.{Limits}
 use Rattle.cw_unit.specs.declared.layout.Map.{Map}
 use Rattle.cw_unit.specs.declared.unit.Field.{Field}
 use Rattle.cw_unit.specs.declared.unit.Arg.{Arg, out-Arg}
-use Rattle.cw_unit.specs.declared.unit.Cond.{Cond}
+use Rattle.cw_unit.specs.declared.unit.Cond.{Cond, out-Cond}
+use Rattle.cw_unit.specs.declared.unit.Goal.TheVariants as goal
+use Rattle.cw_unit.specs.declared.unit.Dest.{Dest}
+use Rattle.cw_unit.specs.declared.unit.Dest.TheVariants as dest
 use Rattle.cw_unit.specs.declared.unit.Spot.{Spot, out-Spot}
 use Rattle.cw_unit.specs.declared.unit.Ref.{Ref, out-Ref}
 use Rattle.cw_unit.specs.declared.unit.Expr.{Expr, Expr-F, out-Expr}
@@ -23,12 +26,14 @@ use Rattle.cw_unit.specs.Storage.{layout_of}
 use Rattle.cw_order.specs.declared.order.Order.{Order}
 use Rattle.cw_order.specs.declared.order.Order.TheVariants as order
 use Rattle.cw_order.specs.declared.order.Orders.{Orders}
-use Rattle.cw_order.specs.OrderMachine.{OrderProgram, order_in, order_at}
+use Rattle.cw_order.specs.OrderProgram.{OrderProgram, order_in, order_at}
+use Rattle.cw_order.specs.HasCode.{HasCode}
 use Rattle.cw_order.specs.FittingWords.{ConstantsFit, LinesFit}
-use Rattle.cw_gen.specs.Built.{is_built_expression, is_built_ref, is_built_statement, all, AllBuilt, is_built_call, is_built_argument}
-use Rattle.cw_gen.specs.ReferenceOrders.{joined, load_orders, rescale_orders, store_orders, number_word, expression_orders, argument_orders, ref_orders, begin_orders, call_orders, statement_orders}
+use Rattle.cw_gen.specs.Built.{is_built_expression, is_built_condition, is_built_ref, is_built_statement, is_built_within, is_built_goal, all_within, most_levels, AllBuilt, is_built_call, is_built_argument}
+use Rattle.cw_gen.specs.ReferenceOrders.{Piece, ConditionPiece, plain, followed_by, sequence, with_end, with_labels, pick_mark, comparator_for, joined, load_orders, rescale_orders, store_orders, number_word, expression_orders, condition_piece, argument_orders, ref_orders, begin_orders, call_orders, go_orders, statement_piece}
+use Rattle.cw_gen.specs.UnitTables.{first_mark}
 use Rattle.cw_gen.specs.Following.{orders_for, orders_program}
-use Rattle.cw_gen.proofs.Layers.{built_statement, statement-built, layer_expression_orders, layer_argument_orders, layer_spot_orders, layer_statement_orders, expression_orders-are, argument_orders-are, spot_orders-are, ref_orders-are, statement_orders-are, total, expression_size, statement_size, sum_size, difference_size, negative_size, list_size}
+use Rattle.cw_gen.proofs.Layers.{is_built_spot, built_expression, built_argument, built_condition, built_statement, expression-built, argument-built, ref-built, condition-built, statement-built, layer_expression_orders, layer_argument_orders, layer_spot_orders, layer_condition_piece, layer_statement_piece, expression_orders-are, argument_orders-are, spot_orders-are, ref_orders-are, condition_piece-is, statement_piece-is, total, expression_size, condition_size, statement_size, sum_size, difference_size, negative_size, conjunction_size, disjunction_size, list_size, choice_size, labelled_size}
 
 pub both : (a b : Bool) → IsTrue (a && b) → IsTrue a × IsTrue b
 both true b h = (refl, h)
@@ -36,10 +41,14 @@ both false b h = absurd (false≢true h)
 
 -- ---- lists of orders
 
+-- its number is a word
+abbrev NumberFits : Order → Type 0
+NumberFits (order.Const w) = w < 65536
+NumberFits (order.Line n) = n < 65536
+NumberFits _ = Unit {0}
+
 abbrev OrderFits : Order → Type 0
-OrderFits (order.Const w) = w < 65536
-OrderFits (order.Line n) = n < 65536
-OrderFits _ = Unit {0}
+OrderFits o = NumberFits o × HasCode o
 
 abbrev Fit : List Order → Type 0
 Fit [] = Unit {0}
@@ -57,124 +66,216 @@ each (x ∷ os) (suc k) o f h = each os k o f.1 h
 -- ---- references, expressions and arguments
 
 spot_fits : (layout : Layout) (x : Spot-F Arg Cond Expr Spot Ref) → Fit (layer_spot_orders layout x)
-spot_fits layout (layer.Direct i) = (tt, tt)
+spot_fits layout (layer.Direct i) = ((tt, tt), tt)
 spot_fits layout _ = tt
 
 ref_fits : (layout : Layout) (r : Ref) → Fit (ref_orders layout r).address
 ref_fits layout r =
     subst (λ x. Fit x.address) (sym (ref_orders-are layout r)) (subst Fit (sym (spot_orders-are layout (out-Ref r).at)) (spot_fits layout (out-Spot (out-Ref r).at)))
 
+-- a reference that has orders has no bits after the point
+unscaled : (layout : Layout) (r : Ref) → IsTrue (is_built_ref r) → (ref_orders layout r).scale ≡ 0
+unscaled layout r b =
+    let all = both (is_built_spot (out-Ref r).at) (nat_eq (out-Ref r).f 0 && is_none (out-Ref r).field) (sym (ref-built r) ∙ b) in
+    ap (λ x. x.scale) (ref_orders-are layout r) ∙ eqb-true (out-Ref r).f 0 (both (nat_eq (out-Ref r).f 0) (is_none (out-Ref r).field) all.1).0
+
 load_fits : (f : Option Field) → Fit (load_orders f)
-load_fits None = (tt, tt)
+load_fits None = ((tt, tt), tt)
 load_fits (Some f) = tt
 
 store_fits : (f : Option Field) → Fit (store_orders f)
-store_fits None = (tt, tt)
+store_fits None = ((tt, tt), tt)
 store_fits (Some f) = tt
 
-chosen_fits : (b : Bool) (os : List Order) → Fit os → Fit (if b then [] else os)
-chosen_fits true os f = tt
-chosen_fits false os f = f
-
 module _ (layout : Layout) where
-  layer_fits : (n : ℕ) (e : Expr) (x : Expr-F Arg Cond Expr Spot Ref) (scale : ℕ) → out-Expr e ≡ x → expression_size e ≤ n → ((d : Expr) → expression_size d < n → Fit (expression_orders layout d scale)) → Fit (layer_expression_orders layout x scale)
-  layer_fits n e (layer.Num k) scale h le below = ((let l : number_word k < 65536 = omega arith in l), tt)
-  layer_fits n e (layer.Read r) scale h le below =
+  layer_fits : (n : ℕ) (e : Expr) (x : Expr-F Arg Cond Expr Spot Ref) → out-Expr e ≡ x → expression_size e ≤ n → IsTrue (built_expression x) → ((d : Expr) → expression_size d < n → IsTrue (is_built_expression d) → Fit (expression_orders layout d 0)) → Fit (layer_expression_orders layout x 0)
+  layer_fits n e (layer.Num k) h le b below = (((let l : number_word k < 65536 = omega arith in l), tt), tt)
+  layer_fits n e (layer.Read r) h le b below =
       let o = ref_orders layout r in
-      together o.address (load_orders o.field ++ rescale_orders o.scale scale) (ref_fits layout r)
-      (together (load_orders o.field) (rescale_orders o.scale scale) (load_fits o.field) (chosen_fits (o.scale == scale) (order.Rescale o.scale scale ∷ []) (tt, tt)))
-  layer_fits n e (layer.Sum a b) scale h le below =
+      together o.address (load_orders o.field ++ rescale_orders o.scale 0) (ref_fits layout r)
+      (together (load_orders o.field) (rescale_orders o.scale 0) (load_fits o.field) (subst (λ f. Fit (rescale_orders f 0)) (sym (unscaled layout r b)) tt))
+  layer_fits n e (layer.Sum a b) h le built below =
       let s = sum_size e a b h in
-      together (expression_orders layout a scale) (expression_orders layout b scale ++ order.Add ∷ []) (below a (let l : expression_size a < n = omega arith in l))
-      (together (expression_orders layout b scale) (order.Add ∷ []) (below b (let l : expression_size b < n = omega arith in l)) (tt, tt))
-  layer_fits n e (layer.Less a b) scale h le below =
+      let bs = both (is_built_expression a) (is_built_expression b) built in
+      together (expression_orders layout a 0) (expression_orders layout b 0 ++ order.Add ∷ []) (below a (let l : expression_size a < n = omega arith in l) bs.0)
+      (together (expression_orders layout b 0) (order.Add ∷ []) (below b (let l : expression_size b < n = omega arith in l) bs.1) ((tt, tt), tt))
+  layer_fits n e (layer.Less a b) h le built below =
       let s = difference_size e a b h in
-      together (expression_orders layout a scale) (expression_orders layout b scale ++ order.Sub ∷ []) (below a (let l : expression_size a < n = omega arith in l))
-      (together (expression_orders layout b scale) (order.Sub ∷ []) (below b (let l : expression_size b < n = omega arith in l)) (tt, tt))
-  layer_fits n e (layer.Minus a) scale h le below =
+      let bs = both (is_built_expression a) (is_built_expression b) built in
+      together (expression_orders layout a 0) (expression_orders layout b 0 ++ order.Sub ∷ []) (below a (let l : expression_size a < n = omega arith in l) bs.0)
+      (together (expression_orders layout b 0) (order.Sub ∷ []) (below b (let l : expression_size b < n = omega arith in l) bs.1) ((tt, tt), tt))
+  layer_fits n e (layer.Minus a) h le built below =
       let s = negative_size e a h in
-      together (expression_orders layout a scale) (order.Neg ∷ []) (below a (let l : expression_size a < n = omega arith in l)) (tt, tt)
-  layer_fits n e _ scale h le below = tt
+      together (expression_orders layout a 0) (order.Neg ∷ []) (below a (let l : expression_size a < n = omega arith in l) built) ((tt, tt), tt)
+  layer_fits n e _ h le b below = absurd (false≢true b)
 
-  expression_fits : (n : ℕ) (e : Expr) (scale : ℕ) → expression_size e ≤ n → Fit (expression_orders layout e scale)
-  expression_fits zero e scale le =
-      subst Fit (sym (ap (λ f. f scale) (expression_orders-are layout e))) (layer_fits 0 e (out-Expr e) scale refl le (λ d lt. absurd (omega arith)))
-  expression_fits (suc n) e scale le =
-      subst Fit (sym (ap (λ f. f scale) (expression_orders-are layout e)))
-      (layer_fits (suc n) e (out-Expr e) scale refl le (λ d lt. expression_fits n d scale (let l : expression_size d ≤ n = omega arith in l)))
+  expression_fits : (n : ℕ) (e : Expr) → expression_size e ≤ n → IsTrue (is_built_expression e) → Fit (expression_orders layout e 0)
+  expression_fits zero e le b =
+      subst Fit (sym (ap (λ f. f 0) (expression_orders-are layout e))) (layer_fits 0 e (out-Expr e) refl le (sym (expression-built e) ∙ b) (λ d lt. absurd (omega arith)))
+  expression_fits (suc n) e le b =
+      subst Fit (sym (ap (λ f. f 0) (expression_orders-are layout e)))
+      (layer_fits (suc n) e (out-Expr e) refl le (sym (expression-built e) ∙ b) (λ d lt. expression_fits n d (let l : expression_size d ≤ n = omega arith in l)))
 
-  argument_layer_fits : (x : Arg-F Arg Cond Expr Spot Ref) → Fit (layer_argument_orders layout x)
-  argument_layer_fits (layer.Value e scale) = expression_fits (expression_size e) e scale (let l : expression_size e ≤ expression_size e = omega arith in l)
-  argument_layer_fits _ = tt
+  argument_layer_fits : (x : Arg-F Arg Cond Expr Spot Ref) → IsTrue (built_argument x) → Fit (layer_argument_orders layout x)
+  argument_layer_fits (layer.Value e scale) b =
+      let tests = both (is_built_expression e) (nat_eq scale 0) b in
+      subst (λ f. Fit (expression_orders layout e f)) (sym (eqb-true scale 0 tests.1)) (expression_fits (expression_size e) e (let l : expression_size e ≤ expression_size e = omega arith in l) tests.0)
+  argument_layer_fits _ b = absurd (false≢true b)
 
-  arguments_fit : (args : List Arg) → Fit (joined (map (argument_orders layout) args))
-  arguments_fit [] = tt
-  arguments_fit (a ∷ args) =
-      together (argument_orders layout a) (joined (map (argument_orders layout) args)) (subst Fit (sym (argument_orders-are layout a)) (argument_layer_fits (out-Arg a))) (arguments_fit args)
+  argument_fits : (a : Arg) → IsTrue (is_built_argument a) → Fit (argument_orders layout a)
+  argument_fits a b = subst Fit (sym (argument_orders-are layout a)) (argument_layer_fits (out-Arg a) (sym (argument-built a) ∙ b))
+
+  begin_fits : (line : ℕ) → IsTrue (nat_lt line 65536) → Fit (begin_orders line)
+  begin_fits line h = ((tt, tt), ((ltb-true line 65536 h, tt), tt))
+
+  call_fits : (line : ℕ) (t : Target) (args : List Arg) → IsTrue (nat_lt line 65536) → IsTrue (is_built_call t (map is_built_argument args)) → Fit (call_orders line t (joined (map (argument_orders layout) args)))
+  call_fits line target.Write (a ∷ []) h b =
+      let os = argument_orders layout a ++ [] in
+      together (begin_orders line) (os ++ order.WriteByte ∷ []) (begin_fits line h)
+      (together os (order.WriteByte ∷ []) (together (argument_orders layout a) [] (argument_fits a b) tt) ((tt, tt), tt))
+  call_fits line _ _ h b = absurd (false≢true b)
+
+  abbrev ConditionFits : ConditionPiece → Type 0
+  ConditionFits p = (when : Bool) (mark place next : ℕ) → Fit (p when mark place next).orders
+
+  abbrev PieceFits : Piece → Type 0
+  PieceFits p = (place next : ℕ) → Fit (p place next).orders
+
+  -- pieces one after another, and with an end
+  following_fits : (p q : Piece) → PieceFits p → PieceFits q → PieceFits (followed_by p q)
+  following_fits p q f g place next =
+      let x = p place next in
+      together x.orders (q (place + length x.orders) (next + length x.marks)).orders (f place next) (g (place + length x.orders) (next + length x.marks))
+
+  ending_fits : (body : ℕ → Piece) → ((end : ℕ) → PieceFits (body end)) → PieceFits (with_end body)
+  ending_fits body f place next = together (body next place (next + 1)).orders (order.Mark ∷ []) (f next place (next + 1)) ((tt, tt), tt)
+
+  condition_layer_fits : (n : ℕ) (c : Cond) (x : Cond-F Arg Cond Expr Spot Ref) → out-Cond c ≡ x → condition_size c ≤ n → IsTrue (built_condition x) → ((d : Cond) → condition_size d < n → IsTrue (is_built_condition d) → ConditionFits (condition_piece layout d)) → ConditionFits (layer_condition_piece layout x)
+  condition_layer_fits n c (layer.Cmp op a b) h le built below when mark =
+      λ place next.
+      let bs = both (is_built_expression a) (is_built_expression b) built in
+      together (expression_orders layout a 0) (expression_orders layout b 0 ++ order.JumpIf (comparator_for when op) mark ∷ []) (expression_fits (expression_size a) a (let l : expression_size a ≤ expression_size a = omega arith in l) bs.0)
+      (together (expression_orders layout b 0) (order.JumpIf (comparator_for when op) mark ∷ []) (expression_fits (expression_size b) b (let l : expression_size b ≤ expression_size b = omega arith in l) bs.1) ((tt, tt), tt))
+  condition_layer_fits n c (layer.And a b) h le built below when mark =
+      let s = conjunction_size c a b h in
+      let bs = both (is_built_condition a) (is_built_condition b) built in
+      ending_fits (λ end. followed_by (condition_piece layout a false (pick_mark when end mark)) (condition_piece layout b when mark))
+      (λ end. following_fits (condition_piece layout a false (pick_mark when end mark)) (condition_piece layout b when mark)
+      (below a (let l : condition_size a < n = omega arith in l) bs.0 false (pick_mark when end mark))
+      (below b (let l : condition_size b < n = omega arith in l) bs.1 when mark))
+  condition_layer_fits n c (layer.Or a b) h le built below when mark =
+      let s = disjunction_size c a b h in
+      let bs = both (is_built_condition a) (is_built_condition b) built in
+      ending_fits (λ end. followed_by (condition_piece layout a true (pick_mark when mark end)) (condition_piece layout b when mark))
+      (λ end. following_fits (condition_piece layout a true (pick_mark when mark end)) (condition_piece layout b when mark)
+      (below a (let l : condition_size a < n = omega arith in l) bs.0 true (pick_mark when mark end))
+      (below b (let l : condition_size b < n = omega arith in l) bs.1 when mark))
+
+  condition_fits : (n : ℕ) (c : Cond) → condition_size c ≤ n → IsTrue (is_built_condition c) → ConditionFits (condition_piece layout c)
+  condition_fits zero c le b =
+      subst ConditionFits (sym (condition_piece-is layout c)) (condition_layer_fits 0 c (out-Cond c) refl le (sym (condition-built c) ∙ b) (λ d lt. absurd (omega arith)))
+  condition_fits (suc n) c le b =
+      subst ConditionFits (sym (condition_piece-is layout c))
+      (condition_layer_fits (suc n) c (out-Cond c) refl le (sym (condition-built c) ∙ b) (λ d lt. condition_fits n d (let l : condition_size d ≤ n = omega arith in l)))
 
   -- ---- statements
 
-  begin_fits : (line : ℕ) → IsTrue (nat_lt line 65536) → Fit (begin_orders line)
-  begin_fits line h = (tt, (ltb-true line 65536 h, tt))
+  module _ (u : SourceUnit) (first : ℕ) where
+    abbrev StatementFits : Stmt → Type 0
+    StatementFits s = PieceFits (statement_piece first layout s)
 
-  call_fits : (line : ℕ) (t : Target) (args : List Arg) → IsTrue (nat_lt line 65536) → Fit (call_orders line t (joined (map (argument_orders layout) args)))
-  call_fits line target.Write args h =
-      let os = joined (map (argument_orders layout) args) in
-      together (begin_orders line) (os ++ order.WriteByte ∷ []) (begin_fits line h) (together os (order.WriteByte ∷ []) (arguments_fit args) (tt, tt))
-  call_fits line _ args h = tt
+    statements_fit : (ss : List Stmt) (levels : ℕ) → IsTrue (all_within levels (map (is_built_statement u) ss)) → ((s : Stmt) → statement_size s ≤ total (map statement_size ss) → IsTrue (is_built_statement u s levels) → StatementFits s) → PieceFits (sequence (map (statement_piece first layout) ss))
+    statements_fit [] levels h below = λ place next. tt
+    statements_fit (s ∷ ss) levels h below =
+        let b = both (is_built_statement u s levels) (all_within levels (map (is_built_statement u) ss)) h in
+        following_fits (statement_piece first layout s) (sequence (map (statement_piece first layout) ss)) (below s (let l : statement_size s ≤ statement_size s + total (map statement_size ss) = omega arith in l) b.0)
+        (statements_fit ss levels b.1 (λ t le. below t (let l : statement_size t ≤ statement_size s + total (map statement_size ss) = omega arith in l)))
 
-  statements_fit : (ss : List Stmt) → IsTrue (all (map is_built_statement ss)) → ((s : Stmt) → statement_size s ≤ total (map statement_size ss) → IsTrue (is_built_statement s) → Fit (statement_orders layout s)) → Fit (joined (map (statement_orders layout) ss))
-  statements_fit [] h below = tt
-  statements_fit (s ∷ ss) h below =
-      let b = both (is_built_statement s) (all (map is_built_statement ss)) h in
-      together (statement_orders layout s) (joined (map (statement_orders layout) ss)) (below s (let l : statement_size s ≤ statement_size s + total (map statement_size ss) = omega arith in l) b.0)
-      (statements_fit ss b.1 (λ t le. below t (let l : statement_size t ≤ statement_size s + total (map statement_size ss) = omega arith in l)))
+    go_fits : (line : ℕ) (d : Dest) → IsTrue (nat_lt line 65536) → Fit (go_orders first line d)
+    go_fits line (dest.Goal (goal.Own l)) h = together (begin_orders line) (order.Jump (first + l) ∷ []) (begin_fits line h) ((tt, tt), tt)
+    go_fits line _ h = tt
 
-  statement_layer_fits : (n : ℕ) (s : Stmt) (x : Stmt-F Stmt) → out-Stmt s ≡ x → statement_size s ≤ n → IsTrue (built_statement x) → ((t : Stmt) → statement_size t < n → IsTrue (is_built_statement t) → Fit (statement_orders layout t)) → Fit (layer_statement_orders layout x)
-  statement_layer_fits n s (statement.Put line r e) h le b below =
-      let o = ref_orders layout r in
-      let tests = both (nat_lt line 65536) (is_built_ref r && is_built_expression e) b in
-      together (begin_orders line) (expression_orders layout e o.scale ++ (o.address ++ store_orders o.field)) (begin_fits line tests.0)
-      (together (expression_orders layout e o.scale) (o.address ++ store_orders o.field) (expression_fits (expression_size e) e o.scale (let l : expression_size e ≤ expression_size e = omega arith in l))
-      (together o.address (store_orders o.field) (ref_fits layout r) (store_fits o.field)))
-  statement_layer_fits n s (statement.Call line t args) h le b below = call_fits line t args (both (nat_lt line 65536) (is_built_call t (map is_built_argument args)) b).0
-  statement_layer_fits n s (statement.Seq ss) h le b below =
-      let size = list_size s ss h in
-      statements_fit ss b (λ t lt. below t (let l : statement_size t < n = omega arith in l))
-  statement_layer_fits n s _ h le b below = absurd (false≢true b)
+    -- a statement in the branch of a condition that holds has one level less
+    within_fits : (levels : ℕ) (s : Stmt) → IsTrue (is_built_within levels (is_built_statement u s)) → ((n : ℕ) → IsTrue (is_built_statement u s n) → StatementFits s) → StatementFits s
+    within_fits zero s h f = absurd (false≢true h)
+    within_fits (suc n) s h f = f n h
 
-  statement_fits : (n : ℕ) (s : Stmt) → statement_size s ≤ n → IsTrue (is_built_statement s) → Fit (statement_orders layout s)
-  statement_fits zero s le b =
-      subst Fit (sym (statement_orders-are layout s)) (statement_layer_fits 0 s (out-Stmt s) refl le (sym (statement-built s) ∙ b) (λ t lt. absurd (omega arith)))
-  statement_fits (suc n) s le b =
-      subst Fit (sym (statement_orders-are layout s))
-      (statement_layer_fits (suc n) s (out-Stmt s) refl le (sym (statement-built s) ∙ b) (λ t lt. statement_fits n t (let l : statement_size t ≤ n = omega arith in l)))
+    statement_layer_fits : (n levels : ℕ) (s : Stmt) (x : Stmt-F Stmt) → out-Stmt s ≡ x → statement_size s ≤ n → IsTrue (built_statement u x levels) → ((t : Stmt) (k : ℕ) → statement_size t < n → IsTrue (is_built_statement u t k) → StatementFits t) → PieceFits (layer_statement_piece layout first x)
+    statement_layer_fits n levels s (statement.Put line r e) h le b below =
+        λ place next.
+        let o = ref_orders layout r in
+        let tests = both (nat_lt line 65536) (is_built_ref r && is_built_expression e) b in
+        let parts = both (is_built_ref r) (is_built_expression e) tests.1 in
+        let value = expression_fits (expression_size e) e (let l : expression_size e ≤ expression_size e = omega arith in l) parts.1 in
+        together (begin_orders line) (expression_orders layout e o.scale ++ (o.address ++ store_orders o.field)) (begin_fits line tests.0)
+        (together (expression_orders layout e o.scale) (o.address ++ store_orders o.field) (subst (λ f. Fit (expression_orders layout e f)) (sym (unscaled layout r parts.0)) value)
+        (together o.address (store_orders o.field) (ref_fits layout r) (store_fits o.field)))
+    statement_layer_fits n levels s (statement.Call line t args) h le b below =
+        λ place next.
+        let tests = both (nat_lt line 65536) (is_built_call t (map is_built_argument args)) b in
+        call_fits line t args tests.0 tests.1
+    statement_layer_fits n levels s (statement.Go line d) h le b below = λ place next. go_fits line d (both (nat_lt line 65536) (is_built_goal u d) b).0
+    statement_layer_fits n levels s (statement.If line c a b) h le built below =
+        let size = choice_size s line c a b h in
+        let tests = both (nat_lt line 65536) (is_built_condition c && (is_built_within levels (is_built_statement u a) && is_built_statement u b levels)) built in
+        let more = both (is_built_condition c) (is_built_within levels (is_built_statement u a) && is_built_statement u b levels) tests.1 in
+        let branches = both (is_built_within levels (is_built_statement u a)) (is_built_statement u b levels) more.1 in
+        let pa = statement_piece first layout a in
+        let pb = statement_piece first layout b in
+        let pc = condition_piece layout c false in
+        let fa : StatementFits a = within_fits levels a branches.0 (λ k. below a k (let l : statement_size a < n = omega arith in l)) in
+        following_fits (plain (begin_orders line)) (with_end (λ end. followed_by (with_end (λ other. followed_by (pc other) (followed_by pa (plain (order.Jump end ∷ []))))) pb)) (λ place next. begin_fits line tests.0)
+        (ending_fits (λ end. followed_by (with_end (λ other. followed_by (pc other) (followed_by pa (plain (order.Jump end ∷ []))))) pb)
+        (λ end. following_fits (with_end (λ other. followed_by (pc other) (followed_by pa (plain (order.Jump end ∷ []))))) pb
+        (ending_fits (λ other. followed_by (pc other) (followed_by pa (plain (order.Jump end ∷ []))))
+        (λ other. following_fits (pc other) (followed_by pa (plain (order.Jump end ∷ []))) (condition_fits (condition_size c) c (let l : condition_size c ≤ condition_size c = omega arith in l) more.0 false other)
+        (following_fits pa (plain (order.Jump end ∷ [])) fa (λ place next. ((tt, tt), tt)))))
+        (below b levels (let l : statement_size b < n = omega arith in l) branches.1)))
+    statement_layer_fits n levels s (statement.Seq ss) h le b below =
+        let size = list_size s ss h in
+        statements_fit ss levels b (λ t lt. below t levels (let l : statement_size t < n = omega arith in l))
+    statement_layer_fits n levels s (statement.Mark ls t) h le b below =
+        let size = labelled_size s ls t h in
+        following_fits (with_labels ls) (statement_piece first layout t) (λ place next. ((tt, tt), tt)) (below t levels (let l : statement_size t < n = omega arith in l) b)
+    statement_layer_fits n levels s _ h le b below = absurd (false≢true b)
+
+    statement_fits : (n levels : ℕ) (s : Stmt) → statement_size s ≤ n → IsTrue (is_built_statement u s levels) → StatementFits s
+    statement_fits zero levels s le b =
+        subst PieceFits (sym (statement_piece-is layout first s)) (statement_layer_fits 0 levels s (out-Stmt s) refl le (sym (ap (λ f. f levels) (statement-built u s)) ∙ b) (λ t k lt. absurd (omega arith)))
+    statement_fits (suc n) levels s le b =
+        subst PieceFits (sym (statement_piece-is layout first s))
+        (statement_layer_fits (suc n) levels s (out-Stmt s) refl le (sym (ap (λ f. f levels) (statement-built u s)) ∙ b) (λ t k lt. statement_fits n k t (let l : statement_size t ≤ n = omega arith in l)))
 
 -- ---- units
 
-pub has_orders : (us : List SourceUnit) (g : ℕ) (u : SourceUnit) → AllBuilt us → slice_get us g ≡ Some u → IsTrue (is_built_statement u.body)
+pub has_orders : (us : List SourceUnit) (g : ℕ) (u : SourceUnit) → AllBuilt us → slice_get us g ≡ Some u → IsTrue (is_built_statement u u.body most_levels)
 has_orders [] g u b h = absurd (none-some u h)
-has_orders (v ∷ us) zero u b h = subst (λ x. IsTrue (is_built_statement x.body)) (same_Some v u h) b.0
+has_orders (v ∷ us) zero u b h = subst (λ x. IsTrue (is_built_statement x x.body most_levels)) (same_Some v u h) b.0
 has_orders (v ∷ us) (suc g) u b h = has_orders us g u b.1 h
 
-unit_fits : (u : SourceUnit) → IsTrue (is_built_statement u.body) → Fit (orders_for u).list
+unit_fits : (u : SourceUnit) → IsTrue (is_built_statement u u.body most_levels) → Fit (orders_for u).list
 unit_fits u b =
-    together (statement_orders (layout_of u) u.body) (order.NextBody ∷ []) (statement_fits (layout_of u) (statement_size u.body) u.body (let l : statement_size u.body ≤ statement_size u.body = omega arith in l) b) (tt, tt)
+    together (statement_piece (length u.defined) (layout_of u) u.body 0 (first_mark u)).orders (order.NextBody ∷ [])
+    (statement_fits (layout_of u) u (length u.defined) (statement_size u.body) most_levels u.body (let l : statement_size u.body ≤ statement_size u.body = omega arith in l) b 0 (first_mark u))
+    ((tt, tt), tt)
 
-at_unit : (p : OrderProgram) (us : List SourceUnit) (g place : ℕ) (v : Option SourceUnit) (o : Order) → AllBuilt us → slice_get us g ≡ v → order_in p (option_map orders_for v) place ≡ Some o → OrderFits o
+at_unit : (p : OrderProgram) (us : List SourceUnit) (g place : ℕ) (v : Option SourceUnit) (o : Order) → AllBuilt us → slice_get us g ≡ v → order_in (option_map orders_for v) place ≡ Some o → OrderFits o
 at_unit p us g place None o b h e = absurd (none-some o e)
 at_unit p us g place (Some u) o b h e = each (orders_for u).list place o (unit_fits u (has_orders us g u b h)) e
 
 order_fits : (us : List SourceUnit) (m : Map) (limits : Limits) (room g place : ℕ) (o : Order) → AllBuilt us → order_at (orders_program us m limits room) g place ≡ Some o → OrderFits o
 order_fits us m limits room g place o b e =
     let p = orders_program us m limits room in
-    at_unit p us g place (slice_get us g) o b refl (ap (λ v. order_in p v place) (sym (slice_get-map orders_for us g)) ∙ e)
+    at_unit p us g place (slice_get us g) o b refl (ap (λ v. order_in v place) (sym (slice_get-map orders_for us g)) ∙ e)
 
 pub constants-fit : (us : List SourceUnit) (m : Map) (limits : Limits) (room : ℕ) → AllBuilt us → ConstantsFit (orders_program us m limits room)
-constants-fit us m limits room b g place w e = order_fits us m limits room g place (order.Const w) b e
+constants-fit us m limits room b g place w e = (order_fits us m limits room g place (order.Const w) b e).0
 
 pub lines-fit : (us : List SourceUnit) (m : Map) (limits : Limits) (room : ℕ) → AllBuilt us → LinesFit (orders_program us m limits room)
-lines-fit us m limits room b g place line e = order_fits us m limits room g place (order.Line line) b e
+lines-fit us m limits room b g place line e = (order_fits us m limits room g place (order.Line line) b e).0
+
+pub have-code : (us : List SourceUnit) (m : Map) (limits : Limits) (room g place : ℕ) (o : Order) → AllBuilt us → order_at (orders_program us m limits room) g place ≡ Some o → HasCode o
+have-code us m limits room g place o b e = (order_fits us m limits room g place o b e).1
 
 entry_of_some : (v : Option SourceUnit) (o : Orders) → option_map orders_for v ≡ Some o → o.entry ≡ 0
 entry_of_some None o e = absurd (none-some o e)

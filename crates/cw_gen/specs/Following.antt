@@ -13,8 +13,11 @@ use Rattle.cw_unit.specs.Configuration.{Configuration, words_of}
 use Rattle.cw_unit.specs.Step.{step}
 use Rattle.cw_unit.specs.Behaviour.{Shown, shown, configuration_after}
 use Rattle.cw_order.specs.declared.order.Orders.{Orders}
-use Rattle.cw_order.specs.OrderMachine.{OrderProgram, OrderState, operand_words, order_start}
+use Rattle.cw_order.specs.OrderProgram.{OrderProgram}
+use Rattle.cw_order.specs.OrderState.{OrderState, operand_words}
+use Rattle.cw_order.specs.OrderMachine.{order_start}
 use Rattle.cw_gen.specs.ReferenceOrders.{unit_orders}
+use Rattle.cw_gen.specs.UnitTables.{tables_of}
 
 -- the source semantics; each step may take the same number of instructions
 abbrev pub meaning : Program → Machine Shown
@@ -25,7 +28,7 @@ orders_for u = unit_orders u (layout_of u)
 
 -- the orders of the units, at the same storage map and limits
 abbrev pub orders_program : List SourceUnit → Map → Limits → (room : ℕ) → OrderProgram
-orders_program us m limits room = record { units = map orders_for us; addresses = m; limits = limits; room = room }
+orders_program us m limits room = record { units = map orders_for us; tables = map (tables_of us) us; addresses = m; limits = limits; room = room }
 
 -- before its first order, with the words that the source begins with
 abbrev pub first_order : List SourceUnit → Map → Limits → (room : ℕ) → (input : List ℕ) → OrderState

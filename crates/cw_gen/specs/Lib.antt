@@ -1,3 +1,5 @@
 pub mod ReferenceOrders
 pub mod Built
+pub mod UnitTables
+pub mod Output
 pub mod Following

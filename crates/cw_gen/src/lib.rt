@@ -1,8 +1,10 @@
 //! Code generation: from a checked unit to its orders.
 #![tactic(auto)]
 
+mod conditions;
 mod expressions;
 pub mod laws;
+mod output;
 mod statements;
 
 pub use statements::orders;

@@ -6,3 +6,4 @@ pub mod Steps
 pub mod Next
 pub mod Runs
 pub mod Unique
+pub mod Pieces

@@ -1,11 +1,8 @@
 -- Facts that hold of each item of a list, and arguments that stand behind others.
-use Rattle.std.proofs.Common.{Bool, ◌||◌, ◌≡◌, ℕ, zero, suc, ◌<◌, List, [], ◌∷◌, ◌++◌, length, map, get_or, Some, None, refl, sym, ap, subst, ◌∙◌, append_assoc, arith}
+use Rattle.std.proofs.Common.{Bool, ◌||◌, ◌≡◌, ℕ, zero, suc, ◌<◌, List, [], ◌∷◌, ◌++◌, length, map, get_or, Some, None, refl, ap, subst, arith}
 use Rattle.std.specs.List.{flat_map, list_any}
-use Rattle.std.proofs.lemmas.List.{append-nil}
 use Rattle.cw_macro.specs.Premises.{Each}
-use Rattle.cw_macro.specs.declared.arguments.Bracket.{Bracket}
-use Rattle.cw_macro.specs.declared.arguments.Role.TheVariants.{Inside}
-use Rattle.cw_macro.specs.Expansion.{Leveled, Given, with_token, with_argument, given, role_of, innermost, open_behind, arguments}
+use Rattle.cw_macro.specs.Expansion.{Leveled, Given}
 
 module _ {A : Type 0} (P : A → Type 0) where
   pub each_first : (ts rest : List A) (t : A) → ts ≡ t ∷ rest → Each P ts → P t
@@ -33,27 +30,6 @@ abbrev pub behind : List (List Leveled) → List Leveled → Given → Given
 behind args argument None = None
 behind [] argument (Some (first, more, rest)) = Some (argument ++ first, more, rest)
 behind (a ∷ args) argument (Some (first, more, rest)) = Some (a, args ++ (argument ++ first) ∷ more, rest)
-
-pub behind_none : (o : Given) → behind [] [] o ≡ o
-behind_none None = refl
-behind_none (Some (first, more, rest)) = refl
-
-pub behind_token : (args : List (List Leveled)) (argument : List Leveled) (t : Leveled) (o : Given) → behind args argument (with_token t o) ≡ behind args (argument ++ t ∷ []) o
-behind_token args argument t None = refl
-behind_token [] argument t (Some (first, more, rest)) = ap (λ (z : List Leveled). Some (z, more, rest)) (sym (append_assoc argument (t ∷ []) first))
-behind_token (a ∷ args) argument t (Some (first, more, rest)) = ap (λ (z : List Leveled). Some (a, args ++ z ∷ more, rest)) (sym (append_assoc argument (t ∷ []) first))
-
-pub behind_comma : (args : List (List Leveled)) (argument : List Leveled) (o : Given) → behind args argument (with_argument o) ≡ behind (args ++ argument ∷ []) [] o
-behind_comma args argument None = refl
-behind_comma [] argument (Some (first, more, rest)) = ap (λ (z : List Leveled). Some (z, first ∷ more, rest)) (append-nil argument)
-behind_comma (a ∷ args) argument (Some (first, more, rest)) =
-    ap (λ (z : List (List Leveled)). Some (a, z, rest)) (ap (λ (z : List Leveled). args ++ z ∷ first ∷ more) (append-nil argument) ∙ sym (append_assoc args (argument ∷ []) (first ∷ more)))
-
-pub arguments_inside : (bs : List Bracket) (ts rest : List Leveled) (t : Leveled) (args : List (List Leveled)) (argument : List Leveled) → ts ≡ t ∷ rest → role_of (innermost bs) t.lexeme.kind ≡ Inside
-    → behind args argument (arguments bs ts) ≡ behind args (argument ++ t ∷ []) (arguments (open_behind t.lexeme.kind bs) rest)
-arguments_inside bs ts rest t args argument e r =
-    let next = arguments (open_behind t.lexeme.kind bs) rest in
-    ap (λ (z : List Leveled). behind args argument (arguments bs z)) e ∙ ap (λ z. behind args argument (given z t rest next)) r ∙ behind_token args argument t next
 
 pub each_at_map : {A B : Type 0} (P : B → Type 0) (f : A → B) (xs : List A) (i : ℕ) (d : A) → i < length xs → Each P (map f xs) → P (f (get_or xs i d))
 each_at_map P f [] i d l h = absurd (omega (arith, l))

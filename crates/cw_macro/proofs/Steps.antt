@@ -1,19 +1,19 @@
 -- The step of an expansion, case by case.
-use Rattle.std.proofs.Common.{◌≡◌, ℕ, zero, suc, ◌+◌, ◌<◌, ◌≤◌, Bool, true, false, cond, ◌&&◌, List, [], ◌∷◌, ◌++◌, length, map, take, Option, Some, None, refl, sym, ap, subst, ◌∙◌, arith}
+use Rattle.std.proofs.Common.{◌≡◌, ℕ, ◌+◌, ◌<◌, ◌≤◌, Bool, true, false, cond, ◌&&◌, List, [], ◌∷◌, ◌++◌, length, map, Option, Some, None, refl, sym, ap, subst, ◌∙◌, arith}
 use Rattle.std.specs.Prelude.{nat_lt, nat_le}
 use Rattle.std.specs.List.{flat_map}
 use Rattle.std.specs.Option.{is_some}
-use Rattle.std.proofs.lemmas.List.{length-map, length-append}
+use Rattle.std.proofs.lemmas.List.{length-map}
 use Rattle.std.proofs.lemmas.Bool.Decides.{nat_tests}
 use Rattle.cw_lex.specs.declared.token.Word.TheVariants as words
 use Rattle.cw_lex.specs.declared.token.TokenKind.{TokenKind}
 use Rattle.cw_lex.specs.declared.token.TokenKind.TheVariants as kinds
-use Rattle.cw_lex.specs.Lexical.{is_semicolon}
+use Rattle.cw_lex.specs.Lexical.{Lexeme, is_semicolon}
 use Rattle.cw_macro.specs.declared.fault.MacroFault.{MacroFault}
 use Rattle.cw_macro.specs.declared.fault.MacroFault.TheVariants as faults
 use Rattle.cw_macro.specs.declared.fault.TheConstants.{MOST_LEVELS, MOST_TOKENS, MOST_REPLACED}
-use Rattle.cw_macro.specs.Expansion.{Leveled, Part, Macro, Expansion, Step, Refused, Moved, name_of, is_name, moving, removing, deleting, redefined, replacing, naming, argument_list, tokens_of, replacement, brought, step_at, step_in, expansion_step}
-use Rattle.cw_macro.specs.Views.{Follows, moves, defines, IsFaultOf}
+use Rattle.cw_macro.specs.Expansion.{Definitions, Heading, defined, part, Leveled, Part, Macro, Expansion, Step, Refused, Moved, name_of, is_name, moving, removing, deleting, redefined, replacing, naming, argument_list, tokens_of, replacement, brought, step_at, step_in, expansion_step}
+use Rattle.cw_macro.specs.Views.{Follows, moves, defines, IsFaultOf, within_limit}
 
 below_true : (a b : ℕ) → a < b → nat_lt a b ≡ true
 below_true a b h = grind (arith, nat_tests)
@@ -45,10 +45,6 @@ called_is e t m rest h = ap (deep_if e t m rest) (below_true t.level MOST_LEVELS
 pub bad_is : (e : Expansion) (t : Leveled) (m : Macro) (rest : List Leveled) → t.level < MOST_LEVELS → argument_list m.parameters rest ≡ None → naming e t (Some m) rest ≡ Refused (faults.BadCall t.lexeme.line)
 bad_is e t m rest h n = called_is e t m rest h ∙ ap (replacing e t m.body) n
 
--- the count behind a call, where it is within the limit
-abbrev pub counted_if : ℕ → Option ℕ
-counted_if n = cond (nat_le n MOST_REPLACED) (Some n) None
-
 count_told : (b : Bool) (n : ℕ) (o : Option ℕ) → o ≡ cond b (Some n) None → (o ≡ None → b ≡ false) × ((k : ℕ) → o ≡ Some k → (b ≡ true) × (k ≡ n))
 count_told true n o h = ((λ e. absurd cc), (λ k e. (refl, cc)))
 count_told false n o h = ((λ e. refl), (λ k e. absurd cc))
@@ -60,19 +56,19 @@ size_is : (e : Expansion) (t : Leveled) (body : List Part) (args : List (List Le
 size_is e t body args = ap (λ (n : ℕ). e.count + 1 + n) (sym (length-map (flat_map (tokens_of args) body) (brought t)))
 
 pub long_is : (e : Expansion) (t : Leveled) (m : Macro) (rest behind : List Leveled) (args : List (List Leveled)) (o : Option ℕ) → t.level < MOST_LEVELS → argument_list m.parameters rest ≡ Some (args, behind)
-    → o ≡ counted_if (e.count + 1 + length (flat_map (tokens_of args) m.body)) → o ≡ None → naming e t (Some m) rest ≡ Refused (faults.TooLong t.lexeme.line)
+    → o ≡ within_limit (e.count + 1 + length (flat_map (tokens_of args) m.body)) → o ≡ None → naming e t (Some m) rest ≡ Refused (faults.TooLong t.lexeme.line)
 unfolding replaced_if
 long_is e t m rest behind args o h s c n =
     let size = size_is e t m.body args in
-    let over = (count_told (nat_le (e.count + 1 + length (replacement t m.body args)) MOST_REPLACED) _ o (c ∙ ap counted_if size)).0 n in
+    let over = (count_told (nat_le (e.count + 1 + length (replacement t m.body args)) MOST_REPLACED) _ o (c ∙ ap within_limit size)).0 n in
     called_is e t m rest h ∙ ap (replacing e t m.body) s ∙ ap (replaced_if e t m.body args behind (e.count + 1 + length (replacement t m.body args))) over
 
 pub replaced_is : (e : Expansion) (t : Leveled) (m : Macro) (rest behind : List Leveled) (args : List (List Leveled)) (o : Option ℕ) (k : ℕ) → t.level < MOST_LEVELS → argument_list m.parameters rest ≡ Some (args, behind)
-    → o ≡ counted_if (e.count + 1 + length (flat_map (tokens_of args) m.body)) → o ≡ Some k → naming e t (Some m) rest ≡ Moved (record e { left = replacement t m.body args ++ behind; count = k })
+    → o ≡ within_limit (e.count + 1 + length (flat_map (tokens_of args) m.body)) → o ≡ Some k → naming e t (Some m) rest ≡ Moved (record e { left = replacement t m.body args ++ behind; count = k })
 unfolding replaced_if
 replaced_is e t m rest behind args o k h s c n =
     let size = size_is e t m.body args in
-    let told = (count_told (nat_le (e.count + 1 + length (replacement t m.body args)) MOST_REPLACED) _ o (c ∙ ap counted_if size)).1 k n in
+    let told = (count_told (nat_le (e.count + 1 + length (replacement t m.body args)) MOST_REPLACED) _ o (c ∙ ap within_limit size)).1 k n in
     called_is e t m rest h ∙ ap (replacing e t m.body) s ∙ ap (replaced_if e t m.body args behind (e.count + 1 + length (replacement t m.body args))) told.0
     ∙ ap (λ (z : ℕ). Moved (record e { left = replacement t m.body args ++ behind; count = z })) (sym told.1)
 
@@ -151,17 +147,9 @@ follows_in e next t rest k h g (defines d b n) = defines (taken_is e t rest k h 
 pub faults_in : (e : Expansion) (f : MacroFault) (t : Leveled) (rest : List Leveled) (k : TokenKind) → e.left ≡ t ∷ rest → t.lexeme.kind ≡ k → IsFaultOf (step_at (record e { left = rest }) t rest k) f → IsFaultOf (expansion_step e) f
 faults_in e f t rest k h g d = let P : Step → Type 0 = λ z. IsFaultOf z f in subst P (sym (taken_is e t rest k h g)) d
 
--- what is counted so far is no more than all
-prefix : {A B C : Type 0} (g : B → List C) (f : A → B) (i : ℕ) (xs : List A) → length (flat_map g (map f (take i xs))) ≤ length (flat_map g (map f xs))
-prefix g f zero xs = omega arith
-prefix g f (suc i) [] = omega arith
-prefix g f (suc i) (x ∷ xs) = omega (arith, length-append (g (f x)) (flat_map g (map f (take i xs))), length-append (g (f x)) (flat_map g (map f xs)), prefix g f i xs)
-
-over_limit : (n : ℕ) → MOST_REPLACED < n → None ≡ counted_if n
-over_limit n h = ap (λ (b : Bool). cond b (Some n) None) (sym (not_within n h))
-  where
-    not_within : (n : ℕ) → MOST_REPLACED < n → nat_le n MOST_REPLACED ≡ false
-    not_within n h = grind (arith, nat_tests)
-
-pub counted_over : {A B C : Type 0} (g : B → List C) (f : A → B) (i count : ℕ) (xs : List A) → MOST_REPLACED < count + 1 + length (flat_map g (map f (take i xs))) → None ≡ counted_if (count + 1 + length (flat_map g (map f xs)))
-counted_over g f i count xs h = over_limit (count + 1 + length (flat_map g (map f xs))) (omega (arith, prefix g f i xs, h))
+pub defined_is : (e : Expansion) (h : Heading) (rest : List Leveled) (tokens : List Lexeme) (d : Definitions) (n : ℕ) (ps : List Part)
+    → d ≡ redefined e.definitions h.name (Some (record { parameters = n; body = ps })) → n ≡ length h.parameters → ps ≡ map (part h.parameters) tokens → record e { definitions = d; left = rest } ≡ defined e h rest tokens
+defined_is e h rest tokens d n ps a b c =
+    let put : Macro → Definitions = λ m. redefined e.definitions h.name (Some m) in
+    ap (λ (z : Definitions). record e { definitions = z; left = rest })
+    (a ∙ ap (λ (k : ℕ). put (record { parameters = k; body = ps })) b ∙ ap (λ (z : List Part). put (record { parameters = length h.parameters; body = z })) c)

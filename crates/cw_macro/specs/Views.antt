@@ -1,5 +1,5 @@
 -- What the code's values stand for.
-use Rattle.std.specs.Prelude.{◌≡◌, ℕ, Result, Ok, Err, List, [], ◌∷◌, length, map, reverse, Option, Some, None}
+use Rattle.std.specs.Prelude.{◌≡◌, ◌<◌, Bool, true, false, nat_le, if◌then◌else◌, ℕ, Result, Ok, Err, List, [], ◌∷◌, length, map, reverse, Option, Some, None}
 use Rattle.std.specs.Option.{option_map}
 use Rattle.std.specs.BTreeMap.{btree_map_len, get}
 use Rattle.std.specs.Ordering.{nat_cmp}
@@ -11,13 +11,17 @@ use Rattle.cw_macro.specs.declared.left.Item.{Item}
 use Rattle.cw_macro.specs.declared.left.Left.{Left}
 use Rattle.cw_macro.specs.declared.expansion.Expansion.{Expansion as ExpansionRead}
 use Rattle.cw_macro.specs.declared.key.Key.{Key}
+use Rattle.cw_macro.specs.declared.definition.Run.{Run}
 use Rattle.cw_macro.specs.declared.definition.Piece.{Piece}
+use Rattle.cw_macro.specs.Premises.{Each}
+use Rattle.std.specs.List.{flat_map, slice_get}
 use Rattle.cw_macro.specs.declared.definition.Piece.TheVariants as pieces
 use Rattle.cw_macro.specs.declared.definition.Macro.{Macro}
 use Rattle.cw_macro.specs.declared.definition.Definitions.{Definitions}
 use Rattle.cw_macro.specs.declared.definition.Parameters.{Parameters}
 use Rattle.cw_macro.specs.declared.definition.Heading.{Heading as HeadingRead}
 use Rattle.cw_macro.specs.Expansion.{Leveled, Part, Own, Parameter, Macro as MacroOf, Definitions as Table, Heading, number_of, part, HasBody, HasNoBody, Given, Expansion, Step, Moved, Refused, Defining, defined}
+use Rattle.cw_macro.specs.declared.fault.TheConstants.{MOST_REPLACED}
 use Rattle.cw_macro.specs.declared.fault.MacroFault.{MacroFault}
 use Rattle.cw_macro.specs.declared.fault.MacroFault.TheVariants as faults
 
@@ -27,12 +31,26 @@ leveled i = record { lexeme = view i.token; level = i.level }
 abbrev pub left_of : Left → List Leveled
 left_of left = reverse (map leveled left.items.items)
 
-abbrev pub part_of : Piece → Part
-part_of (pieces.Own t) = Own (view t)
-part_of (pieces.Parameter k) = Parameter k
+abbrev pub picked : Option ℕ → List Part
+picked None = []
+picked (Some k) = Parameter k ∷ []
+
+abbrev pub parts_at : List ℕ → List ℕ → List Part
+parts_at numbers picks = flat_map (λ i. picked (slice_get numbers i)) picks
+
+abbrev pub run_parts : Run → List Part
+run_parts run = parts_at run.numbers run.picks
+
+-- Each of its parameters has a number.
+abbrev pub IsRun : Run → Type 0
+IsRun run = Each (λ i. i < length run.numbers) run.picks
+
+abbrev pub parts_of : Piece → List Part
+parts_of (pieces.Own t) = Own (view t) ∷ []
+parts_of (pieces.Parameters run) = run_parts run
 
 abbrev pub macro_view : Macro → MacroOf
-macro_view m = record { parameters = m.parameters; body = map part_of m.body }
+macro_view m = record { parameters = m.parameters; body = flat_map parts_of m.body }
 
 abbrev pub key : List ℕ → Key
 key name = record { name = name }
@@ -63,7 +81,7 @@ pub record HasHeading (h : HeadingRead) (read : ℕ → Option (Heading × List 
 -- What is read of a body: its parts, or nothing.
 abbrev pub IsBodyRead : Lexeme → List (List ℕ) → Option (List Piece) → Type 0
 IsBodyRead string names None = HasNoBody string
-IsBodyRead string names (Some body) = (tokens : List Lexeme) × HasBody string tokens × (map part_of body ≡ map (part names) tokens)
+IsBodyRead string names (Some body) = (tokens : List Lexeme) × HasBody string tokens × (flat_map parts_of body ≡ map (part names) tokens)
 
 abbrev pub lists_of : List (List Item) → List (List Leveled)
 lists_of = map (map leveled)
@@ -97,3 +115,11 @@ IsMade e s (Err fault) next = IsFaultOf s fault
 abbrev pub IsCounted : Expansion → Step → Result ℕ MacroFault → List Leveled → Type 0
 IsCounted e s (Ok count) left = Follows e s (record e { left = left; count = count })
 IsCounted e s (Err fault) left = IsFaultOf s fault
+
+abbrev pub is_nil : {A : Type 0} → List A → Bool
+is_nil [] = true
+is_nil (x ∷ xs) = false
+
+-- the count, where it is within the limit
+abbrev pub within_limit : ℕ → Option ℕ
+within_limit n = if nat_le n MOST_REPLACED then Some n else None

@@ -73,6 +73,7 @@ fn track(brackets: &mut Vec<Bracket>, kind: TokenKind) -> Result<(), NoMemory>
     }
 }
 
+// Adds a token to the argument at hand.
 fn keep_inside<'a>(
     argument: &mut List<Item<'a>>,
     brackets: &mut Vec<Bracket>,

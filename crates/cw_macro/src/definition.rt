@@ -1,13 +1,13 @@
 //! Definitions: their headings, their bodies, and the table of those in force.
-ghost use Rattle.std.specs.Prelude.{◌≡◌, ◌∷◌, [], ◌<◌, ◌≤◌, ℕ, length, map, List as Sequence, MatchOption, OnOk, IfOk, IsTrue, Some, None, not, true, ◌++◌, ◌+◌};
-ghost use Rattle.std.specs.List.{list_any};
+ghost use Rattle.std.specs.Prelude.{◌≡◌, ◌∷◌, [], ◌<◌, ◌≤◌, ℕ, length, map, List as Sequence, MatchOption, OnOk, IfOk, IfSome, slice_get, Some, None, not, true, ◌++◌, ◌+◌};
+ghost use Rattle.std.specs.List.{list_any, flat_map};
 ghost use Rattle.std.specs.Option.{option_copied, option_map, is_some};
 ghost use Rattle.std.specs.Str.{str_to_ascii_uppercase};
 ghost use Rattle.cw_lex.specs.Lexical.{view, is_semicolon};
 ghost use Rattle.cw_word.specs.Name.{IsName};
-ghost use Rattle.cw_macro.specs.Expansion.{defines, is_name, is_string, quote_length, part, redefined, number_of, parameters as parameters_behind, heading, parameters_if_any};
+ghost use Rattle.cw_macro.specs.Expansion.{defines, is_name, is_string, quote_length, part, part_if_any, Parameter, redefined, number_of, parameters as parameters_behind, heading, parameters_if_any};
 ghost use Rattle.cw_macro.specs.Premises.{Each, IsWithin, IsPlaced};
-ghost use Rattle.cw_macro.specs.Views.{left_of, part_of, macro_view, table_of, IsNumbering, HasParameters, HasHeading, IsBodyRead};
+ghost use Rattle.cw_macro.specs.Views.{left_of, run_parts, IsRun, parts_of, macro_view, table_of, IsNumbering, HasParameters, HasHeading, IsBodyRead};
 
 use crate::arguments::is_open;
 use crate::fault::MOST_BYTES;
@@ -17,14 +17,24 @@ use cw_lex::{LexFault, Symbol, Token, TokenKind, Word, lex_body};
 use cw_word::{List, NoMemory};
 use std::alloc::Global;
 use std::collections::BTreeMap;
+use std::mem;
 
-/// A part of a macro's body.
-#[derive(Clone, Copy)]
+/// A run of parameters in a body. Each is the place of its number in the list of the run's numbers, so that a look at these tells whether the run brings anything.
+#[derive(Drop)]
+pub(crate) struct Run {
+    pub(crate) numbers: List<usize>,
+    pub(crate) picks: List<usize>,
+}
+
+/// A piece of a macro's body.
+#[derive(Drop)]
 pub(crate) enum Piece<'a> {
     Own(Token<'a>),
-    /// The parameter of this number, counted from 0.
-    Parameter(usize),
+    Parameters(Run),
 }
+
+// A run has at most so many parameters, so that what one argument brings pays for the look at all of them.
+const LONGEST_RUN: usize = 512;
 
 /// What a name is defined as.
 #[derive(Drop)]
@@ -167,6 +177,7 @@ fn read_parameters(alloc: Global, left: &mut Left<'_>) -> Result<Option<Paramete
     Ok(None)
 }
 
+// No parameters, or those in brackets.
 fn read_parameters_if_any(
     alloc: Global,
     left: &mut Left<'_>,
@@ -219,36 +230,116 @@ fn defines(kind: TokenKind) -> bool
     matches!(kind, TokenKind::Word(Word::Define | Word::Delete))
 }
 
+// Whether DEFINE or DELETE is among the tokens.
 fn define_any(tokens: &[Token<'_>]) -> bool
     ensures { result ≡ list_any (λ t. defines t.kind) tokens.now }
 {
     tokens.iter().any(|token| defines(token.kind))
 }
 
-fn piece_of<'a>(token: Token<'a>, parameters: &Parameters) -> Piece<'a>
+// The number of the parameter that a token is.
+fn parameter_number(token: Token<'_>, parameters: &Parameters) -> Option<usize>
     requires { IsWithin (view token) }
-    ensures { (names : Sequence (Sequence ℕ)) → IsNumbering parameters.now names → part_of result ≡ part names (view token.entry) }
+    ensures { (names : Sequence (Sequence ℕ)) → IsNumbering parameters.now names → part names (view token.entry) ≡ part_if_any (view token.entry) result }
 {
     if is_name(token.kind) {
-        if let Some(number) = parameters.number(token.text) {
-            return Piece::Parameter(number);
-        }
+        parameters.number(token.text)
+    } else {
+        None
     }
-    Piece::Own(token)
 }
 
+// Where a number stands in the list.
+fn place_of(numbers: &[usize], number: usize) -> Option<usize>
+    ensures { IfSome result (λ place. slice_get numbers.now place ≡ Some number) }
+{
+    for (place, known) in numbers.iter().enumerate() {
+        if *known == number {
+            return Some(place);
+        }
+    }
+    None
+}
+
+impl Run {
+    fn new(alloc: Global) -> Run
+        ensures { result.picks ≡ [] }
+    {
+        Run {
+            numbers: List::new(alloc),
+            picks: List::new(alloc),
+        }
+    }
+
+    // Adds a parameter at the end.
+    fn add(&mut self, number: usize) -> Result<(), NoMemory>
+        requires { IsRun self.old }
+        ensures added { OnOk result (run_parts self.new ≡ run_parts self.old ++ Parameter number ∷ []) }
+        ensures is_run { OnOk result (IsRun self.new) }
+    {
+        match place_of(self.numbers.as_slice(), number) {
+            Some(place) => self.picks.push(place),
+            None => {
+                let place = self.numbers.as_slice().len();
+                self.numbers.push(number)?;
+                self.picks.push(place)
+            }
+        }
+    }
+}
+
+// Ends a run, and begins the next.
+fn close<'a>(alloc: Global, body: &mut List<Piece<'a>>, run: &mut Run) -> Result<(), NoMemory>
+    ensures body { OnOk result (flat_map parts_of body.new ≡ flat_map parts_of body.old ++ run_parts run.old) }
+    ensures run { run.new.picks ≡ [] }
+{
+    body.push(Piece::Parameters(mem::replace(run, Run::new(alloc))))
+}
+
+// Adds a token of the body, or the parameter of the number.
+fn add_token<'a>(
+    alloc: Global,
+    body: &mut List<Piece<'a>>,
+    run: &mut Run,
+    token: Token<'a>,
+    number: Option<usize>,
+) -> Result<(), NoMemory>
+    requires { IsRun run.old }
+    ensures added { OnOk result (flat_map parts_of body.new ++ run_parts run.new ≡ (flat_map parts_of body.old ++ run_parts run.old) ++ part_if_any (view token.entry) number ∷ []) }
+    ensures is_run { OnOk result (IsRun run.new) }
+{
+    match number {
+        Some(number) => {
+            if run.picks.as_slice().len() >= LONGEST_RUN {
+                close(alloc, body, run)?;
+            }
+            run.add(number)
+        }
+        None => {
+            if !run.picks.as_slice().is_empty() {
+                close(alloc, body, run)?;
+            }
+            body.push(Piece::Own(token))
+        }
+    }
+}
+
+// The pieces of a body with these tokens.
 fn pieces<'a>(
     alloc: Global,
     tokens: &[Token<'a>],
     parameters: &Parameters,
 ) -> Result<List<Piece<'a>>, NoMemory>
     requires { Each IsWithin (map view tokens.now) }
-    ensures { (names : Sequence (Sequence ℕ)) → IsNumbering parameters.now names → IfOk result (λ body. map part_of body ≡ map (part names) (map view tokens.now)) }
+    ensures { (names : Sequence (Sequence ℕ)) → IsNumbering parameters.now names → IfOk result (λ body. flat_map parts_of body ≡ map (part names) (map view tokens.now)) }
 {
     let mut body = List::new(alloc);
+    let mut run = Run::new(alloc);
     for token in tokens {
-        body.push(piece_of(*token, parameters))?;
+        let number = parameter_number(*token, parameters);
+        add_token(alloc, &mut body, &mut run, *token, number)?;
     }
+    close(alloc, &mut body, &mut run)?;
     Ok(body)
 }
 

@@ -1,15 +1,15 @@
 //! The expansion of a list of tokens.
-ghost use Rattle.std.specs.Prelude.{◌≡◌, ◌∷◌, [], ◌++◌, ◌+◌, ◌<◌, ◌≤◌, ◌^◌, nat_le, length, map, OnOk, IfOk, if◌then◌else◌, Some, None};
-ghost use Rattle.std.specs.List.{flat_map};
+ghost use Rattle.std.specs.Prelude.{◌≡◌, ◌∷◌, [], ◌++◌, ◌+◌, ◌<◌, ◌≤◌, ◌^◌, slice_get, length, map, OnOk, IfOk, Some};
+ghost use Rattle.std.specs.List.{flat_map, list_all};
 ghost use Rattle.cw_lex.specs.Lexical.{view};
 ghost use Rattle.cw_word.specs.Name.{IsName};
-ghost use Rattle.cw_macro.specs.Expansion.{Expansion as ExpansionOf, brought, replacement, tokens_of, step_at, moving, defining, heading, deleting, naming, name_of, start, IsExpansion};
+ghost use Rattle.cw_macro.specs.Expansion.{Expansion as ExpansionOf, brought, replacement, tokens_of, Parameter, step_at, moving, defining, heading, deleting, naming, name_of, start, IsExpansion};
 ghost use Rattle.cw_macro.specs.Premises.{Each, IsPlaced, AreOfText};
-ghost use Rattle.cw_macro.specs.Views.{left_of, leveled, lists_of, part_of, macro_view, table_of, expansion_of, IsMade, IsCounted};
+ghost use Rattle.cw_macro.specs.Views.{left_of, leveled, lists_of, picked, parts_at, parts_of, is_nil, within_limit, macro_view, table_of, expansion_of, IsMade, IsCounted};
 
 use crate::arguments::read_argument_list;
 use crate::definition::{
-    Definitions, Macro, Piece, is_name, is_semicolon, read_body, read_heading,
+    Definitions, Macro, Piece, Run, is_name, is_semicolon, read_body, read_heading,
 };
 use crate::fault::{MOST_LEVELS, MOST_REPLACED, MOST_TOKENS, MacroFault};
 use crate::left::{Item, Left};
@@ -31,6 +31,7 @@ fn brought<'a>(call: Item<'a>, item: Item<'a>) -> Item<'a>
     }
 }
 
+// Puts an argument in front of the tokens left, as the call brings it.
 fn put_argument<'a>(
     left: &mut Left<'a>,
     call: Item<'a>,
@@ -47,21 +48,107 @@ fn put_argument<'a>(
     Ok(())
 }
 
-fn put_piece<'a>(
+// Puts what stands for a parameter in front of the tokens left.
+fn put_parameter<'a>(
     left: &mut Left<'a>,
     call: Item<'a>,
-    piece: Piece<'a>,
+    number: usize,
     arguments: &[List<Item<'a>>],
 ) -> Result<(), NoMemory>
     requires { call.level < MOST_LEVELS }
-    ensures { OnOk result (left_of left.new ≡ map (brought (leveled call.entry)) (tokens_of (lists_of arguments.now) (part_of piece.entry)) ++ left_of left.old) }
+    ensures { OnOk result (left_of left.new ≡ map (brought (leveled call.entry)) (tokens_of (lists_of arguments.now) (Parameter number)) ++ left_of left.old) }
+{
+    match arguments.get(number) {
+        Some(argument) => put_argument(left, call, argument.as_slice()),
+        None => Ok(()),
+    }
+}
+
+// The same for a parameter of a run.
+fn put_pick<'a>(
+    left: &mut Left<'a>,
+    call: Item<'a>,
+    numbers: &[usize],
+    pick: usize,
+    arguments: &[List<Item<'a>>],
+) -> Result<(), NoMemory>
+    requires { call.level < MOST_LEVELS }
+    ensures { OnOk result (left_of left.new ≡ replacement (leveled call.entry) (picked (slice_get numbers.now pick)) (lists_of arguments.now) ++ left_of left.old) }
+{
+    match numbers.get(pick) {
+        Some(number) => put_parameter(left, call, *number, arguments),
+        None => Ok(()),
+    }
+}
+
+// The same for a whole run.
+fn put_run<'a>(
+    left: &mut Left<'a>,
+    call: Item<'a>,
+    numbers: &[usize],
+    picks: &[usize],
+    arguments: &[List<Item<'a>>],
+) -> Result<(), NoMemory>
+    requires { call.level < MOST_LEVELS }
+    ensures { OnOk result (left_of left.new ≡ replacement (leveled call.entry) (parts_at numbers.now picks.now) (lists_of arguments.now) ++ left_of left.old) }
+{
+    let mut at = picks.len();
+    while at > 0 {
+        at -= 1;
+        put_pick(left, call, numbers, picks[at], arguments)?;
+    }
+    Ok(())
+}
+
+fn is_without_tokens(arguments: &[List<Item<'_>>], number: usize) -> bool
+    ensures { result ≡ is_nil (tokens_of (lists_of arguments.now) (Parameter number)) }
+{
+    match arguments.get(number) {
+        Some(argument) => argument.as_slice().is_empty(),
+        None => true,
+    }
+}
+
+// Whether all arguments of a run are empty. A run is skipped by this look at its numbers.
+fn brings_nothing(run: &Run, arguments: &[List<Item<'_>>]) -> bool
+    ensures { result ≡ list_all (λ k. is_nil (tokens_of (lists_of arguments.now) (Parameter k))) run.now.numbers }
+{
+    let numbers = run.numbers.as_slice();
+    numbers
+        .iter()
+        .all(|number| is_without_tokens(arguments, *number))
+}
+
+// The same for a piece of the body.
+fn put_piece<'a>(
+    left: &mut Left<'a>,
+    call: Item<'a>,
+    piece: &Piece<'a>,
+    arguments: &[List<Item<'a>>],
+) -> Result<(), NoMemory>
+    requires { call.level < MOST_LEVELS }
+    ensures { OnOk result (left_of left.new ≡ replacement (leveled call.entry) (parts_of piece.now) (lists_of arguments.now) ++ left_of left.old) }
 {
     match piece {
-        Piece::Own(token) => left.put(brought(call, Item { token, level: 0 })),
-        Piece::Parameter(number) => match arguments.get(number) {
-            Some(argument) => put_argument(left, call, argument.as_slice()),
-            None => Ok(()),
-        },
+        Piece::Own(token) => left.put(brought(
+            call,
+            Item {
+                token: *token,
+                level: 0,
+            },
+        )),
+        Piece::Parameters(parameters) => {
+            if brings_nothing(parameters, arguments) {
+                return Ok(());
+            }
+            put_run(
+                left,
+                call,
+                parameters.numbers.as_slice(),
+                parameters.picks.as_slice(),
+                arguments,
+            )
+        }
     }
 }
 
@@ -73,43 +160,91 @@ fn replace<'a>(
     arguments: &[List<Item<'a>>],
 ) -> Result<(), NoMemory>
     requires { call.level < MOST_LEVELS }
-    ensures { OnOk result (left_of left.new ≡ replacement (leveled call.entry) (map part_of body.now) (lists_of arguments.now) ++ left_of left.old) }
+    ensures { OnOk result (left_of left.new ≡ replacement (leveled call.entry) (flat_map parts_of body.now) (lists_of arguments.now) ++ left_of left.old) }
 {
     let mut at = body.len();
     while at > 0 {
         at -= 1;
-        put_piece(left, call, body[at], arguments)?;
+        put_piece(left, call, &body[at], arguments)?;
     }
     Ok(())
 }
 
-fn length_of(piece: Piece<'_>, arguments: &[List<Item<'_>>]) -> usize
-    ensures length { result ≡ length (tokens_of (lists_of arguments.now) (part_of piece.entry)) }
+// How many tokens stand for a parameter of a run.
+fn length_of(numbers: &[usize], pick: usize, arguments: &[List<Item<'_>>]) -> usize
+    ensures length { result ≡ length (flat_map (tokens_of (lists_of arguments.now)) (picked (slice_get numbers.now pick))) }
     ensures small { result < 2 ^ 63 }
 {
+    let Some(number) = numbers.get(pick) else {
+        return 0;
+    };
+    match arguments.get(*number) {
+        Some(argument) => argument.as_slice().len(),
+        None => 0,
+    }
+}
+
+// The count behind what stands for a run, within the limit. It stops where the limit is passed.
+fn count_run(
+    count: usize,
+    numbers: &[usize],
+    picks: &[usize],
+    arguments: &[List<Item<'_>>],
+) -> Option<usize>
+    requires { count ≤ MOST_REPLACED }
+    ensures { result ≡ within_limit (count + length (flat_map (tokens_of (lists_of arguments.now)) (parts_at numbers.now picks.now))) }
+{
+    let mut count = count;
+    for pick in picks {
+        count += length_of(numbers, *pick, arguments);
+        if count > MOST_REPLACED {
+            return None;
+        }
+    }
+    Some(count)
+}
+
+// The same for a piece of the body.
+fn count_piece(count: usize, piece: &Piece<'_>, arguments: &[List<Item<'_>>]) -> Option<usize>
+    requires { count ≤ MOST_REPLACED }
+    ensures { result ≡ within_limit (count + length (flat_map (tokens_of (lists_of arguments.now)) (parts_of piece.now))) }
+{
     match piece {
-        Piece::Own(_) => 1,
-        Piece::Parameter(number) => match arguments.get(number) {
-            Some(argument) => argument.as_slice().len(),
-            None => 0,
-        },
+        Piece::Own(_) => {
+            if count < MOST_REPLACED {
+                Some(count + 1)
+            } else {
+                None
+            }
+        }
+        Piece::Parameters(parameters) => {
+            if brings_nothing(parameters, arguments) {
+                return Some(count);
+            }
+            count_run(
+                count,
+                parameters.numbers.as_slice(),
+                parameters.picks.as_slice(),
+                arguments,
+            )
+        }
     }
 }
 
 // The count behind a replacement, within the limit.
 fn count_behind(count: usize, body: &[Piece<'_>], arguments: &[List<Item<'_>>]) -> Option<usize>
     requires { count < 2 ^ 63 }
-    ensures { let count = count + 1 + length (flat_map (tokens_of (lists_of arguments.now)) (map part_of body.now)) in result ≡ (if nat_le count MOST_REPLACED then Some count else None) }
+    ensures { result ≡ within_limit (count + 1 + length (flat_map (tokens_of (lists_of arguments.now)) (flat_map parts_of body.now))) }
 {
     let mut count = count + 1;
-    for piece in body {
-        if count > MOST_REPLACED {
-            return None;
-        }
-        count += length_of(*piece, arguments);
-    }
     if count > MOST_REPLACED {
         return None;
+    }
+    for piece in body {
+        match count_piece(count, piece, arguments) {
+            Some(more) => count = more,
+            None => return None,
+        }
     }
     Some(count)
 }
@@ -163,6 +298,7 @@ impl<'a> Expansion<'a> {
         })
     }
 
+    // Moves a token to those done.
     fn keep(&mut self, item: Item<'a>) -> Result<(), MacroFault>
         ensures { let e = expansion_of self.old in IsMade e (moving e (leveled item.entry) e.left) result (expansion_of self.new) }
     {
@@ -175,6 +311,7 @@ impl<'a> Expansion<'a> {
         Ok(())
     }
 
+    // Takes a definition, behind its DEFINE on the line.
     fn define(&mut self, alloc: Global, line: u32) -> Result<(), MacroFault>
         requires { Each IsPlaced (left_of self.old.left) }
         ensures { let e = expansion_of self.old in IsMade e (defining line (heading line e.left)) result (expansion_of self.new) }
@@ -191,6 +328,7 @@ impl<'a> Expansion<'a> {
         Ok(())
     }
 
+    // Takes the rest of a DELETE on the line.
     fn delete(&mut self, line: u32) -> Result<(), MacroFault>
         requires { Each IsPlaced (left_of self.old.left) }
         ensures { let e = expansion_of self.old in IsMade e (deleting e line e.left) result (expansion_of self.new) }
@@ -207,6 +345,7 @@ impl<'a> Expansion<'a> {
         Ok(())
     }
 
+    // Replaces a call, or moves a name that is none.
     fn name(&mut self, alloc: Global, item: Item<'a>) -> Result<(), MacroFault>
         requires is_name { IsName (name_of (view item.token)) }
         requires small { self.old.count < 2 ^ 63 }

@@ -1,28 +1,61 @@
 -- Each step keeps the words within a word.
-use Rattle.std.proofs.Common.{◌≡◌, ℕ, zero, suc, ◌+◌, ◌<◌, ℤ, pos, negsuc, ◌+ℤ◌, ◌-ℤ◌, neg_ℤ, List, [], ◌∷◌, ◌++◌, set, Bool, true, false, Option, Some, None, refl, ap, ◌∙◌, arith}
-use Rattle.std.specs.Prelude.{nat_le, slice_get}
+use Rattle.std.proofs.Common.{◌≡◌, ℕ, zero, suc, ◌+◌, ◌-◌, ◌^◌, ◌<◌, ◌≤◌, ℤ, pos, negsuc, ◌+ℤ◌, ◌-ℤ◌, ◌*ℤ◌, neg_ℤ, List, [], ◌∷◌, ◌++◌, length, set, Bool, true, false, not, Option, Some, None, refl, arith, pow_mono, pow_pos}
+use Rattle.std.specs.Prelude.{nat_eq, nat_le, nat_lt, slice_get, if◌then◌else◌}
 use Rattle.std.specs.List.{All}
 use Rattle.std.proofs.lemmas.Bool.Decides.{nat_tests}
 use Rattle.std.proofs.lemmas.Int.{ints}
-use Rattle.std.proofs.lemmas.List.Elements.{All-cons, All-head, All-nil, All-set, All-tail}
-use Rattle.cw_word.specs.FixedPoint.{FitsWord, fits_word}
-use Rattle.cw_word.specs.Word.{signed}
-use Rattle.cw_unit.specs.declared.layout.Map.{Map}
-use Rattle.cw_unit.specs.Stop.{Overflow, Running, Ended, Stopped, Stuck}
-use Rattle.cw_unit.specs.Words.{Operand, Word, Held, Words, Outcome, Changed, Refused, Impossible, with_operands, with_memory, put, put_if, put_value, on_one, on_two, through, at_address, is_below, word_at, byte_of}
-use Rattle.cw_unit.specs.Operation.{Constant, perform}
+use Rattle.std.proofs.lemmas.Nat.{mod_below}
+use Rattle.std.proofs.lemmas.List.Elements.{All-cons, All-drop, All-head, All-nil, All-set, All-tail, All-take}
+use Rattle.cw_word.specs.FixedPoint.{FitsWord, fits_word, rescaled, scaled_product, scaled_quotient}
+use Rattle.cw_word.specs.BitField.{unsigned_field, twos_complement}
+use Rattle.cw_word.specs.Word.{signed, unsigned, word_difference}
+use Rattle.cw_unit.specs.declared.unit.Field.{Field}
+use Rattle.cw_unit.specs.declared.unit.Goal.{Goal}
+use Rattle.cw_unit.specs.Stop.{StopKind, Overflow, AddressRange, Running, Ended, Stopped, Stuck}
+use Rattle.cw_unit.specs.Words.{Control, LabelControl, SwitchControl, ProcedureControl, Operand, Word, Held, Words, Outcome, Changed, Refused, Impossible, with_operands, with_memory, put, put_if, put_value, on_one, on_two, through, at_address, is_below, number_of, word_at, field_value, with_bits, byte_of, read_byte}
+use Rattle.cw_unit.specs.Operation.{Constant, Fetch, store_with, divide, address_of, perform, holds}
+use Rattle.cw_unit.specs.Step.{held, goal_at, with_label_owner}
 use Rattle.cw_order.specs.declared.order.Order.{Order}
 use Rattle.cw_order.specs.declared.order.Order.TheVariants as order
 use Rattle.cw_order.specs.declared.order.Orders.{Orders}
-use Rattle.cw_order.specs.OrderMachine.{OrderProgram, OrderState, at, Action, Perform, Access, SetLine, Pass, EndBody, NotBuilt, home_word, action_of, go_on, after, unrefused, next_body, act, order_at, carry_out, step, operand_words}
-use Rattle.cw_order.specs.FittingWords.{OperandFits, WordsFit, words_of, ConstantsFit}
+use Rattle.cw_order.specs.OrderProgram.{LabelEntry, ProcedureEntry, OrderProgram, order_at, place_of, label_at, procedure_at, switch_at, label_of}
+use Rattle.cw_order.specs.OrderState.{OrderActivation, OrderState, at, operand_words, stack_words, argument_behind, argument_at, frame_word, frame_end, control_at}
+use Rattle.cw_order.specs.OrderChanges.{put_index, if_fits, put_address, bind, Way, Onward, ToMark, Nowhere, way_of_one, way_of_two, to_mark_if, to_mark_in, way_past_limit, mark_of_number, comparison}
+use Rattle.cw_order.specs.OrderActions.{Action, Perform, Access, Alter, AlterWithin, SetLine, Pass, Branch, GoMain, GoLabel, GoSwitch, Call, Enter, Return, EndBody, home_word, common_label, common_switch, common_procedure, action_of}
+use Rattle.cw_order.specs.OrderMachine.{go_on, go_at, after, unrefused, leave_for, dropped_by, called, call_at, enter_with, return_with, next_body, branch, go_to_entry, go_to, go_to_goal, go_by_list, go_through, call_entry, call, enter, come_back, end_body, act, carry_out, step}
+use Rattle.cw_order.specs.FittingWords.{OperandFits, WordsFit, ActivationFits, StateFits}
 
-signed-fits : (n : ℕ) → n < 65536 → FitsWord (signed n)
-signed-fits n h = omega (arith, ints)
+-- ---- numbers
+
+signed-fits : (n : ℕ) → FitsWord (signed n)
+signed-fits n = omega (arith, ints)
 
 tested-fits : (z : ℤ) → fits_word z ≡ true → FitsWord z
 tested-fits (pos n) h = grind (arith, ints, nat_tests)
 tested-fits (negsuc n) h = grind (arith, ints, nat_tests)
+
+-- a part of at most 15 bits
+part-fits : (b plain : Bool) (t v : ℕ) (z : ℤ) → nat_lt 15 t ≡ b → v < 2 ^ t → FitsWord z → FitsWord (if b then z else (if plain then pos v else twos_complement t v))
+part-fits true plain t v z few below fits = fits
+part-fits false true t v z few below fits =
+    let le : t ≤ 15 = grind (arith, nat_tests) in
+    let small : 2 ^ t ≤ 32768 = pow_mono le in
+    omega (arith, ints)
+part-fits false false t v z few below fits = cases (nat_lt v (2 ^ (t - 1))) refl
+  where
+    cases : (c : Bool) → nat_lt v (2 ^ (t - 1)) ≡ c → FitsWord (if c then pos v else (pos v -ℤ pos (2 ^ t)))
+    cases true c =
+        let le : t ≤ 15 = grind (arith, nat_tests) in
+        let small : 2 ^ t ≤ 32768 = pow_mono le in
+        omega (arith, ints)
+    cases false c =
+        let le : t ≤ 15 = grind (arith, nat_tests) in
+        let small : 2 ^ t ≤ 32768 = pow_mono le in
+        omega (arith, ints)
+
+field-fits : (f : Option Field) (z : ℤ) → FitsWord z → FitsWord (field_value f z)
+field-fits None z fits = fits
+field-fits (Some f) z fits = part-fits (nat_lt 15 f.t) f.unsigned f.t (unsigned_field (unsigned z) f.t f.b) z refl (mod_below _ (2 ^ f.t) (pow_pos f.t)) fits
 
 -- ---- outcomes
 
@@ -34,20 +67,29 @@ OutcomeFits Impossible = Unit {0}
 abbrev Keeps : (Words → Outcome) → Type 0
 Keeps f = (w : Words) → WordsFit w → OutcomeFits (f w)
 
-put-fits : (z : ℤ) → FitsWord z → (w : Words) → WordsFit w → WordsFit (put z w)
-put-fits z h w fits = record { operands = All-cons OperandFits (Word z) w.operands h fits.operands; memory = fits.memory }
+less-fits : (x : Operand) (rest : List Operand) (w : Words) → All OperandFits (x ∷ rest) → WordsFit w → WordsFit (with_operands w rest)
+less-fits x rest w all fits = record { operands = All-tail OperandFits x rest all; memory = fits.memory; input = fits.input }
 
-put_if-fits : (z : ℤ) (b : Bool) → fits_word z ≡ b → Keeps (put_if b Overflow z)
-put_if-fits z true h w fits = put-fits z (tested-fits z h) w fits
-put_if-fits z false h w fits = tt
+put-fits : (z : ℤ) → FitsWord z → (w : Words) → WordsFit w → WordsFit (put z w)
+put-fits z h w fits = record { operands = All-cons OperandFits (Word z) w.operands h fits.operands; memory = fits.memory; input = fits.input }
+
+put_if-fits : (kind : StopKind) (z : ℤ) (b : Bool) → fits_word z ≡ b → Keeps (put_if b kind z)
+put_if-fits kind z true h w fits = put-fits z (tested-fits z h) w fits
+put_if-fits kind z false h w fits = tt
 
 put_value-fits : (z : ℤ) → Keeps (put_value z)
-put_value-fits z w fits = put_if-fits z (fits_word z) refl w fits
+put_value-fits z w fits = put_if-fits Overflow z (fits_word z) refl w fits
+
+put_index-fits : (z : ℤ) → Keeps (put_index z)
+put_index-fits z w fits = put_if-fits AddressRange z (fits_word z) refl w fits
 
 on_one-fits : (f : ℤ → Words → Outcome) → ((x : ℤ) → FitsWord x → Keeps (f x)) → (operands : List Operand) → All OperandFits operands → Keeps (on_one f operands)
 on_one-fits f h [] all w fits = tt
 on_one-fits f h (Held c ∷ rest) all w fits = tt
-on_one-fits f h (Word x ∷ rest) all w fits = h x (All-head OperandFits (Word x) rest all) (with_operands w rest) (record { operands = All-tail OperandFits (Word x) rest all; memory = fits.memory })
+on_one-fits f h (Word x ∷ rest) all w fits = h x (All-head OperandFits (Word x) rest all) (with_operands w rest) (less-fits (Word x) rest w all fits)
+
+on_top-fits : (f : ℤ → Words → Outcome) → ((x : ℤ) → FitsWord x → Keeps (f x)) → Keeps (λ w. on_one f w.operands w)
+on_top-fits f h w fits = on_one-fits f h w.operands fits.operands w fits
 
 on_two-fits : (f : ℤ → ℤ → Words → Outcome) → ((x y : ℤ) → FitsWord x → FitsWord y → Keeps (f x y)) → Keeps (λ w. on_two f w.operands w)
 on_two-fits f h w fits =
@@ -68,83 +110,346 @@ word_at-fits [] i all = let z : FitsWord (pos 0) = omega (arith, ints) in z
 word_at-fits (z ∷ zs) zero all = All-head FitsWord z zs all
 word_at-fits (z ∷ zs) (suc i) all = word_at-fits zs i (All-tail FitsWord z zs all)
 
+set-fits : (i : ℕ) (z : ℤ) (w : Words) → FitsWord z → WordsFit w → WordsFit (with_memory w (set w.memory i z))
+set-fits i z w fz fits = record { operands = fits.operands; memory = All-set FitsWord w.memory i z fz fits.memory; input = fits.input }
+
+fetch-fits : (area : ℕ) (f : Option Field) → Keeps (perform area (Fetch f))
+fetch-fits area f =
+    on_top-fits (at_address area (λ i v. Changed (put (field_value f (word_at v.memory i)) v)))
+    (λ a fa v fv.
+    through-fits (is_below a area) (λ i t. Changed (put (field_value f (word_at t.memory i)) t))
+    (λ i t ft. put-fits _ (field-fits f _ (word_at-fits t.memory i ft.memory)) t ft)
+    a
+    v
+    fv)
+
+store-fits : (area : ℕ) (f : ℤ → ℤ → ℤ) → ((x z : ℤ) → FitsWord z → FitsWord (f x z)) → Keeps (store_with area f)
+store-fits area f h =
+    on_two-fits (λ z a v. at_address area (λ i t. Changed (with_memory t (set t.memory i (f (word_at t.memory i) z)))) a v)
+    (λ z a fz fa v fv.
+    through-fits (is_below a area) (λ i t. Changed (with_memory t (set t.memory i (f (word_at t.memory i) z))))
+    (λ i t ft. set-fits i (f (word_at t.memory i) z) t (h (word_at t.memory i) z fz) ft)
+    a
+    v
+    fv)
+
+value-fits : (f : ℤ → ℤ) → Keeps (λ w. on_one (λ x v. put_value (f x) v) w.operands w)
+value-fits f = on_top-fits (λ x v. put_value (f x) v) (λ x fx v fv. put_value-fits (f x) v fv)
+
+values-fit : (f : ℤ → ℤ → ℤ) → Keeps (λ w. on_two (λ x y v. put_value (f x y) v) w.operands w)
+values-fit f = on_two-fits (λ x y v. put_value (f x y) v) (λ x y fx fy v fv. put_value-fits (f x y) v fv)
+
+bits-fit : (f : ℤ → ℤ → ℕ) → Keeps (λ w. on_two (λ x y v. Changed (put (signed (f x y)) v)) w.operands w)
+bits-fit f = on_two-fits (λ x y v. Changed (put (signed (f x y)) v)) (λ x y fx fy v fv. put-fits (signed (f x y)) (signed-fits (f x y)) v fv)
+
+divide-fits : (s x y : ℤ) → Keeps (divide s x y)
+divide-fits s x (pos zero) w fits = tt
+divide-fits s x (pos (suc n)) w fits = put_value-fits (scaled_quotient x (pos (suc n)) s) w fits
+divide-fits s x (negsuc n) w fits = put_value-fits (scaled_quotient x (negsuc n) s) w fits
+
+address-fits : (area : ℕ) (z : ℤ) → FitsWord z → Keeps (address_of area z)
+address-fits area z h w fits = cases (is_below z area)
+  where
+    cases : (b : Bool) → OutcomeFits (put_if b AddressRange z w)
+    cases true = put-fits z h w fits
+    cases false = tt
+
+read-fits : (input : List ℕ) (w : Words) → All (λ b. b < 256) input → WordsFit w → WordsFit (read_byte input w)
+read-fits [] w all fits = let h : FitsWord (negsuc 0) = omega (arith, ints) in put-fits (negsuc 0) h w fits
+read-fits (b ∷ rest) w all fits =
+    let small = All-head (λ x. x < 256) b rest all in
+    let h : FitsWord (pos b) = omega (arith, ints) in
+    put-fits (pos b) h (record w { input = rest }) (record { operands = fits.operands; memory = fits.memory; input = All-tail (λ x. x < 256) b rest all })
+
+index-fits : (f : ℤ → ℤ) → Keeps (λ w. on_one (λ i v. put_index (f i) v) w.operands w)
+index-fits f = on_top-fits (λ i v. put_index (f i) v) (λ i fi v fv. put_index-fits (f i) v fv)
+
+if_fits-fits : (b : Bool) (f : Words → Outcome) → Keeps f → Keeps (λ w. if_fits b (f w))
+if_fits-fits true f h w fits = h w fits
+if_fits-fits false f h w fits = tt
+
+held-fits : (c : Option Control) → Keeps (held c)
+held-fits None w fits = tt
+held-fits (Some c) w fits = record { operands = All-cons OperandFits (Held c) w.operands tt fits.operands; memory = fits.memory; input = fits.input }
+
+put_address-fits : (a : Option ℕ) → Keeps (put_address a)
+put_address-fits None w fits = tt
+put_address-fits (Some a) w fits = put-fits (signed a) (signed-fits a) w fits
+
+abbrev ArgumentFits : Option Operand → Type 0
+ArgumentFits None = Unit {0}
+ArgumentFits (Some x) = OperandFits x
+
+bind-fits : (area : ℕ) (x : Option Operand) (a : Option ℕ) → ArgumentFits x → Keeps (bind area x a)
+bind-fits area None a fx w fits = tt
+bind-fits area (Some (Held c)) a fx w fits = tt
+bind-fits area (Some (Word z)) None fx w fits = tt
+bind-fits area (Some (Word z)) (Some a) fx w fits =
+    through-fits (is_below (pos a) area) (λ i v. Changed (with_memory v (set v.memory i z))) (λ i v fv. set-fits i z v fx fv) (pos a) w fits
+
+behind-fits : (n : ℕ) (operands : List Operand) → All OperandFits operands → ArgumentFits (argument_behind n operands)
+behind-fits n [] all = tt
+behind-fits zero (x ∷ rest) all = All-head OperandFits x rest all
+behind-fits (suc n) (Word z ∷ rest) all = behind-fits n rest (All-tail OperandFits (Word z) rest all)
+behind-fits (suc zero) (Held c ∷ rest) all = tt
+behind-fits (suc (suc n)) (Held c ∷ rest) all = behind-fits n rest (All-tail OperandFits (Held c) rest all)
+
+argument-fits : (acts : List OrderActivation) (n : ℕ) → All ActivationFits acts → ArgumentFits (argument_at acts n)
+argument-fits [] n all = tt
+argument-fits (a ∷ acts) n all = let f = All-head ActivationFits a acts all in behind-fits n a.arguments f.arguments
+
+-- ---- ways
+
+abbrev WayFits : Way → Type 0
+WayFits (Onward w) = WordsFit w
+WayFits (ToMark m w) = WordsFit w
+WayFits Nowhere = Unit {0}
+
+abbrev Leads : (Words → Way) → Type 0
+Leads f = (w : Words) → WordsFit w → WayFits (f w)
+
+way_of_one-fits : (f : ℤ → Words → Way) → ((x : ℤ) → Leads (f x)) → (operands : List Operand) → All OperandFits operands → Leads (way_of_one f operands)
+way_of_one-fits f h [] all w fits = tt
+way_of_one-fits f h (Held c ∷ rest) all w fits = tt
+way_of_one-fits f h (Word x ∷ rest) all w fits = h x (with_operands w rest) (less-fits (Word x) rest w all fits)
+
+way_of_two-fits : (f : ℤ → ℤ → Words → Way) → ((x y : ℤ) → Leads (f x y)) → Leads (way_of_two f)
+way_of_two-fits f h w fits =
+    way_of_one-fits (λ y v. way_of_one (λ x t. f x y t) v.operands v)
+    (λ y v fv. way_of_one-fits (λ x t. f x y t) (λ x t ft. h x y t ft) v.operands fv.operands v fv)
+    w.operands
+    fits.operands
+    w
+    fits
+
+to_mark_if-fits : (b : Bool) (m : ℕ) → Leads (to_mark_if b m)
+to_mark_if-fits true m w fits = fits
+to_mark_if-fits false m w fits = fits
+
+to_mark_in-fits : (m : Option ℕ) → Leads (to_mark_in m)
+to_mark_in-fits None w fits = fits
+to_mark_in-fits (Some m) w fits = fits
+
+way_past_limit-fits : (b : Bool) (m : ℕ) (x : ℤ) (a : ℕ) → Leads (way_past_limit b m x a)
+way_past_limit-fits true m x a w fits = to_mark_if-fits _ m w fits
+way_past_limit-fits false m x a w fits = tt
+
 -- ---- orders
 
 abbrev ActionFits : (area : ℕ) → Action → Type 0
 ActionFits area (Perform op) = Keeps (perform area op)
 ActionFits area (Access op) = Keeps (perform area op)
+ActionFits area (Alter f) = Keeps f
+ActionFits area (AlterWithin f) = Keeps f
+ActionFits area (Branch f) = Leads f
 ActionFits area _ = Unit {0}
 
-constant-fits : (area n : ℕ) → n < 65536 → Keeps (perform area (Constant (signed n)))
-constant-fits area n h w fits = put-fits (signed n) (signed-fits n h) w fits
+constant-fits : (area n : ℕ) → Keeps (perform area (Constant (signed n)))
+constant-fits area n w fits = put-fits (signed n) (signed-fits n) w fits
 
-home-fits : (m : Map) (g family offset : ℕ) → home_word m g family offset < 65536
-home-fits m g family offset = omega arith
-
-action-fits : (area : ℕ) (m : Map) (g : ℕ) (o : Order) → ((w : ℕ) → o ≡ order.Const w → w < 65536) → ActionFits area (action_of m g o)
-action-fits area m g (order.Const n) small = constant-fits area n (small n refl)
-action-fits area m g (order.Home family offset) small = constant-fits area (home_word m g family offset) (home-fits m g family offset)
-action-fits area m g order.Load small = λ w fits.
-    on_one-fits (at_address area (λ i v. Changed (put (word_at v.memory i) v)))
-    (λ a fa v fv. through-fits (is_below a area) (λ i t. Changed (put (word_at t.memory i) t)) (λ i t ft. put-fits _ (word_at-fits t.memory i ft.memory) t ft) a v fv)
-    w.operands
-    fits.operands
-    w
-    fits
-action-fits area m g order.Store small =
-    on_two-fits (λ z a v. at_address area (λ i t. Changed (with_memory t (set t.memory i z))) a v)
-    (λ z a fz fa v fv.
-    through-fits (is_below a area) (λ i t. Changed (with_memory t (set t.memory i z)))
-    (λ i t ft. record { operands = ft.operands; memory = All-set FitsWord t.memory i z fz ft.memory })
-    a
-    v
-    fv)
-action-fits area m g order.Add small = on_two-fits (λ x y v. put_value (x +ℤ y) v) (λ x y fx fy v fv. put_value-fits (x +ℤ y) v fv)
-action-fits area m g order.Sub small = on_two-fits (λ x y v. put_value (x -ℤ y) v) (λ x y fx fy v fv. put_value-fits (x -ℤ y) v fv)
-action-fits area m g order.Neg small = λ w fits. on_one-fits (λ x v. put_value (neg_ℤ x) v) (λ x fx v fv. put_value-fits (neg_ℤ x) v fv) w.operands fits.operands w fits
-action-fits area m g order.WriteByte small = λ w fits.
-    on_one-fits (λ x v. Changed (record v { output = v.output ++ byte_of x ∷ [] })) (λ x fx v fv. record { operands = fv.operands; memory = fv.memory }) w.operands fits.operands w fits
-action-fits area m g _ small = tt
+action-fits : (p : OrderProgram) (g : ℕ) (acts : List OrderActivation) (o : Order) → All ActivationFits acts → ActionFits p.limits.area (action_of p g acts o)
+action-fits p g acts (order.Const n) all = constant-fits p.limits.area n
+action-fits p g acts (order.Home family offset) all = constant-fits p.limits.area (home_word p.addresses g family offset)
+action-fits p g acts (order.FrameHome n) all = put_address-fits (frame_word acts n)
+action-fits p g acts order.Load all = fetch-fits p.limits.area None
+action-fits p g acts order.Store all = store-fits p.limits.area (λ x z. z) (λ x z fz. fz)
+action-fits p g acts (order.LoadPart t b s) all = fetch-fits p.limits.area (Some (record { t = t; b = b; unsigned = not s }))
+action-fits p g acts (order.StorePart t b) all = store-fits p.limits.area (with_bits t b) (λ x z fz. signed-fits _)
+action-fits p g acts (order.Rescale from to) all = value-fits (λ x. rescaled x from to)
+action-fits p g acts order.Add all = values-fit (λ x y. x +ℤ y)
+action-fits p g acts order.Sub all = values-fit (λ x y. x -ℤ y)
+action-fits p g acts order.Neg all = value-fits (λ x. neg_ℤ x)
+action-fits p g acts (order.Mul s) all = values-fit (λ x y. scaled_product x y s)
+action-fits p g acts (order.Div s) all = on_two-fits (divide s) (λ x y fx fy. divide-fits s x y)
+action-fits p g acts order.And all = bits-fit _
+action-fits p g acts order.Or all = bits-fit _
+action-fits p g acts order.Xor all = bits-fit _
+action-fits p g acts (order.Take t b) all =
+    on_top-fits (λ x v. Changed (put (signed (unsigned_field (unsigned x) t b)) v)) (λ x fx v fv. put-fits (signed (unsigned_field (unsigned x) t b)) (signed-fits _) v fv)
+action-fits p g acts order.Less all = bits-fit (λ x y. word_difference (unsigned x) (unsigned y))
+action-fits p g acts order.Drop all = on_top-fits (λ x v. Changed v) (λ x fx v fv. fv)
+action-fits p g acts order.ReadByte all = λ w fits. read-fits w.input w fits.input fits
+action-fits p g acts order.WriteByte all =
+    on_top-fits (λ x v. Changed (record v { output = v.output ++ byte_of x ∷ [] })) (λ x fx v fv. record { operands = fv.operands; memory = fv.memory; input = fv.input })
+action-fits p g acts (order.IndexLess lower) all = index-fits (λ i. i -ℤ lower)
+action-fits p g acts (order.IndexTimes n) all = index-fits (λ i. i *ℤ pos n)
+action-fits p g acts (order.IndexPlus n) all = index-fits (λ i. i +ℤ pos n)
+action-fits p g acts order.IndexAdd all = on_two-fits (λ i j v. put_index (i +ℤ j) v) (λ i j fi fj v fv. put_index-fits (i +ℤ j) v fv)
+action-fits p g acts (order.IndexRow lower width) all =
+    on_two-fits
+    (λ i j v. if_fits (fits_word (i -ℤ lower)) (if_fits (fits_word ((i -ℤ lower) *ℤ pos width)) (put_index ((i -ℤ lower) *ℤ pos width +ℤ j) v)))
+    (λ i j fi fj.
+    if_fits-fits (fits_word (i -ℤ lower)) (λ v. if_fits (fits_word ((i -ℤ lower) *ℤ pos width)) (put_index ((i -ℤ lower) *ℤ pos width +ℤ j) v))
+    (if_fits-fits (fits_word ((i -ℤ lower) *ℤ pos width)) (put_index ((i -ℤ lower) *ℤ pos width +ℤ j)) (put_index-fits ((i -ℤ lower) *ℤ pos width +ℤ j))))
+action-fits p g acts order.InArea all = on_top-fits (address_of p.limits.area) (λ z fz. address-fits p.limits.area z fz)
+action-fits p g acts (order.Jump m) all = λ w fits. fits
+action-fits p g acts (order.JumpIf c m) all = way_of_two-fits (λ x y v. to_mark_if (holds (comparison c) x y) m v) (λ x y. to_mark_if-fits (holds (comparison c) x y) m)
+action-fits p g acts (order.Exhausted m) all = way_of_two-fits (λ x a v. way_past_limit (is_below a (p.limits.area - 2)) m x (number_of a) v) (λ x a. way_past_limit-fits (is_below a (p.limits.area - 2)) m x (number_of a))
+action-fits p g acts (order.LoopWay marks) all = λ w fits.
+    way_of_one-fits (λ i v. to_mark_in (mark_of_number marks i) v) (λ i. to_mark_in-fits (mark_of_number marks i)) w.operands fits.operands w fits
+action-fits p g acts (order.LabelOut l) all = held-fits (Some (LabelControl g l (length acts)))
+action-fits p g acts (order.LabelCommon d) all = held-fits (common_label p g (length acts) d)
+action-fits p g acts (order.SwitchOut n) all = held-fits (Some (SwitchControl g n (length acts)))
+action-fits p g acts (order.SwitchCommon d) all = held-fits (common_switch p g (length acts) d)
+action-fits p g acts (order.ProcOut q) all = held-fits (Some (ProcedureControl g q))
+action-fits p g acts (order.ProcCommon d) all = held-fits (common_procedure p g d)
+action-fits p g acts (order.SpecialOut k) all = held-fits (control_at acts k)
+action-fits p g acts (order.Bind k family offset) all =
+    bind-fits p.limits.area (argument_at acts k) (Some (home_word p.addresses g family offset)) (argument-fits acts k all)
+action-fits p g acts (order.BindFrame k offset) all = bind-fits p.limits.area (argument_at acts k) (frame_word acts offset) (argument-fits acts k all)
+action-fits p g acts _ all = tt
 
 -- ---- steps
 
-go_on-fits : (b : Bool) (g place line : ℕ) (w v : Words) → WordsFit w → WordsFit v → WordsFit (words_of (go_on b g place line w v))
-go_on-fits true g place line w v fits h = h
-go_on-fits false g place line w v fits h = fits
+no_operands-fit : (w : Words) → WordsFit w → WordsFit (with_operands w [])
+no_operands-fit w fits = record { operands = All-nil OperandFits; memory = fits.memory; input = fits.input }
 
-after-fits : (room : ℕ) (o : Outcome) (g place line : ℕ) (w : Words) → WordsFit w → OutcomeFits o → WordsFit (words_of (after room o g place line w))
-after-fits room (Changed v) g place line w fits h = go_on-fits (nat_le (operand_words v.operands) room) g place line w v fits h
-after-fits room (Refused kind) g place line w fits h = fits
-after-fits room Impossible g place line w fits h = fits
+these-fit : (operands : List Operand) (w : Words) → All OperandFits operands → WordsFit w → WordsFit (with_operands w operands)
+these-fit operands w all fits = record { operands = all; memory = fits.memory; input = fits.input }
+
+go_on-fits : (b : Bool) (g place line : ℕ) (acts : List OrderActivation) (w v : Words) → All ActivationFits acts → WordsFit w → WordsFit v → StateFits (go_on b g place line acts w v)
+go_on-fits true g place line acts w v all fits h = record { words = h; activations = all }
+go_on-fits false g place line acts w v all fits h = record { words = fits; activations = all }
+
+after-fits : (room : ℕ) (o : Outcome) (g place line : ℕ) (acts : List OrderActivation) (w : Words) → All ActivationFits acts → WordsFit w → OutcomeFits o → StateFits (after room o g place line acts w)
+after-fits room (Changed v) g place line acts w all fits h = go_on-fits (nat_le (stack_words v.operands acts) room) g place line acts w v all fits h
+after-fits room (Refused kind) g place line acts w all fits h = record { words = fits; activations = all }
+after-fits room Impossible g place line acts w all fits h = record { words = fits; activations = all }
+
+go_at-fits : (q : Option ℕ) (g place line : ℕ) (acts : List OrderActivation) (w v : Words) → All ActivationFits acts → WordsFit w → WordsFit v → StateFits (go_at q g place line acts w v)
+go_at-fits None g place line acts w v all fits h = record { words = fits; activations = all }
+go_at-fits (Some q) g place line acts w v all fits h = record { words = h; activations = all }
 
 unrefused-fits : (o : Outcome) → OutcomeFits o → OutcomeFits (unrefused o)
 unrefused-fits (Changed v) h = h
 unrefused-fits (Refused kind) h = tt
 unrefused-fits Impossible h = tt
 
-next_body-fits : (u : Option Orders) (g place line : ℕ) (w : Words) → WordsFit w → WordsFit (words_of (next_body u g place line w))
-next_body-fits None g place line w fits = fits
-next_body-fits (Some u) g place line w fits = record { operands = All-nil OperandFits; memory = fits.memory }
+leave_for-fits : (q : Option ℕ) (to n g place line : ℕ) (acts : List OrderActivation) (w : Words) → All ActivationFits acts → WordsFit w → StateFits (leave_for q to n g place line acts w)
+leave_for-fits None to n g place line acts w all fits = record { words = fits; activations = all }
+leave_for-fits (Some q) to n g place line acts w all fits = record { words = no_operands-fit w fits; activations = All-drop ActivationFits n acts all }
 
-module _ (p : OrderProgram) (constants : ConstantsFit p) where
-  act-fits : (a : Action) (g place line : ℕ) (w : Words) → ActionFits p.limits.area a → WordsFit w → WordsFit (words_of (act p a g place line w))
-  act-fits (Perform op) g place line w h fits = after-fits p.room (perform p.limits.area op w) g place line w fits (h w fits)
-  act-fits (Access op) g place line w h fits =
-      after-fits p.room (unrefused (perform p.limits.area op w)) g place line w fits (unrefused-fits (perform p.limits.area op w) (h w fits))
-  act-fits (SetLine n) g place line w h fits = fits
-  act-fits Pass g place line w h fits = fits
-  act-fits EndBody g place line w h fits = next_body-fits (slice_get p.units (g + 1)) g place line w fits
-  act-fits NotBuilt g place line w h fits = fits
+call_at-fits : (b : Bool) (q : Option ℕ) (to : ℕ) (a : OrderActivation) (g place line : ℕ) (acts : List OrderActivation) (w : Words) → ActivationFits a → All ActivationFits acts → WordsFit w → StateFits (call_at b q to a g place line acts w)
+call_at-fits true (Some q) to a g place line acts w fa all fits = record { words = no_operands-fit w fits; activations = All-cons ActivationFits a acts fa all }
+call_at-fits true None to a g place line acts w fa all fits = record { words = fits; activations = all }
+call_at-fits false q to a g place line acts w fa all fits = record { words = fits; activations = all }
 
-  carry_out-fits : (o : Option Order) (g place line : ℕ) (w : Words) → order_at p g place ≡ o → WordsFit w → WordsFit (words_of (carry_out p o g place line w))
-  carry_out-fits None g place line w e fits = fits
-  carry_out-fits (Some o) g place line w e fits =
-      act-fits (action_of p.addresses g o) g place line w
-      (action-fits p.limits.area p.addresses g o (λ n h. constants g place n (e ∙ ap (λ x. Some x) h)))
+enter_with-fits : (entered shallow fits : Bool) (size : ℕ) (a : OrderActivation) (g place line : ℕ) (acts : List OrderActivation) (w : Words) → All ActivationFits (a ∷ acts) → WordsFit w → StateFits (enter_with entered shallow fits size a g place line acts w)
+enter_with-fits true shallow within size a g place line acts w all fits = record { words = fits; activations = all }
+enter_with-fits false false within size a g place line acts w all fits = record { words = fits; activations = all }
+enter_with-fits false true false size a g place line acts w all fits = record { words = fits; activations = all }
+enter_with-fits false true true size a g place line acts w all fits =
+    let f = All-head ActivationFits a acts all in
+    record {
+      words = fits;
+      activations =
+          All-cons ActivationFits (record a { entered = true; frame_top = a.frame_base + size }) acts
+          (record { operands = f.operands; arguments = f.arguments })
+          (All-tail ActivationFits a acts all);
+    }
+
+return_with-fits : (b answers : Bool) (operands : List Operand) (a : OrderActivation) (g place line : ℕ) (acts : List OrderActivation) (w : Words) → All OperandFits operands → All ActivationFits (a ∷ acts) → WordsFit w → StateFits (return_with b answers operands a g place line acts w)
+return_with-fits true false operands a g place line acts w some all fits =
+    let f = All-head ActivationFits a acts all in
+    record { words = these-fit a.operands w f.operands fits; activations = All-tail ActivationFits a acts all }
+return_with-fits true true (Word z ∷ rest) a g place line acts w some all fits =
+    let f = All-head ActivationFits a acts all in
+    record {
+      words = these-fit (Word z ∷ a.operands) w (All-cons OperandFits (Word z) a.operands (All-head OperandFits (Word z) rest some) f.operands) fits;
+      activations = All-tail ActivationFits a acts all;
+    }
+return_with-fits true true [] a g place line acts w some all fits = record { words = fits; activations = all }
+return_with-fits true true (Held c ∷ rest) a g place line acts w some all fits = record { words = fits; activations = all }
+return_with-fits false answers operands a g place line acts w some all fits = record { words = fits; activations = all }
+
+next_body-fits : (u : Option Orders) (g place line : ℕ) (w : Words) → WordsFit w → StateFits (next_body u g place line w)
+next_body-fits None g place line w fits = record { words = fits; activations = All-nil ActivationFits }
+next_body-fits (Some u) g place line w fits = record { words = no_operands-fit w fits; activations = All-nil ActivationFits }
+
+module _ (p : OrderProgram) where
+  branch-fits : (x : Way) (g place line : ℕ) (acts : List OrderActivation) (w : Words) → All ActivationFits acts → WordsFit w → WayFits x → StateFits (branch p x g place line acts w)
+  branch-fits (Onward v) g place line acts w all fits h = record { words = h; activations = all }
+  branch-fits (ToMark m v) g place line acts w all fits h =
+      go_at-fits (place_of p g m) g place line acts w v all fits h
+  branch-fits Nowhere g place line acts w all fits h = record { words = fits; activations = all }
+
+  go_to_entry-fits : (l : Option LabelEntry) (to owner g place line : ℕ) (acts : List OrderActivation) (w : Words) → All ActivationFits acts → WordsFit w → StateFits (go_to_entry p l to owner g place line acts w)
+  go_to_entry-fits None to owner g place line acts w all fits = record { words = fits; activations = all }
+  go_to_entry-fits (Some l) to owner g place line acts w all fits =
+      leave_for-fits (place_of p to l.mark) to (dropped_by l.in_procedure owner acts) g place line acts w all fits
+
+  go_to-fits : (c : Option Control) (g place line : ℕ) (acts : List OrderActivation) (w : Words) → All ActivationFits acts → WordsFit w → StateFits (go_to p c g place line acts w)
+  go_to-fits (Some (LabelControl to l owner)) g place line acts w all fits = go_to_entry-fits (label_at p to l) to owner g place line acts w all fits
+  go_to-fits (Some (SwitchControl to n owner)) g place line acts w all fits = record { words = fits; activations = all }
+  go_to-fits (Some (ProcedureControl to q)) g place line acts w all fits = record { words = fits; activations = all }
+  go_to-fits None g place line acts w all fits = record { words = fits; activations = all }
+
+  go_to_goal-fits : (x : Option Goal) (to owner g place line : ℕ) (acts : List OrderActivation) (w : Words) → All ActivationFits acts → WordsFit w → StateFits (go_to_goal p x to owner g place line acts w)
+  go_to_goal-fits None to owner g place line acts w all fits = record { words = fits; activations = all }
+  go_to_goal-fits (Some x) to owner g place line acts w all fits = go_to-fits (with_label_owner owner (label_of p to x)) g place line acts w all fits
+
+  go_by_list-fits : (gs : Option (List Goal)) (operands : List Operand) (to owner g place line : ℕ) (acts : List OrderActivation) (w : Words) → All ActivationFits acts → WordsFit w → StateFits (go_by_list p gs operands to owner g place line acts w)
+  go_by_list-fits (Some gs) (Word z ∷ rest) to owner g place line acts w all fits = go_to_goal-fits (goal_at gs z) to owner g place line acts w all fits
+  go_by_list-fits (Some gs) (Held c ∷ rest) to owner g place line acts w all fits = record { words = fits; activations = all }
+  go_by_list-fits (Some gs) [] to owner g place line acts w all fits = record { words = fits; activations = all }
+  go_by_list-fits None operands to owner g place line acts w all fits = record { words = fits; activations = all }
+
+  go_through-fits : (c : Option Control) (g place line : ℕ) (acts : List OrderActivation) (w : Words) → All ActivationFits acts → WordsFit w → StateFits (go_through p c g place line acts w)
+  go_through-fits (Some (SwitchControl to n owner)) g place line acts w all fits = go_by_list-fits (switch_at p to n) w.operands to owner g place line acts w all fits
+  go_through-fits (Some (LabelControl to l owner)) g place line acts w all fits = record { words = fits; activations = all }
+  go_through-fits (Some (ProcedureControl to q)) g place line acts w all fits = record { words = fits; activations = all }
+  go_through-fits None g place line acts w all fits = record { words = fits; activations = all }
+
+  call_entry-fits : (e : Option ProcedureEntry) (to g place line : ℕ) (acts : List OrderActivation) (w : Words) → All ActivationFits acts → WordsFit w → StateFits (call_entry p e to g place line acts w)
+  call_entry-fits None to g place line acts w all fits = record { words = fits; activations = all }
+  call_entry-fits (Some e) to g place line acts w all fits =
+      call_at-fits _ (place_of p to e.mark) to (called e.arguments (frame_end p acts) g place line w.operands) g place line acts w
+      (record { operands = All-drop OperandFits e.arguments w.operands fits.operands; arguments = All-take OperandFits e.arguments w.operands fits.operands })
+      all
       fits
 
-  pub step-fits : (s : OrderState) → WordsFit (words_of s) → WordsFit (words_of (step p s))
-  step-fits (at g place line w Running) fits = carry_out-fits (order_at p g place) g place line w refl fits
-  step-fits (at g place line w Ended) fits = fits
-  step-fits (at g place line w (Stopped kind s l)) fits = fits
-  step-fits (at g place line w Stuck) fits = fits
+  call-fits : (c : Option Control) (g place line : ℕ) (acts : List OrderActivation) (w : Words) → All ActivationFits acts → WordsFit w → StateFits (call p c g place line acts w)
+  call-fits (Some (ProcedureControl to q)) g place line acts w all fits = call_entry-fits (procedure_at p to q) to g place line acts w all fits
+  call-fits (Some (LabelControl to l owner)) g place line acts w all fits = record { words = fits; activations = all }
+  call-fits (Some (SwitchControl to n owner)) g place line acts w all fits = record { words = fits; activations = all }
+  call-fits None g place line acts w all fits = record { words = fits; activations = all }
+
+  enter-fits : (size g place line : ℕ) (acts : List OrderActivation) (w : Words) → All ActivationFits acts → WordsFit w → StateFits (enter p size g place line acts w)
+  enter-fits size g place line [] w all fits = record { words = fits; activations = all }
+  enter-fits size g place line (a ∷ acts) w all fits = enter_with-fits a.entered _ _ size a g place line acts w all fits
+
+  come_back-fits : (n : ℕ) (answers : Bool) (g place line : ℕ) (acts : List OrderActivation) (w : Words) → All ActivationFits acts → WordsFit w → StateFits (come_back p n answers g place line acts w)
+  come_back-fits n answers g place line [] w all fits = record { words = fits; activations = all }
+  come_back-fits n answers g place line (a ∷ acts) w all fits =
+      return_with-fits (nat_eq (operand_words a.arguments) n) answers w.operands a g place line acts w fits.operands all fits
+
+  end_body-fits : (g place line : ℕ) (acts : List OrderActivation) (w : Words) → All ActivationFits acts → WordsFit w → StateFits (end_body p g place line acts w)
+  end_body-fits g place line [] w all fits = next_body-fits (slice_get p.units (g + 1)) g place line w fits
+  end_body-fits g place line (a ∷ acts) w all fits = record { words = fits; activations = all }
+
+  act-fits : (x : Action) (g place line : ℕ) (acts : List OrderActivation) (w : Words) → ActionFits p.limits.area x → All ActivationFits acts → WordsFit w → StateFits (act p x g place line acts w)
+  act-fits (Perform op) g place line acts w h all fits = after-fits p.room (perform p.limits.area op w) g place line acts w all fits (h w fits)
+  act-fits (Access op) g place line acts w h all fits =
+      after-fits p.room (unrefused (perform p.limits.area op w)) g place line acts w all fits (unrefused-fits (perform p.limits.area op w) (h w fits))
+  act-fits (Alter f) g place line acts w h all fits = after-fits p.room (f w) g place line acts w all fits (h w fits)
+  act-fits (AlterWithin f) g place line acts w h all fits = after-fits p.room (unrefused (f w)) g place line acts w all fits (unrefused-fits (f w) (h w fits))
+  act-fits (SetLine n) g place line acts w h all fits = record { words = fits; activations = all }
+  act-fits Pass g place line acts w h all fits = record { words = fits; activations = all }
+  act-fits (Branch f) g place line acts w h all fits = branch-fits (f w) g place line acts w all fits (h w fits)
+  act-fits (GoMain m) g place line acts w h all fits = leave_for-fits (place_of p g m) g (length acts) g place line acts w all fits
+  act-fits (GoLabel c) g place line acts w h all fits = go_to-fits c g place line acts w all fits
+  act-fits (GoSwitch c) g place line acts w h all fits = go_through-fits c g place line acts w all fits
+  act-fits (Call c) g place line acts w h all fits = call-fits c g place line acts w all fits
+  act-fits (Enter size) g place line acts w h all fits = enter-fits size g place line acts w all fits
+  act-fits (Return n answers) g place line acts w h all fits = come_back-fits n answers g place line acts w all fits
+  act-fits EndBody g place line acts w h all fits = end_body-fits g place line acts w all fits
+
+  carry_out-fits : (o : Option Order) (g place line : ℕ) (acts : List OrderActivation) (w : Words) → All ActivationFits acts → WordsFit w → StateFits (carry_out p o g place line acts w)
+  carry_out-fits None g place line acts w all fits = record { words = fits; activations = all }
+  carry_out-fits (Some o) g place line acts w all fits = act-fits (action_of p g acts o) g place line acts w (action-fits p g acts o all) all fits
+
+  pub step-fits : (s : OrderState) → StateFits s → StateFits (step p s)
+  step-fits (at g place line acts w Running) h = carry_out-fits (order_at p g place) g place line acts w h.activations h.words
+  step-fits (at g place line acts w Ended) h = record { words = h.words; activations = h.activations }
+  step-fits (at g place line acts w (Stopped kind s l)) h = record { words = h.words; activations = h.activations }
+  step-fits (at g place line acts w Stuck) h = record { words = h.words; activations = h.activations }

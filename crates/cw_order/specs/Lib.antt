@@ -1,3 +1,9 @@
+pub mod OrderProgram
+pub mod OrderState
+pub mod OrderChanges
+pub mod OrderActions
+pub mod OrderCosts
 pub mod OrderMachine
+pub mod HasCode
 pub mod Example
 pub mod FittingWords

@@ -2,18 +2,24 @@
 ghost use Rattle.std.specs.Prelude.{◌≡◌, ◌≢◌, ℕ};
 ghost use Rattle.cw_track.specs.Machine.{state_after, shown_after, cost};
 ghost use Rattle.cw_unit.specs.Stop.{Running};
-ghost use Rattle.cw_order.specs.OrderMachine.{OrderProgram, OrderState, shown, step, order_machine};
-ghost use Rattle.cw_order.specs.FittingWords.{ConstantsFit, WordsFit, words_of};
-ghost use Rattle.cw_order.specs.Example.{overflowing, overflowing_start, overflowing_shows};
+ghost use Rattle.cw_order.specs.OrderProgram.{OrderProgram};
+ghost use Rattle.cw_order.specs.OrderState.{OrderState};
+ghost use Rattle.cw_order.specs.OrderMachine.{shown, step, order_machine};
+ghost use Rattle.cw_order.specs.FittingWords.{StateFits};
+ghost use Rattle.cw_order.specs.Example.{overflowing, overflowing_start, overflowing_shows, calling, calling_start, calling_shows};
 
 /// A run that is over stays as it is. A sum that fits no word stops the run at its line, and what was written stays written.
+/// A procedure gets its argument, and comes back behind its call.
 pub fn runs()
     ensures over { (p : OrderProgram) (s : OrderState) (k : ℕ) → (shown s).end ≢ Running → state_after (order_machine p) k s ≡ s }
     ensures stops { shown_after (order_machine overflowing) 9 overflowing_start ≡ overflowing_shows }
     ensures costs { cost (order_machine overflowing) 9 overflowing_start ≡ 25 }
+    ensures returns { shown_after (order_machine calling) 11 calling_start ≡ calling_shows }
+    ensures returning_costs { cost (order_machine calling) 11 calling_start ≡ 92 }
 {}
 
-/// All operands and all words of memory fit a word, in each state of a run that begins so.
+/// All operands, those of callers and arguments too, and all words of memory fit a word, in each state of a run that begins
+/// so and reads bytes.
 pub fn words()
-    ensures { (p : OrderProgram) (s : OrderState) → ConstantsFit p → WordsFit (words_of s) → WordsFit (words_of (step p s)) }
+    ensures { (p : OrderProgram) (s : OrderState) → StateFits s → StateFits (step p s) }
 {}

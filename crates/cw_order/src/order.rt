@@ -1,9 +1,9 @@
 //! The orders.
 //!
 //! An order works on the operand stack, whose words are the operands of the expression at work, and on one memory of
-//! words. An address counts words from 0. Descriptors, items, labels, switches and procedures are named by their numbers
-//! in the unit, control parameters (labels, switches and procedures) by their number among those of their procedure.
-//! Marks number the code labels of the unit.
+//! words. An address counts words from 0. Descriptors, labels, switches and procedures are named by their numbers in the
+//! unit. A parameter is named by how many words of arguments follow its own on the stack, where a label, switch or
+//! procedure takes two: so its place is known where it is used. Marks number the code labels of the unit.
 use cw_word::List;
 
 /// The comparisons of two words as signed numbers, the operand below with the top one.
@@ -24,7 +24,10 @@ pub enum Order {
     /// Puts a word.
     Const(u16),
     /// Puts the address of a word of a storage family.
-    Home { family: u16, offset: u16 },
+    Home {
+        family: u16,
+        offset: u16,
+    },
     /// Puts the address of a word of the frame of the activation.
     FrameHome(u16),
     /// Takes an address and puts the word there.
@@ -32,11 +35,21 @@ pub enum Order {
     /// Takes an address, then the word below it, and stores the word there.
     Store,
     /// Takes an address and puts `t` bits, from bit `b`, of the word there.
-    LoadPart { t: u8, b: u8, signed: bool },
+    LoadPart {
+        t: u8,
+        b: u8,
+        signed: bool,
+    },
     /// Takes an address, then the word below it, and stores the word's low `t` bits from bit `b` of the word there.
-    StorePart { t: u8, b: u8 },
+    StorePart {
+        t: u8,
+        b: u8,
+    },
     /// Takes a word of scale `from` and puts it at scale `to`, rounded down; stops with Overflow where it does not fit.
-    Rescale { from: u8, to: u8 },
+    Rescale {
+        from: u8,
+        to: u8,
+    },
     /// Takes two words and puts their sum; stops with Overflow where it does not fit.
     Add,
     /// Takes two words and puts the lower less the top one; stops with Overflow where it does not fit.
@@ -55,7 +68,10 @@ pub enum Order {
     /// Takes two words and puts the bits that one of them has.
     Xor,
     /// Takes a word and puts its `t` bits from bit `b`, without a sign.
-    Take { t: u8, b: u8 },
+    Take {
+        t: u8,
+        b: u8,
+    },
     /// Takes an index and puts it less the lower bound; stops with Address where that does not fit.
     IndexLess(i16),
     /// Takes an index and puts it times the length of a row or an entry; stops with Address where that does not fit.
@@ -64,6 +80,12 @@ pub enum Order {
     IndexPlus(u16),
     /// Takes two indexes and puts their sum; stops with Address where that does not fit.
     IndexAdd,
+    /// Takes an index, then the index of a row below it, and puts the latter less the lower bound, times the length of a
+    /// row, plus the former; stops with Address where one of these does not fit.
+    IndexRow {
+        lower: i16,
+        length: u16,
+    },
     /// Stops with Address where the top operand is no address of the data area.
     InArea,
     /// Takes two words and puts the lower less the top one, modulo 65,536.
@@ -73,9 +95,12 @@ pub enum Order {
     /// Goes on at the mark.
     Jump(u32),
     /// Takes two words, and goes on at the mark where the lower compares so with the top one.
-    JumpIf { comparator: Comparator, mark: u32 },
-    /// Takes the value of a control variable and the address of its loop descriptor, and goes on at the mark where the
-    /// element's limit is passed.
+    JumpIf {
+        comparator: Comparator,
+        mark: u32,
+    },
+    /// Takes the address of a loop's words, then the value of its control variable below it, and goes on at the mark where
+    /// that is past the element's limit. Word 1 of the loop is the step, word 2 the limit.
     Exhausted(u32),
     /// Takes the number of a loop's element, from 1, and goes on at the mark of that number; further on where it has
     /// none.
@@ -96,7 +121,8 @@ pub enum Order {
     ProcCommon(u16),
     /// Puts a control parameter as an argument.
     SpecialOut(u8),
-    /// Jumps to a label parameter.
+    /// Jumps to a label parameter. A jump to a label drops all operands, and the activations after that which owns it; a
+    /// label that stands in no procedure has no owner, and all are dropped.
     GoSpecial(u8),
     /// Takes an index, from 1, and jumps to that label of a switch of this unit; stops with Switch where it has none.
     GoSwitch(u32),
@@ -114,13 +140,25 @@ pub enum Order {
     CallCommon(u16),
     /// Calls a procedure parameter.
     CallSpecial(u8),
-    /// Begins an activation whose frame has so many words; stops with Depth or Frames, at the caller's line, where there
-    /// is no room.
+    /// Begins the activation of the call, with a frame of so many words; stops with Depth or Frames, at the caller's line,
+    /// where there is no room.
     Enter(u16),
-    /// Puts the word that was handed over as this argument, from 0.
-    Bind(u8),
-    /// Ends the activation and takes its arguments; the top operand, where an answer is wanted, stays.
-    Return,
+    /// Stores a word argument in a word of a storage family.
+    Bind {
+        argument: u8,
+        family: u16,
+        offset: u16,
+    },
+    /// Stores a word argument in a word of the frame.
+    BindFrame {
+        argument: u8,
+        offset: u16,
+    },
+    /// Ends the activation and takes its arguments, which are so many words; the top operand stays where it answers.
+    Return {
+        arguments: u8,
+        answers: bool,
+    },
     /// Puts the next byte of the input, or -1 where there is none.
     ReadByte,
     /// Takes a word and writes its low byte to the output.

@@ -8,3 +8,4 @@ pub mod Stack
 pub mod Sums
 pub mod Jumps
 pub mod Begins
+pub mod Compared

@@ -24,7 +24,7 @@ plain_difference a b = omega arith
 plain_sum_overflows : (a b : ℕ) → overflows 32768 (signed 32768 a +ℤ signed 32768 b +ℤ pos 0) ≡ sum_overflows a b
 plain_sum_overflows a b = ap (overflows 32768) (+ℤ_idr (signed 32768 a +ℤ signed 32768 b))
 
-plain_difference_overflows : (a b : ℕ) → overflows 32768 (signed 32768 a -ℤ signed 32768 b -ℤ pos 0) ≡ difference_overflows a b
+pub plain_difference_overflows : (a b : ℕ) → overflows 32768 (signed 32768 a -ℤ signed 32768 b -ℤ pos 0) ≡ difference_overflows a b
 plain_difference_overflows a b = ap (overflows 32768) (+ℤ_idr (signed 32768 a -ℤ signed 32768 b))
 
 module _ (finds : Finds) (code : List ℕ) (v : View) where

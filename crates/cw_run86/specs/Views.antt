@@ -1,10 +1,12 @@
 -- What the code of a program deals with of a processor: registers, the words of the data segment and of the stack segment at even
 -- offsets, code that nothing changes, and what was told to the ports. And what instructions do to that.
-use Rattle.std.specs.Prelude.{◌≡◌, ℕ, ◌+◌, ◌-◌, ◌*◌, ◌%◌, ◌^◌, ◌<◌, ◌≤◌, nat_eq, Bool, false, List, [], ◌∷◌, length, slice_index, slice_set, ◌+ℤ◌, ◌-ℤ◌, if◌then◌else◌}
+use Rattle.std.specs.Prelude.{◌≡◌, ℕ, ◌+◌, ◌-◌, ◌*◌, ◌%◌, ◌^◌, ◌<◌, ◌≤◌, nat_eq, Bool, true, false, List, [], ◌∷◌, length, slice_index, slice_set, ◌+ℤ◌, ◌-ℤ◌, if◌then◌else◌, ℤ, int_lt, int_le, ◌&&◌, not}
 use Rattle.cw_i86.specs.Encoding.{bytes_of, IsInstr}
 use Rattle.cw_i86.specs.Sums.{overflows, signed}
 use Rattle.cw_i86.specs.State.{byte_at, word_at, data_segment, stack_segment}
 use Rattle.cw_i86.specs.declared.instr.Instr.{Instr}
+use Rattle.cw_i86.specs.declared.instr.Instr.TheVariants as i86
+use Rattle.cw_i86.specs.declared.instr.Rm.TheVariants as rms
 use Rattle.cw_i86.specs.MachineRun.{Running}
 use Rattle.cw_run86.specs.Processor.{Processor, Told, nothing_told, processor_step}
 
@@ -78,6 +80,9 @@ with_stack k w v = record v { stack = put_word v.stack k w }
 abbrev pub with_told : Told → View → View
 with_told t v = record v { told = t }
 
+abbrev pub with_overflow : Bool → View → View
+with_overflow overflow v = record v { overflow = overflow }
+
 -- whether a sum or a difference of words, as signed numbers, fits no word
 abbrev pub sum_overflows : ℕ → ℕ → Bool
 sum_overflows a b = overflows 32768 (signed 32768 a +ℤ signed 32768 b)
@@ -90,6 +95,42 @@ word_sum a b = (a + b) % 65536
 
 abbrev pub word_difference : ℕ → ℕ → ℕ
 word_difference a b = (a + 65536 - b) % 65536
+
+-- CMP of two registers
+abbrev pub compare : ℕ → ℕ → Instr
+compare r q = i86.AluRm 7 true true r (rms.Reg q)
+
+-- the flags of two words that were compared, of which a view has the overflow flag alone
+abbrev pub compared : ℕ → ℕ → View → View
+compared r q v = with_overflow (difference_overflows (register v r) (register v q)) (on (compare r q) v)
+
+-- the comparisons of words as signed numbers that jumps behind CMP test: JZ, JNZ, JL, JNL, JLE and JNLE
+pub data Comparison : Type 0 where
+  Equal : Comparison
+  Unequal : Comparison
+  Less : Comparison
+  NotLess : Comparison
+  AtMost : Comparison
+  Greater : Comparison
+
+abbrev pub condition_of : Comparison → ℕ
+condition_of Equal = 4
+condition_of Unequal = 5
+condition_of Less = 12
+condition_of NotLess = 13
+condition_of AtMost = 14
+condition_of Greater = 15
+
+abbrev pub compares : Comparison → ℤ → ℤ → Bool
+compares Equal x y = int_le x y && int_le y x
+compares Unequal x y = not (int_le x y && int_le y x)
+compares Less x y = int_lt x y
+compares NotLess x y = int_le y x
+compares AtMost x y = int_le x y
+compares Greater x y = int_lt y x
+
+abbrev pub words_compare : Comparison → ℕ → ℕ → Bool
+words_compare c a b = compares c (signed 32768 a) (signed 32768 b)
 
 -- SP is the offset of word n; 32,768 is past the last one
 abbrev pub IsTop : View → ℕ → Type 0

@@ -10,7 +10,7 @@ ghost use Rattle.cw_i86.specs.declared.instr.Rm.TheVariants as rms;
 ghost use Rattle.cw_i86.specs.declared.instr.Place.TheVariants as places;
 ghost use Rattle.cw_run86.specs.Fetching.{instruction_at};
 ghost use Rattle.cw_run86.specs.Processor.{Processor, processor_step, processor_after, processor_start, observed, with_given};
-ghost use Rattle.cw_run86.specs.Views.{View, Sees, Has, Goes, IsTop, starting_view, register, on, with_place, with_register, with_result, with_cell, with_stack, with_told, sum_overflows, difference_overflows, word_sum, word_difference};
+ghost use Rattle.cw_run86.specs.Views.{View, Sees, Has, Goes, IsTop, starting_view, register, on, with_place, with_register, with_result, with_cell, with_stack, with_told, sum_overflows, difference_overflows, word_sum, word_difference, compare, compared, Comparison, condition_of, words_compare};
 
 use cw_dec86::rows_read_back;
 
@@ -92,6 +92,19 @@ pub fn jumps()
     ensures passes { (code : List ℕ) (v : View) (by : ℕ) → Has code v.place (i86.JumpIf 1 by) → v.overflow ≡ true → Goes code v (on (i86.JumpIf 1 by) v) }
     ensures call { (code : List ℕ) (v : View) (by n : ℕ) → Has code v.place (i86.Call by) → n < 32768 → IsTop v (suc n) →
         Goes code v (with_place ((v.place + 3 + by) % 65536) (with_register 4 (2 * n) (with_stack n ((v.place + 3) % 65536) v))) }
+{
+    fetching();
+}
+
+/// Comparisons: what CMP of two registers leaves, and where a conditional jump right behind it leads.
+pub fn comparing()
+    ensures compare { (code : List ℕ) (v : View) (r q : ℕ) → Has code v.place (compare r q) → Goes code v (compared r q v) }
+    ensures jumps { (code : List ℕ) (v : View) (c : Comparison) (r q by : ℕ) (p : Processor) → Has code v.place (compare r q) → Has code (compared r q v).place (i86.JumpIf (condition_of c) by) →
+        register v r < 65536 → register v q < 65536 → words_compare c (register v r) (register v q) ≡ true → Sees code v p →
+        Sees code (with_place ((v.place + 4 + sign_extended by) % 65536) (compared r q v)) (processor_step (processor_step p)) }
+    ensures passes { (code : List ℕ) (v : View) (c : Comparison) (r q by : ℕ) (p : Processor) → Has code v.place (compare r q) → Has code (compared r q v).place (i86.JumpIf (condition_of c) by) →
+        register v r < 65536 → register v q < 65536 → words_compare c (register v r) (register v q) ≡ false → Sees code v p →
+        Sees code (with_place ((v.place + 4) % 65536) (compared r q v)) (processor_step (processor_step p)) }
 {
     fetching();
 }

@@ -2,7 +2,7 @@
 use Rattle.std.proofs.Common.{◌≡◌, ◌≢◌, ℕ, zero, suc, ◌≤◌, Option, Some, None, refl, sym, ap, ◌∙◌, subst, arith}
 use Rattle.std.proofs.lemmas.Bool.Decides.{nat_tests}
 use Rattle.cw_i86.specs.MachineRun as run
-use Rattle.cw_unit.specs.Stop.{StopKind, Overflow, ZeroDivisor, SwitchRange, AddressRange, FramesFull, DepthReached, stop_number, End, Running, Ended, Stopped, Stuck}
+use Rattle.cw_unit.specs.Stop.{StopKind, Overflow, ZeroDivisor, SwitchRange, AddressRange, FramesFull, DepthReached, stop_number, Stopped, Stuck}
 use Rattle.cw_unit.specs.Behaviour.{Shown}
 use Rattle.cw_tmpl.specs.Showing.{stop_of, stopped_by, end_of, shown_as}
 use Rattle.cw_sim.specs.Preservation.{TellsEnd, ShowsAs}

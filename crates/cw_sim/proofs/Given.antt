@@ -10,7 +10,10 @@ use Rattle.cw_unit.specs.declared.layout.Map.{Map}
 use Rattle.cw_unit.specs.Program.{program_at}
 use Rattle.cw_unit.specs.Behaviour.{is_running, initial_configuration}
 use Rattle.cw_order.specs.declared.order.Orders.{Orders}
-use Rattle.cw_order.specs.OrderMachine.{OrderProgram, order_machine, order_start}
+use Rattle.cw_order.specs.declared.order.Order.{Order}
+use Rattle.cw_order.specs.OrderProgram.{OrderProgram, order_at}
+use Rattle.cw_order.specs.OrderMachine.{order_machine, order_start}
+use Rattle.cw_order.specs.HasCode.{HasCode}
 use Rattle.cw_order.specs.FittingWords.{ConstantsFit, LinesFit}
 use Rattle.cw_gen.specs.Built.{AllBuilt}
 use Rattle.cw_gen.specs.Following.{meaning, orders_program, first_order, Suits}
@@ -19,14 +22,15 @@ use Rattle.cw_tmpl.specs.Placing.{IsImage, Codable, BeginsWith, NeverStuck, star
 use Rattle.cw_run86.specs.Processor.{processor, processor_start, processor_after, observed}
 
 pub record Given : Type 0 where
-  pub upper : (us : List SourceUnit) (m : Map) (limits : Limits) (room : ℕ) (input : List ℕ) → AllBuilt us → Suits us m limits room input
+  pub upper : (us : List SourceUnit) (m : Map) (limits : Limits) (room : ℕ) (input : List ℕ) → AllBuilt us → Suits us m limits room input → All (λ b. b < 256) input
       → Tracks is_running (meaning (program_at us m limits)) (initial_configuration (program_at us m limits) input)
       (order_machine (orders_program us m limits room)) (first_order us m limits room input)
   pub constants : (us : List SourceUnit) (m : Map) (limits : Limits) (room : ℕ) → AllBuilt us → ConstantsFit (orders_program us m limits room)
   pub lines : (us : List SourceUnit) (m : Map) (limits : Limits) (room : ℕ) → AllBuilt us → LinesFit (orders_program us m limits room)
+  pub codes : (us : List SourceUnit) (m : Map) (limits : Limits) (room g place : ℕ) (o : Order) → AllBuilt us → order_at (orders_program us m limits room) g place ≡ Some o → HasCode o
   pub entries : (us : List SourceUnit) (m : Map) (limits : Limits) (room g : ℕ) (o : Orders) → slice_get (orders_program us m limits room).units g ≡ Some o → o.entry ≡ 0
   pub lower : (p : OrderProgram) (image words : List ℕ) (memory : List ℤ) (input : List ℕ) (s : State)
-      → IsImage p image → Codable p → BeginsWith p memory words → NeverStuck p memory input → IsStart image words s
+      → IsImage p image → Codable p → BeginsWith p memory words → NeverStuck p memory input → IsStart image words s → All (λ b. b < 256) input
       → TracksAfter is_running startup_cost (order_machine p) (order_start p memory input) (processor shown_as) (processor_start s input)
   pub runs : (s : State) (input : List ℕ) (n : ℕ) → All (λ b. b < 256) input → Shows s input n (observed (processor_after n (processor_start s input)))
   pub once : (s : State) (input : List ℕ) (n : ℕ) (a b : Observed) → Shows s input n a → Shows s input n b → a ≡ b

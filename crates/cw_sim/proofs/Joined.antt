@@ -1,7 +1,7 @@
 -- The two halves, one on the other, and the bound in steps.
-use Rattle.std.proofs.Common.{◌≡◌, ◌≢◌, ◌⊎◌, ℕ, zero, suc, ◌+◌, ◌*◌, ◌≤◌, false, List, refl, sym, ap, ◌∙◌, subst, inl, inr, ⊎_elim, arith}
+use Rattle.std.proofs.Common.{◌≡◌, ◌≢◌, ℕ, zero, suc, ◌+◌, ◌*◌, ◌≤◌, false, List, refl, sym, ap, ◌∙◌, subst, inl, inr, ⊎_elim, arith}
 use Rattle.cw_track.specs.Machine.{state_after, shown_after}
-use Rattle.cw_track.specs.Tracking.{Tracks, TracksAfter, KeepsPace, step_ratio}
+use Rattle.cw_track.specs.Tracking.{Tracks, TracksAfter, KeepsPace}
 use Rattle.cw_track.proofs.Composition.{tracks_through}
 use Rattle.cw_track.proofs.Budgets.{keeps_budget}
 use Rattle.cw_i86.specs.State.{State}
@@ -15,8 +15,9 @@ use Rattle.cw_unit.specs.Configuration.{Configuration}
 use Rattle.cw_unit.specs.Step.{steps}
 use Rattle.cw_unit.specs.Stop.{stop_number, Stopped, Stuck}
 use Rattle.cw_unit.specs.Behaviour.{shown, is_running, initial_configuration, observed as meant}
-use Rattle.cw_order.specs.OrderMachine.{OrderProgram, order_machine}
-use Rattle.cw_gen.specs.Following.{meaning, orders_program, first_order, Suits}
+use Rattle.cw_order.specs.OrderProgram.{OrderProgram}
+use Rattle.cw_order.specs.OrderMachine.{order_machine}
+use Rattle.cw_gen.specs.Following.{meaning, orders_program, first_order}
 use Rattle.cw_tmpl.specs.Showing.{end_of, shown_as}
 use Rattle.cw_tmpl.specs.Placing.{Codable, NeverStuck, startup_cost}
 use Rattle.cw_run86.specs.Processor.{Processor, processor, processor_start, processor_after, processor_step, observed}
@@ -48,13 +49,14 @@ module _ (given : Given) (us : List SourceUnit) (m : Map) (limits : Limits) (inp
   not_stuck n e = loaded.never_stuck n (ap (λ x. x.end) (sym (means n)) ∙ e)
 
   upper : Tracks is_running (meaning p) (initial_configuration p input) (order_machine q) (first_order us m limits loaded.room input)
-  upper = given.upper us m limits loaded.room input loaded.built loaded.suits
+  upper = given.upper us m limits loaded.room input loaded.built loaded.suits loaded.bytes
 
   orders_never_stuck : NeverStuck q (initial_memory us m limits.area) input
   orders_never_stuck k e = let a = upper.shows_only k in not_stuck a.0 (ap (λ x. x.end) (sym a.1) ∙ e)
 
   codable : Codable q
   codable = record {
+    codes = λ g place o. given.codes us m limits loaded.room g place o loaded.built;
     constants = given.constants us m limits loaded.room loaded.built;
     lines = given.lines us m limits loaded.room loaded.built;
     entries = given.entries us m limits loaded.room;
@@ -62,7 +64,7 @@ module _ (given : Given) (us : List SourceUnit) (m : Map) (limits : Limits) (inp
   }
 
   lower : TracksAfter is_running startup_cost (order_machine q) (first_order us m limits loaded.room input) (processor shown_as) (processor_start s input)
-  lower = given.lower q loaded.image loaded.words (initial_memory us m limits.area) input s loaded.is_image codable loaded.begins orders_never_stuck loaded.starts
+  lower = given.lower q loaded.image loaded.words (initial_memory us m limits.area) input s loaded.is_image codable loaded.begins orders_never_stuck loaded.starts loaded.bytes
 
   whole : TracksAfter is_running 21 (meaning p) (initial_configuration p input) (processor shown_as) (processor_start s input)
   whole = tracks_through is_running (meaning p) (order_machine q) (processor shown_as) 0 21 21 _ _ _ refl upper lower
@@ -104,4 +106,4 @@ module _ (given : Given) (us : List SourceUnit) (m : Map) (limits : Limits) (inp
       let first : (shown_as o).end ≡ Stopped t.0 segment line = ap end_of e ∙ ap (λ n. end_of (run.Stopped n segment line)) t.1 ∙ stop_back t.0 segment line in
       let second : (shown_after (order_machine q) a.0 (first_order us m limits loaded.room input)).end ≡ Stopped t.0 segment line =
       ap (λ x. x.end) (sym a.1 ∙ shown_then k ∙ ap shown_as same) ∙ first in
-      t.1 ∙ ap stop_number (only q a.0 (initial_memory us m limits.area) input t.0 segment line second)
+      t.1 ∙ ap stop_number (only q codable.codes a.0 (initial_memory us m limits.area) input t.0 segment line second)

@@ -1,8 +1,7 @@
 -- The relocations' words in the object's code.
-use Rattle.std.proofs.Common.{◌≡◌, ℕ, zero, suc, ◌+◌, ◌-◌, ◌≤◌, List, [], ◌∷◌, ◌++◌, length, take, get_or, sym, ap, ◌∙◌, subst, arith, append_assoc, length-append, All}
+use Rattle.std.proofs.Common.{◌≡◌, ℕ, zero, suc, ◌+◌, ◌-◌, ◌≤◌, List, [], ◌∷◌, ◌++◌, length, get_or, sym, ap, ◌∙◌, subst, arith, append_assoc, length-append, All}
 use Rattle.std.proofs.Math.Seq.{get_or-append_seam}
 use Rattle.std.proofs.lemmas.List.Elements.{All-append}
-use Rattle.cw_order.specs.declared.order.Order.{Order}
 use Rattle.cw_unit.specs.declared.layout.Reloc.{Reloc}
 use Rattle.cw_tmpl.specs.declared.pieces.Limit.TheVariants as limit
 use Rattle.cw_tmpl.specs.declared.pieces.Target.{Target}
@@ -11,9 +10,6 @@ use Rattle.cw_tmpl.specs.declared.pieces.Coded.{Coded}
 use Rattle.cw_tmpl.specs.declared.pieces.Coded.TheVariants as coded
 use Rattle.cw_tmpl.specs.Pieces.{bytes_with, size_of, target_of, blanks, relocation_of, relocation_before, relocations}
 use Rattle.cw_tmpl.specs.Blanks.{FillsBlank, Rise}
-use Rattle.cw_tmpl.specs.Templates.{template, order_size}
-use Rattle.cw_tmpl.specs.ReferenceCode.{templates, places_from}
-use Rattle.cw_tmpl.proofs.Growing.{blanks-append}
 use Rattle.cw_tmpl.proofs.Filling.{place_of}
 
 abbrev HasSort : Reloc → Type 0
@@ -94,15 +90,3 @@ all_rise from at (coded.Move reg t ∷ ps) le = word_rises from (at + 3) t _ (om
 all_rise from at (coded.Call t ∷ ps) le = word_rises from (at + 3) t _ (omega arith) (all_rise (at + 3) (at + 3) ps (omega arith))
 all_rise from at (coded.Jump t ∷ ps) le = word_rises from (at + 3) t _ (omega arith) (all_rise (at + 3) (at + 3) ps (omega arith))
 all_rise from at (coded.Word t ∷ ps) le = word_rises from (at + 2) t _ (omega arith) (all_rise (at + 2) (at + 2) ps (omega arith))
-
--- ---- places
-
-pub places_are : (at : ℕ) (os : List Order) (k : ℕ) → k ≤ length os → get_or (places_from at os) k 0 ≡ at + length (blanks (templates (take k os)))
-places_are at [] zero le = omega arith
-places_are at [] (suc k) le = absurd (omega arith)
-places_are at (o ∷ os) zero le = omega arith
-places_are at (o ∷ os) (suc k) le =
-    let rest = templates (take k os) in
-    let further = places_are (at + order_size o) os k (omega arith) in
-    let long = ap length (blanks-append (template o) rest) ∙ length-append (blanks (template o)) (blanks rest) in
-    omega (arith, further, long)

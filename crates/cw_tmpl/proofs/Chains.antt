@@ -1,5 +1,5 @@
 -- Instructions, one after another.
-use Rattle.std.proofs.Common.{◌≡◌, ℕ, suc, ◌+◌, ◌*◌, ◌/◌, ◌%◌, ◌<◌, ◌≤◌, Bool, true, false, List, [], ◌∷◌, length, refl, sym, ap, ◌∙◌, subst, arith}
+use Rattle.std.proofs.Common.{◌≡◌, ℕ, suc, ◌+◌, ◌*◌, ◌/◌, ◌%◌, ◌<◌, Bool, true, false, List, [], ◌∷◌, length, refl, ap, ◌∙◌, subst, arith}
 use Rattle.cw_track.proofs.Paths.{Path, stay, next}
 use Rattle.cw_i86.specs.Encoding.{bytes_of}
 use Rattle.cw_i86.specs.State.{sign_extended}
@@ -8,7 +8,7 @@ use Rattle.cw_i86.specs.declared.instr.Instr.TheVariants as i86
 use Rattle.cw_i86.specs.declared.instr.Imm.TheVariants as imm
 use Rattle.cw_i86.specs.declared.instr.Rm.TheVariants as rms
 use Rattle.cw_run86.specs.Processor.{Processor, Told, processor, processor_step, with_given}
-use Rattle.cw_run86.specs.Views.{View, Sees, Has, Goes, IsTop, register, on, with_place, with_register, with_result, with_cell, with_stack, with_told, sum_overflows, difference_overflows, word_sum, word_difference}
+use Rattle.cw_run86.specs.Views.{View, Sees, Has, IsTop, register, on, with_place, with_register, with_result, with_cell, with_stack, with_told, sum_overflows, difference_overflows, word_sum, word_difference, with_overflow, compare as compare_of, Comparison, condition_of, words_compare}
 use Rattle.cw_unit.specs.Stop.{Running}
 use Rattle.cw_unit.specs.Behaviour.{Shown}
 use Rattle.cw_tmpl.specs.Mnemonics.{slot, at_bx}
@@ -170,6 +170,43 @@ module _ (rows : Rows) where
       let i = i86.JumpIf 1 by in
       moved at i v (processor_step p) (rows.passes image (placed at v) by (has i (omega arith) h s) on p s.sees)
 
+  -- a comparison
+  pub compare : {image : List ℕ} {at : ℕ} {v : View} {p : Processor} (r q : ℕ) → Has image at (compare_of r q) → Is image at v p → Is image (at + 2) (with_overflow (difference_overflows (register v r) (register v q)) v) (processor_step p)
+  compare {image} {at} {v} {p} r q h s =
+      let i = compare_of r q in
+      moved at i (with_overflow (difference_overflows (register v r) (register v q)) v) (processor_step p) (rows.compare image (placed at v) r q (has i (omega arith) h s) p s.sees)
+
+  -- and the conditional jump behind it
+  behind_compare : {image : List ℕ} {at : ℕ} {v : View} {p : Processor} (c : Comparison) (by : ℕ) → Has image (at + 2) (i86.JumpIf (condition_of c) by) → Is image at v p → Has image ((at % 65536 + 2) % 65536) (i86.JumpIf (condition_of c) by)
+  behind_compare {image} {at} c by h s =
+      let within = h.within in
+      let fits = s.sees.fits in
+      let e : at + 2 ≡ (at % 65536 + 2) % 65536 = omega arith in
+      subst (λ n. Has image n (i86.JumpIf (condition_of c) by)) e h
+
+  pub compare_jumps : {image : List ℕ} {at : ℕ} {v : View} {p : Processor} (c : Comparison) (r q by : ℕ) → register v r < 65536 → register v q < 65536 → words_compare c (register v r) (register v q) ≡ true
+      → Has image at (compare_of r q) → Has image (at + 2) (i86.JumpIf (condition_of c) by) → Is image at v p → Is image (at + 2 + 2 + sign_extended by) (with_overflow (difference_overflows (register v r) (register v q)) v) (processor_step (processor_step p))
+  compare_jumps {image} {at} {v} {p} c r q by lr lq holds h j s =
+      let x = sign_extended by in
+      let w = with_overflow (difference_overflows (register v r) (register v q)) v in
+      let e : (at % 65536 + 4 + x) % 65536 ≡ (at + 2 + 2 + x) % 65536 = omega arith in
+      record {
+        sees =
+            subst (λ n. Sees image (with_place n w) (processor_step (processor_step p))) e
+            (rows.compare_jumps image (placed at v) c r q by p (has (compare_of r q) (omega arith) h s) (behind_compare c by j s) lr lq holds s.sees);
+      }
+
+  pub compare_passes : {image : List ℕ} {at : ℕ} {v : View} {p : Processor} (c : Comparison) (r q by : ℕ) → register v r < 65536 → register v q < 65536 → words_compare c (register v r) (register v q) ≡ false
+      → Has image at (compare_of r q) → Has image (at + 2) (i86.JumpIf (condition_of c) by) → Is image at v p → Is image (at + 2 + 2) (with_overflow (difference_overflows (register v r) (register v q)) v) (processor_step (processor_step p))
+  compare_passes {image} {at} {v} {p} c r q by lr lq fails h j s =
+      let w = with_overflow (difference_overflows (register v r) (register v q)) v in
+      let e : (at % 65536 + 4) % 65536 ≡ (at + 2 + 2) % 65536 = omega arith in
+      record {
+        sees =
+            subst (λ n. Sees image (with_place n w) (processor_step (processor_step p))) e
+            (rows.compare_passes image (placed at v) c r q by p (has (compare_of r q) (omega arith) h s) (behind_compare c by j s) lr lq fails s.sees);
+      }
+
   pub jump_to : {image : List ℕ} {at : ℕ} {v : View} {p : Processor} (r to : ℕ) → register v r ≡ to % 65536 → Has image at (i86.JumpRm (rms.Reg r)) → Is image at v p → Is image to v (processor_step p)
   jump_to {image} {at} {v} {p} r to e h s =
       let i = i86.JumpRm (rms.Reg r) in
@@ -203,6 +240,15 @@ module _ (rows : Rows) where
   more {p = p} {n = n} s e s' on =
       let l = on (processor_step p) s' in
       record { reached = l.reached; path = next (shows s e) refl (let c : suc n ≡ 1 + n = omega arith in c) l.path; there = l.there }
+
+  -- a comparison with the conditional jump behind it, and the way on
+  pub compared : {image : List ℕ} {at : ℕ} {v : View} {p : Processor} {output : List ℕ} {n : ℕ} {Target : Processor → Type 0} (r q : ℕ)
+      → v.told.output ≡ output → Has image at (compare_of r q) → Is image at v p → Leads output n (processor_step (processor_step p)) Target → Leads output (suc (suc n)) p Target
+  compared {v = v} {p = p} {n = n} r q e h s l =
+      let t = compare r q h s in
+      let a : suc n ≡ 1 + n = omega arith in
+      let b : suc (suc n) ≡ 1 + suc n = omega arith in
+      record { reached = l.reached; path = next (shows s e) refl b (next (shows t e) refl a l.path); there = l.there }
 
   -- the last instruction
   pub last : {image : List ℕ} {at : ℕ} {v : View} {p : Processor} {output : List ℕ} {Target : Processor → Type 0} → Is image at v p → v.told.output ≡ output → Target (processor_step p) → Leads output 1 p Target

@@ -1,8 +1,10 @@
 pub mod Growing
 pub mod Filling
 pub mod Blank
+pub mod Sizes
 pub mod Standing
 pub mod Placement
+pub mod WordLaws
 pub mod Rows
 pub mod Chains
 pub mod Routines

@@ -1,7 +1,6 @@
 -- What the code of each order does.
-use Rattle.std.proofs.Common.{◌≡◌, ◌≢◌, ℕ, zero, suc, ◌+◌, ◌-◌, ◌*◌, ◌/◌, ◌%◌, ◌<◌, ◌≤◌, Bool, true, false, not, ℤ, pos, negsuc, ◌+ℤ◌, ◌-ℤ◌, neg_ℤ, List, [], ◌∷◌, ◌++◌, length, length-set, set, nat_lt, Option, Some, None, refl, sym, ap, ◌∙◌, subst, arith, lit<, lit≤}
-use Rattle.std.specs.Prelude.{nat_eq, slice_index_or, if◌then◌else◌}
-use Rattle.std.proofs.lemmas.Bool.Decides.{nat_tests}
+use Rattle.std.proofs.Common.{◌≡◌, ◌≢◌, ℕ, zero, suc, ◌+◌, ◌*◌, ◌%◌, ◌<◌, ◌≤◌, Bool, true, false, not, ℤ, pos, negsuc, ◌+ℤ◌, ◌-ℤ◌, neg_ℤ, List, [], ◌∷◌, ◌++◌, length, length-set, set, None, refl, sym, ap, ◌∙◌, subst, arith, lit<, lit≤}
+use Rattle.std.specs.Prelude.{nat_eq}
 use borrow.Author.Tests.{ltb-true, eqb-true, eqb-false}
 use Rattle.std.proofs.lemmas.Bool.{false≢true}
 use Rattle.std.specs.List.{All}
@@ -11,24 +10,27 @@ use Rattle.cw_track.proofs.Paths.{join}
 use Rattle.cw_run86.specs.Processor.{processor}
 use Rattle.cw_tmpl.specs.Showing.{shown_as}
 use Rattle.cw_order.specs.FittingWords.{OperandFits}
-use Rattle.cw_i86.specs.declared.instr.Instr.{Instr}
 use Rattle.cw_i86.specs.declared.instr.Instr.TheVariants as i86
 use Rattle.cw_i86.specs.declared.instr.Imm.TheVariants as imm
 use Rattle.cw_i86.specs.declared.instr.Rm.TheVariants as rms
 use Rattle.cw_run86.specs.Processor.{Processor, Told, processor_step}
-use Rattle.cw_run86.specs.Views.{Has, put_word, word_sum, word_difference, sum_overflows, difference_overflows}
+use Rattle.cw_run86.specs.Views.{Has, put_word, word_sum, word_difference, sum_overflows, difference_overflows, compare as compare_of, Comparison, condition_of, words_compare}
 use Rattle.cw_word.specs.FixedPoint.{FitsWord, fits_word}
-use Rattle.cw_word.specs.Word.{signed, unsigned}
-use Rattle.cw_unit.specs.Stop.{Overflow, Running, Stopped, Ended}
-use Rattle.cw_unit.specs.Words.{Operand, Word, Held, Words, Outcome, Changed, Refused, Impossible, with_operands, with_memory, put, put_if, put_value, through, is_below, word_at, byte_of}
-use Rattle.cw_unit.specs.Operation.{Constant, Fetch, Store, Add, Subtract, Negate, WriteByte, perform}
-use Rattle.cw_order.specs.OrderMachine.{OrderProgram, operand_words, unrefused}
+use Rattle.cw_word.specs.Word.{unsigned}
+use Rattle.cw_unit.specs.Stop.{Overflow, Stopped}
+use Rattle.cw_unit.specs.Words.{Operand, Word, Held, Words, Outcome, Changed, Refused, Impossible, with_memory, put, put_if, put_value, through, is_below, word_at, byte_of}
+use Rattle.cw_unit.specs.Operation.{Fetch, Store, Add, Subtract, Negate, WriteByte, perform, holds}
+use Rattle.cw_order.specs.declared.order.Comparator.{Comparator}
+use Rattle.cw_order.specs.OrderState.{operand_words}
+use Rattle.cw_order.specs.OrderChanges.{Way, Onward, ToMark, Nowhere, way_of_two, to_mark_if, comparison}
+use Rattle.cw_order.specs.OrderMachine.{unrefused}
 use Rattle.cw_tmpl.specs.Mnemonics.{at_bx, slot, line_slot}
+use Rattle.cw_tmpl.specs.Templates.{opposite_of}
 use Rattle.cw_tmpl.proofs.Standing.{HasAll}
 use Rattle.cw_tmpl.proofs.Rows.{Rows}
-use Rattle.cw_tmpl.proofs.Chains.{Is, Leads, view, seen, to_place, number, push, pop, load, store, set_slot, add, subtract, negate, double, no_overflow, passes, out, more, last, done}
-use Rattle.cw_tmpl.proofs.Routines.{LibraryStands, Stacked, Over, stops, put_at, put_off, leads_on, with_ax}
-use Rattle.cw_tmpl.proofs.Numbers.{sum_overflows_is, difference_overflows_is, negative_overflows_is, sum_is, difference_is, negative_is, fits_tested, unsigned_pos}
+use Rattle.cw_tmpl.proofs.Chains.{Is, Leads, view, seen, to_place, number, push, pop, load, store, set_slot, add, subtract, negate, double, no_overflow, passes, near, compared, compare_jumps, compare_passes, out, more, last, done}
+use Rattle.cw_tmpl.proofs.Routines.{LibraryStands, Stacked, Over, stops, put_at, put_off, with_ax}
+use Rattle.cw_tmpl.proofs.Numbers.{sum_overflows_is, difference_overflows_is, negative_overflows_is, sum_is, difference_is, negative_is, opposite_is, fits_tested, unsigned_pos}
 
 -- ---- operands on the stack
 
@@ -175,6 +177,12 @@ with_overflow : {image : List ℕ} {at ax bx cx dx sp bp si di : ℕ} {o o' : Bo
     → Is image at (view ax cx dx bx sp bp si di o cells stack input told) p → Is image at (view ax cx dx bx sp bp si di o' cells stack input told) p
 with_overflow {image} {at} {ax} {bx} {cx} {dx} {sp} {bp} {si} {di} {o} {o'} {cells} {stack} {input} {told} {p} e s =
     subst (λ b. Is image at (view ax cx dx bx sp bp si di b cells stack input told) p) e s
+
+-- an order leads within so many instructions on its way: to the next order, or to where the code of a mark starts
+abbrev pub Chooses : (image : List ℕ) (area limit to : ℕ) (start : ℕ → ℕ) (g line : ℕ) (output : List ℕ) (p : Processor) → Way → Type 0
+Chooses image area limit to start g line output p (Onward v) = Leading output limit p (Landed image area to g line v)
+Chooses image area limit to start g line output p (ToMark m v) = Leading output limit p (Landed image area (start m) g line v)
+Chooses image area limit to start g line output p Nowhere = Unit {0}
 
 module _ (rows : Rows) (image : List ℕ) (area g line : ℕ) where
   -- an operand into AX, and one into BX
@@ -326,7 +334,7 @@ module _ (rows : Rows) (image : List ℕ) (area g line : ℕ) where
       more rows {to = at + 1 + 1} {w = view (unsigned x) s.cx s.dx (unsigned y) (2 * suc (suc l.top)) 65532 s.si s.di s.overflow l.cells l.stack l.input l.told} t k.wrote (pop_ax (suc l.top) x rest h i.1.0 t) (λ q t.
       more rows {to = at + 1 + 1 + 2} {w = view a s.cx s.dx (unsigned y) (2 * suc (suc l.top)) 65532 s.si s.di o l.cells l.stack l.input l.told} t k.wrote (add rows 0 3 i.1.1.0 t) (λ q t.
       done t))))
-      (λ q t. checks to (suc l.top) by (x +ℤ y) rest memory input output library few e' arrives (sum_overflows_is x y fx fy) (sum_is x y fx fy) h.1 k i.1.1.1 t)
+      (λ q t. checks to (suc l.top) by (x +ℤ y) rest memory input output library few e' arrives (sum_overflows_is rows.words x y fx fy) (sum_is rows.words x y fx fy) h.1 k i.1.1.1 t)
 
   pub subtracts : {p : Processor} {at : ℕ} (to by : ℕ) (operands : List Operand) (memory : List ℤ) (input output : List ℕ) → LibraryStands image → g < 255 → at + 10 ≡ to → (at + 1 + 1 + 2 + 2 + 3 + by) % 65536 ≡ 27 % 65536
       → All OperandFits operands → HasAll image at (i86.Pop 3 ∷ i86.Pop 0 ∷ i86.AluRm 5 true true 0 (rms.Reg 3) ∷ i86.JumpIf 1 3 ∷ i86.Call by ∷ i86.Push 0 ∷ [])
@@ -349,7 +357,7 @@ module _ (rows : Rows) (image : List ℕ) (area g line : ℕ) where
       more rows {to = at + 1 + 1} {w = view (unsigned x) s.cx s.dx (unsigned y) (2 * suc (suc l.top)) 65532 s.si s.di s.overflow l.cells l.stack l.input l.told} t k.wrote (pop_ax (suc l.top) x rest h i.1.0 t) (λ q t.
       more rows {to = at + 1 + 1 + 2} {w = view a s.cx s.dx (unsigned y) (2 * suc (suc l.top)) 65532 s.si s.di o l.cells l.stack l.input l.told} t k.wrote (subtract rows 0 3 i.1.1.0 t) (λ q t.
       done t))))
-      (λ q t. checks to (suc l.top) by (x -ℤ y) rest memory input output library few e' arrives (difference_overflows_is x y fx fy) (difference_is x y fx fy) h.1 k i.1.1.1 t)
+      (λ q t. checks to (suc l.top) by (x -ℤ y) rest memory input output library few e' arrives (difference_overflows_is rows.words x y fx fy) (difference_is rows.words x y fx fy) h.1 k i.1.1.1 t)
 
   pub negates : {p : Processor} {at : ℕ} (to by : ℕ) (operands : List Operand) (memory : List ℤ) (input output : List ℕ) → LibraryStands image → g < 255 → at + 9 ≡ to → (at + 1 + 2 + 2 + 3 + by) % 65536 ≡ 27 % 65536
       → All OperandFits operands → HasAll image at (i86.Pop 0 ∷ i86.Unary 3 true (rms.Reg 0) ∷ i86.JumpIf 1 3 ∷ i86.Call by ∷ i86.Push 0 ∷ [])
@@ -369,7 +377,7 @@ module _ (rows : Rows) (image : List ℕ) (area g line : ℕ) where
       (more rows {to = at + 1} {w = view (unsigned x) s.cx s.dx s.bx (2 * suc l.top) 65532 s.si s.di s.overflow l.cells l.stack l.input l.told} s.is k.wrote (pop_ax l.top x rest l.operands i.0 s.is) (λ q t.
       more rows {to = at + 1 + 2} {w = view a s.cx s.dx s.bx (2 * suc l.top) 65532 s.si s.di o l.cells l.stack l.input l.told} t k.wrote (negate rows 0 i.1.0 t) (λ q t.
       done t)))
-      (λ q t. checks to l.top by (neg_ℤ x) rest memory input output library few e' arrives (negative_overflows_is x fx) (negative_is x fx) h k i.1.1 t)
+      (λ q t. checks to l.top by (neg_ℤ x) rest memory input output library few e' arrives (negative_overflows_is rows.words x fx) (negative_is rows.words x fx) h k i.1.1 t)
 
   -- ---- words of the data area
 
@@ -436,3 +444,68 @@ module _ (rows : Rows) (image : List ℕ) (area g line : ℕ) where
   stores to (Word a ∷ []) memory input output low e i l = tt
   stores to (Word a ∷ Held c ∷ rest) memory input output low e i l = tt
   stores to (Word a ∷ Word z ∷ rest) memory input output low e i l = stores_word to a (is_below a area) z rest memory input output low refl e i l
+
+  -- ---- jumps
+
+  pub jumps : {p : Processor} {at : ℕ} (to by : ℕ) (w : Words) → (at + 3 + by) % 65536 ≡ to % 65536 → Has image at (i86.Jump by) → Landed image area at g line w p
+      → Leading w.output 1 p (Landed image area to g line w)
+  jumps {p} {at} to by w arrives i l =
+      let s = l.stacked in
+      further 1 (lit≤ tt) (lit< tt) (last rows s.is l.kept.wrote (landed to l.top w.operands w.memory w.input w.output refl l.operands l.kept (to_place arrives (near rows by i s.is))))
+
+  -- the two operands are compared, and the jump is passed over
+  pub goes_past : {p : Processor} {at : ℕ} (c : Comparison) (to by : ℕ) (x y : ℤ) (rest : List Operand) (memory : List ℤ) (input output : List ℕ) → at + 9 ≡ to → FitsWord x → FitsWord y
+      → words_compare c (unsigned x) (unsigned y) ≡ true → HasAll image at (i86.Pop 3 ∷ i86.Pop 0 ∷ compare_of 0 3 ∷ i86.JumpIf (condition_of c) 3 ∷ i86.Jump by ∷ [])
+      → Landed image area at g line (record { operands = Word y ∷ Word x ∷ rest; memory = memory; input = input; output = output }) p
+      → Leading output 5 p (Landed image area to g line (record { operands = rest; memory = memory; input = input; output = output }))
+  goes_past {p} {at} c to by x y rest memory input output e fx fy holds i l =
+      let s = l.stacked in
+      let k = l.kept in
+      let h = l.operands.1 in
+      let o = difference_overflows (unsigned x) (unsigned y) in
+      let e' : at + 1 + 1 + 2 + 2 + 3 ≡ to = omega arith in
+      further 4 (lit≤ tt) (lit< tt)
+      (more rows {to = at + 1} {w = view s.ax s.cx s.dx (unsigned y) (2 * suc l.top) 65532 s.si s.di s.overflow l.cells l.stack l.input l.told} s.is k.wrote (pop_bx l.top y (Word x ∷ rest) l.operands i.0 s.is) (λ q t.
+      more rows {to = at + 1 + 1} {w = view (unsigned x) s.cx s.dx (unsigned y) (2 * suc (suc l.top)) 65532 s.si s.di s.overflow l.cells l.stack l.input l.told} t k.wrote (pop_ax (suc l.top) x rest h i.1.0 t) (λ q t.
+      compared rows {v = view (unsigned x) s.cx s.dx (unsigned y) (2 * suc (suc l.top)) 65532 s.si s.di s.overflow l.cells l.stack l.input l.told} 0 3 k.wrote i.1.1.0 t
+      (done (landed to (suc (suc l.top)) rest memory input output e' h.1 k
+      (compare_jumps rows c 0 3 3 (rows.words.unsigned_fits x fx) (rows.words.unsigned_fits y fy) holds i.1.1.0 i.1.1.1.0 t))))))
+
+  -- the two operands are compared, and the jump is taken
+  pub goes_to : {p : Processor} {at : ℕ} (c : Comparison) (to by : ℕ) (x y : ℤ) (rest : List Operand) (memory : List ℤ) (input output : List ℕ) → (at + 9 + by) % 65536 ≡ to % 65536 → FitsWord x → FitsWord y
+      → words_compare c (unsigned x) (unsigned y) ≡ false → HasAll image at (i86.Pop 3 ∷ i86.Pop 0 ∷ compare_of 0 3 ∷ i86.JumpIf (condition_of c) 3 ∷ i86.Jump by ∷ [])
+      → Landed image area at g line (record { operands = Word y ∷ Word x ∷ rest; memory = memory; input = input; output = output }) p
+      → Leading output 5 p (Landed image area to g line (record { operands = rest; memory = memory; input = input; output = output }))
+  goes_to {p} {at} c to by x y rest memory input output arrives fx fy fails i l =
+      let s = l.stacked in
+      let k = l.kept in
+      let h = l.operands.1 in
+      let o = difference_overflows (unsigned x) (unsigned y) in
+      let v = view (unsigned x) s.cx s.dx (unsigned y) (2 * suc (suc l.top)) 65532 s.si s.di s.overflow l.cells l.stack l.input l.told in
+      let e' : (at + 1 + 1 + 2 + 2 + 3 + by) % 65536 ≡ to % 65536 = omega arith in
+      further 5 (lit≤ tt) (lit< tt)
+      (more rows {to = at + 1} {w = view s.ax s.cx s.dx (unsigned y) (2 * suc l.top) 65532 s.si s.di s.overflow l.cells l.stack l.input l.told} s.is k.wrote (pop_bx l.top y (Word x ∷ rest) l.operands i.0 s.is) (λ q t.
+      more rows {to = at + 1 + 1} {w = v} t k.wrote (pop_ax (suc l.top) x rest h i.1.0 t) (λ q t.
+      compared rows {v = v} 0 3 k.wrote i.1.1.0 t
+      (let u = compare_passes rows c 0 3 3 (rows.words.unsigned_fits x fx) (rows.words.unsigned_fits y fy) fails i.1.1.0 i.1.1.1.0 t in
+      last rows u k.wrote (landed to (suc (suc l.top)) rest memory input output refl h.1 k (to_place e' (near rows by i.1.1.1.1.0 u)))))))
+
+  pub chooses : {p : Processor} {at : ℕ} (to by : ℕ) (start : ℕ → ℕ) (c : Comparator) (m : ℕ) (operands : List Operand) (memory : List ℤ) (input output : List ℕ) → at + 9 ≡ to → (at + 9 + by) % 65536 ≡ start m % 65536
+      → All OperandFits operands → HasAll image at (i86.Pop 3 ∷ i86.Pop 0 ∷ compare_of 0 3 ∷ i86.JumpIf (condition_of (opposite_of c)) 3 ∷ i86.Jump by ∷ [])
+      → Landed image area at g line (record { operands = operands; memory = memory; input = input; output = output }) p
+      → Chooses image area 5 to start g line output p (way_of_two (λ x y v. to_mark_if (holds (comparison c) x y) m v) (record { operands = operands; memory = memory; input = input; output = output }))
+  chooses to by start c m [] memory input output e arrives fits i l = tt
+  chooses to by start c m (Held d ∷ rest) memory input output e arrives fits i l = tt
+  chooses to by start c m (Word y ∷ []) memory input output e arrives fits i l = tt
+  chooses to by start c m (Word y ∷ Held d ∷ rest) memory input output e arrives fits i l = tt
+  chooses {p} {at} to by start c m (Word y ∷ Word x ∷ rest) memory input output e arrives fits i l = cases (holds (comparison c) x y) refl
+    where
+      fy : FitsWord y
+      fy = All-head OperandFits (Word y) (Word x ∷ rest) fits
+
+      fx : FitsWord x
+      fx = All-head OperandFits (Word x) rest (All-tail OperandFits (Word y) (Word x ∷ rest) fits)
+
+      cases : (b : Bool) → holds (comparison c) x y ≡ b → Chooses image area 5 to start g line output p (to_mark_if b m (record { operands = rest; memory = memory; input = input; output = output }))
+      cases true b = goes_to (opposite_of c) (start m) by x y rest memory input output arrives fx fy (opposite_is rows.words x y fx fy c ∙ ap not b) i l
+      cases false b = goes_past (opposite_of c) to by x y rest memory input output e fx fy (opposite_is rows.words x y fx fy c ∙ ap not b) i l

@@ -4,12 +4,13 @@ use Rattle.std.specs.Prelude.{slice_get, slice_index, slice_index_or}
 use Rattle.std.proofs.lemmas.List.{get_or_append_left, get_or-append-add}
 use Rattle.cw_i86.specs.Encoding.{bytes_of, IsInstr}
 use Rattle.cw_i86.specs.declared.instr.Instr.{Instr}
-use Rattle.cw_i86.specs.declared.instr.Instr.TheVariants as i86
-use Rattle.cw_run86.specs.Views.{Has}
+use Rattle.cw_run86.specs.Views.{Has, condition_of}
+use Rattle.cw_order.specs.declared.order.Comparator.{Comparator}
+use Rattle.cw_order.specs.declared.order.Comparator.TheVariants as comparator
 use Rattle.cw_order.specs.declared.order.Order.{Order}
 use Rattle.cw_order.specs.declared.order.Order.TheVariants as order
 use Rattle.cw_order.specs.declared.order.Orders.{Orders}
-use Rattle.cw_order.specs.OrderMachine.{OrderProgram, order_in}
+use Rattle.cw_order.specs.OrderProgram.{OrderProgram, order_in}
 use Rattle.cw_tmpl.specs.declared.pieces.Limit.TheVariants as limit
 use Rattle.cw_tmpl.specs.declared.pieces.Target.{Target}
 use Rattle.cw_tmpl.specs.declared.pieces.Target.TheVariants as target
@@ -18,12 +19,13 @@ use Rattle.cw_tmpl.specs.declared.pieces.Coded.TheVariants as coded
 use Rattle.cw_tmpl.specs.Pieces.{Filling, bytes_with, size_of, target_of, blanks, relocation_of, word_of, word_before, filled}
 use Rattle.cw_tmpl.specs.Mnemonics.{set_word, add, subtract, negate, bytes_of_all}
 use Rattle.cw_tmpl.specs.Library.{start_routine, stop_routine, stop_end, routines, joined, past, library_bytes, entry_place}
-use Rattle.cw_tmpl.specs.Templates.{template, checked, on_two, entry_pieces}
-use Rattle.cw_tmpl.specs.ReferenceCode.{templates, pieces_of, entry_size}
+use Rattle.cw_tmpl.specs.Templates.{template, checked, on_two, distance, opposite_of, entry_pieces, order_size}
+use Rattle.cw_tmpl.specs.ReferenceCode.{templates, pieces_of, entry_size, mark_starts}
 use Rattle.cw_tmpl.specs.Placing.{Fills, place_after, AreCodes, no_code, a_code, IsImage, Codable}
 use Rattle.cw_tmpl.proofs.Growing.{blanks-append}
 use Rattle.cw_tmpl.proofs.Filling.{filled-append, length-filled}
-use Rattle.cw_tmpl.proofs.Standing.{HasAll, instruction, instructions, order_place, Stands, AllStand}
+use Rattle.cw_tmpl.proofs.Sizes.{list_size, size_of_templates, own_place}
+use Rattle.cw_tmpl.proofs.Standing.{HasAll, instruction, instructions, order_place, pieces_at, Stands, AllStand}
 
 -- ---- instructions one after another
 
@@ -149,6 +151,17 @@ bx_free = (is_bx, λ e. omega arith)
 below : (w n : ℕ) → w ≡ n % 65536 → w < 65536
 below w n e = omega arith
 
+distance_small : (from to : ℕ) → distance from to < 65536
+distance_small from to = omega arith
+
+condition_small : (c : Comparator) → condition_of (opposite_of c) < 16
+condition_small comparator.Less = lit< tt
+condition_small comparator.LessEqual = lit< tt
+condition_small comparator.Equal = lit< tt
+condition_small comparator.GreaterEqual = lit< tt
+condition_small comparator.Greater = lit< tt
+condition_small comparator.Unequal = lit< tt
+
 module _ (p : OrderProgram) (segment next : ℕ) (value : Filling) (fills : Fills p segment next value) (near : next < 65536) where
   home_filled : (family offset : ℕ) → IsFilled value (target.Word family offset)
   home_filled family offset after = below (value 1 family offset after) (slice_index (slice_index_or p.addresses.homes segment []) family + offset) (fills.homes family offset after)
@@ -173,36 +186,46 @@ module _ (p : OrderProgram) (segment next : ℕ) (value : Filling) (fills : Fill
   on_two_fine : (i : Instr) → IsInstr i → AllFine value (on_two i)
   on_two_fine i instr = (bx_free, (ax_free, checked_fine i instr))
 
-  pub template_fine : (o : Order) → OrderFits o → AllFine value (template o)
-  template_fine (order.Const w) fits = ((is_ax, fits), (ax_free, tt))
-  template_fine (order.Home family offset) fits = ((is_ax, home_filled family offset), (ax_free, tt))
-  template_fine order.Load fits = (bx_free, ((lit< tt, λ e. omega arith, is_bx), ((is_ax, (lit< tt, λ e. omega arith)), (ax_free, tt))))
-  template_fine order.Store fits = (bx_free, (ax_free, ((lit< tt, λ e. omega arith, is_bx), ((is_ax, (lit< tt, λ e. omega arith)), tt))))
-  template_fine order.Add fits = on_two_fine (add 0 3) (lit< tt, is_ax, is_bx)
-  template_fine order.Sub fits = on_two_fine (subtract 0 3) (lit< tt, is_ax, is_bx)
-  template_fine order.Neg fits = (ax_free, checked_fine (negate 0) (lit< tt, lit< tt, is_ax))
-  template_fine order.WriteByte fits = (ax_free, (lit< tt, tt))
-  template_fine (order.Line n) fits = (((lit< tt, lit< tt), fits), tt)
-  template_fine order.NextBody fits = ((is_ax, next_filled), (is_ax, tt))
-  template_fine _ fits = tt
+  pub template_fine : (starts : ℕ → ℕ) (place : ℕ) (o : Order) → OrderFits o → AllFine value (template starts place o)
+  template_fine starts place (order.Const w) fits = ((is_ax, fits), (ax_free, tt))
+  template_fine starts place (order.Home family offset) fits = ((is_ax, home_filled family offset), (ax_free, tt))
+  template_fine starts place order.Load fits = (bx_free, ((lit< tt, λ e. omega arith, is_bx), ((is_ax, (lit< tt, λ e. omega arith)), (ax_free, tt))))
+  template_fine starts place order.Store fits = (bx_free, (ax_free, ((lit< tt, λ e. omega arith, is_bx), ((is_ax, (lit< tt, λ e. omega arith)), tt))))
+  template_fine starts place order.Add fits = on_two_fine (add 0 3) (lit< tt, is_ax, is_bx)
+  template_fine starts place order.Sub fits = on_two_fine (subtract 0 3) (lit< tt, is_ax, is_bx)
+  template_fine starts place order.Neg fits = (ax_free, checked_fine (negate 0) (lit< tt, lit< tt, is_ax))
+  template_fine starts place order.WriteByte fits = (ax_free, (lit< tt, tt))
+  template_fine starts place (order.Line n) fits = (((lit< tt, lit< tt), fits), tt)
+  template_fine starts place order.NextBody fits = ((is_ax, next_filled), (is_ax, tt))
+  template_fine starts place (order.Jump mark) fits = (distance_small (place + 3) (starts mark), tt)
+  template_fine starts place (order.JumpIf c mark) fits =
+      (bx_free, (ax_free, ((lit< tt, is_ax, is_bx), ((condition_small c, lit< tt), (distance_small (place + 9) (starts mark), tt)))))
+  template_fine starts place _ fits = tt
 
 -- ---- one segment
 
 -- the code of the order at a place, in the middle of that of the others
-record InMiddle (list : List Order) (k : ℕ) (o : Order) : Type 0 where
+record InMiddle (starts : ℕ → ℕ) (at : ℕ) (list : List Order) (k : ℕ) (o : Order) : Type 0 where
   rest : List Coded
-  is : templates list ≡ templates (take k list) ++ (template o ++ rest)
+  is : templates starts at list ≡ templates starts at (take k list) ++ (template starts (at + list_size (take k list)) o ++ rest)
 
-in_middle : (list : List Order) (k : ℕ) (o : Order) → slice_get list k ≡ Some o → InMiddle list k o
-in_middle [] k o e = absurd (cc)
-in_middle (x ∷ xs) zero o e =
+in_middle : (starts : ℕ → ℕ) (at : ℕ) (list : List Order) (k : ℕ) (o : Order) → slice_get list k ≡ Some o → InMiddle starts at list k o
+in_middle starts at [] k o e = absurd (cc)
+in_middle starts at (x ∷ xs) zero o e =
     let same : x ≡ o = cc in
-    record { rest = templates xs; is = ap (λ y. template y ++ templates xs) same }
-in_middle (x ∷ xs) (suc k) o e =
-    let m = in_middle xs k o e in
+    let rest = templates starts (at + order_size x) xs in
+    let here : at ≡ at + 0 = omega arith in
+    record { rest = rest; is = ap (λ y. template starts at y ++ rest) same ∙ ap (λ n. template starts n o ++ rest) here }
+in_middle starts at (x ∷ xs) (suc k) o e =
+    let next = at + order_size x in
+    let m = in_middle starts next xs k o e in
+    let X = template starts at x in
+    let first = templates starts next (take k xs) in
+    let there : next + list_size (take k xs) ≡ at + (order_size x + list_size (take k xs)) = omega arith in
     record {
       rest = m.rest;
-      is = ap (λ l. template x ++ l) m.is ∙ sym (append_assoc (template x) (templates (take k xs)) (template o ++ m.rest));
+      is = ap (λ l. X ++ l) m.is ∙ sym (append_assoc X first (template starts (next + list_size (take k xs)) o ++ m.rest))
+          ∙ ap (λ n. (X ++ first) ++ (template starts n o ++ m.rest)) there;
     }
 
 regroup : (a b c d e f : List ℕ) → a ++ (b ++ ((c ++ (d ++ e)) ++ f)) ≡ (a ++ (b ++ c)) ++ (d ++ (e ++ f))
@@ -210,30 +233,36 @@ regroup a b c d e f = simp append_assoc
 
 module _ (p : OrderProgram) (image before behind : List ℕ) (g base next : ℕ) (value : Filling) (o : Orders) (fills : Fills p g next value) (near : next < 65536) where
   module _ (fits : (k : ℕ) (order : Order) → slice_get o.list k ≡ Some order → OrderFits order) (at : base ≡ length before) (whole : image ≡ before ++ (filled value base (pieces_of o) ++ behind)) where
-    cut : image ≡ before ++ (filled value base entry_pieces ++ (filled value (base + entry_size) (templates o.list) ++ behind))
+    abbrev codes : List Coded
+    codes = templates (mark_starts o) entry_size o.list
+
+    cut : image ≡ before ++ (filled value base entry_pieces ++ (filled value (base + entry_size) codes ++ behind))
     cut =
         let E = filled value base entry_pieces in
-        let T = filled value (base + entry_size) (templates o.list) in
-        whole ∙ ap (λ l. before ++ (l ++ behind)) (filled-append value base entry_pieces (templates o.list)) ∙ ap (λ l. before ++ l) (append_assoc E T behind)
+        let T = filled value (base + entry_size) codes in
+        whole ∙ ap (λ l. before ++ (l ++ behind)) (filled-append value base entry_pieces codes) ∙ ap (λ l. before ++ l) (append_assoc E T behind)
 
     entry_there : HasAll image base (instructions value base entry_pieces)
-    entry_there = pieces_there image before (filled value (base + entry_size) (templates o.list) ++ behind) base value entry_pieces (entry_fine p g next value fills near) at cut
+    entry_there = pieces_there image before (filled value (base + entry_size) codes ++ behind) base value entry_pieces (entry_fine p g next value fills near) at cut
 
-    order_there : (k : ℕ) (order : Order) → slice_get o.list k ≡ Some order → HasAll image (order_place base o.list k) (instructions value (order_place base o.list k) (template order))
+    order_there : (k : ℕ) (order : Order) → slice_get o.list k ≡ Some order → HasAll image (order_place base o.list k) (instructions value (order_place base o.list k) (pieces_at o k order))
     order_there k order e =
-        let m = in_middle o.list k order e in
-        let first = templates (take k o.list) in
+        let m = in_middle (mark_starts o) entry_size o.list k order e in
+        let first = templates (mark_starts o) entry_size (take k o.list) in
+        let X = pieces_at o k order in
         let c = base + entry_size in
         let place = order_place base o.list k in
         let E = filled value base entry_pieces in
         let F = filled value c first in
-        let O = filled value place (template order) in
-        let R = filled value (place + length (blanks (template order))) m.rest in
-        let code : filled value c (templates o.list) ≡ F ++ (O ++ R) =
-        ap (filled value c) m.is ∙ filled-append value c first (template order ++ m.rest) ∙ ap (λ l. F ++ l) (filled-append value place (template order) m.rest) in
+        let O = filled value place X in
+        let R = filled value (place + length (blanks X)) m.rest in
+        let size = size_of_templates (mark_starts o) entry_size (take k o.list) in
+        let far : c + length (blanks first) ≡ place = omega arith in
+        let code : filled value c codes ≡ F ++ (O ++ R) =
+        ap (filled value c) m.is ∙ filled-append value c first (X ++ m.rest) ∙ ap (λ n. F ++ filled value n (X ++ m.rest)) far ∙ ap (λ l. F ++ l) (filled-append value place X m.rest) in
         let there : image ≡ (before ++ (E ++ F)) ++ (O ++ (R ++ behind)) = cut ∙ ap (λ l. before ++ (E ++ (l ++ behind))) code ∙ regroup before E F O R behind in
-        let long : place ≡ length (before ++ (E ++ F)) = omega (arith, length-append before (E ++ F), length-append E F, length-filled value base entry_pieces, length-filled value c first) in
-        pieces_there image (before ++ (E ++ F)) (R ++ behind) place value (template order) (template_fine p g next value fills near order (fits k order e)) long there
+        let long : place ≡ length (before ++ (E ++ F)) = omega (arith, far, length-append before (E ++ F), length-append E F, length-filled value base entry_pieces, length-filled value c first) in
+        pieces_there image (before ++ (E ++ F)) (R ++ behind) place value X (template_fine p g next value fills near (mark_starts o) (own_place o.list k) order (fits k order e)) long there
 
     abbrev stands_here : Stands p image g base o
     stands_here = record { value = value; next_place = next; fills = fills; entry = entry_there; orders = order_there }
@@ -258,7 +287,7 @@ moved p image o g g' base base' next next' e f h found =
 way_near : {p : OrderProgram} {segment place : ℕ} {os : List Orders} {codes : List ℕ} → AreCodes p segment place os codes → place + length codes ≤ 65536 → place_after os place < 65536
 way_near no_code le = lit< tt
 way_near {place = place} (a_code {o = o} {codes = codes} value fills more) le =
-    omega (arith, length-append (filled value place (pieces_of o)) codes, length-filled value place (pieces_of o), length-append (blanks entry_pieces) (blanks (templates o.list)), ap length (blanks-append entry_pieces (templates o.list)))
+    omega (arith, length-append (filled value place (pieces_of o)) codes, length-filled value place (pieces_of o), length-append (blanks entry_pieces) (blanks (templates (mark_starts o) entry_size o.list)), ap length (blanks-append entry_pieces (templates (mark_starts o) entry_size o.list)))
 
 found : {p : OrderProgram} {image : List ℕ} {segment place : ℕ} {os : List Orders} {codes : List ℕ} → AreCodes p segment place os codes
     → (before : List ℕ) → place ≡ length before → image ≡ before ++ codes → length image ≤ 65536
@@ -272,7 +301,7 @@ found {p = p} {image = image} {segment = segment} {place = place} (a_code {o = x
     let same : x ≡ o = cc in
     let within : place + size + length codes ≤ 65536 = omega (arith, ap length e, length-append before (C ++ codes), length-append C codes, length-filled value place (pieces_of x)) in
     let here : Found p image x segment place (place_after os (place + size)) =
-    record { stands = stands_here p image before codes segment place (place_after os (place + size)) value x fills (way_near more within) (λ k order. fits 0 k x order refl) at e; way = refl } in
+    record { stands = stands_here p image before codes segment place (place_after os (place + size)) value x fills (way_near more within) (λ k order. fits 0 k x order refl) at e; way = refl {a = place_after os (place + size)} } in
     let end : place + size ≡ place + (size + 0) = omega arith in
     subst (λ (y : Orders). Found p image y (segment + 0) (place + 0) (place_after os (place + (size + 0)))) same
     (moved p image x segment (segment + 0) place (place + 0) (place_after os (place + size)) (place_after os (place + (size + 0))) (omega arith) (omega arith) (ap (place_after os) end) here)
@@ -334,8 +363,8 @@ library_instrs = (
 
 -- the order at a place has numbers that fit
 order_fits : (p : OrderProgram) → Codable p → (g k : ℕ) (o : Orders) (order : Order) → slice_get p.units g ≡ Some o → slice_get o.list k ≡ Some order → OrderFits order
-order_fits p codable g k o (order.Const w) is e = codable.constants g k w (ap (λ u. order_in p u k) is ∙ e)
-order_fits p codable g k o (order.Line n) is e = codable.lines g k n (ap (λ u. order_in p u k) is ∙ e)
+order_fits p codable g k o (order.Const w) is e = codable.constants g k w (ap (λ u. order_in u k) is ∙ e)
+order_fits p codable g k o (order.Line n) is e = codable.lines g k n (ap (λ u. order_in u k) is ∙ e)
 order_fits p codable g k o _ is e = tt
 
 way_last : (os : List Orders) (n end : ℕ) → slice_get os n ≡ None → place_after (drop n os) end ≡ entry_place 0

@@ -1,25 +1,22 @@
 -- The routines of the library: the base record of a segment, and the stops.
-use Rattle.std.proofs.Common.{◌≡◌, ◌≢◌, ℕ, suc, ◌+◌, ◌-◌, ◌*◌, ◌/◌, ◌%◌, ◌<◌, ◌≤◌, Bool, true, false, List, [], ◌∷◌, ◌++◌, length, refl, sym, ap, ◌∙◌, subst, arith, lit<}
-use Rattle.std.specs.Prelude.{nat_eq, if◌then◌else◌}
+use Rattle.std.proofs.Common.{◌≡◌, ◌≢◌, ℕ, suc, ◌+◌, ◌-◌, ◌*◌, ◌/◌, ◌%◌, ◌<◌, Bool, List, [], ◌∷◌, ◌++◌, refl, ap, ◌∙◌, subst, arith, lit<}
 use Rattle.std.proofs.lemmas.List.{append-nil}
 use Rattle.std.proofs.lemmas.Bool.Decides.{nat_tests}
-use Rattle.cw_i86.specs.declared.instr.Instr.{Instr}
 use Rattle.cw_i86.specs.declared.instr.Instr.TheVariants as i86
-use Rattle.cw_i86.specs.declared.instr.Imm.TheVariants as imm
 use Rattle.cw_i86.specs.MachineRun.{end_told}
-use Rattle.cw_run86.specs.Processor.{Processor, Told, processor, processor_step, observed, with_given}
-use Rattle.cw_run86.specs.Views.{View, Has, IsTop, register, put_word, word_difference, difference_overflows}
-use Rattle.cw_unit.specs.Stop.{Overflow, Running, Stopped, Ended}
+use Rattle.cw_run86.specs.Processor.{Processor, Told, processor_step, observed}
+use Rattle.cw_run86.specs.Views.{View, Has, put_word, word_difference, difference_overflows}
+use Rattle.cw_unit.specs.Stop.{Overflow, Stopped, Ended}
 use Rattle.cw_unit.specs.Behaviour.{Shown}
 use Rattle.cw_tmpl.specs.Showing.{shown_as}
-use Rattle.cw_tmpl.specs.Library.{routines, joined, stop_end, past, library_bytes, start_routine, stop_routine}
-use Rattle.cw_order.specs.OrderMachine.{OrderProgram}
+use Rattle.cw_tmpl.specs.Library.{routines, joined, stop_end, past, start_routine, stop_routine}
+use Rattle.cw_order.specs.OrderProgram.{OrderProgram}
 use Rattle.cw_tmpl.specs.Pieces.{Filling}
 use Rattle.cw_tmpl.specs.Templates.{entry_pieces}
 use Rattle.cw_tmpl.specs.Placing.{Fills}
 use Rattle.cw_tmpl.proofs.Standing.{HasAll, instructions}
 use Rattle.cw_tmpl.proofs.Rows.{Rows}
-use Rattle.cw_tmpl.proofs.Chains.{Is, Leads, view, placed, seen, number, low_byte, move, high_byte, push, pop, load_slot, subtract, short, jump_to, call, to_place, out, more, last, done, below}
+use Rattle.cw_tmpl.proofs.Chains.{Is, Leads, view, placed, number, low_byte, move, high_byte, push, pop, load_slot, subtract, short, jump_to, call, to_place, out, more, last}
 
 -- ---- where the routines stand
 

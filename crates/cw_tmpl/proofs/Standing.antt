@@ -1,5 +1,5 @@
 -- Instructions that stand one after another in an image, and where those of each order do.
-use Rattle.std.proofs.Common.{◌≡◌, ◌⊎◌, ℕ, suc, ◌+◌, List, [], ◌∷◌, ◌++◌, length, take, Option, Some, None}
+use Rattle.std.proofs.Common.{◌≡◌, ℕ, suc, ◌+◌, List, [], ◌∷◌, ◌++◌, length, Some, None}
 use Rattle.std.specs.Prelude.{slice_get}
 use Rattle.cw_i86.specs.Encoding.{bytes_of}
 use Rattle.cw_i86.specs.declared.instr.Instr.{Instr}
@@ -8,14 +8,15 @@ use Rattle.cw_i86.specs.declared.instr.Imm.TheVariants as imm
 use Rattle.cw_run86.specs.Views.{Has}
 use Rattle.cw_order.specs.declared.order.Order.{Order}
 use Rattle.cw_order.specs.declared.order.Orders.{Orders}
-use Rattle.cw_order.specs.OrderMachine.{OrderProgram}
+use Rattle.cw_order.specs.OrderProgram.{OrderProgram}
 use Rattle.cw_tmpl.specs.declared.pieces.Coded.{Coded}
 use Rattle.cw_tmpl.specs.declared.pieces.Coded.TheVariants as coded
-use Rattle.cw_tmpl.specs.Pieces.{Filling, size_of, target_of, word_before, blanks}
+use Rattle.cw_tmpl.specs.Pieces.{Filling, size_of, target_of, word_before}
 use Rattle.cw_tmpl.specs.Library.{routines, joined, stop_end, past, library_bytes, entry_place}
-use Rattle.cw_tmpl.specs.Templates.{template, entry_pieces, order_size}
-use Rattle.cw_tmpl.specs.ReferenceCode.{templates, entry_size}
+use Rattle.cw_tmpl.specs.Templates.{template, entry_pieces}
+use Rattle.cw_tmpl.specs.ReferenceCode.{mark_starts}
 use Rattle.cw_tmpl.specs.Placing.{Fills}
+use Rattle.cw_tmpl.proofs.Sizes.{own_place}
 
 -- these instructions stand in the code, one after another from a place
 abbrev pub HasAll : List ℕ → ℕ → List Instr → Type 0
@@ -35,9 +36,13 @@ abbrev pub instructions : Filling → ℕ → List Coded → List Instr
 instructions value at [] = []
 instructions value at (p ∷ ps) = instruction (word_before value (at + size_of p) (target_of p)) p ++ instructions value (at + size_of p) ps
 
--- where the code of the order at a place of the list begins
+-- where the code of the order at a place of the list begins in the image
 abbrev pub order_place : (base : ℕ) → List Order → (place : ℕ) → ℕ
-order_place base list k = base + entry_size + length (blanks (templates (take k list)))
+order_place base list k = base + own_place list k
+
+-- the code of the order at a place of the list
+abbrev pub pieces_at : Orders → (place : ℕ) → Order → List Coded
+pieces_at o k order = template (mark_starts o) (own_place o.list k) order
 
 -- a segment's code in an image: its base, its filled words, its entry, and each order's instructions
 pub record Stands (p : OrderProgram) (image : List ℕ) (g base : ℕ) (o : Orders) : Type 0 where
@@ -45,7 +50,7 @@ pub record Stands (p : OrderProgram) (image : List ℕ) (g base : ℕ) (o : Orde
   pub next_place : ℕ
   pub fills : Fills p g next_place value
   pub entry : HasAll image base (instructions value base entry_pieces)
-  pub orders : (k : ℕ) (order : Order) → slice_get o.list k ≡ Some order → HasAll image (order_place base o.list k) (instructions value (order_place base o.list k) (template order))
+  pub orders : (k : ℕ) (order : Order) → slice_get o.list k ≡ Some order → HasAll image (order_place base o.list k) (instructions value (order_place base o.list k) (pieces_at o k order))
 
 -- all segments' codes, and the library
 pub record AllStand (p : OrderProgram) (image : List ℕ) : Type 0 where

@@ -74,6 +74,9 @@ add to from = i86.AluRm 0 true true to (rms.Reg from)
 abbrev pub subtract : ℕ → ℕ → Instr
 subtract to from = i86.AluRm 5 true true to (rms.Reg from)
 
+abbrev pub compare : ℕ → ℕ → Instr
+compare left right = i86.AluRm 7 true true left (rms.Reg right)
+
 abbrev pub negate : ℕ → Instr
 negate reg = i86.Unary 3 true (rms.Reg reg)
 

@@ -4,7 +4,11 @@ use Rattle.cw_word.specs.Word.{signed}
 use Rattle.cw_track.specs.Machine.{shown_after}
 use Rattle.cw_unit.specs.Stop.{Stuck}
 use Rattle.cw_order.specs.declared.order.Orders.{Orders}
-use Rattle.cw_order.specs.OrderMachine.{OrderProgram, home_word, order_machine, order_start}
+use Rattle.cw_order.specs.declared.order.Order.{Order}
+use Rattle.cw_order.specs.OrderProgram.{OrderProgram, order_at}
+use Rattle.cw_order.specs.OrderActions.{home_word}
+use Rattle.cw_order.specs.OrderMachine.{order_machine, order_start}
+use Rattle.cw_order.specs.HasCode.{HasCode}
 use Rattle.cw_order.specs.FittingWords.{ConstantsFit, LinesFit}
 use Rattle.cw_tmpl.specs.Pieces.{Filling, blanks, filled}
 use Rattle.cw_tmpl.specs.Library.{routines, library_bytes, entry_place}
@@ -42,9 +46,10 @@ pub record IsImage (p : OrderProgram) (image : List ℕ) : Type 0 where
   pub fits : length image ≤ 65536
   pub few : length p.units ≤ 255
 
--- What templates need of the orders: their numbers are words, each body begins with the first order of its list, and the operands leave
+-- What templates need of the orders: each has code as yet, their numbers are words, each body begins with the first order of its list, and the operands leave
 -- room on the control stack.
 pub record Codable (p : OrderProgram) : Type 0 where
+  pub codes : (g place : ℕ) (o : Order) → order_at p g place ≡ Some o → HasCode o
   pub constants : ConstantsFit p
   pub lines : LinesFit p
   pub entries : (g : ℕ) (o : Orders) → slice_get p.units g ≡ Some o → o.entry ≡ 0

@@ -1,20 +1,21 @@
 //! From orders to code.
-ghost use Rattle.std.specs.Prelude.{◌≡◌, ℕ, ◌<◌, ◌≤◌, ◌++◌, ◌-◌, ◌∷◌, [], true, map, length, slice_index, IfOk, OnOk};
+ghost use Rattle.std.specs.Prelude.{◌≡◌, ℕ, ◌<◌, ◌≤◌, ◌++◌, ◌+◌, ◌-◌, ◌∷◌, [], true, map, length, slice_index, IfOk, OnOk};
 ghost use Rattle.cw_i86.specs.Encoding.{bytes_of, IsInstr};
+ghost use Rattle.cw_run86.specs.Views.{condition_of};
 ghost use Rattle.cw_tmpl.specs.Assembling.{Adds};
 ghost use Rattle.cw_tmpl.specs.Pieces.{relocation_of, IsCoded, AllCoded};
-ghost use Rattle.cw_tmpl.specs.Templates.{template, checked, on_two, entry_pieces, order_size};
-ghost use Rattle.cw_tmpl.specs.ReferenceCode.{order_places, orders_code};
+ghost use Rattle.cw_tmpl.specs.Templates.{template, checked, on_two, jump_near, jump_where, entry_pieces, order_size, distance, opposite_of};
+ghost use Rattle.cw_tmpl.specs.ReferenceCode.{order_places, start_of, orders_code};
 
 use crate::instructions::{
-    AT_BX, AX, BX, CX, DX, LINE, add, double, jump_if_no_overflow, load, negate, set_word, store,
-    subtract,
+    AT_BX, AX, BX, CX, DX, LINE, add, compare, double, jump_if_no_overflow, load, negate, set_word,
+    store, subtract,
 };
 use crate::library::{OVERFLOW, START};
 use crate::pieces::{Coded, Limit, Target};
 use cw_enc86::encode;
 use cw_i86::{Imm, Instr, Rm};
-use cw_order::{Order, Orders};
+use cw_order::{Comparator, Order, Orders};
 use cw_unit::layout::Reloc;
 use cw_word::{List, NoMemory};
 use std::alloc::Global;
@@ -60,6 +61,37 @@ fn relocation(place: u32, target: Target) -> Reloc
         index,
         add,
     }
+}
+
+/// How far it is from the end of an instruction to a place of the same code, modulo 65,536.
+fn distance(from: usize, to: u32) -> u16
+    ensures { result ≡ distance from to }
+{
+    let from = (from % 65_536) as u16;
+    let to = (to % 65_536) as u16;
+    to.wrapping_sub(from)
+}
+
+/// The number of the condition that holds where the comparison does not.
+fn opposite(comparator: Comparator) -> u8
+    ensures { result ≡ condition_of (opposite_of comparator) }
+{
+    match comparator {
+        Comparator::Less => 13,
+        Comparator::LessEqual => 15,
+        Comparator::Equal => 5,
+        Comparator::GreaterEqual => 12,
+        Comparator::Greater => 14,
+        Comparator::Unequal => 4,
+    }
+}
+
+/// Where the code of a mark starts.
+fn start_of(places: &[u32], marks: &[u32], mark: u32) -> u32
+    ensures { result ≡ start_of places.now marks.now mark }
+{
+    let order = marks.get(mark as usize).copied().unwrap_or(0);
+    places.get(order as usize).copied().unwrap_or(0)
 }
 
 impl Assembly {
@@ -179,9 +211,34 @@ impl Assembly {
         self.put_checked(operation)
     }
 
+    /// Adds a jump to the code of a mark.
+    fn put_jump(&mut self, start: u32) -> Result<(), NoMemory>
+        ensures { OnOk result (Adds self.old (jump_near (length self.old.bytes + 3) start ∷ []) self.new) }
+    {
+        let end = self.bytes.as_slice().len() + 3;
+        self.put_all(&[Coded::Whole(Instr::Jump(distance(end, start)))])
+    }
+
+    /// Adds a jump to the code of a mark where a comparison of the two operands on top holds.
+    fn put_jump_if(&mut self, comparator: Comparator, start: u32) -> Result<(), NoMemory>
+        ensures { OnOk result (Adds self.old (jump_where comparator (length self.old.bytes) start) self.new) }
+    {
+        let end = self.bytes.as_slice().len() + 9;
+        self.put_all(&[
+            Coded::Whole(Instr::Pop(BX)),
+            Coded::Whole(Instr::Pop(AX)),
+            Coded::Whole(compare(AX, BX)),
+            Coded::Whole(Instr::JumpIf {
+                cond: opposite(comparator),
+                by: 3,
+            }),
+            Coded::Whole(Instr::Jump(distance(end, start))),
+        ])
+    }
+
     /// Adds the code of an order.
-    fn put_order(&mut self, order: &Order) -> Result<(), NoMemory>
-        ensures { OnOk result (Adds self.old (template order.now) self.new) }
+    fn put_order(&mut self, order: &Order, places: &[u32], marks: &[u32]) -> Result<(), NoMemory>
+        ensures { OnOk result (Adds self.old (template (start_of places.now marks.now) (length self.old.bytes) order.now) self.new) }
     {
         match order {
             Order::Const(word) => self.put_all(&[
@@ -231,6 +288,10 @@ impl Assembly {
                 },
                 Coded::Whole(Instr::JumpRm(Rm::Reg(AX))),
             ]),
+            Order::Jump(mark) => self.put_jump(start_of(places, marks, *mark)),
+            Order::JumpIf { comparator, mark } => {
+                self.put_jump_if(*comparator, start_of(places, marks, *mark))
+            }
             _ => Ok(()),
         }
     }
@@ -247,6 +308,8 @@ fn order_size(order: &Order) -> u32
         Order::Neg => 9,
         Order::WriteByte => 3,
         Order::Line(_) | Order::NextBody => 5,
+        Order::Jump(_) => 3,
+        Order::JumpIf { .. } => 9,
         _ => 0,
     }
 }
@@ -292,7 +355,7 @@ pub fn assemble(alloc: Global, orders: &Orders) -> Result<Code, NoMemory>
     };
     code.put_entry()?;
     for order in list {
-        code.put_order(order)?;
+        code.put_order(order, places.as_slice(), orders.marks.as_slice())?;
     }
     Ok(Code {
         bytes: code.bytes,

@@ -84,6 +84,19 @@ pub fn subtract(to: u8, from: u8) -> Instr
     }
 }
 
+/// CMP of registers.
+pub fn compare(left: u8, right: u8) -> Instr
+    ensures { result ≡ mnemonics.compare left right }
+{
+    Instr::AluRm {
+        op: 7,
+        wide: true,
+        to_reg: true,
+        reg: left,
+        rm: Rm::Reg(right),
+    }
+}
+
 /// NEG of a register.
 pub fn negate(reg: u8) -> Instr
     ensures { result ≡ mnemonics.negate reg }

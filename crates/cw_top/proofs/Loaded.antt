@@ -25,7 +25,9 @@ use Rattle.cw_unit.specs.Configuration.{Configuration, at, Activation, words_of,
 use Rattle.cw_unit.specs.Behaviour.{configuration_after, observed}
 use Rattle.cw_safety.specs.WellFormed.{WellFormed}
 use Rattle.cw_safety.specs.Depth.{operands_held, depth_of_unit, depth_of_procedure, depth_at, depth_in}
-use Rattle.cw_order.specs.OrderMachine.{OrderProgram, operand_words, home_word}
+use Rattle.cw_order.specs.OrderProgram.{OrderProgram}
+use Rattle.cw_order.specs.OrderState.{operand_words}
+use Rattle.cw_order.specs.OrderActions.{home_word}
 use Rattle.cw_gen.specs.Built.{AllBuilt}
 use Rattle.cw_gen.specs.Following.{orders_for, orders_program, Suits}
 use Rattle.cw_tmpl.specs.declared.pieces.Coded.{Coded}
@@ -34,7 +36,7 @@ use Rattle.cw_tmpl.specs.Library.{routines, library_bytes, library_entry, entry_
 use Rattle.cw_tmpl.specs.ReferenceCode.{pieces_of, orders_code}
 use Rattle.cw_tmpl.specs.Placing.{Fills, AreCodes, no_code, a_code, IsImage, BeginsWith}
 use Rattle.cw_lex.specs.Lexical.{Lexeme}
-use Rattle.cw_form.specs.Segment.{unit_of}
+use Rattle.cw_form.specs.Grammar.{unit_of}
 use Rattle.cw_sim.specs.Preservation.{IsLoaded}
 use Rattle.cw_top.specs.ReferenceImage.{code_start, entry_or_zero, word_value, linked_code}
 use Rattle.cw_top.specs.Correct.{default_limits, addresses_of, image_of, Links}

@@ -16,7 +16,7 @@ use Rattle.cw_lex.specs.declared.token.LexFault.{LexFault}
 use Rattle.cw_lex.specs.Lexical.{Lexeme, first_place, Tokenizes, IsFirstFault, HasOneList, HasNotBoth}
 use Rattle.cw_macro.specs.declared.fault.MacroFault.{MacroFault}
 use Rattle.cw_macro.specs.Expansion.{Expands, FailsToExpand, HasOneOutcome}
-use Rattle.cw_form.specs.Segment.{unit_of}
+use Rattle.cw_form.specs.Grammar.{unit_of}
 use Rattle.cw_sim.specs.Preservation.{TellsEnd, IsLoaded, Preserves, Completes}
 use Rattle.cw_top.specs.Correct.{IsCommand, default_limits, text_limit, HasItems, HasExpanded, Compiles, Links, need_of, image_of, ImageShows, Tells, Outer, Ran, OutFailed, HasLexFault, HasMacroFault, IsNotBuilt, NeedsWords, NeedsBytes, Causes}
 use Rattle.cw_top.specs.Meaning.{program, IsMeant, AnyEnd, PreservesMeaning, NoFault, IsEnd, CompletesRuns}

@@ -17,7 +17,7 @@ use Rattle.cw_lex.specs.declared.token.LexFault.{LexFault}
 use Rattle.cw_lex.specs.Lexical.{Lexeme, first_place, Tokenizes, IsFirstFault}
 use Rattle.cw_macro.specs.declared.fault.MacroFault.{MacroFault}
 use Rattle.cw_macro.specs.Expansion.{Expands, FailsToExpand}
-use Rattle.cw_form.specs.Segment.{unit_of}
+use Rattle.cw_form.specs.Grammar.{unit_of}
 use Rattle.cw_top.specs.Closing.{closing_line}
 use Rattle.cw_top.specs.Listing.{listing}
 use Rattle.cw_top.specs.ReferenceImage.{linked_code}

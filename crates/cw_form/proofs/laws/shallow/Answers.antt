@@ -1,5 +1,5 @@
-use Rattle.cw_form.proofs.Stub.{never}
+use Rattle.cw_form.proofs.Shallow.{body-shallow}
 use Rattle.cw_form.proofs.laws.shallow.Goals as goal
 
 pub returns : goal.returns
-returns c = λ ts u e. absurd (never ts u e)
+returns c = body-shallow

@@ -1,21 +1,21 @@
 -- The branches of a call are those of the definition.
-use Rattle.std.proofs.Common.{◌≡◌, ℕ, ◌+◌, ◌++◌, Option, List, length, map, ap, sym, ◌∙◌}
+use Rattle.std.proofs.Common.{◌≡◌, ℕ, ◌+◌, ◌++◌, Option, List, length, ap, sym, ◌∙◌}
 use Rattle.std.specs.List.{flat_map}
 use Rattle.cw_macro.specs.declared.definition.Piece.{Piece}
 use Rattle.cw_macro.specs.declared.left.Item.{Item}
 use Rattle.cw_macro.specs.Expansion.{Leveled, Moved, tokens_of, replacement}
-use Rattle.cw_macro.specs.Views.{leveled, left_of, lists_of, part_of, macro_view, moves, refuses}
-use Rattle.cw_macro.proofs.Steps.{deep_is, bad_is, long_is, replaced_is, counted_if}
+use Rattle.cw_macro.specs.Views.{leveled, left_of, lists_of, parts_of, macro_view, moves, refuses, within_limit}
+use Rattle.cw_macro.proofs.Steps.{deep_is, bad_is, long_is, replaced_is}
 use Rattle.cw_macro.proofs.expansion.call.Goals as goal
 
 abbrev size : ℕ → List (List Item) → List Piece → ℕ
-size count args body = count + 1 + length (flat_map (tokens_of (lists_of args)) (map part_of body))
+size count args body = count + 1 + length (flat_map (tokens_of (lists_of args)) (flat_map parts_of body))
 
-same_size : (m n : ℕ) (args bargs : List (List Item)) (body bbody : List Piece) → n ≡ m → bargs ≡ args → bbody ≡ body → (o : Option ℕ) → o ≡ counted_if (size m bargs bbody) → o ≡ counted_if (size n args body)
-same_size m n args bargs body bbody h a b o g = g ∙ ap (λ z. counted_if (size m z bbody)) a ∙ ap (λ z. counted_if (size m args z)) b ∙ ap (λ z. counted_if (size z args body)) (sym h)
+same_size : (m n : ℕ) (args bargs : List (List Item)) (body bbody : List Piece) → n ≡ m → bargs ≡ args → bbody ≡ body → (o : Option ℕ) → o ≡ within_limit (size m bargs bbody) → o ≡ within_limit (size n args body)
+same_size m n args bargs body bbody h a b o g = g ∙ ap (λ z. within_limit (size m z bbody)) a ∙ ap (λ z. within_limit (size m args z)) b ∙ ap (λ z. within_limit (size z args body)) (sym h)
 
-same_replacement : (t : Leveled) (args bargs : List (List Item)) (body bbody : List Piece) (rest left : List Leveled) → bargs ≡ args → bbody ≡ body → left ≡ replacement t (map part_of bbody) (lists_of bargs) ++ rest → left ≡ replacement t (map part_of body) (lists_of args) ++ rest
-same_replacement t args bargs body bbody rest left a b g = g ∙ ap (λ z. replacement t (map part_of bbody) (lists_of z) ++ rest) a ∙ ap (λ z. replacement t (map part_of z) (lists_of args) ++ rest) b
+same_replacement : (t : Leveled) (args bargs : List (List Item)) (body bbody : List Piece) (rest left : List Leveled) → bargs ≡ args → bbody ≡ body → left ≡ replacement t (flat_map parts_of bbody) (lists_of bargs) ++ rest → left ≡ replacement t (flat_map parts_of body) (lists_of args) ++ rest
+same_replacement t args bargs body bbody rest left a b g = g ∙ ap (λ z. replacement t (flat_map parts_of bbody) (lists_of z) ++ rest) a ∙ ap (λ z. replacement t (flat_map parts_of z) (lists_of args) ++ rest) b
 
 pub returns-then-item-ge-MOST_LEVELS : goal.returns-then-item-ge-MOST_LEVELS
 returns-then-item-ge-MOST_LEVELS c e h = refuses (deep_is e (leveled c.args.item) (macro_view c.args.definition.now) (left_of c.args.left.now) c.if-item-ge-MOST_LEVELS.true)

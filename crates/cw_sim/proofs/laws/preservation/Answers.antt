@@ -8,6 +8,7 @@ returns c =
       upper = c.orders_follow_meaning.ensures;
       constants = c.order_words.ensures.constants;
       lines = c.order_words.ensures.lines;
+      codes = c.order_words.ensures.codes;
       entries = c.order_words.ensures.entries;
       lower = c.code_follows_orders.ensures;
       runs = c.shows_the_run.ensures;

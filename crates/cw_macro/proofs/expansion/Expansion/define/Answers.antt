@@ -1,13 +1,16 @@
 -- A definition is read as the definition of its step says.
-use Rattle.std.proofs.Common.{ℕ, List, length, map, Option, Some, subst, ap, refl, ◌∙◌}
+use Rattle.std.proofs.Common.{◌≡◌, ℕ, List, length, Option, Some, subst, ap, refl}
 use Rattle.std.specs.Prelude.{IfSome}
+use Rattle.std.specs.List.{flat_map}
 use Rattle.std.specs.Str.{str_to_ascii_uppercase}
 use Rattle.cw_lex.specs.Lexical.{view}
+use Rattle.cw_macro.specs.declared.definition.Piece.{Piece}
 use Rattle.cw_macro.specs.declared.definition.Heading.{Heading as HeadingRead}
-use Rattle.cw_macro.specs.Expansion.{Leveled, Heading, Macro, Definitions, Part, defining, heading, redefined}
+use Rattle.cw_macro.specs.Expansion.{Leveled, Heading, Expansion, Definitions, defining, heading, redefined}
 use Rattle.cw_macro.specs.Premises.{Each, IsPlaced}
-use Rattle.cw_macro.specs.Views.{HasHeading, left_of, expansion_of, part_of, refuses, lacks_body, defines}
+use Rattle.cw_macro.specs.Views.{Follows, IsBodyRead, table_of, HasHeading, left_of, expansion_of, parts_of, refuses, lacks_body, defines}
 use Rattle.cw_macro.proofs.Next.{IsRead, heading_rest}
+use Rattle.cw_macro.proofs.Steps.{defined_is}
 use Rattle.cw_macro.proofs.expansion.Expansion.define.Goals as goal
 
 read : (line : ℕ) (ts rest : List Leveled) (h : HeadingRead) (x : HasHeading h (λ line. heading line ts) rest) → Each IsPlaced ts
@@ -39,13 +42,13 @@ returns-in_default-2 c =
 pub define-requires : goal.define-requires
 define-requires c = (read c.args.line (left_of c.args.self.now.left) (left_of c.read_heading.new.left) c.in-Some.heading (rw c.in-Some.is at c.in_ok-heading.ensures) c.requires).name
 
+step_defined : (e : Expansion) (line : ℕ) (ts rest : List Leveled) (h : Heading) (d : Definitions) (n : ℕ) (body : List Piece) → heading line ts ≡ Some (h, rest) → IsBodyRead h.string h.parameters (Some body) → n ≡ length h.parameters
+    → d ≡ redefined e.definitions h.name (Some (record { parameters = n; body = flat_map parts_of body })) → Follows e (defining line (heading line ts)) (record e { definitions = d; left = rest })
+step_defined e line ts rest h d n body s b k r = defines {body = b.0} (ap (defining line) s) b.1 (defined_is e h rest b.0 d n (flat_map parts_of body) r k b.2)
+
 pub returns : goal.returns
 returns c =
     let x : HasHeading c.in-Some.heading (λ line. heading line (left_of c.args.self.now.left)) (left_of c.read_heading.new.left) = rw c.in-Some.is at c.in_ok-heading.ensures in
-    let body = (rw c.in-Some-2.is at c.in_ok-body.ensures) x.names x.numbering in
-    let e = expansion_of c.args.self.now in
-    let made : Macro → Definitions = λ m. redefined e.definitions (str_to_ascii_uppercase c.in-Some.heading.name.now) (Some m) in
-    let sizes = ap (λ (n : ℕ). made (record { parameters = n; body = map part_of c.in-Some-2.body })) (c.len-parameters.ensures x.names x.numbering) in
-    let parts = ap (λ (ps : List Part). made (record { parameters = length x.names; body = ps })) body.2 in
-    defines (ap (defining c.args.line) (x.is c.args.line)) body.1
-    (ap (λ (d : Definitions). record e { definitions = d; left = left_of c.read_heading.new.left }) (c.in_ok-define.ensures ∙ sizes ∙ parts))
+    let h : Heading = record { line = c.args.line; name = str_to_ascii_uppercase c.in-Some.heading.name.now; parameters = x.names; string = view c.in-Some.heading.string } in
+    step_defined (expansion_of c.args.self.now) c.args.line (left_of c.args.self.now.left) (left_of c.read_heading.new.left) h (table_of c.define.new.self) c.len-parameters.result c.in-Some-2.body
+    (x.is c.args.line) ((rw c.in-Some-2.is at c.in_ok-body.ensures) x.names x.numbering) (c.len-parameters.ensures x.names x.numbering) c.in_ok-define.ensures

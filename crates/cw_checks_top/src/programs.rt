@@ -1,0 +1,194 @@
+//! Small programs with what they write and how they end, by hand from the rules of the language.
+use crate::command::{bytes_and_end, within};
+use std::alloc::{AllocError, Global};
+use std::test::Fail;
+
+// A row a line: what stands between BEGIN and END of segment A behind the LIBRARY line, the bytes that are written, and the closing line where the program
+// does not come to its end.
+const PROGRAMS: &str = "INTEGER X; X := 3; L: WRITEBYTE(X); X := X - 1; IF X > 0 THEN GOTO L ELSE WRITEBYTE(9)?3 2 1 9?
+INTEGER A; IF A = 0 OR A + 32767 > 0 THEN WRITEBYTE(1)?1?
+INTEGER A; A := 1; IF A = 0 OR A + 32767 > 0 THEN WRITEBYTE(1)??stopped: Overflow A 1
+INTEGER A; IF A = 1 AND A = 2 OR A = 0 THEN BEGIN WRITEBYTE(1); WRITEBYTE(2) END?1 2?
+IF 1 < 2 THEN WRITEBYTE(1)?1?
+IF 2 < 1 THEN WRITEBYTE(1)??
+IF 2 <= 2 THEN WRITEBYTE(1) ELSE WRITEBYTE(2)?1?
+IF 3 = 4 THEN WRITEBYTE(1) ELSE WRITEBYTE(2)?2?
+IF 4 >= 5 THEN WRITEBYTE(1) ELSE WRITEBYTE(2)?2?
+IF 5 > -5 THEN WRITEBYTE(1) ELSE WRITEBYTE(2)?1?
+IF 5 <> 5 THEN WRITEBYTE(1) ELSE WRITEBYTE(2)?2?
+IF -32767 - 1 < 32767 THEN WRITEBYTE(1) ELSE WRITEBYTE(2)?1?
+IF 32767 > -32767 - 1 THEN WRITEBYTE(7)?7?
+IF 1 = 2 AND 1 = 1 OR 3 = 3 THEN WRITEBYTE(1) ELSE WRITEBYTE(2)?1?
+IF 1 = 1 OR 2 = 3 AND 4 = 5 THEN WRITEBYTE(1) ELSE WRITEBYTE(2)?1?
+IF 1 = 2 OR 3 = 3 AND 4 = 5 THEN WRITEBYTE(1) ELSE WRITEBYTE(2)?2?
+IF 1 = 2 AND 32767 + 1 > 0 THEN WRITEBYTE(1) ELSE WRITEBYTE(2)?2?
+IF 1 = 1 AND 32767 + 1 > 0 THEN WRITEBYTE(1) ELSE WRITEBYTE(2)??stopped: Overflow A 1
+GOTO L; WRITEBYTE(1); L: WRITEBYTE(2)?2?
+GOTO M; L: WRITEBYTE(1); GOTO N; M: WRITEBYTE(2); GOTO L; N: WRITEBYTE(3)?2 1 3?
+GOTO L; BEGIN WRITEBYTE(1); L: WRITEBYTE(2) END; WRITEBYTE(3)?2 3?
+BEGIN WRITEBYTE(1); GOTO L; WRITEBYTE(2) END; WRITEBYTE(3); L: WRITEBYTE(4)?1 4?
+GOTO L; IF 1 = 1 THEN WRITEBYTE(1) ELSE L: WRITEBYTE(2); WRITEBYTE(3)?2 3?
+GOTO L; IF 1 = 2 THEN L: WRITEBYTE(1) ELSE WRITEBYTE(2); WRITEBYTE(3)?1 3?
+INTEGER X; X := 2; IF X = 1 THEN WRITEBYTE(1) ELSE IF X = 2 THEN WRITEBYTE(2) ELSE WRITEBYTE(3)?2?
+INTEGER X; X := 1; IF X = 1 THEN BEGIN IF X = 2 THEN WRITEBYTE(1) ELSE WRITEBYTE(2) END ELSE WRITEBYTE(3)?2?
+GOTO M; L: M: WRITEBYTE(5)?5?
+GOTO L; WRITEBYTE(1); L:??
+INTEGER I, S; L: S := S + I; I := I + 1; IF I <= 10 THEN GOTO L; WRITEBYTE(S)?55?
+INTEGER A, B, T; B := 1; L: WRITEBYTE(A); T := A + B; A := B; B := T; IF A < 100 THEN GOTO L?0 1 1 2 3 5 8 13 21 34 55 89?
+INTEGER X; X := 1; L: WRITEBYTE(X); X := X + X; GOTO L?1 2 4 8 16 32 64 128 0 0 0 0 0 0 0?stopped: Overflow A 1
+INTEGER X; X := 2; L: X := X - 1; WRITEBYTE(X); IF X > -2 THEN GOTO L?1 0 255 254?
+INTEGER X; X := -32767 - 1; X := -X??stopped: Overflow A 1
+INTEGER A, B, P; A := 7; B := 6; L: IF B > 0 THEN BEGIN P := P + A; B := B - 1; GOTO L END; WRITEBYTE(P)?42?
+'IF' 1 = 1 'THEN' WRITEBYTE(8)?8?
+COMMENT NOTHING HERE; WRITEBYTE(1); (A COMMENT) WRITEBYTE(2)?1 2?
+integer a; a := 1; if A = 1 then writebyte(a)?1?
+DEFINE A \"1\"; DEFINE A \"2\"; WRITEBYTE(A)?2?
+DEFINE TWICE(X) \"X; X\"; TWICE(TWICE(WRITEBYTE(5)))?5 5 5 5?
+DEFINE DOWN(X) \"X := X - 1\"; INTEGER N; N := 9; DOWN(N); WRITEBYTE(N)?8?
+DEFINE UNLESS(C) \"IF C THEN ELSE\"; UNLESS(1 = 2) WRITEBYTE(6)?6?";
+
+fn text_of(alloc: Global, body: &str) -> Result<String, AllocError> {
+    format!(in alloc; "LIBRARY (PROCEDURE WRITEBYTE(VALUE INTEGER)); SEGMENT A BEGIN {body} END FINISH")
+}
+
+#[test]
+fn programs(rt: HostRuntime) -> Result<(), Fail> {
+    let alloc = rt.alloc();
+    let mut count = 0_u32;
+    for row in PROGRAMS.lines() {
+        let mut parts = row.split('?');
+        if let (Some(body), Some(bytes), Some(end)) = (parts.next(), parts.next(), parts.next()) {
+            let text = text_of(alloc, body)?;
+            let wanted = format!(in alloc; "{bytes}|{end}")?;
+            assert_eq!(rt; bytes_and_end(alloc, text.as_bytes(), 200_000_000)?.as_str(), wanted.as_str());
+            count += 1;
+        }
+    }
+    assert_eq!(rt; count, 41);
+    Ok(())
+}
+
+// A loop without an end has the steps that it is given.
+#[test]
+fn unfinished(rt: HostRuntime) -> Result<(), Fail> {
+    let alloc = rt.alloc();
+    let text = text_of(alloc, "L: GOTO L")?;
+    assert_eq!(rt; bytes_and_end(alloc, text.as_bytes(), 1000)?.as_str(), "|unfinished: 1000");
+    let text = text_of(alloc, "WRITEBYTE(1); L: GOTO L")?;
+    assert_eq!(rt; bytes_and_end(alloc, text.as_bytes(), 1000)?.as_str(), "1|unfinished: 1000");
+    assert_eq!(rt; bytes_and_end(alloc, text.as_bytes(), 20)?.as_str(), "|unfinished: 20");
+    Ok(())
+}
+
+// So many times a piece between two others.
+fn repeated(
+    alloc: Global,
+    before: &str,
+    piece: &str,
+    count: u32,
+    behind: &str,
+) -> Result<Vec<u8>, AllocError> {
+    let mut text = Vec::new(alloc);
+    text.extend_from_slice(before.as_bytes())?;
+    for _ in 0..count {
+        text.extend_from_slice(piece.as_bytes())?;
+    }
+    text.extend_from_slice(behind.as_bytes())?;
+    Ok(text)
+}
+
+// A text that declares so many names.
+fn declaring(alloc: Global, count: u32) -> Result<Vec<u8>, AllocError> {
+    let mut text = Vec::new(alloc);
+    text.extend_from_slice(b"SEGMENT A BEGIN INTEGER N0")?;
+    for n in 1..count {
+        text.extend_from_slice(format!(in alloc; ",N{n}")?.as_bytes())?;
+    }
+    text.extend_from_slice(b"; END FINISH")?;
+    Ok(text)
+}
+
+// Too many words, too much code, and too many levels, each with the last that fits.
+#[test]
+fn limits(rt: HostRuntime) -> Result<(), Fail> {
+    let alloc = rt.alloc();
+    assert_eq!(rt;
+        within(alloc, &declaring(alloc, 16_385)?, 1000)?.as_str(),
+        "3||link: P1 DataTooBig 20481\n"
+    );
+    assert_eq!(rt;
+        within(alloc, &declaring(alloc, 12_289)?, 1000)?.as_str(),
+        "3||link: P1 DataTooBig 16385\n"
+    );
+    assert_eq!(rt; bytes_and_end(alloc, &declaring(alloc, 12_288)?, 1000)?.as_str(), "|");
+    let before = "SEGMENT A BEGIN INTEGER X; ";
+    let text = repeated(alloc, before, "X := X + 1; ", 1679, "END FINISH")?;
+    assert_eq!(rt; within(alloc, &text, 1000)?.as_str(), "3||link: P4 CodeTooBig 65561\n");
+    let text = repeated(alloc, before, "X := X + 1; ", 1678, "END FINISH")?;
+    assert_eq!(rt; bytes_and_end(alloc, &text, 200_000)?.as_str(), "|");
+    let levels = |count: u32| -> Result<Vec<u8>, AllocError> {
+        let inner = repeated(alloc, "SEGMENT A ", "BEGIN ", count, "")?;
+        let mut text = inner;
+        for _ in 0..count {
+            text.extend_from_slice(b"END ")?;
+        }
+        text.extend_from_slice(b"FINISH")?;
+        Ok(text)
+    };
+    assert_eq!(rt; bytes_and_end(alloc, &levels(64)?, 1000)?.as_str(), "|");
+    assert_eq!(rt; within(alloc, &levels(65)?, 1000)?.as_str(), "2||a: NotBuilt\n");
+    Ok(())
+}
+
+const REFUSALS: &str = "?:1: L1 BadChar
+SEGMENT A BEGIN COMMENT?:1: L5 OpenComment
+\"AB?:1: L2 OpenString
+ABCDEFGHIJABCDEFGHIJABCDEFGHIJAB?:1: L4 LongName
+1. ?:1: L3 BadNumber
+DEFINE R \"R\"; R?:1: M3 TooDeep
+DELETE R;?:1: M5 NoSuchMacro
+DEFINE K(X) \"WRITEBYTE(X)\"; K?:1: M2 BadCall
+DEFINE B \"DELETE B\"; WRITEBYTE(1)?:1: M1 BadDefine
+SEGMENT A BEGIN L: L: END FINISH?: NotBuilt
+SEGMENT A BEGIN GOTO L END FINISH?: NotBuilt
+SEGMENT A BEGIN INTEGER X; X: X := 1 END FINISH?: NotBuilt
+SEGMENT A BEGIN WRITEBYTE: END FINISH?: NotBuilt
+SEGMENT A BEGIN IF 1 = 1 THEN IF 1 = 1 THEN END FINISH?: NotBuilt
+SEGMENT A BEGIN IF 1 THEN END FINISH?: NotBuilt
+SEGMENT A BEGIN BEGIN INTEGER X; END END FINISH?: NotBuilt
+SEGMENT A BEGIN INTEGER X; X := (1) END FINISH?: NotBuilt
+SEGMENT A BEGIN INTEGER X; X := 1.5 END FINISH?: NotBuilt";
+
+#[test]
+fn refusals(rt: HostRuntime) -> Result<(), Fail> {
+    let alloc = rt.alloc();
+    let mut count = 0_u32;
+    for row in REFUSALS.lines() {
+        let mut parts = row.rsplit('?');
+        if let (Some(said), Some(text)) = (parts.next(), parts.next()) {
+            let text = if text.is_empty() { "?" } else { text };
+            let wanted = format!(in alloc; "2||a{said}\n")?;
+            assert_eq!(rt; within(alloc, text.as_bytes(), 1000)?.as_str(), wanted.as_str());
+            count += 1;
+        }
+    }
+    assert_eq!(rt; count, 18);
+    Ok(())
+}
+
+// A macro that doubles sixteen times, and a text of semicolons alone.
+#[test]
+fn long_expansions(rt: HostRuntime) -> Result<(), Fail> {
+    let alloc = rt.alloc();
+    let mut text = Vec::new(alloc);
+    text.extend_from_slice(b"DEFINE A0 \";\";")?;
+    for k in 1_u32..17 {
+        let j = k - 1;
+        text.extend_from_slice(format!(in alloc; "DEFINE A{k} \"A{j} A{j}\";")?.as_bytes())?;
+    }
+    text.extend_from_slice(b"A16")?;
+    assert_eq!(rt; within(alloc, &text, 1000)?.as_str(), "2||a:1: M4 TooLong\n");
+    let text = repeated(alloc, "", ";", 1_048_576, "")?;
+    assert_eq!(rt; within(alloc, &text, 1000)?.as_str(), "2||a:1: M4 TooLong\n");
+    Ok(())
+}

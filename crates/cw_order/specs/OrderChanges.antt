@@ -1,0 +1,95 @@
+-- What orders do to words beyond the operations of the source semantics, and how they choose the way on.
+use Rattle.std.specs.Prelude.{ℕ, zero, suc, ◌+◌, ℤ, pos, negsuc, ◌+ℤ◌, ◌-ℤ◌, ◌*ℤ◌, List, ◌∷◌, set, Bool, true, false, Option, Some, None, slice_get}
+use Rattle.cw_word.specs.FixedPoint.{fits_word}
+use Rattle.cw_word.specs.Word.{signed, unsigned, word_difference}
+use Rattle.cw_unit.specs.declared.unit.CompareOp.{CompareOp}
+use Rattle.cw_unit.specs.declared.unit.CompareOp.TheVariants as compare
+use Rattle.cw_unit.specs.Stop.{AddressRange}
+use Rattle.cw_unit.specs.Words.{Operand, Word, Words, Outcome, Changed, Refused, Impossible, with_operands, with_memory, put, put_if, on_one, on_two, word_at, at_address}
+use Rattle.cw_unit.specs.Operation.{is_past}
+use Rattle.cw_order.specs.declared.order.Comparator.{Comparator}
+use Rattle.cw_order.specs.declared.order.Comparator.TheVariants as comparator
+
+-- ---- changes of the words
+
+-- an index that must fit a word
+abbrev pub put_index : ℤ → Words → Outcome
+put_index z w = put_if (fits_word z) AddressRange z w
+
+abbrev pub index : (ℤ → ℤ) → Words → Outcome
+index f w = on_one (λ i v. put_index (f i) v) w.operands w
+
+abbrev pub index_sum : Words → Outcome
+index_sum w = on_two (λ i j v. put_index (i +ℤ j) v) w.operands w
+
+abbrev pub if_fits : Bool → Outcome → Outcome
+if_fits true o = o
+if_fits false o = Refused AddressRange
+
+-- a row less the lower bound, times the length of a row, plus the place in it
+abbrev pub index_row : (lower : ℤ) → (width : ℕ) → Words → Outcome
+index_row lower width w =
+    on_two
+    (λ i j v.
+    if_fits (fits_word (i -ℤ lower))
+    (if_fits (fits_word ((i -ℤ lower) *ℤ pos width)) (put_index ((i -ℤ lower) *ℤ pos width +ℤ j) v)))
+    w.operands
+    w
+
+-- a difference modulo 65,536
+abbrev pub difference : Words → Outcome
+difference w = on_two (λ x y v. Changed (put (signed (word_difference (unsigned x) (unsigned y))) v)) w.operands w
+
+abbrev pub without_top : Words → Outcome
+without_top w = on_one (λ x v. Changed v) w.operands w
+
+abbrev pub put_address : Option ℕ → Words → Outcome
+put_address None w = Impossible
+put_address (Some a) w = Changed (put (signed a) w)
+
+-- a word argument is stored at an address
+abbrev pub bind : (area : ℕ) → Option Operand → Option ℕ → Words → Outcome
+bind area (Some (Word z)) (Some a) w = at_address area (λ i v. Changed (with_memory v (set v.memory i z))) (pos a) w
+bind area _ _ w = Impossible
+
+-- ---- ways on
+
+-- at the next place, at a mark, or nowhere
+pub data Way : Type 0 where
+  Onward : Words → Way
+  ToMark : (mark : ℕ) → Words → Way
+  Nowhere : Way
+
+abbrev pub way_of_one : (ℤ → Words → Way) → List Operand → Words → Way
+way_of_one f (Word x ∷ rest) w = f x (with_operands w rest)
+way_of_one f _ w = Nowhere
+
+abbrev pub way_of_two : (ℤ → ℤ → Words → Way) → Words → Way
+way_of_two f w = way_of_one (λ y v. way_of_one (λ x t. f x y t) v.operands v) w.operands w
+
+abbrev pub to_mark_if : Bool → (mark : ℕ) → Words → Way
+to_mark_if true m w = ToMark m w
+to_mark_if false m w = Onward w
+
+abbrev pub to_mark_in : Option ℕ → Words → Way
+to_mark_in None w = Onward w
+to_mark_in (Some m) w = ToMark m w
+
+abbrev pub comparison : Comparator → CompareOp
+comparison comparator.Less = compare.Less
+comparison comparator.LessEqual = compare.LessEq
+comparison comparator.Equal = compare.Equal
+comparison comparator.GreaterEqual = compare.GreaterEq
+comparison comparator.Greater = compare.Greater
+comparison comparator.Unequal = compare.Unequal
+
+-- by words 1 and 2 of a loop, whose words are in the area
+abbrev pub way_past_limit : Bool → (mark : ℕ) → (variable : ℤ) → (loop : ℕ) → Words → Way
+way_past_limit true m x a w = to_mark_if (is_past (word_at w.memory (a + 1)) x (word_at w.memory (a + 2))) m w
+way_past_limit false m x a w = Nowhere
+
+-- numbers count from 1
+abbrev pub mark_of_number : List ℕ → ℤ → Option ℕ
+mark_of_number marks (pos zero) = None
+mark_of_number marks (pos (suc n)) = slice_get marks n
+mark_of_number marks (negsuc n) = None

@@ -1,0 +1,89 @@
+-- How many instructions the code of an order takes at most, with those of a stop or an end (docs/CODE.md). A stop takes 11, the call
+-- of the library's among them. Of orders that have no code yet these are bounds that their code must keep: the orders of one step of the
+-- source may take 224 in all. The dearest steps, with items in frames: the entry of a procedure with 32 word parameters, 172 (CallSpecial
+-- 16, Enter 28, 32 of BindFrame 4); a product or a quotient, 120; an element of an array of two dimensions, 84 (IndexLess 16, IndexRow 32,
+-- FrameHome 4, IndexAdd 16, InArea 16); the step of a FOR's variable, 64 (Line, FrameHome three times, Load four times, InArea,
+-- Add 15, Store 4); its test, 53 (Line, FrameHome twice, Load twice, InArea, Exhausted 20).
+use Rattle.std.specs.Prelude.{ℕ, Option, Some, None}
+use Rattle.cw_order.specs.declared.order.Order.{Order}
+use Rattle.cw_order.specs.declared.order.Order.TheVariants as order
+
+abbrev pub weight_of : Order → ℕ
+-- words
+weight_of (order.Const w) = 2
+weight_of (order.Home family offset) = 2
+-- the base from the record, the offset
+weight_of (order.FrameHome n) = 4
+weight_of order.Load = 4
+weight_of order.Store = 4
+-- two shifts, each with its count in CL
+weight_of (order.LoadPart t b is_signed) = 16
+-- the old word and the new one masked
+weight_of (order.StorePart t b) = 20
+-- up to 15 shifts, each tested
+weight_of (order.Rescale from to) = 64
+weight_of order.Add = 15
+weight_of order.Sub = 15
+weight_of order.Neg = 14
+-- up to 30 shifts of a pair of words
+weight_of (order.Mul s) = 120
+weight_of (order.Div s) = 120
+weight_of order.And = 4
+weight_of order.Or = 4
+weight_of order.Xor = 4
+weight_of (order.Take t b) = 6
+weight_of order.Less = 4
+weight_of order.Drop = 1
+-- the port is asked whether there is a byte
+weight_of order.ReadByte = 12
+weight_of order.WriteByte = 2
+-- addresses: as sums
+weight_of (order.IndexLess lower) = 16
+weight_of (order.IndexTimes n) = 18
+weight_of (order.IndexPlus n) = 18
+weight_of order.IndexAdd = 16
+-- three tests
+weight_of (order.IndexRow lower width) = 32
+weight_of order.InArea = 16
+-- ways within a body
+weight_of (order.Jump m) = 1
+-- two pops, a comparison, a short jump over a near one
+weight_of (order.JumpIf c m) = 7
+-- the step's sign is tested, and then the limit
+weight_of (order.Exhausted m) = 20
+-- the number is tested, and the way found in a table
+weight_of (order.LoopWay marks) = 12
+weight_of order.Mark = 0
+weight_of (order.Line n) = 1
+weight_of (order.Start n) = 0
+weight_of order.NextBody = 22
+-- control arguments: a place and a record
+weight_of (order.LabelOut l) = 6
+weight_of (order.LabelCommon d) = 6
+weight_of (order.SwitchOut n) = 6
+weight_of (order.SwitchCommon d) = 6
+weight_of (order.ProcOut q) = 6
+weight_of (order.ProcCommon d) = 6
+weight_of (order.SpecialOut k) = 6
+-- jumps: BP and SP are set, and the segment in the record
+weight_of (order.GoMain m) = 16
+weight_of (order.GoCommon d) = 16
+weight_of (order.GoSpecial k) = 16
+-- the index is tested, and the label found in a table
+weight_of (order.GoSwitch n) = 48
+weight_of (order.GoSwitchCommon d) = 48
+weight_of (order.GoSwitchSpecial k) = 48
+-- calls
+weight_of (order.CallProc q) = 12
+weight_of (order.CallCommon d) = 12
+weight_of (order.CallSpecial k) = 16
+-- two tests, and the record's words
+weight_of (order.Enter size) = 28
+weight_of (order.Bind k family offset) = 2
+-- the frame's base comes from the record
+weight_of (order.BindFrame k offset) = 4
+weight_of (order.Return n answers) = 12
+
+abbrev pub weight_at : Option Order → ℕ
+weight_at None = 0
+weight_at (Some o) = weight_of o
