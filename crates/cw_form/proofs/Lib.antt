@@ -7,3 +7,7 @@ pub mod Readings
 pub mod Parts
 pub mod Singles
 pub mod Shallow
+pub mod Labelling
+pub mod LabelNumbers
+pub mod WellFormed
+pub mod Buildable

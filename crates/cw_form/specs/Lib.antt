@@ -4,3 +4,4 @@ pub mod Grammar
 pub mod Numbering
 pub mod Readings
 pub mod Levels
+pub mod SetLabels
