@@ -86,7 +86,13 @@ fn texts(rt: HostRuntime) -> Result<(), Fail> {
     Ok(())
 }
 
-fn repeated(alloc: Global, front: &[u8], part: &[u8], count: usize, back: &[u8]) -> Result<Vec<u8>, AllocError> {
+fn repeated(
+    alloc: Global,
+    front: &[u8],
+    part: &[u8],
+    count: usize,
+    back: &[u8],
+) -> Result<Vec<u8>, AllocError> {
     let mut text = Vec::new(alloc);
     text.extend_from_slice(front)?;
     for _ in 0..count {
@@ -114,8 +120,20 @@ fn is_read(alloc: Global, text: &[u8]) -> Result<bool, AllocError> {
 fn levels(rt: HostRuntime) -> Result<(), Fail> {
     let alloc = rt.alloc();
     let front = b"SEGMENT A BEGIN INTEGER X; ";
-    let most = repeated(alloc, front, b"IF X<1 THEN X:=1 ELSE ", 31, b"IF X<1 THEN X:=1 END FINISH")?;
-    let over = repeated(alloc, front, b"IF X<1 THEN X:=1 ELSE ", 32, b"X:=1 END FINISH")?;
+    let most = repeated(
+        alloc,
+        front,
+        b"IF X<1 THEN X:=1 ELSE ",
+        31,
+        b"IF X<1 THEN X:=1 END FINISH",
+    )?;
+    let over = repeated(
+        alloc,
+        front,
+        b"IF X<1 THEN X:=1 ELSE ",
+        32,
+        b"X:=1 END FINISH",
+    )?;
     assert!(rt; is_read(alloc, &most)?);
     assert!(rt; !is_read(alloc, &over)?);
     Ok(())
@@ -125,7 +143,29 @@ fn levels(rt: HostRuntime) -> Result<(), Fail> {
 #[test]
 fn a_long_sum(rt: HostRuntime) -> Result<(), Fail> {
     let alloc = rt.alloc();
-    let text = repeated(alloc, b"SEGMENT A BEGIN INTEGER X; X:=1", b"+1", 19999, b" END FINISH")?;
+    let text = repeated(
+        alloc,
+        b"SEGMENT A BEGIN INTEGER X; X:=1",
+        b"+1",
+        9999,
+        b" END FINISH",
+    )?;
     assert!(rt; is_read(alloc, &text)?);
+    Ok(())
+}
+
+// 10,000 names, and 20,000 uses of them.
+#[test]
+fn many_names(rt: HostRuntime) -> Result<(), Fail> {
+    let alloc = rt.alloc();
+    let mut text = format!(in alloc; "SEGMENT A BEGIN INTEGER N0")?;
+    for k in 1..10000u32 {
+        text.push_str(format!(in alloc; ",N{k}")?.as_str())?;
+    }
+    for k in 0..10000u32 {
+        text.push_str(format!(in alloc; ";N{k}:=N{k}")?.as_str())?;
+    }
+    text.push_str(" END FINISH")?;
+    assert!(rt; is_read(alloc, text.as_bytes())?);
     Ok(())
 }

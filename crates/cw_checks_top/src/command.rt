@@ -181,7 +181,10 @@ fn texts(rt: HostRuntime) -> Result<(), Fail> {
         ),
         ("SEGMENT A BEGIN INTEGER X; Y := 1 END FINISH", NOT_BUILT),
         ("SEGMENT A BEGIN INTEGER X END FINISH", NOT_BUILT),
-        ("SEGMENT A BEGIN COMMENT NONE; END FINISH", "0||12288 04096 FRAMES\n"),
+        (
+            "SEGMENT A BEGIN COMMENT NONE; END FINISH",
+            "0||12288 04096 FRAMES\n",
+        ),
         ("SEGMENT A BEGIN END A FINISH", NOT_BUILT),
         ("SEGMENT A BEGIN END FINISH;", NOT_BUILT),
         ("SEGMENT A\nBEGIN ?", "2||a:2: L1 BadChar\n"),

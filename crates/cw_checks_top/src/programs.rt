@@ -5,7 +5,8 @@ use std::test::Fail;
 
 // A row a line: what stands between BEGIN and END of segment A behind the LIBRARY line, the bytes that are written, and the closing line where the program
 // does not come to its end.
-const PROGRAMS: &str = "INTEGER X; X := 3; L: WRITEBYTE(X); X := X - 1; IF X > 0 THEN GOTO L ELSE WRITEBYTE(9)?3 2 1 9?
+const PROGRAMS: &str =
+    "INTEGER X; X := 3; L: WRITEBYTE(X); X := X - 1; IF X > 0 THEN GOTO L ELSE WRITEBYTE(9)?3 2 1 9?
 INTEGER A; IF A = 0 OR A + 32767 > 0 THEN WRITEBYTE(1)?1?
 INTEGER A; A := 1; IF A = 0 OR A + 32767 > 0 THEN WRITEBYTE(1)??stopped: Overflow A 1
 INTEGER A; IF A = 1 AND A = 2 OR A = 0 THEN BEGIN WRITEBYTE(1); WRITEBYTE(2) END?1 2?
@@ -48,7 +49,9 @@ DEFINE DOWN(X) \"X := X - 1\"; INTEGER N; N := 9; DOWN(N); WRITEBYTE(N)?8?
 DEFINE UNLESS(C) \"IF C THEN ELSE\"; UNLESS(1 = 2) WRITEBYTE(6)?6?";
 
 fn text_of(alloc: Global, body: &str) -> Result<String, AllocError> {
-    format!(in alloc; "LIBRARY (PROCEDURE WRITEBYTE(VALUE INTEGER)); SEGMENT A BEGIN {body} END FINISH")
+    format!(in alloc;
+        "LIBRARY (PROCEDURE WRITEBYTE(VALUE INTEGER)); SEGMENT A BEGIN {body} END FINISH"
+    )
 }
 
 #[test]
@@ -60,7 +63,10 @@ fn programs(rt: HostRuntime) -> Result<(), Fail> {
         if let (Some(body), Some(bytes), Some(end)) = (parts.next(), parts.next(), parts.next()) {
             let text = text_of(alloc, body)?;
             let wanted = format!(in alloc; "{bytes}|{end}")?;
-            assert_eq!(rt; bytes_and_end(alloc, text.as_bytes(), 200_000_000)?.as_str(), wanted.as_str());
+            assert_eq!(rt;
+                bytes_and_end(alloc, text.as_bytes(), 200_000_000)?.as_str(),
+                wanted.as_str()
+            );
             count += 1;
         }
     }
@@ -73,10 +79,19 @@ fn programs(rt: HostRuntime) -> Result<(), Fail> {
 fn unfinished(rt: HostRuntime) -> Result<(), Fail> {
     let alloc = rt.alloc();
     let text = text_of(alloc, "L: GOTO L")?;
-    assert_eq!(rt; bytes_and_end(alloc, text.as_bytes(), 1000)?.as_str(), "|unfinished: 1000");
+    assert_eq!(rt;
+        bytes_and_end(alloc, text.as_bytes(), 1000)?.as_str(),
+        "|unfinished: 1000"
+    );
     let text = text_of(alloc, "WRITEBYTE(1); L: GOTO L")?;
-    assert_eq!(rt; bytes_and_end(alloc, text.as_bytes(), 1000)?.as_str(), "1|unfinished: 1000");
-    assert_eq!(rt; bytes_and_end(alloc, text.as_bytes(), 20)?.as_str(), "|unfinished: 20");
+    assert_eq!(rt;
+        bytes_and_end(alloc, text.as_bytes(), 1000)?.as_str(),
+        "1|unfinished: 1000"
+    );
+    assert_eq!(rt;
+        bytes_and_end(alloc, text.as_bytes(), 20)?.as_str(),
+        "|unfinished: 20"
+    );
     Ok(())
 }
 
@@ -120,10 +135,16 @@ fn limits(rt: HostRuntime) -> Result<(), Fail> {
         within(alloc, &declaring(alloc, 12_289)?, 1000)?.as_str(),
         "3||link: P1 DataTooBig 16385\n"
     );
-    assert_eq!(rt; bytes_and_end(alloc, &declaring(alloc, 12_288)?, 1000)?.as_str(), "|");
+    assert_eq!(rt;
+        bytes_and_end(alloc, &declaring(alloc, 12_288)?, 1000)?.as_str(),
+        "|"
+    );
     let before = "SEGMENT A BEGIN INTEGER X; ";
     let text = repeated(alloc, before, "X := X + 1; ", 1679, "END FINISH")?;
-    assert_eq!(rt; within(alloc, &text, 1000)?.as_str(), "3||link: P4 CodeTooBig 65561\n");
+    assert_eq!(rt;
+        within(alloc, &text, 1000)?.as_str(),
+        "3||link: P4 CodeTooBig 65561\n"
+    );
     let text = repeated(alloc, before, "X := X + 1; ", 1678, "END FINISH")?;
     assert_eq!(rt; bytes_and_end(alloc, &text, 200_000)?.as_str(), "|");
     let levels = |count: u32| -> Result<Vec<u8>, AllocError> {
@@ -136,7 +157,10 @@ fn limits(rt: HostRuntime) -> Result<(), Fail> {
         Ok(text)
     };
     assert_eq!(rt; bytes_and_end(alloc, &levels(64)?, 1000)?.as_str(), "|");
-    assert_eq!(rt; within(alloc, &levels(65)?, 1000)?.as_str(), "2||a: NotBuilt\n");
+    assert_eq!(rt;
+        within(alloc, &levels(65)?, 1000)?.as_str(),
+        "2||a: NotBuilt\n"
+    );
     Ok(())
 }
 
@@ -168,7 +192,10 @@ fn refusals(rt: HostRuntime) -> Result<(), Fail> {
         if let (Some(said), Some(text)) = (parts.next(), parts.next()) {
             let text = if text.is_empty() { "?" } else { text };
             let wanted = format!(in alloc; "2||a{said}\n")?;
-            assert_eq!(rt; within(alloc, text.as_bytes(), 1000)?.as_str(), wanted.as_str());
+            assert_eq!(rt;
+                within(alloc, text.as_bytes(), 1000)?.as_str(),
+                wanted.as_str()
+            );
             count += 1;
         }
     }
@@ -187,8 +214,14 @@ fn long_expansions(rt: HostRuntime) -> Result<(), Fail> {
         text.extend_from_slice(format!(in alloc; "DEFINE A{k} \"A{j} A{j}\";")?.as_bytes())?;
     }
     text.extend_from_slice(b"A16")?;
-    assert_eq!(rt; within(alloc, &text, 1000)?.as_str(), "2||a:1: M4 TooLong\n");
+    assert_eq!(rt;
+        within(alloc, &text, 1000)?.as_str(),
+        "2||a:1: M4 TooLong\n"
+    );
     let text = repeated(alloc, "", ";", 1_048_576, "")?;
-    assert_eq!(rt; within(alloc, &text, 1000)?.as_str(), "2||a:1: M4 TooLong\n");
+    assert_eq!(rt;
+        within(alloc, &text, 1000)?.as_str(),
+        "2||a:1: M4 TooLong\n"
+    );
     Ok(())
 }

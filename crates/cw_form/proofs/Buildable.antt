@@ -1,7 +1,6 @@
 -- Each unit of the form has orders.
 use Rattle.std.proofs.Common.{◌≡◌, ℕ, zero, suc, ◌≤◌, ◌<◌, Bool, true, false, ◌&&◌, ◌||◌, nat_lt, List, [], ◌∷◌, ◌++◌, length, map, IsTrue, Option, Some, None, refl, ap, ap₂, sym, ◌∙◌, arith}
 use Rattle.std.specs.Option.{is_some}
-use Rattle.std.specs.Prelude.{slice_get}
 use Rattle.std.proofs.lemmas.Bool.Decides.{nat_tests}
 use Rattle.cw_unit.specs.declared.unit.Unit.{Unit as SourceUnit}
 use Rattle.cw_unit.specs.declared.unit.Expr.{Expr}
@@ -21,7 +20,7 @@ use Rattle.cw_unit.specs.declared.unit.Stmt.TheOpen as statement
 use Rattle.cw_unit.specs.declared.unit.Target.TheVariants as target
 use Rattle.cw_unit.specs.declared.unit.Arg.TheFolds.{fold-roll-Expr, fold-roll-Ref, fold-roll-Arg, fold-roll-Spot, fold-roll-Cond}
 use Rattle.cw_unit.specs.declared.unit.Stmt.TheFolds.{fold-roll-Stmt}
-use Rattle.cw_gen.specs.Built.{all_within, most_levels, is_built_within, is_built_goal, is_owned_by_body, is_built_expression, is_built_condition, is_built_argument, is_built_ref, is_built_statement, argument_step, condition_step, expression_step, spot_step, ref_step, statement_step}
+use Rattle.cw_gen.specs.Built.{all_within, most_levels, is_built_goal, is_owned_by_body, is_built_expression, is_built_condition, is_built_argument, is_built_ref, is_built_statement, argument_step, condition_step, expression_step, spot_step, ref_step, statement_step}
 use Rattle.cw_form.specs.Trees as tree
 use Rattle.cw_form.specs.Trees.{jump, choice, marked, both, either, own_label, number, direct_layer, direct, read, assign, write, row, sum, difference, negative}
 use Rattle.cw_form.specs.Grammar.{unit_of}

@@ -1,14 +1,11 @@
 -- Each label of a unit is set once, in the order of their numbers.
-use Rattle.std.proofs.Common.{◌≡◌, ℕ, zero, suc, ◌+◌, ◌<◌, ◌≤◌, Bool, true, false, not, cond, ◌&&◌, ◌||◌, nat_eq, List, [], ◌∷◌, ◌++◌, length, map, Option, Some, None, option_and_then, refl, ap, ap₂, sym, ◌∙◌, subst, arith, length-append}
+use Rattle.std.proofs.Common.{◌≡◌, ℕ, zero, suc, ◌+◌, ◌<◌, ◌≤◌, Bool, true, false, cond, ◌||◌, nat_eq, List, [], ◌∷◌, ◌++◌, length, map, Option, Some, None, option_and_then, refl, ap, ap₂, sym, ◌∙◌, subst, arith, length-append}
 use Rattle.std.specs.Prelude.{IfSome, slice_get}
-use Rattle.std.specs.Option.{is_none}
-use Rattle.std.specs.Str.{bytes_eq}
 use Rattle.std.specs.Cmp.Lexicographic.{bytes_decides}
 use Rattle.std.proofs.lemmas.Bool.Decides.{nat_tests}
 use Rattle.std.proofs.lemmas.List.{length-map}
 use Rattle.cw_lex.specs.Lexical.{Lexeme}
 use Rattle.cw_unit.specs.declared.unit.Unit.{Unit as SourceUnit}
-use Rattle.cw_unit.specs.declared.unit.Label.{Label}
 use Rattle.cw_unit.specs.declared.unit.Stmt.{Stmt}
 use Rattle.cw_unit.specs.declared.unit.Stmt.TheOpen as statement
 use Rattle.cw_unit.specs.declared.unit.Stmt.TheFolds.{fold-roll-Stmt}
@@ -17,8 +14,8 @@ use Rattle.cw_unit.specs.LabelContinuation.{has_label}
 use Rattle.cw_unit.specs.OwnSingles.{numbers_from}
 use Rattle.cw_safety.specs.WellFormed.{any, sets, sets_step}
 use Rattle.cw_form.specs.declared.labels.SetLabel.{SetLabel}
-use Rattle.cw_form.specs.Trees.{Name, assign, write, jump, choice, marked, row, own_label}
-use Rattle.cw_form.specs.Grammar.{number_in, is_write, is_new, with_new, new_label, label_names, labels_of, scope_of, unit_of}
+use Rattle.cw_form.specs.Trees.{Name, marked, row, own_label}
+use Rattle.cw_form.specs.Grammar.{number_in, is_write, is_new, new_label, label_names, labels_of, scope_of, unit_of}
 use Rattle.cw_form.specs.SetLabels.{joined, labels_step, set_labels}
 use Rattle.cw_form.proofs.Numbering.{number_last, number_kept, fresh}
 use Rattle.cw_form.proofs.Readings.{Reading}

@@ -1,5 +1,5 @@
 -- The labels of the tokens that a rule reads are those before the statements that it gives.
-use Rattle.std.proofs.Common.{◌≡◌, ℕ, zero, suc, ◌+◌, Bool, true, false, cond, ◌&&◌, ◌||◌, List, [], ◌∷◌, ◌++◌, length, map, drop, Option, Some, None, option_map, option_and_then, refl, ap, ap₂, sym, ◌∙◌, subst, append_assoc, append-nil}
+use Rattle.std.proofs.Common.{◌≡◌, ℕ, zero, suc, Bool, true, false, cond, ◌&&◌, List, [], ◌∷◌, ◌++◌, length, map, drop, Option, Some, None, option_map, option_and_then, refl, ap, ap₂, sym, ◌∙◌, subst, append_assoc, append-nil}
 use Rattle.std.specs.Prelude.{IfSome}
 use Rattle.std.specs.Option.{is_some}
 use Rattle.cw_lex.specs.Lexical.{Lexeme}
@@ -13,13 +13,12 @@ use Rattle.cw_unit.specs.declared.unit.Stmt.TheOpen as statement
 use Rattle.cw_unit.specs.declared.unit.Stmt.TheFolds.{fold-roll-Stmt}
 use Rattle.cw_unit.specs.declared.unit.Target.TheVariants as target
 use Rattle.cw_unit.specs.declared.unit.CompareOp.{CompareOp}
-use Rattle.cw_form.specs.declared.labels.SetLabel.{SetLabel}
 use Rattle.cw_form.specs.Trees.{Name, number, read, assign, write, jump, choice, marked, row}
 use Rattle.cw_form.specs.Tokens.{kind_of, line_of, behind, is_and, is_begin, is_else, is_end, is_finish, is_goto, is_if, is_or, is_then, is_assign, is_close, is_colon, is_minus, is_open, is_semicolon, is_sign, is_name, is_number, compare_of, identifier, name_of, number_of}
 use Rattle.std.specs.Char.{to_ascii_uppercase}
-use Rattle.cw_form.specs.Grammar.{Found, Rule, Scope, repeated, all, name, number_in, item_of, operand_of, operand, signed, joined as with_operand, another_operand, first_operand, sum_of, operator, comparison, another_comparison, conjunction, another_conjunction, condition, item, label, assignment, output, jump_to, names_write, plain, is_label, another_label, labels, labelled, another_statement, statement_row, block, simple_by, otherwise_by, conditional, statement_by, nothing, statement as statement_at, simple, otherwise, label_at, with_label, labels_of, at_end, body}
+use Rattle.cw_form.specs.Grammar.{Found, Rule, Scope, repeated, all, name, number_in, item_of, operand_of, operand, signed, joined as with_operand, another_operand, first_operand, sum_of, operator, comparison, another_comparison, conjunction, another_conjunction, condition, item, label, assignment, output, jump_to, names_write, plain, is_label, another_label, labels, labelled, another_statement, statement_row, block, simple_by, otherwise_by, conditional, statement_by, nothing, statement as statement_at, simple, otherwise, with_label, labels_of, at_end, body}
 use Rattle.cw_form.specs.SetLabels.{joined, labels_step, set_labels}
-use Rattle.cw_form.proofs.Optional.{when, either, after, after_any, mapped}
+use Rattle.cw_form.proofs.Optional.{when, either, after, mapped}
 
 -- ---- trees
 

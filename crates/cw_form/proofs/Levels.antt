@@ -1,10 +1,10 @@
 -- The rules at a number of levels that may still be opened.
-use Rattle.std.proofs.Common.{◌≡◌, ℕ, zero, suc, ◌-◌, ◌<◌, refl, ap, ◌∙◌, arith, Bool, true, false, cond, List, [], drop, Option, Some, None}
+use Rattle.std.proofs.Common.{◌≡◌, ℕ, zero, suc, ◌-◌, ◌<◌, refl, ap, ◌∙◌, arith, Bool, true, false, cond, List, [], drop, Some, None}
 use Rattle.cw_lex.specs.Lexical.{Lexeme}
 use Rattle.cw_unit.specs.declared.unit.Stmt.{Stmt}
 use Rattle.cw_form.specs.Trees.{row}
 use Rattle.cw_form.specs.Tokens.{kind_of, is_if, is_begin, is_else}
-use Rattle.cw_form.specs.Grammar.{Scope, Found, Rule, nothing, labelled, conditional, statement, simple, otherwise, statement_by, simple_by, otherwise_by, block, statement_row, plain}
+use Rattle.cw_form.specs.Grammar.{Scope, Found, nothing, labelled, conditional, statement, simple, otherwise, statement_by, simple_by, otherwise_by, block, statement_row, plain}
 use Rattle.cw_form.specs.Levels.{conditional_at, unlabelled_at}
 
 chosen : (b c : Bool) (o p : Found Stmt) → b ≡ c → cond b o p ≡ cond c o p

@@ -11,3 +11,6 @@ pub mod Labelling
 pub mod LabelNumbers
 pub mod WellFormed
 pub mod Buildable
+pub mod Costs
+pub mod Taken
+pub mod CodeSizes

@@ -1,17 +1,15 @@
 -- The parts of a unit of the form, and how many items it has.
-use Rattle.std.proofs.Common.{◌≡◌, ℕ, zero, suc, ◌+◌, ◌<◌, ◌≤◌, Bool, true, false, cond, List, [], ◌∷◌, ◌++◌, length, map, drop, Option, Some, None, option_map, option_and_then, refl, ap, sym, ◌∙◌, subst, arith, length-append}
+use Rattle.std.proofs.Common.{◌≡◌, ℕ, zero, suc, ◌+◌, ◌<◌, ◌≤◌, Bool, true, false, List, [], ◌∷◌, ◌++◌, length, map, drop, Option, Some, None, option_map, option_and_then, refl, subst, arith, length-append}
 use Rattle.std.specs.Prelude.{IfSome, nat_le}
 use Rattle.std.proofs.lemmas.Bool.Decides.{nat_tests}
 use Rattle.std.proofs.lemmas.List.{length-drop}
 use Rattle.cw_lex.specs.Lexical.{Lexeme}
 use Rattle.cw_unit.specs.declared.unit.Unit.{Unit as SourceUnit}
-use Rattle.cw_unit.specs.declared.unit.Item.{Item}
-use Rattle.cw_unit.specs.declared.unit.Stmt.{Stmt}
-use Rattle.cw_form.specs.Trees.{Name, own_single, own_label, unit}
-use Rattle.cw_form.specs.Tokens.{kind_of, behind, is_begin, is_comma, is_end, is_finish, is_integer, is_library, is_open, is_procedure, is_segment, is_semicolon, is_value, is_close, name_of}
-use Rattle.cw_form.specs.Grammar.{Found, Rule, Scope, repeated, all, name, names_write, library_procedure, library_parameter, is_new, with_new, block, statement, new_name, another_name, name_list, declaration, declarations, labels_of, label_names, library_line, library, at_end, body, scope_of, with_items, segment, unit_of}
+use Rattle.cw_form.specs.Trees.{Name, own_single, own_label}
+use Rattle.cw_form.specs.Tokens.{kind_of, behind, is_begin, is_comma, is_finish, is_integer, is_library, is_open, is_procedure, is_segment, is_semicolon, is_value, is_close, name_of}
+use Rattle.cw_form.specs.Grammar.{Rule, Scope, repeated, name, names_write, library_procedure, library_parameter, is_new, with_new, block, statement, new_name, another_name, name_list, declaration, declarations, labels_of, label_names, library_line, library, at_end, body, scope_of, with_items, segment, unit_of}
 use Rattle.cw_form.proofs.Optional.{when, either, after, after_any, mapped}
-use Rattle.cw_form.proofs.Readings.{Says, Reading, Levels, levels-read, block-read}
+use Rattle.cw_form.proofs.Readings.{Reading, levels-read, block-read}
 
 pub record Parts (u : SourceUnit) : Type 0 where
   pub library : Bool
@@ -31,7 +29,7 @@ known P (Some a) f h = h a refl
 
 -- ---- how many names
 
-abbrev Room : ℕ → List Name × List Lexeme → Type 0
+abbrev pub Room : ℕ → List Name × List Lexeme → Type 0
 Room b p = length p.0 + length p.1 ≤ b
 
 keeps : (b : ℕ) (begins : List Lexeme → Bool) (more : List Name → Rule (List Name)) → ((a : List Name) (ts : List Lexeme) → Room b (a, ts) → IfSome (more a ts) (Room b))
@@ -48,7 +46,7 @@ shorter-at : (ts : List Lexeme) (o : Option Name) → IfSome (option_map (with-r
 shorter-at ts None = tt
 shorter-at ts (Some n) = omega arith
 
-shorter : (ts : List Lexeme) → IfSome (name ts) (λ q. length q.1 < length ts)
+pub shorter : (ts : List Lexeme) → IfSome (name ts) (λ q. length q.1 < length ts)
 shorter [] = tt
 shorter (t ∷ ts) = shorter-at ts (name_of t)
 
@@ -74,7 +72,7 @@ name_list-room b names ts h =
     after (Room b) (Room b) (new_name names ts) _ (new_name-room b names ts h)
     (λ q k. keeps b (λ vs. is_comma (kind_of vs)) another_name (another_name-room b) (length q.1) q.0 q.1 k)
 
-behind-shorter : (v : Bool) (ts : List Lexeme) → IfSome (behind v ts) (λ us. length us ≤ length ts)
+pub behind-shorter : (v : Bool) (ts : List Lexeme) → IfSome (behind v ts) (λ us. length us ≤ length ts)
 behind-shorter true ts = omega (arith, length-drop 1 ts)
 behind-shorter false ts = tt
 
@@ -84,7 +82,7 @@ declaration-room b names ts h =
     after (Room b) (Room b) (name_list names (drop 1 ts)) _ (name_list-room b names (drop 1 ts) (room-drop b names ts h))
     (λ q k. after (Room b) (λ us. length us ≤ length q.1) (behind (is_semicolon (kind_of q.1)) q.1) _ (behind-shorter (is_semicolon (kind_of q.1)) q.1) (λ us s. omega arith))
 
-declarations-room : (b : ℕ) (ts : List Lexeme) → length ts ≤ b → IfSome (declarations ts) (Room b)
+pub declarations-room : (b : ℕ) (ts : List Lexeme) → length ts ≤ b → IfSome (declarations ts) (Room b)
 unfolding declarations
 declarations-room b ts h = keeps b (λ us. is_integer (kind_of us)) declaration (declaration-room b) (length ts) [] ts (omega arith)
 
@@ -124,7 +122,7 @@ line-shorter ts =
         → IfSome (option_and_then f (behind v us)) (λ y. length y ≤ length ts)
     two ts v us h f k = after (λ y. length y ≤ length ts) (λ x. length x ≤ length ts) (behind v us) f (last ts v us h) k
 
-library-shorter : (ts : List Lexeme) → IfSome (library ts) (λ q. length q.1 ≤ length ts)
+pub library-shorter : (ts : List Lexeme) → IfSome (library ts) (λ q. length q.1 ≤ length ts)
 unfolding library
 library-shorter ts =
     either (λ q. length q.1 ≤ length ts) (is_library (kind_of ts)) (option_map (λ us. (true, us)) (library_line ts)) (Some (false, ts))

@@ -1,5 +1,5 @@
 -- Whatever is said of numbers and items, and follows for the sums, conditions and statements that are made of them, holds of all that the grammar reads.
-use Rattle.std.proofs.Common.{◌≡◌, ℕ, zero, suc, ◌+◌, ◌<◌, ◌≤◌, Bool, true, false, cond, ◌&&◌, nat_lt, List, [], ◌∷◌, ◌++◌, length, drop, min, Option, Some, None, option_map, option_and_then, refl, ap, arith, subst}
+use Rattle.std.proofs.Common.{◌≡◌, ℕ, zero, suc, ◌<◌, ◌≤◌, Bool, true, false, cond, ◌&&◌, List, [], ◌∷◌, ◌++◌, length, drop, Option, Some, None, option_map, option_and_then, arith}
 use Rattle.std.specs.Prelude.{IfSome, nat_le}
 use Rattle.std.specs.List.{list_all}
 use Rattle.std.specs.Char.{is_ascii_digit}
@@ -13,9 +13,9 @@ use Rattle.cw_unit.specs.declared.unit.Stmt.{Stmt}
 use Rattle.cw_unit.specs.declared.unit.CompareOp.{CompareOp}
 use Rattle.cw_form.specs.Trees.{Name, number, read, sum, difference, negative, assign, write, jump, choice, marked, row, both, either as or}
 use Rattle.cw_form.specs.Trees as tree
-use Rattle.cw_form.specs.Tokens.{kind_of, line_of, behind, is_and, is_begin, is_else, is_end, is_goto, is_if, is_or, is_then, is_assign, is_close, is_minus, is_open, is_semicolon, is_sign, is_name, is_number, compare_of, name_of, digits_number, number_of}
-use Rattle.cw_form.specs.Grammar.{Found, Rule, Scope, repeated, all, name, number_in, item_of, operand_of, operand, signed, joined, another_operand, first_operand, sum_of, operator, comparison, another_comparison, conjunction, another_conjunction, condition, item, label, assignment, output, jump_to, names_write, plain, is_label, another_label, labels, labelled, another_statement, statement_row, block, simple_by, otherwise_by, conditional, statement_by, nothing, statement, simple, otherwise}
-use Rattle.cw_form.proofs.Optional.{when, either, after, after_any, mapped}
+use Rattle.cw_form.specs.Tokens.{kind_of, line_of, behind, is_and, is_begin, is_else, is_end, is_goto, is_if, is_or, is_then, is_assign, is_close, is_minus, is_open, is_semicolon, is_sign, is_name, is_number, digits_number, number_of}
+use Rattle.cw_form.specs.Grammar.{Found, Rule, Scope, repeated, all, name, number_in, item_of, operand_of, operand, signed, joined, another_operand, first_operand, sum_of, operator, comparison, another_comparison, conjunction, another_conjunction, condition, item, label, assignment, output, jump_to, names_write, plain, labels, labelled, another_statement, statement_row, block, simple_by, otherwise_by, conditional, statement_by, nothing, statement, simple, otherwise}
+use Rattle.cw_form.proofs.Optional.{when, either, after_any, mapped}
 
 -- what is said of an operand, of a sum, of a condition, of a statement that opens so many levels at most, and of a list of such statements
 pub record Reading (count : ℕ) : Type 1 where

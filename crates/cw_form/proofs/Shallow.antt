@@ -19,7 +19,7 @@ use Rattle.cw_form.specs.Trees as tree
 use Rattle.cw_form.specs.Trees.{jump, choice, marked, both, either, number, direct_layer, direct, read, negative, assign, write, row, sum, difference}
 use Rattle.cw_form.specs.Grammar.{unit_of}
 use Rattle.cw_form.proofs.Readings.{Reading}
-use Rattle.cw_form.proofs.Parts.{Parts, parts, body-read}
+use Rattle.cw_form.proofs.Parts.{parts, body-read}
 
 number-depth : (n : ℕ) → operand_depth (number n) ≡ 1
 number-depth n = fold-roll-Expr _ _ _ _ _ _ _ _ _ _ (layer.Num (record { whole = n; digits = 0; places = 0 }))
@@ -56,7 +56,6 @@ write-depth line e h =
 
 row-is : (ss : List Stmt) → body_depth (row ss) ≡ largest (map body_depth ss)
 row-is ss = simp fold-roll-Stmt refl
-
 
 comparison-depth : (op : CompareOp) (e f : Expr) → condition_depth (tree.comparison op e f) ≡ two_depth (operand_depth e) (operand_depth f)
 comparison-depth op e f = fold-roll-Cond _ _ _ _ _ _ _ _ _ _ (layer.Cmp op e f)

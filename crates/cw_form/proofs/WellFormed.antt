@@ -1,5 +1,5 @@
 -- Each unit of the form is well formed.
-use Rattle.std.proofs.Common.{◌≡◌, ℕ, Bool, true, ◌&&◌, false, ◌<◌, List, [], ◌∷◌, ◌++◌, length, map, sym, IsTrue, Some, None, refl, ap, ap₂, ◌∙◌}
+use Rattle.std.proofs.Common.{◌≡◌, ℕ, Bool, true, ◌&&◌, false, ◌<◌, List, [], ◌∷◌, ◌++◌, length, map, IsTrue, Some, None, refl, ap, ap₂, ◌∙◌}
 use Rattle.cw_unit.specs.declared.unit.Unit.{Unit as SourceUnit}
 use Rattle.cw_unit.specs.declared.unit.Expr.{Expr}
 use Rattle.cw_unit.specs.declared.unit.Cond.{Cond}
@@ -14,11 +14,10 @@ use Rattle.cw_unit.specs.declared.unit.Stmt.TheOpen as statement
 use Rattle.cw_unit.specs.declared.unit.Target.TheVariants as target
 use Rattle.cw_unit.specs.declared.unit.Arg.TheFolds.{fold-roll-Expr, fold-roll-Ref, fold-roll-Arg, fold-roll-Spot, fold-roll-Cond}
 use Rattle.cw_unit.specs.declared.unit.Stmt.TheFolds.{fold-roll-Stmt}
-use Rattle.std.specs.Prelude.{slice_get}
 use Rattle.cw_unit.specs.declared.layout.Limits.{Limits}
 use Rattle.cw_unit.specs.Program.{Program, program_of}
 use Rattle.cw_safety.specs.Kinds.{WordKind}
-use Rattle.cw_safety.specs.WellFormed.{all, kind_if, kinds_of, is_call, is_expression, kind_of, is_reference, is_condition, is_statement, reaches, reaches_label, sets, argument_step, condition_step, expression_step, spot_step, reference_step, statement_step, are_procedures, is_well_formed}
+use Rattle.cw_safety.specs.WellFormed.{all, kind_if, kinds_of, is_call, is_expression, kind_of, is_reference, is_condition, is_statement, reaches_label, argument_step, condition_step, expression_step, spot_step, reference_step, statement_step, are_procedures, is_well_formed}
 use Rattle.cw_form.specs.Trees as tree
 use Rattle.cw_form.specs.Trees.{Name, jump, choice, marked, both, either, own_label, number, direct_layer, direct, read, assign, write, row, sum, difference, negative}
 use Rattle.cw_form.specs.Grammar.{unit_of}
@@ -68,7 +67,6 @@ module _ (p : Program) where
 
   row-is : (ss : List Stmt) → is_statement p 0 None (row ss) ≡ all (map (is_statement p 0 None) ss)
   row-is ss = simp fold-roll-Stmt refl
-
 
   formed-comparison : (op : CompareOp) (e f : Expr) → Expression e → Expression f → is_condition p 0 None (tree.comparison op e f) ≡ true
   formed-comparison op e f h k = fold-roll-Cond _ _ _ _ _ _ _ _ _ _ (layer.Cmp op e f) ∙ ap₂ (λ a b. a && b) h k

@@ -23,7 +23,7 @@ Found A = Option (A × List Lexeme)
 abbrev pub Rule : Type 0 → Type 0
 Rule A = List Lexeme → Found A
 
--- One more of the parts that follow what is read already, as long as one begins here: n at most, and the tokens left are never fewer.
+-- More of the parts that follow what is read already, as long as one begins here: n at most. Each takes a token or more, so the number of tokens left bounds none.
 abbrev pub repeated : {A : Type 0} → (begins : List Lexeme → Bool) → (more : A → Rule A) → (n : ℕ) → A → Rule A
 repeated begins more zero a ts = Some (a, ts)
 repeated begins more (suc n) a ts = if begins ts then option_and_then (λ (b, us). repeated begins more n b us) (more a ts) else Some (a, ts)

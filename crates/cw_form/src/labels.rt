@@ -44,11 +44,7 @@ fn new_label(items: &Names, seen: Names, name: Name) -> Result<Names, Fault>
 }
 
 /// The names of the labels, if each is set once and is the name of no item.
-pub(crate) fn label_names(
-    alloc: Global,
-    items: &Names,
-    labels: &[SetLabel],
-) -> Result<Names, Fault>
+pub(crate) fn label_names(alloc: Global, items: &Names, labels: &[SetLabel]) -> Result<Names, Fault>
     requires { length labels.now ≤ 65535 }
     ensures { Gives (label_names items.now [] labels.now) result }
 {

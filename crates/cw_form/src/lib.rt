@@ -8,6 +8,7 @@ pub mod laws;
 mod names;
 mod scope;
 mod segment;
+pub mod sizes;
 mod statements;
 mod sums;
 mod tokens;

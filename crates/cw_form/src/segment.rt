@@ -12,8 +12,8 @@ use crate::names::Names;
 use crate::scope::Scope;
 use crate::statements::block;
 use crate::tokens::{
-    Tokens, is_begin, is_close, is_comma, is_finish, is_integer, is_library, is_open,
-    is_procedure, is_segment, is_semicolon, is_value,
+    Tokens, is_begin, is_close, is_comma, is_finish, is_integer, is_library, is_open, is_procedure,
+    is_segment, is_semicolon, is_value,
 };
 use cw_lex::Token;
 use cw_unit::descriptor::Scale;
@@ -239,12 +239,7 @@ fn with_items(
 }
 
 #[tactic(auto, unfolding(crate::specs::Grammar::segment))]
-fn segment(
-    alloc: Global,
-    library: bool,
-    count: u32,
-    tokens: &mut Tokens,
-) -> Result<Unit, Fault>
+fn segment(alloc: Global, library: bool, count: u32, tokens: &mut Tokens) -> Result<Unit, Fault>
     requires { length tokens.old ≤ 65535 }
     ensures { Gives (segment library count tokens.old) result }
 {

@@ -11,8 +11,8 @@ use crate::names::is_write;
 use crate::scope::Scope;
 use crate::sums::{condition, direct, sum_of};
 use crate::tokens::{
-    Tokens, is_assign, is_begin, is_close, is_else, is_end, is_goto, is_if, is_name,
-    is_open, is_semicolon, is_then,
+    Tokens, is_assign, is_begin, is_close, is_else, is_end, is_goto, is_if, is_name, is_open,
+    is_semicolon, is_then,
 };
 use cw_unit::unit::{Arg, Cond, Dest, Expr, Goal, Stmt, Target};
 use cw_word::{Boxed, List, NoMemory};

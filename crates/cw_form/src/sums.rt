@@ -9,7 +9,9 @@ ghost use Rattle.cw_form.specs.Readings.{Gives, Reads};
 
 use crate::fault::Fault;
 use crate::scope::Scope;
-use crate::tokens::{Tokens, compare_of, is_and, is_minus, is_number, is_or, is_sign, name_of, number_of};
+use crate::tokens::{
+    Tokens, compare_of, is_and, is_minus, is_number, is_or, is_sign, name_of, number_of,
+};
 use cw_lex::Token;
 use cw_unit::unit::{CompareOp, Cond, Expr, Num, Ref, Spot};
 use cw_word::{Boxed, NoMemory};

@@ -7,3 +7,4 @@ pub mod Causes
 pub mod Texts
 pub mod Loaded
 pub mod Meant
+pub mod Sizes

@@ -101,15 +101,19 @@ module _ (given : Given) where
   preserves_meaning words file steps before after (Unfinished count) (command, ran) = is_meant file steps before after (Unfinished count) ran
   preserves_meaning words file steps before after (BadCode offset) (command, ran) = never_bad file ran.unit ran.compiles ran.links ran.shows.start ran.shows.is_start steps offset ran.shown ran.shows.shows ran.tells
   preserves_meaning words file steps before after (Divided offset) (command, ran) = never_divided file ran.unit ran.compiles ran.links ran.shows.start ran.shows.is_start steps offset ran.shown ran.shows.shows ran.tells
-  preserves_meaning words file steps before after (Outside Out) (command, failed) = (failed.instructions, failed.within, record {
-    unit = failed.unit;
-    compiles = failed.compiles;
-    shown = failed.shown;
-    shows = failed.shows;
-    tells = tt;
-    output = failed.output;
-    preserves = preserves file failed.unit failed.compiles failed.links failed.shows.start failed.shows.is_start failed.instructions failed.shown failed.shows.shows;
-  })
+  preserves_meaning words file steps before after (Outside Out) (command, failed) = (
+    failed.instructions,
+    failed.within,
+    record {
+      unit = failed.unit;
+      compiles = failed.compiles;
+      shown = failed.shown;
+      shows = failed.shows;
+      tells = tt;
+      output = failed.output;
+      preserves = preserves file failed.unit failed.compiles failed.links failed.shows.start failed.shows.is_start failed.instructions failed.shown failed.shows.shows;
+    },
+  )
   preserves_meaning words file steps before after (Outside Store) cause = tt
   preserves_meaning words file steps before after (Outside Say) cause = tt
   preserves_meaning words file steps before after Usage cause = tt

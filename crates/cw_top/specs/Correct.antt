@@ -1,5 +1,5 @@
 -- What the command promises. So far its words are `go` and the name of one file, whose text is one segment.
-use Rattle.std.specs.Prelude.{◌≡◌, ℕ, ◌+◌, ◌<◌, ◌≤◌, List, [], ◌∷◌, length, take, Option, None, Some, slice_index_or, codes}
+use Rattle.std.specs.Prelude.{◌≡◌, ℕ, ◌+◌, ◌*◌, ◌<◌, ◌≤◌, List, [], ◌∷◌, length, take, Option, None, Some, slice_index_or, codes}
 use Rattle.cw_io.specs.Bytes.{after_told}
 use Rattle.cw_io.specs.Count.{Rose}
 use Rattle.cw_io.specs.File.{Told, Is, IsAbsent, IsLonger}
@@ -172,13 +172,14 @@ pub record NeedsWords (file : Told) (need : ℕ) : Type 0 where
   pub is : need ≡ need_of unit
   pub more : default_limits.area < need
 
--- The image has more bytes than the code segment.
+-- The image has more bytes than the code segment. Then the text has more items than 32 bytes for each and 4,096 for the library leave room for.
 pub record NeedsBytes (file : Told) (bytes : ℕ) : Type 0 where
   pub unit : SourceUnit
   pub compiles : Compiles file unit
   pub words : need_of unit ≤ default_limits.area
   pub is : bytes ≡ length (image_of unit)
   pub more : 65536 < bytes
+  pub many_items : 65536 < 32 * length compiles.expanded + 4096
 
 -- When each status comes. Two of them never come of one file that is told and one run, so each comes exactly where its cause is.
 abbrev pub Causes : (words : List (List ℕ)) → (file : Told) → (steps : ℕ) → (before after : Outer) → Status → Type 0

@@ -12,6 +12,7 @@ ghost use Rattle.cw_top.specs.Correct.{IsCommand, HasItems, HasExpanded, Compile
 
 use crate::building::{Built, build, default_limits, need_of};
 use crate::command::file_of;
+use crate::laws::image_sizes;
 use crate::listing::write_listing;
 use crate::running::run_image;
 use crate::status::{LinkFault, Long, Refused, Status, Which};
@@ -116,6 +117,7 @@ fn build_and_run<O: Sink, S: Sink>(
     ensures says { (file : Told) → Compiles file unit.now → SaysFirst file (S.held say.old) (S.held say.new) result (Some unit.now.name) }
     ensures later { S.faults say.old ≤ S.faults say.new }
 {
+    image_sizes();
     let Ok(built) = build(alloc, unit) else {
         return Status::NoMemory;
     };

@@ -1,11 +1,10 @@
-use Rattle.std.proofs.Common.{rules, ◌≡◌, ◌<◌, ◌-◌, ◌∙◌, ap, sym, subst, true, false, [], ◌∷◌, ◌++◌, drop, arith, List, Some, None, option_and_then}
+use Rattle.std.proofs.Common.{rules, ◌≡◌, ◌<◌, ◌-◌, ◌∙◌, ap, sym, subst, true, false, [], ◌∷◌, arith, List, option_and_then}
 use Rattle.cw_lex.specs.Lexical.{Lexeme}
 use Rattle.cw_unit.specs.declared.unit.Stmt.{Stmt}
 use Rattle.cw_form.specs.Tokens.{kind_of, is_if, is_begin, is_else, is_semicolon}
-use Rattle.cw_form.specs.Grammar.{another_statement, block, labelled, statement_row, conditional, statement, simple, otherwise, all}
-use Rattle.cw_form.specs.Levels.{conditional_at, labelled_simple_at, unlabelled_at}
+use Rattle.cw_form.specs.Grammar.{another_statement, block, labelled, statement_row, conditional, statement, all}
 use Rattle.cw_form.specs.Readings.{Reads}
-use Rattle.cw_form.proofs.Repeats.{starts, begun}
+use Rattle.cw_form.proofs.Repeats.{starts}
 use Rattle.cw_form.proofs.Levels.{statement-is, simple_plain, simple_refused, simple_begins, otherwise_none, otherwise_refused, otherwise_begins, conditional_begins, conditional_refused, unlabelled_if, unlabelled_simple}
 use Rattle.cw_form.proofs.statements.+statement.Goals as goal
 

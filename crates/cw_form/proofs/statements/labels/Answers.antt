@@ -1,4 +1,4 @@
-use Rattle.std.proofs.Common.{[], sym, ap, refl, arith, ◌≡◌, ◌∙◌}
+use Rattle.std.proofs.Common.{[], ap, arith}
 use Rattle.cw_form.specs.Grammar.{is_label, another_label, labels, all}
 use Rattle.cw_form.proofs.Repeats.{starts}
 use Rattle.cw_form.proofs.statements.labels.Goals as goal

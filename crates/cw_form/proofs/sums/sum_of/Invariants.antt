@@ -1,4 +1,4 @@
-use Rattle.std.proofs.Common.{◌<◌, ◌≤◌, length}
+use Rattle.std.proofs.Common.{◌<◌, length}
 use Rattle.cw_form.specs.Tokens.{kind_of, is_sign}
 use Rattle.cw_form.specs.Grammar.{another_operand, sum_of}
 use Rattle.cw_form.proofs.Repeats.{Going}

@@ -1,4 +1,4 @@
-use Rattle.std.proofs.Common.{◌≡◌, ◌≤◌, ◌++◌, ◌∷◌, [], sym, ◌∙◌, ap, subst, Some, None, true, not, ◌&&◌, ℕ, List, length, arith, rules, length-append}
+use Rattle.std.proofs.Common.{◌≡◌, ◌++◌, ◌∷◌, [], sym, ◌∙◌, ap, subst, Some, None, true, ℕ, length, arith, rules, length-append}
 use Rattle.std.specs.BTreeMap.{Updates, get, btree_map_len}
 use Rattle.cw_form.specs.Numbering.{key, key_cmp, IsNumbering}
 use Rattle.cw_form.specs.Grammar.{number_in, is_write, is_new}
