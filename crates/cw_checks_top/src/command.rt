@@ -42,7 +42,7 @@ const NONE: Fails<'static> = Fails {
 
 // The command over memory, where the file `a` has this text.
 #[derive(Drop)]
-struct Call {
+struct Outcome {
     code: u8,
     out: MemSink,
     say: MemSink,
@@ -54,7 +54,7 @@ fn call(
     text: &[u8],
     fails: &Fails<'_>,
     steps: u64,
-) -> Result<Call, AllocError> {
+) -> Result<Outcome, AllocError> {
     let file = MemFile {
         name: list(alloc, b"a")?,
         bytes: list(alloc, text)?,
@@ -80,7 +80,7 @@ fn call(
         &mut say,
         steps,
     );
-    Ok(Call {
+    Ok(Outcome {
         code: status.code(),
         out,
         say,
@@ -88,7 +88,7 @@ fn call(
 }
 
 // The exit status, what `out` holds and what `say` holds.
-fn shown(alloc: Global, call: &Call) -> Result<String, AllocError> {
+fn shown(alloc: Global, call: &Outcome) -> Result<String, AllocError> {
     let code = call.code;
     let held = String::from_utf8_lossy(alloc, call.out.held())?;
     let said = String::from_utf8_lossy(alloc, call.say.held())?;
