@@ -2,7 +2,7 @@
 ghost use Rattle.std.specs.Prelude.{◌≡◌, length, IfOk};
 
 use cw_io::{MemFile, MemSink, MemSource, MemStore};
-use cw_top::coral66_within;
+use cw_top::{coral66, coral66_within};
 use cw_word::List;
 use std::alloc::{AllocError, Global};
 use std::test::Fail;
@@ -40,6 +40,9 @@ const NONE: Fails<'static> = Fails {
     say: &[],
 };
 
+/// The instructions of a run of `coral66`.
+pub const RUN_STEPS: u64 = 200_000_000;
+
 // The command over memory, where the file `a` has this text.
 #[derive(Drop)]
 struct Outcome {
@@ -71,15 +74,26 @@ fn call(
         return Err(AllocError);
     };
     let words = words_of(alloc, line)?;
-    let status = coral66_within(
-        alloc,
-        words.as_slice(),
-        &mut files,
-        &mut input,
-        &mut out,
-        &mut say,
-        steps,
-    );
+    let status = if steps == RUN_STEPS {
+        coral66(
+            alloc,
+            words.as_slice(),
+            &mut files,
+            &mut input,
+            &mut out,
+            &mut say,
+        )
+    } else {
+        coral66_within(
+            alloc,
+            words.as_slice(),
+            &mut files,
+            &mut input,
+            &mut out,
+            &mut say,
+            steps,
+        )
+    };
     Ok(Outcome {
         code: status.code(),
         out,
@@ -96,7 +110,7 @@ fn shown(alloc: Global, call: &Outcome) -> Result<String, AllocError> {
 }
 
 fn told(alloc: Global, line: &str, text: &[u8], fails: &Fails<'_>) -> Result<String, AllocError> {
-    shown(alloc, &call(alloc, line, text, fails, 200_000_000)?)
+    shown(alloc, &call(alloc, line, text, fails, RUN_STEPS)?)
 }
 
 /// The same of `go a` where nothing fails, within so many instructions.

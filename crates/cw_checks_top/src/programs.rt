@@ -1,5 +1,5 @@
 //! Small programs with what they write and how they end, by hand from the rules of the language.
-use crate::command::{bytes_and_end, within};
+use crate::command::{RUN_STEPS, bytes_and_end, within};
 use std::alloc::{AllocError, Global};
 use std::test::Fail;
 
@@ -64,7 +64,7 @@ fn programs(rt: HostRuntime) -> Result<(), Fail> {
             let text = text_of(alloc, body)?;
             let wanted = format!(in alloc; "{bytes}|{end}")?;
             assert_eq!(rt;
-                bytes_and_end(alloc, text.as_bytes(), 200_000_000)?.as_str(),
+                bytes_and_end(alloc, text.as_bytes(), RUN_STEPS)?.as_str(),
                 wanted.as_str()
             );
             count += 1;
@@ -128,25 +128,25 @@ fn declaring(alloc: Global, count: u32) -> Result<Vec<u8>, AllocError> {
 fn limits(rt: HostRuntime) -> Result<(), Fail> {
     let alloc = rt.alloc();
     assert_eq!(rt;
-        within(alloc, &declaring(alloc, 16_385)?, 1000)?.as_str(),
+        within(alloc, &declaring(alloc, 16_385)?, RUN_STEPS)?.as_str(),
         "3||link: P1 DataTooBig 20481\n"
     );
     assert_eq!(rt;
-        within(alloc, &declaring(alloc, 12_289)?, 1000)?.as_str(),
+        within(alloc, &declaring(alloc, 12_289)?, RUN_STEPS)?.as_str(),
         "3||link: P1 DataTooBig 16385\n"
     );
     assert_eq!(rt;
-        bytes_and_end(alloc, &declaring(alloc, 12_288)?, 1000)?.as_str(),
+        bytes_and_end(alloc, &declaring(alloc, 12_288)?, RUN_STEPS)?.as_str(),
         "|"
     );
     let before = "SEGMENT A BEGIN INTEGER X; ";
     let text = repeated(alloc, before, "X := X + 1; ", 1679, "END FINISH")?;
     assert_eq!(rt;
-        within(alloc, &text, 1000)?.as_str(),
+        within(alloc, &text, RUN_STEPS)?.as_str(),
         "3||link: P4 CodeTooBig 65561\n"
     );
     let text = repeated(alloc, before, "X := X + 1; ", 1678, "END FINISH")?;
-    assert_eq!(rt; bytes_and_end(alloc, &text, 200_000)?.as_str(), "|");
+    assert_eq!(rt; bytes_and_end(alloc, &text, RUN_STEPS)?.as_str(), "|");
     let levels = |count: u32| -> Result<Vec<u8>, AllocError> {
         let inner = repeated(alloc, "SEGMENT A ", "BEGIN ", count, "")?;
         let mut text = inner;
@@ -156,9 +156,12 @@ fn limits(rt: HostRuntime) -> Result<(), Fail> {
         text.extend_from_slice(b"FINISH")?;
         Ok(text)
     };
-    assert_eq!(rt; bytes_and_end(alloc, &levels(64)?, 1000)?.as_str(), "|");
     assert_eq!(rt;
-        within(alloc, &levels(65)?, 1000)?.as_str(),
+        bytes_and_end(alloc, &levels(64)?, RUN_STEPS)?.as_str(),
+        "|"
+    );
+    assert_eq!(rt;
+        within(alloc, &levels(65)?, RUN_STEPS)?.as_str(),
         "2||a: NotBuilt\n"
     );
     Ok(())
@@ -193,7 +196,7 @@ fn refusals(rt: HostRuntime) -> Result<(), Fail> {
             let text = if text.is_empty() { "?" } else { text };
             let wanted = format!(in alloc; "2||a{said}\n")?;
             assert_eq!(rt;
-                within(alloc, text.as_bytes(), 1000)?.as_str(),
+                within(alloc, text.as_bytes(), RUN_STEPS)?.as_str(),
                 wanted.as_str()
             );
             count += 1;
@@ -215,12 +218,12 @@ fn long_expansions(rt: HostRuntime) -> Result<(), Fail> {
     }
     text.extend_from_slice(b"A16")?;
     assert_eq!(rt;
-        within(alloc, &text, 1000)?.as_str(),
+        within(alloc, &text, RUN_STEPS)?.as_str(),
         "2||a:1: M4 TooLong\n"
     );
     let text = repeated(alloc, "", ";", 1_048_576, "")?;
     assert_eq!(rt;
-        within(alloc, &text, 1000)?.as_str(),
+        within(alloc, &text, RUN_STEPS)?.as_str(),
         "2||a:1: M4 TooLong\n"
     );
     Ok(())
