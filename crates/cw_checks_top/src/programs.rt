@@ -67,7 +67,7 @@ fn programs(rt: HostRuntime) -> Result<(), Fail> {
                 bytes_and_end(alloc, text.as_bytes(), RUN_STEPS)?.as_str(),
                 wanted.as_str()
             );
-            count += 1;
+            count = count.wrapping_add(1);
         }
     }
     assert_eq!(rt; count, 41);
@@ -199,7 +199,7 @@ fn refusals(rt: HostRuntime) -> Result<(), Fail> {
                 within(alloc, text.as_bytes(), RUN_STEPS)?.as_str(),
                 wanted.as_str()
             );
-            count += 1;
+            count = count.wrapping_add(1);
         }
     }
     assert_eq!(rt; count, 18);
