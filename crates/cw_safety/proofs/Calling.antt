@@ -16,11 +16,11 @@ use Rattle.cw_unit.specs.Work.{Work}
 use Rattle.cw_unit.specs.Configuration.{Activation, segment_of, control_at, procedure_in, procedure_at, frame_size_of, frame_top}
 use Rattle.cw_unit.specs.StackBound.{body_depth}
 use Rattle.cw_unit.specs.Step.{after, procedure_of_def, Writing, Calling, callee_of_place, callee_of_control, callee_of, Bound, bind_word, bind_control, bind_all, reversed_onto, first_operands, begun, handed, come_back, come_back_with, read_step, enter_framed, enter_procedure, enter_step}
-use Rattle.cw_safety.specs.Kinds.{Taken, TakesWord, TakesLabel, TakesSwitch, TakesProcedure, Kind, WordKind, LabelKind, SwitchKind, ProcedureKind, kind_of_param, parameter_kinds, control_kinds, procedure_kind, taken_of, same_taken, all_same_taken, same_kind, same_kinds, suits_one, suits}
+use Rattle.cw_safety.specs.Kinds.{Taken, TakesWord, TakesLabel, TakesSwitch, TakesProcedure, Kind, WordKind, LabelKind, SwitchKind, ProcedureKind, weight, weigh, kind_of_param, parameter_kinds, control_kinds, procedure_kind, taken_of, same_taken, all_same_taken, same_kind, same_kinds, suits_one, suits}
 use Rattle.cw_safety.specs.WellFormed.{WellFormed, takes_arguments, parameter_takes, procedure_of_place, controls_of, is_call}
-use Rattle.cw_safety.specs.Depth.{depth_at, depth_of_procedure}
+use Rattle.cw_safety.specs.Depth.{owner_of, depth_at, depth_of_procedure}
 use Rattle.cw_safety.proofs.Truth.{no, both}
-use Rattle.cw_safety.proofs.Typing.{owner_of, weigh, onto, result, Pop, ControlFits, HasKind, HaveKinds, Fit, Typed, Holds, Safe}
+use Rattle.cw_safety.proofs.Typing.{onto, result, Pop, ControlFits, HasKind, HaveKinds, Fit, Typed, Holds, Safe}
 use Rattle.cw_safety.proofs.Performing.{Good, perform-good, read_byte-good}
 use Rattle.cw_safety.proofs.Jumping.{control-fits}
 
@@ -69,7 +69,7 @@ kind-same (ProcedureKind ts) WordKind h = no h
 kind-same (ProcedureKind ts) LabelKind h = no h
 kind-same (ProcedureKind ts) SwitchKind h = no h
 
-kinds-same : (ks ms : List Kind) → IsTrue (same_kinds ks ms) → ks ≡ ms
+pub kinds-same : (ks ms : List Kind) → IsTrue (same_kinds ks ms) → ks ≡ ms
 kinds-same [] [] h = refl
 kinds-same [] (m ∷ ms) h = no h
 kinds-same (k ∷ ks) [] h = no h
@@ -154,6 +154,11 @@ other-operands n xs ys e =
     let l : n ≡ length r = omega (arith, e, reversed-length xs []) in
     ap (λ m. drop m (reversed_onto xs ys)) l ∙ ap (λ zs. drop (length r) zs) (reversed-append xs [] ys) ∙ drop-append_seam r ys
 
+-- arguments are with what is below them as many words as both
+pub weigh-onto : (args rest : List Kind) → weigh (onto args rest) ≡ weigh args + weigh rest
+weigh-onto [] rest = omega arith
+weigh-onto (k ∷ args) rest = omega (arith, weigh-onto args (k ∷ rest))
+
 module _ (p : Program) (acts : List Activation) where
   pub kinds-length : (xs : List Operand) (ks : List Kind) → HaveKinds p acts xs ks → length xs ≡ length ks
   kinds-length [] [] h = refl
@@ -234,16 +239,16 @@ module _ (p : Program) where
   after-safe Impossible s line now next acts w i n = absurd n
 
   module _ (wf : WellFormed p) where
-    begun-safe : (s g q : ℕ) (proc : Proc) (wanted : Bool) (base : ℕ) (now k : Work) (acts : List Activation) (w : Words) (b : Option Bound) (rest : List Kind) → Holds p s now acts w → procedure_at p g q ≡ Some proc → BoundFits p acts b (control_kinds (parameter_kinds proc)) → HaveKinds p acts (drop (length proc.params) w.operands) rest → weigh (result wanted rest) ≤ depth_at p s acts → Typed p (segment_of s acts) (owner_of acts) (depth_at p s acts) k (result wanted rest) → Safe p (begun s g q proc wanted base now k acts w b)
-    begun-safe s g q proc wanted base now k acts w None rest i e b h d t = absurd b
-    begun-safe s g q proc wanted base now k acts w (Some b') rest i e b h d t =
+    begun-safe : (s g q : ℕ) (proc : Proc) (wanted : Bool) (base : ℕ) (now k : Work) (acts : List Activation) (w : Words) (b : Option Bound) (rest : List Kind) → Holds p s now acts w → procedure_at p g q ≡ Some proc → BoundFits p acts b (control_kinds (parameter_kinds proc)) → HaveKinds p acts (drop (length proc.params) w.operands) rest → weigh (result wanted rest) ≤ depth_at p s acts → weigh (parameter_kinds proc) + weigh rest ≤ depth_at p s acts → Typed p (segment_of s acts) (owner_of acts) (depth_at p s acts) k (result wanted rest) → Safe p (begun s g q proc wanted base now k acts w b)
+    begun-safe s g q proc wanted base now k acts w None rest i e b h d m t = absurd b
+    begun-safe s g q proc wanted base now k acts w (Some b') rest i e b h d m t =
         let u = unit_of-procedure (slice_get p.units g) q proc e in
         let deep : depth_of_procedure (procedure_at p g q) ≡ body_depth proc.body = ap depth_of_procedure e in (
           tt,
           (
             i.0,
             i.1,
-            (proc, e, b, rest, h, d, t, i.2),
+            (proc, e, b, rest, h, d, m, t, i.2),
             [],
             tt,
             omega arith,
@@ -265,6 +270,7 @@ module _ (p : Program) where
         (bound p acts item proc.params (first_operands n w.operands) start [] (subst (λ xs. HaveKinds p acts xs (parameter_kinds proc)) (sym firsts) parts.3) tt)
         (subst (λ xs. HaveKinds p acts xs rest) (sym others) parts.4)
         d
+        (omega (arith, i.5, ap weigh f, weigh-onto (parameter_kinds proc) rest))
         t
 
     enter_procedure-safe : (b : Bool) (x : Option Proc) (s line g q : ℕ) (wanted : Bool) (now k : Work) (acts : List Activation) (w : Words) (args rest : List Kind) → (i : Holds p s now acts w) → procedure_at p g q ≡ x → IsTrue (takes_arguments x args) → i.3 ≡ onto args rest → weigh (result wanted rest) ≤ depth_at p s acts → Typed p (segment_of s acts) (owner_of acts) (depth_at p s acts) k (result wanted rest) → Safe p (enter_procedure p b x s line g q wanted now k acts w)
@@ -286,7 +292,7 @@ module _ (p : Program) where
     place-safe None s line wanted now k acts w args rest i a f d t = no a
     place-safe (Some q) s line wanted now k acts w args rest i a f d t = calling-safe q.0 q.1 s line wanted now k acts w args rest i a f d t
 
-    suited : (x : Option Proc) (ts : List Taken) (args : List Kind) → procedure_kind x ≡ Some (ProcedureKind ts) → IsTrue (suits args ts) → IsTrue (takes_arguments x args)
+    pub suited : (x : Option Proc) (ts : List Taken) (args : List Kind) → procedure_kind x ≡ Some (ProcedureKind ts) → IsTrue (suits args ts) → IsTrue (takes_arguments x args)
     suited None ts args e h = absurd (none-some (ProcedureKind ts) e)
     suited (Some q) ts args e h =
         let same : map taken_of (parameter_kinds q) ≡ ts = cc in
@@ -347,7 +353,7 @@ module _ (p : Program) where
   pub come_back-safe : (z : ℤ) (s : ℕ) (now : Work) (acts : List Activation) (w : Words) → Holds p s now acts w → IsTrue (is_some (owner_of acts)) → Safe p (come_back z s now acts w)
   come_back-safe z s now [] w i h = no h
   come_back-safe z s now (a ∷ acts) w i h =
-      let c = i.2 in (tt, (i.0, i.1, c.7, result a.wanted c.3, handed-kinds acts a.wanted z a.operands c.3 c.4, c.5, c.6))
+      let c = i.2 in (tt, (i.0, i.1, c.8, result a.wanted c.3, handed-kinds acts a.wanted z a.operands c.3 c.4, c.5, c.7))
 
   come_back_with-kinds : (xs : List Operand) (ks : List Kind) (s : ℕ) (now : Work) (acts : List Activation) (w : Words) → Holds p s now acts w → HaveKinds p acts xs ks → Pop (λ r. Unit {0}) ks → IsTrue (is_some (owner_of acts)) → Safe p (come_back_with xs s now acts w)
   come_back_with-kinds [] [] s now acts w i k q h = absurd q

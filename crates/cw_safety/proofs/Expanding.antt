@@ -1,5 +1,5 @@
 -- What a well-formed tree becomes finds the operands that it takes, within the depth of the tree.
-use Rattle.std.proofs.Common.{◌≡◌, ℕ, ◌+◌, ◌≤◌, List, [], ◌∷◌, map, Bool, true, false, IsTrue, ◌&&◌, Option, Some, None, is_some, refl, sym, ap, subst, ◌∙◌, arith, slice_get}
+use Rattle.std.proofs.Common.{◌≡◌, ℕ, ◌+◌, ◌≤◌, ℤ, pos, ◌-ℤ◌, List, [], ◌∷◌, map, Bool, true, false, IsTrue, ◌&&◌, Option, Some, None, is_some, refl, sym, ap, subst, ◌∙◌, arith, slice_get}
 use Rattle.std.proofs.lemmas.Option.{none-some, same_Some}
 use Rattle.cw_unit.specs.declared.unit.Unit.{Unit as SourceUnit}
 use Rattle.cw_unit.specs.declared.unit.Stmt.{Stmt, Stmt-F, out-Stmt, map-Stmt}
@@ -21,31 +21,31 @@ use Rattle.cw_unit.specs.declared.unit.Stmt.TheFolds.{fold_out-Stmt}
 use Rattle.cw_unit.specs.Program.{Program, definition_of}
 use Rattle.cw_unit.specs.Step.{label_of_goal, switch_of_def, procedure_of_def}
 use Rattle.cw_unit.specs.Configuration.{procedure_at}
-use Rattle.cw_unit.specs.Work.{Work, FormAt, Do, Enter, Loop, statement_work, expression_work, spot_work, condition_work, element_work, run_all, give_all, go_work}
+use Rattle.cw_unit.specs.Work.{Work, index_work, FormAt, Do, Enter, Loop, statement_work, expression_work, spot_work, condition_work, element_work, run_all, give_all, go_work}
 use Rattle.cw_unit.specs.Operation.{Rescale}
 use Rattle.cw_unit.specs.Scales.{answer_scale}
 use Rattle.cw_unit.specs.StackBound as bound
-use Rattle.cw_unit.specs.StackBound.{ArgumentDepth, operand_depth, argument_depth, condition_depth, address_depth, body_depth, argument_depths, arguments_depth}
-use Rattle.cw_safety.specs.Kinds.{Kind, WordKind, LabelKind, SwitchKind, parameter_kinds}
+use Rattle.cw_unit.specs.StackBound.{ArgumentNeed, operand_depth, argument_depth, condition_depth, address_depth, body_depth, argument_depths, arguments_depth}
+use Rattle.cw_safety.specs.Kinds.{Kind, WordKind, LabelKind, SwitchKind, weight, weigh, parameter_kinds}
 use Rattle.cw_safety.specs.WellFormed as formed
 use Rattle.cw_safety.specs.WellFormed.{is_call, kind_of, is_expression, is_reference, is_condition, is_spot, are_elements, is_element, is_statement, kinds_of, controls_of, procedure_of_place}
 use Rattle.cw_safety.proofs.Truth.{no, both, if-kind, and-kinds, procedure-weight, control-weight}
-use Rattle.cw_safety.proofs.Typing.{weight, weigh, onto, result, After, spot_shape, Typed, IsLoop}
+use Rattle.cw_safety.proofs.Typing.{onto, result, After, spot_shape, Typed, IsLoop}
 
 abbrev pub spot_depth : Spot → ℕ
-spot_depth = fold-Spot ArgumentDepth ℕ ℕ ℕ ℕ bound.argument_step bound.condition_step bound.expression_step bound.spot_step bound.ref_step
+spot_depth = fold-Spot ArgumentNeed ℕ ℕ ℕ ℕ bound.argument_step bound.condition_step bound.expression_step bound.spot_step bound.ref_step
 
-abbrev pub depths : Expr-F Arg Cond Expr Spot Ref → Expr-F ArgumentDepth ℕ ℕ ℕ ℕ
-depths = map-Expr Arg Cond Expr Spot Ref ArgumentDepth ℕ ℕ ℕ ℕ argument_depth condition_depth operand_depth spot_depth address_depth
+abbrev pub depths : Expr-F Arg Cond Expr Spot Ref → Expr-F ArgumentNeed ℕ ℕ ℕ ℕ
+depths = map-Expr Arg Cond Expr Spot Ref ArgumentNeed ℕ ℕ ℕ ℕ argument_depth condition_depth operand_depth spot_depth address_depth
 
-abbrev pub arg_depths : Arg-F Arg Cond Expr Spot Ref → Arg-F ArgumentDepth ℕ ℕ ℕ ℕ
-arg_depths = map-Arg Arg Cond Expr Spot Ref ArgumentDepth ℕ ℕ ℕ ℕ argument_depth condition_depth operand_depth spot_depth address_depth
+abbrev pub arg_depths : Arg-F Arg Cond Expr Spot Ref → Arg-F ArgumentNeed ℕ ℕ ℕ ℕ
+arg_depths = map-Arg Arg Cond Expr Spot Ref ArgumentNeed ℕ ℕ ℕ ℕ argument_depth condition_depth operand_depth spot_depth address_depth
 
-abbrev pub cond_depths : Cond-F Arg Cond Expr Spot Ref → Cond-F ArgumentDepth ℕ ℕ ℕ ℕ
-cond_depths = map-Cond Arg Cond Expr Spot Ref ArgumentDepth ℕ ℕ ℕ ℕ argument_depth condition_depth operand_depth spot_depth address_depth
+abbrev pub cond_depths : Cond-F Arg Cond Expr Spot Ref → Cond-F ArgumentNeed ℕ ℕ ℕ ℕ
+cond_depths = map-Cond Arg Cond Expr Spot Ref ArgumentNeed ℕ ℕ ℕ ℕ argument_depth condition_depth operand_depth spot_depth address_depth
 
-abbrev pub spot_depths : Spot-F Arg Cond Expr Spot Ref → Spot-F ArgumentDepth ℕ ℕ ℕ ℕ
-spot_depths = map-Spot Arg Cond Expr Spot Ref ArgumentDepth ℕ ℕ ℕ ℕ argument_depth condition_depth operand_depth spot_depth address_depth
+abbrev pub spot_depths : Spot-F Arg Cond Expr Spot Ref → Spot-F ArgumentNeed ℕ ℕ ℕ ℕ
+spot_depths = map-Spot Arg Cond Expr Spot Ref ArgumentNeed ℕ ℕ ℕ ℕ argument_depth condition_depth operand_depth spot_depth address_depth
 
 -- what a number, a constant or a string puts at once
 abbrev pub pushed : Expr-F Arg Cond Expr Spot Ref → List Kind → List Kind
@@ -60,19 +60,19 @@ placed (layer.Direct i) ks = WordKind ∷ ks
 placed _ ks = ks
 
 pub depth-expression : (e : Expr) → operand_depth e ≡ bound.expression_step (depths (out-Expr e))
-depth-expression = fold_out-Expr ArgumentDepth ℕ ℕ ℕ ℕ bound.argument_step bound.condition_step bound.expression_step bound.spot_step bound.ref_step
+depth-expression = fold_out-Expr ArgumentNeed ℕ ℕ ℕ ℕ bound.argument_step bound.condition_step bound.expression_step bound.spot_step bound.ref_step
 
 pub depth-argument : (a : Arg) → argument_depth a ≡ bound.argument_step (arg_depths (out-Arg a))
-depth-argument = fold_out-Arg ArgumentDepth ℕ ℕ ℕ ℕ bound.argument_step bound.condition_step bound.expression_step bound.spot_step bound.ref_step
+depth-argument = fold_out-Arg ArgumentNeed ℕ ℕ ℕ ℕ bound.argument_step bound.condition_step bound.expression_step bound.spot_step bound.ref_step
 
 pub depth-condition : (c : Cond) → condition_depth c ≡ bound.condition_step (cond_depths (out-Cond c))
-depth-condition = fold_out-Cond ArgumentDepth ℕ ℕ ℕ ℕ bound.argument_step bound.condition_step bound.expression_step bound.spot_step bound.ref_step
+depth-condition = fold_out-Cond ArgumentNeed ℕ ℕ ℕ ℕ bound.argument_step bound.condition_step bound.expression_step bound.spot_step bound.ref_step
 
 pub depth-spot : (s : Spot) → spot_depth s ≡ bound.spot_step (spot_depths (out-Spot s))
-depth-spot = fold_out-Spot ArgumentDepth ℕ ℕ ℕ ℕ bound.argument_step bound.condition_step bound.expression_step bound.spot_step bound.ref_step
+depth-spot = fold_out-Spot ArgumentNeed ℕ ℕ ℕ ℕ bound.argument_step bound.condition_step bound.expression_step bound.spot_step bound.ref_step
 
 pub depth-reference : (r : Ref) → address_depth r ≡ spot_depth (out-Ref r).at
-depth-reference = fold_out-Ref ArgumentDepth ℕ ℕ ℕ ℕ bound.argument_step bound.condition_step bound.expression_step bound.spot_step bound.ref_step
+depth-reference = fold_out-Ref ArgumentNeed ℕ ℕ ℕ ℕ bound.argument_step bound.condition_step bound.expression_step bound.spot_step bound.ref_step
 
 pub depth-statement : (s : Stmt) → body_depth s ≡ bound.statement_step (map-Stmt Stmt ℕ body_depth (out-Stmt s))
 depth-statement = fold_out-Stmt ℕ bound.statement_step
@@ -204,20 +204,29 @@ module _ (p : Program) (g : ℕ) (o : Option (ℕ × ℕ)) where
         (parts.0, omega (arith, d), t, (parts.1, omega (arith, d), t, n))
 
     -- the address is formed from the indexes that were put
-    pub spot-typed : (s : Spot) (l : Spot-F Arg Cond Expr Spot Ref) (line : ℕ) (k : Work) (ks : List Kind) → IsTrue (formed.spot_step (spot_kinds l)) → bound.spot_step (spot_depths l) + weigh ks ≤ h → ((js : List Kind) → After h (spot_shape l) (Ty k) js → Ty (FormAt s line k) js) → Ty k (WordKind ∷ ks) → Ty (spot_work s l line k) (placed l ks)
-    spot-typed s (layer.Direct i) line k ks e d form t = t
-    spot-typed s (layer.Through i) line k ks e d form t = form ks (d, t)
-    spot-typed s (layer.One i l a) line k ks e d form t = (e, d, form (WordKind ∷ ks) t)
-    spot-typed s (layer.Two i l1 l2 n a b) line k ks e d form t = two-typed a b ks e d (form (WordKind ∷ WordKind ∷ ks) t)
-    spot-typed s (layer.ParamArray i a) line k ks e d form t = (e, d, form (WordKind ∷ ks) t)
-    spot-typed s (layer.Word i t' a) line k ks e d form t = (e, d, form (WordKind ∷ ks) t)
-    spot-typed s (layer.Elem i t' w q a) line k ks e d form t = (e, d, form (WordKind ∷ ks) t)
-    spot-typed s (layer.Bare a) line k ks e d form t = (e, d, form (WordKind ∷ ks) t)
+    index-typed : (c : Bool) (a : Expr) (l u : ℤ) (line : ℕ) (k : Work) (ks : List Kind) → IsTrue (is_expression p g o a) → operand_depth a + weigh ks ≤ h → Ty k (WordKind ∷ ks) → Ty (index_work c a l u line k) ks
+    index-typed true a l u line k ks e d t = (e, d, t)
+    index-typed false a l u line k ks e d t = (e, d, t)
+
+    pub spot-typed : (c : Bool) (s : Spot) (l : Spot-F Arg Cond Expr Spot Ref) (line : ℕ) (k : Work) (ks : List Kind) → IsTrue (formed.spot_step (spot_kinds l)) → bound.spot_step (spot_depths l) + weigh ks ≤ h → ((js : List Kind) → After h (spot_shape l) (Ty k) js → Ty (FormAt s line k) js) → Ty k (WordKind ∷ ks) → Ty (spot_work c s l line k) (placed l ks)
+    spot-typed c s (layer.Direct i) line k ks e d form t = t
+    spot-typed c s (layer.Through i) line k ks e d form t = form ks (d, t)
+    spot-typed c s (layer.One i l u a) line k ks e d form t = index-typed c a l u line (FormAt s line k) ks e d (form (WordKind ∷ ks) t)
+    spot-typed c s (layer.Two i l1 u1 l2 u2 n a b) line k ks e d form t =
+        let parts = two-typed a b ks e d (form (WordKind ∷ WordKind ∷ ks) t) in
+        index-typed c a l1 u1 line (index_work c b l2 u2 line (FormAt s line k)) ks parts.0 parts.1
+        (index-typed c b l2 u2 line (FormAt s line k) (WordKind ∷ ks) parts.2.0 parts.2.1 parts.2.2)
+    spot-typed c s (layer.ParamArray i a) line k ks e d form t = (e, d, form (WordKind ∷ ks) t)
+    spot-typed c s (layer.Word i t' n a) line k ks e d form t =
+        index-typed c a (pos 0) (pos n -ℤ pos 1) line (FormAt s line k) ks e d (form (WordKind ∷ ks) t)
+    spot-typed c s (layer.Elem i t' w n q a) line k ks e d form t =
+        index-typed c a (pos 0) (pos n -ℤ pos 1) line (FormAt s line k) ks e d (form (WordKind ∷ ks) t)
+    spot-typed c s (layer.Bare a) line k ks e d form t = (e, d, form (WordKind ∷ ks) t)
 
     -- ---- statements
 
     go-typed : (d : Dest) (line : ℕ) → IsTrue (formed.is_goal p g o d) → bound.jump_depth d ≤ h → Ty (go_work d d line) []
-    go-typed (dest.Goal l) line e b = e
+    go-typed (dest.Goal l) line e b = (refl, e)
     go-typed (dest.Special k) line e b = e
     go-typed (dest.Switch n a) line e b =
         let parts = both (is_expression p g o a) (formed.reaches_switch p o (Some (g, n))) e in (parts.0, omega (arith, b), (tt, parts.1))

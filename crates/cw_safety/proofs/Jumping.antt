@@ -16,9 +16,9 @@ use Rattle.cw_unit.specs.StackBound.{body_depth}
 use Rattle.cw_unit.specs.Step.{label_of_goal, switch_of_def, kept, work_from, jump_in_procedure, jump_in_unit, jump_to_unit, jump_to, jump_to_control, goal_at, jump_to_goal, switch_in, jump_by_list, jump_by_switch, jump_by_control, jump_step}
 use Rattle.cw_safety.specs.Kinds.{Kind, WordKind, LabelKind, SwitchKind, ProcedureKind, parameter_kinds, control_kinds}
 use Rattle.cw_safety.specs.WellFormed.{WellFormed, sets, sets_in_procedure, is_at, reaches_label, reaches_unit, reaches, reaches_goals, reaches_list, reaches_switch, controls_in, controls_of, is_label, is_switch}
-use Rattle.cw_safety.specs.Depth.{depth_at, depth_of_unit, depth_of_procedure}
+use Rattle.cw_safety.specs.Depth.{owner_of, depth_at, depth_of_unit, depth_of_procedure}
 use Rattle.cw_safety.proofs.Truth.{no, both, nat_same}
-use Rattle.cw_safety.proofs.Typing.{owner_of, Pop, ControlFits, HaveKinds, Fit, CanJump, Calls, Holds, Safe}
+use Rattle.cw_safety.proofs.Typing.{Pop, ControlFits, HaveKinds, Fit, CanJump, Calls, Holds, Safe}
 use Rattle.cw_safety.proofs.Labels.{Reached, continues}
 
 -- ---- owners
@@ -29,14 +29,14 @@ kept-all acts = let e : length acts - length acts ≡ 0 = omega arith in ap (λ 
 pub kept-more : (owner : ℕ) (a : Activation) (acts : List Activation) → owner ≤ length acts → kept owner (a ∷ acts) ≡ kept owner acts
 kept-more owner a acts h = let e : length (a ∷ acts) - owner ≡ suc (length acts - owner) = omega (arith, h) in ap (λ n. drop n (a ∷ acts)) e
 
-label-of : (x : Option Kind) → IsTrue (is_label x) → x ≡ Some LabelKind
+pub label-of : (x : Option Kind) → IsTrue (is_label x) → x ≡ Some LabelKind
 label-of None h = no h
 label-of (Some WordKind) h = no h
 label-of (Some LabelKind) h = refl
 label-of (Some SwitchKind) h = no h
 label-of (Some (ProcedureKind ts)) h = no h
 
-switch-of : (x : Option Kind) → IsTrue (is_switch x) → x ≡ Some SwitchKind
+pub switch-of : (x : Option Kind) → IsTrue (is_switch x) → x ≡ Some SwitchKind
 switch-of None h = no h
 switch-of (Some WordKind) h = no h
 switch-of (Some LabelKind) h = no h
@@ -47,7 +47,7 @@ module _ (p : Program) where
   pub calls-drop : (n s : ℕ) (acts : List Activation) → Calls p s acts → Calls p s (drop n acts)
   calls-drop zero s acts c = c
   calls-drop (suc n) s [] c = c
-  calls-drop (suc n) s (a ∷ acts) c = calls-drop n s acts c.7
+  calls-drop (suc n) s (a ∷ acts) c = calls-drop n s acts c.8
 
   pub fits-more : (a : Activation) (acts : List Activation) (c : Control) (m : Kind) → ControlFits p acts c m → ControlFits p (a ∷ acts) c m
   fits-more a acts (LabelControl g l owner) LabelKind f =
@@ -142,7 +142,7 @@ module _ (p : Program) where
         subst (λ x. IsTrue (reaches p o (label_of_goal p h x))) (same_Some g l e) (both (reaches p o (label_of_goal p h g)) (reaches_goals p o h gs) r).0
     goal-reached o h (g ∷ gs) (suc n) l r e = goal-reached o h gs n l (both (reaches p o (label_of_goal p h g)) (reaches_goals p o h gs) r).1 e
 
-    goal_at-reached : (o : Option (ℕ × ℕ)) (h : ℕ) (gs : List Goal) (z : ℤ) (l : Goal) → IsTrue (reaches_goals p o h gs) → goal_at gs z ≡ Some l → IsTrue (reaches p o (label_of_goal p h l))
+    pub goal_at-reached : (o : Option (ℕ × ℕ)) (h : ℕ) (gs : List Goal) (z : ℤ) (l : Goal) → IsTrue (reaches_goals p o h gs) → goal_at gs z ≡ Some l → IsTrue (reaches p o (label_of_goal p h l))
     goal_at-reached o h gs (pos zero) l r e = absurd (none-some l e)
     goal_at-reached o h gs (pos (suc n)) l r e = goal-reached o h gs n l r e
     goal_at-reached o h gs (negsuc n) l r e = absurd (none-some l e)
@@ -176,15 +176,15 @@ module _ (p : Program) where
     jump_by_control-safe (ProcedureControl g n) s line now acts w i q f = absurd f
 
     -- the last activation owns what is named here
-    named-here : (acts : List Activation) (x : Option (ℕ × ℕ)) → IsTrue (reaches p (owner_of acts) x) → IsTrue (reaches p (owner_of (kept (length acts) acts)) x)
+    pub named-here : (acts : List Activation) (x : Option (ℕ × ℕ)) → IsTrue (reaches p (owner_of acts) x) → IsTrue (reaches p (owner_of (kept (length acts) acts)) x)
     named-here acts x r = subst (λ xs. IsTrue (reaches p (owner_of xs) x)) (sym (kept-all acts)) r
 
-    switched-here : (acts : List Activation) (x : Option (ℕ × ℕ)) → IsTrue (reaches_switch p (owner_of acts) x) → IsTrue (reaches_switch p (owner_of (kept (length acts) acts)) x)
+    pub switched-here : (acts : List Activation) (x : Option (ℕ × ℕ)) → IsTrue (reaches_switch p (owner_of acts) x) → IsTrue (reaches_switch p (owner_of (kept (length acts) acts)) x)
     switched-here acts x r = subst (λ xs. IsTrue (reaches_switch p (owner_of xs) x)) (sym (kept-all acts)) r
 
     pub jump_step-safe : (d : Dest) (s line : ℕ) (now : Work) (acts : List Activation) (w : Words) (i : Holds p s now acts w) → CanJump p (segment_of s acts) (owner_of acts) (depth_at p s acts) d i.3 → Safe p (jump_step p d s line now acts w)
     jump_step-safe (dest.Goal g) s line now acts w i j =
-        let x : Option (ℕ × ℕ) = label_of_goal p (segment_of s acts) g in jump_to-safe x (length acts) s now acts w i (named-here acts x j)
+        let x : Option (ℕ × ℕ) = label_of_goal p (segment_of s acts) g in jump_to-safe x (length acts) s now acts w i (named-here acts x j.1)
     jump_step-safe (dest.Special k) s line now acts w i j =
         let f = control-fits s acts i.2 k LabelKind (label-of (slice_get (controls_of p (owner_of acts)) k) j) in
         subst (λ x. Safe p (jump_to_control p x s now acts w)) (sym f.1) (jump_to_control-safe f.0 s now acts w i f.2)

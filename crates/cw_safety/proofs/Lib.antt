@@ -7,3 +7,4 @@ pub mod Jumping
 pub mod Calling
 pub mod Stepping
 pub mod Testing
+pub mod Coherence

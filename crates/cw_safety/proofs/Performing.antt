@@ -3,13 +3,14 @@ use Rattle.std.proofs.Common.{ℕ, zero, suc, ◌+◌, ◌≤◌, ℤ, pos, negs
 use Rattle.cw_word.specs.FixedPoint.{fits_word, rescaled, scaled_product, scaled_quotient}
 use Rattle.cw_word.specs.BitField.{unsigned_field}
 use Rattle.cw_word.specs.Word.{signed, unsigned}
-use Rattle.cw_unit.specs.Stop.{StopKind, Overflow, AddressRange}
+use Rattle.std.specs.Prelude.{int_le, ◌&&◌}
+use Rattle.cw_unit.specs.Stop.{StopKind, Overflow, AddressRange, IndexRange}
 use Rattle.cw_unit.specs.Words.{LabelControl, SwitchControl, ProcedureControl, Operand, Word, Held, Words, Outcome, Changed, Refused, Impossible, with_operands, with_memory, put, put_if, put_value, on_one, on_two, through, at_address, is_below, word_at, read_byte, field_value, stored_value, with_bits, logic_word, byte_of}
-use Rattle.cw_unit.specs.Operation.{divide, fitting, address_of, form_address, Addressing, Known, Taken, Indexed, Indexed2, Scaled, Operation, Constant, Rescale, Fetch, Store, StoreBits, Add, Subtract, Negate, Multiply, Divide, Combine, Extract, Form, Keep, SetVariable, AddStep, ReadByte, WriteByte, store_with, store_sum, perform}
+use Rattle.cw_unit.specs.Operation.{divide, fitting, address_of, form_address, Addressing, Known, Taken, Indexed, Indexed2, Scaled, Operation, Constant, Rescale, Fetch, Store, StoreBits, Add, Subtract, Negate, Multiply, Divide, Combine, Extract, InBounds, Form, Keep, SetVariable, AddStep, ReadByte, WriteByte, store_with, store_sum, perform}
 use Rattle.cw_unit.specs.Program.{Program}
 use Rattle.cw_unit.specs.Configuration.{Activation}
-use Rattle.cw_safety.specs.Kinds.{Kind, WordKind, LabelKind, SwitchKind, ProcedureKind}
-use Rattle.cw_safety.proofs.Typing.{weigh, Pop, Shape, NoneToOne, OneToOne, TwoToOne, TwoToNone, shape_of, After, HaveKinds}
+use Rattle.cw_safety.specs.Kinds.{Kind, WordKind, LabelKind, SwitchKind, ProcedureKind, weigh}
+use Rattle.cw_safety.proofs.Typing.{Pop, Shape, NoneToOne, OneToOne, TwoToOne, TwoToNone, shape_of, After, HaveKinds}
 
 abbrev pub addressing_shape : Addressing → Shape
 addressing_shape (Known z) = NoneToOne
@@ -191,6 +192,8 @@ module _ (p : Program) (acts : List Activation) (h : ℕ) (P : List Kind → Typ
       k
       s
       q
+  perform-good area (InBounds l u) w ks k s q =
+      on_one-good Puts (λ i v. put_if (int_le l i && int_le i u) IndexRange i v) (λ i. put_if-good (int_le l i && int_le i u) IndexRange i) w.operands w ks k s q
   perform-good area (Form f) w ks k s q = absurd q
   perform-good area (Keep a) w ks k s q =
       on_one-good P (λ x v. Changed (with_memory v (set v.memory a x))) (λ x. set-good a x) w.operands w ks k s q

@@ -23,13 +23,13 @@ use Rattle.cw_unit.specs.Configuration.{Configuration, at, words_of, Activation,
 use Rattle.cw_unit.specs.Behaviour.{first_body, initial_configuration, configuration_after, shown, observed}
 use Rattle.cw_unit.specs.StackBound as bound
 use Rattle.cw_unit.specs.StackBound.{body_depth}
-use Rattle.cw_unit.specs.Step.{after, label_of_goal, switch_of_def, procedure_of_def, with_label_owner, with_switch_owner, as_procedure, held, pick, choose_with, address_step, addressing_of, put_constant, in_unit, here, stuck, give_step, element_step, turn_step, next_body, advance, step, steps}
-use Rattle.cw_safety.specs.Kinds.{Kind, WordKind, LabelKind, SwitchKind, ProcedureKind, procedure_kind}
+use Rattle.cw_unit.specs.Step.{after, label_of_goal, switch_of_def, procedure_of_def, with_label_owner, with_switch_owner, as_procedure, held, pick, choose_with, address_step, addressing_of, put_constant, in_unit, here, compares_in, stuck, give_step, element_step, turn_step, next_body, advance, step, steps}
+use Rattle.cw_safety.specs.Kinds.{Kind, WordKind, LabelKind, SwitchKind, ProcedureKind, weigh, procedure_kind}
 use Rattle.cw_safety.specs.WellFormed as formed
 use Rattle.cw_safety.specs.WellFormed.{WellFormed, reaches, reaches_switch, is_expression, is_reference, is_element, are_elements, is_statement, controls_of, procedure_of_place}
-use Rattle.cw_safety.specs.Depth.{depth_at, depth_of_unit, depth_in, operands_held}
+use Rattle.cw_safety.specs.Depth.{owner_of, depth_at, depth_of_unit, depth_in, operands_held}
 use Rattle.cw_safety.proofs.Truth.{no, both, if-kind}
-use Rattle.cw_safety.proofs.Typing.{owner_of, weigh, Pop, After, spot_shape, ControlFits, HaveKinds, Typed, IsLoop, Calls, Holds, Safe}
+use Rattle.cw_safety.proofs.Typing.{Pop, After, spot_shape, ControlFits, HaveKinds, Typed, IsLoop, Calls, Holds, Safe}
 use Rattle.cw_safety.proofs.Performing.{Good, perform-good, form-good, put_checked-good, add_step-good}
 use Rattle.cw_safety.proofs.Expanding.{pushed, arg_kinds, spot_kinds, spot_depths, depths, arg_depths, depth-expression, depth-argument, depth-condition, depth-spot, depth-reference, depth-statement, formed-expression, formed-argument, formed-condition, formed-spot, formed-reference, formed-statement, expression-typed, condition-typed, spot-typed, statement-typed, element-typed}
 use Rattle.cw_safety.proofs.Jumping.{kept-all, control-fits, jump_step-safe}
@@ -83,37 +83,37 @@ module _ (p : Program) where
 
   -- ---- addresses
 
-  address_step-safe : (spot : Spot) (l : Spot-F Arg Cond Expr Spot Ref) (s line : ℕ) (k : Work) (acts : List Activation) (w : Words) (now : Work) (i : Holds p s now acts w) → IsTrue (formed.spot_step (spot_kinds p (segment_of s acts) (owner_of acts) l)) → bound.spot_step (spot_depths l) + weigh i.3 ≤ depth_at p s acts → ((js : List Kind) → After (depth_at p s acts) (spot_shape l) (Ty s acts k) js → Ty s acts (FormAt spot line k) js) → Ty s acts k (WordKind ∷ i.3) → Safe p (address_step p spot l s line k acts w)
-  address_step-safe spot (layer.Direct j) s line k acts w now i e d form t = (tt, (i.0, i.1, i.2, WordKind ∷ i.3, (tt, i.4), d, t))
-  address_step-safe spot (layer.Through j) s line k acts w now i e d form t =
-      (tt, (i.0, i.1, i.2, i.3, i.4, i.5, spot-typed p (segment_of s acts) (owner_of acts) (depth_at p s acts) spot (layer.Through j) line k i.3 e d form t))
-  address_step-safe spot (layer.One j l a) s line k acts w now i e d form t =
-      (tt, (i.0, i.1, i.2, i.3, i.4, i.5, spot-typed p (segment_of s acts) (owner_of acts) (depth_at p s acts) spot (layer.One j l a) line k i.3 e d form t))
-  address_step-safe spot (layer.Two j l1 l2 n a b) s line k acts w now i e d form t =
-      (tt, (i.0, i.1, i.2, i.3, i.4, i.5, spot-typed p (segment_of s acts) (owner_of acts) (depth_at p s acts) spot (layer.Two j l1 l2 n a b) line k i.3 e d form t))
-  address_step-safe spot (layer.ParamArray j a) s line k acts w now i e d form t =
-      (tt, (i.0, i.1, i.2, i.3, i.4, i.5, spot-typed p (segment_of s acts) (owner_of acts) (depth_at p s acts) spot (layer.ParamArray j a) line k i.3 e d form t))
-  address_step-safe spot (layer.Word j q a) s line k acts w now i e d form t =
-      (tt, (i.0, i.1, i.2, i.3, i.4, i.5, spot-typed p (segment_of s acts) (owner_of acts) (depth_at p s acts) spot (layer.Word j q a) line k i.3 e d form t))
-  address_step-safe spot (layer.Elem j q n m a) s line k acts w now i e d form t =
-      (tt, (i.0, i.1, i.2, i.3, i.4, i.5, spot-typed p (segment_of s acts) (owner_of acts) (depth_at p s acts) spot (layer.Elem j q n m a) line k i.3 e d form t))
-  address_step-safe spot (layer.Bare a) s line k acts w now i e d form t =
-      (tt, (i.0, i.1, i.2, i.3, i.4, i.5, spot-typed p (segment_of s acts) (owner_of acts) (depth_at p s acts) spot (layer.Bare a) line k i.3 e d form t))
+  address_step-safe : (c : Bool) (spot : Spot) (l : Spot-F Arg Cond Expr Spot Ref) (s line : ℕ) (k : Work) (acts : List Activation) (w : Words) (now : Work) (i : Holds p s now acts w) → IsTrue (formed.spot_step (spot_kinds p (segment_of s acts) (owner_of acts) l)) → bound.spot_step (spot_depths l) + weigh i.3 ≤ depth_at p s acts → ((js : List Kind) → After (depth_at p s acts) (spot_shape l) (Ty s acts k) js → Ty s acts (FormAt spot line k) js) → Ty s acts k (WordKind ∷ i.3) → Safe p (address_step p c spot l s line k acts w)
+  address_step-safe c spot (layer.Direct j) s line k acts w now i e d form t = (tt, (i.0, i.1, i.2, WordKind ∷ i.3, (tt, i.4), d, t))
+  address_step-safe c spot (layer.Through j) s line k acts w now i e d form t =
+      (tt, (i.0, i.1, i.2, i.3, i.4, i.5, spot-typed p (segment_of s acts) (owner_of acts) (depth_at p s acts) c spot (layer.Through j) line k i.3 e d form t))
+  address_step-safe c spot (layer.One j l u a) s line k acts w now i e d form t =
+      (tt, (i.0, i.1, i.2, i.3, i.4, i.5, spot-typed p (segment_of s acts) (owner_of acts) (depth_at p s acts) c spot (layer.One j l u a) line k i.3 e d form t))
+  address_step-safe c spot (layer.Two j l1 u1 l2 u2 n a b) s line k acts w now i e d form t =
+      (tt, (i.0, i.1, i.2, i.3, i.4, i.5, spot-typed p (segment_of s acts) (owner_of acts) (depth_at p s acts) c spot (layer.Two j l1 u1 l2 u2 n a b) line k i.3 e d form t))
+  address_step-safe c spot (layer.ParamArray j a) s line k acts w now i e d form t =
+      (tt, (i.0, i.1, i.2, i.3, i.4, i.5, spot-typed p (segment_of s acts) (owner_of acts) (depth_at p s acts) c spot (layer.ParamArray j a) line k i.3 e d form t))
+  address_step-safe c spot (layer.Word j q n a) s line k acts w now i e d form t =
+      (tt, (i.0, i.1, i.2, i.3, i.4, i.5, spot-typed p (segment_of s acts) (owner_of acts) (depth_at p s acts) c spot (layer.Word j q n a) line k i.3 e d form t))
+  address_step-safe c spot (layer.Elem j q n z m a) s line k acts w now i e d form t =
+      (tt, (i.0, i.1, i.2, i.3, i.4, i.5, spot-typed p (segment_of s acts) (owner_of acts) (depth_at p s acts) c spot (layer.Elem j q n z m a) line k i.3 e d form t))
+  address_step-safe c spot (layer.Bare a) s line k acts w now i e d form t =
+      (tt, (i.0, i.1, i.2, i.3, i.4, i.5, spot-typed p (segment_of s acts) (owner_of acts) (depth_at p s acts) c spot (layer.Bare a) line k i.3 e d form t))
 
   form_at-good : (l : Spot-F Arg Cond Expr Spot Ref) (s : ℕ) (k : Work) (acts : List Activation) (w : Words) (ks : List Kind) → HaveKinds p acts w.operands ks → weigh ks ≤ depth_at p s acts → After (depth_at p s acts) (spot_shape l) (Ty s acts k) ks → Next p s k acts (perform p.limits.area (Form (addressing_of p l s acts w)) w)
   form_at-good (layer.Direct j) s k acts w ks h b t = absurd t
   form_at-good (layer.Through j) s k acts w ks h b t =
       form-good p acts (depth_at p s acts) (Ty s acts k) p.limits.area (addressing_of p (layer.Through j) s acts w) w ks h b t
-  form_at-good (layer.One j l a) s k acts w ks h b t =
-      form-good p acts (depth_at p s acts) (Ty s acts k) p.limits.area (addressing_of p (layer.One j l a) s acts w) w ks h b t
-  form_at-good (layer.Two j l1 l2 n a c) s k acts w ks h b t =
-      form-good p acts (depth_at p s acts) (Ty s acts k) p.limits.area (addressing_of p (layer.Two j l1 l2 n a c) s acts w) w ks h b t
+  form_at-good (layer.One j l u a) s k acts w ks h b t =
+      form-good p acts (depth_at p s acts) (Ty s acts k) p.limits.area (addressing_of p (layer.One j l u a) s acts w) w ks h b t
+  form_at-good (layer.Two j l1 u1 l2 u2 n a c) s k acts w ks h b t =
+      form-good p acts (depth_at p s acts) (Ty s acts k) p.limits.area (addressing_of p (layer.Two j l1 u1 l2 u2 n a c) s acts w) w ks h b t
   form_at-good (layer.ParamArray j a) s k acts w ks h b t =
       form-good p acts (depth_at p s acts) (Ty s acts k) p.limits.area (addressing_of p (layer.ParamArray j a) s acts w) w ks h b t
-  form_at-good (layer.Word j q a) s k acts w ks h b t =
-      form-good p acts (depth_at p s acts) (Ty s acts k) p.limits.area (addressing_of p (layer.Word j q a) s acts w) w ks h b t
-  form_at-good (layer.Elem j q n m a) s k acts w ks h b t =
-      form-good p acts (depth_at p s acts) (Ty s acts k) p.limits.area (addressing_of p (layer.Elem j q n m a) s acts w) w ks h b t
+  form_at-good (layer.Word j q n a) s k acts w ks h b t =
+      form-good p acts (depth_at p s acts) (Ty s acts k) p.limits.area (addressing_of p (layer.Word j q n a) s acts w) w ks h b t
+  form_at-good (layer.Elem j q n z m a) s k acts w ks h b t =
+      form-good p acts (depth_at p s acts) (Ty s acts k) p.limits.area (addressing_of p (layer.Elem j q n z m a) s acts w) w ks h b t
   form_at-good (layer.Bare a) s k acts w ks h b t =
       form-good p acts (depth_at p s acts) (Ty s acts k) p.limits.area (addressing_of p (layer.Bare a) s acts w) w ks h b t
 
@@ -327,7 +327,7 @@ module _ (p : Program) where
         let spot : Spot = (out-Ref r).at in
         let a = subst IsTrue (formed-reference p g o r ∙ formed-spot p g o spot) i.6.0 in
         let d = subst (λ n. n + weigh i.3 ≤ depth_at p s acts) (depth-reference r ∙ depth-spot spot) i.6.1 in
-        address_step-safe spot (out-Spot spot) s line k acts w (Address r line k) i a d (λ js h. h) i.6.2
+        address_step-safe (compares_in p (here p s acts)) spot (out-Spot spot) s line k acts w (Address r line k) i a d (λ js h. h) i.6.2
     advance-safe s (FormAt spot line k) acts w i =
         after-safe p (perform p.limits.area (Form (addressing_of p (out-Spot spot) s acts w)) w) s line (FormAt spot line k) k acts w i
         (form_at-good (out-Spot spot) s k acts w i.3 i.4 i.5 i.6)
@@ -398,7 +398,7 @@ module _ (p : Program) where
 
   -- ---- the operands that are held
 
-  held-weighs : (acts : List Activation) (xs : List Operand) (ks : List Kind) → HaveKinds p acts xs ks → operands_held xs ≡ weigh ks
+  pub held-weighs : (acts : List Activation) (xs : List Operand) (ks : List Kind) → HaveKinds p acts xs ks → operands_held xs ≡ weigh ks
   held-weighs acts [] [] h = refl
   held-weighs acts [] (k ∷ ks) h = absurd h
   held-weighs acts (x ∷ xs) [] h = absurd h

@@ -3,9 +3,8 @@ use Rattle.std.proofs.Common.{◌≡◌, ℕ, zero, suc, List, [], ◌∷◌, Bo
 use Rattle.std.proofs.lemmas.Bool.{eqb-true}
 use Rattle.std.proofs.lemmas.Option.{none-some, same_Some}
 use Rattle.cw_unit.specs.declared.unit.Proc.{Proc}
-use Rattle.cw_safety.specs.Kinds.{Kind, WordKind, LabelKind, SwitchKind, ProcedureKind, control_kinds, procedure_kind}
+use Rattle.cw_safety.specs.Kinds.{Kind, WordKind, LabelKind, SwitchKind, ProcedureKind, weight, control_kinds, procedure_kind}
 use Rattle.cw_safety.specs.WellFormed.{kind_if, kind_and}
-use Rattle.cw_safety.proofs.Typing.{weight}
 
 pub no : {A : Type 0} → IsTrue false → A
 no h = absurd (cc)

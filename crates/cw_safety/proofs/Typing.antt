@@ -14,29 +14,14 @@ use Rattle.cw_unit.specs.declared.unit.Arg.TheOpen.{Spot-F}
 use Rattle.cw_unit.specs.Program.{Program, definition_of}
 use Rattle.cw_unit.specs.Stop.{End, Running, Ended, Stopped, Stuck}
 use Rattle.cw_unit.specs.Words.{Control, LabelControl, SwitchControl, ProcedureControl, Operand, Word, Held, Words}
-use Rattle.cw_unit.specs.Operation.{Operation, Constant, Rescale, Fetch, Store, StoreBits, Add, Subtract, Negate, Multiply, Divide, Combine, Extract, Form, Keep, SetVariable, AddStep, ReadByte, WriteByte}
+use Rattle.cw_unit.specs.Operation.{Operation, Constant, Rescale, Fetch, Store, StoreBits, Add, Subtract, Negate, Multiply, Divide, Combine, Extract, InBounds, Form, Keep, SetVariable, AddStep, ReadByte, WriteByte}
 use Rattle.cw_unit.specs.Work.{Work, Nothing, Run, Eval, Address, FormAt, Do, Test, Choose, Jump, Give, Enter, Return, Leave, KeepAt, SetVar, Element, Turn, Bump, On, Loop}
 use Rattle.cw_unit.specs.Configuration.{Configuration, at, Activation, segment_of, procedure_at}
 use Rattle.cw_unit.specs.StackBound.{operand_depth, argument_depth, condition_depth, address_depth, elements_depth, body_depth}
 use Rattle.cw_unit.specs.Step.{label_of_goal, switch_of_def, kept}
-use Rattle.cw_safety.specs.Kinds.{Kind, WordKind, LabelKind, SwitchKind, ProcedureKind, parameter_kinds, control_kinds, procedure_kind}
+use Rattle.cw_safety.specs.Kinds.{Kind, WordKind, LabelKind, SwitchKind, ProcedureKind, weight, weigh, parameter_kinds, control_kinds, procedure_kind}
 use Rattle.cw_safety.specs.WellFormed.{reaches, reaches_switch, controls_of, is_call, kind_of, is_expression, is_reference, is_condition, are_elements, is_statement, is_label, is_switch}
-use Rattle.cw_safety.specs.Depth.{depth_at}
-
--- the procedure of the last call
-abbrev pub owner_of : List Activation → Option (ℕ × ℕ)
-owner_of [] = None
-owner_of (a ∷ acts) = Some (a.segment, a.procedure)
-
-abbrev pub weight : Kind → ℕ
-weight WordKind = 1
-weight LabelKind = 2
-weight SwitchKind = 2
-weight (ProcedureKind ts) = 2
-
-abbrev pub weigh : List Kind → ℕ
-weigh [] = 0
-weigh (k ∷ ks) = weight k + weigh ks
+use Rattle.cw_safety.specs.Depth.{owner_of, depth_at}
 
 -- arguments in order, put on a stack
 abbrev pub onto : List Kind → List Kind → List Kind
@@ -78,6 +63,7 @@ shape_of (Multiply s) = TwoToOne
 shape_of (Divide s) = TwoToOne
 shape_of (Combine op) = TwoToOne
 shape_of (Extract t b) = OneToOne
+shape_of (InBounds l u) = OneToOne
 shape_of (Form f) = Unused
 shape_of (Keep a) = OneToNone
 shape_of (SetVariable a) = OneToNone
@@ -88,11 +74,11 @@ shape_of WriteByte = OneToNone
 abbrev pub spot_shape : Spot-F Arg Cond Expr Spot Ref → Shape
 spot_shape (layer.Direct i) = Unused
 spot_shape (layer.Through i) = NoneToOne
-spot_shape (layer.One i l e) = OneToOne
-spot_shape (layer.Two i l1 l2 n e g) = TwoToOne
+spot_shape (layer.One i l u e) = OneToOne
+spot_shape (layer.Two i l1 u1 l2 u2 n e g) = TwoToOne
 spot_shape (layer.ParamArray i e) = OneToOne
-spot_shape (layer.Word i t e) = OneToOne
-spot_shape (layer.Elem i t w q e) = OneToOne
+spot_shape (layer.Word i t n e) = OneToOne
+spot_shape (layer.Elem i t w n q e) = OneToOne
 spot_shape (layer.Bare e) = OneToOne
 
 abbrev pub After : (depth : ℕ) → Shape → (List Kind → Type 0) → List Kind → Type 0
@@ -131,7 +117,7 @@ module _ (p : Program) where
   -- ---- work, in a segment, in its procedure at work, if any, in a body of this depth
   module _ (g : ℕ) (o : Option (ℕ × ℕ)) (h : ℕ) where
     abbrev pub CanJump : Dest → List Kind → Type 0
-    CanJump (dest.Goal l) ks = IsTrue (reaches p o (label_of_goal p g l))
+    CanJump (dest.Goal l) ks = (ks ≡ []) × IsTrue (reaches p o (label_of_goal p g l))
     CanJump (dest.Special k) ks = IsTrue (is_label (slice_get (controls_of p o) k))
     CanJump (dest.Switch n e) ks = Pop (λ r. Unit {0}) ks × IsTrue (reaches_switch p o (Some (g, n)))
     CanJump (dest.CommonSwitch d e) ks = Pop (λ r. Unit {0}) ks × IsTrue (reaches_switch p o (switch_of_def (definition_of p g d)))
@@ -164,11 +150,12 @@ module _ (p : Program) where
 
   -- ---- configurations
 
-  -- each call goes back to work that finds the operands that were kept
+  -- each call goes back to work that finds the operands that were kept; with its arguments they were no more than its caller's body may
+  -- have in hand
   abbrev pub Calls : (segment : ℕ) → List Activation → Type 0
   Calls s [] = Unit {0}
   Calls s (a ∷ acts) =
-      (proc : Proc) × (procedure_at p a.segment a.procedure ≡ Some proc) × Fit acts a.controls (control_kinds (parameter_kinds proc)) × (ks : List Kind) × HaveKinds acts a.operands ks × (weigh (result a.wanted ks) ≤ depth_at p s acts) × Typed (segment_of s acts) (owner_of acts) (depth_at p s acts) a.work (result a.wanted ks) × Calls s acts
+      (proc : Proc) × (procedure_at p a.segment a.procedure ≡ Some proc) × Fit acts a.controls (control_kinds (parameter_kinds proc)) × (ks : List Kind) × HaveKinds acts a.operands ks × (weigh (result a.wanted ks) ≤ depth_at p s acts) × (weigh (parameter_kinds proc) + weigh ks ≤ depth_at p s acts) × Typed (segment_of s acts) (owner_of acts) (depth_at p s acts) a.work (result a.wanted ks) × Calls s acts
 
   abbrev pub Holds : (segment : ℕ) → Work → List Activation → Words → Type 0
   Holds s k acts w =

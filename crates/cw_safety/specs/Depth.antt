@@ -13,6 +13,11 @@ operands_held [] = 0
 operands_held (Word z ∷ xs) = 1 + operands_held xs
 operands_held (Held c ∷ xs) = 2 + operands_held xs
 
+-- the procedure of the last call
+abbrev pub owner_of : List Activation → Option (ℕ × ℕ)
+owner_of [] = None
+owner_of (a ∷ acts) = Some (a.segment, a.procedure)
+
 abbrev pub depth_of_unit : Option SourceUnit → ℕ
 depth_of_unit None = 0
 depth_of_unit (Some u) = body_depth u.body

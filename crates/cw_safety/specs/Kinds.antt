@@ -1,5 +1,5 @@
 -- What arguments are, and what parameters take.
-use Rattle.std.specs.Prelude.{List, [], ◌∷◌, map, Bool, true, false, ◌&&◌, Option, Some, None}
+use Rattle.std.specs.Prelude.{ℕ, ◌+◌, List, [], ◌∷◌, map, Bool, true, false, ◌&&◌, Option, Some, None}
 use Rattle.cw_unit.specs.declared.unit.Param.{Param}
 use Rattle.cw_unit.specs.declared.unit.Param.TheVariants as param
 use Rattle.cw_unit.specs.declared.unit.Proc.{Proc}
@@ -20,6 +20,17 @@ pub data Kind : Type 0 where
   LabelKind : Kind
   SwitchKind : Kind
   ProcedureKind : List Taken → Kind
+
+-- the words of an argument, and of several
+abbrev pub weight : Kind → ℕ
+weight WordKind = 1
+weight LabelKind = 2
+weight SwitchKind = 2
+weight (ProcedureKind ts) = 2
+
+abbrev pub weigh : List Kind → ℕ
+weigh [] = 0
+weigh (k ∷ ks) = weight k + weigh ks
 
 -- ---- parameters
 

@@ -1,3 +1,4 @@
 pub mod Kinds
 pub mod WellFormed
 pub mod Depth
+pub mod Coherent

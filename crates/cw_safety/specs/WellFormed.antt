@@ -120,11 +120,11 @@ condition_step (layer.Or c d) = c && d
 abbrev pub spot_step : Spot-F (Option Kind) Bool Bool Bool Bool → Bool
 spot_step (layer.Direct i) = true
 spot_step (layer.Through i) = true
-spot_step (layer.One i l e) = e
-spot_step (layer.Two i l1 l2 n e g) = e && g
+spot_step (layer.One i l u e) = e
+spot_step (layer.Two i l1 u1 l2 u2 n e g) = e && g
 spot_step (layer.ParamArray i e) = e
-spot_step (layer.Word i t e) = e
-spot_step (layer.Elem i t w q e) = e
+spot_step (layer.Word i t n e) = e
+spot_step (layer.Elem i t w n q e) = e
 spot_step (layer.Bare e) = e
 
 abbrev pub reference_step : Ref-F (Option Kind) Bool Bool Bool Bool → Bool

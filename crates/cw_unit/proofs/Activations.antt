@@ -24,7 +24,7 @@ use Rattle.cw_unit.specs.Work.{Work, Nothing, Run, Eval, Address, FormAt, Do, Te
 use Rattle.cw_unit.specs.LabelContinuation.{label_continuation}
 use Rattle.cw_unit.specs.Configuration.{Configuration, at, Activation, FramesApart, activations_of, segment_of, control_at, procedure_at, frame_size_of, frame_top, address_at}
 use Rattle.cw_unit.specs.Behaviour.{initial_configuration, configuration_after}
-use Rattle.cw_unit.specs.Step.{after, label_of_goal, switch_of_def, procedure_of_def, with_label_owner, with_switch_owner, as_procedure, held, Callee, Reading, Writing, Calling, Missing, callee_of, Bound, bind_all, first_operands, begun, come_back, come_back_with, work_from, kept, jump_in_procedure, jump_in_unit, jump_to_unit, jump_to, jump_to_control, goal_at, jump_to_goal, switch_in, jump_by_list, jump_by_switch, jump_by_control, choose_with, address_step, put_constant, in_unit, here, stuck, give_step, read_step, enter_framed, enter_procedure, enter_step, jump_step, element_step, turn_step, next_body, advance, step, steps, addressing_of}
+use Rattle.cw_unit.specs.Step.{after, label_of_goal, switch_of_def, procedure_of_def, with_label_owner, with_switch_owner, as_procedure, held, Callee, Reading, Writing, Calling, Missing, callee_of, Bound, bind_all, first_operands, begun, come_back, come_back_with, work_from, kept, jump_in_procedure, jump_in_unit, jump_to_unit, jump_to, jump_to_control, goal_at, jump_to_goal, switch_in, jump_by_list, jump_by_switch, jump_by_control, choose_with, address_step, put_constant, in_unit, here, compares_in, stuck, give_step, read_step, enter_framed, enter_procedure, enter_step, jump_step, element_step, turn_step, next_body, advance, step, steps, addressing_of}
 
 module _ (p : Program) (Q : List Activation → Type 0) (none : Q []) (dropped : (n : ℕ) (acts : List Activation) → Q acts → Q (drop n acts)) (pushed : (acts : List Activation) (a : Activation) → a.frame_base ≡ frame_top p acts → length acts < p.limits.depth → frame_top p acts + frame_size_of p a.segment a.procedure ≤ p.limits.area → Q acts → Q (a ∷ acts)) where
   abbrev Fine : Configuration → Type 0
@@ -39,9 +39,9 @@ module _ (p : Program) (Q : List Activation → Type 0) (none : Q []) (dropped :
   in_unit-fine None f other h k = k
   in_unit-fine (Some u) f other h k = h u
 
-  address_step-fine : (spot : Spot) (l : Spot-F Arg Cond Expr Spot Ref) (s line : ℕ) (k : Work) (acts : List Activation) (w : Words) → Q acts → Fine (address_step p spot l s line k acts w)
-  address_step-fine spot (layer.Direct i) s line k acts w h = h
-  address_step-fine spot _ s line k acts w h = h
+  address_step-fine : (c : Bool) (spot : Spot) (l : Spot-F Arg Cond Expr Spot Ref) (s line : ℕ) (k : Work) (acts : List Activation) (w : Words) → Q acts → Fine (address_step p c spot l s line k acts w)
+  address_step-fine c spot (layer.Direct i) s line k acts w h = h
+  address_step-fine c spot _ s line k acts w h = h
 
   give_step-fine : (a : Arg-F Arg Cond Expr Spot Ref) (s line : ℕ) (now k : Work) (acts : List Activation) (w : Words) → Q acts → Fine (give_step p a s line now k acts w)
   give_step-fine (layer.Value e f) s line now k acts w h = h
@@ -202,7 +202,7 @@ module _ (p : Program) (Q : List Activation → Type 0) (none : Q []) (dropped :
       (stuck p s (Eval e f line k) acts w)
       (λ u. h)
       h
-  advance-fine s (Address r line k) acts w h = address_step-fine (out-Ref r).at (out-Spot (out-Ref r).at) s line k acts w h
+  advance-fine s (Address r line k) acts w h = address_step-fine (compares_in p (here p s acts)) (out-Ref r).at (out-Spot (out-Ref r).at) s line k acts w h
   advance-fine s (FormAt spot line k) acts w h =
       after-fine (perform p.limits.area (Form (addressing_of p (out-Spot spot) s acts w)) w) s line (FormAt spot line k) k acts w h
   advance-fine s (Do op line k) acts w h = after-fine (perform p.limits.area op w) s line (Do op line k) k acts w h

@@ -4,9 +4,10 @@ use Rattle.std.proofs.lemmas.List.{length-set, append-nil}
 use Rattle.cw_word.specs.FixedPoint.{fits_word, rescaled, scaled_product, scaled_quotient}
 use Rattle.cw_word.specs.BitField.{unsigned_field}
 use Rattle.cw_word.specs.Word.{signed, unsigned}
-use Rattle.cw_unit.specs.Stop.{StopKind, Overflow, AddressRange}
+use Rattle.std.specs.Prelude.{int_le, ◌&&◌}
+use Rattle.cw_unit.specs.Stop.{StopKind, Overflow, AddressRange, IndexRange}
 use Rattle.cw_unit.specs.Words.{Operand, Word, Held, Words, Outcome, Changed, Refused, Impossible, with_operands, with_memory, put, put_if, put_value, on_one, on_two, through, at_address, is_below, word_at, read_byte, field_value, stored_value, with_bits, logic_word, byte_of}
-use Rattle.cw_unit.specs.Operation.{divide, fitting, address_of, form_address, Addressing, Known, Taken, Indexed, Indexed2, Scaled, Operation, Constant, Rescale, Fetch, Store, StoreBits, Add, Subtract, Negate, Multiply, Divide, Combine, Extract, Form, Keep, SetVariable, AddStep, ReadByte, WriteByte, store_with, store_sum, perform}
+use Rattle.cw_unit.specs.Operation.{divide, fitting, address_of, form_address, Addressing, Known, Taken, Indexed, Indexed2, Scaled, Operation, Constant, Rescale, Fetch, Store, StoreBits, Add, Subtract, Negate, Multiply, Divide, Combine, Extract, InBounds, Form, Keep, SetVariable, AddStep, ReadByte, WriteByte, store_with, store_sum, perform}
 
 -- n data words, and this output to which more was added
 pub record Grows (n : ℕ) (before : List ℕ) (memory : List ℤ) (output : List ℕ) : Type 0 where
@@ -152,6 +153,8 @@ perform-keeps area (Combine op) w =
     w
 perform-keeps area (Extract t b) w =
     on_one-keeps (λ x v. Changed (put (signed (unsigned_field (unsigned x) t b)) v)) (λ x v. put-keeps (signed (unsigned_field (unsigned x) t b)) v) w.operands w
+perform-keeps area (InBounds l u) w =
+    on_one-keeps (λ i v. put_if (int_le l i && int_le i u) IndexRange i v) (λ i v. put_if-keeps (int_le l i && int_le i u) IndexRange i v) w.operands w
 perform-keeps area (Form f) w = form_address-keeps area f w
 perform-keeps area (Keep a) w = on_one-keeps (λ x v. Changed (with_memory v (set v.memory a x))) (λ x v. set-keeps a x v) w.operands w
 perform-keeps area (SetVariable loop) w =

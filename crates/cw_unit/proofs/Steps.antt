@@ -28,7 +28,7 @@ use Rattle.cw_unit.specs.Operation.{Operation, Form, Keep, SetVariable, AddStep,
 use Rattle.cw_unit.specs.LabelContinuation.{label_continuation}
 use Rattle.cw_unit.specs.Work.{Work, Nothing, Run, Eval, Address, FormAt, Do, Test, Choose, Jump, Give, Enter, Return, Leave, KeepAt, SetVar, Element, Turn, Bump, On, Loop, expression_work, condition_work, element_at}
 use Rattle.cw_unit.specs.Configuration.{Configuration, at, words_of, Activation, segment_of, control_at, procedure_at, frame_size_of, frame_top, address_at}
-use Rattle.cw_unit.specs.Step.{after, label_of_goal, switch_of_def, procedure_of_def, with_label_owner, with_switch_owner, as_procedure, held, Callee, Reading, Writing, Calling, Missing, callee_of, Bound, bind_word, bind_control, bind_one, bind_all, first_operands, begun, come_back, come_back_with, work_from, kept, jump_in_procedure, jump_in_unit, jump_to_unit, jump_to, jump_to_control, goal_at, jump_to_goal, switch_in, jump_by_list, jump_by_switch, jump_by_control, choose_with, address_step, put_constant, in_unit, here, stuck, give_step, read_step, enter_framed, enter_procedure, enter_step, jump_step, element_step, turn_step, next_body, advance, step, steps, addressing_of}
+use Rattle.cw_unit.specs.Step.{after, label_of_goal, switch_of_def, procedure_of_def, with_label_owner, with_switch_owner, as_procedure, held, Callee, Reading, Writing, Calling, Missing, callee_of, Bound, bind_word, bind_control, bind_one, bind_all, first_operands, begun, come_back, come_back_with, work_from, kept, jump_in_procedure, jump_in_unit, jump_to_unit, jump_to, jump_to_control, goal_at, jump_to_goal, switch_in, jump_by_list, jump_by_switch, jump_by_control, choose_with, address_step, put_constant, in_unit, here, compares_in, stuck, give_step, read_step, enter_framed, enter_procedure, enter_step, jump_step, element_step, turn_step, next_body, advance, step, steps, addressing_of}
 use Rattle.cw_unit.proofs.Operations.{Follows, FollowsIn, same, perform-keeps, put_if-keeps}
 
 -- what a step from these words keeps
@@ -57,9 +57,9 @@ put_constant-kept p (layer.Const z) s f acts w = still w
 put_constant-kept p (layer.Text i) s f acts w = still w
 put_constant-kept p _ s f acts w = still w
 
-pub address_step-kept : (p : Program) (spot : Spot) (l : Spot-F Arg Cond Expr Spot Ref) (s line : ℕ) (k : Work) (acts : List Activation) (w : Words) → Kept w (address_step p spot l s line k acts w)
-address_step-kept p spot (layer.Direct i) s line k acts w = still w
-address_step-kept p spot _ s line k acts w = still w
+pub address_step-kept : (p : Program) (c : Bool) (spot : Spot) (l : Spot-F Arg Cond Expr Spot Ref) (s line : ℕ) (k : Work) (acts : List Activation) (w : Words) → Kept w (address_step p c spot l s line k acts w)
+address_step-kept p c spot (layer.Direct i) s line k acts w = still w
+address_step-kept p c spot _ s line k acts w = still w
 
 pub give_step-kept : (p : Program) (a : Arg-F Arg Cond Expr Spot Ref) (s line : ℕ) (now k : Work) (acts : List Activation) (w : Words) → Kept w (give_step p a s line now k acts w)
 give_step-kept p (layer.Value e f) s line now k acts w = still w
@@ -258,7 +258,7 @@ advance-kept p s (Eval e f line k) acts w =
     w
     (λ u. put_constant-kept p (out-Expr e) s f acts w)
     (still w)
-advance-kept p s (Address r line k) acts w = address_step-kept p (out-Ref r).at (out-Spot (out-Ref r).at) s line k acts w
+advance-kept p s (Address r line k) acts w = address_step-kept p (compares_in p (here p s acts)) (out-Ref r).at (out-Spot (out-Ref r).at) s line k acts w
 advance-kept p s (FormAt spot line k) acts w =
     let o : Operation = Form (addressing_of p (out-Spot spot) s acts w) in
     after-kept (perform p.limits.area o w) s line (FormAt spot line k) k acts w (perform-keeps p.limits.area o w)

@@ -14,7 +14,7 @@ use Rattle.cw_unit.specs.declared.layout.Sort.{Sort}
 use Rattle.cw_unit.specs.declared.layout.Sort.TheVariants as sort
 use Rattle.cw_unit.specs.Storage.{root_of, roots_in, family_of, family_extent, family_at, sort_of, frame_words, frame_size, layout_of}
 use Rattle.cw_unit.specs.Allocation.{Name, FamilyKey, Shared, Private, SegmentStorage, storage_of, name_at, Range, absolute_range, absolute_ranges_in, absolute_ranges, extent_of_name, extent_in_segment, common_extent, extent_of_family, extent_in_storage, key_extent, placed_key, keys_in_segment, keys_from, first_keys, meets, Placed, placed_families, start_of, family_address, addresses_from, homes_from, storage_map}
-use Rattle.cw_unit.specs.ValidStorage.{StoredItem, key_of, sort_of_family, stored_item, owner_in, IsStored, IsAbsolute, IsInFrame, word_of, frame_size_in, IsStorable, FitsArea, ValidStorageMap}
+use Rattle.cw_unit.specs.ValidStorage.{StoredItem, key_of, sort_of_family, as_stored, owner_in, IsStored, IsAbsolute, IsInFrame, word_of, frame_size_in, IsStorable, FitsArea, ValidStorageMap}
 use Rattle.cw_unit.proofs.Families.{Root, root_at, family_found, inside_family, inside_frame, past_in_frame}
 use Rattle.cw_unit.proofs.Placing.{In, in-left, in-right, in-first_keys, Fits, fits, apart}
 
@@ -113,7 +113,7 @@ AllStorable us = (g : ℕ) (u : SourceUnit) → slice_get us g ≡ Some u → Is
 storage-found : (us : List SourceUnit) (g : ℕ) (u : SourceUnit) → slice_get us g ≡ Some u → slice_get (map storage_of us) g ≡ Some (storage_of u)
 storage-found us g u e = slice_get-map storage_of us g ∙ ap (option_map storage_of) e
 
-stands-there : (us : List SourceUnit) (g n : ℕ) (u : SourceUnit) (i : Item) → slice_get us g ≡ Some u → slice_get u.items n ≡ Some i → IsStorable u → Stands us (stored_item g u (slice_index_or (storage_map us).homes g []) n i)
+stands-there : (us : List SourceUnit) (g n : ℕ) (u : SourceUnit) (i : Item) → slice_get us g ≡ Some u → slice_get u.items n ≡ Some i → IsStorable u → Stands us (as_stored g u (slice_index_or (storage_map us).homes g []) n i)
 stands-there us g n u i e m ok =
     let r : Root u n = root_at u ok n i m in
     let ps : List Placed = placed_families (map storage_of us) in
@@ -292,6 +292,10 @@ module _ (us : List SourceUnit) (x : StoredItem) (p : Stands us x) where
   at-number : (a : ℕ) → x.sort ≡ sort.Absolute a → x.start ≡ a
   at-number a e = p.start_is ∙ ap (family_address (placed_families (map storage_of us)) x.segment names number) e
 
+  -- and a family of a frame
+  at-offset : (o : ℕ) → x.sort ≡ sort.Frame o → x.start ≡ o
+  at-offset o e = p.start_is ∙ ap (family_address (placed_families (map storage_of us)) x.segment names number) e
+
   abbrev the-range : ℕ → Range
   the-range a = record { start = a; end = a + the-family.extent }
 
@@ -446,5 +450,5 @@ valid-map us limits ok fit =
           };
       each = λ x h.
           let p : Stands us x = stands us ok x h in
-          record { below_frames = below us limits fit x p (how us x p); at_number = at-number us x p; inside_frame = in-frame us ok x p };
+          record { below_frames = below us limits fit x p (how us x p); at_number = at-number us x p; at_offset = at-offset us x p; inside_frame = in-frame us ok x p };
     }

@@ -18,20 +18,20 @@ initial_configuration p input =
     at 0 (first_body (slice_get p.units 0)) [] (record { operands = []; memory = initial_memory p.units p.addresses p.limits.area; input = input; output = [] }) Running
 
 -- what a run shows
-pub record Shown : Type 0 where
+pub record Observation : Type 0 where
   pub output : List ℕ
   pub end : End
 
 -- whether a run that shows this goes on
-abbrev pub is_running : Shown → Bool
+abbrev pub is_running : Observation → Bool
 is_running s = elim s.end [ Running ↦ true | Ended ↦ false | Stopped kind segment line ↦ false | Stuck ↦ false ]
 
-abbrev pub shown : Configuration → Shown
+abbrev pub shown : Configuration → Observation
 shown (at s k acts w e) = record { output = w.output; end = e }
 
 abbrev pub configuration_after : Program → (input : List ℕ) → (m : ℕ) → Configuration
 configuration_after p input m = steps p m (initial_configuration p input)
 
 -- what the source semantics shows after m steps
-abbrev pub observed : Program → (input : List ℕ) → (m : ℕ) → Shown
+abbrev pub observed : Program → (input : List ℕ) → (m : ℕ) → Observation
 observed p input m = shown (configuration_after p input m)

@@ -7,7 +7,7 @@ use Rattle.cw_unit.specs.declared.unit.Field.{Field}
 use Rattle.cw_unit.specs.declared.unit.LogicOp.{LogicOp}
 use Rattle.cw_unit.specs.declared.unit.CompareOp.{CompareOp}
 use Rattle.cw_unit.specs.declared.unit.CompareOp.TheVariants as compare
-use Rattle.cw_unit.specs.Stop.{Overflow, ZeroDivisor, AddressRange}
+use Rattle.cw_unit.specs.Stop.{Overflow, ZeroDivisor, AddressRange, IndexRange}
 use Rattle.cw_unit.specs.Words.{Words, Outcome, Changed, Refused, with_memory, is_below, put, put_if, put_value, on_one, on_two, word_at, at_address, field_value, with_bits, stored_value, logic_word, byte_of, read_byte}
 
 -- how an address is formed: it is known, it is the operand, or it is reckoned from a base by an index less a lower bound, by two of
@@ -51,8 +51,8 @@ form_address area (Scaled base width word) w =
     w
 
 -- Constant puts a word. Rescale takes a word of one scale to another. Fetch puts what is at an address; Store and StoreBits take an
--- address and the word below it. Multiply and Divide scale their result by a power of two. Combine and Extract work on bits. Form puts
--- an address. Keep stores a word. SetVariable and AddStep store into the control variable of a loop, whose address the loop's first
+-- address and the word below it. Multiply and Divide scale their result by a power of two. Combine and Extract work on bits. InBounds
+-- compares an index with its bounds and leaves it. Form puts an address. Keep stores a word. SetVariable and AddStep store into the control variable of a loop, whose address the loop's first
 -- word holds
 pub data Operation : Type 0 where
   Constant : ℤ → Operation
@@ -67,6 +67,7 @@ pub data Operation : Type 0 where
   Divide : ℤ → Operation
   Combine : LogicOp → Operation
   Extract : (t b : ℕ) → Operation
+  InBounds : (lower upper : ℤ) → Operation
   Form : Addressing → Operation
   Keep : (address : ℕ) → Operation
   SetVariable : (loop : ℕ) → Operation
@@ -80,7 +81,7 @@ divide s x (pos zero) w = Refused ZeroDivisor
 divide s x (pos (suc n)) w = put_value (scaled_quotient x (pos (suc n)) s) w
 divide s x (negsuc n) w = put_value (scaled_quotient x (negsuc n) s) w
 
--- the top word goes to the address below it in the order of evaluation
+-- The word below goes to the address on top, as f makes it of the word that stands there.
 abbrev pub store_with : (area : ℕ) → (ℤ → ℤ → ℤ) → Words → Outcome
 store_with area f w =
     on_two (λ z a v. at_address area (λ i t. Changed (with_memory t (set t.memory i (f (word_at t.memory i) z)))) a v) w.operands w
@@ -102,6 +103,7 @@ perform area (Multiply s) w = on_two (λ x y v. put_value (scaled_product x y s)
 perform area (Divide s) w = on_two (divide s) w.operands w
 perform area (Combine op) w = on_two (λ x y v. Changed (put (signed (logic_word op (unsigned x) (unsigned y))) v)) w.operands w
 perform area (Extract t b) w = on_one (λ x v. Changed (put (signed (unsigned_field (unsigned x) t b)) v)) w.operands w
+perform area (InBounds l u) w = on_one (λ i v. put_if (int_le l i && int_le i u) IndexRange i v) w.operands w
 perform area (Form f) w = form_address area f w
 perform area (Keep a) w = on_one (λ x v. Changed (with_memory v (set v.memory a x))) w.operands w
 perform area (SetVariable loop) w =

@@ -20,22 +20,22 @@ largest [] = 0
 largest (n ∷ ns) = max n (largest ns)
 
 -- an argument: the most words at once, and those that stay
-pub record ArgumentDepth : Type 0 where
+pub record ArgumentNeed : Type 0 where
   pub most : ℕ
   pub kept : ℕ
 
-abbrev pub word_argument : ℕ → ArgumentDepth
+abbrev pub word_argument : ℕ → ArgumentNeed
 word_argument n = record { most = n; kept = 1 }
 
 -- a control argument counts two
-abbrev pub control_argument : ArgumentDepth
+abbrev pub control_argument : ArgumentNeed
 control_argument = record { most = 2; kept = 2 }
 
-abbrev pub arguments_depth : List ArgumentDepth → ℕ
+abbrev pub arguments_depth : List ArgumentNeed → ℕ
 arguments_depth [] = 0
 arguments_depth (a ∷ args) = max a.most (a.kept + arguments_depth args)
 
-abbrev pub argument_step : Arg-F ArgumentDepth ℕ ℕ ℕ ℕ → ArgumentDepth
+abbrev pub argument_step : Arg-F ArgumentNeed ℕ ℕ ℕ ℕ → ArgumentNeed
 argument_step (layer.Value e f) = word_argument e
 argument_step (layer.Place r) = word_argument r
 argument_step (layer.Array i l) = word_argument 1
@@ -51,25 +51,25 @@ argument_step (layer.Special k) = control_argument
 abbrev pub two_depth : ℕ → ℕ → ℕ
 two_depth a b = max a (1 + b)
 
-abbrev pub condition_step : Cond-F ArgumentDepth ℕ ℕ ℕ ℕ → ℕ
+abbrev pub condition_step : Cond-F ArgumentNeed ℕ ℕ ℕ ℕ → ℕ
 condition_step (layer.Cmp op a b) = two_depth a b
 condition_step (layer.And c d) = max c d
 condition_step (layer.Or c d) = max c d
 
-abbrev pub spot_step : Spot-F ArgumentDepth ℕ ℕ ℕ ℕ → ℕ
+abbrev pub spot_step : Spot-F ArgumentNeed ℕ ℕ ℕ ℕ → ℕ
 spot_step (layer.Direct i) = 1
 spot_step (layer.Through i) = 1
-spot_step (layer.One i l e) = e
-spot_step (layer.Two i l1 l2 n e g) = two_depth e g
+spot_step (layer.One i l u e) = e
+spot_step (layer.Two i l1 u1 l2 u2 n e g) = two_depth e g
 spot_step (layer.ParamArray i e) = e
-spot_step (layer.Word i p e) = e
-spot_step (layer.Elem i p w q e) = e
+spot_step (layer.Word i p n e) = e
+spot_step (layer.Elem i p w n q e) = e
 spot_step (layer.Bare e) = e
 
-abbrev pub ref_step : Ref-F ArgumentDepth ℕ ℕ ℕ ℕ → ℕ
+abbrev pub ref_step : Ref-F ArgumentNeed ℕ ℕ ℕ ℕ → ℕ
 ref_step r = r.at
 
-abbrev pub expression_step : Expr-F ArgumentDepth ℕ ℕ ℕ ℕ → ℕ
+abbrev pub expression_step : Expr-F ArgumentNeed ℕ ℕ ℕ ℕ → ℕ
 expression_step (layer.Num n) = 1
 expression_step (layer.Const z) = 1
 expression_step (layer.Text i) = 1
@@ -88,18 +88,18 @@ expression_step (layer.Choice c a b) = max c (max a b)
 
 -- the most words in hand at once
 abbrev pub operand_depth : Expr → ℕ
-operand_depth = fold-Expr ArgumentDepth ℕ ℕ ℕ ℕ argument_step condition_step expression_step spot_step ref_step
+operand_depth = fold-Expr ArgumentNeed ℕ ℕ ℕ ℕ argument_step condition_step expression_step spot_step ref_step
 
-abbrev pub argument_depth : Arg → ArgumentDepth
-argument_depth = fold-Arg ArgumentDepth ℕ ℕ ℕ ℕ argument_step condition_step expression_step spot_step ref_step
+abbrev pub argument_depth : Arg → ArgumentNeed
+argument_depth = fold-Arg ArgumentNeed ℕ ℕ ℕ ℕ argument_step condition_step expression_step spot_step ref_step
 
 abbrev pub condition_depth : Cond → ℕ
-condition_depth = fold-Cond ArgumentDepth ℕ ℕ ℕ ℕ argument_step condition_step expression_step spot_step ref_step
+condition_depth = fold-Cond ArgumentNeed ℕ ℕ ℕ ℕ argument_step condition_step expression_step spot_step ref_step
 
 abbrev pub address_depth : Ref → ℕ
-address_depth = fold-Ref ArgumentDepth ℕ ℕ ℕ ℕ argument_step condition_step expression_step spot_step ref_step
+address_depth = fold-Ref ArgumentNeed ℕ ℕ ℕ ℕ argument_step condition_step expression_step spot_step ref_step
 
-abbrev pub argument_depths : List Arg → List ArgumentDepth
+abbrev pub argument_depths : List Arg → List ArgumentNeed
 argument_depths [] = []
 argument_depths (a ∷ args) = argument_depth a ∷ argument_depths args
 

@@ -256,18 +256,18 @@ module _ (p : Program) where
   abbrev pub addressing_of : Spot-F Arg Cond Expr Spot Ref → (segment : ℕ) → List Activation → Words → Addressing
   addressing_of (layer.Direct i) s acts w = Known (pos (address_at p s acts i))
   addressing_of (layer.Through i) s acts w = Known (item_word s acts w i)
-  addressing_of (layer.One i l e) s acts w = Indexed (pos (address_at p s acts i)) l
-  addressing_of (layer.Two i l1 l2 n e g) s acts w = Indexed2 (pos (address_at p s acts i)) l1 l2 n
+  addressing_of (layer.One i l u e) s acts w = Indexed (pos (address_at p s acts i)) l
+  addressing_of (layer.Two i l1 u1 l2 u2 n e g) s acts w = Indexed2 (pos (address_at p s acts i)) l1 l2 n
   addressing_of (layer.ParamArray i e) s acts w = Indexed (item_word s acts w i) (pos 0)
-  addressing_of (layer.Word i t e) s acts w = Indexed (table_base t s acts w i) (pos 0)
-  addressing_of (layer.Elem i t n q e) s acts w = Scaled (table_base t s acts w i) n q
+  addressing_of (layer.Word i t n e) s acts w = Indexed (table_base t s acts w i) (pos 0)
+  addressing_of (layer.Elem i t n m q e) s acts w = Scaled (table_base t s acts w i) n q
   addressing_of (layer.Bare e) s acts w = Taken
 
   -- a direct reference puts its address at once
-  abbrev pub address_step : Spot → Spot-F Arg Cond Expr Spot Ref → (segment line : ℕ) → Work → List Activation → Words → Configuration
-  address_step spot (layer.Direct i) s line k acts w =
+  abbrev pub address_step : (compared : Bool) → Spot → Spot-F Arg Cond Expr Spot Ref → (segment line : ℕ) → Work → List Activation → Words → Configuration
+  address_step c spot (layer.Direct i) s line k acts w =
       at s k acts (with_operands w (Word (pos (address_at p s acts i)) ∷ w.operands)) Running
-  address_step spot layer s line k acts w = at s (spot_work spot layer line k) acts w Running
+  address_step c spot layer s line k acts w = at s (spot_work c spot layer line k) acts w Running
 
   -- the word that a number, a constant or a string puts at once
   abbrev pub put_constant : Expr-F Arg Cond Expr Spot Ref → (segment scale : ℕ) → List Activation → Words → Words
@@ -283,6 +283,11 @@ module _ (p : Program) where
 
   abbrev pub here : (segment : ℕ) → List Activation → Option SourceUnit
   here s acts = slice_get p.units (segment_of s acts)
+
+  -- whether the unit at work compares its indexes with their bounds
+  abbrev pub compares_in : Option SourceUnit → Bool
+  compares_in None = false
+  compares_in (Some u) = u.bounds
 
   abbrev pub stuck : (segment : ℕ) → Work → List Activation → Words → Configuration
   stuck s now acts w = at s now acts w Stuck
@@ -305,7 +310,7 @@ module _ (p : Program) where
       after (held (as_procedure (procedure_of_def (definition_of p (segment_of s acts) d))) w) s line now k acts w
   give_step (layer.Special n) s line now k acts w = after (held (control_at acts n) w) s line now k acts w
 
-  -- a byte is read; a statement leaves it
+  -- The next byte of the input is the answer; a statement takes it and drops it.
   abbrev pub read_step : Bool → (segment line : ℕ) → (now k : Work) → List Activation → Words → Configuration
   read_step true s line now k acts w = after (perform p.limits.area ReadByte w) s line now k acts w
   read_step false s line now k acts w = at s k acts (record w { input = drop 1 w.input }) Running
@@ -373,7 +378,7 @@ module _ (p : Program) where
       in_unit (here s acts)
       (λ u. at s (expression_work u (out-Expr e) f line k) acts (put_constant (out-Expr e) s f acts w) Running)
       (stuck s (Eval e f line k) acts w)
-  advance s (Address r line k) acts w = address_step (out-Ref r).at (out-Spot (out-Ref r).at) s line k acts w
+  advance s (Address r line k) acts w = address_step (compares_in (here s acts)) (out-Ref r).at (out-Spot (out-Ref r).at) s line k acts w
   advance s (FormAt spot line k) acts w =
       after (perform p.limits.area (Form (addressing_of (out-Spot spot) s acts w)) w) s line (FormAt spot line k) k acts w
   advance s (Do op line k) acts w = after (perform p.limits.area op w) s line (Do op line k) k acts w

@@ -39,8 +39,8 @@ owner_in (Some i) = i.owner
 abbrev pub sort_of_family : SourceUnit → (family : ℕ) → Sort
 sort_of_family u n = sort_in (slice_get (layout_of u).families n)
 
-abbrev pub stored_item : (segment : ℕ) → SourceUnit → (addresses : List ℕ) → (item : ℕ) → Item → StoredItem
-stored_item g u addresses n i =
+abbrev pub as_stored : (segment : ℕ) → SourceUnit → (addresses : List ℕ) → (item : ℕ) → Item → StoredItem
+as_stored g u addresses n i =
     record {
       segment = g;
       frame = owner_in (slice_get u.items (root_of u n));
@@ -59,7 +59,7 @@ IsStored us m x =
     (i : Item) ×
     (slice_get us g ≡ Some u) ×
     (slice_get u.items n ≡ Some i) ×
-    (x ≡ stored_item g u (slice_index_or m.homes g []) n i)
+    (x ≡ as_stored g u (slice_index_or m.homes g []) n i)
 
 abbrev pub IsAbsolute : Sort → Type 0
 IsAbsolute (sort.Absolute a) = ⊤
@@ -102,6 +102,8 @@ pub record InPlace (us : List SourceUnit) (limits : Limits) (x : StoredItem) : T
   pub below_frames : ¬ IsInFrame x.sort → x.start + (x.offset + x.words) ≤ limits.area - limits.frames
   -- an absolute family stands at its number
   pub at_number : (a : ℕ) → x.sort ≡ sort.Absolute a → x.start ≡ a
+  -- a family of a frame at its offset there
+  pub at_offset : (o : ℕ) → x.sort ≡ sort.Frame o → x.start ≡ o
   -- an item of a frame is inside the frame
   pub inside_frame : IsInFrame x.sort → x.start + (x.offset + x.words) ≤ frame_size_in us x.segment x.frame
 

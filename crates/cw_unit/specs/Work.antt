@@ -1,6 +1,6 @@
 -- Pending work, and what statements, expressions, references and conditions become: the rows of the table of steps (docs/MEANING).
 -- Official Definition of CORAL 66, "Statements" and "Expressions".
-use Rattle.std.specs.Prelude.{ℕ, zero, suc, ◌+◌, max, pos, ◌-ℤ◌, List, [], ◌∷◌, Bool, true, false, Option, Some, None, slice_get}
+use Rattle.std.specs.Prelude.{ℕ, zero, suc, ◌+◌, max, ℤ, pos, ◌-ℤ◌, List, [], ◌∷◌, Bool, true, false, Option, Some, None, slice_get}
 use Rattle.cw_unit.specs.declared.unit.Unit.{Unit as SourceUnit}
 use Rattle.cw_unit.specs.declared.unit.Stmt.{Stmt, Stmt-F}
 use Rattle.cw_unit.specs.declared.unit.Stmt.TheOpen as statement
@@ -18,7 +18,7 @@ use Rattle.cw_unit.specs.declared.unit.Ref.{Ref, out-Ref}
 use Rattle.cw_unit.specs.declared.unit.Arg.TheOpen as layer
 use Rattle.cw_unit.specs.declared.unit.Arg.TheOpen.{Arg-F, Cond-F, Spot-F, Ref-F}
 use Rattle.cw_unit.specs.Scales.{natural_scale, operand_scale, answer_scale}
-use Rattle.cw_unit.specs.Operation.{Operation, Rescale, Fetch, Store, StoreBits, Add, Subtract, Negate, Multiply, Divide, Combine, Extract}
+use Rattle.cw_unit.specs.Operation.{Operation, Rescale, Fetch, Store, StoreBits, Add, Subtract, Negate, Multiply, Divide, Combine, Extract, InBounds}
 
 -- a FOR at work: its line, its loop item, the scale of its control variable, its elements and its body
 pub record Loop : Type 0 where
@@ -120,16 +120,22 @@ expression_work u (layer.Over a b) f line k =
     Eval a g line (Eval b h line (Do (Divide (pos (f + h) -ℤ pos g)) line k))
 expression_work u (layer.Choice c a b) f line k = Test c line (Eval a f line k) (Eval b f line k)
 
--- the indexes of a reference, and then its address
-abbrev pub spot_work : Spot → Spot-F Arg Cond Expr Spot Ref → (line : ℕ) → Work → Work
-spot_work s (layer.Direct i) line k = k
-spot_work s (layer.Through i) line k = FormAt s line k
-spot_work s (layer.One i l e) line k = Eval e 0 line (FormAt s line k)
-spot_work s (layer.Two i l1 l2 n e g) line k = Eval e 0 line (Eval g 0 line (FormAt s line k))
-spot_work s (layer.ParamArray i e) line k = Eval e 0 line (FormAt s line k)
-spot_work s (layer.Word i p e) line k = Eval e 0 line (FormAt s line k)
-spot_work s (layer.Elem i p w q e) line k = Eval e 0 line (FormAt s line k)
-spot_work s (layer.Bare e) line k = Eval e 0 line (FormAt s line k)
+-- an index, compared with its bounds or not
+abbrev pub index_work : (compared : Bool) → Expr → (lower upper : ℤ) → (line : ℕ) → Work → Work
+index_work true e l u line k = Eval e 0 line (Do (InBounds l u) line k)
+index_work false e l u line k = Eval e 0 line k
+
+-- the indexes of a reference, compared with their bounds where these are declared and the unit asks for it, and then its address. The
+-- words of a table and its entries count from 0
+abbrev pub spot_work : (compared : Bool) → Spot → Spot-F Arg Cond Expr Spot Ref → (line : ℕ) → Work → Work
+spot_work c s (layer.Direct i) line k = k
+spot_work c s (layer.Through i) line k = FormAt s line k
+spot_work c s (layer.One i l u e) line k = index_work c e l u line (FormAt s line k)
+spot_work c s (layer.Two i l1 u1 l2 u2 n e g) line k = index_work c e l1 u1 line (index_work c g l2 u2 line (FormAt s line k))
+spot_work c s (layer.ParamArray i e) line k = Eval e 0 line (FormAt s line k)
+spot_work c s (layer.Word i p n e) line k = index_work c e (pos 0) (pos n -ℤ pos 1) line (FormAt s line k)
+spot_work c s (layer.Elem i p w n q e) line k = index_work c e (pos 0) (pos n -ℤ pos 1) line (FormAt s line k)
+spot_work c s (layer.Bare e) line k = Eval e 0 line (FormAt s line k)
 
 abbrev pub condition_work : SourceUnit → Cond-F Arg Cond Expr Spot Ref → (line : ℕ) → (pass fail : Work) → Work
 condition_work u (layer.Cmp op a b) line pass fail =

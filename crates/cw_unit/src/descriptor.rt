@@ -1,8 +1,8 @@
 //! Descriptors: what a segment's COMMON, LIBRARY and ABSOLUTE lists say of the names that segments share.
 use cw_word::{List, Name};
 
-/// The scale of a word, FIXED(t, f): t bits are significant, 1 to 16, and f of them stand after the point, 0 to 15.
-/// INTEGER is FIXED(16, 0). A word w of this scale stands for w / 2^f.
+/// The scale FIXED(t, f) of a word, t from 1 to 16 and f from 0 to 15: the word w stands for w / 2^f. INTEGER is FIXED(16, 0).
+/// A whole word holds 16 bits whatever t is; t is compared where two scales have to be the same.
 #[derive(Clone, Copy, PartialEq, Eq)]
 pub struct Scale {
     pub t: u8,

@@ -4,7 +4,7 @@
 //! for every later one. Items, procedures, labels, switches and descriptors are named by their numbers in the unit's
 //! lists, from 0, and stand there in order of the text.
 use crate::descriptor::{Desc, Scale, Spec};
-use cw_word::{Boxed, List, Name};
+use cw_word::{Boxed, List, Name, Num};
 
 /// A segment after all checks: nothing in it can be refused any more.
 #[derive(Drop)]
@@ -12,6 +12,8 @@ pub struct Unit {
     pub name: Name,
     /// How many tokens the text has after macro expansion.
     pub tokens: u32,
+    /// Whether an index outside its declared bounds stops a run: the segment's LIBRARY lists BOUNDS.
+    pub bounds: bool,
     pub descs: List<Desc>,
     pub items: List<Item>,
     pub procs: List<Proc>,
@@ -123,14 +125,6 @@ pub enum Def {
     Switch(u32),
 }
 
-/// The number whole + digits / 10^places.
-#[derive(Clone, Copy)]
-pub struct Num {
-    pub whole: u64,
-    pub digits: u64,
-    pub places: u8,
-}
-
 /// The operations on the bits of two words: and, or, exclusive or.
 #[derive(Clone, Copy)]
 pub enum LogicOp {
@@ -214,7 +208,8 @@ pub struct Field {
     pub unsigned: bool,
 }
 
-/// How the address of a reference is found. The flag of the table forms is true for a table parameter.
+/// How the address of a reference is found. The flag of the table forms is true for a table parameter. The upper
+/// bounds, and the numbers of words and entries of a table, matter where the unit's indexes are compared with their bounds.
 #[cycle(tree)]
 #[derive(Drop)]
 pub enum Spot {
@@ -222,16 +217,17 @@ pub enum Spot {
     Direct(u32),
     /// The word of an item, a LOCATION parameter.
     Through(u32),
-    /// An array's element: item, lower bound, index.
-    One(u32, i16, Expr),
-    /// An element of an array of two dimensions: item, lower bounds, length of a row, indexes.
-    Two(u32, i16, i16, u16, Expr, Expr),
+    /// An array's element: item, lower and upper bound, index.
+    One(u32, i16, i16, Expr),
+    /// An element of an array of two dimensions: item, lower and upper bound of each, length of a row, indexes.
+    Two(u32, i16, i16, i16, i16, u16, Expr, Expr),
     /// An element of an array parameter.
     ParamArray(u32, Expr),
-    /// A word of a table: item, whether a parameter, number of the word.
-    Word(u32, bool, Expr),
-    /// An element of a table's entry: item, whether a parameter, width, place in the entry, number of the entry.
-    Elem(u32, bool, u16, u16, Expr),
+    /// A word of a table: item, whether a parameter, words of the table, number of the word.
+    Word(u32, bool, u32, Expr),
+    /// An element of a table's entry: item, whether a parameter, width of an entry, number of entries, place in the entry,
+    /// number of the entry.
+    Elem(u32, bool, u16, u16, u16, Expr),
     /// An address that is computed.
     Bare(Expr),
 }

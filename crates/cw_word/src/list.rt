@@ -48,6 +48,14 @@ impl<T> List<T> {
     {
         self.items.as_slice()
     }
+
+    /// The items, taken out.
+    pub fn into_vec(self) -> Vec<T>
+        ensures { result.items ≡ self }
+    {
+        let List { items } = self;
+        items
+    }
 }
 
 impl<T: Drop> List<T> {
