@@ -12,7 +12,7 @@ use Rattle.cw_lex.specs.declared.token.Word.TheVariants as words
 use Rattle.cw_lex.specs.declared.token.TokenKind.{TokenKind}
 use Rattle.cw_lex.specs.declared.token.TokenKind.TheVariants as kinds
 use Rattle.cw_lex.specs.Items.{is_separator, is_literal_byte, word_of, bare, IsIdentifier, letter_first, IsLiteral, of_character, IsItem, HasNoItem}
-use Rattle.cw_lex.specs.Found.{Found, bare_word, word_or_name, worded}
+use Rattle.cw_lex.specs.Found.{FoundItem, bare_word, word_or_name, worded}
 use Rattle.cw_lex.proofs.Lists.{every_prefix, every_stop, every_take, length_front, cut}
 use Rattle.cw_lex.proofs.Letters.{word_lettered, lettered_digits}
 use Rattle.cw_lex.proofs.Classes.{class, class_of, is_bare, is_quoted, word_form, number_class, text_class, body_text_class, symbol_class, item_class}
@@ -26,7 +26,7 @@ pub record IsFoundAt (form : Form) (bs : List ℕ) (x : TokenKind × ℕ) : Type
   pub best : (v r : List ℕ) (k : TokenKind) → v ++ r ≡ bs → IsItem form v k → length v ≤ x.1
 
 -- what is said of what was found, if anything
-abbrev pub FoundOrNot : Form → List ℕ → Found → Type 0
+abbrev pub FoundOrNot : Form → List ℕ → FoundItem → Type 0
 FoundOrNot form bs None = HasNoItem form bs
 FoundOrNot form bs (Some x) = IsFoundAt form bs x
 

@@ -11,7 +11,7 @@ use Rattle.cw_lex.specs.declared.token.TokenKind.{TokenKind}
 use Rattle.cw_lex.specs.declared.token.Problem.{Problem}
 use Rattle.cw_lex.specs.declared.token.Problem.TheVariants.{BadChar, OpenString, BadNumber, LongName, OpenComment}
 use Rattle.cw_lex.specs.declared.token.LexFault.{LexFault}
-use Rattle.cw_lex.specs.Found.{Piece, piece}
+use Rattle.cw_lex.specs.Found.{PieceResult, piece}
 use Rattle.cw_lex.specs.Lexical.{Lexeme, Place, line_behind, is_after_semicolon, fault_at, IsAnswer, IsFirstFault, lexemes, Lexes, at_end, a_gap, a_token, Fails, here, behind_gap, behind_token}
 use Rattle.cw_lex.proofs.Steps.{IsPiece, piece_is}
 
@@ -22,8 +22,8 @@ Reads form start text after at front = (ts : List Lexeme) → Lexes form start (
 abbrev pub FailsFrom : (form : Form) (start : Place) (text : List ℕ) (after : Bool) (at : ℕ) → Type 0
 FailsFrom form start text after at = (f : LexFault) → Fails form start (take at text) after (drop at text) f → Fails form start [] false text f
 
-piece_at : (form : Form) (after : Bool) (bs : List ℕ) (o : Piece) → 0 < length bs → piece form after bs ≡ o → IsPiece form after bs o
-piece_at form after bs o h e = let P : Piece → Type 0 = λ z. IsPiece form after bs z in subst P e (piece_is form after bs h)
+piece_at : (form : Form) (after : Bool) (bs : List ℕ) (o : PieceResult) → 0 < length bs → piece form after bs ≡ o → IsPiece form after bs o
+piece_at form after bs o h e = let P : PieceResult → Type 0 = λ z. IsPiece form after bs z in subst P e (piece_is form after bs h)
 
 not_past : (text : List ℕ) (at : ℕ) → at < length text → 0 < length (drop at text)
 not_past text at h = omega (arith, length-drop at text)

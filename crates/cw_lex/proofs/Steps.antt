@@ -15,7 +15,7 @@ use Rattle.cw_lex.specs.declared.token.TokenKind.TheVariants as kinds
 use Rattle.cw_lex.specs.declared.token.Problem.{Problem}
 use Rattle.cw_lex.specs.declared.token.Problem.TheVariants.{BadChar, OpenString, BadNumber, LongName, OpenComment}
 use Rattle.cw_lex.specs.Items.{is_separator, one_mark, two_marks, symbol_of, IsLongest, keeps_limit, opens_string, not_semicolon}
-use Rattle.cw_lex.specs.Found.{Found, Piece, found, piece, piece_of, comment_from, limited, missing, bracket_piece, bracket_end}
+use Rattle.cw_lex.specs.Found.{FoundItem, PieceResult, found, piece, piece_of, comment_from, limited, missing, bracket_piece, bracket_end}
 use Rattle.cw_lex.specs.Lexical.{IsGap, separator, comment, bracket_comment, IsMissing, at_point, at_quote, at_single_quote, at_other, IsWrong, no_item, long_name, long_number, open_comment, open_bracket, is_token}
 use Rattle.cw_lex.proofs.Lists.{every_take, all_of, cut, length_front}
 use Rattle.cw_lex.proofs.Longest.{IsFoundAt, FoundOrNot}
@@ -35,7 +35,7 @@ pub record IsTokenAt (form : Form) (after : Bool) (bs : List ℕ) (k : TokenKind
   pub is_token : is_token after k ≡ true
   pub keeps : keeps_limit k (take n bs) ≡ true
 
-abbrev pub IsPiece : Form → Bool → List ℕ → Piece → Type 0
+abbrev pub IsPiece : Form → Bool → List ℕ → PieceResult → Type 0
 IsPiece form after bs (Ok (None, n)) = IsGapAt form after bs n
 IsPiece form after bs (Ok (Some k, n)) = IsTokenAt form after bs k n
 IsPiece form after bs (Err p) = IsWrong form after p bs
@@ -129,7 +129,7 @@ open_token : (form : Form) (after : Bool) (b : ℕ) (bs : List ℕ) (n : ℕ) �
 open_token form true b bs n p e = absurd (let h : b ≡ 40 = open_symbol n b bs p.is_item in let q : (b == 40) ≡ true = ap (λ (x : ℕ). x == 40) h in cc)
 open_token form false b bs n p e = refl
 
-found_piece : (form : Form) (after : Bool) (b : ℕ) (bs : List ℕ) → is_separator b ≡ false → (after && (b == 40)) ≡ false → (o : Found) → FoundOrNot form (b ∷ bs) o → IsPiece form after (b ∷ bs) (piece_of form (b ∷ bs) o)
+found_piece : (form : Form) (after : Bool) (b : ℕ) (bs : List ℕ) → is_separator b ≡ false → (after && (b == 40)) ≡ false → (o : FoundItem) → FoundOrNot form (b ∷ bs) o → IsPiece form after (b ∷ bs) (piece_of form (b ∷ bs) o)
 found_piece form after b bs e o None h = no_item e h (missing_is form b bs)
 found_piece form after b bs e o (Some (kinds.Word words.Comment, n)) h = comment_piece form after (b ∷ bs) n h
 found_piece form after b bs e o (Some (kinds.Word k, n)) h = token_at form after (b ∷ bs) (kinds.Word k) n h refl refl

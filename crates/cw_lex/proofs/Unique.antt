@@ -18,7 +18,7 @@ use Rattle.cw_lex.specs.declared.token.Problem.{Problem}
 use Rattle.cw_lex.specs.declared.token.Problem.TheVariants.{BadNumber, LongName, OpenComment}
 use Rattle.cw_lex.specs.declared.token.LexFault.{LexFault}
 use Rattle.cw_lex.specs.Items.{is_separator, word_of, IsWord, IsLiteral, of_character, IsIdentifier, letter_first, IsItem, IsLongest, HasNoItem, keeps_limit, not_semicolon, IsBracketed}
-use Rattle.cw_lex.specs.Found.{Found, Piece, found, piece, piece_of, comment_from, limited, missing, bracket_piece, bracket_end}
+use Rattle.cw_lex.specs.Found.{FoundItem, PieceResult, found, piece, piece_of, comment_from, limited, missing, bracket_piece, bracket_end}
 use Rattle.cw_lex.specs.Lexical.{Lexeme, Place, line_behind, at_behind, is_after_semicolon, fault_at, lexemes, IsGap, separator, comment, bracket_comment, IsMissing, at_point, at_quote, at_single_quote, at_other, IsWrong, no_item, long_name, long_number, open_comment, open_bracket, is_token, Lexes, at_end, a_gap, a_token, Fails, here, behind_gap, behind_token}
 use Rattle.cw_lex.proofs.Lists.{every_stop, every_all, length_front}
 use Rattle.cw_lex.proofs.Longest.{FoundOrNot}
@@ -171,7 +171,7 @@ one_kind form w (kinds.Symbol s) kinds.Literal p i = absurd (literal_not form w 
 one_kind form w (kinds.Symbol s) (kinds.Symbol t) p i = (let n : Some s ≡ Some t = sym p ∙ i in let m : s ≡ t = cc in ap kinds.Symbol m)
 
 -- The longest item is what is found.
-longest_found : (form : Form) (w rest : List ℕ) (k : TokenKind) → IsLongest form w rest k → (o : Found) → FoundOrNot form (w ++ rest) o → o ≡ Some (k, length w)
+longest_found : (form : Form) (w rest : List ℕ) (k : TokenKind) → IsLongest form w rest k → (o : FoundItem) → FoundOrNot form (w ++ rest) o → o ≡ Some (k, length w)
 longest_found form w rest k p None h = absurd (h w rest k refl p.is_item)
 longest_found form w rest k p (Some (j, n)) h =
     let bs = w ++ rest in
@@ -298,7 +298,7 @@ missing_of form _ b bs (at_other e f) = rw (e, f) refl
 no_bracket_item : (form : Form) (rest : List ℕ) → HasNoItem form (40 ∷ rest) → ⊥
 no_bracket_item form rest h = h (40 ∷ []) rest (kinds.Symbol symbols.Open) refl refl
 
-nothing_found : (form : Form) (b : ℕ) (rest : List ℕ) → HasNoItem form (b ∷ rest) → (o : Found) → FoundOrNot form (b ∷ rest) o → piece_of form (b ∷ rest) o ≡ Err (missing form (b ∷ rest))
+nothing_found : (form : Form) (b : ℕ) (rest : List ℕ) → HasNoItem form (b ∷ rest) → (o : FoundItem) → FoundOrNot form (b ∷ rest) o → piece_of form (b ∷ rest) o ≡ Err (missing form (b ∷ rest))
 nothing_found form b rest h None q = refl
 nothing_found form b rest h (Some (k, n)) q = absurd (h (take n (b ∷ rest)) (drop n (b ∷ rest)) k (take-append-drop n (b ∷ rest)) q.is_item)
 
@@ -347,7 +347,7 @@ opened at_end = is_done refl refl
 opened {form} {start} (a_gap {before = before} {gap = gap} {rest = rest} {after = after} {ts = ts} g d) = is_step None (length gap) ts (gap_piece form after gap rest g) refl (seam form start before gap rest after ts d)
 opened {form} {start} (a_token {before = before} {w = w} {rest = rest} {after = after} {kind = k} {ts = ts} p n e d) = is_step (Some k) (length w) ts (token_piece form after w rest k p n e) (rw take-append_seam refl) (seam form start before w rest (is_after_semicolon (Some k) after) ts d)
 
-same_read : (x y : Option TokenKind × ℕ) (o : Piece) → o ≡ Ok x → o ≡ Ok y → x ≡ y
+same_read : (x y : Option TokenKind × ℕ) (o : PieceResult) → o ≡ Ok x → o ≡ Ok y → x ≡ y
 same_read x y o e f = cc
 
 nothing_read : (form : Form) (after : Bool) (x : Option TokenKind × ℕ) → piece form after [] ≡ Ok x → ⊥

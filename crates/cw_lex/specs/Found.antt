@@ -1,4 +1,5 @@
--- What is found at the front of a text, as it is computed.
+-- What is found at the front of a text, as the lexer's private functions compute it.
+-- What the items of a text are, Lexical says, and nothing here.
 use Rattle.std.specs.Prelude.{ℕ, ◌+◌, ◌-◌, ◌==◌, nat_lt, Bool, true, false, not, ◌&&◌, ◌||◌, List, [], ◌∷◌, length, take, drop, Option, Some, None, Result, Ok, Err, if◌then◌else◌}
 use Rattle.std.specs.List.{prefix_len}
 use Rattle.std.specs.Char.{is_ascii_alphabetic, is_ascii_alphanumeric, is_ascii_digit}
@@ -13,10 +14,10 @@ use Rattle.cw_lex.specs.declared.token.Problem.{Problem}
 use Rattle.cw_lex.specs.declared.token.Problem.TheVariants.{BadChar, OpenString, BadNumber, LongName, OpenComment}
 use Rattle.cw_lex.specs.Items.{opens_string, keeps_limit, is_separator, word_of, one_mark, two_marks, is_plain, is_literal_byte, not_semicolon}
 
-abbrev pub Found : Type 0
-Found = Option (TokenKind × ℕ)
+abbrev pub FoundItem : Type 0
+FoundItem = Option (TokenKind × ℕ)
 
-abbrev pub of_kind : TokenKind → ℕ → Option ℕ → Found
+abbrev pub of_kind : TokenKind → ℕ → Option ℕ → FoundItem
 of_kind k n None = None
 of_kind k n (Some m) = Some (k, m + n)
 
@@ -43,16 +44,16 @@ word_or_name form (Some k) n bs = worded form k n bs
 abbrev pub bare_word : Form → List ℕ → TokenKind × ℕ
 bare_word form bs = word_or_name form (word_of (take (prefix_len is_ascii_alphanumeric bs) bs)) (prefix_len is_ascii_alphanumeric bs) bs
 
-abbrev pub quoted_or_none : Form → Option Word → ℕ → List ℕ → Found
+abbrev pub quoted_or_none : Form → Option Word → ℕ → List ℕ → FoundItem
 quoted_or_none form None n bs = None
 quoted_or_none form (Some k) n bs = Some (worded form k n bs)
 
 -- the letters between apostrophes, before these bytes
-abbrev pub closed_word : Form → List ℕ → ℕ → List ℕ → List ℕ → Found
+abbrev pub closed_word : Form → List ℕ → ℕ → List ℕ → List ℕ → FoundItem
 closed_word form w n all (c ∷ bs) = if c == 39 then quoted_or_none form (word_of w) (n + 2) all else None
 closed_word form w n all _ = None
 
-abbrev pub quoted_word : Form → List ℕ → Found
+abbrev pub quoted_word : Form → List ℕ → FoundItem
 quoted_word form [] = None
 quoted_word form (c ∷ bs) = closed_word form (take (prefix_len is_ascii_alphanumeric bs) bs) (prefix_len is_ascii_alphanumeric bs) (c ∷ bs) (drop (prefix_len is_ascii_alphanumeric bs) bs)
 
@@ -60,10 +61,10 @@ abbrev pub fraction : List ℕ → ℕ
 fraction (c ∷ bs) = if c == 46 then (if prefix_len is_ascii_digit bs == 0 then 0 else prefix_len is_ascii_digit bs + 1) else 0
 fraction _ = 0
 
-abbrev pub number_of : ℕ → Found
+abbrev pub number_of : ℕ → FoundItem
 number_of n = if n == 0 then None else Some (kinds.Number, n)
 
-abbrev pub number : List ℕ → Found
+abbrev pub number : List ℕ → FoundItem
 number bs = number_of (prefix_len is_ascii_digit bs + fraction (drop (prefix_len is_ascii_digit bs) bs))
 
 -- The end of the longest string: closed where the byte before is a quote that ends one, at the place, end the last end so far.
@@ -80,24 +81,24 @@ two_quotes n _ = None
 abbrev pub body_text_end : List ℕ → Option ℕ
 body_text_end bs = two_quotes (prefix_len is_plain bs) (drop (prefix_len is_plain bs) bs)
 
-abbrev pub string : Form → List ℕ → Found
+abbrev pub string : Form → List ℕ → FoundItem
 string Source (c ∷ bs) = of_kind kinds.Text 1 (text_end false 0 None bs)
 string MacroBody (c ∷ d ∷ bs) = if d == 34 then of_kind kinds.BodyText 2 (body_text_end bs) else None
 string _ _ = None
 
-abbrev pub of_symbol : ℕ → Option Symbol → Found
+abbrev pub of_symbol : ℕ → Option Symbol → FoundItem
 of_symbol n None = None
 of_symbol n (Some s) = Some (kinds.Symbol s, n)
 
-abbrev pub or_else : Found → Found → Found
+abbrev pub or_else : FoundItem → FoundItem → FoundItem
 or_else None y = y
 or_else (Some x) y = Some x
 
-abbrev pub symbol : ℕ → List ℕ → Found
+abbrev pub symbol : ℕ → List ℕ → FoundItem
 symbol c [] = of_symbol 1 (one_mark c)
 symbol c (d ∷ bs) = or_else (of_symbol 2 (two_marks c d)) (of_symbol 1 (one_mark c))
 
-abbrev pub found : Form → List ℕ → Found
+abbrev pub found : Form → List ℕ → FoundItem
 found form [] = None
 found form (c ∷ bs) =
     if is_ascii_alphabetic c then Some (bare_word form (c ∷ bs))
@@ -115,34 +116,34 @@ bracket_end depth at (b ∷ bs) =
     else bracket_end depth (at + 1) bs)
 
 -- What stands at the front: a token's kind, or none for what stands between tokens, and the length; or what is wrong.
-abbrev pub Piece : Type 0
-Piece = Result (Option TokenKind × ℕ) Problem
+abbrev pub PieceResult : Type 0
+PieceResult = Result (Option TokenKind × ℕ) Problem
 
 -- the problem where no item is
 abbrev pub missing : Form → List ℕ → Problem
 missing form [] = BadChar
 missing form (c ∷ bs) = if c == 46 then BadNumber else (if (c == 34) && opens_string form bs then OpenString else BadChar)
 
-abbrev pub comment_from : ℕ → List ℕ → Piece
+abbrev pub comment_from : ℕ → List ℕ → PieceResult
 comment_from n bs = if nat_lt (prefix_len not_semicolon bs) (length bs) then Ok (None, n + prefix_len not_semicolon bs + 1) else Err OpenComment
 
-abbrev pub limited : TokenKind → ℕ → Bool → Piece
+abbrev pub limited : TokenKind → ℕ → Bool → PieceResult
 limited kinds.Name n true = Ok (Some kinds.Name, n)
 limited kinds.Name n false = Err LongName
 limited kinds.Number n true = Ok (Some kinds.Number, n)
 limited kinds.Number n false = Err BadNumber
 limited k n b = Ok (Some k, n)
 
-abbrev pub piece_of : Form → List ℕ → Found → Piece
+abbrev pub piece_of : Form → List ℕ → FoundItem → PieceResult
 piece_of form bs None = Err (missing form bs)
 piece_of form bs (Some (kinds.Word words.Comment, n)) = comment_from n (drop n bs)
 piece_of form bs (Some (k, n)) = limited k n (keeps_limit k (take n bs))
 
-abbrev pub bracket_piece : Option ℕ → Piece
+abbrev pub bracket_piece : Option ℕ → PieceResult
 bracket_piece None = Err OpenComment
 bracket_piece (Some n) = Ok (None, n + 1)
 
-unfoldable pub piece : Form → Bool → List ℕ → Piece
+unfoldable pub piece : Form → Bool → List ℕ → PieceResult
 piece form after_semicolon [] = Err BadChar
 piece form after_semicolon (b ∷ bs) =
     if is_separator b then Ok (None, 1)

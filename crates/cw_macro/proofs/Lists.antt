@@ -2,7 +2,7 @@
 use Rattle.std.proofs.Common.{Bool, ◌||◌, ◌≡◌, ℕ, zero, suc, ◌<◌, List, [], ◌∷◌, ◌++◌, length, map, get_or, Some, None, refl, ap, subst, arith}
 use Rattle.std.specs.List.{flat_map, list_any}
 use Rattle.cw_macro.specs.Premises.{Each}
-use Rattle.cw_macro.specs.Expansion.{Leveled, Given}
+use Rattle.cw_macro.specs.Expansion.{Leveled, GivenArguments}
 
 module _ {A : Type 0} (P : A → Type 0) where
   pub each_first : (ts rest : List A) (t : A) → ts ≡ t ∷ rest → Each P ts → P t
@@ -26,7 +26,7 @@ each_flat_map P Q f g (x ∷ xs) h = each_append Q (f x) (flat_map f xs) (g x h.
 -- ---- arguments
 
 -- the arguments done and a first part of the next, in front of the others
-abbrev pub behind : List (List Leveled) → List Leveled → Given → Given
+abbrev pub behind : List (List Leveled) → List Leveled → GivenArguments → GivenArguments
 behind args argument None = None
 behind [] argument (Some (first, more, rest)) = Some (argument ++ first, more, rest)
 behind (a ∷ args) argument (Some (first, more, rest)) = Some (a, args ++ (argument ++ first) ∷ more, rest)

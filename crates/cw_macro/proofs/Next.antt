@@ -16,7 +16,7 @@ use Rattle.cw_macro.specs.declared.arguments.Bracket.{Bracket}
 use Rattle.cw_macro.specs.declared.arguments.Role.{Role}
 use Rattle.cw_macro.specs.declared.arguments.Role.TheVariants.{Inside, Separates, Ends, Mismatched}
 use Rattle.cw_macro.specs.declared.fault.TheConstants.{MOST_LEVELS, MOST_TOKENS, MOST_REPLACED, MOST_BYTES}
-use Rattle.cw_macro.specs.Expansion.{Leveled, Part, Own, Parameter, Macro, Definitions, Expansion, Step, Finished, Refused, Moved, Defining, Heading, HasBody, Given, name_of, is_name, is_string, is_open, is_close, is_comma, number_of, parameters, parameters_if_any, closed, heading, part, part_if_any, role_of, innermost, open_behind, given, arguments, counted, argument_list, tokens_of, replacement, brought, moving, defining, defined, removing, deleting, redefined, replacing, naming, step_at, step_in, expansion_step}
+use Rattle.cw_macro.specs.Expansion.{Leveled, BodyPart, Own, Parameter, Macro, Definitions, Expansion, Step, Finished, Refused, Moved, Defining, Heading, HasBody, GivenArguments, name_of, is_name, is_string, is_open, is_close, is_comma, number_of, parameters, parameters_if_any, closed, heading_of, part, part_if_any, role_of, innermost, open_behind, given, arguments, counted, argument_list, tokens_of, replacement, brought, moving, defining, defined, removing, deleting, redefined, replacing, naming, step_at, step_in, expansion_step}
 use Rattle.cw_macro.specs.Premises.{Each, HasForm, IsWithin, IsPlaced, IsPartWithin, AreWithin, IsSound}
 use Rattle.cw_macro.specs.Views.{Follows, moves, defines}
 use Rattle.cw_macro.proofs.Lists.{each_append, each_map, each_flat_map}
@@ -83,7 +83,7 @@ closed_rest line n name i (Some (ps, t ∷ u ∷ ts)) h =
     (λ e. record { name = i; string = (and_parts (is_string t.lexeme.kind) (is_semicolon u.lexeme.kind) e).0; within = h.0.0.within; string_line = h.0.0.line; placed = h.0.1.1; shorter = omega (arith, h.1) })
     (λ e. tt)
 
-pub heading_rest : (line : ℕ) (ts : List Leveled) → Each IsPlaced ts → HeadingRest (length ts) line (heading line ts)
+pub heading_rest : (line : ℕ) (ts : List Leveled) → Each IsPlaced ts → HeadingRest (length ts) line (heading_of line ts)
 heading_rest line [] h = tt
 heading_rest line (t ∷ ts) h =
     either (HeadingRest (length (t ∷ ts)) line) (is_name t.lexeme.kind)
@@ -92,10 +92,10 @@ heading_rest line (t ∷ ts) h =
 
 -- ---- arguments
 
-abbrev GivenRest : ℕ → Given → Type 0
+abbrev GivenRest : ℕ → GivenArguments → Type 0
 GivenRest n o = IfSome o (λ x. Each IsPlaced x.0 × Each (Each IsPlaced) x.1 × Each IsPlaced x.2 × (length x.2 ≤ n))
 
-given_rest : (r : Role) (n : ℕ) (t : Leveled) (rest : List Leveled) (o : Given) → IsPlaced t → Each IsPlaced rest → length rest ≤ n → GivenRest n o → GivenRest n (given r t rest o)
+given_rest : (r : Role) (n : ℕ) (t : Leveled) (rest : List Leveled) (o : GivenArguments) → IsPlaced t → Each IsPlaced rest → length rest ≤ n → GivenRest n o → GivenRest n (given r t rest o)
 given_rest Inside n t rest None p q l h = tt
 given_rest Inside n t rest (Some x) p q l h = ((p, h.0), h.1, h.2, h.3)
 given_rest Separates n t rest None p q l h = tt
@@ -103,7 +103,7 @@ given_rest Separates n t rest (Some x) p q l h = (tt, (h.0, h.1), h.2, h.3)
 given_rest Ends n t rest o p q l h = (tt, tt, q, l)
 given_rest Mismatched n t rest o p q l h = tt
 
-given_within : (m n : ℕ) (o : Given) → m ≤ n → GivenRest m o → GivenRest n o
+given_within : (m n : ℕ) (o : GivenArguments) → m ≤ n → GivenRest m o → GivenRest n o
 given_within m n None l h = tt
 given_within m n (Some x) l h = (h.0, h.1, h.2, omega (arith, l, h.3))
 
@@ -116,7 +116,7 @@ arguments_rest bs (t ∷ ts) h =
 abbrev ListRest : ℕ → Option (List (List Leveled) × List Leveled) → Type 0
 ListRest n o = IfSome o (λ x. Each (Each IsPlaced) x.0 × Each IsPlaced x.1 × (length x.1 ≤ n))
 
-counted_rest : (k m n : ℕ) (o : Given) → m ≤ n → GivenRest m o → ListRest n (counted k o)
+counted_rest : (k m n : ℕ) (o : GivenArguments) → m ≤ n → GivenRest m o → ListRest n (counted k o)
 counted_rest k m n None l h = tt
 counted_rest k m n (Some x) l h = either (ListRest n) (suc (length x.1) == k) (λ e. ((h.0, h.1), h.2, omega (arith, l, h.3))) (λ e. tt)
 
@@ -140,14 +140,14 @@ argument_within [] k h = tt
 argument_within (a ∷ args) zero h = within_all a h.0
 argument_within (a ∷ args) (suc k) h = argument_within args k h.1
 
-part_within : (args : List (List Leveled)) → Each (Each IsPlaced) args → (p : Part) → IsPartWithin p → Each LiesWithin (tokens_of args p)
+part_within : (args : List (List Leveled)) → Each (Each IsPlaced) args → (p : BodyPart) → IsPartWithin p → Each LiesWithin (tokens_of args p)
 part_within args h (Own t) w = (w, tt)
 part_within args h (Parameter k) w = argument_within args k h
 
 brought_placed : (call : Leveled) → IsPlaced call → (t : Leveled) → LiesWithin t → IsPlaced (brought call t)
 brought_placed call p t w = record { line = p.line; within = record { place = w.place; form = w.form } }
 
-replacement_placed : (call : Leveled) (body : List Part) (args : List (List Leveled)) → IsPlaced call → Each IsPartWithin body → Each (Each IsPlaced) args → Each IsPlaced (replacement call body args)
+replacement_placed : (call : Leveled) (body : List BodyPart) (args : List (List Leveled)) → IsPlaced call → Each IsPartWithin body → Each (Each IsPlaced) args → Each IsPlaced (replacement call body args)
 replacement_placed call body args p b a = each_map LiesWithin IsPlaced (brought call) (brought_placed call p) (flat_map (tokens_of args) body) (each_flat_map IsPartWithin LiesWithin (tokens_of args) (part_within args a) body b)
 
 -- ---- definitions
@@ -201,7 +201,7 @@ deleting_next e t rest (a ∷ []) line n p l = tt
 deleting_next e t rest (a ∷ b ∷ ts) line n p l =
     either (Allows e) (is_name a.lexeme.kind && is_semicolon b.lexeme.kind) (λ x. removing_next e t rest ts line (name_of a.lexeme) (e.definitions (name_of a.lexeme)) n p.1.1 (omega (arith, l))) (λ x. tt)
 
-replacing_next : (e : Expansion) (t : Leveled) (rest : List Leveled) (body : List Part) (o : Option (List (List Leveled) × List Leveled)) → Next e t rest → Each IsPartWithin body → ListRest (length rest) o → Allows e (replacing e t body o)
+replacing_next : (e : Expansion) (t : Leveled) (rest : List Leveled) (body : List BodyPart) (o : Option (List (List Leveled) × List Leveled)) → Next e t rest → Each IsPartWithin body → ListRest (length rest) o → Allows e (replacing e t body o)
 replacing_next e t rest body None n b h = tt
 replacing_next e t rest body (Some x) n b h =
     let brings = replacement t body x.0 in
@@ -227,7 +227,7 @@ naming_next e t rest None n h = moving_next e t rest n
 naming_next e t rest (Some m) n h = either (Allows e) (nat_lt t.level MOST_LEVELS) (λ b. replacing_next e t rest m.body (argument_list m.parameters rest) n h (list_rest m.parameters rest n.3)) (λ b. tt)
 
 step_next : (e : Expansion) (t : Leveled) (rest : List Leveled) (k : TokenKind) → Next e t rest → Allows e (step_at e t rest k)
-step_next e t rest (kinds.Word words.Define) n = defining_next e t rest t.lexeme.line (heading t.lexeme.line rest) n (heading_rest t.lexeme.line rest n.3)
+step_next e t rest (kinds.Word words.Define) n = defining_next e t rest t.lexeme.line (heading_of t.lexeme.line rest) n (heading_rest t.lexeme.line rest n.3)
 step_next e t rest (kinds.Word words.Delete) n = deleting_next e t rest rest t.lexeme.line n n.3 (omega arith)
 step_next e t rest kinds.Name n = naming_next e t rest (e.definitions (name_of t.lexeme)) n (n.4 (name_of t.lexeme))
 step_next e t rest k n = moving_next e t rest n

@@ -4,10 +4,9 @@ use Rattle.std.specs.Option.{option_map, is_some, is_none}
 use Rattle.std.specs.Str.{bytes_eq}
 use Rattle.std.specs.BTreeMap.{get, Updates, btree_map_len}
 use Rattle.std.specs.Cmp.Lexicographic.{texts_ties, bytes_decides, nat_list_eq_equiv}
-use Rattle.cw_macro.specs.declared.key.Key.{Key}
 use Rattle.cw_macro.specs.declared.definition.Parameters.{Parameters}
 use Rattle.cw_macro.specs.Expansion.{number_of}
-use Rattle.cw_macro.specs.Views.{key, key_cmp, IsNumbering}
+use Rattle.cw_macro.specs.Views.{name_cmp, IsNumbering}
 use Rattle.std.proofs.lemmas.List.{length-append}
 
 number_last_at : (b : Bool) (q name : List ℕ) (ps : List (List ℕ)) → (number_of q ps ≡ None → number_of q (ps ++ name ∷ []) ≡ cond (bytes_eq q name) (Some (length ps)) None)
@@ -56,16 +55,16 @@ with_last q name names fresh = at (bytes_eq name q) refl (number_of q names) ref
     at false e None h = sym (number_last q name names h ∙ ap (λ (z : Bool). cond z (Some (length names)) None) (swap ∙ e))
     at false e (Some j) h = sym (number_kept q name names j h)
 
-pub numbering_added : (old new : Parameters) (k : Key) (name : List ℕ) (names : List (List ℕ)) → k.name ≡ name → IsNumbering old names
-    → Updates key_cmp old.numbers new.numbers k (Some (btree_map_len old.numbers)) → get key_cmp old.numbers k ≡ None → btree_map_len new.numbers ≡ btree_map_len old.numbers + 1 → IsNumbering new (names ++ name ∷ [])
+pub numbering_added : (old new : Parameters) (k : List ℕ) (name : List ℕ) (names : List (List ℕ)) → k ≡ name → IsNumbering old names
+    → Updates name_cmp old.numbers new.numbers k (Some (btree_map_len old.numbers)) → get name_cmp old.numbers k ≡ None → btree_map_len new.numbers ≡ btree_map_len old.numbers + 1 → IsNumbering new (names ++ name ∷ [])
 numbering_added old new k name names e h u none size = record {
   count = size ∙ omega (arith, h.count, length-append names (name ∷ []));
   each = λ q.
-      u.0 (key q)
-      ∙ ap (λ (b : Bool). cond b (Some (btree_map_len old.numbers)) (get key_cmp old.numbers (key q))) (sym (texts_ties k.name q) ∙ ap (λ (n : List ℕ). bytes_eq n q) e)
-      ∙ ap (λ (n : ℕ). cond (bytes_eq name q) (Some n) (get key_cmp old.numbers (key q))) h.count
+      u.0 q
+      ∙ ap (λ (b : Bool). cond b (Some (btree_map_len old.numbers)) (get name_cmp old.numbers q)) (sym (texts_ties k q) ∙ ap (λ (n : List ℕ). bytes_eq n q) e)
+      ∙ ap (λ (n : ℕ). cond (bytes_eq name q) (Some n) (get name_cmp old.numbers q)) h.count
       ∙ ap (λ (o : Option ℕ). cond (bytes_eq name q) (Some (length names)) o) (h.each q)
-      ∙ with_last q name names (sym (h.each name) ∙ ap (λ (n : List ℕ). get key_cmp old.numbers (key n)) (sym e) ∙ none);
+      ∙ with_last q name names (sym (h.each name) ∙ ap (λ (n : List ℕ). get name_cmp old.numbers n) (sym e) ∙ none);
 }
 
 pub size_added : (o : Option ℕ) (m n : ℕ) → is_none o ≡ true → n ≡ m + cond (is_some o) 0 1 → (o ≡ None) × (n ≡ m + 1)

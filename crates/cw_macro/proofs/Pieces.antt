@@ -7,7 +7,7 @@ use Rattle.std.proofs.lemmas.Bool.{and_parts}
 use Rattle.std.proofs.lemmas.Bool.Decides.{nat_tests}
 use Rattle.std.proofs.lemmas.Grind.{flat_map-append}
 use Rattle.cw_macro.specs.declared.fault.TheConstants.{MOST_REPLACED}
-use Rattle.cw_macro.specs.Expansion.{Leveled, Part, Parameter, tokens_of}
+use Rattle.cw_macro.specs.Expansion.{Leveled, BodyPart, Parameter, tokens_of}
 use Rattle.cw_macro.specs.Premises.{Each}
 use Rattle.cw_macro.specs.Views.{picked, parts_at, is_nil, within_limit}
 use Rattle.cw_macro.proofs.Lists.{each_append}
@@ -29,12 +29,12 @@ get_last (n ∷ ns) m = get_last ns m
 
 parts_kept : (ns ms is : List ℕ) → Each (λ i. i < length ns) is → parts_at (ns ++ ms) is ≡ parts_at ns is
 parts_kept ns ms [] h = refl
-parts_kept ns ms (i ∷ is) h = ap (λ (o : Option ℕ). picked o ++ parts_at (ns ++ ms) is) (get_within ns ms i h.0) ∙ ap (λ (ps : List Part). picked (slice_get ns i) ++ ps) (parts_kept ns ms is h.1)
+parts_kept ns ms (i ∷ is) h = ap (λ (o : Option ℕ). picked o ++ parts_at (ns ++ ms) is) (get_within ns ms i h.0) ∙ ap (λ (ps : List BodyPart). picked (slice_get ns i) ++ ps) (parts_kept ns ms is h.1)
 
 pub new_number : (ns is : List ℕ) (m : ℕ) → Each (λ i. i < length ns) is → parts_at (ns ++ m ∷ []) (is ++ length ns ∷ []) ≡ parts_at ns is ++ Parameter m ∷ []
 new_number ns is m h =
     flat_map-append (λ i. picked (slice_get (ns ++ m ∷ []) i)) is (length ns ∷ [])
-    ∙ ap (λ (ps : List Part). ps ++ (picked (slice_get (ns ++ m ∷ []) (length ns)) ++ [])) (parts_kept ns (m ∷ []) is h)
+    ∙ ap (λ (ps : List BodyPart). ps ++ (picked (slice_get (ns ++ m ∷ []) (length ns)) ++ [])) (parts_kept ns (m ∷ []) is h)
     ∙ ap (λ (o : Option ℕ). parts_at ns is ++ (picked o ++ [])) (get_last ns m)
 
 each_more : (ns is : List ℕ) (m : ℕ) → Each (λ i. i < length ns) is → Each (λ i. i < length (ns ++ m ∷ [])) is

@@ -12,7 +12,7 @@ use Rattle.cw_lex.specs.Lexical.{Lexeme, is_semicolon}
 use Rattle.cw_macro.specs.declared.fault.MacroFault.{MacroFault}
 use Rattle.cw_macro.specs.declared.fault.MacroFault.TheVariants as faults
 use Rattle.cw_macro.specs.declared.fault.TheConstants.{MOST_LEVELS, MOST_TOKENS, MOST_REPLACED}
-use Rattle.cw_macro.specs.Expansion.{Definitions, Heading, defined, part, Leveled, Part, Macro, Expansion, Step, Refused, Moved, name_of, is_name, moving, removing, deleting, redefined, replacing, naming, argument_list, tokens_of, replacement, brought, step_at, step_in, expansion_step}
+use Rattle.cw_macro.specs.Expansion.{Definitions, Heading, defined, part, Leveled, BodyPart, Macro, Expansion, Step, Refused, Moved, name_of, is_name, moving, removing, deleting, redefined, replacing, naming, argument_list, tokens_of, replacement, brought, step_at, step_in, expansion_step}
 use Rattle.cw_macro.specs.Views.{Follows, moves, defines, IsFaultOf, within_limit}
 
 below_true : (a b : ℕ) → a < b → nat_lt a b ≡ true
@@ -49,10 +49,10 @@ count_told : (b : Bool) (n : ℕ) (o : Option ℕ) → o ≡ cond b (Some n) Non
 count_told true n o h = ((λ e. absurd cc), (λ k e. (refl, cc)))
 count_told false n o h = ((λ e. refl), (λ k e. absurd cc))
 
-replaced_if : Expansion → Leveled → List Part → List (List Leveled) → List Leveled → ℕ → Bool → Step
+replaced_if : Expansion → Leveled → List BodyPart → List (List Leveled) → List Leveled → ℕ → Bool → Step
 replaced_if e t body args rest count b = cond b (Moved (record e { left = replacement t body args ++ rest; count = count })) (Refused (faults.TooLong t.lexeme.line))
 
-size_is : (e : Expansion) (t : Leveled) (body : List Part) (args : List (List Leveled)) → e.count + 1 + length (flat_map (tokens_of args) body) ≡ e.count + 1 + length (replacement t body args)
+size_is : (e : Expansion) (t : Leveled) (body : List BodyPart) (args : List (List Leveled)) → e.count + 1 + length (flat_map (tokens_of args) body) ≡ e.count + 1 + length (replacement t body args)
 size_is e t body args = ap (λ (n : ℕ). e.count + 1 + n) (sym (length-map (flat_map (tokens_of args) body) (brought t)))
 
 pub long_is : (e : Expansion) (t : Leveled) (m : Macro) (rest behind : List Leveled) (args : List (List Leveled)) (o : Option ℕ) → t.level < MOST_LEVELS → argument_list m.parameters rest ≡ Some (args, behind)
@@ -122,7 +122,7 @@ deleting_same e l line [] = refl
 deleting_same e l line (a ∷ []) = refl
 deleting_same e l line (a ∷ b ∷ ts) = ap (λ s. cond (is_name a.lexeme.kind && is_semicolon b.lexeme.kind) s (Refused (faults.BadDefine line))) (removing_same e l line (name_of a.lexeme) (e.definitions (name_of a.lexeme)) ts)
 
-replacing_same : (e : Expansion) (l : List Leveled) (call : Leveled) (body : List Part) (o : Option (List (List Leveled) × List Leveled)) → replacing (record e { left = l }) call body o ≡ replacing e call body o
+replacing_same : (e : Expansion) (l : List Leveled) (call : Leveled) (body : List BodyPart) (o : Option (List (List Leveled) × List Leveled)) → replacing (record e { left = l }) call body o ≡ replacing e call body o
 replacing_same e l call body None = refl
 replacing_same e l call body (Some x) = refl
 
@@ -147,9 +147,9 @@ follows_in e next t rest k h g (defines d b n) = defines (taken_is e t rest k h 
 pub faults_in : (e : Expansion) (f : MacroFault) (t : Leveled) (rest : List Leveled) (k : TokenKind) → e.left ≡ t ∷ rest → t.lexeme.kind ≡ k → IsFaultOf (step_at (record e { left = rest }) t rest k) f → IsFaultOf (expansion_step e) f
 faults_in e f t rest k h g d = let P : Step → Type 0 = λ z. IsFaultOf z f in subst P (sym (taken_is e t rest k h g)) d
 
-pub defined_is : (e : Expansion) (h : Heading) (rest : List Leveled) (tokens : List Lexeme) (d : Definitions) (n : ℕ) (ps : List Part)
+pub defined_is : (e : Expansion) (h : Heading) (rest : List Leveled) (tokens : List Lexeme) (d : Definitions) (n : ℕ) (ps : List BodyPart)
     → d ≡ redefined e.definitions h.name (Some (record { parameters = n; body = ps })) → n ≡ length h.parameters → ps ≡ map (part h.parameters) tokens → record e { definitions = d; left = rest } ≡ defined e h rest tokens
 defined_is e h rest tokens d n ps a b c =
     let put : Macro → Definitions = λ m. redefined e.definitions h.name (Some m) in
     ap (λ (z : Definitions). record e { definitions = z; left = rest })
-    (a ∙ ap (λ (k : ℕ). put (record { parameters = k; body = ps })) b ∙ ap (λ (z : List Part). put (record { parameters = length h.parameters; body = z })) c)
+    (a ∙ ap (λ (k : ℕ). put (record { parameters = k; body = ps })) b ∙ ap (λ (z : List BodyPart). put (record { parameters = length h.parameters; body = z })) c)

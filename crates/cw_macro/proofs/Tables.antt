@@ -4,10 +4,9 @@ use Rattle.std.specs.Option.{option_map}
 use Rattle.std.specs.Str.{bytes_eq}
 use Rattle.std.specs.BTreeMap.{BTreeMap, get, UpdatesBy}
 use Rattle.std.specs.Cmp.Lexicographic.{texts_ties}
-use Rattle.cw_macro.specs.declared.key.Key.{Key}
 use Rattle.cw_macro.specs.declared.definition.Macro.{Macro}
 use Rattle.cw_macro.specs.Expansion.{Definitions, redefined}
-use Rattle.cw_macro.specs.Views.{key, key_cmp, macro_view}
+use Rattle.cw_macro.specs.Views.{name_cmp, macro_view}
 
 pub same_table : (f g : Definitions) → ((name : List ℕ) → f name ≡ g name) → f ≡ g
 same_table f g h = λ i name. h name i
@@ -16,12 +15,12 @@ chosen : (b : Bool) (w o : Option Macro) → option_map macro_view (cond b w o) 
 chosen true w o = refl
 chosen false w o = refl
 
-abbrev table : BTreeMap Key Macro → Definitions
-table m name = option_map macro_view (get key_cmp m (key name))
+abbrev table : BTreeMap (List ℕ) Macro → Definitions
+table m name = option_map macro_view (get name_cmp m name)
 
-pub updated : (old new : BTreeMap Key Macro) (k : Key) (name : List ℕ) (w : Option Macro) → k.name ≡ name → UpdatesBy key_cmp (key_cmp k) old new w → table new ≡ redefined (table old) name (option_map macro_view w)
+pub updated : (old new : BTreeMap (List ℕ) Macro) (k : List ℕ) (name : List ℕ) (w : Option Macro) → k ≡ name → UpdatesBy name_cmp (name_cmp k) old new w → table new ≡ redefined (table old) name (option_map macro_view w)
 updated old new k name w e u = same_table (table new) (redefined (table old) name (option_map macro_view w)) (λ q.
-    ap (option_map macro_view) (u.0 (key q))
-    ∙ chosen _ w (get key_cmp old (key q))
-    ∙ ap (λ (b : Bool). cond b (option_map macro_view w) (table old q)) (sym (texts_ties k.name q))
+    ap (option_map macro_view) (u.0 q)
+    ∙ chosen _ w (get name_cmp old q)
+    ∙ ap (λ (b : Bool). cond b (option_map macro_view w) (table old q)) (sym (texts_ties k q))
     ∙ ap (λ (n : List ℕ). cond (bytes_eq n q) (option_map macro_view w) (table old q)) e)

@@ -25,14 +25,14 @@ pub record Leveled : Type 0 where
   pub level : ℕ
 
 -- a part of a macro's body: a token, or the parameter of this number, counted from 0
-pub data Part : Type 0 where
-  Own : Lexeme → Part
-  Parameter : ℕ → Part
+pub data BodyPart : Type 0 where
+  Own : Lexeme → BodyPart
+  Parameter : ℕ → BodyPart
 
 -- what a name is defined as
 pub record Macro : Type 0 where
   pub parameters : ℕ
-  pub body : List Part
+  pub body : List BodyPart
 
 -- The definitions in force, by names in upper case.
 abbrev pub Definitions : Type 0
@@ -116,9 +116,9 @@ closed line name (Some (ps, string ∷ mark ∷ rest)) =
 closed line name _ = None
 
 -- what stands behind DEFINE, up to its semicolon, and the tokens behind that
-abbrev pub heading : ℕ → List Leveled → Option (Heading × List Leveled)
-heading line [] = None
-heading line (t ∷ rest) = if is_name t.lexeme.kind then closed line (name_of t.lexeme) (parameters_if_any rest) else None
+abbrev pub heading_of : ℕ → List Leveled → Option (Heading × List Leveled)
+heading_of line [] = None
+heading_of line (t ∷ rest) = if is_name t.lexeme.kind then closed line (name_of t.lexeme) (parameters_if_any rest) else None
 
 -- A string of the source has one byte for its quote, and one of a body two.
 abbrev pub quote_length : TokenKind → ℕ
@@ -142,12 +142,12 @@ pub data HasNoBody (string : Lexeme) : Type 0 where
   faulty : {fault : LexFault} → IsFirstFault MacroBody (body_place string) (body_text string) fault → HasNoBody string
   redefining : {body : List Lexeme} → Tokenizes MacroBody (body_place string) (body_text string) body → list_any (λ t. defines t.kind) body ≡ true → HasNoBody string
 
-abbrev pub part_if_any : Lexeme → Option ℕ → Part
+abbrev pub part_if_any : Lexeme → Option ℕ → BodyPart
 part_if_any t None = Own t
 part_if_any t (Some k) = Parameter k
 
 -- A name that is a parameter stands for its argument.
-abbrev pub part : List (List ℕ) → Lexeme → Part
+abbrev pub part : List (List ℕ) → Lexeme → BodyPart
 part ps t = if is_name t.kind then part_if_any t (number_of (name_of t) ps) else Own t
 
 abbrev pub macro_of : List (List ℕ) → List Lexeme → Macro
@@ -181,31 +181,31 @@ open_behind (kinds.Symbol symbols.CloseSquare) bs = outer bs
 open_behind k bs = bs
 
 -- the first argument, the others, and the tokens behind their closing bracket
-abbrev pub Given : Type 0
-Given = Option (List Leveled × List (List Leveled) × List Leveled)
+abbrev pub GivenArguments : Type 0
+GivenArguments = Option (List Leveled × List (List Leveled) × List Leveled)
 
-abbrev pub with_token : Leveled → Given → Given
+abbrev pub with_token : Leveled → GivenArguments → GivenArguments
 with_token t None = None
 with_token t (Some (first, more, rest)) = Some (t ∷ first, more, rest)
 
-abbrev pub with_argument : Given → Given
+abbrev pub with_argument : GivenArguments → GivenArguments
 with_argument None = None
 with_argument (Some (first, more, rest)) = Some ([], first ∷ more, rest)
 
 -- a token, before what the tokens behind it give
-abbrev pub given : Role → Leveled → List Leveled → Given → Given
+abbrev pub given : Role → Leveled → List Leveled → GivenArguments → GivenArguments
 given Inside t rest behind = with_token t behind
 given Separates t rest behind = with_argument behind
 given Ends t rest behind = Some ([], [], rest)
 given Mismatched t rest behind = None
 
 -- The arguments up to their closing bracket, with commas between them. Some brackets are open in the first.
-abbrev pub arguments : List Bracket → List Leveled → Given
+abbrev pub arguments : List Bracket → List Leveled → GivenArguments
 arguments bs [] = None
 arguments bs (t ∷ rest) = given (role_of (innermost bs) t.lexeme.kind) t rest (arguments (open_behind t.lexeme.kind bs) rest)
 
 -- so many arguments, and the tokens behind them
-abbrev pub counted : ℕ → Given → Option (List (List Leveled) × List Leveled)
+abbrev pub counted : ℕ → GivenArguments → Option (List (List Leveled) × List Leveled)
 counted n None = None
 counted n (Some (first, more, rest)) = if suc (length more) == n then Some (first ∷ more, rest) else None
 
@@ -215,7 +215,7 @@ argument_list zero rest = Some ([], rest)
 argument_list (suc n) [] = None
 argument_list (suc n) (t ∷ rest) = if is_open t.lexeme.kind then counted (suc n) (arguments [] rest) else None
 
-abbrev pub tokens_of : List (List Leveled) → Part → List Leveled
+abbrev pub tokens_of : List (List Leveled) → BodyPart → List Leveled
 tokens_of args (Own t) = record { lexeme = t; level = 0 } ∷ []
 tokens_of args (Parameter k) = option_map_or (λ a. a) (slice_get args k) []
 
@@ -224,7 +224,7 @@ abbrev pub brought : Leveled → Leveled → Leveled
 brought call t = record { lexeme = record t.lexeme { line = call.lexeme.line }; level = max t.level (call.level + 1) }
 
 -- what stands for a call
-abbrev pub replacement : Leveled → List Part → List (List Leveled) → List Leveled
+abbrev pub replacement : Leveled → List BodyPart → List (List Leveled) → List Leveled
 replacement call body args = map (brought call) (flat_map (tokens_of args) body)
 
 -- ---- steps
@@ -257,7 +257,7 @@ deleting e line (name ∷ mark ∷ rest) =
 deleting e line _ = Refused (faults.BadDefine line)
 
 -- The replacement of a call goes in front of the tokens left.
-abbrev pub replacing : Expansion → Leveled → List Part → Option (List (List Leveled) × List Leveled) → Step
+abbrev pub replacing : Expansion → Leveled → List BodyPart → Option (List (List Leveled) × List Leveled) → Step
 replacing e call body None = Refused (faults.BadCall call.lexeme.line)
 replacing e call body (Some (args, rest)) =
     let brings = replacement call body args in
@@ -270,7 +270,7 @@ naming e t None rest = moving e t rest
 naming e t (Some m) rest = if nat_lt t.level MOST_LEVELS then replacing e t m.body (argument_list m.parameters rest) else Refused (faults.TooDeep t.lexeme.line)
 
 abbrev pub step_at : Expansion → Leveled → List Leveled → TokenKind → Step
-step_at e t rest (kinds.Word words.Define) = defining t.lexeme.line (heading t.lexeme.line rest)
+step_at e t rest (kinds.Word words.Define) = defining t.lexeme.line (heading_of t.lexeme.line rest)
 step_at e t rest (kinds.Word words.Delete) = deleting e t.lexeme.line rest
 step_at e t rest kinds.Name = naming e t (e.definitions (name_of t.lexeme)) rest
 step_at e t rest k = moving e t rest

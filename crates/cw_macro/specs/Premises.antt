@@ -7,7 +7,7 @@ use Rattle.cw_lex.specs.declared.token.TokenKind.TheVariants as kinds
 use Rattle.cw_lex.specs.Lexical.{Lexeme, Tokenizes, first_place}
 use Rattle.cw_word.specs.Name.{IsName}
 use Rattle.cw_macro.specs.declared.fault.TheConstants.{MOST_BYTES}
-use Rattle.cw_macro.specs.Expansion.{Leveled, Part, Own, Parameter, Definitions, Expansion}
+use Rattle.cw_macro.specs.Expansion.{Leveled, BodyPart, Own, Parameter, Definitions, Expansion}
 
 abbrev pub Each : {A : Type 0} (P : A → Type 0) → List A → Type 0
 Each P [] = Unit {0}
@@ -35,7 +35,7 @@ pub record IsPlaced (t : Leveled) : Type 0 where
   pub line : t.lexeme.line ≤ MOST_BYTES + 1
   pub within : IsWithin t.lexeme
 
-abbrev pub IsPartWithin : Part → Type 0
+abbrev pub IsPartWithin : BodyPart → Type 0
 IsPartWithin (Own t) = IsWithin t
 IsPartWithin (Parameter k) = Unit {0}
 

@@ -1,4 +1,5 @@
--- What the code's values stand for.
+-- What the code's values stand for, as its private functions compute them.
+-- What tokens expand to, Expansion says, and nothing here.
 use Rattle.std.specs.Prelude.{◌≡◌, ◌<◌, Bool, true, false, nat_le, if◌then◌else◌, ℕ, Result, Ok, Err, List, [], ◌∷◌, length, map, reverse, Option, Some, None}
 use Rattle.std.specs.Option.{option_map}
 use Rattle.std.specs.BTreeMap.{btree_map_len, get}
@@ -10,7 +11,6 @@ use Rattle.cw_lex.specs.Lexical.{Lexeme, view}
 use Rattle.cw_macro.specs.declared.left.Item.{Item}
 use Rattle.cw_macro.specs.declared.left.Left.{Left}
 use Rattle.cw_macro.specs.declared.expansion.Expansion.{Expansion as ExpansionRead}
-use Rattle.cw_macro.specs.declared.key.Key.{Key}
 use Rattle.cw_macro.specs.declared.definition.Run.{Run}
 use Rattle.cw_macro.specs.declared.definition.Piece.{Piece}
 use Rattle.cw_macro.specs.Premises.{Each}
@@ -20,7 +20,7 @@ use Rattle.cw_macro.specs.declared.definition.Macro.{Macro}
 use Rattle.cw_macro.specs.declared.definition.Definitions.{Definitions}
 use Rattle.cw_macro.specs.declared.definition.Parameters.{Parameters}
 use Rattle.cw_macro.specs.declared.definition.Heading.{Heading as HeadingRead}
-use Rattle.cw_macro.specs.Expansion.{Leveled, Part, Own, Parameter, Macro as MacroOf, Definitions as Table, Heading, number_of, part, HasBody, HasNoBody, Given, Expansion, Step, Moved, Refused, Defining, defined}
+use Rattle.cw_macro.specs.Expansion.{Leveled, BodyPart, Own, Parameter, Macro as MacroOf, Definitions as Table, Heading, number_of, part, HasBody, HasNoBody, GivenArguments, Expansion, Step, Moved, Refused, Defining, defined}
 use Rattle.cw_macro.specs.declared.fault.TheConstants.{MOST_REPLACED}
 use Rattle.cw_macro.specs.declared.fault.MacroFault.{MacroFault}
 use Rattle.cw_macro.specs.declared.fault.MacroFault.TheVariants as faults
@@ -31,40 +31,38 @@ leveled i = record { lexeme = view i.token; level = i.level }
 abbrev pub left_of : Left → List Leveled
 left_of left = reverse (map leveled left.items.items)
 
-abbrev pub picked : Option ℕ → List Part
+abbrev pub picked : Option ℕ → List BodyPart
 picked None = []
 picked (Some k) = Parameter k ∷ []
 
-abbrev pub parts_at : List ℕ → List ℕ → List Part
+abbrev pub parts_at : List ℕ → List ℕ → List BodyPart
 parts_at numbers picks = flat_map (λ i. picked (slice_get numbers i)) picks
 
-abbrev pub run_parts : Run → List Part
+abbrev pub run_parts : Run → List BodyPart
 run_parts run = parts_at run.numbers run.picks
 
 -- Each of its parameters has a number.
 abbrev pub IsRun : Run → Type 0
 IsRun run = Each (λ i. i < length run.numbers) run.picks
 
-abbrev pub parts_of : Piece → List Part
+abbrev pub parts_of : Piece → List BodyPart
 parts_of (pieces.Own t) = Own (view t) ∷ []
 parts_of (pieces.Parameters run) = run_parts run
 
 abbrev pub macro_view : Macro → MacroOf
 macro_view m = record { parameters = m.parameters; body = flat_map parts_of m.body }
 
-abbrev pub key : List ℕ → Key
-key name = record { name = name }
-
-abbrev pub key_cmp : Key → Key → Ordering
-key_cmp a b = slice_cmp nat_cmp a.name b.name
+-- the order of names
+abbrev pub name_cmp : List ℕ → List ℕ → Ordering
+name_cmp = slice_cmp nat_cmp
 
 abbrev pub table_of : Definitions → Table
-table_of d name = option_map macro_view (get key_cmp d.macros (key name))
+table_of d name = option_map macro_view (get name_cmp d.macros name)
 
 -- The numbers of these names in their order, from 0.
 pub record IsNumbering (numbers : Parameters) (names : List (List ℕ)) : Type 0 where
   pub count : btree_map_len numbers.numbers ≡ length names
-  pub each : (name : List ℕ) → get key_cmp numbers.numbers (key name) ≡ number_of name names
+  pub each : (name : List ℕ) → get name_cmp numbers.numbers name ≡ number_of name names
 
 -- What is read of parameters: these, with the tokens behind them.
 pub record HasParameters (numbers : Parameters) (read : Option (List (List ℕ) × List Leveled)) (rest : List Leveled) : Type 0 where
@@ -87,7 +85,7 @@ abbrev pub lists_of : List (List Item) → List (List Leveled)
 lists_of = map (map leveled)
 
 -- These arguments are given, with these tokens behind them.
-abbrev pub IsGiven : List (List Leveled) → List Leveled → Given → Type 0
+abbrev pub IsGiven : List (List Leveled) → List Leveled → GivenArguments → Type 0
 IsGiven [] rest o = ⊥
 IsGiven (first ∷ more) rest o = o ≡ Some (first, more, rest)
 

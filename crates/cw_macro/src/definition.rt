@@ -5,16 +5,16 @@ ghost use Rattle.std.specs.Option.{option_copied, option_map, is_some};
 ghost use Rattle.std.specs.Str.{str_to_ascii_uppercase};
 ghost use Rattle.cw_lex.specs.Lexical.{view, is_semicolon};
 ghost use Rattle.cw_word.specs.Name.{IsName};
-ghost use Rattle.cw_macro.specs.Expansion.{defines, is_name, is_string, quote_length, part, part_if_any, Parameter, redefined, number_of, parameters as parameters_behind, heading, parameters_if_any};
+ghost use Rattle.cw_macro.specs.Expansion.{defines, is_name, is_string, quote_length, part, part_if_any, Parameter, redefined, number_of, parameters as parameters_behind, heading_of, parameters_if_any};
 ghost use Rattle.cw_macro.specs.Premises.{Each, IsWithin, IsPlaced};
 ghost use Rattle.cw_macro.specs.Views.{left_of, run_parts, IsRun, parts_of, macro_view, table_of, IsNumbering, HasParameters, HasHeading, IsBodyRead};
 
 use crate::arguments::is_open;
 use crate::fault::MOST_BYTES;
-use crate::key::{Key, key_of};
+use crate::key::key_of;
 use crate::left::Left;
 use cw_lex::{LexFault, Symbol, Token, TokenKind, Word, lex_body};
-use cw_word::{List, NoMemory};
+use cw_word::{List, Name, NoMemory};
 use std::alloc::Global;
 use std::collections::BTreeMap;
 use std::mem;
@@ -46,13 +46,13 @@ pub(crate) struct Macro<'a> {
 /// The definitions in force.
 #[derive(Drop)]
 pub(crate) struct Definitions<'a> {
-    macros: BTreeMap<Key, Macro<'a>>,
+    macros: BTreeMap<Name, Macro<'a>>,
 }
 
 /// The parameters of a macro with their numbers.
 #[derive(Drop)]
 pub(crate) struct Parameters {
-    numbers: BTreeMap<Key, usize>,
+    numbers: BTreeMap<Name, usize>,
 }
 
 /// What stands before a body.
@@ -200,7 +200,7 @@ pub(crate) fn read_heading<'a>(
     left: &mut Left<'a>,
 ) -> Result<Option<Heading<'a>>, NoMemory>
     requires { Each IsPlaced (left_of left.old) }
-    ensures { IfOk result (λ read. MatchOption read ((line : ℕ) → heading line (left_of left.old) ≡ None) (λ h. HasHeading h (λ line. heading line (left_of left.old)) (left_of left.new))) }
+    ensures { IfOk result (λ read. MatchOption read ((line : ℕ) → heading_of line (left_of left.old) ≡ None) (λ h. HasHeading h (λ line. heading_of line (left_of left.old)) (left_of left.new))) }
 {
     let Some(name) = left.take() else {
         return Ok(None);

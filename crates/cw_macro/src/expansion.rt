@@ -3,7 +3,7 @@ ghost use Rattle.std.specs.Prelude.{◌≡◌, ◌∷◌, [], ◌++◌, ◌+◌,
 ghost use Rattle.std.specs.List.{flat_map, list_all};
 ghost use Rattle.cw_lex.specs.Lexical.{view};
 ghost use Rattle.cw_word.specs.Name.{IsName};
-ghost use Rattle.cw_macro.specs.Expansion.{Expansion as ExpansionOf, brought, replacement, tokens_of, Parameter, step_at, moving, defining, heading, deleting, naming, name_of, start, IsExpansion};
+ghost use Rattle.cw_macro.specs.Expansion.{Expansion as ExpansionOf, brought, replacement, tokens_of, Parameter, step_at, moving, defining, heading_of, deleting, naming, name_of, start, IsExpansion};
 ghost use Rattle.cw_macro.specs.Premises.{Each, IsPlaced, AreOfText};
 ghost use Rattle.cw_macro.specs.Views.{left_of, leveled, lists_of, picked, parts_at, parts_of, is_nil, within_limit, macro_view, table_of, expansion_of, IsMade, IsCounted};
 
@@ -314,7 +314,7 @@ impl<'a> Expansion<'a> {
     // Takes a definition, behind its DEFINE on the line.
     fn define(&mut self, alloc: Global, line: u32) -> Result<(), MacroFault>
         requires { Each IsPlaced (left_of self.old.left) }
-        ensures { let e = expansion_of self.old in IsMade e (defining line (heading line e.left)) result (expansion_of self.new) }
+        ensures { let e = expansion_of self.old in IsMade e (defining line (heading_of line e.left)) result (expansion_of self.new) }
     {
         let Some(heading) = read_heading(alloc, &mut self.left)? else {
             return Err(MacroFault::BadDefine { line });

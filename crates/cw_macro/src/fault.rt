@@ -22,7 +22,7 @@ pub enum MacroFault {
     /// A DEFINE or DELETE that is not of its form, two parameters of one name, or a body that has no tokens or holds DEFINE or DELETE.
     #[error("BadDefine")]
     BadDefine { line: u32 },
-    /// A call without its list of arguments, with another number of them, or without the end of the list.
+    /// A call without its list of arguments, with another number of them, with brackets that do not match, or without the end of the list.
     #[error("BadCall")]
     BadCall { line: u32 },
     /// A call at level 32.
