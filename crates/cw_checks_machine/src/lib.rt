@@ -8,4 +8,6 @@ mod assembly;
 #[cfg(test)]
 mod encodings;
 #[cfg(test)]
+mod ports;
+#[cfg(test)]
 mod steps;

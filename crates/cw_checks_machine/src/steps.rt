@@ -1,16 +1,14 @@
 //! Short programs on the processor.
-ghost use Rattle.std.specs.Prelude.{true, None};
+ghost use Rattle.std.specs.Prelude.{⊤, true, [], None, Some};
 
 use cw_cpu86::{Cpu, Ports, RunEnd};
 use cw_i86::Flags;
 use cw_io::Failed;
 use std::test::*;
 
-/// Ports over two bytes of input, which remember the last byte given to each.
+/// Ports whose input is at its end, which remember the last byte given to each.
 #[derive(Drop)]
 struct Tape {
-    input: [u8; 2],
-    taken: usize,
     output: u8,
     kind: u8,
     segment: u8,
@@ -19,24 +17,15 @@ struct Tape {
 }
 
 impl Ports for Tape {
-    ghost device = { λ t. record { left = None; is_used = true; held = None; kind = t.kind; segment = t.segment; line_low = t.line_low; line_high = t.line_high } };
+    ghost device = { λ t. record { left = Some []; at_end = Some true; is_used = true; held = None; kind = t.kind; segment = t.segment; line_low = t.line_low; line_high = t.line_high } };
 
     ghost faults = { λ _. 0 };
 
-    ghost lent = { λ _. 0 };
+    ghost becomes = { λ _ _. ⊤ };
 
     fn take(&mut self, port: u8) -> Result<u8, Failed> {
         match port {
-            0x10 => {
-                if self.taken < 2 {
-                    let byte = self.input[self.taken];
-                    self.taken += 1;
-                    Ok(byte)
-                } else {
-                    Ok(0)
-                }
-            }
-            0x11 => Ok(u8::from(self.taken >= 2)),
+            0x11 => Ok(1),
             _ => Ok(0),
         }
     }
@@ -52,12 +41,14 @@ impl Ports for Tape {
         }
         Ok(())
     }
+
+    ghost stays = { λ _. tt };
+
+    ghost goes_on = { λ _ _ _ _ _. tt };
 }
 
 fn blank() -> Tape {
     Tape {
-        input: [0x41, 0x42],
-        taken: 0,
         output: 0,
         kind: 0,
         segment: 0,
@@ -187,14 +178,14 @@ const ROWS: [Row; 15] = [
         ip: 5,
         flags: 0,
     },
-    // IN AL,10h; OUT 12h,AL; IN AL,10h; MOV AH,AL; IN AL,11h; OUT 13h,AL; HLT
+    // MOV AX,4241h; IN AL,10h; OUT 12h,AL; MOV BX,AX; IN AL,11h; OUT 13h,AL; HLT
     Row {
         code: &[
-            0xE4, 0x10, 0xE6, 0x12, 0xE4, 0x10, 0x88, 0xC4, 0xE4, 0x11, 0xE6, 0x13, 0xF4,
+            0xB8, 0x41, 0x42, 0xE4, 0x10, 0xE6, 0x12, 0x8B, 0xD8, 0xE4, 0x11, 0xE6, 0x13, 0xF4,
         ],
         end: RunEnd::Halted { steps: 7 },
-        general: [0x4201, 0, 0, 0, 0, 0, 0, 0],
-        ip: 13,
+        general: [0x4201, 0, 0, 0x4200, 0, 0, 0, 0],
+        ip: 14,
         flags: 0,
     },
     // STC; PUSHF; POP AX; HLT

@@ -5,7 +5,7 @@ use Rattle.std.proofs.Math.Bool.{or_assoc}
 use Rattle.std.specs.Prelude.{◌==◌, ◌||◌, Option, Some, None, option_map, if◌then◌else◌}
 use Rattle.cw_io.specs.Bytes.{after_told}
 use Rattle.cw_i86.specs.MachineRun.{Event, Silent, Takes, Gives, left_after, left_behind, FitsInput, is_of_input, asks_input, written_by, written, given_to, last_given}
-use Rattle.cw_cpu86.specs.Ports.{Device, Answers, FitsTold, Follows, IsTaken}
+use Rattle.cw_cpu86.specs.Ports.{Device, Answers, FitsUntold, FitsTold, Follows, IsTaken, at_end_after, at_end_behind}
 
 -- ---- lists of events
 
@@ -43,6 +43,18 @@ FitsInput-parts (Takes port value ∷ a) b input fits =
     let parts = FitsInput-parts a b (left_after port input) fits.1 in
     ((fits.0, parts.0), parts.1)
 FitsInput-parts (Gives port value ∷ a) b input fits = FitsInput-parts a b input fits
+
+at_end_behind-append : (a b : List Event) (at_end : Option Bool) → at_end_behind (a ++ b) at_end ≡ at_end_behind b (at_end_behind a at_end)
+at_end_behind-append [] b at_end = refl
+at_end_behind-append (Silent ∷ a) b at_end = at_end_behind-append a b at_end
+at_end_behind-append (Takes port value ∷ a) b at_end = at_end_behind-append a b (at_end_after port value at_end)
+at_end_behind-append (Gives port value ∷ a) b at_end = at_end_behind-append a b at_end
+
+FitsUntold-append : (a b : List Event) (at_end : Option Bool) → FitsUntold at_end a → FitsUntold (at_end_behind a at_end) b → FitsUntold at_end (a ++ b)
+FitsUntold-append [] b at_end fits more = more
+FitsUntold-append (Silent ∷ a) b at_end fits more = FitsUntold-append a b at_end fits more
+FitsUntold-append (Takes port value ∷ a) b at_end fits more = (fits.0, FitsUntold-append a b (at_end_after port value at_end) fits.1 more)
+FitsUntold-append (Gives port value ∷ a) b at_end fits more = FitsUntold-append a b at_end fits more
 
 -- ---- what is told
 
@@ -102,26 +114,36 @@ left_after_event Silent old new is = ap (λ d. d.left) is ∙ sym (map-same old.
 left_after_event (Takes port value) old new is = ap (λ d. d.left) is.1
 left_after_event (Gives port value) old new is = ap (λ d. d.left) is ∙ sym (map-same old.left)
 
+at_end_after_event : (event : Event) (old new : Device) → Answers event old new → new.at_end ≡ at_end_behind (event ∷ []) old.at_end
+at_end_after_event Silent old new is = ap (λ d. d.at_end) is
+at_end_after_event (Takes port value) old new is = ap (λ d. d.at_end) is.1
+at_end_after_event (Gives port value) old new is = ap (λ d. d.at_end) is
+
 -- ---- one more event
 
 left_more : (left : Option (List ℕ)) (a b : List Event) → option_map (left_behind b) (option_map (left_behind a) left) ≡ option_map (left_behind (a ++ b)) left
 left_more None a b = refl
 left_more (Some input) a b = ap Some (sym (left_behind-append a b input))
 
-fits_more : (left : Option (List ℕ)) (events : List Event) (event : Event) (old new : Device) → old.left ≡ option_map (left_behind events) left
-    → FitsTold left events → Answers event old new → FitsTold left (events ++ event ∷ [])
-fits_more None events event old new is fits answers = tt
-fits_more (Some input) events Silent old new is fits answers = FitsInput-append events (Silent ∷ []) input fits tt
-fits_more (Some input) events (Takes port value) old new is fits answers =
-    FitsInput-append events (Takes port value ∷ []) input fits (subst (λ left. IsTaken left port value) is answers.0, tt)
-fits_more (Some input) events (Gives port value) old new is fits answers = FitsInput-append events (Gives port value ∷ []) input fits tt
+fits_more : (left : Option (List ℕ)) (at_end : Option Bool) (events : List Event) (event : Event) (old new : Device) → old.left ≡ option_map (left_behind events) left
+    → old.at_end ≡ at_end_behind events at_end → FitsTold left at_end events → Answers event old new → FitsTold left at_end (events ++ event ∷ [])
+fits_more None at_end events Silent old new is end fits answers = FitsUntold-append events (Silent ∷ []) at_end fits tt
+fits_more None at_end events (Takes port value) old new is end fits answers =
+    let here : IsTaken None old.at_end port value = subst (λ left. IsTaken left old.at_end port value) is answers.0 in
+    FitsUntold-append events (Takes port value ∷ []) at_end fits (subst (λ e. IsTaken None e port value) end here, tt)
+fits_more None at_end events (Gives port value) old new is end fits answers = FitsUntold-append events (Gives port value ∷ []) at_end fits tt
+fits_more (Some input) at_end events Silent old new is end fits answers = FitsInput-append events (Silent ∷ []) input fits tt
+fits_more (Some input) at_end events (Takes port value) old new is end fits answers =
+    FitsInput-append events (Takes port value ∷ []) input fits (subst (λ left. IsTaken left old.at_end port value) is answers.0, tt)
+fits_more (Some input) at_end events (Gives port value) old new is end fits answers = FitsInput-append events (Gives port value ∷ []) input fits tt
 
 pub follows_more : (events : List Event) (event : Event) (d e f : Device) → Follows events d e → Answers event e f → Follows (events ++ event ∷ []) d f
 follows_more events event d e f so_far answers =
     let one = event ∷ [] in
     record {
-      fits = fits_more d.left events event e f so_far.left so_far.fits answers;
+      fits = fits_more d.left d.at_end events event e f so_far.left so_far.at_end so_far.fits answers;
       left = left_after_event event e f answers ∙ ap (option_map (left_behind one)) so_far.left ∙ left_more d.left events one;
+      at_end = at_end_after_event event e f answers ∙ ap (at_end_behind one) so_far.at_end ∙ sym (at_end_behind-append events one d.at_end);
       is_used = is_used_after event e f answers ∙ ap (λ b. b || asks_input one) so_far.is_used ∙ or_assoc d.is_used (asks_input events) (asks_input one)
           ∙ ap (λ b. d.is_used || b) (sym (asks_input-append events one));
       held = held_after event e f answers ∙ ap (λ told. after_told told (written one)) so_far.held ∙ told-append d.held (written events) (written one)
@@ -134,8 +156,9 @@ follows_more events event d e f so_far answers =
 
 pub follows_none : (d : Device) → Follows [] d d
 follows_none d = record {
-  fits = fits_none d.left;
+  fits = fits_none d.left d.at_end;
   left = sym (map-same d.left);
+  at_end = refl;
   is_used = sym (or-false d.is_used);
   held = sym (told-nil d.held);
   kind = refl;
@@ -144,6 +167,6 @@ follows_none d = record {
   line_high = refl;
 }
   where
-    fits_none : (left : Option (List ℕ)) → FitsTold left []
-    fits_none None = tt
-    fits_none (Some input) = tt
+    fits_none : (left : Option (List ℕ)) (at_end : Option Bool) → FitsTold left at_end []
+    fits_none None at_end = tt
+    fits_none (Some input) at_end = tt

@@ -1,7 +1,7 @@
 // The processor.
-ghost use Rattle.std.specs.Prelude.{◌≡◌, ◌≤◌, ◌<◌, ◌^◌, length, slice_index, slice_set, IfOk};
+ghost use Rattle.std.specs.Prelude.{◌≡◌, true, false, ◌≤◌, ◌<◌, ◌^◌, length, slice_index, slice_set, IfOk};
 ghost use Rattle.cw_i86.specs.State.{State, data_segment, stack_segment};
-ghost use Rattle.cw_i86.specs.MachineRun.{IsStart};
+ghost use Rattle.cw_i86.specs.MachineRun.{IsStart, Steps, GoesOn, Silent};
 ghost use Rattle.cw_cpu86.specs.Answers.{StepAnswers, StepCounts, RunAnswers, RunCounts};
 
 use crate::fetch::fetch;
@@ -91,7 +91,21 @@ impl Cpu {
     pub fn step<P: Ports>(&mut self, ports: &mut P) -> Step
         ensures answers { StepAnswers result self.old (P.device ports.old) self.new (P.device ports.new) }
         ensures counts { StepCounts result (P.faults ports.old) (P.faults ports.new) }
-        ensures lent { P.lent ports.new ≡ P.lent ports.old }
+        ensures becomes { P.becomes ports.old ports.new }
+    {
+        if self.step_common() {
+            Step::Ran
+        } else {
+            self.step_decoded(ports)
+        }
+    }
+
+    // The same by the decoded instruction, whichever it is.
+    #[inline(always)]
+    fn step_decoded<P: Ports>(&mut self, ports: &mut P) -> Step
+        ensures answers { StepAnswers result self.old (P.device ports.old) self.new (P.device ports.new) }
+        ensures counts { StepCounts result (P.faults ports.old) (P.faults ports.new) }
+        ensures becomes { P.becomes ports.old ports.new }
     {
         let offset = self.instruction_pointer;
         let Some((instr, length)) = fetch(&self.memory, self.code_segment, offset) else {
@@ -136,7 +150,7 @@ impl Cpu {
     pub fn run<P: Ports>(&mut self, ports: &mut P, limit: u64) -> RunEnd
         ensures answers { RunAnswers result limit self.old (P.device ports.old) self.new (P.device ports.new) }
         ensures counts { RunCounts result (P.faults ports.old) (P.faults ports.new) }
-        ensures lent { P.lent ports.new ≡ P.lent ports.old }
+        ensures becomes { P.becomes ports.old ports.new }
     {
         for steps in 0..limit {
             match self.step(ports) {

@@ -1,124 +1,14 @@
 // What each instruction does.
-ghost use Rattle.std.specs.Prelude.{◌≡◌, ◌<◌, ◌+◌, ◌*◌, ◌^◌, ◌&&◌, not, true, false, if◌then◌else◌, bit_and, IfSome, Option, Some, None, MatchOption, IsTrue};
-ghost use Rattle.cw_i86.specs.Sums.{logic_flags, sum_of, difference_of, sum_flags, difference_flags, keeping_carry};
-ghost use Rattle.cw_i86.specs.Shifts.{shift_of, shift_flags};
+ghost use Rattle.std.specs.Prelude.{◌≡◌, ◌<◌, ◌+◌, ◌*◌, ◌&&◌, not, true, false, if◌then◌else◌, Some, None};
 ghost use Rattle.cw_i86.specs.declared.instr.Instr.TheVariants.{Lahf, Sahf, PopF};
 ghost use Rattle.cw_i86.specs.Encoding.{IsRm, IsInstr, is_word};
-ghost use Rattle.cw_i86.specs.State.{half_of, limit_of, with_flags, with_register, register, popped};
-ghost use Rattle.cw_i86.specs.Effect.{alu_value, alu_flags, operated, tested, counted, holds, jumped_if, looped, at_place, returned, called, shift_named, shifted, complemented, negated, double_word, with_double_word, multiplied, signed_multiplied, divided, signed_divided, unary, moved, exchanged, moved_acc, byte_extended, word_extended, pop_to, executed};
+ghost use Rattle.cw_i86.specs.State.{limit_of, with_flags, register};
+ghost use Rattle.cw_i86.specs.Effect.{operated, tested, counted, holds, jumped_if, looped, at_place, returned, called, shifted, complemented, negated, double_word, with_double_word, multiplied, signed_multiplied, divided, signed_divided, unary, moved, exchanged, moved_acc, byte_extended, word_extended, pop_to, executed};
 
 use crate::cpu::{Cpu, DATA_SEGMENT};
 use crate::operands::{flags_of_word, flags_word, imm_value, low_flags, sign_extended};
 use cw_alu86::*;
 use cw_i86::{Imm, Instr, Rm};
-
-#[tactic(auto, unfolding(cw_i86::specs::Effect::alu_value, cw_i86::specs::Effect::alu_flags))]
-fn alu8(op: u8, flags: Flags, a: u8, b: u8) -> (u8, Flags)
-    ensures value { result.0 ≡ alu_value op (2 ^ 7) a b flags.cf }
-    ensures flags { result.1 ≡ alu_flags op (2 ^ 7) a b flags }
-{
-    match op {
-        0 => add8(flags, a, b, false),
-        1 => or8(flags, a, b),
-        2 => add8(flags, a, b, flags.cf),
-        3 => sub8(flags, a, b, flags.cf),
-        4 => and8(flags, a, b),
-        6 => xor8(flags, a, b),
-        _ => sub8(flags, a, b, false),
-    }
-}
-
-#[tactic(auto, unfolding(cw_i86::specs::Effect::alu_value, cw_i86::specs::Effect::alu_flags))]
-fn alu16(op: u8, flags: Flags, a: u16, b: u16) -> (u16, Flags)
-    ensures value { result.0 ≡ alu_value op (2 ^ 15) a b flags.cf }
-    ensures flags { result.1 ≡ alu_flags op (2 ^ 15) a b flags }
-{
-    match op {
-        0 => add16(flags, a, b, false),
-        1 => or16(flags, a, b),
-        2 => add16(flags, a, b, flags.cf),
-        3 => sub16(flags, a, b, flags.cf),
-        4 => and16(flags, a, b),
-        6 => xor16(flags, a, b),
-        _ => sub16(flags, a, b, false),
-    }
-}
-
-fn alu(op: u8, wide: bool, flags: Flags, a: u16, b: u16) -> (u16, Flags)
-    requires a { a < limit_of wide }
-    requires b { b < limit_of wide }
-    ensures value { result.0 ≡ alu_value op (half_of wide) a b flags.cf }
-    ensures flags { result.1 ≡ alu_flags op (half_of wide) a b flags }
-    ensures fits { result.0 < limit_of wide }
-{
-    if wide {
-        alu16(op, flags, a, b)
-    } else {
-        let (value, new) = alu8(op, flags, a as u8, b as u8);
-        (u16::from(value), new)
-    }
-}
-
-fn shift8(op: u8, flags: Flags, a: u8, count: u8) -> (u8, Flags)
-    ensures value { result.0 ≡ shift_of (shift_named op) (2 ^ 7) a count flags }
-    ensures flags { result.1 ≡ shift_flags (shift_named op) (2 ^ 7) a count flags }
-{
-    match op {
-        0 => rol8(flags, a, count),
-        1 => ror8(flags, a, count),
-        2 => rcl8(flags, a, count),
-        3 => rcr8(flags, a, count),
-        4 => shl8(flags, a, count),
-        5 => shr8(flags, a, count),
-        _ => sar8(flags, a, count),
-    }
-}
-
-fn shift16(op: u8, flags: Flags, a: u16, count: u8) -> (u16, Flags)
-    ensures value { result.0 ≡ shift_of (shift_named op) (2 ^ 15) a count flags }
-    ensures flags { result.1 ≡ shift_flags (shift_named op) (2 ^ 15) a count flags }
-{
-    match op {
-        0 => rol16(flags, a, count),
-        1 => ror16(flags, a, count),
-        2 => rcl16(flags, a, count),
-        3 => rcr16(flags, a, count),
-        4 => shl16(flags, a, count),
-        5 => shr16(flags, a, count),
-        _ => sar16(flags, a, count),
-    }
-}
-
-fn shift(op: u8, wide: bool, flags: Flags, a: u16, count: u8) -> (u16, Flags)
-    requires a { a < limit_of wide }
-    ensures value { result.0 ≡ shift_of (shift_named op) (half_of wide) a count flags }
-    ensures flags { result.1 ≡ shift_flags (shift_named op) (half_of wide) a count flags }
-    ensures fits { result.0 < limit_of wide }
-{
-    if wide {
-        shift16(op, flags, a, count)
-    } else {
-        let (value, new) = shift8(op, flags, a as u8, count);
-        (u16::from(value), new)
-    }
-}
-
-#[tactic(auto, unfolding(cw_i86::specs::Effect::holds))]
-fn holds(f: Flags, cond: u8) -> bool
-    ensures { result ≡ holds f cond }
-{
-    let is = match cond / 2 {
-        0 => f.of,
-        1 => f.cf,
-        2 => f.zf,
-        3 => f.cf || f.zf,
-        4 => f.sf,
-        5 => f.pf,
-        6 => f.sf != f.of,
-        _ => f.zf || f.sf != f.of,
-    };
-    if cond % 2 == 0 { is } else { !is }
-}
 
 impl Cpu {
     fn set_flags(&mut self, flags: Flags)
@@ -179,14 +69,14 @@ impl Cpu {
 
     // The same at a register of a word.
     #[inline(never)]
-    fn count_register(&mut self, down: bool, reg: u8)
+    pub(crate) fn count_register(&mut self, down: bool, reg: u8)
         requires { reg < 8 }
         ensures { self.new ≡ counted self.old down true (Rm.Reg reg) }
     {
         self.count(down, true, Rm::Reg(reg));
     }
 
-    fn jump_if(&mut self, holds: bool, by: u8)
+    pub(crate) fn jump_if(&mut self, holds: bool, by: u8)
         ensures { self.new ≡ jumped_if self.old holds by }
     {
         if holds {
@@ -220,7 +110,7 @@ impl Cpu {
     }
 
     #[tactic(auto, unfolding(cw_i86::specs::Effect::returned))]
-    fn return_past(&mut self, n: u16)
+    pub(crate) fn return_past(&mut self, n: u16)
         ensures { self.new ≡ returned self.old n }
     {
         let place = self.top_word();
@@ -229,7 +119,7 @@ impl Cpu {
     }
 
     #[tactic(auto, unfolding(cw_i86::specs::Effect::called))]
-    fn call(&mut self, place: u16)
+    pub(crate) fn call(&mut self, place: u16)
         ensures { self.new ≡ called self.old place }
     {
         let back = self.instruction_pointer;
@@ -459,7 +349,7 @@ impl Cpu {
     }
 
     #[tactic(auto, unfolding(cw_i86::specs::Effect::pop_to))]
-    fn pop_to(&mut self, r: u8)
+    pub(crate) fn pop_to(&mut self, r: u8)
         requires { r < 8 }
         ensures { self.new ≡ pop_to self.old r }
     {
@@ -610,39 +500,5 @@ impl Cpu {
             }
         }
         true
-    }
-}
-
-fn stepped(down: bool, wide: bool, flags: Flags, a: u16) -> (u16, Flags)
-    requires { a < limit_of wide }
-    ensures value { result.0 ≡ (if down then difference_of (half_of wide) a 1 false else sum_of (half_of wide) a 1 false) }
-    ensures flags { result.1 ≡ keeping_carry flags (if down then difference_flags (half_of wide) a 1 false else sum_flags (half_of wide) a 1 false) }
-    ensures fits { result.0 < limit_of wide }
-{
-    match (down, wide) {
-        (false, true) => inc16(flags, a),
-        (true, true) => dec16(flags, a),
-        (false, false) => {
-            let (value, new) = inc8(flags, a as u8);
-            (u16::from(value), new)
-        }
-        (true, false) => {
-            let (value, new) = dec8(flags, a as u8);
-            (u16::from(value), new)
-        }
-    }
-}
-
-fn negative(wide: bool, flags: Flags, a: u16) -> (u16, Flags)
-    requires { a < limit_of wide }
-    ensures value { result.0 ≡ difference_of (half_of wide) 0 a false }
-    ensures flags { result.1 ≡ difference_flags (half_of wide) 0 a false }
-    ensures fits { result.0 < limit_of wide }
-{
-    if wide {
-        sub16(flags, 0, a, false)
-    } else {
-        let (value, new) = sub8(flags, 0, a as u8, false);
-        (u16::from(value), new)
     }
 }

@@ -1,9 +1,9 @@
 //! Laws of the machine's runs, each the contract of a function that does nothing.
-ghost use Rattle.std.specs.Prelude.{◌≡◌, ℕ, List, Some};
+ghost use Rattle.std.specs.Prelude.{◌≡◌, ℕ, Bool, List, Option, Some};
 ghost use Rattle.cw_io.specs.Bytes.{after_told};
 ghost use Rattle.cw_i86.specs.State.{State};
-ghost use Rattle.cw_i86.specs.MachineRun.{Outcome, Steps, TakeAlike, Observed, Shows, IsStart};
-ghost use Rattle.cw_cpu86.specs.Ports.{Device};
+ghost use Rattle.cw_i86.specs.MachineRun.{Event, Outcome, Steps, TakeAlike, left_behind, FitsInput, Observed, Shows, IsStart};
+ghost use Rattle.cw_cpu86.specs.Ports.{Device, AreBytes, MayBeLeft, FitsUntold, at_end_behind};
 ghost use Rattle.cw_cpu86.specs.Answers.{RunAnswers, NoneTold, steps_shown, end_shown};
 ghost use Rattle.cw_cpu86.specs.declared.cpu.RunEnd.{RunEnd};
 
@@ -34,4 +34,11 @@ pub fn observed_run()
         RunAnswers end limit s d s' d' → d.left ≡ Some input → NoneTold d →
         (output : List ℕ) × Shows s input (steps_shown end limit) (record { output = output; end = end_shown end d' })
         × (d'.held ≡ after_told d.held output) }
+{}
+
+/// Bytes that fit by what is known of the end of an input that isn't told are those of some input, which goes on with any bytes that may be left then.
+pub fn fitting_input()
+    ensures { (events : List Event) (at_end : Option Bool) (later : List ℕ) →
+        FitsUntold at_end events → AreBytes later → MayBeLeft (at_end_behind events at_end) later →
+        (input : List ℕ) × AreBytes input × MayBeLeft at_end input × FitsInput input events × (left_behind events input ≡ later) }
 {}

@@ -1,0 +1,196 @@
+//! Runs of images over sources and sinks in memory.
+ghost use Rattle.std.specs.Prelude.{◌<◌, ◌≤◌, length};
+
+use cw_cpu86::Cpu;
+use cw_io::{MemSink, MemSource};
+use cw_ports::{ImageEnd, run_image};
+use cw_word::List;
+use std::alloc::{AllocError, Global};
+use std::process::Abort;
+use std::test::*;
+
+/// again: IN AL,11h; CMP AL,1; JZ end; IN AL,10h; OUT 12h,AL; JMP again; end: HLT
+const COPY: [u8; 13] = [
+    0xE4, 0x11, 0x3C, 0x01, 0x74, 0x06, 0xE4, 0x10, 0xE6, 0x12, 0xEB, 0xF4, 0xF4,
+];
+
+/// MOV AL,43h; OUT 12h,AL; HLT
+const WRITE: [u8; 5] = [0xB0, 0x43, 0xE6, 0x12, 0xF4];
+
+fn bytes(alloc: Global, from: &[u8]) -> Result<List<u8>, AllocError> {
+    Ok(List::of(from.to_vec(alloc)?))
+}
+
+fn calls(alloc: Global, from: &[u64]) -> Result<List<u64>, AllocError> {
+    Ok(List::of(from.to_vec(alloc)?))
+}
+
+// The end of a run over an input and a sink that move `piece` bytes a call, and what was written.
+fn check_run(
+    rt: &impl Abort,
+    alloc: Global,
+    code: &[u8],
+    input: &[u8],
+    piece: usize,
+    input_fails: &[u64],
+    out_fails: &[u64],
+    end: ImageEnd,
+    output: &[u8],
+) -> Result<(), Fail>
+    requires piece { 1 ≤ piece }
+    requires some_code { 0 < length code.now }
+    requires code_fits { length code.now ≤ 65536 }
+{
+    let mut source = MemSource::new(bytes(alloc, input)?, piece, calls(alloc, input_fails)?);
+    let Ok(mut sink) = MemSink::new(alloc, 16_384, piece, calls(alloc, out_fails)?) else {
+        return Err(AllocError.into());
+    };
+    let Ok(mut cpu) = Cpu::start(alloc, code, &[]) else {
+        return Err(AllocError.into());
+    };
+    assert_eq!(rt; run_image(&mut cpu, &mut source, &mut sink, 200_000), end);
+    assert_eq!(rt; sink.held(), output);
+    Ok(())
+}
+
+#[test]
+fn runs_in_pieces(rt: HostRuntime) -> Result<(), Fail> {
+    let alloc = rt.alloc();
+    let mut long = [0u8; 5000];
+    for (k, byte) in long.iter_mut().enumerate() {
+        *byte = (k % 251) as u8;
+    }
+    check_run(&rt, alloc, &COPY, b"", 4096, &[], &[], ImageEnd::Ended, b"")?;
+    check_run(
+        &rt,
+        alloc,
+        &COPY,
+        b"ABC",
+        4096,
+        &[],
+        &[],
+        ImageEnd::Ended,
+        b"ABC",
+    )?;
+    check_run(
+        &rt,
+        alloc,
+        &COPY,
+        b"ABC",
+        1,
+        &[],
+        &[],
+        ImageEnd::Ended,
+        b"ABC",
+    )?;
+    check_run(
+        &rt,
+        alloc,
+        &COPY,
+        &long,
+        1,
+        &[],
+        &[],
+        ImageEnd::Ended,
+        &long,
+    )?;
+    check_run(
+        &rt,
+        alloc,
+        &COPY,
+        &long,
+        10_000,
+        &[],
+        &[],
+        ImageEnd::Ended,
+        &long,
+    )?;
+    check_run(
+        &rt,
+        alloc,
+        &COPY,
+        b"ABC",
+        4096,
+        &[2],
+        &[],
+        ImageEnd::InputFault,
+        b"ABC",
+    )?;
+    check_run(
+        &rt,
+        alloc,
+        &COPY,
+        b"ABC",
+        1,
+        &[3],
+        &[],
+        ImageEnd::InputFault,
+        b"AB",
+    )?;
+    check_run(
+        &rt,
+        alloc,
+        &COPY,
+        b"ABC",
+        4096,
+        &[],
+        &[1],
+        ImageEnd::OutFault,
+        b"",
+    )?;
+    check_run(
+        &rt,
+        alloc,
+        &COPY,
+        b"ABC",
+        1,
+        &[],
+        &[2],
+        ImageEnd::OutFault,
+        b"A",
+    )?;
+    check_run(
+        &rt,
+        alloc,
+        &WRITE,
+        b"ABC",
+        4096,
+        &[1],
+        &[],
+        ImageEnd::Ended,
+        b"C",
+    )?;
+    check_run(
+        &rt,
+        alloc,
+        &WRITE,
+        b"ABC",
+        4096,
+        &[],
+        &[1],
+        ImageEnd::OutFault,
+        b"",
+    )?;
+    check_run(
+        &rt,
+        alloc,
+        &[0x0F],
+        b"",
+        1,
+        &[],
+        &[],
+        ImageEnd::BadCode { offset: 0 },
+        b"",
+    )?;
+    check_run(
+        &rt,
+        alloc,
+        &[0xEB, 0xFE],
+        b"",
+        1,
+        &[],
+        &[],
+        ImageEnd::Unfinished,
+        b"",
+    )
+}

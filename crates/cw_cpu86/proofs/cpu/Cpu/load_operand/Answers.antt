@@ -1,0 +1,8 @@
+use Rattle.std.proofs.Common.{arith}
+use Rattle.cw_cpu86.proofs.Rows.{load_steps}
+use Rattle.cw_cpu86.proofs.cpu.Cpu.load_operand.Goals as goal
+
+pub returns-clause-goes : goal.returns-clause-goes
+returns-clause-goes c = λ e.
+    let named = c.in-Some.ensures in
+    load_steps _ _ _ _ named.0 _ _ c.requires (omega arith) named.1 named.2 c.advance.ensures c.set_register.ensures

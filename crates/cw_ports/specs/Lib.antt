@@ -1,0 +1,5 @@
+pub mod Later
+pub mod Laws
+pub mod Pieces
+pub mod Running
+pub mod Supplies

@@ -1,0 +1,88 @@
+// The output of a run: a sink, and the bytes that are gathered for it.
+ghost use Rattle.std.specs.Prelude.{◌≡◌, ℕ, ◌<◌, ◌≤◌, [], ◌∷◌, length, take, true, false, not};
+ghost use Rattle.cw_io.specs.Bytes.{after_told};
+ghost use Rattle.cw_io.specs.Count.{Rose};
+ghost use Rattle.cw_ports.specs.Pieces.{part};
+ghost use Rattle.cw_ports.specs.Later.{OutputLater, output_side};
+
+use crate::inlet::PIECE;
+use cw_io::Sink;
+
+// Writes a piece as far as the sink takes it, and answers how many bytes were written: fewer than all only where the sink failed.
+pub(crate) fn write_piece<O: Sink>(sink: &mut O, piece: &[u8]) -> usize
+    ensures within { result ≤ length piece.now }
+    ensures held { O.held sink.new ≡ after_told (O.held sink.old) (take result piece.now) }
+    ensures whole { result ≡ length piece.now → O.faults sink.new ≡ O.faults sink.old }
+    ensures part { result < length piece.now → Rose (O.faults sink.old) (O.faults sink.new) }
+{
+    let mut done = 0;
+    'rest: while done < piece.len() {
+        let (_, rest) = piece.split_at(done);
+        match sink.write(rest) {
+            Ok(count) => done += count,
+            Err(_) => return done,
+        }
+    }
+    done
+}
+
+/// A sink, the bytes that are gathered and not yet written, and whether it failed.
+#[derive(Drop)]
+pub(crate) struct Outlet<'a, O> {
+    pub(crate) out: &'a mut O,
+    pub(crate) bytes: [u8; PIECE],
+    pub(crate) from: usize,
+    pub(crate) to: usize,
+    pub(crate) is_broken: bool,
+    ghost order: { from ≤ to },
+    ghost start: { is_broken ≡ false → from ≡ 0 },
+    ghost room: { to < 4096 },
+}
+
+impl<'a, O: Sink> Outlet<'a, O> {
+    /// Writes what is gathered, and answers whether that went well. Where it did not, the rest stays gathered.
+    pub(crate) fn flush(&mut self) -> bool
+        requires { self.old.is_broken ≡ false }
+        ensures told { after_told (O.held self.new.out.now) (part self.new.bytes self.new.from self.new.to) ≡ after_told (O.held self.old.out.now) (part self.old.bytes self.old.from self.old.to) }
+        ensures later { OutputLater (output_side self.old.out.ghost_name (O.held self.old.out.now) (O.faults self.old.out.now) self.old.is_broken) (output_side self.new.out.ghost_name (O.held self.new.out.now) (O.faults self.new.out.now) self.new.is_broken) }
+        ensures done { result ≡ not self.new.is_broken }
+        ensures empty { result ≡ true → self.new.to ≡ 0 }
+        ensures nothing { self.old.to ≡ 0 → result ≡ true }
+    {
+        let (gathered, _) = self.bytes.split_at(self.to);
+        let count = write_piece(self.out, gathered);
+        if count == gathered.len() {
+            self.from = 0;
+            self.to = 0;
+            true
+        } else {
+            self.is_broken = true;
+            self.from = count;
+            false
+        }
+    }
+
+    /// One more byte of output. What is gathered is written where it fills a piece; where that fails, the byte was not taken.
+    pub(crate) fn push(&mut self, value: u8) -> bool
+        requires { self.old.is_broken ≡ false }
+        ensures taken { result ≡ true → after_told (O.held self.new.out.now) (part self.new.bytes self.new.from self.new.to) ≡ after_told (after_told (O.held self.old.out.now) (part self.old.bytes self.old.from self.old.to)) (value ∷ []) }
+        ensures refused { result ≡ false → after_told (O.held self.new.out.now) (part self.new.bytes self.new.from self.new.to) ≡ after_told (O.held self.old.out.now) (part self.old.bytes self.old.from self.old.to) }
+        ensures later { OutputLater (output_side self.old.out.ghost_name (O.held self.old.out.now) (O.faults self.old.out.now) self.old.is_broken) (output_side self.new.out.ghost_name (O.held self.new.out.now) (O.faults self.new.out.now) self.new.is_broken) }
+        ensures done { result ≡ not self.new.is_broken }
+    {
+        self.bytes[self.to] = value;
+        if self.to < PIECE - 1 {
+            self.to += 1;
+            return true;
+        }
+        let count = write_piece(self.out, &self.bytes);
+        if count == PIECE {
+            self.to = 0;
+            true
+        } else {
+            self.is_broken = true;
+            self.from = count;
+            false
+        }
+    }
+}
