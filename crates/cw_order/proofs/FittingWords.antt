@@ -1,6 +1,6 @@
 -- Each step keeps the words within a word.
 use Rattle.std.proofs.Common.{◌≡◌, ℕ, zero, suc, ◌+◌, ◌-◌, ◌^◌, ◌<◌, ◌≤◌, ℤ, pos, negsuc, ◌+ℤ◌, ◌-ℤ◌, ◌*ℤ◌, neg_ℤ, List, [], ◌∷◌, ◌++◌, length, set, Bool, true, false, not, Option, Some, None, refl, arith, pow_mono, pow_pos}
-use Rattle.std.specs.Prelude.{nat_eq, nat_le, nat_lt, slice_get, if◌then◌else◌}
+use Rattle.std.specs.Prelude.{nat_eq, nat_le, nat_lt, int_le, ◌&&◌, slice_get, if◌then◌else◌}
 use Rattle.std.specs.List.{All}
 use Rattle.std.proofs.lemmas.Bool.Decides.{nat_tests}
 use Rattle.std.proofs.lemmas.Int.{ints}
@@ -11,7 +11,7 @@ use Rattle.cw_word.specs.BitField.{unsigned_field, twos_complement}
 use Rattle.cw_word.specs.Word.{signed, unsigned, word_difference}
 use Rattle.cw_unit.specs.declared.unit.Field.{Field}
 use Rattle.cw_unit.specs.declared.unit.Goal.{Goal}
-use Rattle.cw_unit.specs.Stop.{StopKind, Overflow, AddressRange, Running, Ended, Stopped, Stuck}
+use Rattle.cw_unit.specs.Stop.{StopKind, Overflow, AddressRange, Running, Ended, Stopped, Stuck, IndexRange}
 use Rattle.cw_unit.specs.Words.{Control, LabelControl, SwitchControl, ProcedureControl, Operand, Word, Held, Words, Outcome, Changed, Refused, Impossible, with_operands, with_memory, put, put_if, put_value, on_one, on_two, through, at_address, is_below, number_of, word_at, field_value, with_bits, byte_of, read_byte}
 use Rattle.cw_unit.specs.Operation.{Constant, Fetch, store_with, divide, address_of, perform, holds}
 use Rattle.cw_unit.specs.Step.{held, goal_at, with_label_owner}
@@ -234,6 +234,10 @@ way_past_limit-fits : (b : Bool) (m : ℕ) (x : ℤ) (a : ℕ) → Leads (way_pa
 way_past_limit-fits true m x a w fits = to_mark_if-fits _ m w fits
 way_past_limit-fits false m x a w fits = tt
 
+bounded-fits : (b : Bool) (z : ℤ) → FitsWord z → Keeps (put_if b IndexRange z)
+bounded-fits true z h w fits = put-fits z h w fits
+bounded-fits false z h w fits = tt
+
 -- ---- orders
 
 abbrev ActionFits : (area : ℕ) → Action → Type 0
@@ -282,6 +286,8 @@ action-fits p g acts (order.IndexRow lower width) all =
     if_fits-fits (fits_word (i -ℤ lower)) (λ v. if_fits (fits_word ((i -ℤ lower) *ℤ pos width)) (put_index ((i -ℤ lower) *ℤ pos width +ℤ j) v))
     (if_fits-fits (fits_word ((i -ℤ lower) *ℤ pos width)) (put_index ((i -ℤ lower) *ℤ pos width +ℤ j)) (put_index-fits ((i -ℤ lower) *ℤ pos width +ℤ j))))
 action-fits p g acts order.InArea all = on_top-fits (address_of p.limits.area) (λ z fz. address-fits p.limits.area z fz)
+action-fits p g acts (order.InBounds lower upper) all =
+    on_top-fits (λ x v. put_if (int_le lower x && int_le x upper) IndexRange x v) (λ x fx v fv. bounded-fits (int_le lower x && int_le x upper) x fx v fv)
 action-fits p g acts (order.Jump m) all = λ w fits. fits
 action-fits p g acts (order.JumpIf c m) all = way_of_two-fits (λ x y v. to_mark_if (holds (comparison c) x y) m v) (λ x y. to_mark_if-fits (holds (comparison c) x y) m)
 action-fits p g acts (order.Exhausted m) all = way_of_two-fits (λ x a v. way_past_limit (is_below a (p.limits.area - 2)) m x (number_of a) v) (λ x a. way_past_limit-fits (is_below a (p.limits.area - 2)) m x (number_of a))

@@ -1,7 +1,7 @@
 -- Orders that write a letter and then form a sum that fits no word, and orders that call a procedure and jump.
 use Rattle.std.specs.Prelude.{pos, [], ◌∷◌, false, None, Some}
 use Rattle.cw_unit.specs.Stop.{Overflow, Ended, Stopped}
-use Rattle.cw_unit.specs.Behaviour.{Shown}
+use Rattle.cw_unit.specs.Behaviour.{Observation}
 use Rattle.cw_order.specs.declared.order.Order.TheVariants as order
 use Rattle.cw_order.specs.OrderProgram.{OrderProgram, Tables}
 use Rattle.cw_order.specs.OrderState.{OrderState}
@@ -29,6 +29,9 @@ overflowing = record {
             ∷ [];
         entry = 0;
         marks = [];
+        labels = [];
+        procedures = [];
+        switches = [];
       }
       ∷ [];
   tables = no_tables ∷ [];
@@ -41,7 +44,7 @@ abbrev pub overflowing_start : OrderState
 overflowing_start = order_start overflowing [] []
 
 -- the letter, and the stop at the second line of the first segment
-abbrev pub overflowing_shows : Shown
+abbrev pub overflowing_shows : Observation
 overflowing_shows = record { output = 72 ∷ []; end = Stopped Overflow 1 2 }
 
 -- a procedure that writes its argument from its frame, a call of it, and a jump past another output
@@ -66,6 +69,9 @@ calling = record {
             ∷ [];
         entry = 6;
         marks = 0 ∷ 12 ∷ [];
+        labels = [];
+        procedures = 0 ∷ [];
+        switches = [];
       }
       ∷ [];
   tables = record no_tables { procedure = λ q. Some (record { mark = 0; arguments = 1 }) } ∷ [];
@@ -77,5 +83,5 @@ calling = record {
 abbrev pub calling_start : OrderState
 calling_start = order_start calling (pos 0 ∷ pos 0 ∷ []) []
 
-abbrev pub calling_shows : Shown
+abbrev pub calling_shows : Observation
 calling_shows = record { output = 72 ∷ []; end = Ended }

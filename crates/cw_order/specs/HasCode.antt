@@ -1,4 +1,6 @@
--- The orders that cw_tmpl has code for so far; the compiler makes no others.
+-- Orders with the numbers that the compiler gives them. The code of all others may be of no use.
+use Rattle.std.specs.Prelude.{◌+◌, ◌<◌, ◌≤◌, pos, negsuc, length}
+use Rattle.cw_word.specs.FixedPoint.{FitsWord}
 use Rattle.cw_order.specs.declared.order.Order.{Order}
 use Rattle.cw_order.specs.declared.order.Order.TheVariants as order
 
@@ -17,4 +19,53 @@ HasCode order.Mark = Unit {0}
 HasCode (order.Line n) = Unit {0}
 HasCode (order.Start n) = Unit {0}
 HasCode order.NextBody = Unit {0}
-HasCode _ = ⊥
+-- scales are 0 to 15, and factors 2 ^ -30 to 2 ^ 15 in products, 2 ^ -15 to 2 ^ 16 in quotients
+HasCode (order.Rescale from to) = (from ≤ 15) × (to ≤ 15)
+HasCode (order.Mul (pos n)) = n ≤ 15
+HasCode (order.Mul (negsuc n)) = n < 30
+HasCode (order.Div (pos n)) = n ≤ 16
+HasCode (order.Div (negsuc n)) = n < 15
+HasCode order.And = Unit {0}
+HasCode order.Or = Unit {0}
+HasCode order.Xor = Unit {0}
+-- parts lie in a word
+HasCode (order.Take t b) = (1 ≤ t) × (t + b ≤ 16)
+HasCode (order.LoadPart t b is_signed) = (1 ≤ t) × (t + b ≤ 16)
+HasCode (order.StorePart t b) = (1 ≤ t) × (t + b ≤ 16)
+-- a row or an entry has at most all words of the data area
+HasCode (order.IndexLess lower) = FitsWord lower
+HasCode (order.IndexTimes n) = n ≤ 32768
+HasCode (order.IndexPlus n) = n < 32768
+HasCode order.IndexAdd = Unit {0}
+HasCode (order.IndexRow lower n) = FitsWord lower × (n ≤ 32768)
+HasCode order.InArea = Unit {0}
+HasCode (order.InBounds lower upper) = FitsWord lower × FitsWord upper
+HasCode order.Less = Unit {0}
+HasCode order.Drop = Unit {0}
+HasCode order.ReadByte = Unit {0}
+-- offsets in a frame are words, and those at which an argument is stored lie within all words of the data area
+HasCode (order.FrameHome n) = n < 65536
+HasCode (order.Enter size) = size < 65536
+HasCode (order.BindFrame k offset) = (k < 256) × (offset < 32768)
+-- the arguments of a call have at most 256 words
+HasCode (order.Bind k family offset) = k < 256
+HasCode (order.Return n answers) = n < 256
+HasCode (order.CallSpecial k) = k < 256
+HasCode (order.SpecialOut k) = k < 256
+HasCode (order.GoSpecial k) = k < 256
+HasCode (order.GoSwitchSpecial k) = k < 256
+-- an element's number is a word with a sign
+HasCode (order.LoopWay marks) = length marks < 32768
+HasCode (order.Exhausted m) = Unit {0}
+HasCode (order.CallProc q) = Unit {0}
+HasCode (order.CallCommon d) = Unit {0}
+HasCode (order.LabelOut l) = Unit {0}
+HasCode (order.LabelCommon d) = Unit {0}
+HasCode (order.SwitchOut n) = Unit {0}
+HasCode (order.SwitchCommon d) = Unit {0}
+HasCode (order.ProcOut q) = Unit {0}
+HasCode (order.ProcCommon d) = Unit {0}
+HasCode (order.GoMain m) = Unit {0}
+HasCode (order.GoCommon d) = Unit {0}
+HasCode (order.GoSwitch n) = Unit {0}
+HasCode (order.GoSwitchCommon d) = Unit {0}

@@ -7,3 +7,5 @@ pub mod OrderMachine
 pub mod HasCode
 pub mod Example
 pub mod FittingWords
+pub mod Activations
+pub mod NamesAgree

@@ -4,7 +4,7 @@ use Rattle.cw_word.specs.Word.{signed}
 use Rattle.cw_unit.specs.declared.unit.LogicOp.TheVariants as logic
 use Rattle.cw_unit.specs.declared.layout.Map.{Map}
 use Rattle.cw_unit.specs.Words.{Control, LabelControl, SwitchControl, ProcedureControl, Words, Outcome, is_below, number_of}
-use Rattle.cw_unit.specs.Operation.{Operation, Constant, Rescale, Fetch, Store, StoreBits, Add, Subtract, Negate, Multiply, Divide, Combine, Extract, Form, Taken, ReadByte, WriteByte, holds}
+use Rattle.cw_unit.specs.Operation.{Operation, Constant, Rescale, Fetch, Store, StoreBits, Add, Subtract, Negate, Multiply, Divide, Combine, Extract, Form, Taken, InBounds, ReadByte, WriteByte, holds}
 use Rattle.cw_unit.specs.Step.{switch_of_def, procedure_of_def, label_of_def, with_label_owner, with_switch_owner, as_procedure, held}
 use Rattle.cw_order.specs.declared.order.Order.{Order}
 use Rattle.cw_order.specs.declared.order.Order.TheVariants as order
@@ -76,6 +76,7 @@ module _ (p : OrderProgram) where
   action_of g acts order.IndexAdd = Alter index_sum
   action_of g acts (order.IndexRow lower width) = Alter (index_row lower width)
   action_of g acts order.InArea = Perform (Form Taken)
+  action_of g acts (order.InBounds lower upper) = Perform (InBounds lower upper)
   -- ways within a body
   action_of g acts (order.Jump m) = Branch (ToMark m)
   action_of g acts (order.JumpIf c m) = Branch (way_of_two (λ x y v. to_mark_if (holds (comparison c) x y) m v))

@@ -1,9 +1,9 @@
--- How many instructions the code of an order takes at most, with those of a stop or an end (docs/CODE.md). A stop takes 11, the call
--- of the library's among them. Of orders that have no code yet these are bounds that their code must keep: the orders of one step of the
--- source may take 224 in all. The dearest steps, with items in frames: the entry of a procedure with 32 word parameters, 172 (CallSpecial
--- 16, Enter 28, 32 of BindFrame 4); a product or a quotient, 120; an element of an array of two dimensions, 84 (IndexLess 16, IndexRow 32,
--- FrameHome 4, IndexAdd 16, InArea 16); the step of a FOR's variable, 64 (Line, FrameHome three times, Load four times, InArea,
--- Add 15, Store 4); its test, 53 (Line, FrameHome twice, Load twice, InArea, Exhausted 20).
+-- How many instructions the code of an order takes at most, with those of a stop or an end (docs/CODE.md). A stop takes 11, the call of the
+-- library's among them. Some are bounds above what the code takes now: the orders of one step of the source may take 224 in all. The
+-- dearest steps, with items in frames: the entry of a procedure with 32 word parameters, 172 (CallSpecial 16, Enter 28, 32 of BindFrame 4);
+-- a product or a quotient, 120; an element of an array of two dimensions, 84 (IndexLess 16, IndexRow 32, FrameHome 4, IndexAdd 16, InArea
+-- 16); the step of a FOR's variable, 65 (Line, FrameHome three times, Load four times, InArea, Add 15, Store 5); its test, 53 (Line,
+-- FrameHome twice, Load twice, InArea, Exhausted 20).
 use Rattle.std.specs.Prelude.{ℕ, Option, Some, None}
 use Rattle.cw_order.specs.declared.order.Order.{Order}
 use Rattle.cw_order.specs.declared.order.Order.TheVariants as order
@@ -15,7 +15,7 @@ weight_of (order.Home family offset) = 2
 -- the base from the record, the offset
 weight_of (order.FrameHome n) = 4
 weight_of order.Load = 4
-weight_of order.Store = 4
+weight_of order.Store = 5
 -- two shifts, each with its count in CL
 weight_of (order.LoadPart t b is_signed) = 16
 -- the old word and the new one masked
@@ -45,6 +45,8 @@ weight_of order.IndexAdd = 16
 -- three tests
 weight_of (order.IndexRow lower width) = 32
 weight_of order.InArea = 16
+-- two comparisons
+weight_of (order.InBounds lower upper) = 18
 -- ways within a body
 weight_of (order.Jump m) = 1
 -- two pops, a comparison, a short jump over a near one
@@ -79,7 +81,7 @@ weight_of (order.CallCommon d) = 12
 weight_of (order.CallSpecial k) = 16
 -- two tests, and the record's words
 weight_of (order.Enter size) = 28
-weight_of (order.Bind k family offset) = 2
+weight_of (order.Bind k family offset) = 3
 -- the frame's base comes from the record
 weight_of (order.BindFrame k offset) = 4
 weight_of (order.Return n answers) = 12

@@ -7,7 +7,7 @@ use Rattle.cw_unit.specs.Stop.{SwitchRange, FramesFull, DepthReached, Running, E
 use Rattle.cw_unit.specs.Words.{Control, LabelControl, SwitchControl, ProcedureControl, Operand, Word, Words, Outcome, Changed, Refused, Impossible, with_operands}
 use Rattle.cw_unit.specs.Operation.{perform}
 use Rattle.cw_unit.specs.Step.{with_label_owner, goal_at}
-use Rattle.cw_unit.specs.Behaviour.{Shown}
+use Rattle.cw_unit.specs.Behaviour.{Observation}
 use Rattle.cw_order.specs.declared.order.Order.{Order}
 use Rattle.cw_order.specs.declared.order.Orders.{Orders}
 use Rattle.cw_order.specs.OrderProgram.{LabelEntry, ProcedureEntry, OrderProgram, order_at, place_of, label_at, procedure_at, switch_at, label_of}
@@ -181,10 +181,10 @@ module _ (p : OrderProgram) where
 abbrev pub weight : OrderProgram → OrderState → ℕ
 weight p (at g place line acts w e) = weight_at (order_at p g place)
 
-abbrev pub shown : OrderState → Shown
+abbrev pub shown : OrderState → Observation
 shown (at g place line acts w e) = record { output = w.output; end = e }
 
-abbrev pub order_machine : OrderProgram → Machine Shown
+abbrev pub order_machine : OrderProgram → Machine Observation
 order_machine p = record { State = OrderState; step = step p; shown = shown; weight = weight p }
 
 abbrev pub entry_of : Option Orders → ℕ

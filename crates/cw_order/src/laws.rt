@@ -6,6 +6,7 @@ ghost use Rattle.cw_order.specs.OrderProgram.{OrderProgram};
 ghost use Rattle.cw_order.specs.OrderState.{OrderState};
 ghost use Rattle.cw_order.specs.OrderMachine.{shown, step, order_machine};
 ghost use Rattle.cw_order.specs.FittingWords.{StateFits};
+ghost use Rattle.cw_order.specs.Activations.{StateStands, Callable};
 ghost use Rattle.cw_order.specs.Example.{overflowing, overflowing_start, overflowing_shows, calling, calling_start, calling_shows};
 
 /// A run that is over stays as it is. A sum that fits no word stops the run at its line, and what was written stays written.
@@ -22,4 +23,10 @@ pub fn runs()
 /// so and reads bytes.
 pub fn words()
     ensures { (p : OrderProgram) (s : OrderState) → StateFits s → StateFits (step p s) }
+{}
+
+/// In each state of a run that begins with no activation and no operand, the activations and the control arguments stand in
+/// the way that the orders rely on.
+pub fn activations()
+    ensures { (p : OrderProgram) (s : OrderState) → Callable p → StateStands p s → StateStands p (step p s) }
 {}

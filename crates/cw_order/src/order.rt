@@ -4,6 +4,7 @@
 //! words. An address counts words from 0. Descriptors, labels, switches and procedures are named by their numbers in the
 //! unit. A parameter is named by how many words of arguments follow its own on the stack, where a label, switch or
 //! procedure takes two: so its place is known where it is used. Marks number the code labels of the unit.
+use cw_unit::unit::Goal;
 use cw_word::List;
 
 /// The comparisons of two words as signed numbers, the operand below with the top one.
@@ -88,6 +89,11 @@ pub enum Order {
     },
     /// Stops with Address where the top operand is no address of the data area.
     InArea,
+    /// Stops with Bounds where the top operand is below one number or above the other.
+    InBounds {
+        lower: i16,
+        upper: i16,
+    },
     /// Takes two words and puts the lower less the top one, modulo 65,536.
     Less,
     /// Takes a word.
@@ -171,11 +177,22 @@ pub enum Order {
     NextBody,
 }
 
+/// A label: its mark, and whether it stands in a procedure.
+#[derive(Clone, Copy)]
+pub struct LabelMark {
+    pub mark: u32,
+    pub in_procedure: bool,
+}
+
 /// The orders of a unit: the segment's body begins at place `entry` of the list, and `marks` tells the place of each
-/// mark.
+/// mark. `labels` tells the mark of each label, `procedures` that of the first order of each procedure, and `switches`
+/// the labels of each switch.
 #[derive(Drop)]
 pub struct Orders {
     pub list: List<Order>,
     pub entry: u32,
     pub marks: List<u32>,
+    pub labels: List<LabelMark>,
+    pub procedures: List<u32>,
+    pub switches: List<List<Goal>>,
 }

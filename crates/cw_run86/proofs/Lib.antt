@@ -9,3 +9,6 @@ pub mod Sums
 pub mod Jumps
 pub mod Begins
 pub mod Compared
+pub mod Offsets
+pub mod Shifted
+pub mod Products

@@ -24,17 +24,17 @@ stack_written code v p at n written w s lt there same =
     let e : with_word p.state.memory stack_segment (2 * n) w ≡ with_word p.state.memory stack_segment at written = cc in
     subst (Holds code v.cells (put_word v.stack n w)) e (holds_stack code v.cells v.stack p.state.memory n w lt (holds code v p s))
 
-cell_written : (code : List ℕ) (v : View) (p : Processor) (at n written w : ℕ) → Sees code v p → n < 32768 → at ≡ 2 * n → written ≡ w
+pub cell_written : (code : List ℕ) (v : View) (p : Processor) (at n written w : ℕ) → Sees code v p → n < 32768 → at ≡ 2 * n → written ≡ w
     → Holds code (put_word v.cells n w) v.stack (with_word p.state.memory data_segment at written)
 cell_written code v p at n written w s lt there same =
     let e : with_word p.state.memory data_segment (2 * n) w ≡ with_word p.state.memory data_segment at written = cc in
     subst (Holds code (put_word v.cells n w) v.stack) e (holds_cell code v.cells v.stack p.state.memory n w lt (holds code v p s))
 
 -- a word read
-stack_read : (code : List ℕ) (v : View) (p : Processor) (at n : ℕ) → Sees code v p → n < 32768 → at ≡ 2 * n → word_at p.state.memory stack_segment at ≡ v.stack n
+pub stack_read : (code : List ℕ) (v : View) (p : Processor) (at n : ℕ) → Sees code v p → n < 32768 → at ≡ 2 * n → word_at p.state.memory stack_segment at ≡ v.stack n
 stack_read code v p at n s lt there = ap (word_at p.state.memory stack_segment) there ∙ s.stack n lt
 
-cell_read : (code : List ℕ) (v : View) (p : Processor) (at n : ℕ) → Sees code v p → n < 32768 → at ≡ 2 * n → word_at p.state.memory data_segment at ≡ v.cells n
+pub cell_read : (code : List ℕ) (v : View) (p : Processor) (at n : ℕ) → Sees code v p → n < 32768 → at ≡ 2 * n → word_at p.state.memory data_segment at ≡ v.cells n
 cell_read code v p at n s lt there = ap (word_at p.state.memory data_segment) there ∙ s.words n lt
 
 -- two registers set
@@ -48,10 +48,10 @@ once_set rs ss r a b e f = cc
 pub down : (n sp top : ℕ) → n < 32768 → sp ≡ top → top ≡ 2 * suc n % 65536 → (sp + 65534) % 65536 ≡ 2 * n
 down n sp top lt e is = omega arith
 
-up : (n sp top : ℕ) → n < 32768 → sp ≡ top → top ≡ 2 * n % 65536 → (sp + 2) % 65536 ≡ 2 * suc n % 65536
+pub up : (n sp top : ℕ) → n < 32768 → sp ≡ top → top ≡ 2 * n % 65536 → (sp + 2) % 65536 ≡ 2 * suc n % 65536
 up n sp top lt e is = omega arith
 
-even : (n top : ℕ) → n < 32768 → top ≡ 2 * n % 65536 → top ≡ 2 * n
+pub even : (n top : ℕ) → n < 32768 → top ≡ 2 * n % 65536 → top ≡ 2 * n
 even n top lt is = omega arith
 
 module _ (finds : Finds) (code : List ℕ) (v : View) where
@@ -107,3 +107,43 @@ module _ (finds : Finds) (code : List ℕ) (v : View) where
       goes finds code v _ _ has (omega arith)
       (λ p s. sees code v _ p _ s (stack_written code v p _ k _ w s lt (slot p by k s is) refl) refl s.registers
       (ap (λ n. (n + 5) % 65536) s.place) s.overflow refl refl)
+
+  -- the offset of an argument
+  argument : (p : Processor) (r by k : ℕ) → Sees code v p → (register v r + by) % 65536 ≡ 2 * k → (slice_index p.state.registers r + by) % 65536 ≡ 2 * k
+  argument p r by k s is = ap (λ n. (n + by) % 65536) (register_is code v p r s) ∙ is
+
+  pub load_argument : (r by k : ℕ) → Has code v.place (i86.Mov true true r (rms.Mem (record { cs = false; place = places.Far 6 by }))) → k < 32768 → (register v 5 + by) % 65536 ≡ 2 * k
+      → Goes code v (with_register r (v.stack k) (on (i86.Mov true true r (rms.Mem (record { cs = false; place = places.Far 6 by }))) v))
+  unfolding moved operand with_sized_register segment_of offset_of form_base value_at
+  load_argument r by k has lt is =
+      goes finds code v _ _ has (omega arith)
+      (λ p s. sees code v _ p _ s (holds code v p s) refl (once_set _ _ r _ _ s.registers (stack_read code v p _ k s lt (argument p 5 by k s is)))
+      (ap (λ n. (n + 4) % 65536) s.place) s.overflow refl refl)
+
+  pub store_field : (r by k : ℕ) → Has code v.place (i86.Mov true false r (rms.Mem (record { cs = false; place = places.Far 7 by }))) → k < 32768 → (register v 3 + by) % 65536 ≡ 2 * k
+      → Goes code v (with_cell k (register v r) (on (i86.Mov true false r (rms.Mem (record { cs = false; place = places.Far 7 by }))) v))
+  unfolding moved with_operand sized_register segment_of offset_of form_base with_value_at
+  store_field r by k has lt is =
+      goes finds code v _ _ has (omega arith)
+      (λ p s. sees code v _ p _ s (cell_written code v p _ k _ (register v r) s lt (argument p 3 by k s is) (register_is code v p r s)) refl s.registers
+      (ap (λ n. (n + 4) % 65536) s.place) s.overflow refl refl)
+
+  pub store_slot : (r by k : ℕ) → Has code v.place (i86.Mov true false r (rms.Mem (record { cs = false; place = places.Near 6 by }))) → k < 32768 → (register v 5 + sign_extended by) % 65536 ≡ 2 * k
+      → Goes code v (with_stack k (register v r) (on (i86.Mov true false r (rms.Mem (record { cs = false; place = places.Near 6 by }))) v))
+  unfolding moved with_operand sized_register segment_of offset_of form_base with_value_at
+  store_slot r by k has lt is =
+      goes finds code v _ _ has (omega arith)
+      (λ p s. sees code v _ p _ s (stack_written code v p _ k _ (register v r) s lt (slot p by k s is) (register_is code v p r s)) refl s.registers
+      (ap (λ n. (n + 3) % 65536) s.place) s.overflow refl refl)
+
+  -- the offset of a field
+  field : (p : Processor) (by k : ℕ) → Sees code v p → (register v 3 + sign_extended by) % 65536 ≡ 2 * k → (slice_index p.state.registers 3 + sign_extended by) % 65536 ≡ 2 * k
+  field p by k s is = ap (λ n. (n + sign_extended by) % 65536) (register_is code v p 3 s) ∙ is
+
+  pub load_field : (r by k : ℕ) → Has code v.place (i86.Mov true true r (rms.Mem (record { cs = false; place = places.Near 7 by }))) → k < 32768 → (register v 3 + sign_extended by) % 65536 ≡ 2 * k
+      → Goes code v (with_register r (v.cells k) (on (i86.Mov true true r (rms.Mem (record { cs = false; place = places.Near 7 by }))) v))
+  unfolding moved operand with_sized_register segment_of offset_of form_base value_at
+  load_field r by k has lt is =
+      goes finds code v _ _ has (omega arith)
+      (λ p s. sees code v _ p _ s (holds code v p s) refl (once_set _ _ r _ _ s.registers (cell_read code v p _ k s lt (field p by k s is)))
+      (ap (λ n. (n + 3) % 65536) s.place) s.overflow refl refl)

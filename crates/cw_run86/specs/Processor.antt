@@ -72,8 +72,8 @@ abbrev pub observed : Processor → Observed
 observed p = record { output = p.told.output; end = p.end }
 
 -- the processor, where an observer makes this of what it shows; each instruction costs 1
-abbrev pub processor : {O : Type 0} → (Observed → O) → Machine O
-processor f = record { State = Processor; step = processor_step; shown = λ p. f (observed p); weight = λ p. 1 }
+abbrev pub processor_machine : {O : Type 0} → (Observed → O) → Machine O
+processor_machine f = record { State = Processor; step = processor_step; shown = λ p. f (observed p); weight = λ p. 1 }
 
 -- after so many instructions
 abbrev pub processor_after : ℕ → Processor → Processor

@@ -1,12 +1,19 @@
 -- What the code of a program deals with of a processor: registers, the words of the data segment and of the stack segment at even
 -- offsets, code that nothing changes, and what was told to the ports. And what instructions do to that.
-use Rattle.std.specs.Prelude.{◌≡◌, ℕ, ◌+◌, ◌-◌, ◌*◌, ◌%◌, ◌^◌, ◌<◌, ◌≤◌, nat_eq, Bool, true, false, List, [], ◌∷◌, length, slice_index, slice_set, ◌+ℤ◌, ◌-ℤ◌, if◌then◌else◌, ℤ, int_lt, int_le, ◌&&◌, not}
+use Rattle.std.specs.Prelude.{◌≡◌, ℕ, ◌+◌, ◌-◌, ◌*◌, ◌/◌, ◌%◌, ◌^◌, ◌<◌, ◌≤◌, nat_eq, nat_lt, nat_le, ◌==◌, Bool, true, false, List, [], ◌∷◌, length, slice_index, slice_set, ◌+ℤ◌, ◌-ℤ◌, ◌*ℤ◌, if◌then◌else◌, ℤ, int_lt, int_le, ◌&&◌, not}
+use Rattle.std.specs.Bool.{beq}
+use Rattle.std.specs.Int.{w16, w32, cast_signed, cast_unsigned}
 use Rattle.cw_i86.specs.Encoding.{bytes_of, IsInstr}
-use Rattle.cw_i86.specs.Sums.{overflows, signed}
+use Rattle.cw_i86.specs.Sums.{overflows, signed, difference_flags}
+use Rattle.cw_i86.specs.Shifts.{repeated, overflow_of}
+use Rattle.cw_i86.specs.Effect.{shift_named}
 use Rattle.cw_i86.specs.State.{byte_at, word_at, data_segment, stack_segment}
 use Rattle.cw_i86.specs.declared.instr.Instr.{Instr}
 use Rattle.cw_i86.specs.declared.instr.Instr.TheVariants as i86
+use Rattle.cw_i86.specs.declared.instr.Imm.TheVariants as imm
+use Rattle.cw_i86.specs.declared.instr.Rm.{Rm}
 use Rattle.cw_i86.specs.declared.instr.Rm.TheVariants as rms
+use Rattle.cw_i86.specs.declared.instr.Place.TheVariants as places
 use Rattle.cw_i86.specs.MachineRun.{Running}
 use Rattle.cw_run86.specs.Processor.{Processor, Told, nothing_told, processor_step}
 
@@ -77,6 +84,13 @@ with_cell k w v = record v { cells = put_word v.cells k w }
 abbrev pub with_stack : (number word : ℕ) → View → View
 with_stack k w v = record v { stack = put_word v.stack k w }
 
+-- AX, and DX
+abbrev pub with_pair : (low high : ℕ) → View → View
+with_pair low high v = record v { registers = slice_set (slice_set v.registers 0 low) 2 high }
+
+abbrev pub with_input : List ℕ → View → View
+with_input input v = record v { input = input }
+
 abbrev pub with_told : Told → View → View
 with_told t v = record v { told = t }
 
@@ -96,13 +110,67 @@ word_sum a b = (a + b) % 65536
 abbrev pub word_difference : ℕ → ℕ → ℕ
 word_difference a b = (a + 65536 - b) % 65536
 
+-- the word of the data segment at an offset
+abbrev pub at_offset : ℕ → Rm
+at_offset at = rms.Mem (record { cs = false; place = places.Direct at })
+
+-- an operation of the arithmetic unit on a register and another, on a register and the word at an offset, and on AX and a number
+abbrev pub with_other : (op r q : ℕ) → Instr
+with_other op r q = i86.AluRm op true true r (rms.Reg q)
+
+abbrev pub with_memory : (op r at : ℕ) → Instr
+with_memory op r at = i86.AluRm op true true r (at_offset at)
+
+abbrev pub with_number : (op w : ℕ) → Instr
+with_number op w = i86.AluAcc op (imm.Word w)
+
+-- shifts by so many places: up, down, and down with copies of the sign bit coming in
+abbrev pub word_up : ℕ → ℕ → ℕ
+word_up a n = a * 2 ^ n % 65536
+
+abbrev pub word_down : ℕ → ℕ → ℕ
+word_down a n = a / 2 ^ n
+
+abbrev pub word_down_signed : ℕ → ℕ → ℕ
+word_down_signed a n = if nat_lt a 32768 then a / 2 ^ n else 65535 - (65535 - a) / 2 ^ n
+
+-- the overflow flag after SHL by one
+abbrev pub double_overflows : ℕ → Bool
+double_overflows a = not (beq (nat_le 32768 a) (nat_le 32768 (2 * (a % 32768) + 0)))
+
+-- the overflow flag after a shift by CL, by the number of its row
+abbrev pub shift_overflow : (op a n : ℕ) → Bool → Bool
+shift_overflow op a n old =
+    if n == 0 then old else overflow_of (shift_named op) 32768 a n (repeated (shift_named op) 32768 n (a, false)) old
+
+-- the product of words as signed numbers, and its two words
+abbrev pub word_product : ℕ → ℕ → ℤ
+word_product a b = cast_signed w16 a *ℤ cast_signed w16 b
+
+abbrev pub product_low : ℕ → ℕ → ℕ
+product_low a b = cast_unsigned w32 (word_product a b) % 65536
+
+abbrev pub product_high : ℕ → ℕ → ℕ
+product_high a b = cast_unsigned w32 (word_product a b) / 65536
+
+abbrev pub product_overflows : ℕ → ℕ → Bool
+product_overflows a b = overflows 32768 (word_product a b)
+
+-- sixteen copies of a word's sign bit
+abbrev pub sign_of : ℕ → ℕ
+sign_of a = if nat_lt a 32768 then 0 else 65535
+
 -- CMP of two registers
 abbrev pub compare : ℕ → ℕ → Instr
-compare r q = i86.AluRm 7 true true r (rms.Reg q)
+compare r q = with_other 7 r q
 
--- the flags of two words that were compared, of which a view has the overflow flag alone
-abbrev pub compared : ℕ → ℕ → View → View
-compared r q v = with_overflow (difference_overflows (register v r) (register v q)) (on (compare r q) v)
+-- The flags are those of two words that were compared. Of these a view has the overflow flag alone.
+pub record Compared (a b : ℕ) (p : Processor) : Type 0 where
+  pub flags : p.state.flags ≡ difference_flags 32768 a b false
+
+-- an instruction that compares two words
+abbrev pub Compares : List ℕ → (a b : ℕ) → Instr → View → Type 0
+Compares code a b i v = (p : Processor) → Sees code v p → Sees code (with_overflow (difference_overflows a b) (on i v)) (processor_step p) × Compared a b (processor_step p)
 
 -- the comparisons of words as signed numbers that jumps behind CMP test: JZ, JNZ, JL, JNL, JLE and JNLE
 pub data Comparison : Type 0 where

@@ -1,5 +1,5 @@
 -- The relocations' words in the object's code.
-use Rattle.std.proofs.Common.{◌≡◌, ℕ, zero, suc, ◌+◌, ◌-◌, ◌≤◌, List, [], ◌∷◌, ◌++◌, length, get_or, sym, ap, ◌∙◌, subst, arith, append_assoc, length-append, All}
+use Rattle.std.proofs.Common.{◌≡◌, ℕ, zero, suc, ◌+◌, ◌*◌, ◌-◌, ◌≤◌, List, [], ◌∷◌, ◌++◌, length, get_or, sym, ap, ◌∙◌, subst, arith, append_assoc, length-append, All}
 use Rattle.std.proofs.Math.Seq.{get_or-append_seam}
 use Rattle.std.proofs.lemmas.List.Elements.{All-append}
 use Rattle.cw_unit.specs.declared.layout.Reloc.{Reloc}
@@ -63,9 +63,13 @@ word_blank pre lead rest t =
 piece_blank : (pre rest : List ℕ) (p : Coded) → All (FillsBlank (pre ++ (bytes_with 0 p ++ rest))) (relocation_before (length pre + size_of p) (target_of p))
 piece_blank pre rest (coded.Whole i) = none _
 piece_blank pre rest (coded.Move reg t) = word_blank pre ((0xB8 + reg) ∷ []) rest t
+piece_blank pre rest (coded.Load t) = word_blank pre (0xA1 ∷ []) rest t
+piece_blank pre rest (coded.Store t) = word_blank pre (0xA3 ∷ []) rest t
+piece_blank pre rest (coded.Operate op reg t) = word_blank pre ((8 * op + 2 * 1 + 1) ∷ (64 * 0 + 8 * reg + 6) ∷ []) rest t
 piece_blank pre rest (coded.Call t) = word_blank pre (0xE8 ∷ []) rest t
 piece_blank pre rest (coded.Jump t) = word_blank pre (0xE9 ∷ []) rest t
 piece_blank pre rest (coded.Word t) = word_blank pre [] rest t
+piece_blank pre rest (coded.Way t) = word_blank pre (0x2E ∷ 0xFF ∷ 0xA7 ∷ []) rest t
 
 pub all_blank : (pre : List ℕ) (ps : List Coded) → All (FillsBlank (pre ++ blanks ps)) (relocations (length pre) ps)
 all_blank pre [] = none _
@@ -87,6 +91,10 @@ pub all_rise : (from at : ℕ) (ps : List Coded) → from ≤ at → Rise from (
 all_rise from at [] le = tt
 all_rise from at (coded.Whole i ∷ ps) le = all_rise from _ ps (omega arith)
 all_rise from at (coded.Move reg t ∷ ps) le = word_rises from (at + 3) t _ (omega arith) (all_rise (at + 3) (at + 3) ps (omega arith))
+all_rise from at (coded.Load t ∷ ps) le = word_rises from (at + 3) t _ (omega arith) (all_rise (at + 3) (at + 3) ps (omega arith))
+all_rise from at (coded.Store t ∷ ps) le = word_rises from (at + 3) t _ (omega arith) (all_rise (at + 3) (at + 3) ps (omega arith))
+all_rise from at (coded.Operate op reg t ∷ ps) le = word_rises from (at + 4) t _ (omega arith) (all_rise (at + 4) (at + 4) ps (omega arith))
 all_rise from at (coded.Call t ∷ ps) le = word_rises from (at + 3) t _ (omega arith) (all_rise (at + 3) (at + 3) ps (omega arith))
 all_rise from at (coded.Jump t ∷ ps) le = word_rises from (at + 3) t _ (omega arith) (all_rise (at + 3) (at + 3) ps (omega arith))
 all_rise from at (coded.Word t ∷ ps) le = word_rises from (at + 2) t _ (omega arith) (all_rise (at + 2) (at + 2) ps (omega arith))
+all_rise from at (coded.Way t ∷ ps) le = word_rises from (at + 5) t _ (omega arith) (all_rise (at + 5) (at + 5) ps (omega arith))

@@ -1,5 +1,5 @@
 -- Filling the relocations in turn gives the code with its words filled.
-use Rattle.std.proofs.Common.{◌≡◌, ℕ, ◌+◌, ◌-◌, ◌/◌, ◌%◌, ◌≤◌, List, [], ◌∷◌, ◌++◌, length, set, refl, sym, ap, ◌∙◌, arith, append_assoc, length-append}
+use Rattle.std.proofs.Common.{◌≡◌, ℕ, ◌+◌, ◌*◌, ◌-◌, ◌/◌, ◌%◌, ◌≤◌, List, [], ◌∷◌, ◌++◌, length, set, refl, sym, ap, ◌∙◌, arith, append_assoc, length-append}
 use Rattle.std.proofs.Math.Seq.{set-append_seam}
 use Rattle.cw_i86.specs.Encoding.{bytes_of}
 use Rattle.cw_unit.specs.declared.layout.Reloc.{Reloc}
@@ -74,16 +74,24 @@ one_is : (value : Filling) (p : Coded) (rs : List Reloc) (base at : ℕ) (pre po
     ≡ fill value base rs ((pre ++ bytes_with (word_before value (base + (at + size_of p)) (target_of p)) p) ++ post)
 one_is value (coded.Whole i) rs base at pre post e = ap (fill value base rs) (sym (append_assoc pre (bytes_of i) post))
 one_is value (coded.Move reg t) rs base at pre post e = word_is value ((0xB8 + reg) ∷ []) t rs base at pre post e
+one_is value (coded.Load t) rs base at pre post e = word_is value (0xA1 ∷ []) t rs base at pre post e
+one_is value (coded.Store t) rs base at pre post e = word_is value (0xA3 ∷ []) t rs base at pre post e
+one_is value (coded.Operate op reg t) rs base at pre post e = word_is value ((8 * op + 2 * 1 + 1) ∷ (64 * 0 + 8 * reg + 6) ∷ []) t rs base at pre post e
 one_is value (coded.Call t) rs base at pre post e = word_is value (0xE8 ∷ []) t rs base at pre post e
 one_is value (coded.Jump t) rs base at pre post e = word_is value (0xE9 ∷ []) t rs base at pre post e
 one_is value (coded.Word t) rs base at pre post e = word_is value [] t rs base at pre post e
+one_is value (coded.Way t) rs base at pre post e = word_is value (0x2E ∷ 0xFF ∷ 0xA7 ∷ []) t rs base at pre post e
 
 pub size_with : (w : ℕ) (p : Coded) → length (bytes_with w p) ≡ size_of p
 size_with w (coded.Whole i) = refl
 size_with w (coded.Move reg t) = refl
+size_with w (coded.Load t) = refl
+size_with w (coded.Store t) = refl
+size_with w (coded.Operate op reg t) = refl
 size_with w (coded.Call t) = refl
 size_with w (coded.Jump t) = refl
 size_with w (coded.Word t) = refl
+size_with w (coded.Way t) = refl
 
 pub filled_is : (value : Filling) (ps : List Coded) (base at : ℕ) (pre post : List ℕ) → base + at ≡ length pre
     → fill value base (relocations at ps) (pre ++ (blanks ps ++ post)) ≡ pre ++ (filled value (base + at) ps ++ post)

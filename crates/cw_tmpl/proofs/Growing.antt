@@ -1,5 +1,5 @@
 -- Code grows piece by piece.
-use Rattle.std.proofs.Common.{◌≡◌, ℕ, ◌+◌, ◌-◌, List, [], ◌∷◌, ◌++◌, length, refl, sym, ap, ap₂, ◌∙◌, arith, append_assoc, length-append, Some}
+use Rattle.std.proofs.Common.{◌≡◌, ℕ, ◌+◌, ◌-◌, ◌*◌, ◌^◌, pow_mono, pow_pos, pow-add, ◌<◌, ◌≤◌, List, [], ◌∷◌, ◌++◌, length, refl, sym, ap, ap₂, ◌∙◌, arith, append_assoc, length-append, Some}
 use Rattle.std.proofs.lemmas.List.{append-nil}
 use Rattle.cw_i86.specs.Encoding.{bytes_of}
 use Rattle.cw_i86.specs.declared.instr.Instr.{Instr}
@@ -10,6 +10,7 @@ use Rattle.cw_tmpl.specs.declared.pieces.Coded.{Coded}
 use Rattle.cw_tmpl.specs.declared.pieces.Coded.TheVariants as coded
 use Rattle.cw_tmpl.specs.Pieces.{bytes_with, size_of, target_of, blanks, relocation_of, relocation_before, relocations}
 use Rattle.cw_tmpl.specs.Assembling.{Adds}
+use Rattle.cw_word.specs.BitField.{field_mask}
 
 pub blanks-append : (ps qs : List Coded) → blanks (ps ++ qs) ≡ blanks ps ++ blanks qs
 blanks-append [] qs = refl
@@ -72,3 +73,24 @@ coming_done old new ps coming = record {
   bytes = sym (append-nil new.bytes) ∙ coming.bytes_whole;
   relocs = sym (append-nil new.relocs) ∙ coming.relocs_whole;
 }
+
+-- pieces, and pieces behind them
+pub adds_then : (a b c : Assembly) (ps qs : List Coded) → Adds a ps b → Adds b qs c → Adds a (ps ++ qs) c
+adds_then a b c ps qs f s =
+    let long : length b.bytes ≡ length a.bytes + length (blanks ps) = ap length f.bytes ∙ length-append a.bytes (blanks ps) in
+    record {
+      bytes = s.bytes ∙ ap (λ l. l ++ blanks qs) f.bytes ∙ append_assoc a.bytes (blanks ps) (blanks qs) ∙ ap (λ l. a.bytes ++ l) (sym (blanks-append ps qs));
+      relocs =
+          s.relocs ∙ ap₂ (λ l n. l ++ relocations n qs) f.relocs long ∙ append_assoc a.relocs (relocations (length a.bytes) ps) (relocations (length a.bytes + length (blanks ps)) qs)
+          ∙ ap (λ l. a.relocs ++ l) (sym (relocations-append (length a.bytes) ps qs));
+    }
+
+-- a mask of a part is a word
+pub mask_small : (t b : ℕ) → t + b ≤ 16 → field_mask t b < 65536
+mask_small t b room =
+    let power : 2 ^ (t + b) ≤ 2 ^ 16 = pow_mono room in
+    let e : 2 ^ (t + b) ≡ 2 ^ t * 2 ^ b = pow-add 2 t b in
+    let some : 0 < 2 ^ t = pow_pos t in
+    let one : 2 ^ t - 1 + 1 ≡ 2 ^ t = omega arith in
+    let some' : 0 < 2 ^ b = pow_pos b in
+    omega (arith, ap (λ x. x * 2 ^ b) one)

@@ -2,12 +2,3 @@ pub mod Growing
 pub mod Filling
 pub mod Blank
 pub mod Sizes
-pub mod Standing
-pub mod Placement
-pub mod WordLaws
-pub mod Rows
-pub mod Chains
-pub mod Routines
-pub mod Numbers
-pub mod Orders
-pub mod Following

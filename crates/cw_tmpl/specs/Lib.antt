@@ -1,9 +1,9 @@
 pub mod Mnemonics
 pub mod Pieces
 pub mod Library
+pub mod Names
+pub mod Blocks
 pub mod Templates
 pub mod ReferenceCode
 pub mod Assembling
 pub mod Blanks
-pub mod Showing
-pub mod Placing

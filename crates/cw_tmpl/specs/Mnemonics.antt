@@ -1,5 +1,5 @@
 -- Registers, the words of an activation record, and short words for the instructions that the templates use.
-use Rattle.std.specs.Prelude.{ℕ, true, false, List, [], ◌∷◌, ◌++◌}
+use Rattle.std.specs.Prelude.{ℕ, ◌+◌, ◌*◌, true, false, List, [], ◌∷◌, ◌++◌}
 use Rattle.cw_i86.specs.declared.instr.Instr.{Instr}
 use Rattle.cw_i86.specs.declared.instr.Instr.TheVariants as i86
 use Rattle.cw_i86.specs.declared.instr.Imm.TheVariants as imm
@@ -46,15 +46,53 @@ line_slot = 0xFE
 abbrev pub segment_slot : ℕ
 segment_slot = 0xFC
 
+abbrev pub calls_slot : ℕ
+calls_slot = 0xFA
+
+abbrev pub base_slot : ℕ
+base_slot = 0xF8
+
+abbrev pub top_slot : ℕ
+top_slot = 0xF6
+
+-- the first word of the arguments, as a displacement from BP
+abbrev pub first_argument : ℕ
+first_argument = 4
+
+-- what BP and SP hold for the base record, where there are no operands
+abbrev pub base_record : ℕ
+base_record = 0xFFFC
+
+abbrev pub base_operands : ℕ
+base_operands = 0xFFF2
+
+-- how far the last word of a record is below its BP
+abbrev pub record_depth : ℕ
+record_depth = 10
+
 abbrev pub memory : Place → Rm
 memory place = rms.Mem (record { cs = false; place = place })
 
 abbrev pub slot : ℕ → Rm
 slot by = memory (places.Near 6 by)
 
--- the word of the data segment at BX
+-- the argument that so many words of arguments follow
+abbrev pub argument : ℕ → Rm
+argument n = memory (places.Far 6 (first_argument + 2 * n))
+
+-- the word of the data segment at BX, and so many bytes behind it
 abbrev pub at_bx : Rm
 at_bx = memory (places.Plain 7)
+
+abbrev pub field : ℕ → Rm
+field by = memory (places.Far 7 by)
+
+abbrev pub near_field : ℕ → Rm
+near_field by = memory (places.Near 7 by)
+
+-- the word of a table of the code that begins there, by BX
+abbrev pub entry_of_table : ℕ → Rm
+entry_of_table at = rms.Mem (record { cs = true; place = places.Far 7 at })
 
 abbrev pub set_word : ℕ → ℕ → Instr
 set_word reg w = i86.MovImm reg (imm.Word w)
@@ -80,6 +118,32 @@ compare left right = i86.AluRm 7 true true left (rms.Reg right)
 abbrev pub negate : ℕ → Instr
 negate reg = i86.Unary 3 true (rms.Reg reg)
 
+abbrev pub both : ℕ → ℕ → Instr
+both to from = i86.AluRm 4 true true to (rms.Reg from)
+
+abbrev pub either : ℕ → ℕ → Instr
+either to from = i86.AluRm 1 true true to (rms.Reg from)
+
+abbrev pub one_of : ℕ → ℕ → Instr
+one_of to from = i86.AluRm 6 true true to (rms.Reg from)
+
+-- shifts by CL: up, down, and down with copies of the sign
+abbrev pub shift_up : ℕ → Instr
+shift_up reg = i86.Shift 4 true true (rms.Reg reg)
+
+abbrev pub shift_down : ℕ → Instr
+shift_down reg = i86.Shift 5 true true (rms.Reg reg)
+
+abbrev pub shift_down_signed : ℕ → Instr
+shift_down_signed reg = i86.Shift 7 true true (rms.Reg reg)
+
+-- AX times a register, in DX and AX; and these two over a register
+abbrev pub multiply : ℕ → Instr
+multiply reg = i86.Unary 5 true (rms.Reg reg)
+
+abbrev pub divide : ℕ → Instr
+divide reg = i86.Unary 6 true (rms.Reg reg)
+
 abbrev pub double : ℕ → Instr
 double reg = i86.Shift 4 true false (rms.Reg reg)
 
@@ -88,6 +152,21 @@ jump_to reg = i86.JumpRm (rms.Reg reg)
 
 abbrev pub jump_if_no_overflow : ℕ → Instr
 jump_if_no_overflow by = i86.JumpIf 1 by
+
+abbrev pub jump_if_equal : ℕ → Instr
+jump_if_equal by = i86.JumpIf 4 by
+
+abbrev pub jump_if_unequal : ℕ → Instr
+jump_if_unequal by = i86.JumpIf 5 by
+
+abbrev pub jump_if_below : ℕ → Instr
+jump_if_below by = i86.JumpIf 2 by
+
+abbrev pub jump_if_not_less : ℕ → Instr
+jump_if_not_less by = i86.JumpIf 13 by
+
+abbrev pub jump_if_at_most : ℕ → Instr
+jump_if_at_most by = i86.JumpIf 14 by
 
 abbrev pub bytes_of_all : List Instr → List ℕ
 bytes_of_all [] = []

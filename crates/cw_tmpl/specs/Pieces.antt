@@ -1,9 +1,11 @@
 -- Code with words that the linker fills.
-use Rattle.std.specs.Prelude.{ℕ, ◌+◌, ◌-◌, ◌/◌, ◌%◌, List, [], ◌∷◌, ◌++◌, length, slice_set, Option, Some, None}
+use Rattle.std.specs.Prelude.{true, false, ℕ, ◌+◌, ◌-◌, ◌/◌, ◌%◌, List, [], ◌∷◌, ◌++◌, length, slice_set, Option, Some, None}
 use Rattle.cw_i86.specs.Encoding.{bytes_of, word, IsInstr}
 use Rattle.cw_i86.specs.declared.instr.Imm.TheVariants as imm
 use Rattle.cw_i86.specs.declared.instr.Instr.TheVariants as i86
+use Rattle.cw_run86.specs.Views.{with_memory}
 use Rattle.cw_unit.specs.declared.layout.Reloc.{Reloc}
+use Rattle.cw_tmpl.specs.Mnemonics.{entry_of_table}
 use Rattle.cw_tmpl.specs.declared.pieces.Limit.{Limit}
 use Rattle.cw_tmpl.specs.declared.pieces.Limit.TheVariants as limit
 use Rattle.cw_tmpl.specs.declared.pieces.Target.{Target}
@@ -15,9 +17,13 @@ use Rattle.cw_tmpl.specs.declared.pieces.Coded.TheVariants as coded
 abbrev pub bytes_with : ℕ → Coded → List ℕ
 bytes_with w (coded.Whole i) = bytes_of i
 bytes_with w (coded.Move reg t) = bytes_of (i86.MovImm reg (imm.Word w))
+bytes_with w (coded.Load t) = bytes_of (i86.MovAcc false true false w)
+bytes_with w (coded.Store t) = bytes_of (i86.MovAcc false true true w)
+bytes_with w (coded.Operate op reg t) = bytes_of (with_memory op reg w)
 bytes_with w (coded.Call t) = bytes_of (i86.Call w)
 bytes_with w (coded.Jump t) = bytes_of (i86.Jump w)
 bytes_with w (coded.Word t) = word w
+bytes_with w (coded.Way t) = bytes_of (i86.JumpRm (entry_of_table w))
 
 -- the same with every word
 abbrev pub size_of : Coded → ℕ
@@ -26,17 +32,25 @@ size_of p = length (bytes_with 0 p)
 abbrev pub target_of : Coded → Option Target
 target_of (coded.Whole i) = None
 target_of (coded.Move reg t) = Some t
+target_of (coded.Load t) = Some t
+target_of (coded.Store t) = Some t
+target_of (coded.Operate op reg t) = Some t
 target_of (coded.Call t) = Some t
 target_of (coded.Jump t) = Some t
 target_of (coded.Word t) = Some t
+target_of (coded.Way t) = Some t
 
 -- The instruction has the numbers of its row.
 abbrev pub IsCoded : Coded → Type 0
 IsCoded (coded.Whole i) = IsInstr i
 IsCoded (coded.Move reg t) = IsInstr (i86.MovImm reg (imm.Word 0))
+IsCoded (coded.Load t) = Unit {0}
+IsCoded (coded.Store t) = Unit {0}
+IsCoded (coded.Operate op reg t) = IsInstr (with_memory op reg 0)
 IsCoded (coded.Call t) = Unit {0}
 IsCoded (coded.Jump t) = Unit {0}
 IsCoded (coded.Word t) = Unit {0}
+IsCoded (coded.Way t) = Unit {0}
 
 abbrev pub AllCoded : List Coded → Type 0
 AllCoded [] = Unit {0}

@@ -1,39 +1,101 @@
 -- The code of a list of orders.
-use Rattle.std.specs.Prelude.{ℕ, ◌+◌, List, [], ◌∷◌, ◌++◌, map, length, slice_index}
+use Rattle.std.specs.Prelude.{◌≡◌, ℕ, ◌+◌, ◌*◌, List, [], ◌∷◌, ◌++◌, map, length, Some, slice_index}
+use Rattle.cw_unit.specs.declared.unit.Goal.{Goal}
 use Rattle.cw_order.specs.declared.order.Order.{Order}
+use Rattle.cw_order.specs.declared.order.Order.TheVariants as order
 use Rattle.cw_order.specs.declared.order.Orders.{Orders}
+use Rattle.cw_order.specs.declared.order.LabelMark.{LabelMark}
 use Rattle.cw_tmpl.specs.declared.assembling.Code.{Code}
 use Rattle.cw_tmpl.specs.declared.pieces.Coded.{Coded}
 use Rattle.cw_tmpl.specs.Pieces.{blanks, relocations}
-use Rattle.cw_tmpl.specs.Templates.{template, entry_pieces, order_size}
+use Rattle.cw_tmpl.specs.Blocks.{block_at, orders_left}
+use Rattle.cw_tmpl.specs.Names.{Names, mark_place, way_to_label, landing_size, switch_size}
+use Rattle.cw_tmpl.specs.Templates.{block_pieces, block_size, entry_pieces, landing_pieces, switch_pieces}
 
--- the code of a list from a place, where the marks' code starts there
-abbrev pub templates : (starts : ℕ → ℕ) → (place : ℕ) → List Order → List Coded
-templates starts place [] = []
-templates starts place (o ∷ os) = template starts place o ++ templates starts (place + order_size o) os
+-- the code of a list from a place, where so many of the first orders are left of the block before
+abbrev pub templates : Names → (place left : ℕ) → List Order → List Coded
+templates names place left [] = []
+templates names place left (o ∷ os) =
+    let b = block_at left (o ∷ os) in
+    block_pieces names place b o ++ templates names (place + block_size b o) (orders_left b) os
 
--- the places of the orders' code, the first one given, and of the end
-abbrev pub places_from : ℕ → List Order → List ℕ
-places_from at [] = at ∷ []
-places_from at (o ∷ os) = at ∷ places_from (at + order_size o) os
+-- the landings of labels, and the routines of switches, from a place
+abbrev pub landings : Names → (place : ℕ) → List LabelMark → List Coded
+landings names place [] = []
+landings names place (m ∷ ms) = landing_pieces names place m ++ landings names (place + landing_size) ms
+
+abbrev pub switches : Names → (place : ℕ) → List (List Goal) → List Coded
+switches names place [] = []
+switches names place (gs ∷ rest) = switch_pieces names place gs ++ switches names (place + switch_size gs) rest
+
+-- ---- places
+
+-- The places of the orders' code, the first one given, and of the end. In a block all orders but the first have the place of its end.
+abbrev pub places_from : (at left : ℕ) → List Order → List ℕ
+places_from at left [] = at ∷ []
+places_from at left (o ∷ os) =
+    let b = block_at left (o ∷ os) in
+    at ∷ places_from (at + block_size b o) (orders_left b) os
 
 abbrev pub entry_size : ℕ
 entry_size = length (blanks entry_pieces)
 
 abbrev pub order_places : List Order → List ℕ
-order_places orders = places_from entry_size orders
+order_places orders = places_from entry_size 0 orders
 
--- The start of a mark is the place of its order's code; 0 for a mark past the end of the list. A mark that the list of marks does
--- not have is at the first order.
-abbrev pub start_of : (places marks : List ℕ) → (mark : ℕ) → ℕ
-start_of places marks mark = slice_index places (slice_index marks mark)
+-- those of the routines of switches
+abbrev pub switch_places : ℕ → List (List Goal) → List ℕ
+switch_places at [] = []
+switch_places at (gs ∷ rest) = at ∷ switch_places (at + switch_size gs) rest
 
+abbrev pub switch_sizes : List (List Goal) → ℕ
+switch_sizes [] = 0
+switch_sizes (gs ∷ rest) = switch_size gs + switch_sizes rest
+
+-- the landings stand behind the orders, and the switches behind the landings
+abbrev pub landings_place : Orders → ℕ
+landings_place orders = slice_index (order_places orders.list) (length orders.list)
+
+abbrev pub switches_place : Orders → ℕ
+switches_place orders = landings_place orders + landing_size * length orders.labels
+
+abbrev pub names_of : Orders → Names
+names_of orders = record {
+  places = order_places orders.list;
+  marks = orders.marks;
+  labels = orders.labels;
+  procedures = orders.procedures;
+  landings = landings_place orders;
+  switches = switch_places (switches_place orders) orders.switches;
+}
+
+-- where a mark starts
 abbrev pub mark_starts : Orders → (mark : ℕ) → ℕ
-mark_starts orders = start_of (order_places orders.list) orders.marks
+mark_starts orders = mark_place (names_of orders)
+
+-- where the labels are reached, the first of which has this number
+abbrev pub label_starts : Names → (first : ℕ) → List LabelMark → List ℕ
+label_starts names l [] = []
+label_starts names l (m ∷ ms) = way_to_label names l (Some m) ∷ label_starts names (l + 1) ms
+
+-- the statement that begins with an order at a place: the place, and its line
+abbrev pub statement_at : ℕ → Order → List (ℕ × ℕ)
+statement_at at (order.Start line) = (at, line) ∷ []
+statement_at at _ = []
+
+-- those that begin with the orders of a list, the first of which has this number
+abbrev pub statements_from : (number : ℕ) → (places : List ℕ) → List Order → List (ℕ × ℕ)
+statements_from k places [] = []
+statements_from k places (o ∷ os) = statement_at (slice_index places k) o ++ statements_from (k + 1) places os
+
+-- ---- the whole
 
 -- all pieces of a segment's code
 abbrev pub pieces_of : Orders → List Coded
-pieces_of orders = entry_pieces ++ templates (mark_starts orders) entry_size orders.list
+pieces_of orders =
+    entry_pieces
+    ++ (templates (names_of orders) entry_size 0 orders.list
+    ++ (landings (names_of orders) (landings_place orders) orders.labels ++ switches (names_of orders) (switches_place orders) orders.switches))
 
 abbrev pub orders_code : Orders → Code
 orders_code orders = record {
@@ -41,4 +103,15 @@ orders_code orders = record {
   relocs = relocations 0 (pieces_of orders);
   starts = map (slice_index (order_places orders.list)) orders.marks;
   entry = 0;
+  labels = label_starts (names_of orders) 0 orders.labels;
+  switches = switch_places (switches_place orders) orders.switches;
+  procedures = map (mark_starts orders) orders.procedures;
+  statements = statements_from 0 (order_places orders.list) orders.list;
 }
+
+-- these pieces stand among the others where so many bytes, with those of the entry, come before
+pub record StandsAt (code : List Coded) (place : ℕ) (pieces : List Coded) : Type 0 where
+  pub before : List Coded
+  pub behind : List Coded
+  pub is : code ≡ before ++ (pieces ++ behind)
+  pub place_is : place ≡ length (blanks (entry_pieces ++ before))

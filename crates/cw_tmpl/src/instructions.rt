@@ -1,5 +1,6 @@
 //! Registers, and short words for the instructions that the templates use.
-ghost use Rattle.std.specs.Prelude.{◌≡◌};
+ghost use Rattle.std.specs.Prelude.{◌≡◌, ◌≤◌, ◌<◌};
+ghost use Rattle.cw_run86.specs.Views.{with_number};
 ghost use Rattle.cw_tmpl.specs.Mnemonics as mnemonics;
 
 use cw_i86::{Imm, Instr, Mem, Place, Rm};
@@ -12,10 +13,38 @@ pub const DX: u8 = 2;
 
 pub const BX: u8 = 3;
 
+pub const SP: u8 = 4;
+
+pub const BP: u8 = 5;
+
+pub const SI: u8 = 6;
+
+pub const DI: u8 = 7;
+
+/// What BP holds where the base record is at work, and what SP then holds where there are no operands.
+pub const BASE_RECORD: u16 = 0xFFFC;
+
+pub const BASE_OPERANDS: u16 = 0xFFF2;
+
+/// How far the last word of a record is below its BP.
+pub const RECORD_DEPTH: u16 = 10;
+
 /// The word of the activation record that holds the line, at BP - 2.
 pub const LINE: Rm = Rm::Mem(Mem {
     cs: false,
     place: Place::Near(6, 0xFE),
+});
+
+/// The word that holds the number of the segment, at BP - 4.
+pub const SEGMENT: Rm = Rm::Mem(Mem {
+    cs: false,
+    place: Place::Near(6, 0xFC),
+});
+
+/// The word that holds the frame base, at BP - 8.
+pub const BASE: Rm = Rm::Mem(Mem {
+    cs: false,
+    place: Place::Near(6, 0xF8),
 });
 
 /// The word of the data segment at BX.
@@ -56,6 +85,13 @@ pub fn store(rm: Rm, reg: u8) -> Instr
         reg,
         rm,
     }
+}
+
+/// MOV of registers.
+pub fn copy(to: u8, from: u8) -> Instr
+    ensures { result ≡ mnemonics.move to from }
+{
+    load(to, Rm::Reg(from))
 }
 
 /// ADD of registers.
@@ -125,4 +161,184 @@ pub fn jump_if_no_overflow(by: u8) -> Instr
     ensures { result ≡ mnemonics.jump_if_no_overflow by }
 {
     Instr::JumpIf { cond: 1, by }
+}
+
+/// AND of registers.
+pub fn both(to: u8, from: u8) -> Instr
+    ensures { result ≡ mnemonics.both to from }
+{
+    Instr::AluRm {
+        op: 4,
+        wide: true,
+        to_reg: true,
+        reg: to,
+        rm: Rm::Reg(from),
+    }
+}
+
+/// OR of registers.
+pub fn either(to: u8, from: u8) -> Instr
+    ensures { result ≡ mnemonics.either to from }
+{
+    Instr::AluRm {
+        op: 1,
+        wide: true,
+        to_reg: true,
+        reg: to,
+        rm: Rm::Reg(from),
+    }
+}
+
+/// XOR of registers.
+pub fn one_of(to: u8, from: u8) -> Instr
+    ensures { result ≡ mnemonics.one_of to from }
+{
+    Instr::AluRm {
+        op: 6,
+        wide: true,
+        to_reg: true,
+        reg: to,
+        rm: Rm::Reg(from),
+    }
+}
+
+/// SHL of a register by CL.
+pub fn shift_up(reg: u8) -> Instr
+    ensures { result ≡ mnemonics.shift_up reg }
+{
+    Instr::Shift {
+        op: 4,
+        wide: true,
+        by_cl: true,
+        rm: Rm::Reg(reg),
+    }
+}
+
+/// SHR of a register by CL.
+pub fn shift_down(reg: u8) -> Instr
+    ensures { result ≡ mnemonics.shift_down reg }
+{
+    Instr::Shift {
+        op: 5,
+        wide: true,
+        by_cl: true,
+        rm: Rm::Reg(reg),
+    }
+}
+
+/// SAR of a register by CL.
+pub fn shift_down_signed(reg: u8) -> Instr
+    ensures { result ≡ mnemonics.shift_down_signed reg }
+{
+    Instr::Shift {
+        op: 7,
+        wide: true,
+        by_cl: true,
+        rm: Rm::Reg(reg),
+    }
+}
+
+/// IMUL by a register.
+pub fn multiply(reg: u8) -> Instr
+    ensures { result ≡ mnemonics.multiply reg }
+{
+    Instr::Unary {
+        op: 5,
+        wide: true,
+        rm: Rm::Reg(reg),
+    }
+}
+
+/// JB.
+pub fn jump_if_below(by: u8) -> Instr
+    ensures { result ≡ mnemonics.jump_if_below by }
+{
+    Instr::JumpIf { cond: 2, by }
+}
+
+/// JNZ.
+pub fn jump_if_unequal(by: u8) -> Instr
+    ensures { result ≡ mnemonics.jump_if_unequal by }
+{
+    Instr::JumpIf { cond: 5, by }
+}
+
+/// JNL.
+pub fn jump_if_not_less(by: u8) -> Instr
+    ensures { result ≡ mnemonics.jump_if_not_less by }
+{
+    Instr::JumpIf { cond: 13, by }
+}
+
+/// JLE.
+pub fn jump_if_at_most(by: u8) -> Instr
+    ensures { result ≡ mnemonics.jump_if_at_most by }
+{
+    Instr::JumpIf { cond: 14, by }
+}
+
+/// JE.
+pub fn jump_if_equal(by: u8) -> Instr
+    ensures { result ≡ mnemonics.jump_if_equal by }
+{
+    Instr::JumpIf { cond: 4, by }
+}
+
+/// JMP to the place in a register.
+pub fn jump_to(reg: u8) -> Instr
+    ensures { result ≡ mnemonics.jump_to reg }
+{
+    Instr::JumpRm(Rm::Reg(reg))
+}
+
+/// An operation of the arithmetic unit, by its number, on AX and a word.
+pub fn with_number(operation: u8, word: u16) -> Instr
+    requires { operation < 8 }
+    ensures { result ≡ with_number operation word }
+{
+    Instr::AluAcc {
+        op: operation,
+        imm: Imm::Word(word),
+    }
+}
+
+/// The argument that so many words of arguments follow.
+pub fn argument(words: u16) -> Rm
+    requires { words ≤ 256 }
+    ensures { result ≡ mnemonics.argument words }
+{
+    Rm::Mem(Mem {
+        cs: false,
+        place: Place::Far(6, 4 + 2 * words),
+    })
+}
+
+/// The word of the data segment so many bytes behind BX.
+pub fn field(by: u16) -> Rm
+    ensures { result ≡ mnemonics.field by }
+{
+    Rm::Mem(Mem {
+        cs: false,
+        place: Place::Far(7, by),
+    })
+}
+
+/// The same, for a few bytes.
+pub fn near_field(by: u8) -> Rm
+    ensures { result ≡ mnemonics.near_field by }
+{
+    Rm::Mem(Mem {
+        cs: false,
+        place: Place::Near(7, by),
+    })
+}
+
+/// The word of a table of the code that begins at a place, by BX.
+pub fn entry_of_table(place: u16) -> Rm
+    ensures { result ≡ mnemonics.entry_of_table place }
+{
+    Rm::Mem(Mem {
+        cs: true,
+        place: Place::Far(7, place),
+    })
 }

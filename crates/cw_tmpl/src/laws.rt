@@ -1,25 +1,16 @@
 //! Laws of the definitions.
-ghost use Rattle.std.specs.Prelude.{◌≡◌, ℕ, ℤ, ◌+◌, ◌<◌, ◌≤◌, List, ◌++◌, length, take, slice_index, All};
-ghost use Rattle.cw_track.specs.Tracking.{TracksAfter};
-ghost use Rattle.cw_i86.specs.State.{State};
-ghost use Rattle.cw_i86.specs.MachineRun.{IsStart};
-ghost use Rattle.cw_run86.specs.Processor.{processor, processor_start};
-ghost use Rattle.cw_unit.specs.Behaviour.{is_running};
+ghost use Rattle.std.specs.Prelude.{◌≡◌, ℕ, ◌+◌, ◌*◌, ◌≤◌, List, ◌++◌, length, drop, Some, slice_get, slice_index, All};
+ghost use Rattle.cw_tmpl.specs.declared.blocks.Block.{Block};
 ghost use Rattle.cw_order.specs.declared.order.Order.{Order};
-ghost use Rattle.cw_order.specs.OrderProgram.{OrderProgram};
-ghost use Rattle.cw_order.specs.OrderMachine.{order_machine, order_start};
+ghost use Rattle.cw_order.specs.declared.order.Orders.{Orders};
 ghost use Rattle.cw_tmpl.specs.declared.pieces.Coded.{Coded};
+ghost use Rattle.cw_tmpl.specs.Names.{Names, landing_size};
 ghost use Rattle.cw_tmpl.specs.Pieces.{blanks, relocations, Filling, filled, fill};
 ghost use Rattle.cw_tmpl.specs.Blanks.{FillsBlank, Rise};
 ghost use Rattle.cw_tmpl.specs.Library.{library_bytes};
-ghost use Rattle.cw_tmpl.specs.Templates.{template, entry_pieces, order_size, listed_size};
-ghost use Rattle.cw_tmpl.specs.ReferenceCode.{templates, entry_size, order_places};
-ghost use Rattle.cw_tmpl.specs.Showing.{shown_as};
-ghost use Rattle.cw_tmpl.specs.Placing.{IsImage, Codable, BeginsWith, NeverStuck, startup_cost};
-
-use cw_order::laws::words;
-use cw_run86::laws::{arithmetic, comparing, jumps, memory, moves, ports, stacking, starting};
-use cw_word::laws::{readings, sums};
+ghost use Rattle.cw_tmpl.specs.Blocks.{block_at, left_at};
+ghost use Rattle.cw_tmpl.specs.Templates.{block_pieces, block_size, order_size, listed_size, listed_sizes};
+ghost use Rattle.cw_tmpl.specs.ReferenceCode.{templates, entry_size, order_places, pieces_of, switch_sizes, StandsAt};
 
 /// The linker's filling of an object's relocations, one after another, gives the code with its words filled. That is as
 /// long as the object's, and goes on behind the first pieces with the rest.
@@ -35,32 +26,14 @@ pub fn relocating()
     ensures rise { (pieces : List Coded) → Rise 0 (relocations 0 pieces) }
 {}
 
-/// The sizes of the code.
+/// The sizes of the code. A list has at most the bytes that its orders have alone, and the places of the orders' code are where it stands.
+/// The code of a segment has its entry, the code of its orders, and that of its labels and its switches.
 pub fn sizes()
-    ensures order { (o : Order) → order_size o ≤ 10 }
     ensures each { (o : Order) → order_size o ≡ listed_size o }
-    ensures everywhere { (starts : ℕ → ℕ) (place : ℕ) (o : Order) → length (blanks (template starts place o)) ≡ order_size o }
+    ensures everywhere { (names : Names) (place : ℕ) (b : Block) (o : Order) → length (blanks (block_pieces names place b o)) ≡ block_size b o }
+    ensures whole { (names : Names) (place : ℕ) (orders : List Order) → length (blanks (templates names place 0 orders)) ≤ listed_sizes orders }
+    ensures segment { (o : Orders) → length (blanks (pieces_of o)) ≤ entry_size + (listed_sizes o.list + (landing_size * length o.labels + switch_sizes o.switches)) }
     ensures library { length library_bytes ≤ 4096 }
-    ensures places { (starts : ℕ → ℕ) (orders : List Order) (k : ℕ) → k ≤ length orders → slice_index (order_places orders) k ≡ length (blanks (entry_pieces ++ templates starts entry_size (take k orders))) }
+    ensures places { (names : Names) (orders : List Order) (k : ℕ) (o : Order) → slice_get orders k ≡ Some o →
+        StandsAt (templates names entry_size 0 orders) (slice_index (order_places orders) k) (block_pieces names (slice_index (order_places orders) k) (block_at (left_at 0 orders k) (drop k orders)) o) }
 {}
-
-/// Started with the image of a program of orders, the processor shows what the machine of the orders shows: nothing else, and all
-/// of it, where each order pays for the instructions that carry it out. For every way of filling the relocated words that gives
-/// each what the orders mean by it, and every input of bytes.
-pub fn code_follows_orders()
-    ensures { (p : OrderProgram) (image words : List ℕ) (memory : List ℤ) (input : List ℕ) (s : State) →
-        IsImage p image → Codable p → BeginsWith p memory words → NeverStuck p memory input → IsStart image words s → All (λ b. b < 256) input →
-        TracksAfter is_running startup_cost (order_machine p) (order_start p memory input) (processor shown_as) (processor_start s input) }
-{
-    readings();
-    sums();
-    words();
-    starting();
-    moves();
-    stacking();
-    memory();
-    arithmetic();
-    comparing();
-    jumps();
-    ports();
-}

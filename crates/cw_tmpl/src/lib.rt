@@ -1,12 +1,16 @@
-//! Instruction selection: from orders to relocatable 8086 code, and the run-time library.
+//! Instruction selection: the relocatable 8086 code of orders, and the run-time library.
 #![tactic(auto)]
 
 mod assembling;
-mod instructions;
+mod blocks;
+pub mod instructions;
 pub mod laws;
-mod library;
+pub mod library;
+mod names;
 mod pieces;
 
-pub use assembling::{Code, assemble};
+pub use assembling::{Assembly, Code};
+pub use blocks::{Block, Simple, Use, block_in, orders_left};
 pub use library::{base_code, base_entry};
+pub use names::{LANDING, Names, own};
 pub use pieces::{Coded, Limit, Target};

@@ -39,11 +39,26 @@ pub enum Target {
 pub enum Coded {
     Whole(Instr),
     /// MOV of the word into a register.
-    Move { reg: u8, target: Target },
+    Move {
+        reg: u8,
+        target: Target,
+    },
+    /// MOV of the word of the data segment at the word into AX.
+    Load(Target),
+    /// MOV of AX into the word of the data segment at the word.
+    Store(Target),
+    /// An operation of the arithmetic unit on a register and the word of the data segment at the word.
+    Operate {
+        operation: u8,
+        reg: u8,
+        target: Target,
+    },
     /// CALL by the word.
     Call(Target),
     /// JMP by the word.
     Jump(Target),
     /// The word alone.
     Word(Target),
+    /// JMP to the place that an entry of a table of the code tells, where the word is the table's place and BX counts bytes.
+    Way(Target),
 }

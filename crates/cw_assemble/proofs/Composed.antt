@@ -1,0 +1,138 @@
+-- Code that is put together from parts: lists of orders, the way of a loop, and switches.
+use Rattle.std.proofs.Common.{get_or, suc, ◌<◌, ◌≡◌, ℕ, ◌+◌, ◌*◌, List, [], ◌∷◌, ◌++◌, length, drop, drop-cons, sym, ap, ap₂, ◌∙◌, subst, append_assoc, arith, length-append}
+use Rattle.cw_i86.specs.declared.instr.Instr.{Instr}
+use Rattle.cw_i86.specs.declared.instr.Instr.TheVariants as i86
+use Rattle.cw_unit.specs.declared.unit.Goal.{Goal}
+use Rattle.cw_unit.specs.declared.layout.Reloc.{Reloc}
+use Rattle.cw_order.specs.declared.order.LabelMark.{LabelMark}
+use Rattle.cw_order.specs.declared.order.Order.{Order}
+use Rattle.cw_order.specs.declared.order.Orders.{Orders}
+use Rattle.cw_tmpl.specs.Assembling.{Adds}
+use Rattle.cw_tmpl.specs.declared.assembling.Assembly.{Assembly}
+use Rattle.cw_tmpl.specs.declared.blocks.Block.{Block}
+use Rattle.cw_tmpl.specs.declared.pieces.Target.{Target}
+use Rattle.cw_tmpl.specs.declared.pieces.Target.TheVariants as target
+use Rattle.cw_tmpl.specs.declared.pieces.Coded.{Coded}
+use Rattle.cw_tmpl.specs.declared.pieces.Coded.TheVariants as coded
+use Rattle.cw_tmpl.specs.Mnemonics.{argument, load, double, move, set_word, subtract, jump_if_below}
+use Rattle.cw_tmpl.specs.Names.{Names, no_names, own, switch_size}
+use Rattle.cw_tmpl.specs.Blocks.{block_at, orders_left}
+use Rattle.cw_tmpl.specs.Pieces.{blanks, relocations}
+use Rattle.cw_order.specs.declared.order.Order.TheVariants as order
+use Rattle.cw_tmpl.specs.Templates.{template, back_jump, step_loaded, limit_compared, past_limit, distance, number_compared, goal_words, mark_words, loop_way, switch_pieces, block_pieces, block_size, entry_pieces}
+use Rattle.cw_tmpl.specs.ReferenceCode.{templates, landings, switches, places_from, entry_size, landings_place, switches_place, names_of, pieces_of}
+use Rattle.cw_tmpl.proofs.Sizes.{size_everywhere, size_of_switch, size_of_templates, size_of_landings, landings_at}
+use Rattle.cw_tmpl.proofs.Growing.{adds_then, Coming, coming_more}
+
+as_pieces : (old new : Assembly) (ps qs : List Coded) → ps ≡ qs → Adds old ps new → Adds old qs new
+as_pieces old new ps qs e h = subst (λ xs. Adds old xs new) e h
+
+-- the first of the items from a place on
+pub item_first : {A : Type 0} (xs : List A) (k : ℕ) (x : A) → k < length xs → x ≡ get_or xs k x → drop k xs ≡ x ∷ drop (k + 1) xs
+item_first xs k x lt is =
+    let e : suc k ≡ k + 1 = omega arith in
+    drop-cons xs k x lt ∙ ap (λ y. y ∷ drop (suc k) xs) (sym is) ∙ ap (λ n. x ∷ drop n xs) e
+
+-- ---- tables
+
+pub switch_added : (old one two new : Assembly) (n : ℕ) (i1 i2 i3 i4 i5 i6 : Instr) (t : Target) (names : Names) (goals : List Goal) → Adds old (number_compared n) one → n ≡ length goals
+    → i1 ≡ jump_if_below 3 → i2 ≡ double 3 → i3 ≡ move 5 7 → i4 ≡ move 4 5 → i5 ≡ set_word 0 10 → i6 ≡ subtract 4 0 → t ≡ own (length old.bytes + 29)
+    → Adds one (coded.Whole i1 ∷ coded.Call (target.LibraryAhead 4) ∷ coded.Whole i2 ∷ coded.Whole i3 ∷ coded.Whole i4 ∷ coded.Whole i5 ∷ coded.Whole i6 ∷ coded.Way t ∷ []) two
+    → Adds two (goal_words names goals) new → Adds old (switch_pieces names (length old.bytes) goals) new
+switch_added old one two new n i1 i2 i3 i4 i5 i6 t names goals a en e1 e2 e3 e4 e5 e6 et b d =
+    let T = own (length old.bytes + 29) in
+    let first : number_compared n ≡ number_compared (length goals) = ap number_compared en in
+    let second : coded.Whole i1 ∷ coded.Call (target.LibraryAhead 4) ∷ coded.Whole i2 ∷ coded.Whole i3 ∷ coded.Whole i4 ∷ coded.Whole i5 ∷ coded.Whole i6 ∷ coded.Way t ∷ []
+    ≡ coded.Whole (jump_if_below 3) ∷ coded.Call (target.LibraryAhead 4) ∷ coded.Whole (double 3) ∷ coded.Whole (move 5 7) ∷ coded.Whole (move 4 5) ∷ coded.Whole (set_word 0 10) ∷ coded.Whole (subtract 4 0) ∷ coded.Way T ∷ [] = cc in
+    adds_then old one new (number_compared (length goals)) _ (as_pieces old one (number_compared n) (number_compared (length goals)) first a)
+    (adds_then one two new _ (goal_words names goals) (as_pieces one two _ _ second b) d)
+
+pub loop_added : (old one two new : Assembly) (n w : ℕ) (i1 i2 : Instr) (t : Target) (names : Names) (marks : List ℕ) → Adds old (number_compared n) one → n ≡ length marks
+    → w ≡ distance (length old.bytes + 14) (length old.bytes + 21 + 2 * length marks) → i1 ≡ double 3 → i2 ≡ jump_if_below 3 → t ≡ own (length old.bytes + 21)
+    → Adds one (coded.Whole (i86.Pop 0) ∷ coded.Whole i2 ∷ coded.Whole (i86.Jump w) ∷ coded.Whole i1 ∷ coded.Way t ∷ []) two
+    → Adds two (mark_words names marks) new → Adds old (loop_way names (length old.bytes) marks) new
+loop_added old one two new n w i1 i2 t names marks a en ew e1 e2 et b d =
+    let W = distance (length old.bytes + 14) (length old.bytes + 21 + 2 * length marks) in
+    let T = own (length old.bytes + 21) in
+    let first : number_compared n ≡ number_compared (length marks) = ap number_compared en in
+    let second : coded.Whole (i86.Pop 0) ∷ coded.Whole i2 ∷ coded.Whole (i86.Jump w) ∷ coded.Whole i1 ∷ coded.Way t ∷ [] ≡ coded.Whole (i86.Pop 0) ∷ coded.Whole (jump_if_below 3) ∷ coded.Whole (i86.Jump W) ∷ coded.Whole (double 3) ∷ coded.Way T ∷ [] = cc in
+    adds_then old one new (number_compared (length marks)) _ (as_pieces old one (number_compared n) (number_compared (length marks)) first a)
+    (adds_then one two new _ (mark_words names marks) (as_pieces one two _ _ second b) d)
+
+-- ---- one item of a list
+
+pub next_block : (old new : Assembly) (names : Names) (list : List Order) (k left next : ℕ) (b : Block) (o : Order) (bytes : List ℕ) (relocs : List Reloc) → drop k list ≡ o ∷ drop (k + 1) list
+    → b ≡ block_at left (drop k list) → next ≡ orders_left b → Adds old (block_pieces names (length old.bytes) b o) new
+    → Coming old (templates names (length old.bytes) left (drop k list)) bytes relocs → Coming new (templates names (length new.bytes) next (drop (k + 1) list)) bytes relocs
+next_block old new names list k left next b o bytes relocs e is_block is_next added coming =
+    let at = length old.bytes in
+    let rest = drop (k + 1) list in
+    let c = block_at left (o ∷ rest) in
+    let same : b ≡ c = is_block ∙ ap (block_at left) e in
+    let pieces = block_pieces names at c o in
+    let added' : Adds old pieces new = subst (λ x. Adds old (block_pieces names at x o) new) same added in
+    let long : at + block_size c o ≡ length new.bytes = omega (arith, ap length added'.bytes, length-append old.bytes (blanks pieces), size_everywhere names at c o) in
+    let here : Coming old (pieces ++ templates names (at + block_size c o) (orders_left c) rest) bytes relocs = subst (λ xs. Coming old (templates names at left xs) bytes relocs) e coming in
+    let left_is : orders_left c ≡ next = ap orders_left (sym same) ∙ sym is_next in
+    subst (λ m. Coming new (templates names (length new.bytes) m rest) bytes relocs) left_is
+    (subst (λ n. Coming new (templates names n (orders_left c) rest) bytes relocs) long (coming_more old new pieces (templates names (at + block_size c o) (orders_left c) rest) bytes relocs added' here))
+
+pub next_place : (places : List ℕ) (at left size next : ℕ) (list : List Order) (k : ℕ) (b : Block) (o : Order) (whole : List ℕ) → drop k list ≡ o ∷ drop (k + 1) list → b ≡ block_at left (drop k list) → next ≡ orders_left b → size ≡ at + block_size b o
+    → places ++ places_from at left (drop k list) ≡ whole → (places ++ at ∷ []) ++ places_from size next (drop (k + 1) list) ≡ whole
+next_place places at left size next list k b o whole e is_block is_next is_size h =
+    let rest = drop (k + 1) list in
+    let c = block_at left (o ∷ rest) in
+    let same : b ≡ c = is_block ∙ ap (block_at left) e in
+    append_assoc places (at ∷ []) (places_from size next rest)
+    ∙ ap₂ (λ m n. places ++ (at ∷ places_from m n rest)) is_size is_next
+    ∙ ap (λ x. places ++ (at ∷ places_from (at + block_size x o) (orders_left x) rest)) same
+    ∙ ap (λ l. places ++ places_from at left l) (sym e) ∙ h
+
+pub next_switch : (old new : Assembly) (names : Names) (list : List (List Goal)) (k : ℕ) (gs : List Goal) (bytes : List ℕ) (relocs : List Reloc) → drop k list ≡ gs ∷ drop (k + 1) list → Adds old (switch_pieces names (length old.bytes) gs) new
+    → Coming old (switches names (length old.bytes) (drop k list)) bytes relocs → Coming new (switches names (length new.bytes) (drop (k + 1) list)) bytes relocs
+next_switch old new names list k gs bytes relocs e added coming =
+    let at = length old.bytes in
+    let rest = drop (k + 1) list in
+    let size = size_of_switch names at gs in
+    let long : at + switch_size gs ≡ length new.bytes = omega (arith, ap length added.bytes, length-append old.bytes (blanks (switch_pieces names at gs)), size) in
+    let here : Coming old (switch_pieces names at gs ++ switches names (at + switch_size gs) rest) bytes relocs = subst (λ xs. Coming old (switches names at xs) bytes relocs) e coming in
+    subst (λ n. Coming new (switches names n rest) bytes relocs) long (coming_more old new (switch_pieces names at gs) (switches names (at + switch_size gs) rest) bytes relocs added here)
+
+-- ---- all parts of a segment's code
+
+whole_added : (a b c d : Assembly) (o : Orders) (names : Names) → names ≡ names_of o → Adds (record { bytes = []; relocs = [] }) entry_pieces a → Adds a (templates names (length a.bytes) 0 o.list) b → Adds b (landings names (length b.bytes) o.labels) c
+    → Adds c (switches names (length c.bytes) o.switches) d → (d.bytes ≡ blanks (pieces_of o)) × (d.relocs ≡ relocations 0 (pieces_of o))
+whole_added a b c d o names same ha hb hc hd =
+    let start : Assembly = record { bytes = []; relocs = [] } in
+    let N = names_of o in
+    let size_a : length a.bytes ≡ entry_size = ap length ha.bytes in
+    let size_b : length b.bytes ≡ landings_place o = omega (arith, ap length hb.bytes, length-append a.bytes (blanks (templates names (length a.bytes) 0 o.list)), size_of_templates names (length a.bytes) 0 o.list, size_a, landings_at o) in
+    let size_c : length c.bytes ≡ switches_place o = omega (arith, ap length hc.bytes, length-append b.bytes (blanks (landings names (length b.bytes) o.labels)), size_of_landings names (length b.bytes) o.labels, size_b) in
+    let hb' : Adds a (templates N entry_size 0 o.list) b = as_pieces a b (templates names (length a.bytes) 0 o.list) (templates N entry_size 0 o.list) (ap (λ n. templates n (length a.bytes) 0 o.list) same ∙ ap (λ n. templates N n 0 o.list) size_a) hb in
+    let hc' : Adds b (landings N (landings_place o) o.labels) c = as_pieces b c (landings names (length b.bytes) o.labels) (landings N (landings_place o) o.labels) (ap (λ n. landings n (length b.bytes) o.labels) same ∙ ap (λ n. landings N n o.labels) size_b) hc in
+    let hd' : Adds c (switches N (switches_place o) o.switches) d = as_pieces c d (switches names (length c.bytes) o.switches) (switches N (switches_place o) o.switches) (ap (λ n. switches n (length c.bytes) o.switches) same ∙ ap (λ n. switches N n o.switches) size_c) hd in
+    let all = adds_then start a d entry_pieces _ ha (adds_then a b d (templates N entry_size 0 o.list) _ hb' (adds_then b c d (landings N (landings_place o) o.labels) (switches N (switches_place o) o.switches) hc' hd')) in
+    (all.bytes, all.relocs)
+
+pub whole_from : (a b c d : Assembly) (bytes : List ℕ) (relocs : List Reloc) (o : Orders) (names : Names) (ls : List Order) (ms : List LabelMark) (ss : List (List Goal)) → bytes ≡ [] → relocs ≡ [] → ls ≡ o.list → ms ≡ o.labels → ss ≡ o.switches → names ≡ names_of o
+    → Adds (record { bytes = bytes; relocs = relocs }) entry_pieces a → Adds a (templates names (length a.bytes) 0 ls) b → Adds b (landings names (length b.bytes) ms) c
+    → Adds c (switches names (length c.bytes) ss) d → (d.bytes ≡ blanks (pieces_of o)) × (d.relocs ≡ relocations 0 (pieces_of o))
+whole_from a b c d bytes relocs o names ls ms ss eb er el em es same ha hb hc hd =
+    whole_added a b c d o names same
+    (subst (λ xs. Adds (record { bytes = xs; relocs = [] }) entry_pieces a) eb (subst (λ rs. Adds (record { bytes = bytes; relocs = rs }) entry_pieces a) er ha))
+    (subst (λ xs. Adds a (templates names (length a.bytes) 0 xs) b) el hb)
+    (subst (λ xs. Adds b (landings names (length b.bytes) xs) c) em hc)
+    (subst (λ xs. Adds c (switches names (length c.bytes) xs) d) es hd)
+
+-- ---- a call of a procedure parameter
+
+pub special_added : (old one new : Assembly) (k : ℕ) (i : Instr) (t : Target) → Adds old (coded.Whole (i86.Push 0) ∷ coded.Whole i ∷ []) one → i ≡ load 0 (argument k) → t ≡ own (length old.bytes + 11) → Adds one (back_jump t) new
+    → Adds old (template no_names (length old.bytes) (order.CallSpecial k)) new
+special_added old one new k i t a e et b =
+    let first : coded.Whole (i86.Push 0) ∷ coded.Whole i ∷ [] ≡ coded.Whole (i86.Push 0) ∷ coded.Whole (load 0 (argument k)) ∷ [] = ap (λ x. coded.Whole (i86.Push 0) ∷ coded.Whole x ∷ []) e in
+    adds_then old one new (coded.Whole (i86.Push 0) ∷ coded.Whole (load 0 (argument k)) ∷ []) (back_jump (own (length old.bytes + 11))) (as_pieces old one _ _ first a) (as_pieces one new (back_jump t) (back_jump (own (length old.bytes + 11))) (ap back_jump et) b)
+
+-- ---- the limit of a loop
+
+pub limit_added : (old one new : Assembly) (n to : ℕ) → Adds old step_loaded one → n ≡ length old.bytes → Adds one (limit_compared (n + 29) to) new → Adds old (past_limit (length old.bytes + 29) to) new
+limit_added old one new n to a e b = adds_then old one new step_loaded (limit_compared (length old.bytes + 29) to) a (subst (λ m. Adds one (limit_compared (m + 29) to) new) e b)

@@ -1,0 +1,190 @@
+//! Code of calls, of control arguments, and of the words of an activation.
+ghost use Rattle.std.specs.Prelude.{◌≡◌, ◌<◌, length, OnOk};
+ghost use Rattle.cw_order.specs.declared.order.Order.TheVariants as order;
+ghost use Rattle.cw_tmpl.specs.Assembling.{Adds};
+ghost use Rattle.cw_tmpl.specs.Names.{no_names};
+ghost use Rattle.cw_tmpl.specs.Templates.{template, call_near, back_jump, control_out, return_with, read_byte};
+
+use crate::jumping::distance;
+use cw_i86::Instr;
+use cw_tmpl::instructions::{
+    AT_BX, AX, BASE, BP, BX, CX, DX, SI, SP, add, argument, compare, copy, double, field,
+    jump_if_unequal, jump_to, load, negate, set_word, store, with_number,
+};
+use cw_tmpl::library::ENTER;
+use cw_tmpl::{Assembly, Coded, Limit, Target, own};
+use cw_word::NoMemory;
+
+/// Adds a call of a procedure of this segment.
+pub(crate) fn put_call(code: &mut Assembly, to: u64) -> Result<(), NoMemory>
+    ensures { OnOk result (Adds code.old (call_near (length code.old.bytes) to) code.new) }
+{
+    let behind = code.bytes.as_slice().len() + 4;
+    code.put_all(&[
+        Coded::Whole(Instr::Push(AX)),
+        Coded::Whole(Instr::Call(distance(behind, to))),
+    ])
+}
+
+/// Adds a call of the procedure of a descriptor.
+pub(crate) fn put_call_common(code: &mut Assembly, descriptor: u16) -> Result<(), NoMemory>
+    ensures { OnOk result (Adds code.old (template no_names 0 (order.CallCommon descriptor)) code.new) }
+{
+    code.put_all(&[
+        Coded::Whole(Instr::Push(AX)),
+        Coded::Call(Target::DefinitionAhead(descriptor)),
+    ])
+}
+
+/// Adds a call of a procedure parameter.
+pub(crate) fn put_call_special(code: &mut Assembly, words: u8) -> Result<(), NoMemory>
+    ensures { OnOk result (Adds code.old (template no_names (length code.old.bytes) (order.CallSpecial words)) code.new) }
+{
+    let behind = own(code.bytes.as_slice().len() as u64 + 11);
+    code.put_all(&[
+        Coded::Whole(Instr::Push(AX)),
+        Coded::Whole(load(AX, argument(u16::from(words)))),
+    ])?;
+    put_back_jump(code, behind)
+}
+
+/// Adds a jump to the place in AX, with the place to come back to on the stack.
+fn put_back_jump(code: &mut Assembly, behind: Target) -> Result<(), NoMemory>
+    ensures { OnOk result (Adds code.old (back_jump behind) code.new) }
+{
+    code.put_all(&[
+        Coded::Move {
+            reg: BX,
+            target: behind,
+        },
+        Coded::Whole(Instr::Push(BX)),
+        Coded::Whole(jump_to(AX)),
+    ])
+}
+
+/// Adds the beginning of an activation.
+pub(crate) fn put_enter(code: &mut Assembly, size: u16) -> Result<(), NoMemory>
+    ensures { OnOk result (Adds code.old (template no_names 0 (order.Enter size)) code.new) }
+{
+    code.put_all(&[
+        Coded::Whole(set_word(AX, size)),
+        Coded::Move {
+            reg: DX,
+            target: Target::Limit(Limit::Segment),
+        },
+        Coded::Move {
+            reg: BX,
+            target: Target::Limit(Limit::DataWords),
+        },
+        Coded::Call(Target::LibraryAhead(ENTER)),
+    ])
+}
+
+/// Adds what stores an argument in a word of a storage family.
+pub(crate) fn put_bind(
+    code: &mut Assembly,
+    words: u8,
+    family: u16,
+    offset: u16,
+) -> Result<(), NoMemory>
+    ensures { OnOk result (Adds code.old (template no_names 0 (order.Bind words family offset)) code.new) }
+{
+    code.put_all(&[
+        Coded::Whole(load(CX, argument(u16::from(words)))),
+        Coded::Move {
+            reg: BX,
+            target: Target::Bytes { family, offset },
+        },
+        Coded::Whole(store(AT_BX, CX)),
+    ])
+}
+
+/// Adds what stores an argument in a word of the frame.
+pub(crate) fn put_bind_frame(code: &mut Assembly, words: u8, offset: u16) -> Result<(), NoMemory>
+    ensures { OnOk result (Adds code.old (template no_names 0 (order.BindFrame words offset)) code.new) }
+{
+    let by = (2 * u32::from(offset) % 65_536) as u16;
+    code.put_all(&[
+        Coded::Whole(load(CX, argument(u16::from(words)))),
+        Coded::Whole(load(BX, BASE)),
+        Coded::Whole(double(BX)),
+        Coded::Whole(store(field(by), CX)),
+    ])
+}
+
+/// Adds the way back to the caller.
+pub(crate) fn put_return(code: &mut Assembly, arguments: u8, answers: bool) -> Result<(), NoMemory>
+    ensures { OnOk result (Adds code.old (return_with answers arguments) code.new) }
+{
+    if answers {
+        code.put_all(&[
+            Coded::Whole(copy(SP, BP)),
+            Coded::Whole(Instr::Pop(BP)),
+            Coded::Whole(Instr::Pop(SI)),
+            Coded::Whole(set_word(BX, 2 * u16::from(arguments))),
+            Coded::Whole(add(SP, BX)),
+            Coded::Whole(jump_to(SI)),
+        ])
+    } else {
+        code.put_all(&[
+            Coded::Whole(copy(SP, BP)),
+            Coded::Whole(Instr::Pop(BP)),
+            Coded::Whole(Instr::Pop(SI)),
+            Coded::Whole(set_word(BX, 2 * u16::from(arguments))),
+            Coded::Whole(add(SP, BX)),
+            Coded::Whole(Instr::Pop(AX)),
+            Coded::Whole(jump_to(SI)),
+        ])
+    }
+}
+
+/// Adds a control argument: the record at work, and a place.
+pub(crate) fn put_control(code: &mut Assembly, target: Target) -> Result<(), NoMemory>
+    ensures { OnOk result (Adds code.old (control_out target) code.new) }
+{
+    code.put_all(&[
+        Coded::Whole(Instr::Push(AX)),
+        Coded::Whole(Instr::Push(BP)),
+        Coded::Move { reg: AX, target },
+    ])
+}
+
+/// Adds a control parameter as an argument.
+pub(crate) fn put_special_out(code: &mut Assembly, words: u8) -> Result<(), NoMemory>
+    ensures { OnOk result (Adds code.old (template no_names 0 (order.SpecialOut words)) code.new) }
+{
+    code.put_all(&[
+        Coded::Whole(Instr::Push(AX)),
+        Coded::Whole(load(AX, argument(u16::from(words) + 1))),
+        Coded::Whole(Instr::Push(AX)),
+        Coded::Whole(load(AX, argument(u16::from(words)))),
+    ])
+}
+
+/// Adds the address of a word of the frame.
+pub(crate) fn put_frame_home(code: &mut Assembly, offset: u16) -> Result<(), NoMemory>
+    ensures { OnOk result (Adds code.old (template no_names 0 (order.FrameHome offset)) code.new) }
+{
+    code.put_all(&[
+        Coded::Whole(Instr::Push(AX)),
+        Coded::Whole(load(AX, BASE)),
+        Coded::Whole(with_number(0, offset)),
+    ])
+}
+
+/// Adds the next byte of the input.
+pub(crate) fn put_read_byte(code: &mut Assembly) -> Result<(), NoMemory>
+    ensures { OnOk result (Adds code.old read_byte code.new) }
+{
+    code.put_all(&[
+        Coded::Whole(Instr::Push(AX)),
+        Coded::Whole(set_word(AX, 0)),
+        Coded::Whole(set_word(BX, 0)),
+        Coded::Whole(Instr::In(0x11)),
+        Coded::Whole(compare(AX, BX)),
+        Coded::Whole(jump_if_unequal(4)),
+        Coded::Whole(Instr::In(0x10)),
+        Coded::Whole(Instr::JumpShort(2)),
+        Coded::Whole(negate(AX)),
+    ])
+}

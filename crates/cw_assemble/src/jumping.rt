@@ -1,0 +1,265 @@
+//! Code of jumps, and of the words of loops and switches.
+ghost use Rattle.std.specs.Prelude.{◌≡◌, ◌<◌, ◌++◌, ◌+◌, ◌∷◌, [], length, OnOk};
+ghost use Rattle.cw_run86.specs.Views.{condition_of};
+ghost use Rattle.cw_order.specs.declared.order.Order.TheVariants as order;
+ghost use Rattle.cw_tmpl.specs.Assembling.{Adds};
+ghost use Rattle.cw_tmpl.specs.Names.{no_names};
+ghost use Rattle.cw_tmpl.specs.Templates.{template, step_loaded, limit_compared, past_limit, number_compared, mark_words, goal_words, loop_way, switch_pieces, landing_pieces, base_jump, switch_near, jump_where, jump_near, distance, opposite_of};
+
+use cw_i86::Instr;
+use cw_order::{Comparator, LabelMark};
+use cw_tmpl::instructions::{
+    AX, BASE_OPERANDS, BASE_RECORD, BP, BX, CX, DI, DX, RECORD_DEPTH, SEGMENT, SP, argument,
+    compare, copy, double, jump_if_at_most, jump_if_below, jump_if_equal, jump_to, load,
+    near_field, one_of, set_word, store, subtract, with_number,
+};
+use cw_tmpl::library::SWITCH;
+use cw_tmpl::{Assembly, Coded, Limit, Names, Target, own};
+use cw_unit::unit::Goal;
+use cw_word::NoMemory;
+
+/// How far it is from the end of an instruction to a place of the same code, modulo 65,536.
+pub(crate) fn distance(from: usize, to: u64) -> u16
+    ensures { result ≡ distance from to }
+{
+    let from = (from % 65_536) as u16;
+    let to = (to % 65_536) as u16;
+    to.wrapping_sub(from)
+}
+
+/// The number of the condition that holds where the comparison does not.
+pub(crate) fn opposite(comparator: Comparator) -> u8
+    ensures { result ≡ condition_of (opposite_of comparator) }
+{
+    match comparator {
+        Comparator::Less => 13,
+        Comparator::LessEqual => 15,
+        Comparator::Equal => 5,
+        Comparator::GreaterEqual => 12,
+        Comparator::Greater => 14,
+        Comparator::Unequal => 4,
+    }
+}
+
+/// Adds a jump to a place of the segment.
+pub(crate) fn put_jump(code: &mut Assembly, to: u64) -> Result<(), NoMemory>
+    ensures { OnOk result (Adds code.old (jump_near (length code.old.bytes + 3) to ∷ []) code.new) }
+{
+    let end = code.bytes.as_slice().len() + 3;
+    code.put_all(&[Coded::Whole(Instr::Jump(distance(end, to)))])
+}
+
+/// Adds a jump to a place where a comparison of the two operands on top holds.
+pub(crate) fn put_jump_if(
+    code: &mut Assembly,
+    comparator: Comparator,
+    to: u64,
+) -> Result<(), NoMemory>
+    ensures { OnOk result (Adds code.old (jump_where comparator (length code.old.bytes) to) code.new) }
+{
+    let end = code.bytes.as_slice().len() + 9;
+    code.put_all(&[
+        Coded::Whole(Instr::Pop(BX)),
+        Coded::Whole(compare(BX, AX)),
+        Coded::Whole(Instr::Pop(AX)),
+        Coded::Whole(Instr::JumpIf {
+            cond: opposite(comparator),
+            by: 3,
+        }),
+        Coded::Whole(Instr::Jump(distance(end, to))),
+    ])
+}
+
+/// Adds what brings the words of a loop to registers, with the value of its control variable.
+fn put_step_loaded(code: &mut Assembly) -> Result<(), NoMemory>
+    ensures { OnOk result (Adds code.old step_loaded code.new) }
+{
+    code.put_all(&[
+        Coded::Whole(copy(BX, AX)),
+        Coded::Whole(double(BX)),
+        Coded::Whole(Instr::Pop(CX)),
+        Coded::Whole(load(AX, near_field(2))),
+        Coded::Whole(load(BX, near_field(4))),
+        Coded::Whole(Instr::Cwd),
+    ])
+}
+
+/// Adds a jump to a place where the value is past the limit. It ends at a place.
+fn put_limit_compared(code: &mut Assembly, end: usize, to: u64) -> Result<(), NoMemory>
+    ensures { OnOk result (Adds code.old (limit_compared end to) code.new) }
+{
+    code.put_all(&[
+        Coded::Whole(with_number(7, 0)),
+        Coded::Whole(Instr::Pop(AX)),
+        Coded::Whole(jump_if_equal(11)),
+        Coded::Whole(one_of(CX, DX)),
+        Coded::Whole(one_of(BX, DX)),
+        Coded::Whole(compare(CX, BX)),
+        Coded::Whole(jump_if_at_most(3)),
+        Coded::Whole(Instr::Jump(distance(end, to))),
+    ])
+}
+
+/// Adds a jump to a place where the control variable of a loop is past its limit.
+pub(crate) fn put_past_limit(code: &mut Assembly, to: u64) -> Result<(), NoMemory>
+    ensures { OnOk result (Adds code.old (past_limit (length code.old.bytes + 29) to) code.new) }
+{
+    let end = code.bytes.as_slice().len() + 29;
+    put_step_loaded(code)?;
+    put_limit_compared(code, end, to)
+}
+
+/// Adds what makes the base record the one at work, without operands, for this segment, and a jump to a place.
+pub(crate) fn put_base_jump(code: &mut Assembly, to: u64) -> Result<(), NoMemory>
+    ensures { OnOk result (Adds code.old (base_jump (length code.old.bytes) to) code.new) }
+{
+    let end = code.bytes.as_slice().len() + 15;
+    code.put_all(&[
+        Coded::Whole(set_word(BP, BASE_RECORD)),
+        Coded::Whole(set_word(SP, BASE_OPERANDS)),
+        Coded::Move {
+            reg: AX,
+            target: Target::Limit(Limit::Segment),
+        },
+        Coded::Whole(store(SEGMENT, AX)),
+        Coded::Whole(Instr::Jump(distance(end, to))),
+    ])
+}
+
+/// Adds a jump to a label parameter.
+pub(crate) fn put_go_special(code: &mut Assembly, words: u8) -> Result<(), NoMemory>
+    ensures { OnOk result (Adds code.old (template no_names 0 (order.GoSpecial words)) code.new) }
+{
+    code.put_all(&[
+        Coded::Whole(load(BX, argument(u16::from(words)))),
+        Coded::Whole(load(BP, argument(u16::from(words) + 1))),
+        Coded::Whole(copy(SP, BP)),
+        Coded::Whole(set_word(AX, RECORD_DEPTH)),
+        Coded::Whole(subtract(SP, AX)),
+        Coded::Whole(jump_to(BX)),
+    ])
+}
+
+/// Adds the way to the routine of a switch of this segment.
+pub(crate) fn put_go_switch(code: &mut Assembly, to: u64) -> Result<(), NoMemory>
+    ensures { OnOk result (Adds code.old (switch_near (length code.old.bytes) to) code.new) }
+{
+    let end = code.bytes.as_slice().len() + 5;
+    code.put_all(&[
+        Coded::Whole(copy(DI, BP)),
+        Coded::Whole(Instr::Jump(distance(end, to))),
+    ])
+}
+
+/// Adds the way to the switch of a descriptor.
+pub(crate) fn put_go_switch_common(code: &mut Assembly, descriptor: u16) -> Result<(), NoMemory>
+    ensures { OnOk result (Adds code.old (template no_names 0 (order.GoSwitchCommon descriptor)) code.new) }
+{
+    code.put_all(&[
+        Coded::Whole(copy(DI, BP)),
+        Coded::Jump(Target::DefinitionAhead(descriptor)),
+    ])
+}
+
+/// Adds the way to a switch parameter.
+pub(crate) fn put_go_switch_special(code: &mut Assembly, words: u8) -> Result<(), NoMemory>
+    ensures { OnOk result (Adds code.old (template no_names 0 (order.GoSwitchSpecial words)) code.new) }
+{
+    code.put_all(&[
+        Coded::Whole(load(DI, argument(u16::from(words) + 1))),
+        Coded::Whole(load(BX, argument(u16::from(words)))),
+        Coded::Whole(jump_to(BX)),
+    ])
+}
+
+/// Adds the landing of a label.
+pub(crate) fn put_landing(
+    code: &mut Assembly,
+    label: &LabelMark,
+    names: &Names,
+) -> Result<(), NoMemory>
+    ensures { OnOk result (Adds code.old (landing_pieces names.now (length code.old.bytes) label.now) code.new) }
+{
+    put_base_jump(code, u64::from(names.mark(label.mark)))
+}
+
+/// Adds the comparison of a number in AX, counted from 1, which BX then has counted from 0.
+fn put_number_compared(code: &mut Assembly, number: u16) -> Result<(), NoMemory>
+    ensures { OnOk result (Adds code.old (number_compared number) code.new) }
+{
+    code.put_all(&[
+        Coded::Whole(with_number(5, 1)),
+        Coded::Whole(copy(BX, AX)),
+        Coded::Whole(with_number(7, number)),
+    ])
+}
+
+/// Adds a table of the places of marks.
+fn put_mark_words(code: &mut Assembly, marks: &[u32], names: &Names) -> Result<(), NoMemory>
+    ensures { OnOk result (Adds code.old (mark_words names.now marks.now) code.new) }
+{
+    for mark in marks {
+        code.put(&Coded::Word(own(u64::from(names.mark(*mark)))))?;
+    }
+    Ok(())
+}
+
+/// Adds a table of the places of labels.
+fn put_goal_words(code: &mut Assembly, goals: &[Goal], names: &Names) -> Result<(), NoMemory>
+    ensures { OnOk result (Adds code.old (goal_words names.now goals.now) code.new) }
+{
+    for goal in goals {
+        match *goal {
+            Goal::Own(label) => code.put(&Coded::Word(own(names.label(label))))?,
+            Goal::Common(descriptor) => code.put(&Coded::Word(Target::Definition(descriptor)))?,
+        }
+    }
+    Ok(())
+}
+
+/// Adds the routine of a switch.
+pub(crate) fn put_switch(code: &mut Assembly, goals: &[Goal], names: &Names) -> Result<(), NoMemory>
+    ensures { OnOk result (Adds code.old (switch_pieces names.now (length code.old.bytes) goals.now) code.new) }
+{
+    let place = code.bytes.as_slice().len() as u64;
+    match u16::try_from(goals.len()) {
+        Ok(number) => put_number_compared(code, number)?,
+        Err(_) => return Err(NoMemory),
+    }
+    code.put_all(&[
+        Coded::Whole(jump_if_below(3)),
+        Coded::Call(Target::LibraryAhead(SWITCH)),
+        Coded::Whole(double(BX)),
+        Coded::Whole(copy(BP, DI)),
+        Coded::Whole(copy(SP, BP)),
+        Coded::Whole(set_word(AX, RECORD_DEPTH)),
+        Coded::Whole(subtract(SP, AX)),
+        Coded::Way(own(place + 29)),
+    ])?;
+    put_goal_words(code, goals, names)
+}
+
+/// Adds the way of a loop.
+pub(crate) fn put_loop_way(
+    code: &mut Assembly,
+    marks: &[u32],
+    names: &Names,
+) -> Result<(), NoMemory>
+    ensures { OnOk result (Adds code.old (loop_way names.now (length code.old.bytes) marks.now) code.new) }
+{
+    let place = code.bytes.as_slice().len() as u64;
+    let end = code.bytes.as_slice().len() + 14;
+    match u16::try_from(marks.len()) {
+        Ok(number) => put_number_compared(code, number)?,
+        Err(_) => return Err(NoMemory),
+    }
+    let past = place + 21 + 2 * marks.len() as u64;
+    code.put_all(&[
+        Coded::Whole(Instr::Pop(AX)),
+        Coded::Whole(jump_if_below(3)),
+        Coded::Whole(Instr::Jump(distance(end, past))),
+        Coded::Whole(double(BX)),
+        Coded::Way(own(place + 21)),
+    ])?;
+    put_mark_words(code, marks, names)
+}

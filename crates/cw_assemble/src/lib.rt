@@ -1,0 +1,15 @@
+//! The assembler: from the orders of a unit to the code of its segment.
+#![tactic(auto)]
+
+mod arithmetic;
+mod assembling;
+mod calling;
+mod indexes;
+mod jumping;
+mod orders;
+mod parts;
+mod places;
+mod sizes;
+mod words;
+
+pub use assembling::assemble;

@@ -1,0 +1,292 @@
+//! Code of orders and of their blocks.
+ghost use Rattle.std.specs.Prelude.{◌≡◌, ◌+◌, ◌<◌, ◌++◌, ◌∷◌, [], length, OnOk};
+ghost use Rattle.cw_order.specs.HasCode.{HasCode};
+ghost use Rattle.cw_order.specs.declared.order.Order.TheVariants as order;
+ghost use Rattle.cw_tmpl.specs.Assembling.{Adds};
+ghost use Rattle.cw_tmpl.specs.Names.{no_names};
+ghost use Rattle.cw_tmpl.specs.Pieces.{size_of, IsCoded};
+ghost use Rattle.cw_tmpl.specs.Templates.{template, operation, operated, block_pieces};
+
+use crate::arithmetic::{
+    put_checked, put_less, put_on_both, put_product, put_quotient, put_rescale, put_times,
+    put_with_word,
+};
+use crate::calling::{
+    put_bind, put_bind_frame, put_call, put_call_common, put_call_special, put_control, put_enter,
+    put_frame_home, put_read_byte, put_return, put_special_out,
+};
+use crate::indexes::{put_in_area, put_in_bounds, put_index_add, put_index_row};
+use crate::jumping::{
+    distance, opposite, put_base_jump, put_go_special, put_go_switch, put_go_switch_common,
+    put_go_switch_special, put_jump, put_jump_if, put_loop_way, put_past_limit,
+};
+use crate::parts::{put_load_part, put_store_part, put_take};
+use cw_i86::{Imm, Instr};
+use cw_order::Order;
+use cw_tmpl::instructions::{
+    AT_BX, AX, BX, LINE, add, both, copy, double, either, jump_to, load, negate, one_of, set_word,
+    store, subtract, with_number,
+};
+use cw_tmpl::library::ADDRESS;
+use cw_tmpl::{Assembly, Block, Coded, Names, Simple, Target, Use, own};
+use cw_word::NoMemory;
+
+fn put_const(code: &mut Assembly, word: u16) -> Result<(), NoMemory>
+    ensures { OnOk result (Adds code.old (template no_names 0 (order.Const word)) code.new) }
+{
+    code.put_all(&[
+        Coded::Whole(Instr::Push(AX)),
+        Coded::Whole(set_word(AX, word)),
+    ])
+}
+
+fn put_home(code: &mut Assembly, family: u16, offset: u16) -> Result<(), NoMemory>
+    ensures { OnOk result (Adds code.old (template no_names 0 (order.Home family offset)) code.new) }
+{
+    code.put_all(&[
+        Coded::Whole(Instr::Push(AX)),
+        Coded::Move {
+            reg: AX,
+            target: Target::Word { family, offset },
+        },
+    ])
+}
+
+fn put_load(code: &mut Assembly) -> Result<(), NoMemory>
+    ensures { OnOk result (Adds code.old (template no_names 0 order.Load) code.new) }
+{
+    code.put_all(&[
+        Coded::Whole(copy(BX, AX)),
+        Coded::Whole(double(BX)),
+        Coded::Whole(load(AX, AT_BX)),
+    ])
+}
+
+fn put_store(code: &mut Assembly) -> Result<(), NoMemory>
+    ensures { OnOk result (Adds code.old (template no_names 0 order.Store) code.new) }
+{
+    code.put_all(&[
+        Coded::Whole(copy(BX, AX)),
+        Coded::Whole(double(BX)),
+        Coded::Whole(Instr::Pop(AX)),
+        Coded::Whole(store(AT_BX, AX)),
+        Coded::Whole(Instr::Pop(AX)),
+    ])
+}
+
+fn put_add(code: &mut Assembly) -> Result<(), NoMemory>
+    ensures { OnOk result (Adds code.old (template no_names 0 order.Add) code.new) }
+{
+    code.put_all(&[Coded::Whole(Instr::Pop(BX)), Coded::Whole(add(AX, BX))])?;
+    put_checked(code)
+}
+
+fn put_sub(code: &mut Assembly) -> Result<(), NoMemory>
+    ensures { OnOk result (Adds code.old (template no_names 0 order.Sub) code.new) }
+{
+    code.put_all(&[
+        Coded::Whole(copy(BX, AX)),
+        Coded::Whole(Instr::Pop(AX)),
+        Coded::Whole(subtract(AX, BX)),
+    ])?;
+    put_checked(code)
+}
+
+fn put_neg(code: &mut Assembly) -> Result<(), NoMemory>
+    ensures { OnOk result (Adds code.old (template no_names 0 order.Neg) code.new) }
+{
+    code.put_all(&[Coded::Whole(negate(AX))])?;
+    put_checked(code)
+}
+
+fn put_write_byte(code: &mut Assembly) -> Result<(), NoMemory>
+    ensures { OnOk result (Adds code.old (template no_names 0 order.WriteByte) code.new) }
+{
+    code.put_all(&[Coded::Whole(Instr::Out(0x12)), Coded::Whole(Instr::Pop(AX))])
+}
+
+fn put_line(code: &mut Assembly, line: u16) -> Result<(), NoMemory>
+    ensures { OnOk result (Adds code.old (template no_names 0 (order.Line line)) code.new) }
+{
+    code.put_all(&[Coded::Whole(Instr::MovRm {
+        rm: LINE,
+        imm: Imm::Word(line),
+    })])
+}
+
+fn put_next_body(code: &mut Assembly) -> Result<(), NoMemory>
+    ensures { OnOk result (Adds code.old (template no_names 0 order.NextBody) code.new) }
+{
+    code.put_all(&[
+        Coded::Move {
+            reg: AX,
+            target: Target::NextSegment,
+        },
+        Coded::Whole(jump_to(AX)),
+    ])
+}
+
+fn put_go_common(code: &mut Assembly, descriptor: u16) -> Result<(), NoMemory>
+    ensures { OnOk result (Adds code.old (template no_names 0 (order.GoCommon descriptor)) code.new) }
+{
+    code.put_all(&[Coded::Jump(Target::DefinitionAhead(descriptor))])
+}
+
+/// Adds the code of an order alone.
+fn put_order(code: &mut Assembly, order: &Order, names: &Names) -> Result<(), NoMemory>
+    requires { HasCode order.now }
+    ensures { OnOk result (Adds code.old (template names.now (length code.old.bytes) order.now) code.new) }
+{
+    match order {
+        Order::Const(word) => put_const(code, *word),
+        Order::Home { family, offset } => put_home(code, *family, *offset),
+        Order::FrameHome(offset) => put_frame_home(code, *offset),
+        Order::Load => put_load(code),
+        Order::Store => put_store(code),
+        Order::LoadPart { t, b, signed } => put_load_part(code, *t, *b, *signed),
+        Order::StorePart { t, b } => put_store_part(code, *t, *b),
+        Order::Rescale { from, to } => put_rescale(code, *from, *to),
+        Order::Add => put_add(code),
+        Order::Sub => put_sub(code),
+        Order::Neg => put_neg(code),
+        Order::Mul(scale) => put_product(code, *scale),
+        Order::Div(scale) => put_quotient(code, *scale),
+        Order::And => put_on_both(code, both(AX, BX)),
+        Order::Or => put_on_both(code, either(AX, BX)),
+        Order::Xor => put_on_both(code, one_of(AX, BX)),
+        Order::Take { t, b } => put_take(code, *t, *b),
+        Order::IndexLess(lower) => {
+            put_with_word(code, ADDRESS, lower.cast_unsigned(), subtract(AX, BX))
+        }
+        Order::IndexTimes(number) => put_times(code, ADDRESS, *number),
+        Order::IndexPlus(number) => put_with_word(code, ADDRESS, *number, add(AX, BX)),
+        Order::IndexAdd => put_index_add(code),
+        Order::IndexRow { lower, length } => put_index_row(code, *lower, *length),
+        Order::InArea => put_in_area(code),
+        Order::InBounds { lower, upper } => put_in_bounds(code, *lower, *upper),
+        Order::Less => put_less(code),
+        Order::Drop => code.put_all(&[Coded::Whole(Instr::Pop(AX))]),
+        Order::Jump(mark) => put_jump(code, u64::from(names.mark(*mark))),
+        Order::JumpIf { comparator, mark } => {
+            put_jump_if(code, *comparator, u64::from(names.mark(*mark)))
+        }
+        Order::Exhausted(mark) => put_past_limit(code, u64::from(names.mark(*mark))),
+        Order::LoopWay(marks) => put_loop_way(code, marks.as_slice(), names),
+        Order::LabelOut(label) => put_control(code, own(names.label(*label))),
+        Order::SwitchOut(switch) => put_control(code, own(u64::from(names.switch(*switch)))),
+        Order::ProcOut(procedure) => {
+            put_control(code, own(u64::from(names.procedure(*procedure))))
+        }
+        Order::LabelCommon(descriptor)
+        | Order::SwitchCommon(descriptor)
+        | Order::ProcCommon(descriptor) => put_control(code, Target::Definition(*descriptor)),
+        Order::SpecialOut(words) => put_special_out(code, *words),
+        Order::GoSpecial(words) => put_go_special(code, *words),
+        Order::GoSwitch(switch) => put_go_switch(code, u64::from(names.switch(*switch))),
+        Order::GoSwitchCommon(descriptor) => put_go_switch_common(code, *descriptor),
+        Order::GoSwitchSpecial(words) => put_go_switch_special(code, *words),
+        Order::GoMain(mark) => put_base_jump(code, u64::from(names.mark(*mark))),
+        Order::GoCommon(descriptor) => put_go_common(code, *descriptor),
+        Order::CallProc(procedure) => put_call(code, u64::from(names.procedure(*procedure))),
+        Order::CallCommon(descriptor) => put_call_common(code, *descriptor),
+        Order::CallSpecial(words) => put_call_special(code, *words),
+        Order::Enter(size) => put_enter(code, *size),
+        Order::Bind {
+            argument,
+            family,
+            offset,
+        } => put_bind(code, *argument, *family, *offset),
+        Order::BindFrame { argument, offset } => put_bind_frame(code, *argument, *offset),
+        Order::Return { arguments, answers } => put_return(code, *arguments, *answers),
+        Order::ReadByte => put_read_byte(code),
+        Order::WriteByte => put_write_byte(code),
+        Order::Line(line) => put_line(code, *line),
+        Order::NextBody => put_next_body(code),
+        Order::Mark | Order::Start(_) => Ok(()),
+    }
+}
+
+/// Adds the code of a simple operand and an order that uses it.
+fn put_operated(
+    code: &mut Assembly,
+    operand: Simple,
+    with: Use,
+    names: &Names,
+) -> Result<(), NoMemory>
+    ensures { OnOk result (Adds code.old (operated names.now (length code.old.bytes) operand with) code.new) }
+{
+    match with {
+        Use::Add => {
+            code.put_all(&[operation(0, operand)])?;
+            put_checked(code)
+        }
+        Use::Subtract => {
+            code.put_all(&[operation(5, operand)])?;
+            put_checked(code)
+        }
+        Use::Compare { comparator, mark } => {
+            let end = code.bytes.as_slice().len() + operation_size(operand) + 6;
+            let to = u64::from(names.mark(mark));
+            code.put_all(&[
+                operation(7, operand),
+                Coded::Whole(Instr::Pop(AX)),
+                Coded::Whole(Instr::JumpIf {
+                    cond: opposite(comparator),
+                    by: 3,
+                }),
+                Coded::Whole(Instr::Jump(distance(end, to))),
+            ])
+        }
+    }
+}
+
+/// Adds the code of a block that begins with an order.
+pub(crate) fn put_block(
+    code: &mut Assembly,
+    block: Block,
+    order: &Order,
+    names: &Names,
+) -> Result<(), NoMemory>
+    requires { HasCode order.now }
+    ensures { OnOk result (Adds code.old (block_pieces names.now (length code.old.bytes) block order.now) code.new) }
+{
+    match block {
+        Block::Within(_) => code.put_all(&[]),
+        Block::Single => put_order(code, order, names),
+        Block::Fetch { family, offset } => code.put_all(&[
+            Coded::Whole(Instr::Push(AX)),
+            Coded::Load(Target::Bytes { family, offset }),
+        ]),
+        Block::Assign { family, offset } => code.put_all(&[
+            Coded::Store(Target::Bytes { family, offset }),
+            Coded::Whole(Instr::Pop(AX)),
+        ]),
+        Block::Operate { operand, with } => put_operated(code, operand, with, names),
+    }
+}
+
+/// An operation of the arithmetic unit on AX and a simple operand.
+fn operation(number: u8, operand: Simple) -> Coded
+    requires { number < 8 }
+    ensures value { result ≡ operation number operand }
+    ensures coded { IsCoded result }
+{
+    match operand {
+        Simple::Number(word) => Coded::Whole(with_number(number, word)),
+        Simple::Variable { family, offset } => Coded::Operate {
+            operation: number,
+            reg: AX,
+            target: Target::Bytes { family, offset },
+        },
+    }
+}
+
+/// Its size.
+fn operation_size(operand: Simple) -> usize
+    ensures { result ≡ size_of (operation 7 operand) }
+{
+    match operand {
+        Simple::Number(_) => 3,
+        Simple::Variable { .. } => 4,
+    }
+}

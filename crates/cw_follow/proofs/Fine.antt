@@ -1,0 +1,512 @@
+-- The pieces of each template are instructions with the numbers of their rows, and stand where their bytes do.
+use Rattle.std.proofs.Common.{◌≡◌, ◌≢◌, ℕ, zero, suc, ◌+◌, ◌-◌, ◌/◌, ◌%◌, ◌<◌, ◌≤◌, List, [], ◌∷◌, ◌++◌, length, drop, get_or, sym, ap, ◌∙◌, subst, arith, lit<, append_assoc, length-append, Option, Some, None, Bool, true, false, ℤ, pos, negsuc, ◌*◌, ◌^◌, pow_mono}
+use Rattle.std.specs.Prelude.{slice_get, slice_index, slice_index_or, nat_lt, nat_le, ◌==◌}
+use Rattle.std.proofs.lemmas.List.{get_or_append_left, get_or-append-add}
+use Rattle.cw_i86.specs.Encoding.{bytes_of, word, IsInstr}
+use Rattle.cw_unit.specs.declared.unit.Goal.{Goal}
+use Rattle.cw_unit.specs.declared.unit.Goal.TheVariants as goal
+use Rattle.cw_unit.specs.declared.unit.Def.{Def}
+use Rattle.cw_unit.specs.declared.unit.Def.TheVariants as def
+use Rattle.cw_i86.specs.declared.instr.Instr.{Instr}
+use Rattle.cw_run86.specs.Views.{Has, with_memory, condition_of}
+use Rattle.cw_order.specs.declared.order.Comparator.{Comparator}
+use Rattle.cw_order.specs.declared.order.Comparator.TheVariants as comparator
+use Rattle.cw_order.specs.declared.order.Order.{Order}
+use Rattle.cw_order.specs.declared.order.Order.TheVariants as order
+use Rattle.cw_order.specs.OrderProgram.{OrderProgram, defined_at}
+use Rattle.cw_tmpl.specs.declared.pieces.Limit.TheVariants as limit
+use Rattle.cw_tmpl.specs.declared.pieces.Target.{Target}
+use Rattle.cw_tmpl.specs.declared.pieces.Target.TheVariants as target
+use Rattle.cw_tmpl.specs.declared.pieces.Coded.{Coded}
+use Rattle.cw_tmpl.specs.declared.pieces.Coded.TheVariants as coded
+use Rattle.cw_tmpl.specs.Pieces.{Filling, bytes_with, size_of, target_of, relocation_of, word_of, word_before, filled}
+use Rattle.cw_tmpl.specs.Mnemonics.{entry_of_table, argument, double, jump_to, jump_if_below, at_bx, load, store, set_word, subtract, bytes_of_all, both, either, one_of, move, add}
+use Rattle.cw_tmpl.specs.Library.{routines, entry_place, bounds_entry, overflow_entry, address_entry, switch_entry, enter_entry, product_entry, quotient_up_entry, quotient_down_entry}
+use Rattle.cw_tmpl.specs.Names.{Names, mark_place, label_start, switch_start, procedure_start}
+use Rattle.cw_tmpl.specs.Templates.{template, call_library, jump_near, base_jump, control_out, record_dropped, return_with, operands_dropped, step_loaded, limit_compared, number_compared, mark_words, goal_words, loop_way, switch_pieces, checked, product_start, branch, operation, operated, block_pieces, distance, opposite_of, entry_pieces, unless_overflow, with_word, times_if, times, taken, taken_signed, load_top, row_start, row_end, on_both, rescale_if, by_routine, product_down, product, quotient, store_part, index_row}
+use Rattle.cw_tmpl.specs.declared.blocks.Simple.{Simple}
+use Rattle.cw_tmpl.specs.declared.blocks.Simple.TheVariants as simple
+use Rattle.cw_tmpl.specs.declared.blocks.Use.{Use}
+use Rattle.cw_tmpl.specs.declared.blocks.Use.TheVariants as uses
+use Rattle.cw_tmpl.specs.declared.blocks.Block.{Block}
+use Rattle.cw_tmpl.specs.declared.blocks.Block.TheVariants as block
+use Rattle.cw_tmpl.specs.Blocks.{use_of, with_number, with_variable, after_home, block_at}
+use Rattle.cw_tmpl.specs.ReferenceCode.{names_of}
+use Rattle.cw_follow.specs.Placing.{Fills, base_of, definition_place}
+use Rattle.cw_follow.proofs.Stacks.{start_small}
+use Rattle.cw_tmpl.proofs.Growing.{mask_small}
+use Rattle.cw_tmpl.proofs.Filling.{size_with}
+use Rattle.cw_follow.proofs.Standing.{HasAll, HasWord, HasPiece, HasPieces}
+use Rattle.cw_i86.specs.declared.instr.Instr.TheVariants as i86
+use Rattle.cw_i86.specs.declared.instr.Imm.TheVariants as imm
+use Rattle.cw_word.specs.FixedPoint.{FitsWord}
+use Rattle.cw_word.specs.Word.{unsigned}
+use Rattle.cw_word.specs.BitField.{field_mask}
+use Rattle.cw_order.specs.HasCode.{HasCode}
+
+-- ---- instructions one after another
+
+-- Each has the numbers of its row.
+abbrev pub AllInstr : List Instr → Type 0
+AllInstr [] = Unit {0}
+AllInstr (i ∷ is) = IsInstr i × AllInstr is
+
+pub all_instr-append : (is js : List Instr) → AllInstr is → AllInstr js → AllInstr (is ++ js)
+all_instr-append [] js a b = b
+all_instr-append (i ∷ is) js a b = (a.0, all_instr-append is js a.1 b)
+
+byte_there : (before bytes behind : List ℕ) (k : ℕ) → k < length bytes → get_or (before ++ (bytes ++ behind)) (length before + k) 0 ≡ get_or bytes k 0
+byte_there before bytes behind k lt = get_or-append-add before (bytes ++ behind) k 0 ∙ get_or_append_left bytes behind 0 k lt
+
+one_there : (image before behind : List ℕ) (place : ℕ) (i : Instr) → IsInstr i → place ≡ length before → image ≡ before ++ (bytes_of i ++ behind) → Has image place i
+one_there image before behind place i instr at e = record {
+  is_instr = instr;
+  within = omega (arith, ap length e, length-append before (bytes_of i ++ behind), length-append (bytes_of i) behind);
+  bytes = λ k lt. ap (λ l. get_or l (place + k) 0) e ∙ ap (λ n. get_or (before ++ (bytes_of i ++ behind)) (n + k) 0) at ∙ byte_there before (bytes_of i) behind k lt;
+}
+
+-- Where their bytes stand, the instructions do.
+pub all_there : (image before behind : List ℕ) (place : ℕ) (is : List Instr) → AllInstr is → place ≡ length before → image ≡ before ++ (bytes_of_all is ++ behind) → HasAll image place is
+all_there image before behind place [] instrs at e = tt
+all_there image before behind place (i ∷ is) instrs at e =
+    let B = bytes_of i in
+    let R = bytes_of_all is in
+    let flat : image ≡ before ++ (B ++ (R ++ behind)) = e ∙ ap (λ l. before ++ l) (append_assoc B R behind) in
+    let further : place + length B ≡ length (before ++ B) = omega (arith, length-append before B) in (
+      one_there image before (R ++ behind) place i instrs.0 at flat,
+      all_there image (before ++ B) behind (place + length B) is instrs.1 further (flat ∙ sym (append_assoc before B (R ++ behind))),
+    )
+
+-- ---- pieces with their words filled in
+
+-- What is filled in for this target is a word.
+abbrev pub IsFilled : Filling → Target → Type 0
+IsFilled value t = (after : ℕ) → word_of value after (relocation_of 0 t) < 65536
+
+-- The piece is an instruction with the numbers of its row.
+abbrev pub IsFine : Filling → Coded → Type 0
+IsFine value (coded.Whole i) = IsInstr i
+IsFine value (coded.Move reg t) = (reg < 8) × IsFilled value t
+IsFine value (coded.Load t) = IsFilled value t
+IsFine value (coded.Store t) = IsFilled value t
+IsFine value (coded.Operate op reg t) = (op < 8) × (reg < 8) × IsFilled value t
+IsFine value (coded.Call t) = IsFilled value t
+IsFine value (coded.Jump t) = IsFilled value t
+IsFine value (coded.Word t) = IsFilled value t
+IsFine value (coded.Way t) = IsFilled value t
+
+abbrev pub AllFine : Filling → List Coded → Type 0
+AllFine value [] = Unit {0}
+AllFine value (p ∷ ps) = IsFine value p × AllFine value ps
+
+pub all_fine-append : (value : Filling) (ps qs : List Coded) → AllFine value ps → AllFine value qs → AllFine value (ps ++ qs)
+all_fine-append value [] qs a b = b
+all_fine-append value (p ∷ ps) qs a b = (a.0, all_fine-append value ps qs a.1 b)
+
+word_there : (image before behind : List ℕ) (place w : ℕ) → w < 65536 → place ≡ length before → image ≡ before ++ (word w ++ behind) → HasWord image place w
+word_there image before behind place w lt at e =
+    let low : get_or image place 0 ≡ w % 256 = ap (λ l. get_or l place 0) e ∙ ap (λ n. get_or (before ++ (word w ++ behind)) n 0) (let f : place ≡ length before + 0 = omega arith in f) ∙ byte_there before (word w) behind 0 (lit< tt) in
+    let high : get_or image (place + 1) 0 ≡ w / 256 % 256 = ap (λ l. get_or l (place + 1) 0) e ∙ ap (λ n. get_or (before ++ (word w ++ behind)) (n + 1) 0) at ∙ byte_there before (word w) behind 1 (lit< tt) in
+    record { within = omega (arith, ap length e, length-append before (word w ++ behind)); is = omega arith }
+
+one_piece : (image before behind : List ℕ) (value : Filling) (place : ℕ) (p : Coded) → IsFine value p → place ≡ length before
+    → image ≡ before ++ (bytes_with (word_before value (place + size_of p) (target_of p)) p ++ behind) → HasPiece image (word_before value (place + size_of p) (target_of p)) place p
+one_piece image before behind value place (coded.Whole i) fine at e = one_there image before behind place i fine at e
+one_piece image before behind value place (coded.Move reg t) fine at e = one_there image before behind place (i86.MovImm reg (imm.Word (word_of value (place + 3) (relocation_of 0 t)))) (fine.0, fine.1 (place + 3)) at e
+one_piece image before behind value place (coded.Load t) fine at e = one_there image before behind place (i86.MovAcc false true false (word_of value (place + 3) (relocation_of 0 t))) (fine (place + 3)) at e
+one_piece image before behind value place (coded.Store t) fine at e = one_there image before behind place (i86.MovAcc false true true (word_of value (place + 3) (relocation_of 0 t))) (fine (place + 3)) at e
+one_piece image before behind value place (coded.Operate op reg t) fine at e = one_there image before behind place (with_memory op reg (word_of value (place + 4) (relocation_of 0 t))) (fine.0, fine.1, fine.2 (place + 4)) at e
+one_piece image before behind value place (coded.Call t) fine at e = one_there image before behind place (i86.Call (word_of value (place + 3) (relocation_of 0 t))) (fine (place + 3)) at e
+one_piece image before behind value place (coded.Jump t) fine at e = one_there image before behind place (i86.Jump (word_of value (place + 3) (relocation_of 0 t))) (fine (place + 3)) at e
+one_piece image before behind value place (coded.Word t) fine at e = word_there image before behind place (word_of value (place + 2) (relocation_of 0 t)) (fine (place + 2)) at e
+one_piece image before behind value place (coded.Way t) fine at e = one_there image before behind place (i86.JumpRm (entry_of_table (word_of value (place + 5) (relocation_of 0 t)))) (lit< tt, fine (place + 5)) at e
+
+-- Where the code of pieces stands, they do.
+pub pieces_there : (image before behind : List ℕ) (place : ℕ) (value : Filling) (ps : List Coded) → AllFine value ps → place ≡ length before
+    → image ≡ before ++ (filled value place ps ++ behind) → HasPieces image value place ps
+pieces_there image before behind place value [] fine at e = tt
+pieces_there image before behind place value (p ∷ ps) fine at e =
+    let B = bytes_with (word_before value (place + size_of p) (target_of p)) p in
+    let F = filled value (place + size_of p) ps in
+    let flat : image ≡ before ++ (B ++ (F ++ behind)) = e ∙ ap (λ l. before ++ l) (append_assoc B F behind) in
+    let further : place + size_of p ≡ length (before ++ B) = omega (arith, length-append before B, size_with (word_before value (place + size_of p) (target_of p)) p) in (
+      one_piece image before (F ++ behind) value place p fine.0 at flat,
+      pieces_there image (before ++ B) behind (place + size_of p) value ps fine.1 further (flat ∙ sym (append_assoc before B (F ++ behind))),
+    )
+
+-- ---- the templates and the entry
+
+-- the numbers in an order that its code has
+abbrev pub NumberFits : Order → Type 0
+NumberFits (order.Const w) = w < 65536
+NumberFits (order.Line n) = n < 65536
+NumberFits _ = Unit {0}
+
+abbrev pub OrderFits : Order → Type 0
+OrderFits o = NumberFits o × HasCode o
+
+-- and those in a block
+abbrev pub SimpleFits : Simple → Type 0
+SimpleFits (simple.Number w) = w < 65536
+SimpleFits (simple.Variable f n) = Unit {0}
+
+abbrev pub BlockFits : Block → Order → Type 0
+BlockFits (block.Within n) o = Unit {0}
+BlockFits block.Single o = OrderFits o
+BlockFits (block.Fetch f n) o = Unit {0}
+BlockFits (block.Assign f n) o = Unit {0}
+BlockFits (block.Operate s u) o = SimpleFits s
+
+number_fits : (w : ℕ) (u : Option Use) → w < 65536 → BlockFits (with_number w u) (order.Const w)
+number_fits w None fits = (fits, tt)
+number_fits w (Some u) fits = fits
+
+variable_fits : (f n : ℕ) (u : Option Use) → BlockFits (with_variable f n u) (order.Home f n)
+variable_fits f n None = tt
+variable_fits f n (Some u) = tt
+
+home_fits : (f n : ℕ) (second third : Option Order) → BlockFits (after_home f n second third) (order.Home f n)
+home_fits f n (Some order.Load) third = variable_fits f n (use_of third)
+home_fits f n (Some order.Store) third = tt
+home_fits f n _ third = (tt, tt)
+
+fits_first : (o : Order) (os : List Order) → OrderFits o → BlockFits (block_at 0 (o ∷ os)) o
+fits_first (order.Const w) os fits = number_fits w (use_of (slice_get os 0)) fits.0
+fits_first (order.Home f n) os fits = home_fits f n (slice_get os 0) (slice_get os 1)
+fits_first o os fits = fits
+
+fits_front : (left : ℕ) (o : Order) (os : List Order) → OrderFits o → BlockFits (block_at left (o ∷ os)) o
+fits_front zero o os fits = fits_first o os fits
+fits_front (suc n) o os fits = tt
+
+pub fits_at : (left : ℕ) (list : List Order) (k : ℕ) (o : Order) → slice_get list k ≡ Some o → OrderFits o → BlockFits (block_at left (drop k list)) o
+fits_at left [] k o e fits = absurd (cc)
+fits_at left (x ∷ xs) zero o e fits =
+    let same : x ≡ o = cc in
+    subst (λ y. OrderFits y → BlockFits (block_at left (x ∷ xs)) y) same (fits_front left x xs) fits
+fits_at left (x ∷ xs) (suc k) o e fits = fits_at left xs k o e fits
+
+pub is_ax : 0 < 8
+is_ax = lit< tt
+
+pub cx_register : 1 < 8
+cx_register = lit< tt
+
+pub dx_register : 2 < 8
+dx_register = lit< tt
+
+pub is_bx : 3 < 8
+is_bx = lit< tt
+
+-- a register that is pushed and popped
+abbrev pub IsFree : ℕ → Type 0
+IsFree r = (r < 8) × (r ≢ 4)
+
+pub ax_free : IsFree 0
+ax_free = (is_ax, λ e. omega arith)
+
+pub bx_free : IsFree 3
+bx_free = (is_bx, λ e. omega arith)
+
+cx_free : IsFree 1
+cx_free = (cx_register, λ e. omega arith)
+
+bp_free : IsFree 5
+bp_free = (lit< tt, λ e. omega arith)
+
+si_free : IsFree 6
+si_free = (lit< tt, λ e. omega arith)
+
+below : (w n : ℕ) → w ≡ n % 65536 → w < 65536
+below w n e = omega arith
+
+distance_small : (from to : ℕ) → distance from to < 65536
+distance_small from to = omega arith
+
+condition_small : (c : Comparator) → condition_of (opposite_of c) < 16
+condition_small comparator.Less = lit< tt
+condition_small comparator.LessEqual = lit< tt
+condition_small comparator.Equal = lit< tt
+condition_small comparator.GreaterEqual = lit< tt
+condition_small comparator.Greater = lit< tt
+condition_small comparator.Unequal = lit< tt
+
+definition_small : (p : OrderProgram) (d : Option (ℕ × Def)) → definition_place p d < 65536
+definition_small p (Some (g, def.Label l)) = start_small p g (slice_get p.units g) (λ o. label_start (names_of o) l)
+definition_small p (Some (g, def.Switch n)) = start_small p g (slice_get p.units g) (λ o. switch_start (names_of o) n)
+definition_small p (Some (g, def.Proc q)) = start_small p g (slice_get p.units g) (λ o. procedure_start (names_of o) q)
+definition_small p None = lit< tt
+
+module _ (p : OrderProgram) (segment next : ℕ) (value : Filling) (fills : Fills p segment next value) (near : next < 65536) where
+  home_filled : (family offset : ℕ) → IsFilled value (target.Word family offset)
+  home_filled family offset after = below (value 1 family offset after) (slice_index (slice_index_or p.addresses.homes segment []) family + offset) (fills.homes family offset after)
+
+  library_filled : (entry : ℕ) → entry < length routines → IsFilled value (target.LibraryAhead entry)
+  library_filled entry lt after = below (value 7 entry 0 after) (entry_place entry + (65536 - after % 65536)) (fills.library entry after lt)
+
+  next_filled : IsFilled value target.NextSegment
+  next_filled after = omega (arith, fills.next_is after)
+
+  pub entry_fine : AllFine value entry_pieces
+  entry_fine =
+      let area : IsFine value (coded.Move 0 (target.Limit limit.DataWords)) = (is_ax, λ after. below (value 8 0 0 after) p.limits.area (fills.area after)) in
+      let frames : IsFine value (coded.Move 3 (target.Limit limit.FrameWords)) = (is_bx, λ after. below (value 8 1 0 after) p.limits.frames (fills.frames after)) in
+      let depth : IsFine value (coded.Move 1 (target.Limit limit.Calls)) = (lit< tt, λ after. below (value 8 2 0 after) p.limits.depth (fills.depth after)) in
+      let number : IsFine value (coded.Move 2 (target.Limit limit.Segment)) = (lit< tt, λ after. below (value 8 3 0 after) (segment + 1) (fills.number after)) in
+      (area, (frames, (depth, (number, (library_filled 1 (lit< tt), tt)))))
+
+  bytes_filled : (family offset : ℕ) → IsFilled value (target.Bytes family offset)
+  bytes_filled family offset after = let e = fills.bytes family offset after in omega arith
+
+  stop_fine : (stop : ℕ) → stop < length routines → AllFine value (unless_overflow stop)
+  stop_fine stop lt = ((lit< tt, lit< tt), (library_filled stop lt, tt))
+
+  checked_fine : AllFine value checked
+  checked_fine = stop_fine overflow_entry (lit< tt)
+
+  times_fine : (b : Bool) (stop n : ℕ) → stop < length routines → n < 65536 → AllFine value (times_if b stop n)
+  times_fine true stop n lt small = ((lit< tt, lit< tt, is_ax), ((is_bx, small), ((lit< tt, lit< tt, is_bx), stop_fine stop lt)))
+  times_fine false stop n lt small = ((is_bx, small), ((lit< tt, lit< tt, is_bx), stop_fine stop lt))
+
+  routine_fine : (entry count : ℕ) → entry < length routines → count < 65536 → AllFine value (by_routine entry count)
+  routine_fine entry count lt small = ((is_bx, is_ax), (ax_free, ((cx_register, small), (library_filled entry lt, tt))))
+
+  area_filled : IsFilled value (target.Limit limit.DataWords)
+  area_filled after = below (value 8 0 0 after) p.limits.area (fills.area after)
+
+  load_fine : AllFine value load_top
+  load_fine = ((is_bx, is_ax), ((lit< tt, λ e. omega arith, is_bx), ((is_ax, (lit< tt, λ e. omega arith)), tt)))
+
+  both_fine : (i : Instr) → IsInstr i → AllFine value (on_both i)
+  both_fine i instr = (bx_free, (instr, tt))
+
+  word_fine : (stop w : ℕ) (i : Instr) → stop < length routines → w < 65536 → IsInstr i → AllFine value (with_word stop w i)
+  word_fine stop w i lt small instr = ((is_bx, small), (instr, stop_fine stop lt))
+
+  taken_fine : (t b : ℕ) → t + b ≤ 16 → AllFine value (taken t b)
+  taken_fine t b room =
+      let power : 2 ^ t ≤ 2 ^ 16 = pow_mono (let h : t ≤ 16 = omega arith in h) in
+      ((cx_register, omega arith), ((lit< tt, λ e. omega arith, is_ax), ((is_bx, (let x : 2 ^ t - 1 < 65536 = omega arith in x)), ((lit< tt, is_ax, is_bx), tt))))
+
+  taken_signed_fine : (t b : ℕ) → AllFine value (taken_signed t b)
+  taken_signed_fine t b = ((cx_register, (let x : 16 - (t + b) < 65536 = omega arith in x)), ((lit< tt, λ e. omega arith, is_ax), ((cx_register, (let x : 16 - t < 65536 = omega arith in x)), ((lit< tt, λ e. omega arith, is_ax), tt))))
+
+  store_part_fine : (t b : ℕ) → t + b ≤ 16 → AllFine value (store_part t b)
+  store_part_fine t b room =
+      let small = mask_small t b room in
+      let ahead : AllFine value (coded.Whole (either 2 0) ∷ coded.Whole (store at_bx 2) ∷ coded.Whole (i86.Pop 0) ∷ []) = ((lit< tt, dx_register, is_ax), ((dx_register, (lit< tt, λ e. omega arith)), (ax_free, tt))) in
+      let others : AllFine value (coded.Whole (load 2 at_bx) ∷ coded.Whole (set_word 1 (65535 - field_mask t b)) ∷ coded.Whole (both 2 1) ∷ coded.Whole (either 2 0) ∷ coded.Whole (store at_bx 2) ∷ coded.Whole (i86.Pop 0) ∷ []) =
+      ((dx_register, (lit< tt, λ e. omega arith)), ((cx_register, (let x : 65535 - field_mask t b < 65536 = omega arith in x)), ((lit< tt, dx_register, cx_register), ahead))) in
+      let part : AllFine value (coded.Whole (set_word 1 (field_mask t b)) ∷ coded.Whole (both 0 1) ∷ coded.Whole (load 2 at_bx) ∷ coded.Whole (set_word 1 (65535 - field_mask t b)) ∷ coded.Whole (both 2 1) ∷ coded.Whole (either 2 0) ∷ coded.Whole (store at_bx 2) ∷ coded.Whole (i86.Pop 0) ∷ []) =
+      ((cx_register, small), ((lit< tt, is_ax, cx_register), others)) in
+      ((is_bx, is_ax), (ax_free, ((lit< tt, λ e. omega arith, is_bx), ((cx_register, (let x : b < 65536 = omega arith in x)), ((lit< tt, λ e. omega arith, is_ax), part)))))
+
+  power_small : (n k : ℕ) → n ≤ k → k ≤ 15 → 2 ^ n < 65536
+  power_small n k le few = let power : 2 ^ n ≤ 2 ^ 15 = pow_mono (let h : n ≤ 15 = omega arith in h) in omega arith
+
+  rescale_fine : (up top : Bool) (from to : ℕ) → from ≤ 15 → to ≤ 15 → AllFine value (rescale_if up top from to)
+  rescale_fine true top from to lf lt = times_fine top overflow_entry (2 ^ (to - from)) (lit< tt) (power_small (to - from) to (omega arith) lt)
+  rescale_fine false top from to lf lt = ((cx_register, (let x : from - to < 65536 = omega arith in x)), ((lit< tt, λ e. omega arith, is_ax), tt))
+
+  product_start_fine : AllFine value product_start
+  product_start_fine = (bx_free, ((lit< tt, lit< tt, is_bx), stop_fine overflow_entry (lit< tt)))
+
+  product_fine : (s : ℤ) → HasCode (order.Mul s) → AllFine value (product s)
+  product_fine (pos zero) h = product_start_fine
+  product_fine (pos (suc n)) h =
+      all_fine-append value product_start (times overflow_entry (2 ^ suc n)) product_start_fine (times_fine (2 ^ suc n == 32768) overflow_entry (2 ^ suc n) (lit< tt) (power_small (suc n) (suc n) (omega arith) h))
+  product_fine (negsuc n) h = down (nat_lt n 15)
+    where
+      down : (b : Bool) → AllFine value (product_down b n)
+      down true = routine_fine product_entry (n + 1) (lit< tt) (omega arith)
+      down false = (bx_free, ((lit< tt, lit< tt, is_bx), ((is_ax, dx_register), ((cx_register, (let x : n - 15 < 65536 = omega arith in x)), ((lit< tt, λ e. omega arith, is_ax), tt)))))
+
+  quotient_fine : (s : ℤ) → HasCode (order.Div s) → AllFine value (quotient s)
+  quotient_fine (pos n) h = routine_fine quotient_up_entry n (lit< tt) (omega arith)
+  quotient_fine (negsuc n) h = routine_fine quotient_down_entry (n + 1) (lit< tt) (omega arith)
+
+  unsigned_small : (z : ℤ) → FitsWord z → unsigned z < 65536
+  unsigned_small (pos n) h = omega (arith, h.sfits)
+  unsigned_small (negsuc n) h = omega (arith, h.sfits)
+
+  row_start_fine : (lower : ℤ) → FitsWord lower → AllFine value (row_start lower)
+  row_start_fine lower fl = ((cx_register, is_ax), (ax_free, ((is_bx, unsigned_small lower fl), ((lit< tt, is_ax, is_bx), stop_fine address_entry (lit< tt)))))
+
+  row_end_fine : AllFine value row_end
+  row_end_fine = ((lit< tt, is_ax, cx_register), stop_fine address_entry (lit< tt))
+
+  row_fine : (lower : ℤ) (n : ℕ) → FitsWord lower → n ≤ 32768 → AllFine value (index_row lower n)
+  row_fine lower n fl most =
+      all_fine-append value (row_start lower) (times address_entry n ++ row_end) (row_start_fine lower fl)
+      (all_fine-append value (times address_entry n) row_end (times_fine (n == 32768) address_entry n (lit< tt) (omega arith)) row_end_fine)
+
+  branch_fine : (c : Comparator) (end to : ℕ) → AllFine value (branch c end to)
+  branch_fine c end to = (ax_free, ((condition_small c, lit< tt), (distance_small end to, tt)))
+
+  place_filled : (add : ℕ) → IsFilled value (target.Place add)
+  place_filled add after = below (value 3 0 add after) (base_of p segment + add) (fills.places add after)
+
+  definition_filled : (d : ℕ) → IsFilled value (target.Definition d)
+  definition_filled d after =
+      let small = definition_small p (defined_at p segment d) in
+      let e = fills.definitions d after in
+      let lt : value 4 d 0 after < 65536 = omega arith in
+      lt
+
+  ahead_filled : (d : ℕ) → IsFilled value (target.DefinitionAhead d)
+  ahead_filled d after = below (value 5 d 0 after) (definition_place p (defined_at p segment d) + (65536 - after % 65536)) (fills.ahead d after)
+
+  number_filled : IsFilled value (target.Limit limit.Segment)
+  number_filled after = below (value 8 3 0 after) (segment + 1) (fills.number after)
+
+  dropped_fine : AllFine value operands_dropped
+  dropped_fine = ((lit< tt, lit< tt), ((lit< tt, lit< tt), ((lit< tt, lit< tt, lit< tt), tt)))
+
+  pub base_fine : (place to : ℕ) → AllFine value (base_jump place to)
+  base_fine place to = ((lit< tt, lit< tt), ((lit< tt, lit< tt), ((is_ax, number_filled), ((is_ax, (lit< tt, lit< tt)), (distance_small (place + 15) to, tt)))))
+
+  control_fine : (t : Target) → IsFilled value t → AllFine value (control_out t)
+  control_fine t filled = (ax_free, (bp_free, ((is_ax, filled), tt)))
+
+  number_fine : (n : ℕ) → n < 65536 → AllFine value (number_compared n)
+  number_fine n lt = ((lit< tt, lit< tt), ((is_bx, is_ax), ((lit< tt, lt), tt)))
+
+  record_fine : (n : ℕ) → n < 256 → (rest : List Coded) → AllFine value rest → AllFine value (record_dropped n ++ rest)
+  record_fine n lt rest fine =
+      let small : 2 * n < 65536 = omega arith in
+      ((lit< tt, lit< tt), (bp_free, (si_free, ((is_bx, small), ((lit< tt, lit< tt, is_bx), fine)))))
+
+  return_fine : (answers : Bool) (n : ℕ) → n < 256 → AllFine value (return_with answers n)
+  return_fine true n lt = record_fine n lt (coded.Whole (jump_to 6) ∷ []) (lit< tt, tt)
+  return_fine false n lt = record_fine n lt (coded.Whole (i86.Pop 0) ∷ coded.Whole (jump_to 6) ∷ []) (ax_free, (lit< tt, tt))
+
+  argument_fine : (r n : ℕ) → r < 8 → n < 257 → IsInstr (load r (argument n))
+  argument_fine r n lr lt = let small : 4 + 2 * n < 65536 = omega arith in (lr, (lit< tt, small))
+
+  mark_words_fine : (names : Names) (ms : List ℕ) → AllFine value (mark_words names ms)
+  mark_words_fine names [] = tt
+  mark_words_fine names (m ∷ ms) = (place_filled (mark_place names m % 65536), mark_words_fine names ms)
+
+  goal_words_fine : (names : Names) (gs : List Goal) → AllFine value (goal_words names gs)
+  goal_words_fine names [] = tt
+  goal_words_fine names (goal.Own l ∷ gs) = (place_filled (label_start names l % 65536), goal_words_fine names gs)
+  goal_words_fine names (goal.Common d ∷ gs) = (definition_filled d, goal_words_fine names gs)
+
+  pub switch_fine : (names : Names) (place : ℕ) (gs : List Goal) → length gs < 65536 → AllFine value (switch_pieces names place gs)
+  switch_fine names place gs lt =
+      let table : List Coded = coded.Way (target.Place ((place + 29) % 65536)) ∷ goal_words names gs in
+      let rest : List Coded = coded.Whole (jump_if_below 3) ∷ call_library switch_entry ∷ coded.Whole (double 3) ∷ coded.Whole (move 5 7) ∷ (operands_dropped ++ table) in
+      let fine : AllFine value rest = (
+        (lit< tt, lit< tt),
+        (
+          library_filled switch_entry (lit< tt),
+          (
+            (lit< tt, λ e. omega arith, is_bx),
+            (
+              (lit< tt, lit< tt),
+              all_fine-append value operands_dropped table dropped_fine (place_filled ((place + 29) % 65536), goal_words_fine names gs),
+            ),
+          ),
+        ),
+      ) in
+      all_fine-append value (number_compared (length gs)) rest (number_fine (length gs) lt) fine
+
+  loop_fine : (names : Names) (place : ℕ) (marks : List ℕ) → length marks < 65536 → AllFine value (loop_way names place marks)
+  loop_fine names place marks lt =
+      let rest : List Coded = coded.Whole (i86.Pop 0) ∷ coded.Whole (jump_if_below 3) ∷ jump_near (place + 14) (place + 21 + 2 * length marks) ∷ coded.Whole (double 3) ∷ coded.Way (target.Place ((place + 21) % 65536)) ∷ mark_words names marks in
+      let fine : AllFine value rest =
+      (ax_free, ((lit< tt, lit< tt), (distance_small (place + 14) (place + 21 + 2 * length marks), ((lit< tt, λ e. omega arith, is_bx), (place_filled ((place + 21) % 65536), mark_words_fine names marks))))) in
+      all_fine-append value (number_compared (length marks)) rest (number_fine (length marks) lt) fine
+
+  loaded_fine : AllFine value step_loaded
+  loaded_fine = ((is_bx, is_ax), ((lit< tt, λ e. omega arith, is_bx), (cx_free, ((is_ax, (lit< tt, lit< tt)), ((is_bx, (lit< tt, lit< tt)), (tt, tt))))))
+
+  limit_fine : (end to : ℕ) → AllFine value (limit_compared end to)
+  limit_fine end to =
+      ((lit< tt, lit< tt), (ax_free, ((lit< tt, lit< tt), ((lit< tt, cx_register, dx_register), ((lit< tt, is_bx, dx_register), ((lit< tt, cx_register, is_bx), ((lit< tt, lit< tt), (distance_small end to, tt))))))))
+
+  few_more : (k : ℕ) → k < 256 → k < 257
+  few_more k lt = omega arith
+
+  few_next : (k : ℕ) → k < 256 → k + 1 < 257
+  few_next k lt = omega arith
+
+  template_fine : (names : Names) (place : ℕ) (o : Order) → OrderFits o → AllFine value (template names place o)
+  template_fine names place (order.Const w) fits = (ax_free, ((is_ax, fits.0), tt))
+  template_fine names place (order.Home family offset) fits = (ax_free, ((is_ax, home_filled family offset), tt))
+  template_fine names place order.Load fits = load_fine
+  template_fine names place order.Store fits = ((is_bx, is_ax), ((lit< tt, λ e. omega arith, is_bx), (ax_free, ((is_ax, (lit< tt, λ e. omega arith)), (ax_free, tt)))))
+  template_fine names place order.Add fits = (bx_free, ((lit< tt, is_ax, is_bx), checked_fine))
+  template_fine names place order.Sub fits = ((is_bx, is_ax), (ax_free, ((lit< tt, is_ax, is_bx), checked_fine)))
+  template_fine names place order.Neg fits = ((lit< tt, lit< tt, is_ax), checked_fine)
+  template_fine names place (order.LoadPart t b true) fits = all_fine-append value load_top (taken_signed t b) load_fine (taken_signed_fine t b)
+  template_fine names place (order.LoadPart t b false) fits = all_fine-append value load_top (taken t b) load_fine (taken_fine t b fits.1.1)
+  template_fine names place (order.StorePart t b) fits = store_part_fine t b fits.1.1
+  template_fine names place (order.Rescale from to) fits = rescale_fine (nat_le from to) (2 ^ (to - from) == 32768) from to fits.1.0 fits.1.1
+  template_fine names place (order.Mul s) fits = product_fine s fits.1
+  template_fine names place (order.Div s) fits = quotient_fine s fits.1
+  template_fine names place order.And fits = both_fine (both 0 3) (lit< tt, is_ax, is_bx)
+  template_fine names place order.Or fits = both_fine (either 0 3) (lit< tt, is_ax, is_bx)
+  template_fine names place order.Xor fits = both_fine (one_of 0 3) (lit< tt, is_ax, is_bx)
+  template_fine names place (order.Take t b) fits = taken_fine t b fits.1.1
+  template_fine names place order.Less fits = ((is_bx, is_ax), (ax_free, ((lit< tt, is_ax, is_bx), tt)))
+  template_fine names place order.Drop fits = (ax_free, tt)
+  template_fine names place (order.IndexLess lower) fits = word_fine address_entry (unsigned lower) (subtract 0 3) (lit< tt) (unsigned_small lower fits.1) (lit< tt, is_ax, is_bx)
+  template_fine names place (order.IndexTimes n) fits = times_fine (n == 32768) address_entry n (lit< tt) (let f = fits.1 in omega arith)
+  template_fine names place (order.IndexPlus n) fits = word_fine address_entry n (add 0 3) (lit< tt) (let f = fits.1 in omega arith) (lit< tt, is_ax, is_bx)
+  template_fine names place order.IndexAdd fits = (bx_free, ((lit< tt, is_ax, is_bx), stop_fine address_entry (lit< tt)))
+  template_fine names place (order.IndexRow lower n) fits = row_fine lower n fits.1.0 fits.1.1
+  template_fine names place order.InArea fits = ((is_bx, area_filled), ((lit< tt, is_ax, is_bx), ((lit< tt, lit< tt), (library_filled address_entry (lit< tt), tt))))
+  template_fine names place (order.InBounds lower upper) fits =
+      ((is_bx, unsigned_small lower fits.1.0), ((lit< tt, is_ax, is_bx), ((lit< tt, lit< tt), (library_filled bounds_entry (lit< tt), ((is_bx, unsigned_small upper fits.1.1), ((lit< tt, is_ax, is_bx), ((lit< tt, lit< tt), (library_filled bounds_entry (lit< tt), tt))))))))
+  template_fine names place order.ReadByte fits =
+      (ax_free, ((is_ax, lit< tt), ((is_bx, lit< tt), (lit< tt, ((lit< tt, is_ax, is_bx), ((lit< tt, lit< tt), (lit< tt, (lit< tt, ((lit< tt, lit< tt, is_ax), tt)))))))))
+  template_fine names place order.WriteByte fits = (lit< tt, (ax_free, tt))
+  template_fine names place (order.Line n) fits = (((lit< tt, lit< tt), fits.0), tt)
+  template_fine names place order.NextBody fits = ((is_ax, next_filled), (is_ax, tt))
+  template_fine names place (order.Jump mark) fits = (distance_small (place + 3) (mark_place names mark), tt)
+  template_fine names place (order.JumpIf c mark) fits = (bx_free, ((lit< tt, is_bx, is_ax), branch_fine c (place + 9) (mark_place names mark)))
+  template_fine names place (order.FrameHome n) fits = (ax_free, ((is_ax, (lit< tt, lit< tt)), ((lit< tt, fits.1), tt)))
+  template_fine names place (order.Exhausted mark) fits = all_fine-append value step_loaded (limit_compared (place + 29) (mark_place names mark)) loaded_fine (limit_fine (place + 29) (mark_place names mark))
+  template_fine names place (order.LoopWay marks) fits = loop_fine names place marks (let f = fits.1 in omega arith)
+  template_fine names place (order.CallProc q) fits = (ax_free, (distance_small (place + 4) (procedure_start names q), tt))
+  template_fine names place (order.CallCommon d) fits = (ax_free, (ahead_filled d, tt))
+  template_fine names place (order.CallSpecial k) fits = (ax_free, (argument_fine 0 k is_ax (few_more k fits.1), ((is_bx, place_filled ((place + 11) % 65536)), (bx_free, (is_ax, tt)))))
+  template_fine names place (order.Enter size) fits = ((is_ax, fits.1), ((dx_register, number_filled), ((is_bx, area_filled), (library_filled enter_entry (lit< tt), tt))))
+  template_fine names place (order.Bind k family offset) fits = (argument_fine 1 k cx_register (few_more k fits.1), ((is_bx, bytes_filled family offset), ((cx_register, (lit< tt, λ e. omega arith)), tt)))
+  template_fine names place (order.BindFrame k offset) fits =
+      let small : 2 * offset % 65536 < 65536 = omega arith in
+      (argument_fine 1 k cx_register (few_more k fits.1.0), ((is_bx, (lit< tt, lit< tt)), ((lit< tt, λ e. omega arith, is_bx), ((cx_register, (lit< tt, small)), tt))))
+  template_fine names place (order.Return n answers) fits = return_fine answers n fits.1
+  template_fine names place (order.LabelOut l) fits = control_fine (target.Place (label_start names l % 65536)) (place_filled (label_start names l % 65536))
+  template_fine names place (order.LabelCommon d) fits = control_fine (target.Definition d) (definition_filled d)
+  template_fine names place (order.SwitchOut n) fits = control_fine (target.Place (switch_start names n % 65536)) (place_filled (switch_start names n % 65536))
+  template_fine names place (order.SwitchCommon d) fits = control_fine (target.Definition d) (definition_filled d)
+  template_fine names place (order.ProcOut q) fits = control_fine (target.Place (procedure_start names q % 65536)) (place_filled (procedure_start names q % 65536))
+  template_fine names place (order.ProcCommon d) fits = control_fine (target.Definition d) (definition_filled d)
+  template_fine names place (order.SpecialOut k) fits = (ax_free, (argument_fine 0 (k + 1) is_ax (few_next k fits.1), (ax_free, (argument_fine 0 k is_ax (few_more k fits.1), tt))))
+  template_fine names place (order.GoMain mark) fits = base_fine place (mark_place names mark)
+  template_fine names place (order.GoCommon d) fits = (ahead_filled d, tt)
+  template_fine names place (order.GoSpecial k) fits =
+      (argument_fine 3 k is_bx (few_more k fits.1), (argument_fine 5 (k + 1) (lit< tt) (few_next k fits.1), all_fine-append value operands_dropped (coded.Whole (jump_to 3) ∷ []) dropped_fine (is_bx, tt)))
+  template_fine names place (order.GoSwitch n) fits = ((lit< tt, lit< tt), (distance_small (place + 5) (switch_start names n), tt))
+  template_fine names place (order.GoSwitchCommon d) fits = ((lit< tt, lit< tt), (ahead_filled d, tt))
+  template_fine names place (order.GoSwitchSpecial k) fits = (argument_fine 7 (k + 1) (lit< tt) (few_next k fits.1), (argument_fine 3 k is_bx (few_more k fits.1), (is_bx, tt)))
+  template_fine names place order.Mark fits = tt
+  template_fine names place (order.Start n) fits = tt
+
+  operation_fine : (op : ℕ) (s : Simple) → op < 8 → SimpleFits s → IsFine value (operation op s)
+  operation_fine op (simple.Number w) lt fits = (lt, fits)
+  operation_fine op (simple.Variable family offset) lt fits = (lt, is_ax, bytes_filled family offset)
+
+  operated_fine : (names : Names) (place : ℕ) (s : Simple) (u : Use) → SimpleFits s → AllFine value (operated names place s u)
+  operated_fine names place s uses.Add fits = (operation_fine 0 s (lit< tt) fits, checked_fine)
+  operated_fine names place s uses.Subtract fits = (operation_fine 5 s (lit< tt) fits, checked_fine)
+  operated_fine names place s (uses.Compare c mark) fits = (operation_fine 7 s (lit< tt) fits, branch_fine c (place + size_of (operation 7 s) + 6) (mark_place names mark))
+
+  pub block_fine : (names : Names) (place : ℕ) (b : Block) (o : Order) → BlockFits b o → AllFine value (block_pieces names place b o)
+  block_fine names place (block.Within n) o fits = tt
+  block_fine names place block.Single o fits = template_fine names place o fits
+  block_fine names place (block.Fetch family offset) o fits = (ax_free, (bytes_filled family offset, tt))
+  block_fine names place (block.Assign family offset) o fits = (bytes_filled family offset, (ax_free, tt))
+  block_fine names place (block.Operate s u) o fits = operated_fine names place s u fits

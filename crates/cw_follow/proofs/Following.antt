@@ -1,0 +1,114 @@
+-- From the first instruction of an image on, the processor follows the machine of the orders.
+use Rattle.std.proofs.Common.{◌≡◌, inl, ℕ, zero, suc, ◌+◌, ◌-◌, ◌<◌, ◌≤◌, false, ℤ, pos, List, [], ◌∷◌, length, Option, Some, None, refl, sym, ap, ◌∙◌, subst, arith, lit<}
+use Rattle.std.specs.Prelude.{slice_get, slice_index}
+use Rattle.std.specs.List.{All}
+use Rattle.std.proofs.lemmas.List.{get_or_default}
+use Rattle.std.proofs.lemmas.List.Elements.{All-head, All-nil, All-tail}
+use Rattle.cw_track.specs.Tracking.{TracksAfter}
+use Rattle.cw_track.proofs.Simulations.{tracks}
+use Rattle.cw_track.proofs.Budgets.{starts_up}
+use Rattle.cw_i86.specs.State.{State}
+use Rattle.cw_i86.specs.MachineRun.{IsStart}
+use Rattle.cw_run86.specs.Processor.{Processor, nothing_told, processor_machine, processor_start}
+use Rattle.cw_word.specs.FixedPoint.{FitsWord}
+use Rattle.cw_word.specs.Word.{unsigned}
+use Rattle.cw_follow.proofs.WordLaws.{WordLaws}
+use Rattle.cw_unit.specs.Stop.{Running, Stuck}
+use Rattle.cw_unit.specs.Behaviour.{is_running}
+use Rattle.cw_unit.specs.Words.{Words, word_at}
+use Rattle.cw_order.specs.declared.order.Orders.{Orders}
+use Rattle.cw_order.specs.OrderProgram.{OrderProgram, order_in}
+use Rattle.cw_order.specs.OrderState.{at}
+use Rattle.cw_order.specs.OrderMachine.{carry_out, step, order_machine, entry_of, order_start}
+use Rattle.cw_order.specs.FittingWords.{OperandFits, ActivationFits}
+use Rattle.cw_tmpl.specs.Blocks.{left_at}
+use Rattle.cw_follow.specs.Showing.{shown_as}
+use Rattle.cw_follow.specs.Placing.{IsImage, Codable, BeginsWith, NeverStuck, startup_cost, base_of}
+use Rattle.cw_follow.proofs.Standing.{order_place, AllStand}
+use Rattle.cw_follow.proofs.Rows.{Rows}
+use Rattle.cw_follow.proofs.Chains.{Is, Leads, view, seen, near, more}
+use Rattle.cw_follow.proofs.Routines.{Begun, enters, leads_on}
+use Rattle.cw_order.specs.Activations.{OperandStands}
+use Rattle.cw_follow.proofs.States.{Sound, Matches, left, not_stuck, never_on}
+use Rattle.cw_follow.proofs.Dispatch.{simulates}
+
+-- ---- the start
+
+small_words : (words : List ℕ) (k : ℕ) → All (λ w. w < 65536) words → slice_index words k < 65536
+small_words [] k h = lit< tt
+small_words (w ∷ ws) zero h = All-head (λ x. x < 65536) w ws h
+small_words (w ∷ ws) (suc k) h = small_words ws k (All-tail (λ x. x < 65536) w ws h)
+
+module _ (laws : WordLaws) (p : OrderProgram) (words : List ℕ) (memory : List ℤ) (begins : BeginsWith p memory words) where
+  cells_begin : (k : ℕ) → k < p.limits.area → slice_index words k ≡ unsigned (word_at memory k)
+  cells_begin k lt = sym (laws.forth (slice_index words k) (small_words words k begins.are_words)) ∙ ap unsigned (sym (begins.same k lt))
+
+  memory_fits : All FitsWord memory
+  memory_fits k d lt =
+      let long = begins.long in
+      let within : k < p.limits.area = omega arith in
+      subst FitsWord (sym (get_or_default memory k d (pos 0) lt ∙ begins.same k within)) (laws.signed_fits (slice_index words k) (small_words words k begins.are_words))
+
+-- from the first instruction of an image on
+pub following : Rows → (p : OrderProgram) (image words : List ℕ) (memory : List ℤ) (input : List ℕ) (s : State)
+    → AllStand p image → IsImage p image → Codable p → BeginsWith p memory words → NeverStuck p memory input → IsStart image words s → All (λ b. b < 256) input
+    → TracksAfter is_running startup_cost (order_machine p) (order_start p memory input) (processor_machine shown_as) (processor_start s input)
+following rows p image words memory input s all is coded begins never starts bytes = cases (slice_get p.units 0) refl
+  where
+    cases : (u : Option Orders) → slice_get p.units 0 ≡ u → TracksAfter is_running startup_cost (order_machine p) (order_start p memory input) (processor_machine shown_as) (processor_start s input)
+    cases None none =
+        let begun : Words = record { operands = []; memory = memory; input = input; output = [] } in
+        let first = entry_of (slice_get p.units 0) in
+        let stuck : step p (at 0 first 0 [] begun Running) ≡ at 0 first 0 [] begun Stuck = ap (λ u. carry_out p (order_in u first) 0 first 0 [] begun) none in
+        absurd (not_stuck p 0 first 0 [] begun (never_on p (at 0 first 0 [] begun Running) (at 0 first 0 [] begun Stuck) stuck never))
+    cases (Some u) some =
+        let begun : Words = record { operands = []; memory = memory; input = input; output = [] } in
+        let first = entry_of (slice_get p.units 0) in
+        let is_zero : first ≡ 0 = ap entry_of some ∙ coded.entries 0 u some in
+        let few = is.few in
+        let area = begins.area in
+        let short_words : length words ≤ 32768 = let f = begins.few in omega arith in
+        let su = all.stands 0 u some in
+        let from : Is image 0 (view 0 0 0 0 0 0 0 0 false (slice_index words) (λ k. 0) input nothing_told) (processor_start s input) = record { sees = rows.starts image words input s is.fits short_words starts } in
+        let at_entry : (q : Processor) → Begun image (base_of p 0 + 15) 1 p.limits.depth (p.limits.area - p.limits.frames) (slice_index words) input nothing_told q → Sound p image 0 first 0 [] begun q = λ q b.
+        let z = b.stacked in
+        let place_is : base_of p 0 + 15 ≡ order_place (base_of p 0) u.list 0 = omega arith in
+        let there : base_of p 0 + 15 ≡ order_place (base_of p 0) u.list first = place_is ∙ ap (order_place (base_of p 0) u.list) (sym is_zero) in
+        record {
+          orders = u;
+          unit = some;
+          from = first;
+          done = 0;
+          before = begun;
+          place_is = omega arith;
+          begins = ap (left_at 0 u.list) is_zero;
+          inside = omega arith;
+          did = refl;
+          room = omega arith;
+          room_before = omega arith;
+          wrote = refl;
+          fits_before = record { operands = All-nil OperandFits; memory = memory_fits rows.words p words memory begins; input = bytes };
+          landed = record {
+            top = 32761;
+            cells = slice_index words;
+            stack = b.stack;
+            input = input;
+            told = nothing_told;
+            stacked = record { ax = z.ax; cx = z.cx; dx = z.dx; bx = z.bx; si = z.si; di = z.di; overflow = z.overflow; is = seen there refl z.is };
+            operands = refl;
+            kept = record { words = cells_begin rows.words p words memory begins; long = begins.long; piled = (record { top_is = b.top; base_is = b.base; left_is = b.left ∙ (let x : p.limits.depth ≡ p.limits.depth - 0 = omega arith in x); number_is = b.number; line_is = b.line; small = lit< tt; few = lit< tt }, tt); read = refl; wrote = refl; kind = refl };
+          };
+          acts_fit = All-nil ActivationFits;
+          fits = record { operands = All-nil OperandFits; memory = memory_fits rows.words p words memory begins; input = bytes };
+          stands = record { room = omega arith; last = tt; operands = All-nil (OperandStands p 0 []) };
+          working = tt;
+          comes_back = tt;
+          never = never;
+        } in
+        let base_is : 250 ≡ base_of p 0 = refl in
+        let way : Leads [] 20 (processor_start s input) (Sound p image 0 first 0 [] begun) =
+        more rows {to = base_of p 0} {w = view 0 0 0 0 0 0 0 0 false (slice_index words) (λ k. 0) input nothing_told} from refl (seen base_is refl (near rows 247 all.library.0 from)) (λ q t.
+        leads_on at_entry
+        (enters rows p 0 su.next_place su.value (base_of p 0) 0 0 0 0 0 0 0 32767 false (slice_index words) (λ k. 0) input nothing_told all.library su.fills su.entry (lit< tt) (lit< tt) area coded.frames coded.depth 0 refl t)) in
+        starts_up is_running (order_machine p) (processor_machine shown_as) (order_start p memory input) 0 20 20 (processor_start s input) way.reached refl way.path
+        (tracks is_running (order_machine p) (processor_machine shown_as) (Matches p image) (left p) (simulates (record { rows = rows; p = p; image = image; all = all; coded = coded; few = few; low = area })) (order_start p memory input) way.reached (inl way.there))

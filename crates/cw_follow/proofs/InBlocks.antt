@@ -1,0 +1,204 @@
+-- Orders in their blocks.
+use Rattle.std.proofs.Common.{◌≡◌, ℕ, zero, suc, ◌+◌, List, [], ◌∷◌, drop, Some, None, refl, sym, ap, ◌∙◌, subst, arith, Bool, true, false}
+use Rattle.std.specs.Prelude.{slice_get}
+use Rattle.cw_unit.specs.Words.{Words, Outcome, Changed, Refused, Impossible, Word, Held, Operand, put, through, is_below, word_at, number_of, with_operands}
+use Rattle.cw_unit.specs.Operation.{Fetch, perform}
+use Rattle.cw_unit.specs.Stop.{StopKind}
+use Rattle.cw_word.specs.Word.{signed}
+use Rattle.cw_order.specs.declared.order.Order.{Order}
+use Rattle.cw_order.specs.declared.order.Order.TheVariants as order
+use Rattle.cw_order.specs.OrderProgram.{OrderProgram}
+use Rattle.cw_order.specs.OrderActions.{home_word}
+use Rattle.cw_order.specs.OrderMachine.{unrefused}
+use Rattle.cw_tmpl.specs.declared.blocks.Simple.TheVariants as simple
+use Rattle.cw_tmpl.specs.declared.blocks.Use.{Use}
+use Rattle.cw_tmpl.specs.declared.blocks.Use.TheVariants as uses
+use Rattle.cw_tmpl.specs.declared.blocks.Block.{Block}
+use Rattle.cw_tmpl.specs.declared.blocks.Block.TheVariants as block
+use Rattle.cw_follow.specs.Placing.{EndsBlock}
+use Rattle.cw_tmpl.specs.Blocks.{use_of, with_number, with_variable, after_home, block_at, orders_left, left_at}
+use Rattle.cw_tmpl.proofs.Sizes.{size_to}
+
+-- ---- lists
+
+pub front_is : (list : List Order) (k : ℕ) (o : Order) → slice_get list k ≡ Some o → drop k list ≡ o ∷ drop (suc k) list
+front_is [] k o e = absurd (cc)
+front_is (x ∷ xs) zero o e = let same : x ≡ o = cc in ap (λ y. y ∷ xs) same
+front_is (x ∷ xs) (suc k) o e = front_is xs k o e
+
+pub slice_drop : (list : List Order) (k n : ℕ) → slice_get (drop k list) n ≡ slice_get list (k + n)
+slice_drop list zero n = ap (slice_get list) (let e : n ≡ 0 + n = omega arith in e)
+slice_drop [] (suc k) n = refl
+slice_drop (x ∷ xs) (suc k) n = slice_drop xs k n ∙ ap (slice_get (x ∷ xs)) (let e : suc (k + n) ≡ suc k + n = omega arith in e)
+
+pub size_split : (left : ℕ) (list : List Order) (k n : ℕ) → size_to left list (k + n) ≡ size_to left list k + size_to (left_at left list k) (drop k list) n
+size_split left list zero n = let e : 0 + n ≡ n = omega arith in ap (size_to left list) e ∙ (omega arith)
+size_split left [] (suc k) zero = let e : suc k + 0 ≡ suc k = omega arith in ap (size_to left []) e
+size_split left [] (suc k) (suc n) = let e : suc k + suc n ≡ suc (k + suc n) = omega arith in ap (size_to left []) e
+size_split left (x ∷ xs) (suc k) n =
+    let e : suc k + n ≡ suc (k + n) = omega arith in
+    ap (size_to left (x ∷ xs)) e ∙ (omega (arith, size_split (orders_left (block_at left (x ∷ xs))) xs k n))
+
+pub left_split : (left : ℕ) (list : List Order) (k n : ℕ) → left_at left list (k + n) ≡ left_at (left_at left list k) (drop k list) n
+left_split left list zero n = let e : 0 + n ≡ n = omega arith in ap (left_at left list) e
+left_split left [] (suc k) zero = let e : suc k + 0 ≡ suc k = omega arith in ap (left_at left []) e
+left_split left [] (suc k) (suc n) = let e : suc k + suc n ≡ suc (k + suc n) = omega arith in ap (left_at left []) e
+left_split left (x ∷ xs) (suc k) n =
+    let e : suc k + n ≡ suc (k + n) = omega arith in
+    ap (left_at left (x ∷ xs)) e ∙ left_split (orders_left (block_at left (x ∷ xs))) xs k n
+
+-- ---- a block does not reach an order that never ends one
+
+abbrev AllEnd : ℕ → List Order → Type 0
+AllEnd zero os = Unit {0}
+AllEnd (suc n) [] = Unit {0}
+AllEnd (suc n) (o ∷ os) = EndsBlock o × AllEnd n os
+
+number_ends : (w : ℕ) (os : List Order) → AllEnd (orders_left (with_number w (use_of (slice_get os 0)))) os
+number_ends w [] = tt
+number_ends w (order.Add ∷ os) = (tt, tt)
+number_ends w (order.Sub ∷ os) = (tt, tt)
+number_ends w (order.JumpIf c m ∷ os) = (tt, tt)
+number_ends w (x ∷ os) = tt
+
+variable_ends : (f n : ℕ) (os : List Order) → AllEnd (orders_left (with_variable f n (use_of (slice_get os 0)))) (order.Load ∷ os)
+variable_ends f n [] = (tt, tt)
+variable_ends f n (order.Add ∷ os) = (tt, (tt, tt))
+variable_ends f n (order.Sub ∷ os) = (tt, (tt, tt))
+variable_ends f n (order.JumpIf c m ∷ os) = (tt, (tt, tt))
+variable_ends f n (x ∷ os) = (tt, tt)
+
+home_ends : (f n : ℕ) (os : List Order) → AllEnd (orders_left (after_home f n (slice_get os 0) (slice_get os 1))) os
+home_ends f n [] = tt
+home_ends f n (order.Load ∷ os) = variable_ends f n os
+home_ends f n (order.Store ∷ os) = (tt, tt)
+home_ends f n (x ∷ os) = tt
+
+first_ends : (o : Order) (os : List Order) → AllEnd (orders_left (block_at 0 (o ∷ os))) os
+first_ends (order.Const w) os = number_ends w os
+first_ends (order.Home f n) os = home_ends f n os
+first_ends _ os = tt
+
+next_ends : (left : ℕ) (o : Order) (os : List Order) → AllEnd left (o ∷ os) → AllEnd (orders_left (block_at left (o ∷ os))) os
+next_ends zero o os h = first_ends o os
+next_ends (suc n) o os h = h.1
+
+none_end : (left : ℕ) → AllEnd left []
+none_end zero = tt
+none_end (suc n) = tt
+
+all_end : (left : ℕ) (list : List Order) (k : ℕ) → AllEnd left list → AllEnd (left_at left list k) (drop k list)
+all_end left list zero h = h
+all_end left [] (suc k) h = none_end left
+all_end left (o ∷ os) (suc k) h = all_end (orders_left (block_at left (o ∷ os))) os k (next_ends left o os h)
+
+-- so a block begins there
+pub begins_at : (list : List Order) (k : ℕ) (o : Order) → slice_get list k ≡ Some o → (EndsBlock o → ⊥) → left_at 0 list k ≡ 0
+begins_at list k o e never = cases (left_at 0 list k) refl
+  where
+    cases : (n : ℕ) → left_at 0 list k ≡ n → left_at 0 list k ≡ 0
+    cases zero is = is
+    cases (suc n) is =
+        let h : AllEnd (suc n) (o ∷ drop (suc k) list) = subst (λ l. AllEnd (suc n) l) (front_is list k o e) (subst (λ m. AllEnd m (drop k list)) is (all_end 0 list k tt)) in
+        absurd (never h.0)
+
+-- ---- the orders of a block
+
+abbrev pub order_of : Use → Order
+order_of uses.Add = order.Add
+order_of uses.Subtract = order.Sub
+order_of (uses.Compare c m) = order.JumpIf c m
+
+abbrev pub Shape : Block → List Order → Type 0
+Shape (block.Within n) list = ⊥
+Shape block.Single list = Unit {0}
+Shape (block.Fetch f n) list = (more : List Order) × (list ≡ order.Home f n ∷ order.Load ∷ more)
+Shape (block.Assign f n) list = (more : List Order) × (list ≡ order.Home f n ∷ order.Store ∷ more)
+Shape (block.Operate (simple.Number w) u) list = (more : List Order) × (list ≡ order.Const w ∷ order_of u ∷ more)
+Shape (block.Operate (simple.Variable f n) u) list = (more : List Order) × (list ≡ order.Home f n ∷ order.Load ∷ order_of u ∷ more)
+
+number_shape : (w : ℕ) (os : List Order) → Shape (with_number w (use_of (slice_get os 0))) (order.Const w ∷ os)
+number_shape w [] = tt
+number_shape w (order.Add ∷ os) = (os, refl)
+number_shape w (order.Sub ∷ os) = (os, refl)
+number_shape w (order.JumpIf c m ∷ os) = (os, refl)
+number_shape w (x ∷ os) = tt
+
+variable_shape : (f n : ℕ) (os : List Order) → Shape (with_variable f n (use_of (slice_get os 0))) (order.Home f n ∷ order.Load ∷ os)
+variable_shape f n [] = ([], refl)
+variable_shape f n (order.Add ∷ os) = (os, refl)
+variable_shape f n (order.Sub ∷ os) = (os, refl)
+variable_shape f n (order.JumpIf c m ∷ os) = (os, refl)
+variable_shape f n (x ∷ os) = (x ∷ os, refl)
+
+home_shape : (f n : ℕ) (os : List Order) → Shape (after_home f n (slice_get os 0) (slice_get os 1)) (order.Home f n ∷ os)
+home_shape f n [] = tt
+home_shape f n (order.Load ∷ os) = variable_shape f n os
+home_shape f n (order.Store ∷ os) = (os, refl)
+home_shape f n (x ∷ os) = tt
+
+pub shape : (list : List Order) → Shape (block_at 0 list) list
+shape [] = tt
+shape (order.Const w ∷ os) = number_shape w os
+shape (order.Home f n ∷ os) = home_shape f n os
+shape (x ∷ os) = tt
+
+-- ---- what the orders before the last one of a block do
+
+abbrev pub chain : Outcome → (Words → Outcome) → Outcome
+chain (Changed v) f = f v
+chain (Refused kind) f = Refused kind
+chain Impossible f = Impossible
+
+module _ (p : OrderProgram) (g : ℕ) where
+  abbrev pub puts_word : Order → Words → Outcome
+  puts_word (order.Const n) w = Changed (put (signed n) w)
+  puts_word (order.Home f n) w = Changed (put (signed (home_word p.addresses g f n)) w)
+  puts_word order.Load w = unrefused (perform p.limits.area (Fetch None) w)
+  puts_word _ w = Impossible
+
+  abbrev pub silently : ℕ → List Order → Words → Outcome
+  silently zero os w = Changed w
+  silently (suc n) [] w = Impossible
+  silently (suc n) (o ∷ os) w = chain (puts_word o w) (silently n os)
+
+  one_more : (x : Outcome) → chain x Changed ≡ x
+  one_more (Changed v) = refl
+  one_more (Refused kind) = refl
+  one_more Impossible = refl
+
+  pub silently_next : (n : ℕ) (os : List Order) (o : Order) (w : Words) → slice_get os n ≡ Some o → silently (suc n) os w ≡ chain (silently n os w) (puts_word o)
+  silently_next n [] o w e = absurd (cc)
+  silently_next zero (x ∷ xs) o w e = let same : x ≡ o = cc in one_more (puts_word x w) ∙ ap (λ y. puts_word y w) same
+  silently_next (suc n) (x ∷ xs) o w e = cases (λ v. silently_next n xs o v e) (puts_word x w)
+    where
+      cases : ((v : Words) → silently (suc n) xs v ≡ chain (silently n xs v) (puts_word o)) → (a : Outcome) → chain a (silently (suc n) xs) ≡ chain (chain a (silently n xs)) (puts_word o)
+      cases each (Changed v) = each v
+      cases each (Refused kind) = refl
+      cases each Impossible = refl
+
+-- no stop comes of it, and nothing is written
+pub record IsSilent (w : Words) (o : Outcome) : Type 0 where
+  pub stops : (kind : StopKind) → o ≡ Refused kind → ⊥
+  pub wrote : (v : Words) → o ≡ Changed v → v.output ≡ w.output
+
+impossible_silent : (w : Words) → IsSilent w Impossible
+impossible_silent w = record { stops = λ kind e. absurd (cc); wrote = λ v e. absurd (cc) }
+
+changed_silent : (w u : Words) → u.output ≡ w.output → IsSilent w (Changed u)
+changed_silent w u same = record { stops = λ kind e. absurd (cc); wrote = λ v e. let is : u ≡ v = cc in ap (λ x. x.output) (sym is) ∙ same }
+
+load_silent : (area : ℕ) (operands : List Operand) (w : Words) → IsSilent w (unrefused (perform area (Fetch None) (with_operands w operands)))
+load_silent area [] w = impossible_silent w
+load_silent area (Held c ∷ rest) w = impossible_silent w
+load_silent area (Word a ∷ rest) w = cases (is_below a area)
+  where
+    cases : (b : Bool) → IsSilent w (unrefused (through b (λ i v. Changed (put (word_at v.memory i) v)) a (with_operands w rest)))
+    cases true = changed_silent w (put (word_at w.memory (number_of a)) (with_operands w rest)) refl
+    cases false = impossible_silent w
+
+pub is_silent : (p : OrderProgram) (g : ℕ) (o : Order) (w : Words) → IsSilent w (puts_word p g o w)
+is_silent p g (order.Const n) w = changed_silent w (put (signed n) w) refl
+is_silent p g (order.Home f n) w = changed_silent w (put (signed (home_word p.addresses g f n)) w) refl
+is_silent p g order.Load w = load_silent p.limits.area w.operands w
+is_silent p g _ w = impossible_silent w

@@ -1,0 +1,92 @@
+-- Instructions and words that stand one after another in an image, and where those of each order do.
+use Rattle.std.proofs.Common.{◌≡◌, ℕ, suc, ◌+◌, ◌*◌, ◌≤◌, true, false, List, [], ◌∷◌, ◌++◌, length, drop, Some, None, arith, subst}
+use Rattle.std.specs.Prelude.{slice_get, slice_index}
+use Rattle.cw_i86.specs.Encoding.{bytes_of}
+use Rattle.cw_i86.specs.declared.instr.Instr.{Instr}
+use Rattle.cw_i86.specs.declared.instr.Instr.TheVariants as i86
+use Rattle.cw_i86.specs.declared.instr.Imm.TheVariants as imm
+use Rattle.cw_run86.specs.Views.{Has, with_memory}
+use Rattle.cw_unit.specs.declared.unit.Goal.{Goal}
+use Rattle.cw_order.specs.declared.order.LabelMark.{LabelMark}
+use Rattle.cw_order.specs.declared.order.Order.{Order}
+use Rattle.cw_order.specs.declared.order.Orders.{Orders}
+use Rattle.cw_order.specs.OrderProgram.{OrderProgram}
+use Rattle.cw_tmpl.specs.declared.pieces.Coded.{Coded}
+use Rattle.cw_tmpl.specs.declared.pieces.Coded.TheVariants as coded
+use Rattle.cw_tmpl.specs.Pieces.{Filling, size_of, target_of, word_before}
+use Rattle.cw_tmpl.specs.Mnemonics.{entry_of_table}
+use Rattle.cw_tmpl.specs.Names.{landing_start, switch_start}
+use Rattle.cw_tmpl.specs.Library.{routines, joined, past, entry_place}
+use Rattle.cw_tmpl.specs.Templates.{block_pieces, entry_pieces, landing_pieces, switch_pieces}
+use Rattle.cw_tmpl.specs.Blocks.{block_at, left_at}
+use Rattle.cw_tmpl.specs.ReferenceCode.{names_of}
+use Rattle.cw_follow.specs.Placing.{Fills, base_of}
+use Rattle.cw_tmpl.proofs.Sizes.{own_place}
+
+-- these instructions stand in the code, one after another from a place
+abbrev pub HasAll : List ℕ → ℕ → List Instr → Type 0
+HasAll code place [] = Unit {0}
+HasAll code place (i ∷ is) = Has code place i × HasAll code (place + length (bytes_of i)) is
+
+-- the number of their bytes
+abbrev pub total : List Instr → ℕ
+total [] = 0
+total (i ∷ is) = length (bytes_of i) + total is
+
+pub has_front : (image : List ℕ) (place : ℕ) (is js : List Instr) → HasAll image place (is ++ js) → HasAll image place is
+has_front image place [] js h = tt
+has_front image place (i ∷ is) js h = (h.0, has_front image (place + length (bytes_of i)) is js h.1)
+
+pub has_back : (image : List ℕ) (place : ℕ) (is js : List Instr) → HasAll image place (is ++ js) → HasAll image (place + total is) js
+has_back image place [] js h = let e : place ≡ place + 0 = omega arith in subst (λ n. HasAll image n js) e h
+has_back image place (i ∷ is) js h =
+    let e : place + length (bytes_of i) + total is ≡ place + (length (bytes_of i) + total is) = omega arith in
+    subst (λ n. HasAll image n js) e (has_back image (place + length (bytes_of i)) is js h.1)
+
+-- a word stands in the code
+pub record HasWord (code : List ℕ) (place word : ℕ) : Type 0 where
+  pub within : place + 2 ≤ length code
+  pub is : slice_index code place + 256 * slice_index code (place + 1) ≡ word
+
+-- a piece stands there with its word filled in
+abbrev pub HasPiece : List ℕ → (word place : ℕ) → Coded → Type 0
+HasPiece code w place (coded.Whole i) = Has code place i
+HasPiece code w place (coded.Move reg t) = Has code place (i86.MovImm reg (imm.Word w))
+HasPiece code w place (coded.Load t) = Has code place (i86.MovAcc false true false w)
+HasPiece code w place (coded.Store t) = Has code place (i86.MovAcc false true true w)
+HasPiece code w place (coded.Operate op reg t) = Has code place (with_memory op reg w)
+HasPiece code w place (coded.Call t) = Has code place (i86.Call w)
+HasPiece code w place (coded.Jump t) = Has code place (i86.Jump w)
+HasPiece code w place (coded.Word t) = HasWord code place w
+HasPiece code w place (coded.Way t) = Has code place (i86.JumpRm (entry_of_table w))
+
+-- these pieces stand one after another from a place
+abbrev pub HasPieces : List ℕ → Filling → ℕ → List Coded → Type 0
+HasPieces code value at [] = Unit {0}
+HasPieces code value at (p ∷ ps) = HasPiece code (word_before value (at + size_of p) (target_of p)) at p × HasPieces code value (at + size_of p) ps
+
+-- where the code of the order at a place of the list begins in the image
+abbrev pub order_place : (base : ℕ) → List Order → (place : ℕ) → ℕ
+order_place base list k = base + own_place list k
+
+-- the code of the block that begins with the order at a place of the list; none where the order stands in one that has begun
+abbrev pub pieces_at : Orders → (place : ℕ) → Order → List Coded
+pieces_at o k order = block_pieces (names_of o) (own_place o.list k) (block_at (left_at 0 o.list k) (drop k o.list)) order
+
+-- a segment's code in an image: its filled words, its entry, each order's pieces, the landings of labels and the routines of switches
+pub record Stands (p : OrderProgram) (image : List ℕ) (g : ℕ) (o : Orders) : Type 0 where
+  pub value : Filling
+  pub next_place : ℕ
+  pub fills : Fills p g next_place value
+  pub entry : HasPieces image value (base_of p g) entry_pieces
+  pub orders : (k : ℕ) (order : Order) → slice_get o.list k ≡ Some order → HasPieces image value (order_place (base_of p g) o.list k) (pieces_at o k order)
+  pub landings : (l : ℕ) (m : LabelMark) → slice_get o.labels l ≡ Some m → HasPieces image value (base_of p g + landing_start (names_of o) l) (landing_pieces (names_of o) (landing_start (names_of o) l) m)
+  pub switches : (n : ℕ) (gs : List Goal) → slice_get o.switches n ≡ Some gs → HasPieces image value (base_of p g + switch_start (names_of o) n) (switch_pieces (names_of o) (switch_start (names_of o) n) gs)
+
+-- all segments' codes, and the library
+pub record AllStand (p : OrderProgram) (image : List ℕ) : Type 0 where
+  pub library : HasAll image 0 (past ∷ joined routines)
+  pub stands : (g : ℕ) (o : Orders) → slice_get p.units g ≡ Some o → Stands p image g o
+  -- the way on from a segment
+  pub last : (g : ℕ) (o : Orders) (is : slice_get p.units g ≡ Some o) → slice_get p.units (suc g) ≡ None → (stands g o is).next_place ≡ entry_place 0
+  pub goes_on : (g : ℕ) (o n : Orders) (is : slice_get p.units g ≡ Some o) → slice_get p.units (suc g) ≡ Some n → (stands g o is).next_place ≡ base_of p (suc g)

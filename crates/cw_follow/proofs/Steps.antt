@@ -1,0 +1,448 @@
+-- One step of the orders, and how the processor comes to the next state.
+use Rattle.std.proofs.Common.{◌≡◌, inl, inr, ℕ, zero, suc, ◌+◌, ◌-◌, ◌*◌, ◌%◌, ◌<◌, ◌≤◌, Bool, true, false, List, [], ◌∷◌, length, drop, Option, Some, None, refl, sym, ap, ap₂, ◌⊎◌, ◌∙◌, subst, arith, lit<}
+use Rattle.std.specs.Prelude.{slice_get, nat_le}
+use Rattle.std.proofs.lemmas.Bool.{false≢true, le-leb, cases_lt}
+use Rattle.std.proofs.lemmas.Option.{slice_get_within}
+use Rattle.cw_track.proofs.Paths.{stay, weaken}
+use Rattle.cw_track.proofs.Simulations.{Quiet, Followed}
+use Rattle.cw_run86.specs.Processor.{Processor, processor_machine}
+use Rattle.cw_unit.specs.Stop.{Running, Stopped, Stuck}
+use Rattle.cw_unit.specs.Words.{Operand, Word, Held, Words, Outcome, Changed, Refused, Impossible, with_operands}
+use Rattle.cw_unit.specs.Operation.{holds}
+use Rattle.cw_order.specs.declared.order.Comparator.{Comparator}
+use Rattle.cw_order.specs.declared.order.Order.{Order}
+use Rattle.cw_order.specs.HasCode.{HasCode}
+use Rattle.cw_order.specs.OrderProgram.{OrderProgram, order_in, order_at, mark_in}
+use Rattle.cw_order.specs.OrderChanges.{Way, Onward, ToMark, Nowhere, way_of_two, to_mark_if, comparison}
+use Rattle.cw_order.specs.OrderState.{OrderActivation, OrderState, at, operand_words, stack_words}
+use Rattle.cw_order.specs.OrderCosts.{weight_of, weight_at}
+use Rattle.cw_order.specs.OrderMachine.{go_at, branch, after, carry_out, step, weight, shown, order_machine}
+use Rattle.cw_order.specs.FittingWords.{StateFits}
+use Rattle.cw_order.specs.Activations.{StateStands}
+use Rattle.cw_tmpl.specs.declared.blocks.Block.{Block}
+use Rattle.cw_tmpl.specs.declared.blocks.Block.TheVariants as block
+use Rattle.cw_tmpl.specs.Blocks.{block_at, orders_left, left_at}
+use Rattle.cw_tmpl.specs.Library.{routines, entry_place}
+use Rattle.cw_tmpl.specs.Templates.{template, block_pieces, block_size, order_size, distance}
+use Rattle.cw_tmpl.specs.ReferenceCode.{mark_starts, names_of}
+use Rattle.cw_follow.specs.Showing.{shown_as}
+use Rattle.cw_follow.specs.Placing.{base_of}
+use Rattle.cw_tmpl.proofs.Sizes.{size_to, size_next, left_next, own_place, mark_start}
+use Rattle.cw_follow.proofs.Standing.{HasPieces, order_place}
+use Rattle.cw_follow.proofs.InBlocks.{slice_drop, size_split, left_split, begins_at, chain, puts_word, silently, silently_next, is_silent}
+use Rattle.cw_follow.proofs.Chains.{at_work}
+use Rattle.cw_follow.proofs.Routines.{leads_on}
+use Rattle.cw_follow.proofs.Stacks.{level, words_split}
+use Rattle.cw_follow.proofs.Orders.{Landed, Leading, Does, Tells, Chooses}
+use Rattle.cw_follow.proofs.Operands.{Setting}
+use Rattle.cw_follow.proofs.States.{Given, Never, Sound, Matches, length_in, left, never_on, not_stuck, went_on}
+
+-- ---- places
+
+pub order_next : (base : ℕ) (list : List Order) (k : ℕ) (o : Order) → slice_get list k ≡ Some o → order_place base list k + block_size (block_at (left_at 0 list k) (drop k list)) o ≡ order_place base list (k + 1)
+order_next base list k o e =
+    let t = size_next 0 list k o e in
+    let s : k + 1 ≡ suc k = omega arith in
+    let m : size_to 0 list (k + 1) ≡ size_to 0 list (suc k) = ap (size_to 0 list) s in
+    omega arith
+
+-- the word below the top, which is the last one below offset 0
+abbrev pub under : ℕ → ℕ
+under zero = 32767
+under (suc n) = n
+
+pub under_low : (top : ℕ) → top ≤ 32761 → under top < 32768
+under_low zero le = lit< tt
+under_low (suc n) le = omega arith
+
+pub under_is : (top : ℕ) → top ≤ 32761 → 2 * top ≡ 2 * suc (under top) % 65536
+under_is zero le = refl
+under_is (suc n) le = omega arith
+
+pub arrives_at : (base own size to : ℕ) → (base + own + size + 6 + distance (own + size + 6) to) % 65536 ≡ (base + to) % 65536
+arrives_at base own size to = omega arith
+
+-- a number that is not at most another one is above it
+pub above : (a b : ℕ) → nat_le a b ≡ false → b < a
+above a b h = elim (cases_lt b a) as (λ _. b < a) [
+  | inl lt ↦ lt
+  | inr ge ↦ let yes : nat_le a b ≡ true = le-leb a b ge in absurd (false≢true (sym h ∙ yes))
+]
+
+-- before an order that is a block of its own
+pub record Alone (p : OrderProgram) (image : List ℕ) (g place line : ℕ) (acts : List OrderActivation) (w : Words) (q : Processor) (list : List Order) : Type 0 where
+  pub begins : left_at 0 list place ≡ 0
+  pub single : block_at 0 (drop place list) ≡ block.Single
+  pub landed : Landed p image (order_place (base_of p g) list place) g line acts w q
+
+-- the words on a way are within the room
+abbrev pub Roomy : List OrderActivation → ℕ → Way → Type 0
+Roomy acts room (Onward v) = stack_words v.operands acts ≤ room
+Roomy acts room (ToMark m v) = stack_words v.operands acts ≤ room
+Roomy acts room Nowhere = Unit {0}
+
+pub if_roomy : (acts : List OrderActivation) (room m : ℕ) (b : Bool) (v : Words) → stack_words v.operands acts ≤ room → Roomy acts room (to_mark_if b m v)
+if_roomy acts room m true v le = le
+if_roomy acts room m false v le = le
+
+pub two_roomy : (acts : List OrderActivation) (room m : ℕ) (c : Comparator) (operands : List Operand) (w : Words) → stack_words operands acts ≤ room → Roomy acts room (way_of_two (λ x y v. to_mark_if (holds (comparison c) x y) m v) (with_operands w operands))
+two_roomy acts room m c [] w le = tt
+two_roomy acts room m c (Held d ∷ rest) w le = tt
+two_roomy acts room m c (Word y ∷ []) w le = tt
+two_roomy acts room m c (Word y ∷ Held d ∷ rest) w le = tt
+two_roomy acts room m c (Word y ∷ Word x ∷ rest) w le = if_roomy acts room m (holds (comparison c) x y) (with_operands w rest) (let a = words_split (Word y ∷ Word x ∷ rest) acts in let b = words_split rest acts in let f : stack_words rest acts ≤ room = omega arith in f)
+
+abbrev pub way_after : Outcome → (Words → Way) → Way
+way_after (Changed v) f = f v
+way_after _ f = Nowhere
+
+module _ (known : Given) where
+  open known use {rows, p, image, all, coded, few, low}
+
+  abbrev pub Follow : OrderState → Processor → Type 0
+  Follow s q = Followed (order_machine p) (processor_machine shown_as) (Matches p image) (left p) s q
+
+  -- a way on that is paid for
+  pub leads_to : {q : Processor} (g place line : ℕ) (acts : List OrderActivation) (w : Words) (t : OrderState) (limit : ℕ) → step p (at g place line acts w Running) ≡ t → limit ≤ weight p (at g place line acts w Running) → Leading w.output limit q (Matches p image t) → Follow (at g place line acts w Running) q
+  leads_to {q} g place line acts w t limit e paid l =
+      let s = at g place line acts w Running in
+      let within = l.within in
+      record {
+        spent = l.spent;
+        reached = l.leads.reached;
+        path = weaken (λ o. o ≡ at_work w.output) (Quiet (shown s) (shown (step p s))) (processor_machine shown_as) l.spent q l.leads.reached (λ o x. inl x) l.leads.path;
+        within = omega arith;
+        matched = subst (λ x. Matches p image x l.leads.reached) (sym e) l.leads.there;
+        progress = inl l.some;
+      }
+
+  pub onward : {output : List ℕ} {limit : ℕ} {q : Processor} {T U : Processor → Type 0} → ((r : Processor) → T r → U r) → Leading output limit q T → Leading output limit q U
+  onward f l = record { spent = l.spent; some = l.some; within = l.within; leads = leads_on f l.leads }
+
+  module _ {q : Processor} {g place line : ℕ} {acts : List OrderActivation} {w : Words} (s : Sound p image g place line acts w q) where
+    pub few_segments : g < 255
+    few_segments = let lt = slice_get_within p.units g s.orders s.unit in omega arith
+
+    pub order_is : (o : Option Order) → slice_get s.orders.list place ≡ o → order_at p g place ≡ o
+    order_is o e = ap (λ u. order_in u place) s.unit ∙ e
+
+    pub step_is : (o : Option Order) → slice_get s.orders.list place ≡ o → step p (at g place line acts w Running) ≡ carry_out p o g place line acts w
+    step_is o e = ap (λ x. carry_out p x g place line acts w) (order_is o e)
+
+    pub weight_is : (o : Order) → slice_get s.orders.list place ≡ Some o → weight_of o ≤ weight p (at g place line acts w Running)
+    weight_is o e = let f : weight p (at g place line acts w Running) ≡ weight_of o = ap weight_at (order_is (Some o) e) in omega arith
+
+    pub fits_next : (t : OrderState) → step p (at g place line acts w Running) ≡ t → StateFits t
+    fits_next t e = subst StateFits e (rows.words.keeps p (at g place line acts w Running) (record { words = s.fits; activations = s.acts_fit }))
+
+    pub stands_next : (t : OrderState) → step p (at g place line acts w Running) ≡ t → StateStands p t
+    stands_next t e = subst (StateStands p) e (rows.words.stands_keep p (at g place line acts w Running) coded.callable s.stands)
+
+    pub never_next : (t : OrderState) → step p (at g place line acts w Running) ≡ t → Never p t
+    never_next t e = never_on p (at g place line acts w Running) t e s.never
+
+    -- the orders do not get stuck here
+    pub stuck_here : step p (at g place line acts w Running) ≡ at g place line acts w Stuck → ⊥
+    stuck_here e = not_stuck p g place line acts w (never_next (at g place line acts w Stuck) e)
+
+    -- before another block
+    pub sound_at : (to line' : ℕ) (v : Words) (r : Processor) → left_at 0 s.orders.list to ≡ 0 → stack_words v.operands acts ≤ p.room → step p (at g place line acts w Running) ≡ at g to line' acts v Running → Landed p image (order_place (base_of p g) s.orders.list to) g line' acts v r → Sound p image g to line' acts v r
+    sound_at to line' v r begins room e l = record {
+      orders = s.orders;
+      unit = s.unit;
+      from = to;
+      done = 0;
+      before = v;
+      place_is = omega arith;
+      begins = begins;
+      inside = omega arith;
+      did = refl;
+      landed = l;
+      fits = (fits_next (at g to line' acts v Running) e).words;
+      acts_fit = (fits_next (at g to line' acts v Running) e).activations;
+      fits_before = (fits_next (at g to line' acts v Running) e).words;
+      room = room;
+      room_before = room;
+      wrote = refl;
+      stands = stands_next (at g to line' acts v Running) e;
+      working = s.working;
+      comes_back = s.comes_back;
+      never = never_on p (at g place line acts w Running) (at g to line' acts v Running) e s.never;
+    }
+
+    pub does : (o : Outcome) (limit : ℕ) → left_at 0 s.orders.list (place + 1) ≡ 0 → step p (at g place line acts w Running) ≡ after p.room o g place line acts w → limit ≤ weight p (at g place line acts w Running) → Does p image limit (order_place (base_of p g) s.orders.list (place + 1)) g line acts w.output q o → Follow (at g place line acts w Running) q
+    does (Changed v) limit begins e paid d =
+        let on = went_on p g place line acts w v e s.never in
+        leads_to g place line acts w (at g (place + 1) line acts v Running) limit on.goes paid (onward (λ r l. inl (sound_at (place + 1) line v r begins on.room on.goes l)) d)
+    does (Refused kind) limit begins e paid d = leads_to g place line acts w (at g place line acts w (Stopped kind (g + 1) line)) limit e paid d
+    does Impossible limit begins e paid d = absurd (stuck_here e)
+
+    -- the same, where on the way a byte is written
+    pub tells : (o : Outcome) (limit : ℕ) → left_at 0 s.orders.list (place + 1) ≡ 0 → step p (at g place line acts w Running) ≡ after p.room o g place line acts w → limit ≤ weight p (at g place line acts w Running) → Tells p image limit (order_place (base_of p g) s.orders.list (place + 1)) g line acts w.output q o → Follow (at g place line acts w Running) q
+    tells (Changed v) limit begins e paid d =
+        let here = at g place line acts w Running in
+        let on = went_on p g place line acts w v e s.never in
+        let within = d.within in
+        let shows_next : shown (step p here) ≡ at_work v.output = ap shown on.goes in
+        record {
+          spent = d.spent;
+          reached = d.reached;
+          path = weaken (λ o. (o ≡ at_work w.output) ⊎ (o ≡ at_work v.output)) (Quiet (shown here) (shown (step p here))) (processor_machine shown_as) d.spent q d.reached
+              (λ o x. elim x [ inl before ↦ inl before | inr after ↦ inr (after ∙ sym shows_next) ]) d.path;
+          within = omega arith;
+          matched = subst (λ x. Matches p image x d.reached) (sym on.goes) (inl (sound_at (place + 1) line v d.reached begins on.room on.goes d.there));
+          progress = inl d.some;
+        }
+    tells (Refused kind) limit begins e paid d = absurd d
+    tells Impossible limit begins e paid d = absurd (stuck_here e)
+
+    -- where the block begins
+    abbrev pub rest : List Order
+    rest = drop s.from s.orders.list
+
+    abbrev pub start_place : ℕ
+    start_place = order_place (base_of p g) s.orders.list s.from
+
+    abbrev pub at_segment : ℕ → ℕ
+    at_segment n = order_place (base_of p g) s.orders.list n
+
+    pub block_code : (b : Block) (o : Order) (os : List Order) → drop s.from s.orders.list ≡ o ∷ os → block_at 0 (drop s.from s.orders.list) ≡ b
+        → HasPieces image (all.stands g s.orders s.unit).value (order_place (base_of p g) s.orders.list s.from) (block_pieces (names_of s.orders) (own_place s.orders.list s.from) b o)
+    block_code b o os e is =
+        let st = all.stands g s.orders s.unit in
+        let place = order_place (base_of p g) s.orders.list s.from in
+        let own = own_place s.orders.list s.from in
+        let here : s.from + 0 ≡ s.from = omega arith in
+        let first : slice_get s.orders.list s.from ≡ Some o = ap (slice_get s.orders.list) (sym here) ∙ sym (slice_drop s.orders.list s.from 0) ∙ ap (λ l. slice_get l 0) e in
+        let same : block_at (left_at 0 s.orders.list s.from) (drop s.from s.orders.list) ≡ b = ap (λ n. block_at n (drop s.from s.orders.list)) s.begins ∙ is in
+        subst (λ x. HasPieces image st.value place (block_pieces (names_of s.orders) own x o)) same (st.orders s.from o first)
+
+    -- where it ends
+    pub record Ends (b : Block) (o : Order) : Type 0 where
+      pub behind : order_place (base_of p g) s.orders.list s.from + block_size b o ≡ order_place (base_of p g) s.orders.list (place + 1)
+      pub begins : left_at 0 s.orders.list (place + 1) ≡ 0
+
+    pub block_ends : (b : Block) (o : Order) (os : List Order) (n : ℕ) → s.done ≡ n → drop s.from s.orders.list ≡ o ∷ os → block_at 0 (drop s.from s.orders.list) ≡ b → size_to (orders_left b) os n ≡ 0 → left_at (orders_left b) os n ≡ 0 → Ends b o
+    block_ends b o os n is_done e is none over =
+        let list = s.orders.list in
+        let same : block_at 0 (o ∷ os) ≡ b = sym (ap (block_at 0) e) ∙ is in
+        let placed = s.place_is in
+        let there : place + 1 ≡ s.from + suc n = omega arith in
+        let size : size_to (left_at 0 list s.from) (drop s.from list) (suc n) ≡ block_size b o + size_to (orders_left b) os n =
+        ap₂ (λ l r. size_to l r (suc n)) s.begins e ∙ ap (λ x. block_size x o + size_to (orders_left x) os n) same in
+        let whole : size_to 0 list (place + 1) ≡ size_to 0 list s.from + (block_size b o + size_to (orders_left b) os n) =
+        ap (size_to 0 list) there ∙ size_split 0 list s.from (suc n) ∙ ap (λ m. size_to 0 list s.from + m) size in
+        record {
+          behind = omega arith;
+          begins = ap (left_at 0 list) there ∙ left_split 0 list s.from (suc n) ∙ ap₂ (λ l r. left_at l r (suc n)) s.begins e ∙ ap (λ x. left_at (orders_left x) os n) same ∙ over;
+        }
+
+    -- the order that is to be done
+    pub order_here : (n : ℕ) (o : Order) (os : List Order) → s.done ≡ n → drop s.from s.orders.list ≡ os → slice_get os n ≡ Some o → slice_get s.orders.list place ≡ Some o
+    order_here n o os is_done e is =
+        let placed = s.place_is in
+        let there : place ≡ s.from + n = omega arith in
+        ap (slice_get s.orders.list) there ∙ sym (slice_drop s.orders.list s.from n) ∙ ap (λ l. slice_get l n) e ∙ is
+
+    -- an order that is not the last of its block
+    pub silent_in : (o : Order) → slice_get s.orders.list place ≡ Some o → carry_out p (Some o) g place line acts w ≡ after p.room (puts_word p g o w) g place line acts w → s.done + 1 ≤ orders_left (block_at 0 (drop s.from s.orders.list)) → Follow (at g place line acts w Running) q
+    silent_in o e goes_so more = cases (puts_word p g o w) refl
+      where
+        here : OrderState
+        here = at g place line acts w Running
+
+        goes_as : (x : Outcome) → puts_word p g o w ≡ x → step p (at g place line acts w Running) ≡ after p.room x g place line acts w
+        goes_as x is = step_is (Some o) e ∙ goes_so ∙ ap (λ x. after p.room x g place line acts w) is
+
+        there : slice_get (drop s.from s.orders.list) s.done ≡ Some o
+        there = slice_drop s.orders.list s.from s.done ∙ ap (slice_get s.orders.list) s.place_is ∙ e
+
+        cases : (x : Outcome) → puts_word p g o w ≡ x → Follow (at g place line acts w Running) q
+        cases (Refused kind) is = absurd ((is_silent p g o w).stops kind is)
+        cases Impossible is = absurd (not_stuck p g place line acts w (never_on p (at g place line acts w Running) (at g place line acts w Stuck) (goes_as Impossible is) s.never))
+        cases (Changed v) is =
+            let on = went_on p g place line acts w v (goes_as (Changed v) is) s.never in
+            let placed = s.place_is in
+            let next : s.done + 1 ≡ suc s.done = omega arith in
+            let matched : Sound p image g (place + 1) line acts v q = record {
+              orders = s.orders;
+              unit = s.unit;
+              from = s.from;
+              done = s.done + 1;
+              before = s.before;
+              place_is = omega arith;
+              begins = s.begins;
+              inside = more;
+              did =
+                  ap (λ n. silently p g n (drop s.from s.orders.list) s.before) next ∙ silently_next p g s.done (drop s.from s.orders.list) o s.before there
+                  ∙ ap (λ x. chain x (puts_word p g o)) s.did ∙ is;
+              landed = s.landed;
+              fits = (fits_next (at g (place + 1) line acts v Running) on.goes).words;
+              acts_fit = (fits_next (at g (place + 1) line acts v Running) on.goes).activations;
+              fits_before = s.fits_before;
+              room = on.room;
+              room_before = s.room_before;
+              wrote = s.wrote ∙ sym ((is_silent p g o w).wrote v is);
+              stands = stands_next (at g (place + 1) line acts v Running) on.goes;
+              working = s.working;
+              comes_back = s.comes_back;
+              never = never_on p (at g place line acts w Running) (at g (place + 1) line acts v Running) on.goes s.never;
+            } in
+            let within = slice_get_within s.orders.list place o e in
+            let long : length_in (slice_get p.units g) ≡ length s.orders.list = ap length_in s.unit in
+            let falls : left p (at g (place + 1) line acts v Running) < left p (at g place line acts w Running) = omega arith in
+            record {
+              spent = 0;
+              reached = q;
+              path = stay refl refl;
+              within = (let z : 0 ≤ weight p (at g place line acts w Running) = omega arith in z);
+              matched = subst (λ x. Matches p image x q) (sym on.goes) (inl matched);
+              progress = inr (subst (λ x. left p x < left p (at g place line acts w Running)) (sym on.goes) falls);
+            }
+
+    -- what the orders before the last one did
+    pub did_as : (n : ℕ) (os : List Order) → s.done ≡ n → drop s.from s.orders.list ≡ os → silently p g n os s.before ≡ Changed w
+    did_as n os is_done e = sym (ap₂ (λ m r. silently p g m r s.before) is_done e) ∙ s.did
+
+    -- the last order of a block, whose code does what all its orders do
+    pub last_does : (f : Words → Outcome) (limit n : ℕ) (os : List Order) → s.done ≡ n → drop s.from s.orders.list ≡ os → left_at 0 s.orders.list (place + 1) ≡ 0 → step p (at g place line acts w Running) ≡ after p.room (f w) g place line acts w → limit ≤ weight p (at g place line acts w Running)
+        → Does p image limit (order_place (base_of p g) s.orders.list (place + 1)) g line acts s.before.output q (chain (silently p g n os s.before) f) → Follow (at g place line acts w Running) q
+    last_does f limit n os is_done e begins goes paid d =
+        does (f w) limit begins goes paid
+        (subst (λ o. Does p image limit (order_place (base_of p g) s.orders.list (place + 1)) g line acts o q (f w)) s.wrote
+        (subst (λ x. Does p image limit (order_place (base_of p g) s.orders.list (place + 1)) g line acts s.before.output q (chain x f)) (did_as n os is_done e) d))
+
+    -- a call of the stop for an overflow
+    pub arrives : (c : ℕ) → (c + (all.stands g s.orders s.unit).value 7 2 0 c) % 65536 ≡ 26 % 65536
+    arrives c =
+        let by = (all.stands g s.orders s.unit).value 7 2 0 c in
+        let e : by ≡ (26 + (65536 - c % 65536)) % 65536 = (all.stands g s.orders s.unit).fills.library 2 c (lit< tt) in
+        omega arith
+
+    -- a call of an entry of the library
+    abbrev pub by : (entry c : ℕ) → ℕ
+    by entry c = (all.stands g s.orders s.unit).value 7 entry 0 c
+
+    pub calls : (entry c : ℕ) → entry < length routines → (c + (all.stands g s.orders s.unit).value 7 entry 0 c) % 65536 ≡ entry_place entry % 65536
+    calls entry c lt =
+        let word = (all.stands g s.orders s.unit).value 7 entry 0 c in
+        let e : word ≡ (entry_place entry + (65536 - c % 65536)) % 65536 = (all.stands g s.orders s.unit).fills.library entry c lt in
+        omega arith
+
+    abbrev pub setting : Setting
+    setting = record { rows = rows; image = image; library = all.library; program = p; low = low; g = g; few = few_segments; line = line; acts = acts }
+
+    pub cheap : (o : Order) (n : ℕ) → n ≤ weight_of o → slice_get s.orders.list place ≡ Some o → n ≤ weight p (at g place line acts w Running)
+    cheap o n le e = let x = weight_is o e in omega arith
+
+    pub has_code : (o : Order) → slice_get s.orders.list place ≡ Some o → HasCode o
+    has_code o e = coded.codes g place o (order_is (Some o) e)
+
+    -- there is an order where the orders go on
+    pub goes_within : (to line' : ℕ) (v : Words) → step p (at g place line acts w Running) ≡ at g to line' acts v Running → to ≤ length s.orders.list
+    goes_within to line' v e = cases (slice_get s.orders.list to) refl
+      where
+        never : Never p (at g to line' acts v Running)
+        never = never_on p (at g place line acts w Running) (at g to line' acts v Running) e s.never
+
+        cases : (o : Option Order) → slice_get s.orders.list to ≡ o → to ≤ length s.orders.list
+        cases None none =
+            let no_order : order_at p g to ≡ None = ap (λ u. order_in u to) s.unit ∙ none in
+            absurd (not_stuck p g to line' acts v (never_on p (at g to line' acts v Running) (at g to line' acts v Stuck) (ap (λ x. carry_out p x g to line' acts v) no_order) never))
+        cases (Some o) is = let lt = slice_get_within s.orders.list to o is in omega arith
+
+    -- where the code of a mark starts in the image
+    abbrev pub start : ℕ → ℕ
+    start m = base_of p g + mark_starts s.orders m
+
+    -- a mark is where a block begins
+    pub mark_begins : (m to : ℕ) → slice_get s.orders.marks m ≡ Some to → left_at 0 s.orders.list to ≡ 0
+    mark_begins m to is = elim (coded.marks g m to (ap (λ u. mark_in u m) s.unit ∙ is)) [
+      | inl zero_is ↦ ap (left_at 0 s.orders.list) zero_is
+      | inr begins ↦ begins_at s.orders.list to begins.0 (sym (ap (λ u. order_in u to) s.unit) ∙ begins.1) begins.2
+    ]
+
+    -- the way on that an order chooses
+    pub chosen : (way : Way) (limit : ℕ) → left_at 0 s.orders.list (place + 1) ≡ 0 → Roomy acts p.room way → step p (at g place line acts w Running) ≡ branch p way g place line acts w → limit ≤ weight p (at g place line acts w Running)
+        → Chooses p image limit (order_place (base_of p g) s.orders.list (place + 1)) start g line acts w.output q way → Follow (at g place line acts w Running) q
+    chosen (Onward v) limit begins room e paid d = leads_to g place line acts w (at g (place + 1) line acts v Running) limit e paid (onward (λ r l. inl (sound_at (place + 1) line v r begins room e l)) d)
+    chosen (ToMark m v) limit begins room e paid d = cases (slice_get s.orders.marks m) refl
+      where
+        goes : (k : Option ℕ) → slice_get s.orders.marks m ≡ k → step p (at g place line acts w Running) ≡ go_at k g place line acts w v
+        goes k is = e ∙ ap (λ x. go_at x g place line acts w v) (ap (λ u. mark_in u m) s.unit ∙ is)
+
+        cases : (k : Option ℕ) → slice_get s.orders.marks m ≡ k → Follow (at g place line acts w Running) q
+        cases None none = absurd (not_stuck p g place line acts w (never_on p (at g place line acts w Running) (at g place line acts w Stuck) (goes None none) s.never))
+        cases (Some to) is =
+            let there : start m ≡ order_place (base_of p g) s.orders.list to = ap (λ n. base_of p g + n) (mark_start s.orders m to is (goes_within to line v (goes (Some to) is))) in
+            leads_to g place line acts w (at g to line acts v Running) limit (goes (Some to) is) paid
+            (onward (λ r l. inl (sound_at to line v r (mark_begins m to is) room (goes (Some to) is) (subst (λ a. Landed p image a g line acts v r) there l))) d)
+    chosen Nowhere limit begins room e paid d = absurd (stuck_here e)
+
+    pub last_chooses : (f : Words → Way) (limit n : ℕ) (os : List Order) → s.done ≡ n → drop s.from s.orders.list ≡ os → left_at 0 s.orders.list (place + 1) ≡ 0 → Roomy acts p.room (f w) → step p (at g place line acts w Running) ≡ branch p (f w) g place line acts w → limit ≤ weight p (at g place line acts w Running)
+        → Chooses p image limit (order_place (base_of p g) s.orders.list (place + 1)) start g line acts s.before.output q (way_after (silently p g n os s.before) f) → Follow (at g place line acts w Running) q
+    last_chooses f limit n os is_done e begins room goes paid d =
+        chosen (f w) limit begins room goes paid
+        (subst (λ o. Chooses p image limit (order_place (base_of p g) s.orders.list (place + 1)) start g line acts o q (f w)) s.wrote
+        (subst (λ x. Chooses p image limit (order_place (base_of p g) s.orders.list (place + 1)) start g line acts s.before.output q (way_after x f)) (did_as n os is_done e) d))
+
+    pub low_room : operand_words w.operands < level acts
+    low_room = let room = s.room in let most = coded.room in let split = words_split w.operands acts in omega arith
+
+    -- ---- orders that are blocks of their own
+
+    pub alone : block_at 0 (drop s.from s.orders.list) ≡ block.Single → Alone p image g place line acts w q s.orders.list
+    alone is =
+        let inside = s.inside in
+        let none : orders_left (block_at 0 (drop s.from s.orders.list)) ≡ 0 = ap orders_left is in
+        let is_done : s.done ≡ 0 = omega arith in
+        let placed = s.place_is in
+        let here : s.from ≡ place = omega arith in
+        let same : Changed s.before ≡ Changed w = did_as 0 (drop s.from s.orders.list) is_done refl in
+        let words : s.before ≡ w = cc in
+        record {
+          begins = ap (left_at 0 s.orders.list) (sym here) ∙ s.begins;
+          single = ap (λ n. block_at 0 (drop n s.orders.list)) (sym here) ∙ is;
+          landed = subst (λ v. Landed p image (order_place (base_of p g) s.orders.list place) g line acts v q) words (subst (λ n. Landed p image (order_place (base_of p g) s.orders.list n) g line acts s.before q) here s.landed);
+        }
+
+    module _ (a : Alone p image g place line acts w q s.orders.list) where
+      pub alone_is : block_at (left_at 0 s.orders.list place) (drop place s.orders.list) ≡ block.Single
+      alone_is = ap (λ n. block_at n (drop place s.orders.list)) a.begins ∙ a.single
+
+      pub code : (o : Order) → slice_get s.orders.list place ≡ Some o → HasPieces image (all.stands g s.orders s.unit).value (order_place (base_of p g) s.orders.list place) (template (names_of s.orders) (own_place s.orders.list place) o)
+      code o e =
+          let st = all.stands g s.orders s.unit in
+          let here = order_place (base_of p g) s.orders.list place in
+          subst (λ x. HasPieces image st.value here (block_pieces (names_of s.orders) (own_place s.orders.list place) x o)) alone_is (st.orders place o e)
+
+      pub behind : (o : Order) → slice_get s.orders.list place ≡ Some o → order_place (base_of p g) s.orders.list place + order_size o ≡ order_place (base_of p g) s.orders.list (place + 1)
+      behind o e =
+          let n = order_next (base_of p g) s.orders.list place o e in
+          let size : block_size (block_at (left_at 0 s.orders.list place) (drop place s.orders.list)) o ≡ order_size o = ap (λ x. block_size x o) alone_is in
+          omega arith
+
+      pub begins_next : (o : Order) → slice_get s.orders.list place ≡ Some o → left_at 0 s.orders.list (place + 1) ≡ 0
+      begins_next o e =
+          let next : place + 1 ≡ suc place = omega arith in
+          ap (left_at 0 s.orders.list) next ∙ left_next 0 s.orders.list place o e ∙ ap orders_left alone_is
+
+      -- an order without code
+      pub silent : (o : Order) → slice_get s.orders.list place ≡ Some o → carry_out p (Some o) g place line acts w ≡ at g (place + 1) line acts w Running → order_size o ≡ 0 → Follow (at g place line acts w Running) q
+      silent o e goes_so none =
+          let here = order_place (base_of p g) s.orders.list place in
+          let goes : step p (at g place line acts w Running) ≡ at g (place + 1) line acts w Running = step_is (Some o) e ∙ goes_so in
+          let next = behind o e in
+          let to : here ≡ order_place (base_of p g) s.orders.list (place + 1) = omega arith in
+          let matched : Matches p image (at g (place + 1) line acts w Running) q = inl (sound_at (place + 1) line w q (begins_next o e) s.room goes (subst (λ a. Landed p image a g line acts w q) to a.landed)) in
+          let within = slice_get_within s.orders.list place o e in
+          let long : length_in (slice_get p.units g) ≡ length s.orders.list = ap length_in s.unit in
+          let falls : left p (at g (place + 1) line acts w Running) < left p (at g place line acts w Running) = omega arith in
+          record {
+            spent = 0;
+            reached = q;
+            path = stay refl refl;
+            within = (let z : 0 ≤ weight p (at g place line acts w Running) = omega arith in z);
+            matched = subst (λ x. Matches p image x q) (sym goes) matched;
+            progress = inr (subst (λ x. left p x < left p (at g place line acts w Running)) (sym goes) falls);
+          }

@@ -1,0 +1,210 @@
+-- Straight pieces of code: instructions that go on at the next one, and what they leave of a view.
+use Rattle.std.proofs.Common.{◌≡◌, ℕ, suc, ◌+◌, ◌*◌, ◌/◌, ◌%◌, ◌<◌, true, false, List, [], ◌∷◌, ◌++◌, length, refl, ap, ◌∙◌, subst, arith}
+use Rattle.std.specs.Prelude.{bit_and, bit_or, bit_xor}
+use Rattle.cw_i86.specs.Encoding.{bytes_of}
+use Rattle.cw_i86.specs.State.{sign_extended}
+use Rattle.cw_i86.specs.declared.instr.Instr.{Instr}
+use Rattle.cw_i86.specs.declared.instr.Instr.TheVariants as i86
+use Rattle.cw_i86.specs.declared.instr.Imm.TheVariants as imm
+use Rattle.cw_i86.specs.declared.instr.Rm.TheVariants as rms
+use Rattle.cw_i86.specs.declared.instr.Place.TheVariants as places
+use Rattle.cw_run86.specs.Processor.{Processor, processor_step}
+use Rattle.cw_run86.specs.Views.{View, Sees, Has, IsTop, register, with_place, with_register, with_result, with_pair, with_overflow, with_cell, with_stack, double_overflows, sum_overflows, difference_overflows, word_sum, word_difference, word_up, word_down, word_down_signed, shift_overflow, product_low, product_high, product_overflows, sign_of, with_number}
+use Rattle.cw_tmpl.specs.Mnemonics.{at_bx, near_field, slot}
+use Rattle.cw_follow.proofs.Standing.{HasAll}
+use Rattle.cw_follow.proofs.Rows.{Rows}
+use Rattle.cw_follow.proofs.Chains.{Is, Leads, placed, moved, has, more}
+
+-- an instruction, with what is known of the words that it reads: the number of the stack's word, and that word
+pub data Act : Type 0 where
+  Number : (r w : ℕ) → Act
+  Move : (r q : ℕ) → Act
+  Pop : (r n w : ℕ) → Act
+  Push : (r n : ℕ) → Act
+  Load : (r k w : ℕ) → Act
+  Store : (r k : ℕ) → Act
+  LoadSlot : (r by k w : ℕ) → Act
+  LoadArgument : (r by k w : ℕ) → Act
+  StoreField : (r by k : ℕ) → Act
+  LoadField : (r by k w : ℕ) → Act
+  Sum : (r q : ℕ) → Act
+  SumNumber : (w : ℕ) → Act
+  DifferenceNumber : (w : ℕ) → Act
+  Difference : (r q : ℕ) → Act
+  Negative : (r : ℕ) → Act
+  Double : (r : ℕ) → Act
+  Both : (r q : ℕ) → Act
+  Either : (r q : ℕ) → Act
+  One : (r q : ℕ) → Act
+  Up : (r : ℕ) → Act
+  Down : (r : ℕ) → Act
+  DownSigned : (r : ℕ) → Act
+  Product : (r : ℕ) → Act
+  Quotient : (r : ℕ) → Act
+  Sign : Act
+
+abbrev pub instruction : Act → Instr
+instruction (Number r w) = i86.MovImm r (imm.Word w)
+instruction (Move r q) = i86.Mov true true r (rms.Reg q)
+instruction (Pop r n w) = i86.Pop r
+instruction (Push r n) = i86.Push r
+instruction (Load r k w) = i86.Mov true true r at_bx
+instruction (Store r k) = i86.Mov true false r at_bx
+instruction (LoadSlot r by k w) = i86.Mov true true r (slot by)
+instruction (LoadArgument r by k w) = i86.Mov true true r (rms.Mem (record { cs = false; place = places.Far 6 by }))
+instruction (StoreField r by k) = i86.Mov true false r (rms.Mem (record { cs = false; place = places.Far 7 by }))
+instruction (LoadField r by k w) = i86.Mov true true r (near_field by)
+instruction (SumNumber w) = with_number 0 w
+instruction (DifferenceNumber w) = with_number 5 w
+instruction (Sum r q) = i86.AluRm 0 true true r (rms.Reg q)
+instruction (Difference r q) = i86.AluRm 5 true true r (rms.Reg q)
+instruction (Negative r) = i86.Unary 3 true (rms.Reg r)
+instruction (Double r) = i86.Shift 4 true false (rms.Reg r)
+instruction (Both r q) = i86.AluRm 4 true true r (rms.Reg q)
+instruction (Either r q) = i86.AluRm 1 true true r (rms.Reg q)
+instruction (One r q) = i86.AluRm 6 true true r (rms.Reg q)
+instruction (Up r) = i86.Shift 4 true true (rms.Reg r)
+instruction (Down r) = i86.Shift 5 true true (rms.Reg r)
+instruction (DownSigned r) = i86.Shift 7 true true (rms.Reg r)
+instruction (Product r) = i86.Unary 5 true (rms.Reg r)
+instruction (Quotient r) = i86.Unary 6 true (rms.Reg r)
+instruction Sign = i86.Cwd
+
+-- what has to be known before it
+abbrev pub Needs : Act → View → Type 0
+Needs (Number r w) v = Unit {0}
+Needs (Move r q) v = Unit {0}
+Needs (Pop r n w) v = (n < 32767) × IsTop v n × (v.stack n ≡ w)
+Needs (Push r n) v = (n < 32768) × IsTop v (suc n)
+Needs (Load r k w) v = (k < 32768) × (register v 3 ≡ 2 * k) × (v.cells k ≡ w)
+Needs (Store r k) v = (k < 32768) × (register v 3 ≡ 2 * k)
+Needs (LoadSlot r by k w) v = (k < 32768) × ((register v 5 + sign_extended by) % 65536 ≡ 2 * k) × (v.stack k ≡ w)
+Needs (LoadArgument r by k w) v = (k < 32768) × ((register v 5 + by) % 65536 ≡ 2 * k) × (v.stack k ≡ w)
+Needs (LoadField r by k w) v = (k < 32768) × ((register v 3 + sign_extended by) % 65536 ≡ 2 * k) × (v.cells k ≡ w)
+Needs (StoreField r by k) v = (k < 32768) × ((register v 3 + by) % 65536 ≡ 2 * k)
+Needs (Double r) v = register v r < 32768
+Needs (Up r) v = register v r < 65536
+Needs (DownSigned r) v = register v r < 65536
+Needs (Quotient r) v = (0 < register v r) × ((65536 * register v 2 + register v 0) / register v r < 65536)
+Needs _ v = Unit {0}
+
+-- the view behind it, but for the place
+abbrev pub after : Act → View → View
+after (Number r w) v = with_register r w v
+after (Move r q) v = with_register r (register v q) v
+after (Pop r n w) v = with_register r w (with_register 4 (2 * suc n) v)
+after (Push r n) v = with_register 4 (2 * n) (with_stack n (register v r) v)
+after (Load r k w) v = with_register r w v
+after (Store r k) v = with_cell k (register v r) v
+after (LoadSlot r by k w) v = with_register r w v
+after (LoadArgument r by k w) v = with_register r w v
+after (StoreField r by k) v = with_cell k (register v r) v
+after (LoadField r by k w) v = with_register r w v
+after (SumNumber w) v = with_result 0 (word_sum (register v 0) w) (sum_overflows (register v 0) w) v
+after (DifferenceNumber w) v = with_result 0 (word_difference (register v 0) w) (difference_overflows (register v 0) w) v
+after (Sum r q) v = with_result r (word_sum (register v r) (register v q)) (sum_overflows (register v r) (register v q)) v
+after (Difference r q) v = with_result r (word_difference (register v r) (register v q)) (difference_overflows (register v r) (register v q)) v
+after (Negative r) v = with_result r (word_difference 0 (register v r)) (difference_overflows 0 (register v r)) v
+after (Double r) v = with_result r (2 * register v r) (double_overflows (register v r)) v
+after (Both r q) v = with_result r (bit_and (register v r) (register v q)) false v
+after (Either r q) v = with_result r (bit_or (register v r) (register v q)) false v
+after (One r q) v = with_result r (bit_xor (register v r) (register v q)) false v
+after (Up r) v = with_result r (word_up (register v r) (register v 1 % 256)) (shift_overflow 4 (register v r) (register v 1 % 256) v.overflow) v
+after (Down r) v = with_result r (word_down (register v r) (register v 1 % 256)) (shift_overflow 5 (register v r) (register v 1 % 256) v.overflow) v
+after (DownSigned r) v = with_result r (word_down_signed (register v r) (register v 1 % 256)) (shift_overflow 7 (register v r) (register v 1 % 256) v.overflow) v
+after (Product r) v = with_overflow (product_overflows (register v 0) (register v r)) (with_pair (product_low (register v 0) (register v r)) (product_high (register v 0) (register v r)) v)
+after (Quotient r) v = with_pair ((65536 * register v 2 + register v 0) / register v r) ((65536 * register v 2 + register v 0) % register v r) v
+after Sign v = with_register 2 (sign_of (register v 0)) v
+
+-- ---- several
+
+abbrev pub codes : List Act → List Instr
+codes [] = []
+codes (a ∷ acts) = instruction a ∷ codes acts
+
+abbrev pub NeedsAll : List Act → View → Type 0
+NeedsAll [] v = Unit {0}
+NeedsAll (a ∷ acts) v = Needs a v × NeedsAll acts (after a v)
+
+abbrev pub after_all : List Act → View → View
+after_all [] v = v
+after_all (a ∷ acts) v = after_all acts (after a v)
+
+-- the place behind them
+abbrev pub behind : List Act → ℕ → ℕ
+behind [] at = at
+behind (a ∷ acts) at = behind acts (at + length (bytes_of (instruction a)))
+
+-- the code of a piece, and of what stands behind it
+pub piece : (image : List ℕ) (at : ℕ) (acts : List Act) (rest : List Instr) → HasAll image at (codes acts ++ rest) → HasAll image at (codes acts) × HasAll image (behind acts at) rest
+piece image at [] rest h = (tt, h)
+piece image at (a ∷ acts) rest h = let r = piece image (at + length (bytes_of (instruction a))) acts rest h.1 in ((h.0, r.0), r.1)
+
+module _ (rows : Rows) where
+  -- one of them
+  step : (a : Act) {image : List ℕ} {at : ℕ} {v : View} {p : Processor} → Has image at (instruction a) → Needs a v → Is image at v p → Is image (at + length (bytes_of (instruction a))) (after a v) (processor_step p)
+  step (Number r w) {image} {at} {v} {p} h n s = moved at (instruction (Number r w)) (after (Number r w) v) (processor_step p) (rows.number image (placed at v) r w (has (instruction (Number r w)) (omega arith) h s) p s.sees)
+  step (Move r q) {image} {at} {v} {p} h n s = moved at (instruction (Move r q)) (after (Move r q) v) (processor_step p) (rows.move image (placed at v) r q (has (instruction (Move r q)) (omega arith) h s) p s.sees)
+  step (Pop r n w) {image} {at} {v} {p} h needs s =
+      let a = Pop r n w in
+      let lt = needs.0 in
+      let below : n < 32768 = omega arith in
+      let m : 2 * suc n % 65536 ≡ 2 * suc n = omega arith in
+      moved at (i86.Pop r) (after a v) (processor_step p)
+      (subst (λ x. Sees image (with_place ((at % 65536 + 1) % 65536) (with_register r w (with_register 4 x v))) (processor_step p)) m
+      (subst (λ x. Sees image (with_place ((at % 65536 + 1) % 65536) (with_register r x (with_register 4 (2 * suc n % 65536) v))) (processor_step p)) needs.2
+      (rows.pop image (placed at v) r n (has (i86.Pop r) (omega arith) h s) below needs.1 p s.sees)))
+  step (Push r n) {image} {at} {v} {p} h needs s = moved at (i86.Push r) (after (Push r n) v) (processor_step p) (rows.push image (placed at v) r n (has (i86.Push r) (omega arith) h s) needs.0 needs.1 p s.sees)
+  step (Load r k w) {image} {at} {v} {p} h needs s =
+      let i = instruction (Load r k w) in
+      moved at i (with_register r w v) (processor_step p)
+      (subst (λ x. Sees image (with_place ((at % 65536 + 2) % 65536) (with_register r x v)) (processor_step p)) needs.2
+      (rows.load image (placed at v) r k (has i (omega arith) h s) needs.0 needs.1 p s.sees))
+  step (Store r k) {image} {at} {v} {p} h needs s = moved at (instruction (Store r k)) (after (Store r k) v) (processor_step p) (rows.store image (placed at v) r k (has (instruction (Store r k)) (omega arith) h s) needs.0 needs.1 p s.sees)
+  step (LoadSlot r by k w) {image} {at} {v} {p} h needs s =
+      let i = instruction (LoadSlot r by k w) in
+      moved at i (with_register r w v) (processor_step p)
+      (subst (λ x. Sees image (with_place ((at % 65536 + 3) % 65536) (with_register r x v)) (processor_step p)) needs.2
+      (rows.load_slot image (placed at v) r by k (has i (omega arith) h s) needs.0 needs.1 p s.sees))
+  step (LoadArgument r by k w) {image} {at} {v} {p} h needs s =
+      let i = instruction (LoadArgument r by k w) in
+      moved at i (with_register r w v) (processor_step p)
+      (subst (λ x. Sees image (with_place ((at % 65536 + 4) % 65536) (with_register r x v)) (processor_step p)) needs.2
+      (rows.load_argument image (placed at v) r by k (has i (omega arith) h s) needs.0 needs.1 p s.sees))
+  step (StoreField r by k) {image} {at} {v} {p} h needs s = moved at (instruction (StoreField r by k)) (after (StoreField r by k) v) (processor_step p) (rows.store_field image (placed at v) r by k (has (instruction (StoreField r by k)) (omega arith) h s) needs.0 needs.1 p s.sees)
+  step (LoadField r by k w) {image} {at} {v} {p} h needs s =
+      let i = instruction (LoadField r by k w) in
+      moved at i (with_register r w v) (processor_step p)
+      (subst (λ x. Sees image (with_place ((at % 65536 + 3) % 65536) (with_register r x v)) (processor_step p)) needs.2
+      (rows.load_field image (placed at v) r by k (has i (omega arith) h s) needs.0 needs.1 p s.sees))
+  step (SumNumber w) {image} {at} {v} {p} h n s = moved at (with_number 0 w) (after (SumNumber w) v) (processor_step p) (rows.add_number image (placed at v) w (has (with_number 0 w) (omega arith) h s) p s.sees)
+  step (DifferenceNumber w) {image} {at} {v} {p} h n s = moved at (with_number 5 w) (after (DifferenceNumber w) v) (processor_step p) (rows.subtract_number image (placed at v) w (has (with_number 5 w) (omega arith) h s) p s.sees)
+  step (Sum r q) {image} {at} {v} {p} h n s = moved at (instruction (Sum r q)) (after (Sum r q) v) (processor_step p) (rows.add image (placed at v) r q (has (instruction (Sum r q)) (omega arith) h s) p s.sees)
+  step (Difference r q) {image} {at} {v} {p} h n s = moved at (instruction (Difference r q)) (after (Difference r q) v) (processor_step p) (rows.subtract image (placed at v) r q (has (instruction (Difference r q)) (omega arith) h s) p s.sees)
+  step (Negative r) {image} {at} {v} {p} h n s = moved at (instruction (Negative r)) (after (Negative r) v) (processor_step p) (rows.negate image (placed at v) r (has (instruction (Negative r)) (omega arith) h s) p s.sees)
+  step (Double r) {image} {at} {v} {p} h n s = moved at (instruction (Double r)) (after (Double r) v) (processor_step p) (rows.double image (placed at v) r (has (instruction (Double r)) (omega arith) h s) n p s.sees)
+  step (Both r q) {image} {at} {v} {p} h n s = moved at (instruction (Both r q)) (after (Both r q) v) (processor_step p) (rows.both image (placed at v) r q (has (instruction (Both r q)) (omega arith) h s) p s.sees)
+  step (Either r q) {image} {at} {v} {p} h n s = moved at (instruction (Either r q)) (after (Either r q) v) (processor_step p) (rows.either image (placed at v) r q (has (instruction (Either r q)) (omega arith) h s) p s.sees)
+  step (One r q) {image} {at} {v} {p} h n s = moved at (instruction (One r q)) (after (One r q) v) (processor_step p) (rows.one image (placed at v) r q (has (instruction (One r q)) (omega arith) h s) p s.sees)
+  step (Up r) {image} {at} {v} {p} h n s = moved at (instruction (Up r)) (after (Up r) v) (processor_step p) (rows.shift_up image (placed at v) r (has (instruction (Up r)) (omega arith) h s) n p s.sees)
+  step (Down r) {image} {at} {v} {p} h n s = moved at (instruction (Down r)) (after (Down r) v) (processor_step p) (rows.shift_down image (placed at v) r (has (instruction (Down r)) (omega arith) h s) p s.sees)
+  step (DownSigned r) {image} {at} {v} {p} h n s = moved at (instruction (DownSigned r)) (after (DownSigned r) v) (processor_step p) (rows.shift_down_signed image (placed at v) r (has (instruction (DownSigned r)) (omega arith) h s) n p s.sees)
+  step (Product r) {image} {at} {v} {p} h n s = moved at (instruction (Product r)) (after (Product r) v) (processor_step p) (rows.multiply image (placed at v) r (has (instruction (Product r)) (omega arith) h s) p s.sees)
+  step (Quotient r) {image} {at} {v} {p} h n s = moved at (instruction (Quotient r)) (after (Quotient r) v) (processor_step p) (rows.divide image (placed at v) r (has (instruction (Quotient r)) (omega arith) h s) n.0 n.1 p s.sees)
+  step Sign {image} {at} {v} {p} h n s = moved at i86.Cwd (after Sign v) (processor_step p) (rows.extend image (placed at v) (has i86.Cwd (omega arith) h s) p s.sees)
+
+  -- none of them tells anything
+  quiet : (a : Act) (v : View) → (after a v).told ≡ v.told
+  quiet (Number r w) v = refl
+  quiet (Pop r n w) v = refl
+  quiet _ v = refl
+
+  -- all of them, and the way on
+  pub straight : (acts : List Act) {image : List ℕ} {at n : ℕ} {v : View} {p : Processor} {output : List ℕ} {Target : Processor → Type 0} → v.told.output ≡ output → HasAll image at (codes acts) → NeedsAll acts v → Is image at v p
+      → ((q : Processor) → Is image (behind acts at) (after_all acts v) q → Leads output n q Target) → Leads output (length acts + n) p Target
+  straight [] {n = n} {p = p} {output = output} {Target = Target} wrote h needs s on = let e : n ≡ 0 + n = omega arith in subst (λ m. Leads output m p Target) e (on p s)
+  straight (a ∷ acts) {n = n} {v = v} {p = p} {output = output} {Target = Target} wrote h needs s on =
+      let t = step a h.0 needs.0 s in
+      let told : (after a v).told.output ≡ output = ap (λ x. x.output) (quiet a v) ∙ wrote in
+      let e : suc (length acts + n) ≡ suc (length acts) + n = omega arith in
+      subst (λ m. Leads output m p Target) e (more rows s wrote t (λ q u. straight acts told h.1 needs.1 u on))

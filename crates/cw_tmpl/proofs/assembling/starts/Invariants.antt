@@ -1,6 +1,0 @@
-use Rattle.std.proofs.Common.{◌≡◌, ◌++◌, map, drop}
-use Rattle.std.specs.Prelude.{slice_index}
-use Rattle.cw_tmpl.proofs.assembling.starts.Given as goal
-
-abbrev pub invariant-loop-mark : goal.invariant-loop-mark
-invariant-loop-mark l = l.list ++ map (slice_index l.places) (drop l.mark-index l.marks) ≡ map (slice_index l.places) l.marks

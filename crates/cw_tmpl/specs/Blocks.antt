@@ -1,0 +1,56 @@
+-- How the orders of a list stand in blocks. A block has one piece of code. Its orders but the last only put a word, which never stops;
+-- the code takes that word from its own instruction or from memory. A mark stands at the first order of a block alone.
+use Rattle.std.specs.Prelude.{ℕ, zero, suc, List, [], ◌∷◌, Option, Some, None, slice_get}
+use Rattle.cw_order.specs.declared.order.Order.{Order}
+use Rattle.cw_order.specs.declared.order.Order.TheVariants as order
+use Rattle.cw_tmpl.specs.declared.blocks.Simple.TheVariants as simple
+use Rattle.cw_tmpl.specs.declared.blocks.Use.{Use}
+use Rattle.cw_tmpl.specs.declared.blocks.Use.TheVariants as uses
+use Rattle.cw_tmpl.specs.declared.blocks.Block.{Block}
+use Rattle.cw_tmpl.specs.declared.blocks.Block.TheVariants as block
+
+-- an order that takes two operands, and can take the top one from an instruction
+abbrev pub use_of : Option Order → Option Use
+use_of (Some order.Add) = Some uses.Add
+use_of (Some order.Sub) = Some uses.Subtract
+use_of (Some (order.JumpIf c m)) = Some (uses.Compare c m)
+use_of _ = None
+
+abbrev pub with_number : (word : ℕ) → Option Use → Block
+with_number w None = block.Single
+with_number w (Some u) = block.Operate (simple.Number w) u
+
+abbrev pub with_variable : (family offset : ℕ) → Option Use → Block
+with_variable f n None = block.Fetch f n
+with_variable f n (Some u) = block.Operate (simple.Variable f n) u
+
+abbrev pub after_home : (family offset : ℕ) → (second third : Option Order) → Block
+after_home f n (Some order.Load) third = with_variable f n (use_of third)
+after_home f n (Some order.Store) third = block.Assign f n
+after_home f n _ third = block.Single
+
+-- the block that begins with the first of these orders
+abbrev pub block_of : (first second third : Option Order) → Block
+block_of (Some (order.Const w)) second third = with_number w (use_of second)
+block_of (Some (order.Home f n)) second third = after_home f n second third
+block_of _ second third = block.Single
+
+-- how the first order of a list stands, where so many are left of the block before
+abbrev pub block_at : (left : ℕ) → List Order → Block
+block_at zero orders = block_of (slice_get orders 0) (slice_get orders 1) (slice_get orders 2)
+block_at (suc n) orders = block.Within n
+
+-- how many orders follow in its block
+abbrev pub orders_left : Block → ℕ
+orders_left (block.Within n) = n
+orders_left block.Single = 0
+orders_left (block.Fetch f n) = 1
+orders_left (block.Assign f n) = 1
+orders_left (block.Operate (simple.Number w) u) = 1
+orders_left (block.Operate (simple.Variable f n) u) = 2
+
+-- how many are left of a block at a place of the list; none where a block begins
+abbrev pub left_at : (left : ℕ) → List Order → (place : ℕ) → ℕ
+left_at left orders zero = left
+left_at left [] (suc k) = left
+left_at left (o ∷ os) (suc k) = left_at (orders_left (block_at left (o ∷ os))) os k

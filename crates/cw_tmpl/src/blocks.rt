@@ -1,0 +1,134 @@
+//! Blocks: orders that have one piece of code together. The orders before the last only put a word that the code of the last
+//! one takes from its instruction or from memory.
+ghost use Rattle.std.specs.Prelude.{◌≡◌, ◌<◌, length, drop, slice_get};
+ghost use Rattle.cw_tmpl.specs.Blocks.{use_of, with_number, with_variable, after_home, block_at, orders_left};
+
+use cw_order::{Comparator, Order};
+
+/// An operand that an instruction names.
+#[derive(Clone, Copy)]
+pub enum Simple {
+    Number(u16),
+    /// A word of a storage family.
+    Variable { family: u16, offset: u16 },
+}
+
+/// What is done with the operand below and a simple one on top.
+#[derive(Clone, Copy)]
+pub enum Use {
+    Add,
+    Subtract,
+    /// A jump to a mark where the comparison holds.
+    Compare { comparator: Comparator, mark: u32 },
+}
+
+/// How an order stands in its block.
+#[derive(Clone, Copy)]
+pub enum Block {
+    /// In a block that has begun, and so many follow in it.
+    Within(u8),
+    /// Alone.
+    Single,
+    /// First of two: a word of a storage family is put.
+    Fetch { family: u16, offset: u16 },
+    /// First of two: the top operand is stored in a word of a storage family.
+    Assign { family: u16, offset: u16 },
+    /// First of those that put a simple operand and use it.
+    Operate { operand: Simple, with: Use },
+}
+
+fn use_at(orders: &[Order], place: usize) -> Option<Use>
+    ensures { result ≡ use_of (slice_get orders.now place) }
+{
+    match orders.get(place) {
+        Some(Order::Add) => Some(Use::Add),
+        Some(Order::Sub) => Some(Use::Subtract),
+        Some(Order::JumpIf { comparator, mark }) => Some(Use::Compare {
+            comparator: *comparator,
+            mark: *mark,
+        }),
+        _ => None,
+    }
+}
+
+fn block_after_const(word: u16, orders: &[Order]) -> Block
+    ensures { result ≡ with_number word (use_of (slice_get orders.now 1)) }
+{
+    match use_at(orders, 1) {
+        Some(with) => Block::Operate {
+            operand: Simple::Number(word),
+            with,
+        },
+        None => Block::Single,
+    }
+}
+
+fn block_after_load(family: u16, offset: u16, orders: &[Order]) -> Block
+    ensures { result ≡ with_variable family offset (use_of (slice_get orders.now 2)) }
+{
+    match use_at(orders, 2) {
+        Some(with) => Block::Operate {
+            operand: Simple::Variable { family, offset },
+            with,
+        },
+        None => Block::Fetch { family, offset },
+    }
+}
+
+fn block_after_home(family: u16, offset: u16, orders: &[Order]) -> Block
+    ensures { result ≡ after_home family offset (slice_get orders.now 1) (slice_get orders.now 2) }
+{
+    match orders.get(1) {
+        Some(Order::Load) => block_after_load(family, offset, orders),
+        Some(Order::Store) => Block::Assign { family, offset },
+        _ => Block::Single,
+    }
+}
+
+/// The block that begins with the first of these orders.
+fn block_here(orders: &[Order]) -> Block
+    ensures { result ≡ block_at 0 orders.now }
+{
+    match orders.first() {
+        Some(Order::Const(word)) => block_after_const(*word, orders),
+        Some(Order::Home { family, offset }) => block_after_home(*family, *offset, orders),
+        _ => Block::Single,
+    }
+}
+
+/// How the first of the orders stands, where so many are left of the block before.
+fn block_at(left: u8, orders: &[Order]) -> Block
+    ensures { result ≡ block_at left orders.now }
+{
+    match left.checked_sub(1) {
+        Some(fewer) => Block::Within(fewer),
+        None => block_here(orders),
+    }
+}
+
+/// How the order at a place stands.
+pub fn block_in(left: u8, orders: &[Order], place: usize) -> Block
+    requires { place < length orders.now }
+    ensures { result ≡ block_at left (drop place orders.now) }
+{
+    block_at(left, &orders[place..])
+}
+
+/// How many orders follow in the block.
+pub fn orders_left(block: Block) -> u8
+    ensures { result ≡ orders_left block }
+{
+    match block {
+        Block::Within(left) => left,
+        Block::Single => 0,
+        Block::Fetch { .. } | Block::Assign { .. } => 1,
+        Block::Operate {
+            operand: Simple::Number(_),
+            ..
+        } => 1,
+        Block::Operate {
+            operand: Simple::Variable { .. },
+            ..
+        } => 2,
+    }
+}

@@ -1,0 +1,89 @@
+//! The places that the code of a segment names.
+ghost use Rattle.std.specs.Prelude.{◌≡◌};
+ghost use Rattle.cw_tmpl.specs.Names.{mark_place, switch_start, label_start, procedure_start, own};
+
+use crate::pieces::Target;
+use cw_order::LabelMark;
+use std::marker::Model;
+
+/// The bytes of the landing of a label.
+pub const LANDING: u64 = 15;
+
+/// Where the orders' code, the landings of labels and the routines of switches are, and what the marks, the labels and
+/// the procedures of a unit are.
+#[derive(Drop)]
+pub struct Names<'a> {
+    pub places: &'a [u32],
+    pub marks: &'a [u32],
+    pub labels: &'a [LabelMark],
+    pub procedures: &'a [u32],
+    pub landings: u32,
+    pub switches: &'a [u32],
+}
+
+impl<'a> Model for Names<'a> {
+    ghost use Rattle.cw_tmpl.specs.Names.{Names as Meaning};
+
+    ghost Value = { Meaning };
+
+    ghost view = { λ t. record {
+      places = t.places.now;
+      marks = t.marks.now;
+      labels = t.labels.now;
+      procedures = t.procedures.now;
+      landings = t.landings;
+      switches = t.switches.now;
+    } };
+}
+
+/// A place in the code of the segment.
+pub fn own(place: u64) -> Target
+    ensures { result ≡ own place }
+{
+    Target::Place((place % 65_536) as u16)
+}
+
+impl<'a> Names<'a> {
+    /// Where the code of a mark starts.
+    pub fn mark(&self, mark: u32) -> u32
+        ensures { result ≡ mark_place self.now mark }
+    {
+        let order = self.marks.get(mark as usize).copied().unwrap_or(0);
+        self.places.get(order as usize).copied().unwrap_or(0)
+    }
+
+    /// Where a jump to a label that may leave activations goes.
+    pub fn label(&self, label: u32) -> u64
+        ensures { result ≡ label_start self.now label }
+    {
+        match self.labels.get(label as usize) {
+            None => 0,
+            Some(entry) => {
+                if entry.in_procedure {
+                    u64::from(self.mark(entry.mark))
+                } else {
+                    u64::from(self.landings) + LANDING * u64::from(label)
+                }
+            }
+        }
+    }
+
+    /// Where the code of a procedure starts.
+    pub fn procedure(&self, procedure: u16) -> u32
+        ensures { result ≡ procedure_start self.now procedure }
+    {
+        self.mark(
+            self.procedures
+                .get(procedure as usize)
+                .copied()
+                .unwrap_or(0),
+        )
+    }
+
+    /// Where the routine of a switch starts.
+    pub fn switch(&self, switch: u32) -> u32
+        ensures { result ≡ switch_start self.now switch }
+    {
+        self.switches.get(switch as usize).copied().unwrap_or(0)
+    }
+}
