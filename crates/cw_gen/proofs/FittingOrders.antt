@@ -1,6 +1,6 @@
--- The numbers in the orders of a unit are words, and each order has code.
+-- The numbers in the orders of a unit are words, and each order is one that units are made of, which has code.
 use Rattle.std.proofs.Common.{◌≡◌, ℕ, zero, suc, ◌+◌, ◌<◌, ◌≤◌, List, [], ◌∷◌, ◌++◌, map, length, Bool, true, false, Option, Some, None, refl, sym, ap, ◌∙◌, subst, arith}
-use Rattle.std.specs.Prelude.{slice_get, IsTrue, ◌&&◌, option_map, nat_lt, nat_eq, is_none}
+use Rattle.std.specs.Prelude.{All, slice_get, IsTrue, ◌&&◌, option_map, nat_lt, nat_eq, is_none}
 use Rattle.std.proofs.lemmas.Bool.{false≢true, ltb-true, eqb-true}
 use Rattle.std.proofs.lemmas.Option.{none-some, same_Some, slice_get-map}
 use Rattle.cw_unit.specs.declared.unit.Unit.{Unit as SourceUnit}
@@ -29,8 +29,9 @@ use Rattle.cw_order.specs.declared.order.Orders.{Orders}
 use Rattle.cw_order.specs.OrderProgram.{OrderProgram, order_in, order_at}
 use Rattle.cw_order.specs.HasCode.{HasCode}
 use Rattle.cw_order.specs.FittingWords.{ConstantsFit, LinesFit}
-use Rattle.cw_gen.specs.Built.{is_built_expression, is_built_condition, is_built_ref, is_built_statement, is_built_within, is_built_goal, all_within, most_levels, AllBuilt, is_built_call, is_built_argument}
-use Rattle.cw_gen.specs.ReferenceOrders.{Piece, ConditionPiece, plain, followed_by, sequence, with_end, with_labels, pick_mark, comparator_for, joined, load_orders, rescale_orders, store_orders, number_word, expression_orders, condition_piece, argument_orders, ref_orders, begin_orders, call_orders, go_orders, statement_piece}
+use Rattle.cw_gen.specs.Built.{is_built_expression, is_built_condition, is_built_ref, is_built_statement, is_built_within, is_built_goal, all_within, most_levels, IsBuilt, AllBuilt, is_built_call, is_built_argument}
+use Rattle.cw_gen.specs.MadeOrders.{IsMade}
+use Rattle.cw_gen.specs.ReferenceOrders.{Piece, ConditionPiece, plain, followed_by, sequence, with_end, with_labels, pick_mark, comparator_for, joined, load_orders, rescale_orders, store_orders, number_word, expression_orders, condition_piece, argument_orders, ref_orders, begin_orders, call_orders, go_orders, statement_piece, unit_orders}
 use Rattle.cw_gen.specs.UnitTables.{first_mark}
 use Rattle.cw_gen.specs.Following.{orders_for, orders_program}
 use Rattle.cw_gen.proofs.Layers.{is_built_spot, built_expression, built_argument, built_condition, built_statement, expression-built, argument-built, ref-built, condition-built, statement-built, layer_expression_orders, layer_argument_orders, layer_spot_orders, layer_condition_piece, layer_statement_piece, expression_orders-are, argument_orders-are, spot_orders-are, ref_orders-are, condition_piece-is, statement_piece-is, total, expression_size, condition_size, statement_size, sum_size, difference_size, negative_size, conjunction_size, disjunction_size, list_size, choice_size, labelled_size}
@@ -48,7 +49,24 @@ NumberFits (order.Line n) = n < 65536
 NumberFits _ = Unit {0}
 
 abbrev OrderFits : Order → Type 0
-OrderFits o = NumberFits o × HasCode o
+OrderFits o = NumberFits o × IsMade o
+
+has_code : (o : Order) → IsMade o → HasCode o
+has_code (order.Const w) h = tt
+has_code (order.Home family offset) h = tt
+has_code order.Load h = tt
+has_code order.Store h = tt
+has_code order.Add h = tt
+has_code order.Sub h = tt
+has_code order.Neg h = tt
+has_code order.WriteByte h = tt
+has_code (order.Jump m) h = tt
+has_code (order.JumpIf c m) h = tt
+has_code order.Mark h = tt
+has_code (order.Line n) h = tt
+has_code (order.Start n) h = tt
+has_code order.NextBody h = tt
+has_code _ h = absurd h
 
 abbrev Fit : List Order → Type 0
 Fit [] = Unit {0}
@@ -62,6 +80,11 @@ each : (os : List Order) (k : ℕ) (o : Order) → Fit os → slice_get os k ≡
 each [] k o f h = absurd (none-some o h)
 each (x ∷ os) zero o f h = subst OrderFits (same_Some x o h) f.0
 each (x ∷ os) (suc k) o f h = each os k o f.1 h
+
+all-coded : (os : List Order) → Fit os → All HasCode os
+all-coded [] f k d lt = absurd (omega (arith, lt))
+all-coded (o ∷ os) f zero d lt = has_code o f.0.1
+all-coded (o ∷ os) f (suc k) d lt = all-coded os f.1 k d (omega (arith, lt))
 
 -- ---- references, expressions and arguments
 
@@ -248,20 +271,23 @@ module _ (layout : Layout) where
 
 -- ---- units
 
-pub has_orders : (us : List SourceUnit) (g : ℕ) (u : SourceUnit) → AllBuilt us → slice_get us g ≡ Some u → IsTrue (is_built_statement u u.body most_levels)
-has_orders [] g u b h = absurd (none-some u h)
-has_orders (v ∷ us) zero u b h = subst (λ x. IsTrue (is_built_statement x x.body most_levels)) (same_Some v u h) b.0
-has_orders (v ∷ us) (suc g) u b h = has_orders us g u b.1 h
+pub built-at : (us : List SourceUnit) (g : ℕ) (u : SourceUnit) → AllBuilt us → slice_get us g ≡ Some u → IsBuilt u
+built-at [] g u b h = absurd (none-some u h)
+built-at (v ∷ us) zero u b h = subst IsBuilt (same_Some v u h) b.0
+built-at (v ∷ us) (suc g) u b h = built-at us g u b.1 h
 
-unit_fits : (u : SourceUnit) → IsTrue (is_built_statement u u.body most_levels) → Fit (orders_for u).list
-unit_fits u b =
-    together (statement_piece (length u.defined) (layout_of u) u.body 0 (first_mark u)).orders (order.NextBody ∷ [])
-    (statement_fits (layout_of u) u (length u.defined) (statement_size u.body) most_levels u.body (let l : statement_size u.body ≤ statement_size u.body = omega arith in l) b 0 (first_mark u))
+pub has_orders : (us : List SourceUnit) (g : ℕ) (u : SourceUnit) → AllBuilt us → slice_get us g ≡ Some u → IsTrue (is_built_statement u u.body most_levels)
+has_orders us g u b h = (built-at us g u b h).body
+
+unit_fits : (u : SourceUnit) (layout : Layout) → IsTrue (is_built_statement u u.body most_levels) → Fit (unit_orders u layout).list
+unit_fits u layout b =
+    together (statement_piece (length u.defined) layout u.body 0 (first_mark u)).orders (order.NextBody ∷ [])
+    (statement_fits layout u (length u.defined) (statement_size u.body) most_levels u.body (let l : statement_size u.body ≤ statement_size u.body = omega arith in l) b 0 (first_mark u))
     ((tt, tt), tt)
 
 at_unit : (p : OrderProgram) (us : List SourceUnit) (g place : ℕ) (v : Option SourceUnit) (o : Order) → AllBuilt us → slice_get us g ≡ v → order_in (option_map orders_for v) place ≡ Some o → OrderFits o
 at_unit p us g place None o b h e = absurd (none-some o e)
-at_unit p us g place (Some u) o b h e = each (orders_for u).list place o (unit_fits u (has_orders us g u b h)) e
+at_unit p us g place (Some u) o b h e = each (orders_for u).list place o (unit_fits u (layout_of u) (has_orders us g u b h)) e
 
 order_fits : (us : List SourceUnit) (m : Map) (limits : Limits) (room g place : ℕ) (o : Order) → AllBuilt us → order_at (orders_program us m limits room) g place ≡ Some o → OrderFits o
 order_fits us m limits room g place o b e =
@@ -274,8 +300,14 @@ constants-fit us m limits room b g place w e = (order_fits us m limits room g pl
 pub lines-fit : (us : List SourceUnit) (m : Map) (limits : Limits) (room : ℕ) → AllBuilt us → LinesFit (orders_program us m limits room)
 lines-fit us m limits room b g place line e = (order_fits us m limits room g place (order.Line line) b e).0
 
+pub are-made : (us : List SourceUnit) (m : Map) (limits : Limits) (room g place : ℕ) (o : Order) → AllBuilt us → order_at (orders_program us m limits room) g place ≡ Some o → IsMade o
+are-made us m limits room g place o b e = (order_fits us m limits room g place o b e).1
+
 pub have-code : (us : List SourceUnit) (m : Map) (limits : Limits) (room g place : ℕ) (o : Order) → AllBuilt us → order_at (orders_program us m limits room) g place ≡ Some o → HasCode o
-have-code us m limits room g place o b e = (order_fits us m limits room g place o b e).1
+have-code us m limits room g place o b e = has_code o (are-made us m limits room g place o b e)
+
+pub have-all : (u : SourceUnit) (layout : Layout) → AllBuilt (u ∷ []) → All HasCode (unit_orders u layout).list
+have-all u layout b = all-coded (unit_orders u layout).list (unit_fits u layout b.0.body)
 
 entry_of_some : (v : Option SourceUnit) (o : Orders) → option_map orders_for v ≡ Some o → o.entry ≡ 0
 entry_of_some None o e = absurd (none-some o e)

@@ -43,9 +43,9 @@ use Rattle.cw_unit.specs.Work.{Work, Nothing, Run, Eval, Address, Do, Test, Choo
 use Rattle.cw_unit.specs.LabelContinuation.{label_continuation}
 use Rattle.cw_unit.specs.Scales.{natural_scale}
 use Rattle.cw_unit.specs.Configuration.{Configuration, at as configuration, Activation, words_of, address_at}
-use Rattle.cw_unit.specs.Step.{pick, jump_to_unit, jump_in_unit, work_from, after as source_after, put_constant, in_unit, stuck, address_step, give_step, next_body as source_next_body, steps}
+use Rattle.cw_unit.specs.Step.{pick, jump_to_unit, jump_in_unit, work_from, after as source_after, put_constant, in_unit, stuck, here as source_here, compares_in, address_step, give_step, next_body as source_next_body, steps}
 use Rattle.cw_unit.specs.InitialMemory.{initial_memory}
-use Rattle.cw_unit.specs.Behaviour.{Shown, is_running, first_body, initial_configuration}
+use Rattle.cw_unit.specs.Behaviour.{Observation, is_running, first_body, initial_configuration}
 use Rattle.cw_order.specs.declared.order.Order.{Order}
 use Rattle.cw_order.specs.declared.order.Order.TheVariants as order
 use Rattle.cw_order.specs.OrderProgram.{OrderProgram, order_in, order_at, mark_in, place_of as mark_place}
@@ -94,10 +94,10 @@ module _ (us : List SourceUnit) (m : Map) (limits : Limits) (room : ℕ) where
   abbrev compiled : OrderProgram
   compiled = orders_program us m limits room
 
-  abbrev A : Machine Shown
+  abbrev A : Machine Observation
   A = meaning program
 
-  abbrev B : Machine Shown
+  abbrev B : Machine Observation
   B = order_machine compiled
 
   -- a configuration and a state of the orders that belong together: the words are the same, and the code carries out the work; once
@@ -293,7 +293,7 @@ module _ (us : List SourceUnit) (m : Map) (limits : Limits) (room : ℕ) where
       addressed r (layer.Direct item) line k q l next w e b (h, end) carried roomy =
           let a = address_at program g [] item in
           changed (Address r line k) k q l w (put (pos a) w) (home_order (home item)) h (omega arith) (omega arith)
-          (ap (λ x. address_step program (out-Ref r).at x g line k [] w) e)
+          (ap (λ x. address_step program (compares_in program (source_here program g [])) (out-Ref r).at x g line k [] w) e)
           (ap (λ z. order_after room (Changed (put z w)) g q l [] w) (home_is item))
           (subst (λ place. Leading place l (Word (pos a) ∷ w.operands) k) (sym end) (carried a (in_area g item)))
           roomy
@@ -706,7 +706,7 @@ module _ (us : List SourceUnit) (m : Map) (limits : Limits) (room : ℕ) where
     pub words_fit : StateFits t
 
   module _ (in_words : limits.area ≤ 32768) (in_area : (h item : ℕ) → item_address program h item 0 < limits.area) (has : AllBuilt us) (keeps : (t : OrderState) → StateFits t → StateFits (B.step t)) where
-    path-fits : (Allowed : Shown → Type 0) (n : ℕ) (t v : OrderState) → Path Allowed B n t v → StateFits t → StateFits v
+    path-fits : (Allowed : Observation → Type 0) (n : ℕ) (t v : OrderState) → Path Allowed B n t v → StateFits t → StateFits v
     path-fits Allowed n t v (stay e z) fits = subst StateFits e fits
     path-fits Allowed n t v (move {w' = n'} {t' = t'} a e w p) fits = path-fits Allowed n' t' v p (subst StateFits e (keeps t fits))
 

@@ -1,8 +1,11 @@
 pub mod Making
 pub mod Layers
 pub mod FittingOrders
+pub mod MarkPlaces
 pub mod Numbers
 pub mod Placed
 pub mod Carried
 pub mod Labels
 pub mod Following
+pub mod Names
+pub mod Callables

@@ -4,9 +4,11 @@ use Rattle.std.proofs.Math.Seq.{set-append_seam}
 use Rattle.std.proofs.lemmas.List.{length-replicate, drop_all, set-append_left, set-append_right, set_past}
 use Rattle.cw_order.specs.declared.order.Order.{Order}
 use Rattle.cw_order.specs.declared.order.Order.TheVariants as order
+use Rattle.cw_order.specs.declared.order.LabelMark.{LabelMark}
 use Rattle.cw_order.specs.declared.order.Orders.{Orders}
 use Rattle.cw_unit.specs.declared.unit.Unit.{Unit as SourceUnit}
 use Rattle.cw_unit.specs.declared.layout.Layout.{Layout}
+use Rattle.cw_unit.specs.declared.unit.Goal.{Goal}
 use Rattle.cw_unit.specs.declared.unit.Cond.{Cond}
 use Rattle.cw_unit.specs.declared.unit.Cond.TheVariants as cond
 use Rattle.cw_unit.specs.declared.unit.Stmt.{Stmt}
@@ -16,14 +18,25 @@ use Rattle.cw_unit.specs.declared.unit.Arg.TheOpen as layer
 use Rattle.cw_unit.specs.declared.unit.Arg.TheFolds.{fold-roll-Cond}
 use Rattle.cw_unit.specs.declared.unit.Stmt.TheFolds.{fold-roll-Stmt}
 use Rattle.cw_gen.specs.ReferenceOrders.{MarkedOrders, Piece, ConditionPiece, RefOrders, pick_mark, argument_step, condition_step, expression_step, spot_step, ref_step, statement_step, condition_piece, statement_piece, plain, followed_by, sequence, with_end, with_labels, begin_orders, if_piece, label_places, unit_orders}
-use Rattle.cw_gen.specs.UnitTables.{first_mark}
+use Rattle.cw_gen.specs.UnitTables.{label_mark, first_mark, label_marks, procedure_marks, switch_goals}
 use Rattle.cw_gen.specs.Output.{added}
 
 abbrev pub marked : List Order → List (ℕ × ℕ) → List ℕ → MarkedOrders
 marked os ls ms = record { orders = os; labels = ls; marks = ms }
 
-abbrev pub made_orders : List Order → List ℕ → Orders
-made_orders os ms = record { list = os; entry = 0; marks = ms }
+-- with what stands in the lists of a unit
+abbrev pub orders_with : List Order → List ℕ → List LabelMark → List ℕ → List (List Goal) → Orders
+orders_with os ms ls ps ss = record { list = os; entry = 0; marks = ms; labels = ls; procedures = ps; switches = ss }
+
+module _ (u : SourceUnit) where
+  abbrev pub made_orders : List Order → List ℕ → Orders
+  made_orders os ms = orders_with os ms (label_marks (label_mark u 0) u.labels) (procedure_marks u) (switch_goals u.switches)
+
+  pub listed : (os : List Order) (ms ms' : List ℕ) (ls : List LabelMark) (ps : List ℕ) (ss : List (List Goal)) → ms ≡ ms' → ls ≡ label_marks (label_mark u 0) u.labels → ps ≡ procedure_marks u → ss ≡ switch_goals u.switches
+      → orders_with os ms ls ps ss ≡ made_orders os ms'
+  listed os ms ms' ls ps ss em el ep es =
+      ap (λ x. orders_with os x ls ps ss) em ∙ ap (λ x. orders_with os ms' x ps ss) el
+      ∙ ap (λ x. orders_with os ms' (label_marks (label_mark u 0) u.labels) x ss) ep ∙ ap (orders_with os ms' (label_marks (label_mark u 0) u.labels) (procedure_marks u)) es
 
 -- a mark that is placed later, and its place
 abbrev pub reserved : MarkedOrders → MarkedOrders
@@ -178,7 +191,7 @@ three_parts a b c rest =
     ∙ ap (λ l. replicate a 0 ++ l) (append_assoc (replicate b 0) (replicate c 0) rest)
 
 -- the orders of a unit, as the code makes them
-pub whole : (u : SourceUnit) (layout : Layout) (first labels procs fixed : ℕ) (x0 x1 x2 : MarkedOrders) (ms : List ℕ) → first ≡ length u.defined → labels ≡ length u.labels → procs ≡ length u.procs → fixed ≡ first + (labels + procs) → x0 ≡ marked [] [] (replicate fixed 0) → x1 ≡ added (statement_piece first layout u.body) x0 → x2 ≡ added (plain (order.NextBody ∷ [])) x1 → ((back : List ℕ) → x2.marks ≡ replicate first 0 ++ (replicate labels 0 ++ back) → ms ≡ replicate first 0 ++ (label_places labels x2.labels ++ back)) → made_orders x2.orders ms ≡ unit_orders u layout
+pub whole : (u : SourceUnit) (layout : Layout) (first labels procs fixed : ℕ) (x0 x1 x2 : MarkedOrders) (ms : List ℕ) → first ≡ length u.defined → labels ≡ length u.labels → procs ≡ length u.procs → fixed ≡ first + (labels + procs) → x0 ≡ marked [] [] (replicate fixed 0) → x1 ≡ added (statement_piece first layout u.body) x0 → x2 ≡ added (plain (order.NextBody ∷ [])) x1 → ((back : List ℕ) → x2.marks ≡ replicate first 0 ++ (replicate labels 0 ++ back) → ms ≡ replicate first 0 ++ (label_places labels x2.labels ++ back)) → made_orders u x2.orders ms ≡ unit_orders u layout
 whole u layout first labels procs fixed x0 x1 x2 ms ef el ep e e0 e1 e2 e3 =
     let body = λ (d n : ℕ). statement_piece d layout u.body 0 n in
     let m = body first fixed in
@@ -191,7 +204,7 @@ whole u layout first labels procs fixed x0 x1 x2 ms ef el ep e e0 e1 e2 e3 =
     let shape : x2.marks ≡ replicate first 0 ++ (replicate labels 0 ++ back) =
     ap (λ x. x.marks) at_end ∙ ap (λ n. replicate n 0 ++ m.marks) e ∙ three_parts first labels procs m.marks in
     let next : fixed ≡ first_mark u = e ∙ ap₂ (λ a b. a + b) ef (ap₂ (λ a b. a + b) el ep) in
-    ap₂ made_orders (ap (λ x. x.orders) at_end) (e3 back shape ∙ ap (λ x. replicate first 0 ++ (label_places labels x.labels ++ back)) at_end)
-    ∙ ap (λ n. let v = body first n in made_orders (v.orders ++ order.NextBody ∷ []) (replicate first 0 ++ (label_places labels v.labels ++ (replicate procs 0 ++ v.marks)))) next
-    ∙ ap (λ d. let v = body d (first_mark u) in made_orders (v.orders ++ order.NextBody ∷ []) (replicate d 0 ++ (label_places labels v.labels ++ (replicate procs 0 ++ v.marks)))) ef
-    ∙ ap₂ (λ a b. let v = body (length u.defined) (first_mark u) in made_orders (v.orders ++ order.NextBody ∷ []) (replicate (length u.defined) 0 ++ (label_places a v.labels ++ (replicate b 0 ++ v.marks)))) el ep
+    ap₂ (made_orders u) (ap (λ x. x.orders) at_end) (e3 back shape ∙ ap (λ x. replicate first 0 ++ (label_places labels x.labels ++ back)) at_end)
+    ∙ ap (λ n. let v = body first n in made_orders u (v.orders ++ order.NextBody ∷ []) (replicate first 0 ++ (label_places labels v.labels ++ (replicate procs 0 ++ v.marks)))) next
+    ∙ ap (λ d. let v = body d (first_mark u) in made_orders u (v.orders ++ order.NextBody ∷ []) (replicate d 0 ++ (label_places labels v.labels ++ (replicate procs 0 ++ v.marks)))) ef
+    ∙ ap₂ (λ a b. let v = body (length u.defined) (first_mark u) in made_orders u (v.orders ++ order.NextBody ∷ []) (replicate (length u.defined) 0 ++ (label_places a v.labels ++ (replicate b 0 ++ v.marks)))) el ep

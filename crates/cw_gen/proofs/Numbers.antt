@@ -7,7 +7,7 @@ use Rattle.std.proofs.lemmas.Int.{ints}
 use Rattle.cw_word.specs.FixedPoint.{FitsWord, fits_word, rescaled, floor_div}
 use Rattle.cw_word.specs.Decimal.{decimal_floor}
 use Rattle.cw_word.specs.Word.{signed}
-use Rattle.cw_unit.specs.declared.unit.Num.{Num}
+use Rattle.cw_word.specs.Number.{Number}
 use Rattle.cw_unit.specs.declared.unit.Unit.{Unit as SourceUnit}
 use Rattle.cw_unit.specs.declared.unit.Arg.{Arg}
 use Rattle.cw_unit.specs.declared.unit.Cond.{Cond}
@@ -53,7 +53,7 @@ whole-floor whole digits places scale a b c =
     ap (λ n. decimal_floor whole n places scale) a ∙ ap (λ n. decimal_floor whole 0 n scale) b ∙ ap (decimal_floor whole 0 0) c ∙ (let e : decimal_floor whole 0 0 0 ≡ whole = omega arith in e)
 
 -- the word of a number without a fraction is its value
-pub number-is : (n : Num) (scale : ℕ) → scale ≡ 0 → IsTrue (is_built_number n) → signed (number_word n) ≡ pos (decimal_floor n.whole n.digits n.places scale)
+pub number-is : (n : Number) (scale : ℕ) → scale ≡ 0 → IsTrue (is_built_number n) → signed (number_word n) ≡ pos (decimal_floor n.whole n.digits n.places scale)
 number-is n scale z b =
     let small = both (nat_lt n.whole 32768) (nat_eq n.digits 0 && nat_eq n.places 0) b in
     let none = both (nat_eq n.digits 0) (nat_eq n.places 0) small.1 in

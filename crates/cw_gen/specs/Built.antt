@@ -1,8 +1,8 @@
 -- The units that have orders so far. Whole words of items that stand at a place of their own, numbers without a fraction, sums,
 -- differences, negatives, assignments, output, conditions, jumps to labels of the unit's body, and lists of statements, all at scale 0.
-use Rattle.std.specs.Prelude.{ℕ, zero, suc, List, [], ◌∷◌, map, Bool, true, false, IsTrue, ◌&&◌, nat_eq, nat_lt, Option, Some, None, is_none, is_some, slice_get}
+use Rattle.std.specs.Prelude.{◌≡◌, ℕ, zero, suc, List, [], ◌∷◌, map, Bool, true, false, IsTrue, ◌&&◌, nat_eq, nat_lt, Option, Some, None, is_none, is_some, slice_get}
 use Rattle.cw_unit.specs.declared.unit.Unit.{Unit as SourceUnit}
-use Rattle.cw_unit.specs.declared.unit.Num.{Num}
+use Rattle.cw_word.specs.Number.{Number}
 use Rattle.cw_unit.specs.declared.unit.Target.{Target}
 use Rattle.cw_unit.specs.declared.unit.Target.TheVariants as target
 use Rattle.cw_unit.specs.declared.unit.Label.{Label}
@@ -21,7 +21,7 @@ use Rattle.cw_unit.specs.Work.{Nothing}
 use Rattle.cw_unit.specs.LabelContinuation.{label_continuation}
 
 -- a whole number that fits a word
-abbrev pub is_built_number : Num → Bool
+abbrev pub is_built_number : Number → Bool
 is_built_number n = nat_lt n.whole 32768 && (nat_eq n.digits 0 && nat_eq n.places 0)
 
 abbrev pub spot_step : Spot-F Bool Bool Bool Bool Bool → Bool
@@ -104,7 +104,13 @@ is_built_statement u = fold-Stmt (ℕ → Bool) (statement_step u)
 abbrev pub most_levels : ℕ
 most_levels = 64
 
--- each body has orders
+-- a unit whose body has orders, and which has nothing but this body, items and labels
+pub record IsBuilt (u : SourceUnit) : Type 0 where
+  pub body : IsTrue (is_built_statement u u.body most_levels)
+  pub no_procedures : u.procs ≡ []
+  pub no_switches : u.switches ≡ []
+  pub no_definitions : u.defined ≡ []
+
 abbrev pub AllBuilt : List SourceUnit → Type 0
 AllBuilt [] = Unit {0}
-AllBuilt (u ∷ us) = IsTrue (is_built_statement u u.body most_levels) × AllBuilt us
+AllBuilt (u ∷ us) = IsBuilt u × AllBuilt us

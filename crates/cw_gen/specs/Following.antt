@@ -11,7 +11,7 @@ use Rattle.cw_unit.specs.Program.{Program, program_at, item_address}
 use Rattle.cw_unit.specs.InitialMemory.{initial_memory}
 use Rattle.cw_unit.specs.Configuration.{Configuration, words_of}
 use Rattle.cw_unit.specs.Step.{step}
-use Rattle.cw_unit.specs.Behaviour.{Shown, shown, configuration_after}
+use Rattle.cw_unit.specs.Behaviour.{Observation, shown, configuration_after}
 use Rattle.cw_order.specs.declared.order.Orders.{Orders}
 use Rattle.cw_order.specs.OrderProgram.{OrderProgram}
 use Rattle.cw_order.specs.OrderState.{OrderState, operand_words}
@@ -20,7 +20,7 @@ use Rattle.cw_gen.specs.ReferenceOrders.{unit_orders}
 use Rattle.cw_gen.specs.UnitTables.{tables_of}
 
 -- the source semantics; each step may take the same number of instructions
-abbrev pub meaning : Program → Machine Shown
+abbrev pub meaning : Program → Machine Observation
 meaning p = record { State = Configuration; step = step p; shown = shown; weight = λ c. step_budget }
 
 abbrev pub orders_for : SourceUnit → Orders

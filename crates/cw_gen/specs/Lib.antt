@@ -3,3 +3,4 @@ pub mod Built
 pub mod UnitTables
 pub mod Output
 pub mod Following
+pub mod MadeOrders

@@ -8,7 +8,7 @@ use Rattle.cw_order.specs.declared.order.Comparator.{Comparator}
 use Rattle.cw_order.specs.declared.order.Comparator.TheVariants as comparator
 use Rattle.cw_unit.specs.declared.layout.Layout.{Layout}
 use Rattle.cw_unit.specs.declared.unit.Unit.{Unit as SourceUnit}
-use Rattle.cw_unit.specs.declared.unit.Num.{Num}
+use Rattle.cw_word.specs.Number.{Number}
 use Rattle.cw_unit.specs.declared.unit.Field.{Field}
 use Rattle.cw_unit.specs.declared.unit.Target.{Target}
 use Rattle.cw_unit.specs.declared.unit.Target.TheVariants as target
@@ -26,7 +26,7 @@ use Rattle.cw_unit.specs.declared.unit.Ref.{Ref, fold-Ref}
 use Rattle.cw_unit.specs.declared.unit.Spot.{Spot, fold-Spot}
 use Rattle.cw_unit.specs.declared.unit.Arg.TheOpen as layer
 use Rattle.cw_unit.specs.declared.unit.Arg.TheOpen.{Arg-F, Cond-F, Spot-F, Ref-F}
-use Rattle.cw_gen.specs.UnitTables.{first_mark}
+use Rattle.cw_gen.specs.UnitTables.{label_mark, first_mark, label_marks, procedure_marks, switch_goals}
 
 abbrev pub joined : List (List Order) → List Order
 joined [] = []
@@ -104,7 +104,7 @@ abbrev pub rescale_orders : ℕ → ℕ → List Order
 rescale_orders from to = if from == to then [] else (order.Rescale from to ∷ [])
 
 -- the word of a number: its whole part, as yet at every scale
-abbrev pub number_word : Num → ℕ
+abbrev pub number_word : Number → ℕ
 number_word n = n.whole % 65536
 
 -- the orders of an expression by its context scale
@@ -219,4 +219,7 @@ unit_orders u layout =
       list = body.orders ++ order.NextBody ∷ [];
       entry = 0;
       marks = replicate first 0 ++ (label_places (length u.labels) body.labels ++ (replicate (length u.procs) 0 ++ body.marks));
+      labels = label_marks (label_mark u 0) u.labels;
+      procedures = procedure_marks u;
+      switches = switch_goals u.switches;
     }

@@ -4,8 +4,8 @@ ghost use Rattle.cw_gen.specs.ReferenceOrders.{joined, expression_orders, argume
 
 use cw_order::Order;
 use cw_unit::layout::Layout;
-use cw_unit::unit::{Arg, Expr, Field, Num, Spot};
-use cw_word::{List, NoMemory};
+use cw_unit::unit::{Arg, Expr, Field, Spot};
+use cw_word::{List, NoMemory, Num};
 
 /// The family and the offset of an item.
 fn home(layout: &Layout, item: u32) -> (u16, u16)
@@ -63,7 +63,7 @@ fn emit_rescale(out: &mut List<Order>, from: u8, to: u8) -> Result<(), NoMemory>
 fn number_word(number: &Num) -> u16
     ensures { result ≡ number_word number.now }
 {
-    (number.whole % 65536) as u16
+    (number.whole() % 65536) as u16
 }
 
 /// Adds the orders that put the value of an expression at a scale.

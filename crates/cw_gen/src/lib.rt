@@ -6,5 +6,6 @@ mod expressions;
 pub mod laws;
 mod output;
 mod statements;
+mod tables;
 
 pub use statements::orders;

@@ -6,6 +6,7 @@ ghost use Rattle.cw_gen.specs.Output.{made, added};
 use crate::conditions::emit_condition;
 use crate::expressions::{emit_address, emit_arguments, emit_expression, emit_store};
 use crate::output::{Output, number};
+use crate::tables::{label_marks, marks_from, switch_goals};
 use cw_order::{Order, Orders};
 use cw_unit::layout::Layout;
 use cw_unit::unit::{Dest, Goal, Stmt, Target, Unit};
@@ -102,6 +103,7 @@ pub fn orders(alloc: Global, unit: &Unit, layout: &Layout) -> Result<Orders, NoM
     let labels = unit.labels.as_slice().len();
     let first_label = number(defined)?;
     let procedures = unit.procs.as_slice().len();
+    let first_procedure = number(sum(defined, labels)?)?;
     let mut out = Output::new(alloc, sum(defined, sum(labels, procedures)?)?)?;
     emit_statement(&mut out, layout, first_label, &unit.body)?;
     out.push(Order::NextBody)?;
@@ -110,5 +112,8 @@ pub fn orders(alloc: Global, unit: &Unit, layout: &Layout) -> Result<Orders, NoM
         list: out.orders,
         entry: 0,
         marks: List::of(out.marks),
+        labels: label_marks(alloc, first_label, unit.labels.as_slice())?,
+        procedures: marks_from(alloc, first_procedure, procedures)?,
+        switches: switch_goals(alloc, unit.switches.as_slice())?,
     })
 }

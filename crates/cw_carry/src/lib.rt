@@ -1,0 +1,2 @@
+//! What the orders at a place carry out.
+#![tactic(auto)]

@@ -1,0 +1,10 @@
+pub mod Shapes
+pub mod Sites
+pub mod Statements
+pub mod Rings
+pub mod Labels
+pub mod Loops
+pub mod Gotos
+pub mod Rules
+pub mod Bodies
+pub mod Following

@@ -1,0 +1,2 @@
+//! The orders of statements follow what the source means.
+#![tactic(auto)]

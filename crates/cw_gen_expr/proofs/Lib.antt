@@ -1,0 +1,5 @@
+pub mod Layers
+pub mod Scales
+pub mod NoLabels
+pub mod BestScales
+pub mod Making

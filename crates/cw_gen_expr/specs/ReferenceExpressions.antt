@@ -1,0 +1,279 @@
+-- The orders of expressions, conditions, references and arguments.
+use Rattle.std.specs.Prelude.{ℕ, zero, suc, ◌+◌, ◌%◌, max, ◌==◌, nat_lt, if◌then◌else◌, ℤ, pos, negsuc, ◌-ℤ◌, List, [], ◌∷◌, ◌++◌, Bool, true, false, not, Option, Some, None, slice_get, slice_index_or}
+use Rattle.cw_word.specs.Decimal.{decimal_floor}
+use Rattle.cw_word.specs.Word.{unsigned}
+use Rattle.cw_order.specs.declared.order.Order.{Order}
+use Rattle.cw_order.specs.declared.order.Order.TheVariants as order
+use Rattle.cw_order.specs.declared.order.Comparator.{Comparator}
+use Rattle.cw_order.specs.declared.order.Comparator.TheVariants as comparator
+use Rattle.cw_unit.specs.declared.layout.Layout.{Layout}
+use Rattle.cw_unit.specs.declared.layout.Family.{Family}
+use Rattle.cw_unit.specs.declared.layout.Sort.{Sort}
+use Rattle.cw_unit.specs.declared.layout.Sort.TheVariants as sort
+use Rattle.cw_unit.specs.declared.unit.Unit.{Unit as SourceUnit}
+use Rattle.cw_unit.specs.declared.unit.Field.{Field}
+use Rattle.cw_unit.specs.declared.unit.LogicOp.{LogicOp}
+use Rattle.cw_unit.specs.declared.unit.LogicOp.TheVariants as logic
+use Rattle.cw_unit.specs.declared.unit.Param.{Param}
+use Rattle.cw_unit.specs.declared.unit.Param.TheVariants as param
+use Rattle.cw_unit.specs.declared.unit.Target.{Target}
+use Rattle.cw_unit.specs.declared.unit.Target.TheVariants as target
+use Rattle.cw_unit.specs.declared.unit.Goal.{Goal}
+use Rattle.cw_unit.specs.declared.unit.Goal.TheVariants as goal
+use Rattle.cw_unit.specs.declared.unit.CompareOp.{CompareOp}
+use Rattle.cw_unit.specs.declared.unit.CompareOp.TheVariants as compare
+use Rattle.cw_unit.specs.declared.unit.Cond.{Cond, fold-Cond}
+use Rattle.cw_unit.specs.declared.unit.Expr.{Expr, Expr-F, fold-Expr}
+use Rattle.cw_unit.specs.declared.unit.Arg.{Arg, fold-Arg}
+use Rattle.cw_unit.specs.declared.unit.Ref.{Ref, fold-Ref}
+use Rattle.cw_unit.specs.declared.unit.Spot.{Spot, fold-Spot}
+use Rattle.cw_unit.specs.declared.unit.Arg.TheOpen as layer
+use Rattle.cw_unit.specs.declared.unit.Arg.TheOpen.{Arg-F, Cond-F, Spot-F, Ref-F}
+use Rattle.cw_unit.specs.Scales.{answer_scale, number_scale}
+use Rattle.cw_gen_expr.specs.Pieces.{Piece, plain, followed_by, sequence, with_end}
+
+-- ---- the body at work
+
+-- the words of an argument: a control argument takes two
+abbrev pub parameter_words : Param → ℕ
+parameter_words (param.Value i s) = 1
+parameter_words (param.Location i s) = 1
+parameter_words (param.Array i s) = 1
+parameter_words (param.Table i n) = 1
+parameter_words (param.Label k) = 2
+parameter_words (param.Switch k) = 2
+parameter_words (param.Proc k s) = 2
+
+abbrev pub argument_words : List Param → ℕ
+argument_words [] = 0
+argument_words (q ∷ qs) = parameter_words q + argument_words qs
+
+-- how many words of arguments follow that of a control parameter, which is named by its number among them
+abbrev pub control_place_from : Param → (k rest : ℕ) → (ℕ → ℕ) → ℕ
+control_place_from (param.Value i s) k rest f = f k
+control_place_from (param.Location i s) k rest f = f k
+control_place_from (param.Array i s) k rest f = f k
+control_place_from (param.Table i n) k rest f = f k
+control_place_from _ zero rest f = rest
+control_place_from _ (suc k) rest f = f k
+
+abbrev pub control_place : List Param → ℕ → ℕ
+control_place [] k = 0
+control_place (q ∷ qs) k = control_place_from q k (argument_words qs) (control_place qs)
+
+-- the unit of a body, its storage layout, and the parameters of the procedure whose body it is, none for a segment's
+pub record Scope : Type 0 where
+  pub unit : SourceUnit
+  pub layout : Layout
+  pub parameters : List Param
+
+abbrev pub scope_with : SourceUnit → Layout → List Param → Scope
+scope_with u y ps = record { unit = u; layout = y; parameters = ps }
+
+-- ---- items
+
+-- a word of a storage family, which stands in the frame at work or at a place of its own
+abbrev pub placed_by : Sort → (family offset : ℕ) → Order
+placed_by (sort.Frame base) f o = order.FrameHome ((base + o) % 65536)
+placed_by _ f o = order.Home f (o % 65536)
+
+abbrev pub placed_in : Option Family → (family offset : ℕ) → Order
+placed_in None f o = order.Home f (o % 65536)
+placed_in (Some x) f o = placed_by x.sort f o
+
+-- the address of a word of an item
+abbrev pub item_order : Layout → (item word : ℕ) → Order
+item_order y i n = let home = slice_index_or y.homes i (0, 0) in placed_in (slice_get y.families home.0) home.0 (home.1 + n)
+
+-- the base of a table: its address, or the word of a table parameter
+abbrev pub table_orders : Layout → Bool → (item : ℕ) → List Order
+table_orders y true i = item_order y i 0 ∷ order.Load ∷ []
+table_orders y false i = item_order y i 0 ∷ []
+
+-- the address of a reference whose indexes stand on the operand stack
+abbrev pub form_orders : {A C E S R : Type 0} → Layout → Spot-F A C E S R → List Order
+form_orders y (layer.Direct i) = item_order y i 0 ∷ []
+form_orders y (layer.Through i) = item_order y i 0 ∷ order.Load ∷ order.InArea ∷ []
+form_orders y (layer.One i l u e) = order.IndexLess l ∷ item_order y i 0 ∷ order.IndexAdd ∷ order.InArea ∷ []
+form_orders y (layer.Two i l1 u1 l2 u2 n e g) = order.IndexLess l2 ∷ order.IndexRow l1 n ∷ item_order y i 0 ∷ order.IndexAdd ∷ order.InArea ∷ []
+form_orders y (layer.ParamArray i e) = item_order y i 0 ∷ order.Load ∷ order.IndexAdd ∷ order.InArea ∷ []
+form_orders y (layer.Word i t n e) = table_orders y t i ++ order.IndexAdd ∷ order.InArea ∷ []
+form_orders y (layer.Elem i t n m w e) = order.IndexTimes n ∷ order.IndexPlus w ∷ (table_orders y t i ++ order.IndexAdd ∷ order.InArea ∷ [])
+form_orders y (layer.Bare e) = order.InArea ∷ []
+
+-- ---- operations
+
+-- an index is compared with its bounds where the unit asks for it
+abbrev pub bounds_orders : (compared : Bool) → (lower upper : ℤ) → List Order
+bounds_orders true l u = order.InBounds l u ∷ []
+bounds_orders false l u = []
+
+abbrev pub load_orders : Option Field → List Order
+load_orders None = order.Load ∷ []
+load_orders (Some s) = order.LoadPart s.t s.b (not s.unsigned) ∷ []
+
+abbrev pub store_orders : Option Field → List Order
+store_orders None = order.Store ∷ []
+store_orders (Some s) = order.StorePart s.t s.b ∷ []
+
+abbrev pub rescale_orders : (from to : ℕ) → List Order
+rescale_orders from to = if from == to then [] else (order.Rescale from to ∷ [])
+
+abbrev pub logic_order : LogicOp → Order
+logic_order logic.Mask = order.And
+logic_order logic.Union = order.Or
+logic_order logic.Differ = order.Xor
+
+-- the power of two of a product or a quotient, in the range that an order can hold
+abbrev pub narrow : ℤ → ℤ
+narrow (pos n) = if nat_lt n 128 then pos n else pos 0
+narrow (negsuc n) = if nat_lt n 128 then negsuc n else pos 0
+
+abbrev pub number_order : (word : ℕ) → Order
+number_order n = order.Const (n % 65536)
+
+-- the comparison that holds where this one does, and the one that holds where it does not
+abbrev pub comparator_for : Bool → CompareOp → Comparator
+comparator_for true compare.Less = comparator.Less
+comparator_for true compare.LessEq = comparator.LessEqual
+comparator_for true compare.Equal = comparator.Equal
+comparator_for true compare.GreaterEq = comparator.GreaterEqual
+comparator_for true compare.Greater = comparator.Greater
+comparator_for true compare.Unequal = comparator.Unequal
+comparator_for false compare.Less = comparator.GreaterEqual
+comparator_for false compare.LessEq = comparator.Greater
+comparator_for false compare.Equal = comparator.Unequal
+comparator_for false compare.GreaterEq = comparator.Less
+comparator_for false compare.Greater = comparator.LessEqual
+comparator_for false compare.Unequal = comparator.Equal
+
+abbrev pub pick_mark : Bool → ℕ → ℕ → ℕ
+pick_mark true m n = m
+pick_mark false m n = n
+
+-- ---- trees
+
+-- a condition: the orders that jump to a mark where its truth is this one, and go on after them elsewhere
+abbrev pub ConditionPiece : Type 0
+ConditionPiece = (when : Bool) → (mark : ℕ) → Piece
+
+-- an expression: its natural scale, its scale as an operand, and its orders at a context scale
+pub record Value : Type 0 where
+  pub natural : ℕ
+  pub operand : ℕ
+  pub at : ℕ → Piece
+
+-- a reference: the orders that put its address, and how its word is read
+pub record Reference : Type 0 where
+  pub address : Piece
+  pub scale : ℕ
+  pub field : Option Field
+
+-- one of two, by a condition
+abbrev pub choice_piece : ConditionPiece → Piece → Piece → Piece
+choice_piece c a b =
+    with_end (λ end. followed_by (with_end (λ other. followed_by (c false other) (followed_by a (plain (order.Jump end ∷ []))))) b)
+
+-- two values, and what is done with them
+abbrev pub two_values : Piece → Piece → List Order → Piece
+two_values a b os = followed_by a (followed_by b (plain os))
+
+-- of a value that has no scale of its own
+abbrev pub unscaled : (ℕ → Piece) → Value
+unscaled p = record { natural = 0; operand = 0; at = p }
+
+abbrev pub scaled : ℕ → (ℕ → Piece) → Value
+scaled f p = record { natural = f; operand = f; at = p }
+
+module _ (s : Scope) where
+  abbrev pub call_order : Target → Order
+  call_order (target.Own q) = order.CallProc q
+  call_order (target.Common d) = order.CallCommon d
+  call_order (target.Special k f) = order.CallSpecial (control_place s.parameters k)
+  call_order target.Read = order.ReadByte
+  call_order target.Write = order.WriteByte
+
+  abbrev pub label_order : Goal → Order
+  label_order (goal.Own l) = order.LabelOut l
+  label_order (goal.Common d) = order.LabelCommon d
+
+  -- an index that has bounds
+  abbrev pub bounded_piece : Value → (lower upper : ℤ) → Piece
+  bounded_piece e l u = followed_by (e.at 0) (plain (bounds_orders s.unit.bounds l u))
+
+  -- the indexes of a reference; the words of a table and its entries count from 0
+  abbrev pub index_piece : Spot-F Piece ConditionPiece Value Piece Reference → Piece
+  index_piece (layer.Direct i) = plain []
+  index_piece (layer.Through i) = plain []
+  index_piece (layer.One i l u e) = bounded_piece e l u
+  index_piece (layer.Two i l1 u1 l2 u2 n e g) = followed_by (bounded_piece e l1 u1) (bounded_piece g l2 u2)
+  index_piece (layer.ParamArray i e) = e.at 0
+  index_piece (layer.Word i t n e) = bounded_piece e (pos 0) (pos n -ℤ pos 1)
+  index_piece (layer.Elem i t n m w e) = bounded_piece e (pos 0) (pos m -ℤ pos 1)
+  index_piece (layer.Bare e) = e.at 0
+
+  abbrev pub spot_step : Spot-F Piece ConditionPiece Value Piece Reference → Piece
+  spot_step x = followed_by (index_piece x) (plain (form_orders s.layout x))
+
+  abbrev pub reference_step : Ref-F Piece ConditionPiece Value Piece Reference → Reference
+  reference_step r = record { address = r.at; scale = r.f; field = r.field }
+
+  abbrev pub expression_step : Expr-F Piece ConditionPiece Value Piece Reference → Value
+  expression_step (layer.Num n) =
+      record { natural = 0; operand = number_scale (nat_lt 0 n.places) n; at = λ f. plain (number_order (decimal_floor n.whole n.digits n.places f) ∷ []) }
+  expression_step (layer.Const z) = unscaled (λ f. plain (number_order (unsigned z) ∷ rescale_orders 0 f))
+  expression_step (layer.Text i) = unscaled (λ f. plain (item_order s.layout i 0 ∷ rescale_orders 0 f))
+  expression_step (layer.Read r) = scaled r.scale (λ f. followed_by r.address (plain (load_orders r.field ++ rescale_orders r.scale f)))
+  expression_step (layer.Call t args) =
+      scaled (answer_scale s.unit t) (λ f. followed_by (sequence args) (plain (call_order t ∷ rescale_orders (answer_scale s.unit t) f)))
+  expression_step (layer.Force g e) = scaled g (λ f. followed_by (e.at g) (plain (rescale_orders g f)))
+  expression_step (layer.Locate r) = unscaled (λ f. followed_by r.address (plain (rescale_orders 0 f)))
+  expression_step (layer.Bits t b e) = unscaled (λ f. followed_by (e.at e.operand) (plain (order.Take t b ∷ rescale_orders 0 f)))
+  expression_step (layer.Logic op a b) = unscaled (λ f. two_values (a.at a.operand) (b.at b.operand) (logic_order op ∷ rescale_orders 0 f))
+  expression_step (layer.Sum a b) = scaled (max a.natural b.natural) (λ f. two_values (a.at f) (b.at f) (order.Add ∷ []))
+  expression_step (layer.Less a b) = scaled (max a.natural b.natural) (λ f. two_values (a.at f) (b.at f) (order.Sub ∷ []))
+  expression_step (layer.Minus a) = scaled a.natural (λ f. followed_by (a.at f) (plain (order.Neg ∷ [])))
+  expression_step (layer.Times a b) =
+      scaled (max a.natural b.natural) (λ f. two_values (a.at a.operand) (b.at b.operand) (order.Mul (narrow (pos f -ℤ pos (a.operand + b.operand))) ∷ []))
+  expression_step (layer.Over a b) =
+      scaled (max a.natural b.natural) (λ f. two_values (a.at a.operand) (b.at b.operand) (order.Div (narrow (pos (f + b.operand) -ℤ pos a.operand)) ∷ []))
+  expression_step (layer.Choice c a b) = scaled (max a.natural b.natural) (λ f. choice_piece c (a.at f) (b.at f))
+
+  abbrev pub argument_step : Arg-F Piece ConditionPiece Value Piece Reference → Piece
+  argument_step (layer.Value e f) = e.at f
+  argument_step (layer.Place r) = r.address
+  argument_step (layer.Array i l) = plain (item_order s.layout i 0 ∷ order.IndexLess l ∷ [])
+  argument_step (layer.Same i) = plain (item_order s.layout i 0 ∷ order.Load ∷ [])
+  argument_step (layer.Base i) = plain (item_order s.layout i 0 ∷ [])
+  argument_step (layer.Goal g) = plain (label_order g ∷ [])
+  argument_step (layer.Switch n) = plain (order.SwitchOut n ∷ [])
+  argument_step (layer.CommonSwitch d) = plain (order.SwitchCommon d ∷ [])
+  argument_step (layer.Proc q) = plain (order.ProcOut q ∷ [])
+  argument_step (layer.CommonProc d) = plain (order.ProcCommon d ∷ [])
+  argument_step (layer.Special k) = plain (order.SpecialOut (control_place s.parameters k) ∷ [])
+
+  -- The second condition of an AND is past a jump for a first one that fails, that of an OR past one for a first one that holds
+  abbrev pub condition_step : Cond-F Piece ConditionPiece Value Piece Reference → ConditionPiece
+  condition_step (layer.Cmp op a b) when mark =
+      let f = max a.natural b.natural in
+      two_values (a.at f) (b.at f) (order.JumpIf (comparator_for when op) mark ∷ [])
+  condition_step (layer.And c d) when mark = with_end (λ end. followed_by (c false (pick_mark when end mark)) (d when mark))
+  condition_step (layer.Or c d) when mark = with_end (λ end. followed_by (c true (pick_mark when mark end)) (d when mark))
+
+  abbrev pub value_of : Expr → Value
+  value_of = fold-Expr Piece ConditionPiece Value Piece Reference argument_step condition_step expression_step spot_step reference_step
+
+  abbrev pub condition_piece : Cond → ConditionPiece
+  condition_piece = fold-Cond Piece ConditionPiece Value Piece Reference argument_step condition_step expression_step spot_step reference_step
+
+  abbrev pub argument_piece : Arg → Piece
+  argument_piece = fold-Arg Piece ConditionPiece Value Piece Reference argument_step condition_step expression_step spot_step reference_step
+
+  abbrev pub reference_of : Ref → Reference
+  reference_of = fold-Ref Piece ConditionPiece Value Piece Reference argument_step condition_step expression_step spot_step reference_step
+
+  abbrev pub spot_piece : Spot → Piece
+  spot_piece = fold-Spot Piece ConditionPiece Value Piece Reference argument_step condition_step expression_step spot_step reference_step
+
+  abbrev pub expression_piece : Expr → (scale : ℕ) → Piece
+  expression_piece e = (value_of e).at

@@ -1,0 +1,500 @@
+//! Expressions, conditions, references and arguments.
+ghost use Rattle.std.specs.Prelude.{◌≡◌, ◌+◌, pos, ◌-ℤ◌, ◌∷◌, [], ◌++◌, map, OnOk, OnErr, IfOk};
+ghost use Rattle.cw_unit.specs.declared.unit.Spot.{out-Spot};
+ghost use Rattle.cw_order.specs.declared.order.Order.TheVariants as order;
+ghost use Rattle.cw_gen_expr.specs.Pieces.{plain, sequence};
+ghost use Rattle.cw_gen_expr.specs.Output.{made, added};
+ghost use Rattle.cw_gen_expr.specs.UnitTables.{first_mark};
+ghost use Rattle.cw_gen_expr.specs.ReferenceExpressions.{expression_piece, condition_piece, argument_piece, spot_piece, bounds_orders, comparator_for, pick_mark, rescale_orders, load_orders, table_orders, form_orders, logic_order, narrow, call_order, scope_with};
+
+use crate::orders::{item, number_word, place_of_control, scale_of_operand};
+use crate::output::Output;
+use cw_order::{Comparator, Order};
+use cw_unit::layout::Layout;
+use cw_unit::scales::{answer_scale, natural_scale};
+use cw_unit::unit::{
+    Arg, CompareOp, Cond, Expr, Field, Goal, LogicOp, Param, Ref, Spot, Target, Unit,
+};
+use cw_word::{List, NoMemory};
+use std::alloc::Global;
+use std::mem;
+
+/// The comparison that holds where the truth of this one is `when`.
+fn comparator(op: CompareOp, when: bool) -> Comparator
+    ensures { result ≡ comparator_for when op }
+{
+    match (op, when) {
+        (CompareOp::Less, true) | (CompareOp::GreaterEq, false) => Comparator::Less,
+        (CompareOp::LessEq, true) | (CompareOp::Greater, false) => Comparator::LessEqual,
+        (CompareOp::Equal, true) | (CompareOp::Unequal, false) => Comparator::Equal,
+        (CompareOp::GreaterEq, true) | (CompareOp::Less, false) => Comparator::GreaterEqual,
+        (CompareOp::Greater, true) | (CompareOp::LessEq, false) => Comparator::Greater,
+        (CompareOp::Unequal, true) | (CompareOp::Equal, false) => Comparator::Unequal,
+    }
+}
+
+fn pick(first: bool, m: u32, n: u32) -> u32
+    ensures { result ≡ pick_mark first m n }
+{
+    if first { m } else { n }
+}
+
+/// Adds what takes a word from one scale to another.
+pub fn emit_rescale(out: &mut Output, from: u8, to: u8) -> Result<(), NoMemory>
+    ensures { OnOk result (made out.new ≡ added (plain (rescale_orders from to)) (made out.old)) }
+{
+    if from == to {
+        Ok(())
+    } else {
+        out.push(Order::Rescale { from, to })
+    }
+}
+
+/// Adds the order that puts the word at an address, or a part of it.
+pub fn emit_load(out: &mut Output, field: &Option<Field>) -> Result<(), NoMemory>
+    ensures { OnOk result (made out.new ≡ added (plain (load_orders field.now)) (made out.old)) }
+{
+    match field {
+        None => out.push(Order::Load),
+        Some(part) => out.push(Order::LoadPart {
+            t: part.t,
+            b: part.b,
+            signed: !part.unsigned,
+        }),
+    }
+}
+
+fn logic(op: LogicOp) -> Order
+    ensures { result ≡ logic_order op }
+{
+    match op {
+        LogicOp::Mask => Order::And,
+        LogicOp::Union => Order::Or,
+        LogicOp::Differ => Order::Xor,
+    }
+}
+
+/// Adds the base of a table: its address, or the word of a table parameter.
+fn emit_table(
+    out: &mut Output,
+    layout: &Layout,
+    parameter: bool,
+    table: u32,
+) -> Result<(), NoMemory>
+    ensures { OnOk result (made out.new ≡ added (plain (table_orders layout.now parameter table)) (made out.old)) }
+{
+    out.push(item(layout, table, 0))?;
+    if parameter {
+        out.push(Order::Load)
+    } else {
+        Ok(())
+    }
+}
+
+/// Adds the orders that make an address of a reference's indexes.
+fn emit_form(out: &mut Output, layout: &Layout, spot: &Spot) -> Result<(), NoMemory>
+    ensures { OnOk result (made out.new ≡ added (plain (form_orders layout.now (out-Spot spot.now))) (made out.old)) }
+{
+    match spot {
+        Spot::Direct(i) => out.push(item(layout, *i, 0)),
+        Spot::Through(i) => {
+            out.push(item(layout, *i, 0))?;
+            out.push(Order::Load)?;
+            out.push(Order::InArea)
+        }
+        Spot::One(i, lower, _, _) => {
+            out.push(Order::IndexLess(*lower))?;
+            out.push(item(layout, *i, 0))?;
+            out.push(Order::IndexAdd)?;
+            out.push(Order::InArea)
+        }
+        Spot::Two(i, first, _, second, _, length, _, _) => {
+            out.push(Order::IndexLess(*second))?;
+            out.push(Order::IndexRow {
+                lower: *first,
+                length: *length,
+            })?;
+            out.push(item(layout, *i, 0))?;
+            out.push(Order::IndexAdd)?;
+            out.push(Order::InArea)
+        }
+        Spot::ParamArray(i, _) => {
+            out.push(item(layout, *i, 0))?;
+            out.push(Order::Load)?;
+            out.push(Order::IndexAdd)?;
+            out.push(Order::InArea)
+        }
+        Spot::Word(i, parameter, _, _) => {
+            emit_table(out, layout, *parameter, *i)?;
+            out.push(Order::IndexAdd)?;
+            out.push(Order::InArea)
+        }
+        Spot::Elem(i, parameter, width, _, place, _) => {
+            out.push(Order::IndexTimes(*width))?;
+            out.push(Order::IndexPlus(*place))?;
+            emit_table(out, layout, *parameter, *i)?;
+            out.push(Order::IndexAdd)?;
+            out.push(Order::InArea)
+        }
+        Spot::Bare(_) => out.push(Order::InArea),
+    }
+}
+
+/// Adds the comparison of an index with its bounds, where the unit asks for it.
+fn emit_bounds(out: &mut Output, unit: &Unit, lower: i16, upper: i16) -> Result<(), NoMemory>
+    ensures { OnOk result (made out.new ≡ added (plain (bounds_orders unit.now.bounds lower upper)) (made out.old)) }
+{
+    if unit.bounds {
+        out.push(Order::InBounds { lower, upper })
+    } else {
+        Ok(())
+    }
+}
+
+/// Adds the comparison of an index that counts from 0 with a number of words or entries, where the unit asks for it.
+/// NoMemory comes for tables that no unit has, of over 32,768 words.
+fn emit_count(out: &mut Output, unit: &Unit, count: u32) -> Result<(), NoMemory>
+    ensures { OnOk result (made out.new ≡ added (plain (bounds_orders unit.now.bounds (pos 0) (pos count -ℤ pos 1))) (made out.old)) }
+{
+    if !unit.bounds {
+        return Ok(());
+    }
+    match i16::try_from(i64::from(count) - 1) {
+        Ok(upper) => out.push(Order::InBounds { lower: 0, upper }),
+        Err(_) => Err(NoMemory),
+    }
+}
+
+/// A power of two of a product or a quotient, in the range that an order can hold.
+fn power(power: i32) -> i8
+    ensures { result ≡ narrow power }
+{
+    match i8::try_from(power) {
+        Ok(power) => power,
+        Err(_) => 0,
+    }
+}
+
+/// Adds the order of a product at scale `to`, whose operands have the scales `f` and `g`.
+fn emit_product(out: &mut Output, to: u8, f: u8, g: u8) -> Result<(), NoMemory>
+    ensures { OnOk result (made out.new ≡ added (plain (order.Mul (narrow (pos to -ℤ pos (f + g))) ∷ [])) (made out.old)) }
+{
+    out.push(Order::Mul(power(i32::from(to) - i32::from(u16::from(f) + u16::from(g)))))
+}
+
+/// Adds the order of a quotient at scale `to`, whose operands have the scales `f` and `g`.
+fn emit_quotient(out: &mut Output, to: u8, f: u8, g: u8) -> Result<(), NoMemory>
+    ensures { OnOk result (made out.new ≡ added (plain (order.Div (narrow (pos (to + g) -ℤ pos f)) ∷ [])) (made out.old)) }
+{
+    out.push(Order::Div(power(i32::from(u16::from(to) + u16::from(g)) - i32::from(f))))
+}
+
+/// Adds the order that calls.
+pub fn emit_call(
+    out: &mut Output,
+    unit: &Unit,
+    layout: &Layout,
+    parameters: &[Param],
+    target: &Target,
+) -> Result<(), NoMemory>
+    ensures { OnOk result (made out.new ≡ added (plain (call_order (scope_with unit.now layout.now parameters.now) target.now ∷ [])) (made out.old)) }
+{
+    match target {
+        Target::Own(procedure) => out.push(Order::CallProc(*procedure)),
+        Target::Common(descriptor) => out.push(Order::CallCommon(*descriptor)),
+        Target::Special(control, _) => out.push(Order::CallSpecial(place_of_control(
+            parameters, *control,
+        )?)),
+        Target::Read => out.push(Order::ReadByte),
+        Target::Write => out.push(Order::WriteByte),
+    }
+}
+
+/// Adds the orders that put the value of an expression at a scale.
+#[cycle(tree)]
+pub fn emit_expression(
+    out: &mut Output,
+    unit: &Unit,
+    layout: &Layout,
+    parameters: &[Param],
+    e: &Expr,
+    scale: u8,
+) -> Result<(), NoMemory>
+    ensures { OnOk result (made out.new ≡ added (expression_piece (scope_with unit.now layout.now parameters.now) e.now scale) (made out.old)) }
+{
+    match e {
+        Expr::Num(number) => {
+            let word = number_word(number, scale)?;
+            out.push(Order::Const(word))
+        }
+        Expr::Const(z) => {
+            out.push(Order::Const(z.cast_unsigned()))?;
+            emit_rescale(out, 0, scale)
+        }
+        Expr::Text(i) => {
+            out.push(item(layout, *i, 0))?;
+            emit_rescale(out, 0, scale)
+        }
+        Expr::Read(reference) => {
+            let reference = reference.get();
+            emit_address(out, unit, layout, parameters, &reference.at)?;
+            emit_load(out, &reference.field)?;
+            emit_rescale(out, reference.f, scale)
+        }
+        Expr::Call(target, arguments) => {
+            emit_arguments(out, unit, layout, parameters, arguments.as_slice())?;
+            emit_call(out, unit, layout, parameters, target)?;
+            emit_rescale(out, answer_scale(unit, target), scale)
+        }
+        Expr::Force(forced, a) => {
+            emit_expression(out, unit, layout, parameters, a.get(), *forced)?;
+            emit_rescale(out, *forced, scale)
+        }
+        Expr::Locate(reference) => {
+            emit_address(out, unit, layout, parameters, &reference.get().at)?;
+            emit_rescale(out, 0, scale)
+        }
+        Expr::Bits(t, b, a) => {
+            let a = a.get();
+            let f = scale_of_operand(unit, a)?;
+            emit_expression(out, unit, layout, parameters, a, f)?;
+            out.push(Order::Take { t: *t, b: *b })?;
+            emit_rescale(out, 0, scale)
+        }
+        Expr::Logic(op, a, b) => {
+            let (a, b) = (a.get(), b.get());
+            let f = scale_of_operand(unit, a)?;
+            let g = scale_of_operand(unit, b)?;
+            emit_expression(out, unit, layout, parameters, a, f)?;
+            emit_expression(out, unit, layout, parameters, b, g)?;
+            out.push(logic(*op))?;
+            emit_rescale(out, 0, scale)
+        }
+        Expr::Sum(a, b) => {
+            emit_expression(out, unit, layout, parameters, a.get(), scale)?;
+            emit_expression(out, unit, layout, parameters, b.get(), scale)?;
+            out.push(Order::Add)
+        }
+        Expr::Less(a, b) => {
+            emit_expression(out, unit, layout, parameters, a.get(), scale)?;
+            emit_expression(out, unit, layout, parameters, b.get(), scale)?;
+            out.push(Order::Sub)
+        }
+        Expr::Minus(a) => {
+            emit_expression(out, unit, layout, parameters, a.get(), scale)?;
+            out.push(Order::Neg)
+        }
+        Expr::Times(a, b) => {
+            let (a, b) = (a.get(), b.get());
+            let f = scale_of_operand(unit, a)?;
+            let g = scale_of_operand(unit, b)?;
+            emit_expression(out, unit, layout, parameters, a, f)?;
+            emit_expression(out, unit, layout, parameters, b, g)?;
+            emit_product(out, scale, f, g)
+        }
+        Expr::Over(a, b) => {
+            let (a, b) = (a.get(), b.get());
+            let f = scale_of_operand(unit, a)?;
+            let g = scale_of_operand(unit, b)?;
+            emit_expression(out, unit, layout, parameters, a, f)?;
+            emit_expression(out, unit, layout, parameters, b, g)?;
+            emit_quotient(out, scale, f, g)
+        }
+        Expr::Choice(condition, a, b) => {
+            let end = out.new_mark()?;
+            let other = out.new_mark()?;
+            emit_condition(out, unit, layout, parameters, condition.get(), false, other)?;
+            emit_expression(out, unit, layout, parameters, a.get(), scale)?;
+            out.push(Order::Jump(end))?;
+            out.set_mark(other)?;
+            emit_expression(out, unit, layout, parameters, b.get(), scale)?;
+            out.set_mark(end)
+        }
+    }
+}
+
+/// Adds the orders that jump to the mark where the condition's truth is `when`.
+#[cycle(tree)]
+pub fn emit_condition(
+    out: &mut Output,
+    unit: &Unit,
+    layout: &Layout,
+    parameters: &[Param],
+    condition: &Cond,
+    when: bool,
+    mark: u32,
+) -> Result<(), NoMemory>
+    ensures { OnOk result (made out.new ≡ added (condition_piece (scope_with unit.now layout.now parameters.now) condition.now when mark) (made out.old)) }
+{
+    match condition {
+        Cond::Cmp(op, a, b) => {
+            let f = natural_scale(unit, a).max(natural_scale(unit, b));
+            emit_expression(out, unit, layout, parameters, a, f)?;
+            emit_expression(out, unit, layout, parameters, b, f)?;
+            out.push(Order::JumpIf {
+                comparator: comparator(*op, when),
+                mark,
+            })
+        }
+        Cond::And(first, second) => {
+            let end = out.new_mark()?;
+            emit_condition(
+                out,
+                unit,
+                layout,
+                parameters,
+                first.get(),
+                false,
+                pick(when, end, mark),
+            )?;
+            emit_condition(out, unit, layout, parameters, second.get(), when, mark)?;
+            out.set_mark(end)
+        }
+        Cond::Or(first, second) => {
+            let end = out.new_mark()?;
+            emit_condition(
+                out,
+                unit,
+                layout,
+                parameters,
+                first.get(),
+                true,
+                pick(when, mark, end),
+            )?;
+            emit_condition(out, unit, layout, parameters, second.get(), when, mark)?;
+            out.set_mark(end)
+        }
+    }
+}
+
+/// Adds the orders that put the address of a reference.
+#[cycle(tree)]
+pub fn emit_address(
+    out: &mut Output,
+    unit: &Unit,
+    layout: &Layout,
+    parameters: &[Param],
+    spot: &Spot,
+) -> Result<(), NoMemory>
+    ensures { OnOk result (made out.new ≡ added (spot_piece (scope_with unit.now layout.now parameters.now) spot.now) (made out.old)) }
+{
+    match spot {
+        Spot::Direct(_) | Spot::Through(_) => emit_form(out, layout, spot),
+        Spot::One(_, lower, upper, e) => {
+            emit_expression(out, unit, layout, parameters, e, 0)?;
+            emit_bounds(out, unit, *lower, *upper)?;
+            emit_form(out, layout, spot)
+        }
+        Spot::Two(_, l1, u1, l2, u2, _, a, b) => {
+            emit_expression(out, unit, layout, parameters, a, 0)?;
+            emit_bounds(out, unit, *l1, *u1)?;
+            emit_expression(out, unit, layout, parameters, b, 0)?;
+            emit_bounds(out, unit, *l2, *u2)?;
+            emit_form(out, layout, spot)
+        }
+        Spot::Word(_, _, words, e) => {
+            emit_expression(out, unit, layout, parameters, e, 0)?;
+            emit_count(out, unit, *words)?;
+            emit_form(out, layout, spot)
+        }
+        Spot::Elem(_, _, _, entries, _, e) => {
+            emit_expression(out, unit, layout, parameters, e, 0)?;
+            emit_count(out, unit, u32::from(*entries))?;
+            emit_form(out, layout, spot)
+        }
+        Spot::ParamArray(_, e) => {
+            emit_expression(out, unit, layout, parameters, e, 0)?;
+            emit_form(out, layout, spot)
+        }
+        Spot::Bare(e) => {
+            emit_expression(out, unit, layout, parameters, e, 0)?;
+            emit_form(out, layout, spot)
+        }
+    }
+}
+
+/// Adds the orders that put an argument.
+#[cycle(tree)]
+pub fn emit_argument(
+    out: &mut Output,
+    unit: &Unit,
+    layout: &Layout,
+    parameters: &[Param],
+    argument: &Arg,
+) -> Result<(), NoMemory>
+    ensures { OnOk result (made out.new ≡ added (argument_piece (scope_with unit.now layout.now parameters.now) argument.now) (made out.old)) }
+{
+    match argument {
+        Arg::Value(e, scale) => emit_expression(out, unit, layout, parameters, e, *scale),
+        Arg::Place(reference) => emit_address(out, unit, layout, parameters, &reference.at),
+        Arg::Array(i, lower) => {
+            out.push(item(layout, *i, 0))?;
+            out.push(Order::IndexLess(*lower))
+        }
+        Arg::Same(i) => {
+            out.push(item(layout, *i, 0))?;
+            out.push(Order::Load)
+        }
+        Arg::Base(i) => out.push(item(layout, *i, 0)),
+        Arg::Goal(Goal::Own(label)) => out.push(Order::LabelOut(*label)),
+        Arg::Goal(Goal::Common(descriptor)) => out.push(Order::LabelCommon(*descriptor)),
+        Arg::Switch(switch) => out.push(Order::SwitchOut(*switch)),
+        Arg::CommonSwitch(descriptor) => out.push(Order::SwitchCommon(*descriptor)),
+        Arg::Proc(procedure) => out.push(Order::ProcOut(*procedure)),
+        Arg::CommonProc(descriptor) => out.push(Order::ProcCommon(*descriptor)),
+        Arg::Special(control) => {
+            let place = place_of_control(parameters, *control)?;
+            out.push(Order::SpecialOut(place))
+        }
+    }
+}
+
+/// Adds the orders that put the arguments of a call, the first one first.
+#[cycle(tree)]
+pub fn emit_arguments(
+    out: &mut Output,
+    unit: &Unit,
+    layout: &Layout,
+    parameters: &[Param],
+    arguments: &[Arg],
+) -> Result<(), NoMemory>
+    ensures { OnOk result (made out.new ≡ added (sequence (map (argument_piece (scope_with unit.now layout.now parameters.now)) arguments.now)) (made out.old)) }
+{
+    for argument in arguments {
+        emit_argument(out, unit, layout, parameters, argument)?;
+    }
+    Ok(())
+}
+
+/// How many marks of a unit have numbers before its expressions are reached: those of its definitions, labels and procedures.
+pub fn numbered_marks(unit: &Unit) -> Result<usize, NoMemory>
+    ensures { IfOk result (λ n. n ≡ first_mark unit.now) }
+{
+    let defined = unit.defined.as_slice().len();
+    let labels = unit.labels.as_slice().len();
+    let procedures = unit.procs.as_slice().len();
+    let named = labels.checked_add(procedures).ok_or(NoMemory)?;
+    defined.checked_add(named).ok_or(NoMemory)
+}
+
+/// Appends the orders that put the value of an expression of the segment's body at a scale, in a unit with its storage layout. Their
+/// marks have the first numbers behind those of the unit's definitions, labels and procedures. On NoMemory `out` is as it was.
+pub fn expr_orders(
+    alloc: Global,
+    unit: &Unit,
+    layout: &Layout,
+    e: &Expr,
+    scale: u8,
+    out: &mut List<Order>,
+) -> Result<(), NoMemory>
+    ensures ok { OnOk result (out.new ≡ out.old ++ (expression_piece (scope_with unit.now layout.now []) e.now scale 0 (first_mark unit.now)).orders) }
+    ensures err { OnErr result (out.new ≡ out.old) }
+{
+    let mut made = Output::new(alloc, numbered_marks(unit)?)?;
+    emit_expression(&mut made, unit, layout, &[], e, scale)?;
+    let mut orders = made.orders.into_vec();
+    let mut all = mem::replace(out, List::new(alloc)).into_vec();
+    let appended = all.append(&mut orders).map_err(|_| NoMemory);
+    *out = List::of(all);
+    appended
+}

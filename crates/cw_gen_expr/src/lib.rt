@@ -1,0 +1,9 @@
+//! Code generation for expressions, addresses and conditions.
+#![tactic(auto)]
+
+pub mod expressions;
+pub mod laws;
+pub mod orders;
+pub mod output;
+
+pub use expressions::expr_orders;

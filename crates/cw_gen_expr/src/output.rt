@@ -1,0 +1,86 @@
+//! Orders as they are made, with the places of their labels and marks.
+ghost use Rattle.std.specs.Prelude.{◌≡◌, [], ◌∷◌, ◌++◌, length, replicate, set, OnOk, IfOk};
+ghost use Rattle.cw_order.specs.declared.order.Order.TheVariants as order;
+ghost use Rattle.cw_gen_expr.specs.Pieces.{MarkedOrders, plain, with_labels};
+ghost use Rattle.cw_gen_expr.specs.Output.{made, added};
+
+use cw_order::Order;
+use cw_word::{List, NoMemory};
+use std::alloc::Global;
+
+/// The orders of a unit so far. A label has its place in `labels`, with its number. `marks` has a place for each mark: 0
+/// for one that is not placed yet, and for the marks of labels.
+#[derive(Drop)]
+pub struct Output {
+    pub orders: List<Order>,
+    pub labels: List<(u32, u32)>,
+    pub marks: Vec<u32>,
+}
+
+/// The number of an order or a mark. NoMemory comes where it would pass 2^32 - 1.
+pub fn number(n: usize) -> Result<u32, NoMemory>
+    ensures { IfOk result (λ number. number ≡ n) }
+{
+    match u32::try_from(n) {
+        Ok(number) => Ok(number),
+        Err(_) => Err(NoMemory),
+    }
+}
+
+impl Output {
+    /// No orders, where so many marks have numbers already.
+    pub fn new(alloc: Global, marks: usize) -> Result<Self, NoMemory>
+        ensures { IfOk result (λ out. made out ≡ record { orders = []; labels = []; marks = replicate marks 0 }) }
+    {
+        Ok(Output {
+            orders: List::new(alloc),
+            labels: List::new(alloc),
+            marks: vec![in alloc; 0; marks].map_err(|_| NoMemory)?,
+        })
+    }
+
+    pub fn push(&mut self, order: Order) -> Result<(), NoMemory>
+        ensures { OnOk result (made self.new ≡ added (plain (order ∷ [])) (made self.old)) }
+    {
+        self.orders.push(order)
+    }
+
+    /// The place of the next order.
+    pub fn place(&self) -> Result<u32, NoMemory>
+        ensures { IfOk result (λ place. place ≡ length self.now.orders) }
+    {
+        number(self.orders.as_slice().len())
+    }
+
+    /// A mark that is placed later.
+    pub fn new_mark(&mut self) -> Result<u32, NoMemory>
+        ensures mark { IfOk result (λ mark. mark ≡ length self.old.marks.items) }
+        ensures reserved { OnOk result (made self.new ≡ record { orders = self.old.orders; labels = self.old.labels; marks = self.old.marks.items ++ 0 ∷ [] }) }
+    {
+        let mark = number(self.marks.len())?;
+        self.marks.push(0).map_err(|_| NoMemory)?;
+        Ok(mark)
+    }
+
+    /// Places a mark here.
+    pub fn set_mark(&mut self, mark: u32) -> Result<(), NoMemory>
+        ensures { OnOk result (made self.new ≡ record { orders = self.old.orders ++ order.Mark ∷ []; labels = self.old.labels; marks = set self.old.marks.items mark (length self.old.orders) }) }
+    {
+        let place = self.place()?;
+        if let Some(placed) = self.marks.get_mut(mark as usize) {
+            *placed = place;
+        }
+        self.orders.push(Order::Mark)
+    }
+
+    /// Places labels here.
+    pub fn set_labels(&mut self, labels: &[u32]) -> Result<(), NoMemory>
+        ensures { OnOk result (made self.new ≡ added (with_labels labels.now) (made self.old)) }
+    {
+        let place = self.place()?;
+        for label in labels {
+            self.labels.push((*label, place))?;
+        }
+        self.orders.push(Order::Mark)
+    }
+}

@@ -1,0 +1,103 @@
+-- Pieces that are added one after another, as the code adds them.
+use Rattle.std.proofs.Common.{◌≡◌, ℕ, ◌+◌, ◌≤◌, List, [], ◌∷◌, ◌++◌, length, drop, map, false, sym, ap, ap₂, ◌∙◌, length-append, Option}
+use Rattle.std.proofs.lemmas.List.{drop_all}
+use Rattle.cw_order.specs.declared.order.Order.{Order}
+use Rattle.cw_order.specs.declared.order.Order.TheVariants as order
+use Rattle.cw_unit.specs.declared.unit.Felem.{Felem}
+use Rattle.cw_unit.specs.declared.unit.Ref.{Ref, out-Ref}
+use Rattle.cw_unit.specs.declared.unit.Stmt.{Stmt, Stmt-F, roll-Stmt, map-Stmt}
+use Rattle.cw_unit.specs.declared.unit.Stmt.TheFolds.{fold-roll-Stmt}
+use Rattle.cw_gen_expr.specs.Pieces.{MarkedOrders, Piece, plain, followed_by, with_end, sequence}
+use Rattle.cw_gen_expr.specs.Output.{added}
+use Rattle.cw_gen_expr.specs.ReferenceExpressions.{Scope, ConditionPiece, choice_piece, item_order, spot_piece, reference_of}
+use Rattle.cw_gen_expr.proofs.Layers.{reference-made}
+use Rattle.cw_gen_expr.proofs.Making.{reserved, closed, added-end, added-nothing, two_steps}
+use Rattle.cw_gen_unit.specs.ReferenceStatements.{with_middle, set_orders, elements_piece, element_ways, ring_piece, statement_step, statement_piece}
+
+-- ---- pieces
+
+-- the second orders are the first with a piece added
+pub record Adds (p : Piece) (x y : MarkedOrders) : Type 0 where
+  pub is : y ≡ added p x
+
+pub one : (p : Piece) (x y : MarkedOrders) → y ≡ added p x → Adds p x y
+one p x y e = record { is = e }
+
+pub and_then : {p q : Piece} {x y z : MarkedOrders} → Adds p x y → Adds q y z → Adds (followed_by p q) x z
+and_then {p = p} {q = q} {x = x} {y = y} {z = z} a b = record { is = two_steps p q x y z a.is b.is }
+
+-- orders without marks, in one list
+pub in_one : (os ps : List Order) (x y z : MarkedOrders) → Adds (plain os) x y → Adds (plain ps) y z → Adds (plain (os ++ ps)) x z
+in_one os ps x y z a b = record { is = two_steps (plain os) (plain ps) x y z a.is b.is }
+
+-- a piece with a mark for its end
+pub ends : (p : ℕ → Piece) (n : ℕ) (x x1 x2 x3 : MarkedOrders) → n ≡ length x.marks → x1 ≡ reserved x → Adds (p n) x1 x2 → x3 ≡ closed n x2 → Adds (with_end p) x x3
+ends p n x x1 x2 x3 e e1 a e3 = record {
+  is =
+      e3 ∙ ap (closed n) (a.is ∙ ap (added (p n)) e1) ∙ ap (λ k. closed k (added (p k) (reserved x))) e
+      ∙ added-end p x;
+}
+
+-- two with a mark between them
+pub middle : (a b : ℕ → Piece) (n : ℕ) (x y z : MarkedOrders) → n ≡ length x.marks → Adds (with_end a) x y → Adds (b n) y z → Adds (with_middle a b) x z
+middle a b n x y z e first second = record { is = two_steps (with_end a) (b (length x.marks)) x y z first.is (second.is ∙ ap (λ k. added (b k) y) e) }
+
+-- one of two by a condition
+pub chosen : (c : ConditionPiece) (a b : Piece) (end other : ℕ) (x x1 x2 x3 x4 x5 x6 x7 x8 : MarkedOrders) → end ≡ length x.marks → x1 ≡ reserved x → other ≡ length x1.marks → x2 ≡ reserved x1 → Adds (c false other) x2 x3 → Adds a x3 x4 → x5 ≡ added (plain (order.Jump end ∷ [])) x4 → x6 ≡ closed other x5 → Adds b x6 x7 → x8 ≡ closed end x7 → Adds (choice_piece c a b) x x8
+chosen c a b end other x x1 x2 x3 x4 x5 x6 x7 x8 ee e1 eo e2 e3 e4 e5 e6 e7 e8 =
+    let first = λ (k m : ℕ). followed_by (c false m) (followed_by a (plain (order.Jump k ∷ []))) in
+    ends (λ k. followed_by (with_end (first k)) b) end x x1 x7 x8 ee e1
+    (and_then (ends (first end) other x1 x2 x5 x6 eo e2 (and_then e3 (and_then e4 (one (plain (order.Jump end ∷ [])) x4 x5 e5))) e6) e7)
+    e8
+
+-- ---- FOR
+
+-- the elements, the tail, the body and the way on
+module _ (s : Scope) (line item f : ℕ) (es : List Felem) (body : Piece) where
+  way_orders : List ℕ → List Order
+  way_orders ways = order.Line line ∷ item_order s.layout item 3 ∷ order.Load ∷ order.LoopWay ways ∷ []
+
+  pub ringed : (end start set : ℕ) (ways : List ℕ) (x x1 x2 x3 x4 x5 x6 x7 x8 x9 x10 x11 : MarkedOrders) → end ≡ length x.marks → x1 ≡ reserved x → start ≡ length x1.marks → x2 ≡ reserved x1 → set ≡ length x2.marks → x3 ≡ reserved x2 → ways ≡ element_ways s item f set start 1 es (length x3.orders) (length x3.marks) → x4 ≡ added (elements_piece s item f set start 1 es) x3 → x5 ≡ added (plain (order.Jump end ∷ [])) x4 → x6 ≡ closed set x5 → x7 ≡ added (plain (set_orders s.layout item)) x6 → x8 ≡ closed start x7 → Adds body x8 x9 → x10 ≡ added (plain (order.Line line ∷ item_order s.layout item 3 ∷ order.Load ∷ order.LoopWay ways ∷ [])) x9 → x11 ≡ closed end x10 → Adds (ring_piece s line item f es body) x x11
+  unfolding way_orders
+  ringed end start set ways x x1 x2 x3 x4 x5 x6 x7 x8 x9 x10 x11 ee e1 es' e2 et e3 ew e4 e5 e6 e7 e8 inner e10 e11 =
+      let n = length x.marks in
+      let marks1 : length x1.marks ≡ n + 1 = ap (λ z. length z.marks) e1 ∙ length-append x.marks (0 ∷ []) in
+      let marks2 : length x2.marks ≡ n + 1 + 1 = ap (λ z. length z.marks) e2 ∙ length-append x1.marks (0 ∷ []) ∙ ap (λ k. k + 1) marks1 in
+      let marks3 : length x3.marks ≡ n + 1 + 1 + 1 = ap (λ z. length z.marks) e3 ∙ length-append x2.marks (0 ∷ []) ∙ ap (λ k. k + 1) marks2 in
+      let orders3 : length x3.orders ≡ length x.orders = ap (λ z. length z.orders) e3 ∙ ap (λ z. length z.orders) e2 ∙ ap (λ z. length z.orders) e1 in
+      let all = element_ways s item f (n + 1 + 1) (n + 1) 1 es (length x.orders) (n + 1 + 1 + 1) in
+      let same : ways ≡ all =
+      ew ∙ ap₂ (λ i j. element_ways s item f i j 1 es (length x3.orders) (length x3.marks)) (et ∙ marks2) (es' ∙ marks1)
+      ∙ ap₂ (element_ways s item f (n + 1 + 1) (n + 1) 1 es) orders3 marks3 in
+      let tail = λ (k j i : ℕ). followed_by (elements_piece s item f i j 1 es) (plain (order.Jump k ∷ [])) in
+      let first = λ (k j : ℕ). followed_by (with_end (tail k j)) (plain (set_orders s.layout item)) in
+      let second = λ (j : ℕ). followed_by body (plain (way_orders all)) in
+      let elements = and_then (one (elements_piece s item f set start 1 es) x3 x4 e4) (one (plain (order.Jump end ∷ [])) x4 x5 e5) in
+      let set_tail = and_then (ends (tail end start) set x2 x3 x5 x6 et e3 elements e6) (one (plain (set_orders s.layout item)) x6 x7 e7) in
+      let way_on = and_then inner (one (plain (way_orders all)) x9 x10 (e10 ∙ ap (λ w. added (plain (way_orders w)) x9) same)) in
+      record { is = (ends (λ k. with_middle (first k) second) end x x1 x10 x11 ee e1 (middle (first end) second start x1 x8 x10 es' (ends (first end) start x1 x2 x7 x8 es' e2 set_tail e8) way_on) e11).is }
+
+-- ---- statements
+
+module _ (s : Scope) (who : Option ℕ) (answer : ℕ) where
+  statement_rolled : (y : Stmt-F Stmt) → statement_piece s who answer (roll-Stmt y) ≡ statement_step s who answer (map-Stmt Stmt Piece (statement_piece s who answer) y)
+  statement_rolled y = fold-roll-Stmt Piece (statement_step s who answer) y
+
+  -- by the first layer of a statement
+  pub by_statement : (t : Stmt) (y : Stmt-F Stmt) (x x' : MarkedOrders) → t ≡ roll-Stmt y → Adds (statement_step s who answer (map-Stmt Stmt Piece (statement_piece s who answer) y)) x x' → x' ≡ added (statement_piece s who answer t) x
+  by_statement t y x x' is h = h.is ∙ ap (λ p. added p x) (sym (ap (statement_piece s who answer) is ∙ statement_rolled y))
+
+  -- a statement that is named by another way
+  pub inner : (t t' : Stmt) (x x' : MarkedOrders) → t' ≡ t → x' ≡ added (statement_piece s who answer t') x → Adds (statement_piece s who answer t) x x'
+  inner t t' x x' e h = one (statement_piece s who answer t) x x' (h ∙ ap (λ v. added (statement_piece s who answer v) x) e)
+
+  -- past the last statement of a list
+  pub all_statements : (ss ss' : List Stmt) (k : ℕ) (x y : MarkedOrders) → ss' ≡ ss → length ss' ≤ k → added (sequence (map (statement_piece s who answer) (drop k ss'))) y ≡ added (sequence (map (statement_piece s who answer) ss')) x → Adds (sequence (map (statement_piece s who answer) ss)) x y
+  all_statements ss ss' k x y e le h =
+      one (sequence (map (statement_piece s who answer) ss)) x y
+      (sym (added-nothing y) ∙ ap (λ l. added (sequence (map (statement_piece s who answer) l)) y) (sym (drop_all k ss' le)) ∙ h
+      ∙ ap (λ l. added (sequence (map (statement_piece s who answer) l)) x) e)
+
+-- the address of a reference
+pub address : (s : Scope) (r : Ref) (x x' : MarkedOrders) → x' ≡ added (spot_piece s (out-Ref r).at) x → Adds (reference_of s r).address x x'
+address s r x x' h = one (reference_of s r).address x x' (h ∙ ap (λ v. added v.address x) (sym (reference-made s r)))

@@ -1,0 +1,5 @@
+pub mod ReferenceStatements
+pub mod BuiltStatements
+pub mod ReferenceUnits
+pub mod BuiltUnits
+pub mod LabelPlaces

@@ -1,0 +1,166 @@
+-- The orders of statements.
+use Rattle.std.specs.Prelude.{ℕ, ◌+◌, List, [], ◌∷◌, ◌++◌, map, length, true, false, Option, Some, None, slice_get}
+use Rattle.cw_order.specs.declared.order.Order.{Order}
+use Rattle.cw_order.specs.declared.order.Order.TheVariants as order
+use Rattle.cw_unit.specs.declared.layout.Layout.{Layout}
+use Rattle.cw_unit.specs.declared.unit.Unit.{Unit as SourceUnit}
+use Rattle.cw_unit.specs.declared.unit.Label.{Label}
+use Rattle.cw_unit.specs.declared.unit.Goal.{Goal}
+use Rattle.cw_unit.specs.declared.unit.Goal.TheVariants as goal
+use Rattle.cw_unit.specs.declared.unit.Dest.{Dest}
+use Rattle.cw_unit.specs.declared.unit.Dest.TheVariants as dest
+use Rattle.cw_unit.specs.declared.unit.Target.{Target}
+use Rattle.cw_unit.specs.declared.unit.Target.TheVariants as target
+use Rattle.cw_unit.specs.declared.unit.Felem.{Felem}
+use Rattle.cw_unit.specs.declared.unit.Felem.TheVariants as element
+use Rattle.cw_unit.specs.declared.unit.Expr.{Expr}
+use Rattle.cw_unit.specs.declared.unit.Cond.{Cond}
+use Rattle.cw_unit.specs.declared.unit.Ref.{Ref, out-Ref}
+use Rattle.cw_unit.specs.declared.unit.Stmt.{Stmt, Stmt-F, fold-Stmt}
+use Rattle.cw_unit.specs.declared.unit.Stmt.TheOpen as statement
+use Rattle.cw_gen_expr.specs.Pieces.{Piece, plain, followed_by, sequence, with_end, with_labels}
+use Rattle.cw_gen_expr.specs.ReferenceExpressions.{Scope, argument_words, control_place, item_order, store_orders, choice_piece, number_order, call_order, condition_piece, argument_piece, reference_of, expression_piece}
+use Rattle.cw_gen_expr.specs.UnitTables.{label_mark}
+
+-- the start of a statement, and its line
+abbrev pub begin_orders : ℕ → List Order
+begin_orders line = order.Start line ∷ order.Line line ∷ []
+
+-- every procedure answers, one without a type 0; a call statement drops the answer
+abbrev pub after_statement_call : Target → List Order
+after_statement_call target.Write = []
+after_statement_call _ = order.Drop ∷ []
+
+-- ---- jumps
+
+-- a label of the segment's body is left for from a procedure
+abbrev pub from_procedure : Option Label → (mark : ℕ) → Order
+from_procedure None m = order.Jump m
+from_procedure (Some x) m = elim x.proc [ None ↦ order.GoMain m | Some q ↦ order.Jump m ]
+
+abbrev pub own_order : (who : Option ℕ) → Option Label → (mark : ℕ) → Order
+own_order None x m = order.Jump m
+own_order (Some q) x m = from_procedure x m
+
+-- a label of the unit's own, or that of a descriptor
+abbrev pub goal_order : SourceUnit → (who : Option ℕ) → Goal → Order
+goal_order u who (goal.Own l) = own_order who (slice_get u.labels l) (label_mark u l)
+goal_order u who (goal.Common d) = order.GoCommon d
+
+abbrev pub jump_order : Scope → (who : Option ℕ) → Dest → Order
+jump_order s who (dest.Goal g) = goal_order s.unit who g
+jump_order s who (dest.Special k) = order.GoSpecial (control_place s.parameters k)
+jump_order s who (dest.Switch n e) = order.GoSwitch n
+jump_order s who (dest.CommonSwitch d e) = order.GoSwitchCommon d
+jump_order s who (dest.SpecialSwitch k e) = order.GoSwitchSpecial (control_place s.parameters k)
+
+-- after the index of a switch, if there is one
+abbrev pub jump_piece : Scope → (who : Option ℕ) → Dest → Piece
+jump_piece s who (dest.Goal g) = plain (goal_order s.unit who g ∷ [])
+jump_piece s who (dest.Special k) = plain (order.GoSpecial (control_place s.parameters k) ∷ [])
+jump_piece s who (dest.Switch n e) = followed_by (expression_piece s e 0) (plain (order.GoSwitch n ∷ []))
+jump_piece s who (dest.CommonSwitch d e) = followed_by (expression_piece s e 0) (plain (order.GoSwitchCommon d ∷ []))
+jump_piece s who (dest.SpecialSwitch k e) = followed_by (expression_piece s e 0) (plain (order.GoSwitchSpecial (control_place s.parameters k) ∷ []))
+
+-- ---- FOR
+
+-- orders, a mark, and orders: all may jump to the mark
+abbrev pub with_middle : (ℕ → Piece) → (ℕ → Piece) → Piece
+with_middle a b place next = followed_by (with_end a) (b next) place next
+
+-- the number of an element is written
+abbrev pub number_orders : Layout → (item number : ℕ) → List Order
+number_orders y item i = number_order i ∷ item_order y item 3 ∷ order.Store ∷ []
+
+-- the control variable is set through the first word of the loop
+abbrev pub set_orders : Layout → (item : ℕ) → List Order
+set_orders y item = item_order y item 0 ∷ order.Load ∷ order.InArea ∷ order.Store ∷ []
+
+abbrev pub variable_orders : Layout → (item : ℕ) → List Order
+variable_orders y item = item_order y item 0 ∷ order.Load ∷ order.InArea ∷ order.Load ∷ []
+
+abbrev pub bump_orders : Layout → (item : ℕ) → List Order
+bump_orders y item = variable_orders y item ++ item_order y item 1 ∷ order.Load ∷ order.Add ∷ item_order y item 0 ∷ order.Load ∷ order.Store ∷ []
+
+-- the test of a STEP element, which goes on behind it where the control variable is past the limit
+abbrev pub turn_piece : Layout → (item body : ℕ) → Piece
+turn_piece y item body = with_end (λ next. plain (variable_orders y item ++ item_order y item 0 ∷ order.Exhausted next ∷ order.Jump body ∷ []))
+
+-- the mark where the body's end goes on with an element whose marks begin at this number
+abbrev pub way_mark : Felem → ℕ → ℕ
+way_mark (element.One e) n = n
+way_mark (element.While e c) n = n
+way_mark (element.Step a b d) n = n + 1
+
+module _ (s : Scope) where
+  -- the value of a WHILE element, and its test, behind which the body begins
+  abbrev pub while_values : (item scale body next number : ℕ) → Expr → Cond → Piece
+  while_values item f body next i e c =
+      followed_by (plain (number_orders s.layout item i))
+      (followed_by (expression_piece s e f) (followed_by (plain (set_orders s.layout item)) (followed_by (condition_piece s c false next) (plain (order.Jump body ∷ [])))))
+
+  -- the three values of a STEP element: the first is set, the step and the limit are kept
+  abbrev pub step_values : (item scale turn number : ℕ) → (first step limit : Expr) → Piece
+  step_values item f turn i a b d =
+      followed_by (plain (number_orders s.layout item i))
+      (followed_by (expression_piece s a f)
+      (followed_by (plain (set_orders s.layout item))
+      (followed_by (expression_piece s b f)
+      (followed_by (plain (item_order s.layout item 1 ∷ order.Store ∷ []))
+      (followed_by (expression_piece s d f) (plain (item_order s.layout item 2 ∷ order.Store ∷ order.Jump turn ∷ [])))))))
+
+  -- An element. Its first mark is where its body's end goes on: for a value the next element, for WHILE itself, for STEP its step, which
+  -- has the second mark. A value goes to the tail that all have together
+  abbrev pub element_piece : (item scale set body number : ℕ) → Felem → Piece
+  element_piece item f set body i (element.One e) =
+      with_end (λ next. followed_by (plain (number_orders s.layout item i)) (followed_by (expression_piece s e f) (plain (order.Jump set ∷ []))))
+  element_piece item f set body i (element.While e c) =
+      with_middle (λ own. plain []) (λ own. with_end (λ next. while_values item f body next i e c))
+  element_piece item f set body i (element.Step a b d) =
+      with_middle (λ turn. followed_by (with_end (λ bump. step_values item f turn i a b d)) (plain (bump_orders s.layout item))) (λ turn. turn_piece s.layout item body)
+
+  abbrev pub elements_piece : (item scale set body number : ℕ) → List Felem → Piece
+  elements_piece item f set body i [] = plain []
+  elements_piece item f set body i (e ∷ es) = followed_by (element_piece item f set body i e) (elements_piece item f set body (i + 1) es)
+
+  abbrev pub element_ways : (item scale set body number : ℕ) → List Felem → (place next : ℕ) → List ℕ
+  element_ways item f set body i [] place next = []
+  element_ways item f set body i (e ∷ es) place next =
+      let x = element_piece item f set body i e place next in
+      way_mark e next ∷ element_ways item f set body (i + 1) es (place + length x.orders) (next + length x.marks)
+
+  -- the elements, the body, and the way on; the marks of the end, of the body and of the tail are numbered before those of the elements
+  abbrev pub ring_piece : (line item scale : ℕ) → List Felem → Piece → Piece
+  ring_piece line item f es body place next =
+      with_end
+      (λ end.
+      with_middle (λ start. followed_by (with_end (λ set. followed_by (elements_piece item f set start 1 es) (plain (order.Jump end ∷ [])))) (plain (set_orders s.layout item)))
+      (λ start. followed_by body (plain (order.Line line ∷ item_order s.layout item 3 ∷ order.Load ∷ order.LoopWay (element_ways item f (next + 1 + 1) (next + 1) 1 es place (next + 1 + 1 + 1)) ∷ []))))
+      place
+      next
+
+  abbrev pub loop_piece : (line item : ℕ) → Ref → List Felem → Piece → Piece
+  loop_piece line item r es body =
+      followed_by (plain (begin_orders line))
+      (followed_by (reference_of s r).address (followed_by (plain (item_order s.layout item 0 ∷ order.Store ∷ [])) (ring_piece line item (out-Ref r).f es body)))
+
+-- ---- statements
+
+module _ (s : Scope) (who : Option ℕ) (answer : ℕ) where
+  abbrev pub statement_step : Stmt-F Piece → Piece
+  statement_step (statement.Put line r e) =
+      followed_by (plain (begin_orders line)) (followed_by (expression_piece s e (out-Ref r).f) (followed_by (reference_of s r).address (plain (store_orders (out-Ref r).field))))
+  statement_step (statement.PutBits line t b r e) =
+      followed_by (plain (begin_orders line)) (followed_by (expression_piece s e 0) (followed_by (reference_of s r).address (plain (order.StorePart t b ∷ []))))
+  statement_step (statement.Go line d) = followed_by (plain (begin_orders line)) (jump_piece s who d)
+  statement_step (statement.Call line t args) =
+      followed_by (plain (begin_orders line)) (followed_by (sequence (map (argument_piece s) args)) (plain (call_order s t ∷ after_statement_call t)))
+  statement_step (statement.Answer line e) =
+      followed_by (plain (begin_orders line)) (followed_by (expression_piece s e answer) (plain (order.Return (argument_words s.parameters) true ∷ [])))
+  statement_step (statement.If line c a b) = followed_by (plain (begin_orders line)) (choice_piece (condition_piece s c) a b)
+  statement_step (statement.For line item r es body) = loop_piece s line item r es body
+  statement_step (statement.Seq ss) = sequence ss
+  statement_step (statement.Mark ls t) = followed_by (with_labels ls) t
+
+  abbrev pub statement_piece : Stmt → Piece
+  statement_piece = fold-Stmt Piece statement_step

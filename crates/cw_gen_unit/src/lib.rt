@@ -1,0 +1,11 @@
+//! Code generation for statements, procedures and units.
+#![tactic(auto)]
+
+mod elements;
+mod labels;
+mod loops;
+mod procedures;
+mod statements;
+mod unit;
+
+pub use unit::orders;

@@ -1,0 +1,95 @@
+//! The orders of the words of a loop.
+ghost use Rattle.std.specs.Prelude.{◌≡◌, ◌∷◌, [], OnOk};
+ghost use Rattle.cw_order.specs.declared.order.Order.TheVariants as order;
+ghost use Rattle.cw_gen_expr.specs.Pieces.{plain};
+ghost use Rattle.cw_gen_expr.specs.Output.{made, added};
+ghost use Rattle.cw_gen_expr.specs.ReferenceExpressions.{item_order};
+ghost use Rattle.cw_gen_unit.specs.ReferenceStatements.{number_orders, set_orders, variable_orders, bump_orders, turn_piece};
+
+use cw_gen_expr::orders::item;
+use cw_gen_expr::output::Output;
+use cw_order::Order;
+use cw_unit::layout::Layout;
+use cw_word::{List, NoMemory};
+
+/// Keeps the top operand in a word of a loop.
+pub fn emit_keep(out: &mut Output, layout: &Layout, looped: u32, word: u16) -> Result<(), NoMemory>
+    ensures { OnOk result (made out.new ≡ added (plain (item_order layout.now looped word ∷ order.Store ∷ [])) (made out.old)) }
+{
+    out.push(item(layout, looped, word))?;
+    out.push(Order::Store)
+}
+
+/// Writes the number of an element.
+pub fn emit_number(
+    out: &mut Output,
+    layout: &Layout,
+    looped: u32,
+    number: u16,
+) -> Result<(), NoMemory>
+    ensures { OnOk result (made out.new ≡ added (plain (number_orders layout.now looped number)) (made out.old)) }
+{
+    out.push(Order::Const(number))?;
+    emit_keep(out, layout, looped, 3)
+}
+
+/// Sets the control variable through the first word of the loop.
+pub fn emit_set(out: &mut Output, layout: &Layout, looped: u32) -> Result<(), NoMemory>
+    ensures { OnOk result (made out.new ≡ added (plain (set_orders layout.now looped)) (made out.old)) }
+{
+    out.push(item(layout, looped, 0))?;
+    out.push(Order::Load)?;
+    out.push(Order::InArea)?;
+    out.push(Order::Store)
+}
+
+/// Puts the value of the control variable, through the first word of the loop.
+fn emit_variable(out: &mut Output, layout: &Layout, looped: u32) -> Result<(), NoMemory>
+    ensures { OnOk result (made out.new ≡ added (plain (variable_orders layout.now looped)) (made out.old)) }
+{
+    out.push(item(layout, looped, 0))?;
+    out.push(Order::Load)?;
+    out.push(Order::InArea)?;
+    out.push(Order::Load)
+}
+
+/// Adds the step to the control variable.
+pub fn emit_bump(out: &mut Output, layout: &Layout, looped: u32) -> Result<(), NoMemory>
+    ensures { OnOk result (made out.new ≡ added (plain (bump_orders layout.now looped)) (made out.old)) }
+{
+    emit_variable(out, layout, looped)?;
+    out.push(item(layout, looped, 1))?;
+    out.push(Order::Load)?;
+    out.push(Order::Add)?;
+    out.push(item(layout, looped, 0))?;
+    out.push(Order::Load)?;
+    out.push(Order::Store)
+}
+
+/// The test of a STEP element, which jumps to the body or goes on behind it.
+pub fn emit_turn(out: &mut Output, layout: &Layout, looped: u32, body: u32) -> Result<(), NoMemory>
+    ensures { OnOk result (made out.new ≡ added (turn_piece layout.now looped body) (made out.old)) }
+{
+    let next = out.new_mark()?;
+    emit_variable(out, layout, looped)?;
+    out.push(item(layout, looped, 0))?;
+    out.push(Order::Exhausted(next))?;
+    out.push(Order::Jump(body))?;
+    out.set_mark(next)
+}
+
+/// The way on behind the body: to the mark of the element at work.
+pub fn emit_way(
+    out: &mut Output,
+    layout: &Layout,
+    line: u16,
+    looped: u32,
+    ways: List<u32>,
+) -> Result<(), NoMemory>
+    ensures { OnOk result (made out.new ≡ added (plain (order.Line line ∷ item_order layout.now looped 3 ∷ order.Load ∷ order.LoopWay ways ∷ [])) (made out.old)) }
+{
+    out.push(Order::Line(line))?;
+    out.push(item(layout, looped, 3))?;
+    out.push(Order::Load)?;
+    out.push(Order::LoopWay(ways))
+}

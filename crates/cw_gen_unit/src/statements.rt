@@ -1,0 +1,322 @@
+//! Statements.
+ghost use Rattle.std.specs.Prelude.{◌≡◌, ◌+◌, ◌∷◌, [], None, OnOk, IfOk, slice_get};
+ghost use Rattle.cw_unit.specs.declared.unit.Stmt.TheOpen as statement;
+ghost use Rattle.cw_gen_expr.specs.Pieces.{Piece, plain};
+ghost use Rattle.cw_gen_expr.specs.Output.{made, added};
+ghost use Rattle.cw_gen_expr.specs.ReferenceExpressions.{scope_with, store_orders};
+ghost use Rattle.cw_gen_expr.specs.UnitTables as tables;
+ghost use Rattle.cw_gen_unit.specs.ReferenceStatements.{begin_orders, after_statement_call, own_order as spec_own_order, goal_order as spec_goal_order, statement_step, statement_piece};
+
+use crate::elements::emit_elements;
+use crate::loops::{emit_keep, emit_set, emit_way};
+use cw_gen_expr::expressions::{
+    emit_address, emit_arguments, emit_call, emit_condition, emit_expression,
+};
+use cw_gen_expr::orders::{all_words, place_of_control};
+use cw_gen_expr::output::Output;
+use cw_order::Order;
+use cw_unit::layout::Layout;
+use cw_unit::unit::{Arg, Dest, Expr, Field, Goal, Param, Ref, Stmt, Target, Unit};
+use cw_word::NoMemory;
+use std::alloc::Global;
+
+/// Adds the start of a statement and its line.
+fn emit_begin(out: &mut Output, line: u16) -> Result<(), NoMemory>
+    ensures { OnOk result (made out.new ≡ added (plain (begin_orders line)) (made out.old)) }
+{
+    out.push(Order::Start(line))?;
+    out.push(Order::Line(line))
+}
+
+/// Adds the order that stores a word at an address, or a part of it.
+fn emit_store(out: &mut Output, field: &Option<Field>) -> Result<(), NoMemory>
+    ensures { OnOk result (made out.new ≡ added (plain (store_orders field.now)) (made out.old)) }
+{
+    match field {
+        None => out.push(Order::Store),
+        Some(part) => out.push(Order::StorePart {
+            t: part.t,
+            b: part.b,
+        }),
+    }
+}
+
+/// Adds the orders of an assignment.
+fn emit_put(
+    out: &mut Output,
+    unit: &Unit,
+    layout: &Layout,
+    parameters: &[Param],
+    line: u16,
+    reference: &Ref,
+    e: &Expr,
+) -> Result<(), NoMemory>
+    ensures { OnOk result (made out.new ≡ added (statement_step (scope_with unit.now layout.now parameters.now) None 0 (statement.Put line reference.now e.now)) (made out.old)) }
+{
+    emit_begin(out, line)?;
+    emit_expression(out, unit, layout, parameters, e, reference.f)?;
+    emit_address(out, unit, layout, parameters, &reference.at)?;
+    emit_store(out, &reference.field)
+}
+
+/// Adds the orders of an assignment to bits.
+fn emit_put_bits(
+    out: &mut Output,
+    unit: &Unit,
+    layout: &Layout,
+    parameters: &[Param],
+    line: u16,
+    t: u8,
+    b: u8,
+    reference: &Ref,
+    e: &Expr,
+) -> Result<(), NoMemory>
+    ensures { OnOk result (made out.new ≡ added (statement_step (scope_with unit.now layout.now parameters.now) None 0 (statement.PutBits line t b reference.now e.now)) (made out.old)) }
+{
+    emit_begin(out, line)?;
+    emit_expression(out, unit, layout, parameters, e, 0)?;
+    emit_address(out, unit, layout, parameters, &reference.at)?;
+    out.push(Order::StorePart { t, b })
+}
+
+/// The mark of a label.
+pub fn label_mark(unit: &Unit, label: u32) -> Result<u32, NoMemory>
+    ensures { IfOk result (λ mark. mark ≡ tables.label_mark unit.now label) }
+{
+    match u32::try_from(unit.defined.as_slice().len()) {
+        Ok(defined) => defined.checked_add(label).ok_or(NoMemory),
+        Err(_) => Err(NoMemory),
+    }
+}
+
+/// The order that jumps to a label of the unit, from the segment's body or that of a procedure.
+fn own_order(unit: &Unit, who: Option<u16>, label: u32, mark: u32) -> Order
+    ensures { result ≡ spec_own_order who (slice_get unit.now.labels label) mark }
+{
+    match who {
+        None => Order::Jump(mark),
+        Some(_) => match unit.labels.as_slice().get(label as usize) {
+            None => Order::Jump(mark),
+            Some(found) => match found.proc {
+                None => Order::GoMain(mark),
+                Some(_) => Order::Jump(mark),
+            },
+        },
+    }
+}
+
+/// Adds the order that jumps to a label.
+fn emit_goal(out: &mut Output, unit: &Unit, who: Option<u16>, goal: Goal) -> Result<(), NoMemory>
+    ensures { OnOk result (made out.new ≡ added (plain (spec_goal_order unit.now who goal ∷ [])) (made out.old)) }
+{
+    match goal {
+        Goal::Own(label) => {
+            let mark = label_mark(unit, label)?;
+            out.push(own_order(unit, who, label, mark))
+        }
+        Goal::Common(descriptor) => out.push(Order::GoCommon(descriptor)),
+    }
+}
+
+/// Adds the orders of a jump.
+fn emit_go(
+    out: &mut Output,
+    unit: &Unit,
+    layout: &Layout,
+    parameters: &[Param],
+    who: Option<u16>,
+    line: u16,
+    dest: &Dest,
+) -> Result<(), NoMemory>
+    ensures { OnOk result (made out.new ≡ added (statement_step (scope_with unit.now layout.now parameters.now) who 0 (statement.Go line dest.now)) (made out.old)) }
+{
+    emit_begin(out, line)?;
+    match dest {
+        Dest::Goal(goal) => emit_goal(out, unit, who, *goal),
+        Dest::Special(control) => {
+            let place = place_of_control(parameters, *control)?;
+            out.push(Order::GoSpecial(place))
+        }
+        Dest::Switch(switch, e) => {
+            emit_expression(out, unit, layout, parameters, e, 0)?;
+            out.push(Order::GoSwitch(*switch))
+        }
+        Dest::CommonSwitch(descriptor, e) => {
+            emit_expression(out, unit, layout, parameters, e, 0)?;
+            out.push(Order::GoSwitchCommon(*descriptor))
+        }
+        Dest::SpecialSwitch(control, e) => {
+            let place = place_of_control(parameters, *control)?;
+            emit_expression(out, unit, layout, parameters, e, 0)?;
+            out.push(Order::GoSwitchSpecial(place))
+        }
+    }
+}
+
+/// Drops the answer of a call statement; WRITEBYTE has none.
+fn emit_after_call(out: &mut Output, target: &Target) -> Result<(), NoMemory>
+    ensures { OnOk result (made out.new ≡ added (plain (after_statement_call target.now)) (made out.old)) }
+{
+    match target {
+        Target::Write => Ok(()),
+        _ => out.push(Order::Drop),
+    }
+}
+
+/// Adds the orders of a call statement.
+fn emit_call_statement(
+    out: &mut Output,
+    unit: &Unit,
+    layout: &Layout,
+    parameters: &[Param],
+    line: u16,
+    target: &Target,
+    arguments: &[Arg],
+) -> Result<(), NoMemory>
+    ensures { OnOk result (made out.new ≡ added (statement_step (scope_with unit.now layout.now parameters.now) None 0 (statement.Call line target.now arguments.now)) (made out.old)) }
+{
+    emit_begin(out, line)?;
+    emit_arguments(out, unit, layout, parameters, arguments)?;
+    emit_call(out, unit, layout, parameters, target)?;
+    emit_after_call(out, target)
+}
+
+/// Adds the orders of an ANSWER, in a procedure whose answer has this scale.
+fn emit_answer(
+    out: &mut Output,
+    unit: &Unit,
+    layout: &Layout,
+    parameters: &[Param],
+    answer: u8,
+    line: u16,
+    e: &Expr,
+) -> Result<(), NoMemory>
+    ensures { OnOk result (made out.new ≡ added (statement_step (scope_with unit.now layout.now parameters.now) None answer (statement.Answer line e.now)) (made out.old)) }
+{
+    let arguments = all_words(parameters)?;
+    emit_begin(out, line)?;
+    emit_expression(out, unit, layout, parameters, e, answer)?;
+    out.push(Order::Return {
+        arguments,
+        answers: true,
+    })
+}
+
+/// Adds the orders of a statement of a body: the segment's, or that of the procedure `who`, with these parameters and an answer of this
+/// scale.
+pub fn emit_statement(
+    alloc: Global,
+    out: &mut Output,
+    unit: &Unit,
+    layout: &Layout,
+    parameters: &[Param],
+    who: Option<u16>,
+    answer: u8,
+    statement: &Stmt,
+) -> Result<(), NoMemory>
+    ensures { OnOk result (made out.new ≡ added (statement_piece (scope_with unit.now layout.now parameters.now) who answer statement.now) (made out.old)) }
+{
+    match statement {
+        Stmt::Put(line, reference, e) => emit_put(
+            out, unit, layout, parameters, *line, reference, e,
+        ),
+        Stmt::PutBits(line, t, b, reference, e) => emit_put_bits(
+            out, unit, layout, parameters, *line, *t, *b, reference, e,
+        ),
+        Stmt::Go(line, dest) => emit_go(out, unit, layout, parameters, who, *line, dest),
+        Stmt::Call(line, target, arguments) => emit_call_statement(
+            out,
+            unit,
+            layout,
+            parameters,
+            *line,
+            target,
+            arguments.as_slice(),
+        ),
+        Stmt::Answer(line, e) => emit_answer(out, unit, layout, parameters, answer, *line, e),
+        Stmt::If(line, condition, holds, fails) => {
+            emit_begin(out, *line)?;
+            let end = out.new_mark()?;
+            let other = out.new_mark()?;
+            emit_condition(out, unit, layout, parameters, condition, false, other)?;
+            emit_statement(
+                alloc,
+                out,
+                unit,
+                layout,
+                parameters,
+                who,
+                answer,
+                holds.get(),
+            )?;
+            out.push(Order::Jump(end))?;
+            out.set_mark(other)?;
+            emit_statement(
+                alloc,
+                out,
+                unit,
+                layout,
+                parameters,
+                who,
+                answer,
+                fails.get(),
+            )?;
+            out.set_mark(end)
+        }
+        Stmt::For(line, looped, reference, elements, body) => {
+            emit_begin(out, *line)?;
+            emit_address(out, unit, layout, parameters, &reference.at)?;
+            emit_keep(out, layout, *looped, 0)?;
+            let end = out.new_mark()?;
+            let start = out.new_mark()?;
+            let set = out.new_mark()?;
+            let ways = emit_elements(
+                alloc,
+                out,
+                unit,
+                layout,
+                parameters,
+                *looped,
+                reference.f,
+                set,
+                start,
+                elements.as_slice(),
+            )?;
+            out.push(Order::Jump(end))?;
+            out.set_mark(set)?;
+            emit_set(out, layout, *looped)?;
+            out.set_mark(start)?;
+            emit_statement(
+                alloc,
+                out,
+                unit,
+                layout,
+                parameters,
+                who,
+                answer,
+                body.get(),
+            )?;
+            emit_way(out, layout, *line, *looped, ways)?;
+            out.set_mark(end)
+        }
+        Stmt::Seq(statements) => {
+            for member in statements.as_slice() {
+                emit_statement(alloc, out, unit, layout, parameters, who, answer, member)?;
+            }
+            Ok(())
+        }
+        Stmt::Mark(labels, statement) => {
+            out.set_labels(labels.as_slice())?;
+            emit_statement(
+                alloc,
+                out,
+                unit,
+                layout,
+                parameters,
+                who,
+                answer,
+                statement.get(),
+            )
+        }
+    }
+}
