@@ -1,0 +1,10 @@
+pub mod Tokens
+pub mod Trees
+pub mod Grammar
+pub mod Rules
+pub mod Statements
+pub mod Table
+pub mod Derives
+pub mod Reading
+pub mod Parsing
+pub mod Labels

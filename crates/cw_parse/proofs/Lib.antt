@@ -1,0 +1,4 @@
+pub mod Flat
+pub mod Texts
+pub mod Decls
+pub mod Forms

@@ -1,0 +1,134 @@
+-- The cycle of the readers of statements.
+use Rattle.std.proofs.Common.{arith, rules, ◌≡◌, ℕ, [], ◌∷◌, ◌∙◌, sym, true, false, refl, ap, subst, length, Some, None}
+use Rattle.std.proofs.lemmas.Result.{err_from_is_err_and}
+use Rattle.cw_lex.specs.declared.token.TokenKind.TheVariants as kinds
+use Rattle.cw_lex.specs.declared.token.Symbol.TheVariants as symbols
+use Rattle.cw_tree.specs.declared.statement.RawDecl.{RawDecl}
+use Rattle.cw_tree.specs.declared.statement.RawSimple.{RawSimple}
+use Rattle.cw_grammar.specs.Tokens.{behind}
+use Rattle.cw_grammar.specs.Grammar.{a_list, a_stmt, a_decl, a_from, a_type, a_data, many, again, labelled}
+use Rattle.cw_grammar.specs.Rules.{symbol, ◌*>◌, ◌<*◌}
+use Rattle.cw_grammar.specs.Statements.{semicolons, decl, singles, arrays}
+use Rattle.cw_grammar.specs.Reading.{Read, Gives, read, reads}
+use Rattle.cw_grammar.specs.Reading.{applied}
+use Rattle.cw_grammar.proofs.Loop.{goes_on, ends, fails}
+use Rattle.cw_grammar.proofs.Many.{shorter}
+use Rattle.cw_grammar.proofs.Chain.{behind_token, behind_token_fails}
+use Rattle.cw_grammar.proofs.Ended.{before_token, item_fails, end_fails}
+use Rattle.cw_grammar.proofs.Labels.{labels_not_failed, stmt_read, stmt_fails, simple_read, simple_fails}
+use Rattle.cw_grammar.proofs.Flat.{any_levels}
+use Rattle.cw_parse.proofs.Flat.{local_decl_flat}
+use Rattle.cw_parse.proofs.Forms.{simple_named, form_named}
+use Rattle.cw_parse.proofs.Decls.{outer_singles, outer_arrays, outer_proc, outer_worded, outer_bare, data_ok, data_fails, outer_type_fails, decl_starts, decl_takes}
+use Rattle.cw_parse.proofs.statement.+statement_reader.Goals as goal
+
+pub read_stmts-loop-alloc-smaller : goal.read_stmts-loop-alloc-smaller
+read_stmts-loop-alloc-smaller t c = shorter c.args.levels a_stmt (symbol symbols.Semicolon *> (again (labelled c.args.in_proc))) refl (behind c.args.tokens.now c.loop-alloc.next) (c.in_ok-item.item, behind c.args.tokens.now c.in_ok-item.after) (behind_token c.args.levels a_stmt (kinds.Symbol symbols.Semicolon) (again (labelled c.args.in_proc)) _ c.in_ok-item.item (behind c.args.tokens.now c.loop-alloc.next) (behind c.args.tokens.now c.in_ok-after.after) (behind c.args.tokens.now c.in_ok-item.after) c.in_ok-after.ensures c.in_ok-item.ensures)
+
+pub read_stmts-loop-alloc-preserved : goal.read_stmts-loop-alloc-preserved
+read_stmts-loop-alloc-preserved t c =
+    rw c.in_ok-push-2.ensures.ok
+    (goes_on c.args.levels a_stmt (symbol symbols.Semicolon *> (again (labelled c.args.in_proc))) c.loop-alloc.found c.in_ok-item.item (behind c.args.tokens.now c.loop-alloc.next) (behind c.args.tokens.now c.in_ok-item.after) (read c.args.levels (a_list a_stmt) (semicolons (again (labelled c.args.in_proc))) (behind c.args.tokens.now c.args.at)) refl (sym c.next_is.ensures ∙ c.loop-alloc-test.true) (behind_token c.args.levels a_stmt (kinds.Symbol symbols.Semicolon) (again (labelled c.args.in_proc)) _ c.in_ok-item.item (behind c.args.tokens.now c.loop-alloc.next) (behind c.args.tokens.now c.in_ok-after.after) (behind c.args.tokens.now c.in_ok-item.after) c.in_ok-after.ensures c.in_ok-item.ensures) c.loop-alloc.invariant)
+
+pub read_stmts-returns-in_err-item : goal.read_stmts-returns-in_err-item
+read_stmts-returns-in_err-item t c =
+    let p = err_from_is_err_and c.from_residual-in_err-item.result c.from_residual-in_err-item.ensures.1 in
+    rw (p.1, p.2) (fails c.in_err-item.field-0.0 c.args.levels a_stmt (symbol symbols.Semicolon *> (again (labelled c.args.in_proc))) c.loop-alloc.found (behind c.args.tokens.now c.loop-alloc.next) (read c.args.levels (a_list a_stmt) (semicolons (again (labelled c.args.in_proc))) (behind c.args.tokens.now c.args.at)) refl (sym c.next_is.ensures ∙ c.loop-alloc-test.true) (behind_token_fails c.in_err-item.field-0.0 c.args.levels a_stmt (kinds.Symbol symbols.Semicolon) (again (labelled c.args.in_proc)) _ (behind c.args.tokens.now c.loop-alloc.next) (behind c.args.tokens.now c.in_ok-after.after) c.in_ok-after.ensures c.in_err-item.ensures) c.loop-alloc.invariant)
+
+pub read_decls-returns-in_err-item : goal.read_decls-returns-in_err-item
+read_decls-returns-in_err-item t c =
+    let p = err_from_is_err_and c.from_residual.result c.from_residual.ensures.1 in
+    rw (p.1, p.2) (fails c.in_err-item.field-0.0 c.args.levels a_decl (decl c.args.in_proc <* symbol symbols.Semicolon) c.loop-alloc.found (behind c.args.tokens.now c.loop-alloc.next) (read c.args.levels (a_list a_decl) (many (decl c.args.in_proc <* symbol symbols.Semicolon)) (behind c.args.tokens.now c.args.at)) (decl_takes c.args.in_proc) (decl_starts c.args.in_proc (behind c.args.tokens.now c.loop-alloc.next) true (sym c.is_decl.ensures ∙ c.loop-alloc-test.true)) (item_fails c.in_err-item.field-0.0 c.args.levels a_decl (kinds.Symbol symbols.Semicolon) (decl c.args.in_proc) (behind c.args.tokens.now c.loop-alloc.next) c.in_err-item.ensures) c.loop-alloc.invariant)
+
+pub read_decls-returns-in_err-after : goal.read_decls-returns-in_err-after
+read_decls-returns-in_err-after t c =
+    let p = err_from_is_err_and c.from_residual-in_err-after.result c.from_residual-in_err-after.ensures.1 in
+    rw (p.1, p.2) (fails c.in_err-after.field-0.0 c.args.levels a_decl (decl c.args.in_proc <* symbol symbols.Semicolon) c.loop-alloc.found (behind c.args.tokens.now c.loop-alloc.next) (read c.args.levels (a_list a_decl) (many (decl c.args.in_proc <* symbol symbols.Semicolon)) (behind c.args.tokens.now c.args.at)) (decl_takes c.args.in_proc) (decl_starts c.args.in_proc (behind c.args.tokens.now c.loop-alloc.next) true (sym c.is_decl.ensures ∙ c.loop-alloc-test.true)) (end_fails c.in_err-after.field-0.0 c.args.levels a_decl (kinds.Symbol symbols.Semicolon) (decl c.args.in_proc) c.in_ok-item.item (behind c.args.tokens.now c.loop-alloc.next) (behind c.args.tokens.now c.in_ok-item.after) c.in_ok-item.ensures c.in_err-after.ensures) c.loop-alloc.invariant)
+
+pub read_decls-loop-alloc-smaller : goal.read_decls-loop-alloc-smaller
+read_decls-loop-alloc-smaller t c = shorter c.args.levels a_decl (decl c.args.in_proc <* symbol symbols.Semicolon) (decl_takes c.args.in_proc) (behind c.args.tokens.now c.loop-alloc.next) (c.in_ok-item.item, behind c.args.tokens.now c.in_ok-after.after) (before_token c.args.levels a_decl (kinds.Symbol symbols.Semicolon) (decl c.args.in_proc) c.in_ok-item.item _ (behind c.args.tokens.now c.loop-alloc.next) (behind c.args.tokens.now c.in_ok-item.after) (behind c.args.tokens.now c.in_ok-after.after) c.in_ok-item.ensures c.in_ok-after.ensures)
+
+pub read_decls-loop-alloc-preserved : goal.read_decls-loop-alloc-preserved
+read_decls-loop-alloc-preserved t c = rw c.in_ok-push.ensures.ok (goes_on c.args.levels a_decl (decl c.args.in_proc <* symbol symbols.Semicolon) c.loop-alloc.found c.in_ok-item.item (behind c.args.tokens.now c.loop-alloc.next) (behind c.args.tokens.now c.in_ok-after.after) (read c.args.levels (a_list a_decl) (many (decl c.args.in_proc <* symbol symbols.Semicolon)) (behind c.args.tokens.now c.args.at)) (decl_takes c.args.in_proc) (decl_starts c.args.in_proc (behind c.args.tokens.now c.loop-alloc.next) true (sym c.is_decl.ensures ∙ c.loop-alloc-test.true)) (before_token c.args.levels a_decl (kinds.Symbol symbols.Semicolon) (decl c.args.in_proc) c.in_ok-item.item _ (behind c.args.tokens.now c.loop-alloc.next) (behind c.args.tokens.now c.in_ok-item.after) (behind c.args.tokens.now c.in_ok-after.after) c.in_ok-item.ensures c.in_ok-after.ensures) c.loop-alloc.invariant)
+
+pub read_decls-returns : goal.read_decls-returns
+read_decls-returns t c = ends c.args.levels a_decl (decl c.args.in_proc <* symbol symbols.Semicolon) c.loop-alloc.found (behind c.args.tokens.now c.loop-alloc.next) (read c.args.levels (a_list a_decl) (many (decl c.args.in_proc <* symbol symbols.Semicolon)) (behind c.args.tokens.now c.args.at)) (decl_starts c.args.in_proc (behind c.args.tokens.now c.loop-alloc.next) false (sym c.is_decl.ensures ∙ c.loop-alloc-test.false)) c.loop-alloc.invariant
+
+pub read_stmt-returns-in_err-labels : goal.read_stmt-returns-in_err-labels
+read_stmt-returns-in_err-labels t c =
+    let p = err_from_is_err_and c.from_residual.result c.from_residual.ensures.1 in
+    rw (p.1, p.2) (labels_not_failed c.in_err-labels.field-0.0 _ (behind c.args.tokens.now c.args.at) (read c.args.levels a_stmt (again (labelled c.args.in_proc)) (behind c.args.tokens.now c.args.at)) c.in_err-labels.ensures)
+
+pub read_stmt-returns-in_err-form : goal.read_stmt-returns-in_err-form
+read_stmt-returns-in_err-form t c =
+    let p = err_from_is_err_and c.from_residual-in_err-form.result c.from_residual-in_err-form.ensures.1 in
+    rw (p.1, p.2) (stmt_fails c.in_err-form.field-0.0 c.args.levels c.args.in_proc (behind c.args.tokens.now c.args.at) (behind c.args.tokens.now c.in_ok-labels.at) c.in_ok-labels.labels c.in_ok-labels.ensures c.in_err-form.ensures)
+
+pub read_labelled_simple-returns-in_err-labels : goal.read_labelled_simple-returns-in_err-labels
+read_labelled_simple-returns-in_err-labels t c =
+    let p = err_from_is_err_and c.from_residual.result c.from_residual.ensures.1 in
+    rw (p.1, p.2) (labels_not_failed c.in_err-labels.field-0.0 _ (behind c.args.tokens.now c.args.at) _ c.in_err-labels.ensures)
+
+pub read_labelled_simple-returns-in_err-simple : goal.read_labelled_simple-returns-in_err-simple
+read_labelled_simple-returns-in_err-simple t c =
+    let p = err_from_is_err_and c.from_residual-in_err-simple.result c.from_residual-in_err-simple.ensures.1 in
+    rw (p.1, p.2) (simple_fails c.in_err-simple.field-0.0 c.args.levels c.args.in_proc (behind c.args.tokens.now c.args.at) (behind c.args.tokens.now c.in_ok-labels.at) c.in_ok-labels.labels c.in_ok-labels.ensures c.in_err-simple.ensures)
+
+pub read_labelled_simple-returns : goal.read_labelled_simple-returns
+read_labelled_simple-returns t c = simple_read c.args.levels c.args.in_proc (behind c.args.tokens.now c.args.at) (behind c.args.tokens.now c.in_ok-labels.at) (behind c.args.tokens.now c.in_ok-simple.at) c.in_ok-labels.labels c.in_ok-simple.simple c.in_ok-labels.ensures c.in_ok-simple.ensures
+
+pub read_outer_decl-returns-in_err-item : goal.read_outer_decl-returns-in_err-item
+read_outer_decl-returns-in_err-item t c =
+    let p = err_from_is_err_and c.from_residual-in_err-item.result c.from_residual-in_err-item.ensures.1 in
+    rw (p.1, p.2) (data_fails c.in_err-item.field-0.0 c.args.levels (behind c.args.tokens.now c.args.at) (applied c.in_ok-kind.kind (read 0 (a_from a_type a_data) singles (behind c.args.tokens.now c.in_ok-kind.at))) (outer_singles c.args.levels (behind c.args.tokens.now c.args.at) (behind c.args.tokens.now c.in_ok-kind.at) c.in_ok-kind.kind (sym c.is_type.ensures ∙ c.if-is_type.true) c.in_ok-kind.ensures (sym c.next_is.ensures ∙ c.if-next_is.true)) c.in_err-item.ensures)
+
+pub read_outer_decl-returns-then-next_is : goal.read_outer_decl-returns-then-next_is
+read_outer_decl-returns-then-next_is t c = data_ok c.args.levels (behind c.args.tokens.now c.args.at) (behind c.args.tokens.now c.in_ok-item.at) (applied c.in_ok-kind.kind (read 0 (a_from a_type a_data) singles (behind c.args.tokens.now c.in_ok-kind.at))) c.in_ok-item.item (outer_singles c.args.levels (behind c.args.tokens.now c.args.at) (behind c.args.tokens.now c.in_ok-kind.at) c.in_ok-kind.kind (sym c.is_type.ensures ∙ c.if-is_type.true) c.in_ok-kind.ensures (sym c.next_is.ensures ∙ c.if-next_is.true)) c.in_ok-item.ensures
+
+pub read_outer_decl-returns-in_err-item-2 : goal.read_outer_decl-returns-in_err-item-2
+read_outer_decl-returns-in_err-item-2 t c =
+    let p = err_from_is_err_and c.from_residual-in_err-item-2.result c.from_residual-in_err-item-2.ensures.1 in
+    rw (p.1, p.2) (data_fails c.in_err-item-2.field-0.0 c.args.levels (behind c.args.tokens.now c.args.at) (applied c.in_ok-kind.kind (read 0 (a_from a_type a_data) arrays (behind c.args.tokens.now c.in_ok-kind.at))) (outer_arrays c.args.levels (behind c.args.tokens.now c.args.at) (behind c.args.tokens.now c.in_ok-kind.at) c.in_ok-kind.kind (sym c.is_type.ensures ∙ c.if-is_type.true) c.in_ok-kind.ensures (sym c.next_is.ensures ∙ c.if-next_is.false) (sym c.next_is-then-is_type.ensures ∙ c.if-next_is-2.true)) c.in_err-item-2.ensures)
+
+pub read_outer_decl-returns-then-next_is-2 : goal.read_outer_decl-returns-then-next_is-2
+read_outer_decl-returns-then-next_is-2 t c = data_ok c.args.levels (behind c.args.tokens.now c.args.at) (behind c.args.tokens.now c.in_ok-item-2.at) (applied c.in_ok-kind.kind (read 0 (a_from a_type a_data) arrays (behind c.args.tokens.now c.in_ok-kind.at))) c.in_ok-item-2.item (outer_arrays c.args.levels (behind c.args.tokens.now c.args.at) (behind c.args.tokens.now c.in_ok-kind.at) c.in_ok-kind.kind (sym c.is_type.ensures ∙ c.if-is_type.true) c.in_ok-kind.ensures (sym c.next_is.ensures ∙ c.if-next_is.false) (sym c.next_is-then-is_type.ensures ∙ c.if-next_is-2.true)) c.in_ok-item-2.ensures
+
+pub read_outer_decl-returns-then-is_type : goal.read_outer_decl-returns-then-is_type
+read_outer_decl-returns-then-is_type t c =
+    let P : Read RawDecl → Type 0 = λ o. Gives (λ x. (x.0, behind c.args.tokens.now x.1)) c.read_proc_behind.result o in
+    subst P (outer_proc c.args.levels (behind c.args.tokens.now c.args.at) (behind c.args.tokens.now c.in_ok-kind.at) c.in_ok-kind.kind (sym c.is_type.ensures ∙ c.if-is_type.true) c.in_ok-kind.ensures (sym c.next_is.ensures ∙ c.if-next_is.false) (sym c.next_is-then-is_type.ensures ∙ c.if-next_is-2.false)) c.read_proc_behind.ensures
+
+pub read_outer_decl-returns-then-is_worded_decl : goal.read_outer_decl-returns-then-is_worded_decl
+read_outer_decl-returns-then-is_worded_decl t c =
+    let P : Read RawDecl → Type 0 = λ o. Gives (λ x. (x.0, behind c.args.tokens.now x.1)) c.read_worded_decl.result o in
+    subst P (outer_worded c.args.levels (behind c.args.tokens.now c.args.at) (sym c.is_type.ensures ∙ c.if-is_type.false) (sym c.is_worded_decl.ensures ∙ c.if-is_worded_decl.true)) c.read_worded_decl.ensures
+
+pub read_outer_decl-returns : goal.read_outer_decl-returns
+read_outer_decl-returns t c =
+    let P : Read RawDecl → Type 0 = λ o. Gives (λ x. (x.0, behind c.args.tokens.now x.1)) c.read_proc_behind-2.result o in
+    subst P (outer_bare c.args.levels (behind c.args.tokens.now c.args.at) (sym c.is_type.ensures ∙ c.if-is_type.false) (sym c.is_worded_decl.ensures ∙ c.if-is_worded_decl.false)) c.read_proc_behind-2.ensures
+
+pub read_decl-returns-then-in_proc : goal.read_decl-returns-then-in_proc
+read_decl-returns-then-in_proc t c =
+    let P : Read RawDecl → Type 0 = λ o. Gives (λ x. (x.0, behind c.args.tokens.now x.1)) c.read_local_decl.result o in
+    rw c.if-in_proc.true (subst P (any_levels 0 c.args.levels a_decl (decl true) (behind c.args.tokens.now c.args.at) local_decl_flat) c.read_local_decl.ensures)
+
+pub read_decl-returns : goal.read_decl-returns
+read_decl-returns t c = rw c.if-in_proc.false c.read_outer_decl.ensures
+
+pub read_outer_decl-returns-in_err-kind : goal.read_outer_decl-returns-in_err-kind
+read_outer_decl-returns-in_err-kind t c =
+    let p = err_from_is_err_and c.from_residual.result c.from_residual.ensures.1 in
+    rw (p.1, p.2) (outer_type_fails c.in_err-kind.field-0.0 c.args.levels (behind c.args.tokens.now c.args.at) (sym c.is_type.ensures ∙ c.if-is_type.true) c.in_err-kind.ensures)
+
+pub read_stmt-returns : goal.read_stmt-returns
+read_stmt-returns t c = rw c.in_ok-form-2.ensures (stmt_read c.args.levels c.args.in_proc (behind c.args.tokens.now c.args.at) (behind c.args.tokens.now c.in_ok-labels.at) (behind c.args.tokens.now c.in_ok-form.at) c.in_ok-labels.labels c.in_ok-form.form c.in_ok-labels.ensures c.in_ok-form.ensures)
+
+pub read_simple-returns-then-next_is : goal.read_simple-returns-then-next_is
+read_simple-returns-then-next_is t c =
+    let P : Read RawSimple → Type 0 = λ o. Gives (λ x. (x.0, behind c.args.tokens.now x.1)) c.read_simple_behind.result o in
+    subst P (simple_named c.args.levels c.args.in_proc (behind c.args.tokens.now c.args.at) (behind c.args.tokens.now c.in_ok-name.at) c.in_ok-name.name (sym c.next_is.ensures ∙ c.if-next_is.true) c.in_ok-name.ensures) c.read_simple_behind.ensures
+
+pub read_form-returns-then-next_is : goal.read_form-returns-then-next_is
+read_form-returns-then-next_is t c =
+    rw c.in_ok-boxed.ensures (form_named c.args.levels c.args.in_proc (behind c.args.tokens.now c.args.at) (behind c.args.tokens.now c.in_ok-name.at) (behind c.args.tokens.now c.in_ok-simple.at) c.in_ok-name.name c.in_ok-simple.simple (sym c.next_is.ensures ∙ c.if-next_is.true) c.in_ok-name.ensures c.in_ok-simple.ensures)

@@ -1,0 +1,67 @@
+-- The cycle of the readers of statements.
+use Rattle.std.proofs.Common.{◌≡◌, ℕ, ◌+◌, ◌*◌, length}
+use Rattle.cw_lex.specs.declared.token.Symbol.TheVariants as symbols
+use Rattle.cw_grammar.specs.Tokens.{behind}
+use Rattle.cw_grammar.specs.Grammar.{a_list, a_stmt, a_decl, many, again, labelled}
+use Rattle.cw_grammar.specs.Rules.{symbol, ◌*>◌, ◌<*◌}
+use Rattle.cw_grammar.specs.Statements.{semicolons, decl}
+use Rattle.cw_grammar.specs.Reading.{read}
+use Rattle.cw_grammar.proofs.Loop.{with_front}
+use Rattle.cw_parse.proofs.statement.+statement_reader.Given as goal
+
+abbrev pub decreases-read_else_rest : goal.decreases-read_else_rest
+decreases-read_else_rest l = 100 * l.levels + 0
+
+abbrev pub decreases-read_if_rest : goal.decreases-read_if_rest
+decreases-read_if_rest l = 100 * l.levels + 0
+
+abbrev pub decreases-read_for_rest : goal.decreases-read_for_rest
+decreases-read_for_rest l = 100 * l.levels + 0
+
+abbrev pub decreases-read_block_rest : goal.decreases-read_block_rest
+decreases-read_block_rest l = 100 * l.levels + 0
+
+abbrev pub decreases-read_proc_body : goal.decreases-read_proc_body
+decreases-read_proc_body l = 100 * l.levels + 0
+
+abbrev pub decreases-read_unnamed : goal.decreases-read_unnamed
+decreases-read_unnamed l = 100 * l.levels + 1
+
+abbrev pub decreases-read_simple : goal.decreases-read_simple
+decreases-read_simple l = 100 * l.levels + 2
+
+abbrev pub decreases-read_labelled_simple : goal.decreases-read_labelled_simple
+decreases-read_labelled_simple l = 100 * l.levels + 3
+
+abbrev pub decreases-read_form : goal.decreases-read_form
+decreases-read_form l = 100 * l.levels + 3
+
+abbrev pub decreases-read_stmt : goal.decreases-read_stmt
+decreases-read_stmt l = 100 * l.levels + 4
+
+abbrev pub decreases-read_stmts : goal.decreases-read_stmts
+decreases-read_stmts l = 100 * l.levels + 5
+
+abbrev pub decreases-read_proc_behind : goal.decreases-read_proc_behind
+decreases-read_proc_behind l = 100 * l.levels + 1
+
+abbrev pub decreases-read_outer_decl : goal.decreases-read_outer_decl
+decreases-read_outer_decl l = 100 * l.levels + 2
+
+abbrev pub decreases-read_decl : goal.decreases-read_decl
+decreases-read_decl l = 100 * l.levels + 3
+
+abbrev pub decreases-read_decls : goal.decreases-read_decls
+decreases-read_decls l = 100 * l.levels + 4
+
+abbrev pub invariant-read_stmts-loop-alloc : goal.invariant-read_stmts-loop-alloc
+invariant-read_stmts-loop-alloc l = with_front l.found (read l.fn.levels (a_list a_stmt) (many (symbol symbols.Semicolon *> again (labelled l.fn.in_proc))) (behind l.fn.tokens l.next)) ≡ read l.fn.levels (a_list a_stmt) (semicolons (again (labelled l.fn.in_proc))) (behind l.fn.tokens l.fn.at)
+
+abbrev pub decreases-read_stmts-loop-alloc : goal.decreases-read_stmts-loop-alloc
+decreases-read_stmts-loop-alloc l = length (behind l.fn.tokens l.next)
+
+abbrev pub invariant-read_decls-loop-alloc : goal.invariant-read_decls-loop-alloc
+invariant-read_decls-loop-alloc l = with_front l.found (read l.fn.levels (a_list a_decl) (many (decl l.fn.in_proc <* symbol symbols.Semicolon)) (behind l.fn.tokens l.next)) ≡ read l.fn.levels (a_list a_decl) (many (decl l.fn.in_proc <* symbol symbols.Semicolon)) (behind l.fn.tokens l.fn.at)
+
+abbrev pub decreases-read_decls-loop-alloc : goal.decreases-read_decls-loop-alloc
+decreases-read_decls-loop-alloc l = length (behind l.fn.tokens l.next)

@@ -1,0 +1,8 @@
+//! Parser of whole segments.
+#![tactic(auto)]
+
+pub mod parsing;
+mod statement;
+
+pub use cw_grammar::fault::ParseFault;
+pub use parsing::parse;

@@ -1,0 +1,751 @@
+//! Expressions, conditions and references from left to right.
+ghost use Rattle.std.specs.Prelude.{◌≡◌, ℕ, [], ◌∷◌, IfOk};
+ghost use Rattle.cw_grammar.specs.Tokens.{behind, seen, position};
+ghost use Rattle.cw_grammar.specs.Grammar.{starts, first, a_pair, a_list, an_option, a_bits, a_compare_sign, a_factor_sign, an_expr, a_cond, a_cand, a_cmp, a_sum, a_term, a_differ, a_union, a_mask, a_prim, a_primary, a_ref, bracketed, subscript, indexed, called, located, conditional, many, ◌·◌, ◌⇒◌};
+ghost use Rattle.cw_grammar.specs.Rules.{word as grammar_word, symbol, indexed_name, compared, optional, commas, ◌*>◌, bits, reference, constant, worded, enclosed, named, primary, prim, mask, union, differ, term, sum, cmp, cand, condition, expr, factor_sign, comparator};
+ghost use Rattle.cw_grammar.specs.Reading.{Gives, read, inside};
+ghost use Rattle.cw_lex.specs.declared.token.Symbol.TheVariants.{Comma};
+ghost use Rattle.cw_tree.specs.declared.expression.RawExpr.TheVariants.{Choice};
+
+use crate::brackets::{
+    differ_start, expr_of, mask_start, prim_of, start, sum_start, term_start, union_start,
+};
+use cw_grammar::leaf::{characters, literal_byte};
+use cw_grammar::reading::{
+    is_sign, read_name, read_number, read_octal, read_optional_sign, read_sign, read_size,
+    read_type,
+};
+use cw_grammar::stop::Stop;
+use cw_grammar::token::{Item, deep, next_is, position, take_kind};
+use cw_lex::{Symbol, Token, TokenKind, Word};
+use cw_tree::expression::{
+    RawBits, RawCand, RawCmp, RawCond, RawDiffer, RawExpr, RawMask, RawPrim, RawPrimary, RawRef,
+    RawSum, RawTerm, RawUnion,
+};
+use cw_tree::leaf::{CompareOp, MulOp, RawCompareSign, RawFactorSign, RawLiteral, RawName};
+use cw_word::{Boxed, List, NoMemory};
+use std::alloc::Global;
+
+#[tactic(auto, unfolding(cw_grammar::specs::Rules::bits))]
+pub fn read_bits(tokens: &[Token], at: usize) -> Result<(RawBits, usize), Stop>
+    ensures { Gives (λ x. (x.0, behind tokens.now x.1)) result (read 0 a_bits bits (behind tokens.now at)) }
+{
+    let (word, at) = take_kind(tokens, at, TokenKind::Word(Word::Bits))?;
+    let (size, at) = read_size(tokens, at)?;
+    Ok((
+        RawBits {
+            at: position(word),
+            size,
+        },
+        at,
+    ))
+}
+
+#[tactic(auto, using(cw_grammar::proofs::Levels::inside_opened, cw_grammar::proofs::Levels::inside_full), unfolding(cw_grammar::specs::Table::rule))]
+#[cycle(reader)]
+fn read_bracketed(
+    alloc: Global,
+    levels: u8,
+    tokens: &[Token],
+    at: usize,
+) -> Result<(RawExpr, usize), Stop>
+    ensures { Gives (λ x. (x.0, behind tokens.now x.1)) result (inside levels an_expr bracketed (behind tokens.now at)) }
+{
+    if levels == 0 {
+        return Err(deep(tokens, at));
+    }
+    let (inner, at) = read_expr(alloc, levels - 1, tokens, at)?;
+    let (_, at) = take_kind(tokens, at, TokenKind::Symbol(Symbol::Close))?;
+    Ok((inner, at))
+}
+
+#[tactic(auto, using(cw_grammar::proofs::Levels::inside_opened, cw_grammar::proofs::Levels::inside_full), unfolding(cw_grammar::specs::Table::rule))]
+#[cycle(reader)]
+pub fn read_subscript(
+    alloc: Global,
+    levels: u8,
+    tokens: &[Token],
+    at: usize,
+) -> Result<(RawExpr, usize), Stop>
+    ensures { Gives (λ x. (x.0, behind tokens.now x.1)) result (inside levels an_expr subscript (behind tokens.now at)) }
+{
+    if levels == 0 {
+        return Err(deep(tokens, at));
+    }
+    let (inner, at) = read_expr(alloc, levels - 1, tokens, at)?;
+    let (_, at) = take_kind(tokens, at, TokenKind::Symbol(Symbol::CloseSquare))?;
+    Ok((inner, at))
+}
+
+#[cycle(reader)]
+fn read_second(
+    alloc: Global,
+    levels: u8,
+    tokens: &[Token],
+    at: usize,
+) -> Result<(Option<RawExpr>, usize), Stop>
+    ensures { Gives (λ x. (x.0, behind tokens.now x.1)) result (read levels (an_option an_expr) (optional (symbol Comma *> expr)) (behind tokens.now at)) }
+{
+    if next_is(tokens, at, TokenKind::Symbol(Symbol::Comma)) {
+        let (_, at) = take_kind(tokens, at, TokenKind::Symbol(Symbol::Comma))?;
+        let (second, at) = read_expr(alloc, levels, tokens, at)?;
+        return Ok((Some(second), at));
+    }
+    Ok((None, at))
+}
+
+#[tactic(auto, using(cw_grammar::proofs::Levels::inside_opened, cw_grammar::proofs::Levels::inside_full), unfolding(cw_grammar::specs::Table::rule))]
+#[cycle(reader)]
+pub fn read_indexed(
+    alloc: Global,
+    levels: u8,
+    tokens: &[Token],
+    at: usize,
+) -> Result<((RawExpr, Option<RawExpr>), usize), Stop>
+    ensures { Gives (λ x. (x.0, behind tokens.now x.1)) result (inside levels (a_pair an_expr (an_option an_expr)) indexed (behind tokens.now at)) }
+{
+    if levels == 0 {
+        return Err(deep(tokens, at));
+    }
+    let (first, at) = read_expr(alloc, levels - 1, tokens, at)?;
+    let (second, at) = read_second(alloc, levels - 1, tokens, at)?;
+    let (_, at) = take_kind(tokens, at, TokenKind::Symbol(Symbol::CloseSquare))?;
+    Ok(((first, second), at))
+}
+
+#[cycle(reader)]
+fn read_arguments(
+    alloc: Global,
+    levels: u8,
+    tokens: &[Token],
+    at: usize,
+) -> Result<(List<RawExpr>, usize), Stop>
+    ensures { Gives (λ x. (x.0, behind tokens.now x.1)) result (read levels (a_list an_expr) (commas expr) (behind tokens.now at)) }
+{
+    let (first, at) = read_expr(alloc, levels, tokens, at)?;
+    let mut found = List::new(alloc);
+    found.push(first)?;
+    let mut next = at;
+    while next_is(tokens, next, TokenKind::Symbol(Symbol::Comma)) {
+        let (_, after) = take_kind(tokens, next, TokenKind::Symbol(Symbol::Comma))?;
+        let (item, after) = read_expr(alloc, levels, tokens, after)?;
+        found.push(item)?;
+        next = after;
+    }
+    Ok((found, next))
+}
+
+#[tactic(auto, using(cw_grammar::proofs::Levels::inside_opened, cw_grammar::proofs::Levels::inside_full), unfolding(cw_grammar::specs::Table::rule))]
+#[cycle(reader)]
+pub fn read_called(
+    alloc: Global,
+    levels: u8,
+    tokens: &[Token],
+    at: usize,
+) -> Result<(List<RawExpr>, usize), Stop>
+    ensures { Gives (λ x. (x.0, behind tokens.now x.1)) result (inside levels (a_list an_expr) called (behind tokens.now at)) }
+{
+    if levels == 0 {
+        return Err(deep(tokens, at));
+    }
+    let (arguments, at) = read_arguments(alloc, levels - 1, tokens, at)?;
+    let (_, at) = take_kind(tokens, at, TokenKind::Symbol(Symbol::Close))?;
+    Ok((arguments, at))
+}
+
+#[tactic(auto, using(cw_grammar::proofs::Levels::inside_opened, cw_grammar::proofs::Levels::inside_full), unfolding(cw_grammar::specs::Table::rule))]
+#[cycle(reader)]
+fn read_located(
+    alloc: Global,
+    levels: u8,
+    tokens: &[Token],
+    at: usize,
+) -> Result<(RawRef, usize), Stop>
+    ensures { Gives (λ x. (x.0, behind tokens.now x.1)) result (inside levels a_ref located (behind tokens.now at)) }
+{
+    if levels == 0 {
+        return Err(deep(tokens, at));
+    }
+    let (reference, at) = read_reference(alloc, levels - 1, tokens, at)?;
+    let (_, at) = take_kind(tokens, at, TokenKind::Symbol(Symbol::Close))?;
+    Ok((reference, at))
+}
+
+#[cycle(reader)]
+fn read_branch(
+    alloc: Global,
+    levels: u8,
+    tokens: &[Token],
+    at: usize,
+    word: Word,
+) -> Result<(RawExpr, usize), Stop>
+    ensures { Gives (λ x. (x.0, behind tokens.now x.1)) result (read levels an_expr (grammar_word word *> expr) (behind tokens.now at)) }
+{
+    let (_, at) = take_kind(tokens, at, TokenKind::Word(word))?;
+    let (branch, at) = read_expr(alloc, levels, tokens, at)?;
+    Ok((branch, at))
+}
+
+#[tactic(auto, using(cw_grammar::proofs::Levels::inside_opened, cw_grammar::proofs::Levels::inside_full), unfolding(cw_grammar::specs::Table::rule))]
+#[cycle(reader)]
+fn read_conditional(
+    alloc: Global,
+    levels: u8,
+    tokens: &[Token],
+    at: usize,
+) -> Result<((RawCond, (RawExpr, RawExpr)), usize), Stop>
+    ensures { Gives (λ x. (x.0, behind tokens.now x.1)) result (inside levels (a_pair a_cond (a_pair an_expr an_expr)) conditional (behind tokens.now at)) }
+{
+    if levels == 0 {
+        return Err(deep(tokens, at));
+    }
+    let (test, at) = read_condition(alloc, levels - 1, tokens, at)?;
+    let (yes, at) = read_branch(alloc, levels - 1, tokens, at, Word::Then)?;
+    let (no, at) = read_branch(alloc, levels - 1, tokens, at, Word::Else)?;
+    Ok(((test, (yes, no)), at))
+}
+
+pub fn indexed_name(
+    alloc: Global,
+    name: RawName,
+    index: (RawExpr, Option<RawExpr>),
+) -> Result<RawRef, NoMemory>
+    ensures { IfOk result (λ x. x ≡ indexed_name name index.0 index.1) }
+{
+    let (first, second) = index;
+    let first = Boxed::new(alloc, first)?;
+    match second {
+        None => Ok(RawRef::One(name, first)),
+        Some(second) => Ok(RawRef::Two(name, first, Boxed::new(alloc, second)?)),
+    }
+}
+
+#[tactic(auto, unfolding(cw_grammar::specs::Rules::reference))]
+#[cycle(reader)]
+pub fn read_reference(
+    alloc: Global,
+    levels: u8,
+    tokens: &[Token],
+    at: usize,
+) -> Result<(RawRef, usize), Stop>
+    ensures { Gives (λ x. (x.0, behind tokens.now x.1)) result (read levels a_ref reference (behind tokens.now at)) }
+{
+    if next_is(tokens, at, TokenKind::Name) {
+        let (name, at) = read_name(tokens, at)?;
+        if next_is(tokens, at, TokenKind::Symbol(Symbol::OpenSquare)) {
+            let (_, at) = take_kind(tokens, at, TokenKind::Symbol(Symbol::OpenSquare))?;
+            let (index, at) = read_indexed(alloc, levels, tokens, at)?;
+            return Ok((indexed_name(alloc, name, index)?, at));
+        }
+        return Ok((RawRef::Name(name), at));
+    }
+    let (bracket, at) = take_kind(tokens, at, TokenKind::Symbol(Symbol::OpenSquare))?;
+    let (inner, at) = read_subscript(alloc, levels, tokens, at)?;
+    Ok((
+        RawRef::Bare(position(bracket), Boxed::new(alloc, inner)?),
+        at,
+    ))
+}
+
+#[tactic(auto, unfolding(cw_grammar::specs::Rules::constant, cw_grammar::specs::Rules::octal))]
+fn read_constant(
+    alloc: Global,
+    levels: u8,
+    tokens: &[Token],
+    at: usize,
+) -> Result<(RawPrimary, usize), Stop>
+    ensures { Gives (λ x. (x.0, behind tokens.now x.1)) result (read levels a_primary constant (behind tokens.now at)) }
+{
+    if next_is(tokens, at, TokenKind::Number) {
+        let (number, at) = read_number(tokens, at)?;
+        return Ok((RawPrimary::Number(number), at));
+    }
+    if next_is(tokens, at, TokenKind::Word(Word::Octal)) {
+        let (octal, at) = read_octal(tokens, at)?;
+        return Ok((RawPrimary::Octal(octal), at));
+    }
+    if next_is(tokens, at, TokenKind::Literal) {
+        let (item, at) = take_kind(tokens, at, TokenKind::Literal)?;
+        let literal = RawLiteral {
+            at: position(item),
+            byte: literal_byte(item.text),
+        };
+        return Ok((RawPrimary::Literal(literal), at));
+    }
+    let (item, at) = take_kind(tokens, at, TokenKind::Text)?;
+    Ok((
+        RawPrimary::Text(position(item), characters(alloc, item.kind, item.text)?),
+        at,
+    ))
+}
+
+#[tactic(auto, unfolding(cw_grammar::specs::Rules::worded, cw_grammar::specs::Rules::number_type, cw_grammar::specs::Rules::int, cw_grammar::specs::Rules::octal, cw_grammar::specs::Rules::sint))]
+#[cycle(reader)]
+fn read_worded(
+    alloc: Global,
+    levels: u8,
+    tokens: &[Token],
+    at: usize,
+) -> Result<(RawPrimary, usize), Stop>
+    ensures { Gives (λ x. (x.0, behind tokens.now x.1)) result (read levels a_primary worded (behind tokens.now at)) }
+{
+    if next_is(tokens, at, TokenKind::Word(Word::Location)) {
+        let (word, at) = take_kind(tokens, at, TokenKind::Word(Word::Location))?;
+        let (_, at) = take_kind(tokens, at, TokenKind::Symbol(Symbol::Open))?;
+        let (reference, at) = read_located(alloc, levels, tokens, at)?;
+        return Ok((
+            RawPrimary::Location(position(word), Boxed::new(alloc, reference)?),
+            at,
+        ));
+    }
+    let (kind, at) = read_type(tokens, at)?;
+    let (_, at) = take_kind(tokens, at, TokenKind::Symbol(Symbol::Open))?;
+    let (inner, at) = read_bracketed(alloc, levels, tokens, at)?;
+    Ok((RawPrimary::Forced(kind, Boxed::new(alloc, inner)?), at))
+}
+
+#[tactic(auto, unfolding(cw_grammar::specs::Rules::enclosed))]
+#[cycle(reader)]
+fn read_enclosed(
+    alloc: Global,
+    levels: u8,
+    tokens: &[Token],
+    at: usize,
+) -> Result<(RawPrimary, usize), Stop>
+    ensures { Gives (λ x. (x.0, behind tokens.now x.1)) result (read levels a_primary enclosed (behind tokens.now at)) }
+{
+    if next_is(tokens, at, TokenKind::Symbol(Symbol::Open)) {
+        let (bracket, at) = take_kind(tokens, at, TokenKind::Symbol(Symbol::Open))?;
+        let (inner, at) = read_bracketed(alloc, levels, tokens, at)?;
+        return Ok((
+            RawPrimary::Bracket(position(bracket), Boxed::new(alloc, inner)?),
+            at,
+        ));
+    }
+    let (bracket, at) = take_kind(tokens, at, TokenKind::Symbol(Symbol::OpenSquare))?;
+    let (inner, at) = read_subscript(alloc, levels, tokens, at)?;
+    let reference = RawRef::Bare(position(bracket), Boxed::new(alloc, inner)?);
+    Ok((RawPrimary::Ref(Boxed::new(alloc, reference)?), at))
+}
+
+#[tactic(auto, unfolding(cw_grammar::specs::Rules::named))]
+#[cycle(reader)]
+fn read_named(
+    alloc: Global,
+    levels: u8,
+    tokens: &[Token],
+    at: usize,
+) -> Result<(RawPrimary, usize), Stop>
+    ensures { Gives (λ x. (x.0, behind tokens.now x.1)) result (read levels a_primary named (behind tokens.now at)) }
+{
+    let (name, at) = read_name(tokens, at)?;
+    if next_is(tokens, at, TokenKind::Symbol(Symbol::OpenSquare)) {
+        let (_, at) = take_kind(tokens, at, TokenKind::Symbol(Symbol::OpenSquare))?;
+        let (index, at) = read_indexed(alloc, levels, tokens, at)?;
+        let reference = indexed_name(alloc, name, index)?;
+        return Ok((RawPrimary::Ref(Boxed::new(alloc, reference)?), at));
+    }
+    if next_is(tokens, at, TokenKind::Symbol(Symbol::Open)) {
+        let (_, at) = take_kind(tokens, at, TokenKind::Symbol(Symbol::Open))?;
+        let (arguments, at) = read_called(alloc, levels, tokens, at)?;
+        return Ok((RawPrimary::Call(name, arguments), at));
+    }
+    Ok((RawPrimary::Ref(Boxed::new(alloc, RawRef::Name(name))?), at))
+}
+
+#[tactic(auto, unfolding(cw_grammar::specs::Rules::constant, cw_grammar::specs::Rules::octal))]
+fn is_constant(tokens: &[Token], at: usize) -> bool
+    ensures { result ≡ starts (behind tokens.now at) (first constant) }
+{
+    next_is(tokens, at, TokenKind::Number)
+        || next_is(tokens, at, TokenKind::Word(Word::Octal))
+        || next_is(tokens, at, TokenKind::Literal)
+        || next_is(tokens, at, TokenKind::Text)
+}
+
+#[tactic(auto, unfolding(cw_grammar::specs::Rules::worded, cw_grammar::specs::Rules::number_type))]
+fn is_worded(tokens: &[Token], at: usize) -> bool
+    ensures { result ≡ starts (behind tokens.now at) (first worded) }
+{
+    next_is(tokens, at, TokenKind::Word(Word::Location))
+        || next_is(tokens, at, TokenKind::Word(Word::Integer))
+        || next_is(tokens, at, TokenKind::Word(Word::Fixed))
+}
+
+#[tactic(auto, unfolding(cw_grammar::specs::Rules::enclosed))]
+fn is_enclosed(tokens: &[Token], at: usize) -> bool
+    ensures { result ≡ starts (behind tokens.now at) (first enclosed) }
+{
+    next_is(tokens, at, TokenKind::Symbol(Symbol::Open))
+        || next_is(tokens, at, TokenKind::Symbol(Symbol::OpenSquare))
+}
+
+#[tactic(auto, unfolding(cw_grammar::specs::Rules::primary))]
+#[cycle(reader)]
+fn read_primary(
+    alloc: Global,
+    levels: u8,
+    tokens: &[Token],
+    at: usize,
+) -> Result<(RawPrimary, usize), Stop>
+    ensures { Gives (λ x. (x.0, behind tokens.now x.1)) result (read levels a_primary primary (behind tokens.now at)) }
+{
+    if is_constant(tokens, at) {
+        return read_constant(alloc, levels, tokens, at);
+    }
+    if is_worded(tokens, at) {
+        return read_worded(alloc, levels, tokens, at);
+    }
+    if is_enclosed(tokens, at) {
+        return read_enclosed(alloc, levels, tokens, at);
+    }
+    read_named(alloc, levels, tokens, at)
+}
+
+fn read_all_bits(
+    alloc: Global,
+    levels: u8,
+    tokens: &[Token],
+    at: usize,
+) -> Result<(List<RawBits>, usize), Stop>
+    ensures { Gives (λ x. (x.0, behind tokens.now x.1)) result (read levels (a_list a_bits) (many bits) (behind tokens.now at)) }
+{
+    let mut found = List::new(alloc);
+    let mut next = at;
+    while next_is(tokens, next, TokenKind::Word(Word::Bits)) {
+        let (item, after) = read_bits(tokens, next)?;
+        // The size alone shows the prover where the ranges of its numbers are stated.
+        let RawBits { at, size } = item;
+        found.push(RawBits { at, size })?;
+        next = after;
+    }
+    Ok((found, next))
+}
+
+#[tactic(auto, unfolding(cw_grammar::specs::Rules::prim))]
+#[cycle(reader)]
+fn read_prim(
+    alloc: Global,
+    levels: u8,
+    tokens: &[Token],
+    at: usize,
+) -> Result<(RawPrim, usize), Stop>
+    ensures { Gives (λ x. (x.0, behind tokens.now x.1)) result (read levels a_prim prim (behind tokens.now at)) }
+{
+    let (bits, at) = read_all_bits(alloc, levels, tokens, at)?;
+    let (primary, at) = read_primary(alloc, levels, tokens, at)?;
+    Ok((prim_of(alloc, bits, primary)?, at))
+}
+
+#[tactic(auto, unfolding(cw_grammar::specs::Rules::mask))]
+#[cycle(reader)]
+fn read_mask(
+    alloc: Global,
+    levels: u8,
+    tokens: &[Token],
+    at: usize,
+) -> Result<(RawMask, usize), Stop>
+    ensures { Gives (λ x. (x.0, behind tokens.now x.1)) result (read levels a_mask mask (behind tokens.now at)) }
+{
+    let (first, at) = read_prim(alloc, levels, tokens, at)?;
+    let (mut operands, mut operators) = mask_start(alloc, first)?;
+    let mut next = at;
+    while next_is(tokens, next, TokenKind::Word(Word::Mask)) {
+        let (operator, after) = take_kind(tokens, next, TokenKind::Word(Word::Mask))?;
+        let (operand, after) = read_prim(alloc, levels, tokens, after)?;
+        operands.push(operand)?;
+        operators.push(position(operator))?;
+        next = after;
+    }
+    Ok((
+        RawMask {
+            operands,
+            operators,
+        },
+        next,
+    ))
+}
+
+#[tactic(auto, unfolding(cw_grammar::specs::Rules::union))]
+#[cycle(reader)]
+fn read_union(
+    alloc: Global,
+    levels: u8,
+    tokens: &[Token],
+    at: usize,
+) -> Result<(RawUnion, usize), Stop>
+    ensures { Gives (λ x. (x.0, behind tokens.now x.1)) result (read levels a_union union (behind tokens.now at)) }
+{
+    let (first, at) = read_mask(alloc, levels, tokens, at)?;
+    let (mut operands, mut operators) = union_start(alloc, first)?;
+    let mut next = at;
+    while next_is(tokens, next, TokenKind::Word(Word::Union)) {
+        let (operator, after) = take_kind(tokens, next, TokenKind::Word(Word::Union))?;
+        let (operand, after) = read_mask(alloc, levels, tokens, after)?;
+        operands.push(operand)?;
+        operators.push(position(operator))?;
+        next = after;
+    }
+    Ok((
+        RawUnion {
+            operands,
+            operators,
+        },
+        next,
+    ))
+}
+
+#[tactic(auto, unfolding(cw_grammar::specs::Rules::differ))]
+#[cycle(reader)]
+fn read_differ(
+    alloc: Global,
+    levels: u8,
+    tokens: &[Token],
+    at: usize,
+) -> Result<(RawDiffer, usize), Stop>
+    ensures { Gives (λ x. (x.0, behind tokens.now x.1)) result (read levels a_differ differ (behind tokens.now at)) }
+{
+    let (first, at) = read_union(alloc, levels, tokens, at)?;
+    let (mut operands, mut operators) = differ_start(alloc, first)?;
+    let mut next = at;
+    while next_is(tokens, next, TokenKind::Word(Word::Differ)) {
+        let (operator, after) = take_kind(tokens, next, TokenKind::Word(Word::Differ))?;
+        let (operand, after) = read_union(alloc, levels, tokens, after)?;
+        operands.push(operand)?;
+        operators.push(position(operator))?;
+        next = after;
+    }
+    Ok((
+        RawDiffer {
+            operands,
+            operators,
+        },
+        next,
+    ))
+}
+
+fn is_factor_sign(tokens: &[Token], at: usize) -> bool
+    ensures { result ≡ starts (behind tokens.now at) (first factor_sign) }
+{
+    next_is(tokens, at, TokenKind::Symbol(Symbol::Times))
+        || next_is(tokens, at, TokenKind::Symbol(Symbol::Divide))
+}
+
+fn read_factor_sign(tokens: &[Token], at: usize) -> Result<(RawFactorSign, usize), Stop>
+    ensures { Gives (λ x. (x.0, behind tokens.now x.1)) result (read 0 a_factor_sign factor_sign (behind tokens.now at)) }
+{
+    if next_is(tokens, at, TokenKind::Symbol(Symbol::Times)) {
+        let (item, at) = take_kind(tokens, at, TokenKind::Symbol(Symbol::Times))?;
+        let sign = RawFactorSign {
+            at: position(item),
+            op: MulOp::Times,
+        };
+        return Ok((sign, at));
+    }
+    let (item, at) = take_kind(tokens, at, TokenKind::Symbol(Symbol::Divide))?;
+    let sign = RawFactorSign {
+        at: position(item),
+        op: MulOp::Divide,
+    };
+    Ok((sign, at))
+}
+
+#[tactic(auto, unfolding(cw_grammar::specs::Rules::term))]
+#[cycle(reader)]
+fn read_term(
+    alloc: Global,
+    levels: u8,
+    tokens: &[Token],
+    at: usize,
+) -> Result<(RawTerm, usize), Stop>
+    ensures { Gives (λ x. (x.0, behind tokens.now x.1)) result (read levels a_term term (behind tokens.now at)) }
+{
+    let (first, at) = read_differ(alloc, levels, tokens, at)?;
+    let (mut operands, mut operators) = term_start(alloc, first)?;
+    let mut next = at;
+    while is_factor_sign(tokens, next) {
+        let (operator, after) = read_factor_sign(tokens, next)?;
+        let (operand, after) = read_differ(alloc, levels, tokens, after)?;
+        operands.push(operand)?;
+        operators.push(operator)?;
+        next = after;
+    }
+    Ok((
+        RawTerm {
+            operands,
+            operators,
+        },
+        next,
+    ))
+}
+
+#[tactic(auto, unfolding(cw_grammar::specs::Rules::sum))]
+#[cycle(reader)]
+fn read_sum(alloc: Global, levels: u8, tokens: &[Token], at: usize) -> Result<(RawSum, usize), Stop>
+    ensures { Gives (λ x. (x.0, behind tokens.now x.1)) result (read levels a_sum sum (behind tokens.now at)) }
+{
+    let (sign, at) = read_optional_sign(tokens, at)?;
+    let (first, at) = read_term(alloc, levels, tokens, at)?;
+    let (front, (mut operands, mut operators)) = sum_start(alloc, sign, first)?;
+    let mut next = at;
+    while is_sign(tokens, next) {
+        let (operator, after) = read_sign(tokens, next)?;
+        let (operand, after) = read_term(alloc, levels, tokens, after)?;
+        operands.push(operand)?;
+        operators.push(operator)?;
+        next = after;
+    }
+    let sum = RawSum {
+        sign: front,
+        operands,
+        operators,
+    };
+    Ok((sum, next))
+}
+
+fn compared(op: CompareOp, item: Item) -> RawCompareSign
+    ensures { result ≡ compared op (seen item.entry) }
+{
+    RawCompareSign {
+        at: position(item),
+        op,
+    }
+}
+
+fn read_comparator(tokens: &[Token], at: usize) -> Result<(RawCompareSign, usize), Stop>
+    ensures { Gives (λ x. (x.0, behind tokens.now x.1)) result (read 0 a_compare_sign comparator (behind tokens.now at)) }
+{
+    if next_is(tokens, at, TokenKind::Symbol(Symbol::Less)) {
+        let (item, at) = take_kind(tokens, at, TokenKind::Symbol(Symbol::Less))?;
+        return Ok((compared(CompareOp::Less, item), at));
+    }
+    if next_is(tokens, at, TokenKind::Symbol(Symbol::LessOrEqual)) {
+        let (item, at) = take_kind(tokens, at, TokenKind::Symbol(Symbol::LessOrEqual))?;
+        return Ok((compared(CompareOp::LessOrEqual, item), at));
+    }
+    if next_is(tokens, at, TokenKind::Symbol(Symbol::Equal)) {
+        let (item, at) = take_kind(tokens, at, TokenKind::Symbol(Symbol::Equal))?;
+        return Ok((compared(CompareOp::Equal, item), at));
+    }
+    if next_is(tokens, at, TokenKind::Symbol(Symbol::GreaterOrEqual)) {
+        let (item, at) = take_kind(tokens, at, TokenKind::Symbol(Symbol::GreaterOrEqual))?;
+        return Ok((compared(CompareOp::GreaterOrEqual, item), at));
+    }
+    if next_is(tokens, at, TokenKind::Symbol(Symbol::Greater)) {
+        let (item, at) = take_kind(tokens, at, TokenKind::Symbol(Symbol::Greater))?;
+        return Ok((compared(CompareOp::Greater, item), at));
+    }
+    let (item, at) = take_kind(tokens, at, TokenKind::Symbol(Symbol::NotEqual))?;
+    Ok((compared(CompareOp::NotEqual, item), at))
+}
+
+#[tactic(auto, unfolding(cw_grammar::specs::Rules::cmp))]
+#[cycle(reader)]
+fn read_cmp(alloc: Global, levels: u8, tokens: &[Token], at: usize) -> Result<(RawCmp, usize), Stop>
+    ensures { Gives (λ x. (x.0, behind tokens.now x.1)) result (read levels a_cmp cmp (behind tokens.now at)) }
+{
+    let (left, at) = read_sum(alloc, levels, tokens, at)?;
+    let (operator, at) = read_comparator(tokens, at)?;
+    let (right, at) = read_sum(alloc, levels, tokens, at)?;
+    let left = Boxed::new(alloc, left)?;
+    let right = Boxed::new(alloc, right)?;
+    Ok((
+        RawCmp {
+            left,
+            operator,
+            right,
+        },
+        at,
+    ))
+}
+
+#[tactic(auto, unfolding(cw_grammar::specs::Rules::cand))]
+#[cycle(reader)]
+fn read_cand(
+    alloc: Global,
+    levels: u8,
+    tokens: &[Token],
+    at: usize,
+) -> Result<(RawCand, usize), Stop>
+    ensures { Gives (λ x. (x.0, behind tokens.now x.1)) result (read levels a_cand cand (behind tokens.now at)) }
+{
+    let (first, at) = read_cmp(alloc, levels, tokens, at)?;
+    let (mut operands, mut operators) = start(alloc, first)?;
+    let mut next = at;
+    while next_is(tokens, next, TokenKind::Word(Word::And)) {
+        let (operator, after) = take_kind(tokens, next, TokenKind::Word(Word::And))?;
+        let (operand, after) = read_cmp(alloc, levels, tokens, after)?;
+        operands.push(operand)?;
+        operators.push(position(operator))?;
+        next = after;
+    }
+    Ok((
+        RawCand {
+            operands,
+            operators,
+        },
+        next,
+    ))
+}
+
+#[tactic(auto, unfolding(cw_grammar::specs::Rules::condition))]
+#[cycle(reader)]
+pub fn read_condition(
+    alloc: Global,
+    levels: u8,
+    tokens: &[Token],
+    at: usize,
+) -> Result<(RawCond, usize), Stop>
+    ensures { Gives (λ x. (x.0, behind tokens.now x.1)) result (read levels a_cond condition (behind tokens.now at)) }
+{
+    let (first, at) = read_cand(alloc, levels, tokens, at)?;
+    let (mut operands, mut operators) = start(alloc, first)?;
+    let mut next = at;
+    while next_is(tokens, next, TokenKind::Word(Word::Or)) {
+        let (operator, after) = take_kind(tokens, next, TokenKind::Word(Word::Or))?;
+        let (operand, after) = read_cand(alloc, levels, tokens, after)?;
+        operands.push(operand)?;
+        operators.push(position(operator))?;
+        next = after;
+    }
+    Ok((
+        RawCond {
+            operands,
+            operators,
+        },
+        next,
+    ))
+}
+
+fn choice(
+    alloc: Global,
+    item: Item,
+    parts: (RawCond, (RawExpr, RawExpr)),
+) -> Result<RawExpr, NoMemory>
+    ensures { IfOk result (λ x. x ≡ Choice (position (seen item.entry)) parts.0 parts.1.0 parts.1.1) }
+{
+    let (test, (yes, no)) = parts;
+    let test = Boxed::new(alloc, test)?;
+    let yes = Boxed::new(alloc, yes)?;
+    let no = Boxed::new(alloc, no)?;
+    Ok(RawExpr::Choice(position(item), test, yes, no))
+}
+
+#[tactic(auto, unfolding(cw_grammar::specs::Rules::expr))]
+#[cycle(reader)]
+pub fn read_expr(
+    alloc: Global,
+    levels: u8,
+    tokens: &[Token],
+    at: usize,
+) -> Result<(RawExpr, usize), Stop>
+    ensures { Gives (λ x. (x.0, behind tokens.now x.1)) result (read levels an_expr expr (behind tokens.now at)) }
+{
+    if next_is(tokens, at, TokenKind::Word(Word::If)) {
+        let (word, at) = take_kind(tokens, at, TokenKind::Word(Word::If))?;
+        let (parts, at) = read_conditional(alloc, levels, tokens, at)?;
+        return Ok((choice(alloc, word, parts)?, at));
+    }
+    let (sum, at) = read_sum(alloc, levels, tokens, at)?;
+    Ok((expr_of(alloc, sum)?, at))
+}

@@ -1,0 +1,4 @@
+pub mod Places
+pub mod Elems
+pub mod Typed
+pub mod Communicators
