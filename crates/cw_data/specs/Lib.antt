@@ -1,0 +1,4 @@
+pub mod Data
+pub mod Presets
+pub mod Specifications
+pub mod Overlays

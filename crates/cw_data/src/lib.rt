@@ -1,0 +1,7 @@
+//! The rules of declarations: bounds, sizes, fields, and how many there may be.
+#![tactic(auto)]
+
+pub mod data;
+pub mod overlays;
+pub mod presets;
+pub mod specifications;

@@ -1,0 +1,4 @@
+pub mod Uses
+pub mod Signatures
+pub mod Facts
+pub mod Text

@@ -1,0 +1,10 @@
+use Rattle.cw_data.specs.Overlays.{base_judged}
+use Rattle.cw_judge.specs.Declared.{declared_judged, overlaid_judged}
+use Rattle.cw_judge.proofs.Joining.{one_then_other}
+use Rattle.cw_judge.proofs.declared.judge_overlaid.Goals as goal
+
+pub returns : goal.returns
+unfolding overlaid_judged
+returns c =
+    one_then_other (base_judged c.args.named.now c.args.base.now) (declared_judged c.args.sites.now c.args.items.now)
+    c.args.first.now c.judge_base.new.first c.judge_declared.new.first c.judge_base.ensures c.judge_declared.ensures

@@ -1,0 +1,4 @@
+mod Chains
+mod Terms
+mod Passing
+pub mod Telling

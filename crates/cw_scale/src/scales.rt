@@ -1,0 +1,243 @@
+//! The scales of expressions.
+ghost use Rattle.std.specs.Prelude.{◌≡◌, ◌≤◌, ◌<◌, ◌==◌, max, length, map};
+ghost use Rattle.cw_scale.specs.TypeRules.{plain, number_shape, name_shape, place_shape, merged, logic_merged, fits_at, best_within, number_operand, expression, sum, term, differ, union, mask, prim, primary, reference};
+
+use crate::kinds::{fraction_of, name_fraction, names_whole, names_word};
+use cw_scope::resolve::Named;
+use cw_tree::expression::{
+    RawDiffer, RawExpr, RawMask, RawPrim, RawPrimary, RawRef, RawSum, RawTerm, RawUnion,
+};
+use cw_tree::leaf::RawName;
+use cw_word::Num;
+
+/// The natural scale of an expression, its scale as an operand of `*`, `/`, word logic or BITS, its name where it is a name by
+/// itself, and whether it is a reference of a whole word.
+#[derive(Clone, Copy)]
+pub struct Shape {
+    pub natural: u8,
+    pub operand: u8,
+    pub bare: Option<RawName>,
+    pub whole: bool,
+}
+
+fn plain(scale: u8) -> Shape
+    ensures { result ≡ plain scale }
+{
+    Shape {
+        natural: scale,
+        operand: scale,
+        bare: None,
+        whole: false,
+    }
+}
+
+fn number_shape(operand: u8) -> Shape
+    ensures { result ≡ number_shape operand }
+{
+    Shape {
+        natural: 0,
+        operand,
+        bare: None,
+        whole: false,
+    }
+}
+
+fn name_shape(name: &RawName, scale: u8, whole: bool) -> Shape
+    ensures { result ≡ name_shape name.now scale whole }
+{
+    Shape {
+        natural: scale,
+        operand: scale,
+        bare: Some(*name),
+        whole,
+    }
+}
+
+fn place_shape(scale: u8, whole: bool) -> Shape
+    ensures { result ≡ place_shape scale whole }
+{
+    Shape {
+        natural: scale,
+        operand: scale,
+        bare: None,
+        whole,
+    }
+}
+
+fn merged(alone: bool, before: &Shape, next: &Shape) -> Shape
+    ensures { result ≡ merged alone before.now next.now }
+{
+    if alone {
+        *next
+    } else {
+        plain(before.natural.max(next.natural))
+    }
+}
+
+fn logic_merged(alone: bool, shape: &Shape) -> Shape
+    ensures { result ≡ logic_merged alone shape.now }
+{
+    if alone { *shape } else { plain(0) }
+}
+
+/// Whether a number fits a word at a scale, which is at most 15.
+pub fn fits_at(number: &Num, scale: u8) -> bool
+    ensures { result ≡ fits_at number.now scale }
+{
+    if scale > 15 {
+        return false;
+    }
+    number.at_scale(scale).is_ok()
+}
+
+fn best_within(number: &Num, scale: u8) -> u8
+    ensures { result ≡ best_within number.now scale }
+{
+    if scale == 0 {
+        0
+    } else if fits_at(number, scale) {
+        scale
+    } else {
+        best_within(number, scale - 1)
+    }
+}
+
+fn number_operand(number: &Num) -> u8
+    ensures { result ≡ number_operand number.now }
+{
+    if number.places() == 0 {
+        0
+    } else {
+        best_within(number, 15)
+    }
+}
+
+/// The shape of an expression.
+#[cycle(shape)]
+pub fn expression_shape(e: &RawExpr, named: &Named) -> Shape
+    ensures { result ≡ (expression named.now e.now).shape }
+{
+    match e {
+        RawExpr::Choice(_, _, first, second) => {
+            let first = expression_shape(first.get(), named);
+            let second = expression_shape(second.get(), named);
+            plain(first.natural.max(second.natural))
+        }
+        RawExpr::Sum(e) => sum_shape(e.get(), named),
+    }
+}
+
+#[cycle(shape)]
+pub(crate) fn sum_shape(e: &RawSum, named: &Named) -> Shape
+    ensures { result ≡ (sum named.now e.now).shape }
+{
+    let operands = e.operands.as_slice();
+    let alone = operands.len() == 1 && e.sign.is_none();
+    let mut shape = plain(0);
+    for operand in operands {
+        let next = term_shape(operand, named);
+        shape = merged(alone, &shape, &next);
+    }
+    shape
+}
+
+#[cycle(shape)]
+fn term_shape(e: &RawTerm, named: &Named) -> Shape
+    ensures { result ≡ (term named.now e.now).shape }
+{
+    let operands = e.operands.as_slice();
+    let alone = operands.len() == 1;
+    let mut shape = plain(0);
+    for operand in operands {
+        let next = differ_shape(operand, named);
+        shape = merged(alone, &shape, &next);
+    }
+    shape
+}
+
+#[cycle(shape)]
+pub(crate) fn differ_shape(e: &RawDiffer, named: &Named) -> Shape
+    ensures { result ≡ (differ named.now e.now).shape }
+{
+    let operands = e.operands.as_slice();
+    let alone = operands.len() == 1;
+    let mut shape = plain(0);
+    for operand in operands {
+        let next = union_shape(operand, named);
+        shape = logic_merged(alone, &next);
+    }
+    shape
+}
+
+#[cycle(shape)]
+pub(crate) fn union_shape(e: &RawUnion, named: &Named) -> Shape
+    ensures { result ≡ (union named.now e.now).shape }
+{
+    let operands = e.operands.as_slice();
+    let alone = operands.len() == 1;
+    let mut shape = plain(0);
+    for operand in operands {
+        let next = mask_shape(operand, named);
+        shape = logic_merged(alone, &next);
+    }
+    shape
+}
+
+#[cycle(shape)]
+pub(crate) fn mask_shape(e: &RawMask, named: &Named) -> Shape
+    ensures { result ≡ (mask named.now e.now).shape }
+{
+    let operands = e.operands.as_slice();
+    let alone = operands.len() == 1;
+    let mut shape = plain(0);
+    for operand in operands {
+        let next = prim_shape(operand, named);
+        shape = logic_merged(alone, &next);
+    }
+    shape
+}
+
+#[cycle(shape)]
+pub(crate) fn prim_shape(e: &RawPrim, named: &Named) -> Shape
+    ensures { result ≡ (prim named.now e.now).shape }
+{
+    let shape = primary_shape(e.primary.get(), named);
+    logic_merged(e.bits.as_slice().len() == 0, &shape)
+}
+
+#[cycle(shape)]
+pub(crate) fn primary_shape(e: &RawPrimary, named: &Named) -> Shape
+    ensures { result ≡ (primary named.now e.now).shape }
+{
+    match e {
+        RawPrimary::Number(n) => number_shape(number_operand(&n.number)),
+        RawPrimary::Octal(_)
+        | RawPrimary::Literal(_)
+        | RawPrimary::Text(..)
+        | RawPrimary::Location(..) => plain(0),
+        RawPrimary::Forced(scale, _) => plain(fraction_of(scale)),
+        RawPrimary::Bracket(_, e) => {
+            let shape = expression_shape(e.get(), named);
+            plain(shape.natural)
+        }
+        RawPrimary::Ref(r) => reference_shape(r.get(), named),
+        RawPrimary::Call(name, _) => plain(name_fraction(named, name)),
+    }
+}
+
+pub fn reference_shape(r: &RawRef, named: &Named) -> Shape
+    ensures { result ≡ (reference named.now r.now).shape }
+{
+    match r {
+        RawRef::Name(name) => {
+            name_shape(name, name_fraction(named, name), names_word(named, name))
+        }
+        RawRef::One(name, _) => {
+            place_shape(name_fraction(named, name), names_whole(named, name))
+        }
+        RawRef::Two(name, _, _) => {
+            place_shape(name_fraction(named, name), names_whole(named, name))
+        }
+        RawRef::Bare(..) => place_shape(0, true),
+    }
+}

@@ -1,0 +1,5 @@
+mod FirstPlaces
+mod Keeping
+mod Looking
+mod Defining
+pub mod Telling

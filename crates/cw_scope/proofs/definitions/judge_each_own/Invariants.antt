@@ -1,0 +1,6 @@
+use Rattle.std.proofs.Common.{◌≡◌, map, drop}
+use Rattle.cw_scope.specs.Definitions.{each_own, defined}
+use Rattle.cw_scope.proofs.definitions.judge_each_own.Given as goal
+
+abbrev pub invariant-loop-fact : goal.invariant-loop-fact
+invariant-loop-fact l = each_own l.signatures l.communicators (map (defined l.signatures) (drop l.fact-index l.facts)) l.first ≡ each_own l.signatures l.communicators (map (defined l.signatures) l.facts) l.initial.first

@@ -1,0 +1,11 @@
+pub mod Hashing
+pub mod Faults
+pub mod Telling
+pub mod Scope
+pub mod Same
+pub mod Resolved
+pub mod NameRules
+pub mod Definitions
+pub mod Names
+pub mod Text
+pub mod Outcome

@@ -1,0 +1,4 @@
+//! Tables of what is said of tokens.
+#![tactic(auto)]
+
+pub mod table;

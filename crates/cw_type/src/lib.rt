@@ -1,0 +1,4 @@
+//! The checker: what the types of a resolved text come to.
+#![tactic(auto)]
+
+pub mod check;
