@@ -1,0 +1,138 @@
+-- One entry more in a table of names.
+use Rattle.std.proofs.Common.{◌≡◌, ℕ, ◌+◌, ◌<◌, ◌≤◌, Bool, true, false, cond, ◌||◌, nat_eq, List, [], ◌∷◌, length, drop, set, get_or, Option, Some, None, slice_get, refl, sym, ap, ap₂, subst, ◌∙◌, arith, inl, inr}
+use Rattle.std.specs.Str.{bytes_eq}
+use Rattle.std.proofs.lemmas.Bool.{cases_eq, eq-eqb, ne_eqb, false_from_ne_true}
+use Rattle.std.proofs.lemmas.List.{drop_more, drop_all, get_or_read, length-map, get_or-set_same, get_or-set_other}
+use Rattle.std.proofs.lemmas.Option.{slice_get-get_or, slice_get_within, get_or_from_slice_get}
+use Rattle.std.proofs.lemmas.Slice.Eq.{bytes_eq-Decides}
+use Rattle.cw_unit.specs.Allocation.{name_at}
+use Rattle.cw_unit.specs.declared.descriptor.Desc.{Desc}
+use Rattle.cw_unit.specs.declared.descriptor.DescBody.TheVariants as bodies
+use Rattle.cw_comm.specs.declared.face.Face.{Face}
+use Rattle.cw_comm.specs.Agreement.{Name, base_name, defines, place_of, places_in}
+use Rattle.cw_comm.specs.Numbered.{AreNumbered, IsOnce, OwnDefinitions}
+use Rattle.cw_comm.specs.Tables.{place_from, listed_in, first_listing, defined_in, first_definer}
+use Rattle.cw_comm.proofs.Naming.{HasPlace, listed_once, listed, numbers_at, number_at}
+
+pub same_number : (names : List Name) (x : Name) (k : ℕ) → IsOnce names → HasPlace names x → k < length names → bytes_eq (name_at names k) x ≡ nat_eq k (place_of names x)
+same_number names x k once has lt =
+    let n = place_of names x in
+    elim (cases_eq k n) [
+      | inl e ↦ (bytes_eq-Decides (name_at names k) x).1 (ap (name_at names) e ∙ has.there) ∙ sym (eq-eqb k n e)
+      | inr ne ↦ false_from_ne_true (bytes_eq (name_at names k) x) (λ t. ne (once k n lt has.within ((bytes_eq-Decides (name_at names k) x).0 t ∙ sym has.there))) ∙ sym (ne_eqb k n ne)
+    ]
+
+pub entry : {A : Type 0} (table : List A) (n k : ℕ) (v d : A) → n < length table → get_or (set table n v) k d ≡ cond (nat_eq k n) v (get_or table k d)
+entry table n k v d lt =
+    elim (cases_eq k n) [
+      | inl e ↦ ap (λ i. get_or (set table n v) i d) e ∙ get_or-set_same table n v d lt ∙ sym (ap (λ b. cond b v (get_or table k d)) (eq-eqb k n e))
+      | inr ne ↦ get_or-set_other table n k v d ne ∙ sym (ap (λ b. cond b v (get_or table k d)) (ne_eqb k n ne))
+    ]
+
+through-listed : (b : Bool) (g d : ℕ) (o : Option ℕ) (old : Option (ℕ × ℕ)) → listed_in g (cond b (Some d) o) old ≡ cond b (Some (g, d)) (listed_in g o old)
+through-listed true g d o old = refl
+through-listed false g d o old = refl
+
+through-defined : (b c : Bool) (g : ℕ) (old : Option ℕ) → defined_in g (b || c) old ≡ cond b (Some g) (defined_in g c old)
+through-defined true c g old = refl
+through-defined false c g old = refl
+
+abbrev pub no_face : Face
+no_face = record { name = []; descs = []; defined = [] }
+
+module _ (faces : List Face) (names : List Name) (numbers : List (List ℕ)) (num : AreNumbered faces names numbers) where
+  pub once : IsOnce names
+  once = subst IsOnce (sym num.names_are) (listed_once faces)
+
+  pub place_there : (g n : ℕ) (f : Face) (d : Desc) → slice_get faces g ≡ Some f → slice_get f.descs n ≡ Some d → HasPlace names d.name
+  place_there g n f d is at = subst (λ ns. HasPlace ns d.name) (sym num.names_are) (listed faces g n f d is at)
+
+  pub read_numbers : (g : ℕ) (f : Face) (ns : List ℕ) → slice_get faces g ≡ Some f → ns ≡ get_or numbers g ns → ns ≡ places_in names f.descs
+  read_numbers g f ns is e =
+      let len : length numbers ≡ length faces = ap length num.numbers_are ∙ length-map faces (λ x. places_in names x.descs) in
+      get_or_read numbers g ns (omega (arith, len, slice_get_within faces g f is)) e [] ∙ ap (λ (xs : List (List ℕ)). get_or xs g []) num.numbers_are ∙ numbers_at names faces g f is
+
+  pub count_is : (g : ℕ) (f : Face) (ns : List ℕ) → slice_get faces g ≡ Some f → ns ≡ get_or numbers g ns → length ns ≡ length f.descs
+  count_is g f ns is e = ap length (read_numbers g f ns is e) ∙ length-map f.descs (λ d. place_of names d.name)
+
+  -- the number of a descriptor
+  pub number_is : (g n : ℕ) (f : Face) (d : Desc) (ns : List ℕ) → slice_get faces g ≡ Some f → slice_get f.descs n ≡ Some d → ns ≡ get_or numbers g ns → get_or ns n 0 ≡ place_of names d.name
+  number_is g n f d ns is at e = ap (λ (xs : List ℕ). get_or xs n 0) (read_numbers g f ns is e) ∙ number_at names f.descs n d at
+
+  abbrev default : Desc
+  default = record { name = []; library = false; over = None; body = bodies.Label }
+
+  pub number_within : (g n : ℕ) (ns : List ℕ) → g < length faces → ns ≡ get_or numbers g ns → n < length ns → get_or ns n 0 < length names
+  number_within g n ns lg e lt =
+      let f : Face = get_or faces g no_face in
+      let is : slice_get faces g ≡ Some f = slice_get-get_or faces g no_face lg in
+      let d : Desc = get_or f.descs n default in
+      let at : slice_get f.descs n ≡ Some d = slice_get-get_or f.descs n default (omega (arith, lt, count_is g f ns is e)) in
+      let has = place_there g n f d is at in
+      omega (arith, number_is g n f d ns is at e, has.within)
+
+  drop-read : (ds : List Desc) (n : ℕ) (d : Desc) → slice_get ds n ≡ Some d → drop n ds ≡ d ∷ drop (n + 1) ds
+  drop-read ds n d at = drop_more ds n d (slice_get_within ds n d at) ∙ ap (λ x. x ∷ drop (n + 1) ds) (get_or_from_slice_get ds n d d at)
+
+  -- the descriptor just before this place
+  pub next_listing : (g n : ℕ) (f : Face) (ns : List ℕ) (k m : ℕ) (table : List (Option (ℕ × ℕ))) (old : Option (ℕ × ℕ)) → slice_get faces g ≡ Some f → ns ≡ get_or numbers g ns → n < length ns → n + 1 ≡ m → k < length names → length table ≡ length names
+      → get_or table k None ≡ listed_in g (place_from m (name_at names k) (drop m f.descs)) old
+      → get_or (set table (get_or ns n 0) (Some (g, n))) k None ≡ listed_in g (place_from n (name_at names k) (drop n f.descs)) old
+  next_listing g n f ns k m table old is e lt next lk count h =
+      let d : Desc = get_or f.descs n default in
+      let at : slice_get f.descs n ≡ Some d = slice_get-get_or f.descs n default (omega (arith, lt, count_is g f ns is e)) in
+      let has = place_there g n f d is at in
+      let number = number_is g n f d ns is at e in
+      let within : get_or ns n 0 < length table = omega (arith, number, has.within, count) in
+      let same : nat_eq k (get_or ns n 0) ≡ bytes_eq (name_at names k) d.name = ap (nat_eq k) number ∙ sym (same_number names d.name k once has lk) in
+      let rest = place_from (n + 1) (name_at names k) (drop (n + 1) f.descs) in
+      entry table (get_or ns n 0) k (Some (g, n)) None within
+      ∙ ap₂ (λ b o. cond b (Some (g, n)) o) same (h ∙ ap (λ i. listed_in g (place_from i (name_at names k) (drop i f.descs)) old) (sym next))
+      ∙ sym (ap (λ ds. listed_in g (place_from n (name_at names k) ds) old) (drop-read f.descs n d at) ∙ through-listed (bytes_eq (name_at names k) d.name) g n rest old)
+
+  pub no_listing : (g n : ℕ) (f : Face) (k : ℕ) (old : Option (ℕ × ℕ)) → length f.descs ≤ n → old ≡ listed_in g (place_from n (name_at names k) (drop n f.descs)) old
+  no_listing g n f k old le = sym (ap (λ ds. listed_in g (place_from n (name_at names k) ds) old) (drop_all n f.descs le))
+
+  drop-number : (ds : List ℕ) (n : ℕ) → n < length ds → drop n ds ≡ get_or ds n 0 ∷ drop (n + 1) ds
+  drop-number ds n lt = drop_more ds n 0 lt
+
+  -- a definition's descriptor
+  pub own_is : OwnDefinitions faces → (g n : ℕ) (f : Face) (ns : List ℕ) → slice_get faces g ≡ Some f → ns ≡ get_or numbers g ns → n < length f.defined → get_or f.defined n 0 < length ns
+  own_is own g n f ns is e lt = let below = own g f is n 0 lt in omega (arith, below, count_is g f ns is e)
+
+  pub next_definition : OwnDefinitions faces → (g n : ℕ) (f : Face) (ns : List ℕ) (k m : ℕ) (table : List (Option ℕ)) (old : Option ℕ) → slice_get faces g ≡ Some f → ns ≡ get_or numbers g ns → n < length f.defined → n + 1 ≡ m → k < length names → length table ≡ length names
+      → get_or table k None ≡ defined_in g (defines (name_at names k) f.descs (drop m f.defined)) old
+      → get_or (set table (get_or ns (get_or f.defined n 0) 0) (Some g)) k None ≡ defined_in g (defines (name_at names k) f.descs (drop n f.defined)) old
+  next_definition own g n f ns k m table old is e lt next lk count h =
+      let x = get_or f.defined n 0 in
+      let below : x < length f.descs = own g f is n 0 lt in
+      let d : Desc = get_or f.descs x default in
+      let at : slice_get f.descs x ≡ Some d = slice_get-get_or f.descs x default below in
+      let has = place_there g x f d is at in
+      let number = number_is g x f d ns is at e in
+      let within : get_or ns x 0 < length table = omega (arith, number, has.within, count) in
+      let named : base_name f.descs x ≡ d.name = ap (λ (o : Option Desc). elim o [ None ↦ [] | Some b ↦ b.name ]) at in
+      let same : nat_eq k (get_or ns x 0) ≡ bytes_eq (name_at names k) (base_name f.descs x) = ap (nat_eq k) number ∙ sym (same_number names d.name k once has lk) ∙ ap (bytes_eq (name_at names k)) (sym named) in
+      entry table (get_or ns x 0) k (Some g) None within
+      ∙ ap₂ (λ b o. cond b (Some g) o) same (h ∙ ap (λ i. defined_in g (defines (name_at names k) f.descs (drop i f.defined)) old) (sym next))
+      ∙ sym (ap (λ ds. defined_in g (defines (name_at names k) f.descs ds) old) (drop-number f.defined n lt) ∙ through-defined (bytes_eq (name_at names k) (base_name f.descs x)) (defines (name_at names k) f.descs (drop (n + 1) f.defined)) g old)
+
+  pub no_definition : (g n : ℕ) (f : Face) (k : ℕ) (old : Option ℕ) → length f.defined ≤ n → old ≡ defined_in g (defines (name_at names k) f.descs (drop n f.defined)) old
+  no_definition g n f k old le = sym (ap (λ ds. defined_in g (defines (name_at names k) f.descs ds) old) (drop_all n f.defined le))
+
+-- ---- the segment just before this place
+
+drop-face : (fs : List Face) (g : ℕ) (f : Face) → slice_get fs g ≡ Some f → drop g fs ≡ f ∷ drop (g + 1) fs
+drop-face fs g f is = drop_more fs g f (slice_get_within fs g f is) ∙ ap (λ x. x ∷ drop (g + 1) fs) (get_or_from_slice_get fs g f f is)
+
+pub earlier_listing : (faces : List Face) (name : Name) (g m : ℕ) (now before : Option (ℕ × ℕ)) → g < length faces → g + 1 ≡ m → ((f : Face) → slice_get faces g ≡ Some f → now ≡ listed_in g (place_from 0 name f.descs) before) → before ≡ first_listing m name (drop m faces) → now ≡ first_listing g name (drop g faces)
+earlier_listing faces name g m now before lt next told h =
+    let f : Face = get_or faces g no_face in
+    let is : slice_get faces g ≡ Some f = slice_get-get_or faces g no_face lt in
+    told f is ∙ ap (listed_in g (place_from 0 name f.descs)) (h ∙ ap (λ i. first_listing i name (drop i faces)) (sym next)) ∙ ap (first_listing g name) (sym (drop-face faces g f is))
+
+pub earlier_definer : (faces : List Face) (name : Name) (g m : ℕ) (now before : Option ℕ) → g < length faces → g + 1 ≡ m → ((f : Face) → slice_get faces g ≡ Some f → now ≡ defined_in g (defines name f.descs f.defined) before) → before ≡ first_definer m name (drop m faces) → now ≡ first_definer g name (drop g faces)
+earlier_definer faces name g m now before lt next told h =
+    let f : Face = get_or faces g no_face in
+    let is : slice_get faces g ≡ Some f = slice_get-get_or faces g no_face lt in
+    told f is ∙ ap (defined_in g (defines name f.descs f.defined)) (h ∙ ap (λ i. first_definer i name (drop i faces)) (sym next)) ∙ ap (first_definer g name) (sym (drop-face faces g f is))

@@ -1,0 +1,4 @@
+pub mod Agreement
+pub mod Clashes
+pub mod Numbered
+pub mod Tables

@@ -1,0 +1,60 @@
+-- Tables by numbers of names: where names are listed, and which segments define them. Segments and descriptors count from 0.
+use Rattle.std.specs.Prelude.{◌≡◌, ◌<◌, ℕ, ◌+◌, Bool, if◌then◌else◌, List, [], ◌∷◌, length, slice_get, slice_index_or, Option, Some, None}
+use Rattle.std.specs.Str.{bytes_eq}
+use Rattle.cw_unit.specs.Allocation.{name_at}
+use Rattle.cw_unit.specs.declared.descriptor.Desc.{Desc}
+use Rattle.cw_comm.specs.declared.face.Face.{Face}
+use Rattle.cw_comm.specs.Agreement.{Name, defines, as_listed}
+use Rattle.cw_comm.specs.Clashes.{Kind, Names, IsFirst}
+
+-- the first of these descriptors that has the name, counted from n on
+abbrev pub place_from : (n : ℕ) → Name → List Desc → Option ℕ
+place_from n name [] = None
+place_from n name (d ∷ ds) = if bytes_eq name d.name then Some n else place_from (n + 1) name ds
+
+-- the segment and the descriptor, or else what is known
+abbrev pub listed_in : (segment : ℕ) → Option ℕ → Option (ℕ × ℕ) → Option (ℕ × ℕ)
+listed_in g None other = other
+listed_in g (Some d) other = Some (g, d)
+
+-- the first listing of a name, in these segments, counted from g on
+abbrev pub first_listing : (g : ℕ) → Name → List Face → Option (ℕ × ℕ)
+first_listing g name [] = None
+first_listing g name (f ∷ fs) = listed_in g (place_from 0 name f.descs) (first_listing (g + 1) name fs)
+
+-- the first definer, or else what is known
+abbrev pub defined_in : (segment : ℕ) → Bool → Option ℕ → Option ℕ
+defined_in g b other = if b then Some g else other
+
+abbrev pub first_definer : (g : ℕ) → Name → List Face → Option ℕ
+first_definer g name [] = None
+first_definer g name (f ∷ fs) = defined_in g (defines name f.descs f.defined) (first_definer (g + 1) name fs)
+
+-- what each name's entry is
+pub record TellsListings (names : List Name) (faces : List Face) (table : List (Option (ℕ × ℕ))) : Type 0 where
+  pub count : length table ≡ length names
+  pub at : (k : ℕ) → k < length names → slice_index_or table k None ≡ first_listing 0 (name_at names k) faces
+
+pub record TellsDefiners (names : List Name) (faces : List Face) (table : List (Option ℕ)) : Type 0 where
+  pub count : length table ≡ length names
+  pub at : (k : ℕ) → k < length names → slice_index_or table k None ≡ first_definer 0 (name_at names k) faces
+
+-- the entries of the names that a segment lists are its own
+pub record TellsHere (names : List Name) (faces : List Face) (segment : ℕ) (table : List (Option (ℕ × ℕ))) : Type 0 where
+  pub count : length table ≡ length names
+  pub at : (k p : ℕ) (f : Face) → k < length names → slice_get faces segment ≡ Some f → place_from 0 (name_at names k) f.descs ≡ Some p → slice_index_or table k None ≡ Some (segment, p)
+
+-- two descriptors tell the same, if they are there
+abbrev pub AreAlike : List Face → (segment descriptor other place : ℕ) → Type 0
+AreAlike faces g d i p =
+    (f e : Face) (x y : Desc) → slice_get faces g ≡ Some f → slice_get f.descs d ≡ Some x → slice_get faces i ≡ Some e → slice_get e.descs p ≡ Some y → as_listed f.descs x ≡ as_listed e.descs y
+
+-- the first clash of a kind is at this descriptor, with an earlier segment
+pub record IsFirstTold (P : Kind) (faces : List Face) (segment descriptor earlier : ℕ) : Type 0 where
+  pub name : Name
+  pub names : Names faces segment descriptor name
+  pub first : IsFirst P segment descriptor earlier name
+
+-- the first clash of a kind is in this segment, with an earlier one
+abbrev pub IsFirstIn : Kind → Name → (earlier segment : ℕ) → Type 0
+IsFirstIn P name i j = (d : ℕ) × IsFirst P j d i name

@@ -1,0 +1,4 @@
+pub mod Order
+pub mod Listing
+pub mod Rows
+pub mod Told
