@@ -1,0 +1,3 @@
+pub mod Repeating
+pub mod Appending
+pub mod Spelling

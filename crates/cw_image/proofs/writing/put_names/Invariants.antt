@@ -1,0 +1,7 @@
+use Rattle.std.proofs.Common.{◌≡◌, ◌++◌, drop}
+use Rattle.cw_view.specs.Fields.{each}
+use Rattle.cw_view.specs.Fields.{text_bytes}
+use Rattle.cw_image.proofs.writing.put_names.Given as goal
+
+abbrev pub invariant-loop-name : goal.invariant-loop-name
+invariant-loop-name l = l.out.items ++ each text_bytes (drop l.name-index l.names) ≡ l.fn.out.items ++ each text_bytes l.names

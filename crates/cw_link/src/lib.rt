@@ -1,0 +1,6 @@
+//! Linker: relocation and the executable image.
+#![tactic(auto)]
+
+mod contents;
+mod filled;
+mod relocation;

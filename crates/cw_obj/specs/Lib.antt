@@ -1,0 +1,2 @@
+pub mod ReferenceObject
+pub mod Writable

@@ -1,0 +1,145 @@
+//! Fields at the end of bytes.
+ghost use Rattle.std.specs.Prelude.{◌≡◌, ◌++◌, ◌∷◌, ◌<◌, [], map, length, OnOk};
+ghost use Rattle.cw_view.specs.Fields.{text_bytes};
+ghost use Rattle.cw_view.specs.Payloads.{word_bytes, long_bytes, family_bytes, preset_bytes, relocation_bytes, sort_number, sort_operand};
+ghost use Rattle.cw_view.specs.ObjectFormat.{framed, StorageFamily};
+ghost use Rattle.cw_obj.specs.ReferenceObject.{records_bytes};
+
+use cw_unit::layout::{Family, Preset, Reloc, Sort};
+use cw_word::NoMemory;
+
+pub(crate) fn put_bytes(out: &mut Vec<u8>, bytes: &[u8]) -> Result<(), NoMemory>
+    ensures { OnOk result (out.new.items ≡ out.old.items ++ bytes.now) }
+{
+    out.extend_from_slice(bytes).map_err(|_| NoMemory)
+}
+
+pub(crate) fn put_byte(out: &mut Vec<u8>, byte: u8) -> Result<(), NoMemory>
+    ensures { OnOk result (out.new.items ≡ out.old.items ++ byte ∷ []) }
+{
+    out.push(byte).map_err(|_| NoMemory)
+}
+
+pub(crate) fn put_word(out: &mut Vec<u8>, word: u16) -> Result<(), NoMemory>
+    ensures { OnOk result (out.new.items ≡ out.old.items ++ word_bytes word) }
+{
+    put_bytes(out, &word.to_le_bytes())
+}
+
+pub(crate) fn put_long(out: &mut Vec<u8>, long: u32) -> Result<(), NoMemory>
+    ensures { OnOk result (out.new.items ≡ out.old.items ++ long_bytes long) }
+{
+    put_bytes(out, &long.to_le_bytes())
+}
+
+/// A name, or nothing.
+pub(crate) fn put_text(out: &mut Vec<u8>, text: &[u8]) -> Result<(), NoMemory>
+    requires { length text.now < 256 }
+    ensures { OnOk result (out.new.items ≡ out.old.items ++ text_bytes text.now) }
+{
+    put_byte(out, text.len() as u8)?;
+    put_bytes(out, text)
+}
+
+/// A record with this payload.
+pub(crate) fn put_record(out: &mut Vec<u8>, kind: u8, payload: &[u8]) -> Result<(), NoMemory>
+    ensures { OnOk result (out.new.items ≡ out.old.items ++ framed kind payload.now) }
+{
+    match u32::try_from(payload.len()) {
+        Ok(size) => {
+            put_byte(out, kind)?;
+            put_long(out, size)?;
+            put_bytes(out, payload)
+        }
+        Err(_) => Err(NoMemory),
+    }
+}
+
+fn sort_number(sort: Sort) -> u8
+    ensures { result ≡ sort_number sort }
+{
+    match sort {
+        Sort::Common(_) => 0,
+        Sort::Own => 1,
+        Sort::Absolute(_) => 2,
+        Sort::Frame(_) => 3,
+    }
+}
+
+fn sort_operand(sort: Sort) -> u16
+    ensures { result ≡ sort_operand sort }
+{
+    match sort {
+        Sort::Common(descriptor) => descriptor,
+        Sort::Own => 0,
+        Sort::Absolute(address) => address,
+        Sort::Frame(offset) => offset,
+    }
+}
+
+/// What stands before a payload.
+pub(crate) fn put_head(out: &mut Vec<u8>, kind: u8, size: u32) -> Result<(), NoMemory>
+    ensures { OnOk result (out.new.items ≡ out.old.items ++ kind ∷ long_bytes size) }
+{
+    put_byte(out, kind)?;
+    put_long(out, size)
+}
+
+fn put_family_payload(out: &mut Vec<u8>, family: &Family) -> Result<(), NoMemory>
+    ensures { OnOk result (out.new.items ≡ out.old.items ++ family_bytes family.now) }
+{
+    put_byte(out, sort_number(family.sort))?;
+    put_word(out, sort_operand(family.sort))?;
+    put_long(out, family.extent)
+}
+
+/// The record of a family.
+pub(crate) fn put_family(out: &mut Vec<u8>, family: &Family) -> Result<(), NoMemory>
+    ensures { OnOk result (out.new.items ≡ out.old.items ++ framed 3 (family_bytes family.now)) }
+{
+    put_head(out, 3, 7)?;
+    put_family_payload(out, family)
+}
+
+fn put_preset_payload(out: &mut Vec<u8>, preset: &Preset) -> Result<(), NoMemory>
+    ensures { OnOk result (out.new.items ≡ out.old.items ++ preset_bytes preset.now) }
+{
+    put_word(out, preset.family)?;
+    put_word(out, preset.offset)?;
+    put_word(out, preset.word)
+}
+
+/// The record of a preset.
+pub(crate) fn put_preset(out: &mut Vec<u8>, preset: &Preset) -> Result<(), NoMemory>
+    ensures { OnOk result (out.new.items ≡ out.old.items ++ framed 5 (preset_bytes preset.now)) }
+{
+    put_head(out, 5, 6)?;
+    put_preset_payload(out, preset)
+}
+
+fn put_relocation_payload(out: &mut Vec<u8>, relocation: &Reloc) -> Result<(), NoMemory>
+    ensures { OnOk result (out.new.items ≡ out.old.items ++ relocation_bytes relocation.now) }
+{
+    put_long(out, relocation.place)?;
+    put_byte(out, relocation.sort)?;
+    put_word(out, relocation.index)?;
+    put_word(out, relocation.add)
+}
+
+/// The record of a relocation.
+pub(crate) fn put_relocation(out: &mut Vec<u8>, relocation: &Reloc) -> Result<(), NoMemory>
+    ensures { OnOk result (out.new.items ≡ out.old.items ++ framed 7 (relocation_bytes relocation.now)) }
+{
+    put_head(out, 7, 9)?;
+    put_relocation_payload(out, relocation)
+}
+
+/// The records of families, in order.
+pub(crate) fn put_families(out: &mut Vec<u8>, families: &[Family]) -> Result<(), NoMemory>
+    ensures { OnOk result (out.new.items ≡ out.old.items ++ records_bytes (map StorageFamily families.now)) }
+{
+    for family in families {
+        put_family(out, family)?;
+    }
+    Ok(())
+}

@@ -1,0 +1,12 @@
+pub mod Names
+pub mod Counting
+pub mod Formats
+pub mod Forms
+pub mod Descriptors
+pub mod Recorded
+pub mod Opening
+pub mod Reaching
+pub mod Whole
+pub mod Splits
+pub mod Unique
+pub mod Gathering

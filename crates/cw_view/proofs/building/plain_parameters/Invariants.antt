@@ -1,0 +1,8 @@
+use Rattle.std.proofs.Common.{◌≡◌, ◌-◌}
+use Rattle.cw_view.specs.Fields.{counted}
+use Rattle.cw_view.specs.Reading.{plain_parameter_in}
+use Rattle.cw_view.proofs.Gathering.{with_front}
+use Rattle.cw_view.proofs.building.plain_parameters.Given as goal
+
+abbrev pub invariant-loop : goal.invariant-loop
+invariant-loop l = with_front l.items (counted (l.count - l.counter) plain_parameter_in l.rest) ≡ counted l.count plain_parameter_in l.bytes

@@ -1,0 +1,7 @@
+use Rattle.std.proofs.Common.{◌≡◌, ◌-◌}
+use Rattle.cw_view.specs.Fields.{counted, rest_of}
+use Rattle.cw_view.specs.Reading.{element_in}
+use Rattle.cw_view.proofs.descriptor.after_elements.Given as goal
+
+abbrev pub invariant-loop : goal.invariant-loop
+invariant-loop l = rest_of (counted (l.count - l.counter) element_in l.rest) ≡ rest_of (counted l.count element_in l.bytes)

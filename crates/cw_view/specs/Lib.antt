@@ -1,0 +1,8 @@
+pub mod Fields
+pub mod Payloads
+pub mod Reading
+pub mod Views
+pub mod ObjectFormat
+pub mod Fronts
+pub mod Splitting
+pub mod Uniqueness

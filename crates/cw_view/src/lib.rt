@@ -1,0 +1,20 @@
+//! Zero-copy object file reader.
+#![tactic(auto)]
+
+mod building;
+mod descriptor;
+mod fault;
+pub mod fields;
+mod front;
+pub mod laws;
+mod payload;
+mod records;
+mod view;
+
+pub use building::read_desc;
+pub use fault::{DescFault, ObjFault};
+pub use payload::{
+    read_body, read_definition, read_family, read_item, read_preset, read_reloc, read_statement,
+};
+pub use records::Records;
+pub use view::View;
