@@ -1,0 +1,4 @@
+pub mod Adding
+pub mod ExpressionLayers
+pub mod Separated
+pub mod StatementLayers
