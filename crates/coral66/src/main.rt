@@ -3,12 +3,14 @@
 
 mod outside;
 
-use cw_top::coral66;
+use cw_io::Sink;
+use cw_top::{Status, coral66};
 use outside::{Files, Reading, Writing};
+use std::io::ErrorKind;
 use std::process::ExitCode;
 use std::{env, io};
 
-// The words after the program's name. A word that is no text makes the words none of the command.
+// The words after the program's name.
 fn words_of(rt: &HostRuntime) -> io::Result<Vec<String>> {
     Ok(env::args(rt)?.skip(1).collect(rt.alloc())?)
 }
@@ -20,6 +22,11 @@ fn main(rt: HostRuntime) -> ExitCode {
     let mut say = Writing::new(rt.stderr());
     let words = match words_of(&rt) {
         Ok(words) => words,
+        Err(error) if error.kind() == ErrorKind::OutOfMemory => {
+            let _ = say.write(b"no memory\n");
+            return ExitCode::from(Status::NoMemory.code());
+        }
+        // A word that is no text makes the words none of the command.
         Err(_) => Vec::new(rt.alloc()),
     };
     let status = coral66(

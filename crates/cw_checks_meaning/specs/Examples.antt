@@ -24,7 +24,7 @@ use Rattle.cw_unit.specs.declared.layout.Map.{Map}
 use Rattle.cw_unit.specs.Allocation.{storage_map}
 use Rattle.cw_unit.specs.Program.{program_of}
 use Rattle.cw_unit.specs.Stop.{End, Running, Ended, Stopped, Overflow, ZeroDivisor, SwitchRange, AddressRange, FramesFull, DepthReached}
-use Rattle.cw_unit.specs.Behaviour.{Shown, observed}
+use Rattle.cw_unit.specs.Behaviour.{Observation, observed}
 use Rattle.cw_checks_meaning.specs.Trees.{fixed, item, through, element, array_element, entry_word, entry_part, bare, number, decimal, constant, read, value, locate, bits, sum, less, minus, times, over, asks, compares, by_value, by_place, the_array, the_table, the_label, the_switch, the_procedure, handed_on, put_on, put, assign, call, writes, row, nothing, choice, answer, loop, marked, go, go_to, integer, stored, single, array_of, table_of, local_of, framed, loop_of, loop_words, common_item, procedure_of, body_label, switch_of, described, unit_of, segment_of}
 
 pub record Example : Type 0 where
@@ -36,10 +36,10 @@ pub record Example : Type 0 where
   pub end : End
 
 -- what an example shows: its output and how it ended
-abbrev pub result_of : Example → Shown
+abbrev pub result_of : Example → Observation
 result_of x = observed (program_of x.segments x.limits) x.input x.steps
 
-abbrev pub wanted_of : Example → Shown
+abbrev pub wanted_of : Example → Observation
 wanted_of x = record { output = x.output; end = x.end }
 
 -- a step before, it was running

@@ -1,5 +1,6 @@
 -- More example programs: values, jumps, and what several segments share.
-use Rattle.std.specs.Prelude.{ℕ, pos, List, [], ◌∷◌, false, Some, None}
+use Rattle.std.specs.Prelude.{ℕ, pos, List, [], ◌∷◌, true, false, Some, None}
+use Rattle.cw_unit.specs.declared.unit.Unit.{Unit as SourceUnit}
 use Rattle.cw_unit.specs.declared.unit.Item.{Item}
 use Rattle.cw_unit.specs.declared.unit.Stmt.{Stmt}
 use Rattle.cw_unit.specs.declared.unit.Target.TheVariants as target
@@ -11,8 +12,8 @@ use Rattle.cw_unit.specs.declared.unit.Home.TheVariants as home
 use Rattle.cw_unit.specs.declared.descriptor.Desc.{Desc}
 use Rattle.cw_unit.specs.declared.descriptor.Spec.{Spec}
 use Rattle.cw_unit.specs.declared.descriptor.DescBody.TheVariants as body
-use Rattle.cw_unit.specs.Stop.{End, Ended, Stopped, Overflow, DepthReached}
-use Rattle.cw_checks_meaning.specs.Trees.{fixed, item, element, element_2, bare, number, decimal, read, value, locate, logic, string, sum, minus, times, over, put_on, put, put_bits, assign, call_on, call, writes, row, nothing, loop, marked, go_to, integer, stored, single, array_of, loop_words, common_item, procedure_of, body_label, described, unit_of, segment_of}
+use Rattle.cw_unit.specs.Stop.{End, Ended, Stopped, Overflow, ZeroDivisor, DepthReached, IndexRange}
+use Rattle.cw_checks_meaning.specs.Trees.{fixed, item, element, element_between, element_2, bare, number, decimal, read, value, locate, logic, string, sum, minus, times, over, put_on, put, put_bits, assign, call_on, call, writes, row, nothing, loop, marked, go_to, integer, stored, single, array_of, loop_words, common_item, procedure_of, body_label, described, unit_of, segment_of}
 use Rattle.cw_checks_meaning.specs.Examples.{Example, small, at_limits, one}
 
 -- ---- values
@@ -57,8 +58,36 @@ string_words =
 -- the last element of an array [1:2, 1:3] is its sixth word
 abbrev pub two_dimensions : Example
 two_dimensions =
-    let last = element_2 0 (pos 1) (pos 1) 3 (number 2) (number 3) in
+    let last = element_2 0 (pos 1) (pos 2) (pos 1) (pos 3) 3 (number 2) (number 3) in
     shows (array_of 6 ∷ []) (put last (number 9) ∷ writes (read last) ∷ writes (locate last) ∷ []) (9 ∷ 5 ∷ [])
+
+-- ---- indexes that are compared with their bounds
+
+abbrev pub compared : SourceUnit → SourceUnit
+compared u = record u { bounds = true }
+
+abbrev pub compares : List Item → List Stmt → List ℕ → End → Example
+compares items ss output e = one (compared (segment_of items [] [] [] ss)) 100 output e
+
+-- an array [0:3] has no element 4
+abbrev pub index_outside : Example
+index_outside =
+    compares (array_of 4 ∷ array_of 10 ∷ []) (writes (read (element_between 0 (pos 0) (pos 3) (number 4))) ∷ []) [] (Stopped IndexRange 1 1)
+
+-- the right side comes first
+abbrev pub divisor_before_index : Example
+divisor_before_index =
+    compares (array_of 4 ∷ []) (put (element_between 0 (pos 0) (pos 3) (number 4)) (over (number 1) (number 0)) ∷ []) [] (Stopped ZeroDivisor 1 1)
+
+-- of an array [1:2, 1:3]
+abbrev pub second_index_outside : Example
+second_index_outside =
+    compares (array_of 6 ∷ []) (put (element_2 0 (pos 1) (pos 2) (pos 1) (pos 3) 3 (number 1) (number 4)) (number 9) ∷ []) [] (Stopped IndexRange 1 1)
+
+abbrev pub indexes_inside : Example
+indexes_inside =
+    let last = element_2 0 (pos 1) (pos 2) (pos 1) (pos 3) 3 (number 2) (number 3) in
+    compares (array_of 6 ∷ []) (put last (number 9) ∷ writes (read last) ∷ []) (9 ∷ []) Ended
 
 -- ---- jumps
 
@@ -139,6 +168,10 @@ more_examples =
     ∷ bits_assigned
     ∷ string_words
     ∷ two_dimensions
+    ∷ index_outside
+    ∷ divisor_before_index
+    ∷ second_index_outside
+    ∷ indexes_inside
     ∷ jump_out
     ∷ jump_in
     ∷ common_overlay

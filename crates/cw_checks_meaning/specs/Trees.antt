@@ -1,5 +1,5 @@
 -- Short words for the trees of example programs.
-use Rattle.std.specs.Prelude.{ℕ, ℤ, List, [], ◌∷◌, Bool, false, Option, Some, None}
+use Rattle.std.specs.Prelude.{pos, ℕ, ℤ, List, [], ◌∷◌, Bool, false, Option, Some, None}
 use Rattle.cw_unit.specs.declared.unit.Unit.{Unit as SourceUnit}
 use Rattle.cw_unit.specs.declared.unit.Item.{Item}
 use Rattle.cw_unit.specs.declared.unit.ItemKind.{ItemKind}
@@ -52,22 +52,26 @@ item i = fixed 0 i
 abbrev pub through : ℕ → Ref
 through i = ref_to (roll-Spot (layer.Through i))
 
+abbrev pub element_between : (item : ℕ) → (lower upper : ℤ) → Expr → Ref
+element_between i l u e = ref_to (roll-Spot (layer.One i l u e))
+
+-- of an array that ends at 32,767
 abbrev pub element : (item : ℕ) → (lower : ℤ) → Expr → Ref
-element i l e = ref_to (roll-Spot (layer.One i l e))
+element i l e = element_between i l (pos 32767) e
 
 abbrev pub array_element : ℕ → Expr → Ref
 array_element i e = ref_to (roll-Spot (layer.ParamArray i e))
 
--- a whole word of a table's entry
+-- a whole word of a table's entry, of which there are two
 abbrev pub entry_word : (item : ℕ) → (parameter : Bool) → (width word : ℕ) → Expr → Ref
-entry_word i t n q e = ref_to (roll-Spot (layer.Elem i t n q e))
+entry_word i t n q e = ref_to (roll-Spot (layer.Elem i t n 2 q e))
 
--- t bits from bit b of the word of a table's entry, which has one
+-- t bits from bit b of the word of a table's entry, which has one, of four entries
 abbrev pub entry_part : (item : ℕ) → (unsigned : Bool) → (t b : ℕ) → Expr → Ref
-entry_part i u t b e = roll-Ref (ref_layer (roll-Spot (layer.Elem i false 1 0 e)) 0 (Some (record { t = t; b = b; unsigned = u })))
+entry_part i u t b e = roll-Ref (ref_layer (roll-Spot (layer.Elem i false 1 4 0 e)) 0 (Some (record { t = t; b = b; unsigned = u })))
 
-abbrev pub element_2 : (item : ℕ) → (lower lower2 : ℤ) → (width : ℕ) → Expr → Expr → Ref
-element_2 i l m n e g = ref_to (roll-Spot (layer.Two i l m n e g))
+abbrev pub element_2 : (item : ℕ) → (lower upper lower2 upper2 : ℤ) → (width : ℕ) → Expr → Expr → Ref
+element_2 i l u l2 u2 n e g = ref_to (roll-Spot (layer.Two i l u l2 u2 n e g))
 
 abbrev pub bare : Expr → Ref
 bare e = ref_to (roll-Spot (layer.Bare e))
@@ -245,6 +249,7 @@ unit_of n descs items procs labels switches defined body =
     record {
       name = n ∷ [];
       tokens = 0;
+      bounds = false;
       descs = descs;
       items = items;
       procs = procs;

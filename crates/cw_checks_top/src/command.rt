@@ -66,7 +66,8 @@ fn call(
     let Ok(mut files) = MemStore::new(alloc, files, 0, 0, 4096, calls(alloc, fails.store)?) else {
         return Err(AllocError);
     };
-    let mut input = MemSource::new(list(alloc, b"")?, 1, calls(alloc, &[])?);
+    // No program reads so far: a call of the source would fail.
+    let mut input = MemSource::new(list(alloc, b"unread")?, 4096, calls(alloc, &[1])?);
     let Ok(mut out) = MemSink::new(alloc, 64, 1, calls(alloc, fails.out)?) else {
         return Err(AllocError);
     };
@@ -271,6 +272,20 @@ fn faults_outside(rt: HostRuntime) -> Result<(), Fail> {
         told(alloc, "go a", FIRST.as_bytes(), &fails)?.as_str(),
         "7||00000 00001 A.X WORD\nfault: say\n"
     );
+    // A program that fills a piece writes it, and the end of the run writes the rest.
+    let long =
+        b"LIBRARY (PROCEDURE WRITEBYTE(VALUE INTEGER)); SEGMENT A BEGIN INTEGER N; L: WRITEBYTE(N); N := N + 1; IF N < 4097 THEN GOTO L END FINISH";
+    for (failing, written) in [(1_u64, 0_usize), (65, 64)] {
+        let calls = [failing];
+        let fails = Fails {
+            store: &[],
+            out: &calls,
+            say: &[],
+        };
+        let outcome = call(alloc, "go a", long, &fails, RUN_STEPS)?;
+        assert_eq!(rt; outcome.code, 7);
+        assert_eq!(rt; outcome.out.held().len(), written);
+    }
     // The closing line is cut short, and the status stays.
     let fails = Fails {
         store: &[1],

@@ -1,5 +1,5 @@
 -- Each unit of the form has orders.
-use Rattle.std.proofs.Common.{◌≡◌, ℕ, zero, suc, ◌≤◌, ◌<◌, Bool, true, false, ◌&&◌, ◌||◌, nat_lt, List, [], ◌∷◌, ◌++◌, length, map, IsTrue, Option, Some, None, refl, ap, ap₂, sym, ◌∙◌, arith}
+use Rattle.std.proofs.Common.{◌≡◌, ℕ, zero, suc, ◌≤◌, ◌<◌, Bool, true, false, ◌&&◌, ◌||◌, nat_lt, List, [], ◌∷◌, ◌++◌, length, map, Option, Some, None, refl, ap, ap₂, sym, ◌∙◌, arith}
 use Rattle.std.specs.Option.{is_some}
 use Rattle.std.proofs.lemmas.Bool.Decides.{nat_tests}
 use Rattle.cw_unit.specs.declared.unit.Unit.{Unit as SourceUnit}
@@ -20,7 +20,7 @@ use Rattle.cw_unit.specs.declared.unit.Stmt.TheOpen as statement
 use Rattle.cw_unit.specs.declared.unit.Target.TheVariants as target
 use Rattle.cw_unit.specs.declared.unit.Arg.TheFolds.{fold-roll-Expr, fold-roll-Ref, fold-roll-Arg, fold-roll-Spot, fold-roll-Cond}
 use Rattle.cw_unit.specs.declared.unit.Stmt.TheFolds.{fold-roll-Stmt}
-use Rattle.cw_gen.specs.Built.{all_within, most_levels, is_built_goal, is_owned_by_body, is_built_expression, is_built_condition, is_built_argument, is_built_ref, is_built_statement, argument_step, condition_step, expression_step, spot_step, ref_step, statement_step}
+use Rattle.cw_gen.specs.Built.{all_within, most_levels, IsBuilt, is_built_goal, is_owned_by_body, is_built_expression, is_built_condition, is_built_argument, is_built_ref, is_built_statement, argument_step, condition_step, expression_step, spot_step, ref_step, statement_step}
 use Rattle.cw_form.specs.Trees as tree
 use Rattle.cw_form.specs.Trees.{jump, choice, marked, both, either, own_label, number, direct_layer, direct, read, assign, write, row, sum, difference, negative}
 use Rattle.cw_form.specs.Grammar.{unit_of}
@@ -235,7 +235,12 @@ goal-built u p l h =
     let own = each-own u p l h in
     ap₂ (λ a b. a && b) (ap is_owned_by_body own.1) (body-read u p (continuing (length p.labels)) l Nothing ∙ each-has u p l h)
 
-pub body-built : (ts : List Lexeme) (u : SourceUnit) → unit_of ts ≡ Some u → IsTrue (is_built_statement u u.body most_levels)
-body-built ts u e =
+pub unit-built : (ts : List Lexeme) (u : SourceUnit) → unit_of ts ≡ Some u → IsBuilt u
+unit-built ts u e =
     let p = parts ts u e in
-    body-read u p (reading u (length p.labels) (goal-built u p)) most_levels (omega arith)
+    record {
+      body = body-read u p (reading u (length p.labels) (goal-built u p)) most_levels (omega arith);
+      no_procedures = p.procedures_are;
+      no_switches = p.switches_are;
+      no_definitions = p.definitions_are;
+    }

@@ -1,31 +1,35 @@
 -- The code of a unit of the form has at most 32 bytes for each token of its text.
-use Rattle.std.proofs.Common.{◌≡◌, ℕ, ◌+◌, ◌*◌, ◌<◌, ◌≤◌, Bool, List, [], ◌∷◌, ◌++◌, length, Some, refl, subst, arith, length-append}
+use Rattle.std.proofs.Common.{◌≡◌, ℕ, zero, suc, ◌+◌, ◌*◌, ◌<◌, ◌≤◌, Bool, List, [], ◌∷◌, length, Some, refl, ap, ◌∙◌, subst, arith}
 use Rattle.std.specs.Prelude.{IfSome, nat_le}
 use Rattle.cw_lex.specs.Lexical.{Lexeme}
 use Rattle.cw_unit.specs.declared.unit.Unit.{Unit as SourceUnit}
+use Rattle.cw_unit.specs.declared.unit.Label.{Label}
 use Rattle.cw_unit.specs.declared.layout.Layout.{Layout}
-use Rattle.cw_order.specs.declared.order.Order.{Order}
+use Rattle.cw_unit.specs.OwnSingles.{numbers_from}
+use Rattle.cw_order.specs.declared.order.Orders.{Orders}
 use Rattle.cw_order.specs.declared.order.Order.TheVariants as order
-use Rattle.cw_gen.specs.UnitTables.{first_mark}
+use Rattle.cw_gen.specs.UnitTables.{label_mark, first_mark, label_marks, switch_goals}
 use Rattle.cw_gen.specs.ReferenceOrders.{statement_piece, unit_orders}
-use Rattle.cw_tmpl.specs.declared.pieces.Coded.{Coded}
-use Rattle.cw_tmpl.specs.Pieces.{bytes_with, blanks}
-use Rattle.cw_tmpl.specs.Templates.{template, entry_pieces, order_size, listed_size}
-use Rattle.cw_tmpl.specs.ReferenceCode.{templates, mark_starts, entry_size, orders_code}
+use Rattle.cw_tmpl.specs.Names.{landing_size}
+use Rattle.cw_tmpl.specs.Pieces.{blanks}
+use Rattle.cw_tmpl.specs.Templates.{listed_sizes as total}
+use Rattle.cw_tmpl.specs.ReferenceCode.{entry_size, switch_sizes, pieces_of, orders_code}
 use Rattle.cw_form.specs.Trees.{Name}
 use Rattle.cw_form.specs.Tokens.{kind_of, behind, is_begin, is_segment}
 use Rattle.cw_form.specs.Grammar.{name, declarations, label_names, labels_of, library, body, scope_of, with_items, segment, unit_of}
 use Rattle.cw_form.proofs.Optional.{when, after, after_any}
-use Rattle.cw_form.proofs.Costs.{total, total-append}
-use Rattle.cw_form.proofs.Parts.{Room, shorter, behind-shorter, declarations-room, library-shorter}
+use Rattle.cw_form.proofs.Costs.{total-append}
+use Rattle.cw_form.specs.SetLabels.{set_labels}
+use Rattle.cw_form.proofs.LabelNumbers.{labels-once}
+use Rattle.cw_form.proofs.Parts.{Room, parts, shorter, behind-shorter, declarations-room, library-shorter}
 use Rattle.cw_form.proofs.Taken.{Short, body-short}
 
 -- ---- the unit
 
 module _ (layout : Layout) where
-  -- the body's code, with 32 bytes to spare
+  -- the body's code with the landings of its labels, and 32 bytes to spare
   abbrev Spares : ℕ → SourceUnit → Type 0
-  Spares n u = (next : ℕ) → total (statement_piece (length u.defined) layout u.body 0 next).orders + 32 ≤ 32 * n
+  Spares n u = (next : ℕ) → total (statement_piece (length u.defined) layout u.body 0 next).orders + 15 * length (set_labels u.body) + 32 ≤ 32 * n
 
   with_items-spares : (n : ℕ) (has_library : Bool) (count : ℕ) (m : Name) (items : List Name) (ts : List Lexeme) → length ts ≤ n → IfSome (with_items has_library count m items ts) (Spares n)
   unfolding with_items
@@ -51,20 +55,21 @@ module _ (layout : Layout) where
 
 -- ---- the code
 
-length-blanks : (ps qs : List Coded) → length (blanks (ps ++ qs)) ≡ length (blanks ps) + length (blanks qs)
-length-blanks [] qs = omega arith
-length-blanks (p ∷ ps) qs = omega (arith, length-append (bytes_with 0 p) (blanks (ps ++ qs)), length-append (bytes_with 0 p) (blanks ps), length-blanks ps qs)
+length-numbers : (n k : ℕ) → length (numbers_from n k) ≡ k
+length-numbers n zero = refl
+length-numbers n (suc k) = omega (arith, length-numbers (n + 1) k)
 
-module _ (each : (o : Order) → order_size o ≡ listed_size o) (everywhere : (starts : ℕ → ℕ) (place : ℕ) (o : Order) → length (blanks (template starts place o)) ≡ order_size o) where
-  code-size : (starts : ℕ → ℕ) (place : ℕ) (os : List Order) → length (blanks (templates starts place os)) ≡ total os
-  code-size starts place [] = refl
-  code-size starts place (o ∷ os) =
-      omega (arith, length-blanks (template starts place o) (templates starts (place + order_size o) os), everywhere starts place o, each o, code-size starts (place + order_size o) os)
+length-marks : (m : ℕ) (ls : List Label) → length (label_marks m ls) ≡ length ls
+length-marks m [] = refl
+length-marks m (l ∷ ls) = omega (arith, length-marks (m + 1) ls)
 
+module _ (segment : (o : Orders) → length (blanks (pieces_of o)) ≤ entry_size + (total o.list + (landing_size * length o.labels + switch_sizes o.switches))) where
   pub sizes : (ts : List Lexeme) (u : SourceUnit) (layout : Layout) → unit_of ts ≡ Some u → length (orders_code (unit_orders u layout)).bytes ≤ 32 * length ts
   sizes ts u layout e =
       let orders = unit_orders u layout in
       let body = (statement_piece (length u.defined) layout u.body 0 (first_mark u)).orders in
-      let entry : length (blanks entry_pieces) ≡ 15 = refl in
+      let entry : entry_size ≡ 15 = refl in
       let spares : Spares layout (length ts) u = subst (λ o. IfSome o (Spares layout (length ts))) e (unit-spares layout ts) in
-      omega (arith, spares (first_mark u), entry, length-blanks entry_pieces (templates (mark_starts orders) entry_size orders.list), code-size (mark_starts orders) entry_size orders.list, total-append body (order.NextBody ∷ []))
+      let switches : switch_sizes orders.switches ≡ 0 = ap (λ ss. switch_sizes (switch_goals ss)) (parts ts u e).switches_are in
+      let set : length (set_labels u.body) ≡ length u.labels = ap length (labels-once ts u e) ∙ length-numbers 0 (length u.labels) in
+      omega (arith, spares (first_mark u), entry, segment orders, total-append body (order.NextBody ∷ []), length-marks (label_mark u 0) u.labels, switches, set)

@@ -19,15 +19,11 @@ use Rattle.cw_unit.specs.declared.layout.Layout.{Layout}
 use Rattle.cw_order.specs.declared.order.Order.{Order}
 use Rattle.cw_order.specs.declared.order.Order.TheVariants as order
 use Rattle.cw_gen.specs.ReferenceOrders.{Piece, plain, followed_by, sequence, with_end, with_labels, home_order, load_orders, rescale_orders, comparator_for, pick_mark, condition_piece, expression_orders, argument_orders, ref_orders, spot_orders, begin_orders, call_orders, put_orders, go_orders, if_piece, statement_step, statement_piece}
-use Rattle.cw_tmpl.specs.Templates.{listed_size}
+use Rattle.cw_tmpl.specs.Templates.{listed_sizes as total}
 use Rattle.cw_form.specs.Trees as tree
 use Rattle.cw_form.specs.Trees.{number, direct_layer, direct, read, sum, difference, negative, both, either, assign, write, jump, choice, marked, row}
 
 -- ---- bytes of orders
-
-abbrev pub total : List Order → ℕ
-total [] = 0
-total (o ∷ os) = listed_size o + total os
 
 pub total-append : (os ps : List Order) → total (os ++ ps) ≡ total os + total ps
 total-append [] ps = omega arith
@@ -140,7 +136,7 @@ module _ (first : ℕ) (layout : Layout) where
 
   -- ---- statements
 
-  pub assign-costs : (m line i : ℕ) (e : Expr) → Value m e → Body (m + 15) (assign line i e)
+  pub assign-costs : (m line i : ℕ) (e : Expr) → Value m e → Body (m + 17) (assign line i e)
   assign-costs m line i e h place next =
       let a = expression_orders layout e 0 in
       let home = home_order (slice_index_or layout.homes i (0, 0)) in

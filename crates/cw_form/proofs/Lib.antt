@@ -12,5 +12,6 @@ pub mod LabelNumbers
 pub mod WellFormed
 pub mod Buildable
 pub mod Costs
+pub mod Landings
 pub mod Taken
 pub mod CodeSizes

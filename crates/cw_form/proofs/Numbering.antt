@@ -4,9 +4,8 @@ use Rattle.std.specs.Option.{option_map, is_some, is_none}
 use Rattle.std.specs.Str.{bytes_eq}
 use Rattle.std.specs.BTreeMap.{BTreeMap, get, Updates, btree_map_len}
 use Rattle.std.specs.Cmp.Lexicographic.{texts_ties, bytes_decides, nat_list_eq_equiv}
-use Rattle.cw_form.specs.declared.key.Key.{Key}
 use Rattle.cw_form.specs.Grammar.{number_in}
-use Rattle.cw_form.specs.Numbering.{key, key_cmp, IsNumbering}
+use Rattle.cw_form.specs.Numbering.{name_cmp, IsNumbering}
 use Rattle.std.proofs.lemmas.List.{length-append}
 
 number_last_at : (b : Bool) (q name : List ℕ) (ps : List (List ℕ)) → (number_in ps q ≡ None → number_in (ps ++ name ∷ []) q ≡ cond (bytes_eq q name) (Some (length ps)) None)
@@ -55,16 +54,16 @@ with_last q name names fresh = at (bytes_eq name q) refl (number_in names q) ref
     at false e None h = sym (number_last q name names h ∙ ap (λ (z : Bool). cond z (Some (length names)) None) (swap ∙ e))
     at false e (Some j) h = sym (number_kept q name names j h)
 
-pub numbering_added : (old new : BTreeMap Key ℕ) (k : Key) (name : List ℕ) (names : List (List ℕ)) → k.name ≡ name → IsNumbering old names
-    → Updates key_cmp old new k (Some (btree_map_len old)) → get key_cmp old k ≡ None → btree_map_len new ≡ btree_map_len old + 1 → IsNumbering new (names ++ name ∷ [])
+pub numbering_added : (old new : BTreeMap (List ℕ) ℕ) (k : List ℕ) (name : List ℕ) (names : List (List ℕ)) → k ≡ name → IsNumbering old names
+    → Updates name_cmp old new k (Some (btree_map_len old)) → get name_cmp old k ≡ None → btree_map_len new ≡ btree_map_len old + 1 → IsNumbering new (names ++ name ∷ [])
 numbering_added old new k name names e h u none size = record {
   count = size ∙ omega (arith, h.count, length-append names (name ∷ []));
   each = λ q.
-      u.0 (key q)
-      ∙ ap (λ (b : Bool). cond b (Some (btree_map_len old)) (get key_cmp old (key q))) (sym (texts_ties k.name q) ∙ ap (λ (n : List ℕ). bytes_eq n q) e)
-      ∙ ap (λ (n : ℕ). cond (bytes_eq name q) (Some n) (get key_cmp old (key q))) h.count
+      u.0 q
+      ∙ ap (λ (b : Bool). cond b (Some (btree_map_len old)) (get name_cmp old q)) (sym (texts_ties k q) ∙ ap (λ (n : List ℕ). bytes_eq n q) e)
+      ∙ ap (λ (n : ℕ). cond (bytes_eq name q) (Some n) (get name_cmp old q)) h.count
       ∙ ap (λ (o : Option ℕ). cond (bytes_eq name q) (Some (length names)) o) (h.each q)
-      ∙ with_last q name names (sym (h.each name) ∙ ap (λ (n : List ℕ). get key_cmp old (key n)) (sym e) ∙ none);
+      ∙ with_last q name names (sym (h.each name) ∙ ap (λ (n : List ℕ). get name_cmp old n) (sym e) ∙ none);
 }
 
 pub size_added : (o : Option ℕ) (m n : ℕ) → o ≡ None → n ≡ m + cond (is_some o) 0 1 → n ≡ m + 1

@@ -22,6 +22,8 @@ pub record Parts (u : SourceUnit) : Type 0 where
   pub items_are : u.items ≡ map own_single items
   pub labels_are : u.labels ≡ map (λ l. own_label l.line) (labels_of tokens)
   pub procedures_are : u.procs ≡ []
+  pub switches_are : u.switches ≡ []
+  pub definitions_are : u.defined ≡ []
 
 known : {A B : Type 0} (P : B → Type 0) (o : Option A) (f : A → Option B) → ((a : A) → o ≡ Some a → IfSome (f a) P) → IfSome (option_and_then f o) P
 known P None f h = tt
@@ -93,7 +95,7 @@ unfolding with_items
 with_items-parts has_library count n items ts few =
     known Parts (label_names items [] (labels_of ts)) _
     (λ names e. known Parts (body (scope_of has_library items names) ts) _
-    (λ s f. record { library = has_library; items = items; labels = names; tokens = ts; few = few; named = e; read = f; items_are = refl; labels_are = refl; procedures_are = refl }))
+    (λ s f. record { library = has_library; items = items; labels = names; tokens = ts; few = few; named = e; read = f; items_are = refl; labels_are = refl; procedures_are = refl; switches_are = refl; definitions_are = refl }))
 
 segment-parts : (has_library : Bool) (count : ℕ) (ts : List Lexeme) → length ts ≤ 65535 → IfSome (segment has_library count ts) Parts
 unfolding segment

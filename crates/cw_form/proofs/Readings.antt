@@ -71,7 +71,7 @@ digits_small text =
     when (λ n. n ≤ 32767) (nat_le 1 (length text) && (nat_le (length text) 12 && list_all is_ascii_digit text)) (cond (nat_le value 32767) (Some value) None)
     (λ _. when (λ n. n ≤ 32767) (nat_le value 32767) (Some value) (word_bound value))
 
-number_small : (t : Lexeme) → IfSome (number_of t) (λ n. n ≤ 32767)
+pub number_small : (t : Lexeme) → IfSome (number_of t) (λ n. n ≤ 32767)
 number_small t = when (λ n. n ≤ 32767) (is_number (Some t.kind)) (digits_number t.text) (λ _. digits_small t.text)
 
 pub number_below : (names : List Name) (n : Name) → IfSome (number_in names n) (λ l. l < length names)

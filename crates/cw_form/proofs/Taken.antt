@@ -1,5 +1,5 @@
--- The code of what the grammar reads has at most 32 bytes for each token that it takes.
-use Rattle.std.proofs.Common.{◌≡◌, ℕ, zero, suc, ◌+◌, ◌*◌, ◌<◌, ◌≤◌, Bool, true, false, cond, ◌&&◌, List, [], ◌∷◌, length, drop, Option, Some, None, option_map, option_and_then, refl, arith}
+-- The code of what the grammar reads, with the landings of labels, has at most 32 bytes for each token that it takes.
+use Rattle.std.proofs.Common.{◌≡◌, ℕ, zero, suc, ◌+◌, ◌*◌, ◌<◌, ◌≤◌, Bool, true, false, cond, ◌&&◌, List, [], ◌∷◌, ◌++◌, length, drop, Option, Some, None, option_map, option_and_then, refl, arith, length-append}
 use Rattle.std.specs.Prelude.{IfSome}
 use Rattle.std.proofs.lemmas.List.{length-drop}
 use Rattle.cw_lex.specs.declared.token.TokenKind.{TokenKind}
@@ -16,7 +16,10 @@ use Rattle.cw_form.proofs.Optional.{when, either, after, after_any, mapped}
 use Rattle.cw_form.proofs.Repeats.{is_there}
 use Rattle.cw_form.proofs.Parts.{shorter, behind-shorter}
 use Rattle.cw_gen.specs.ReferenceOrders.{statement_piece}
-use Rattle.cw_form.proofs.Costs.{total, Value, Test, Body, Row, number-costs, read-costs, negative-costs, sum-costs, difference-costs, comparison-costs, both-costs, either-costs, assign-costs, write-costs, jump-costs, choice-costs, marked-costs, row-costs, none-costs, more-costs}
+use Rattle.cw_tmpl.specs.Templates.{listed_sizes as total}
+use Rattle.cw_form.specs.SetLabels.{set_labels}
+use Rattle.cw_form.proofs.Costs.{Value, Test, number-costs, read-costs, negative-costs, sum-costs, difference-costs, comparison-costs, both-costs, either-costs}
+use Rattle.cw_form.proofs.Landings.{Landed, RowLanded, assign-lands, write-lands, jump-lands, choice-lands, marked-lands, row-lands, none-lands, more-lands}
 
 -- What is read costs so many bytes, and they are paid by the tokens taken.
 record Taken {A : Type 0} (Costs : ℕ → A → Type 0) (ts : List Lexeme) (r : A × List Lexeme) : Type 0 where
@@ -28,9 +31,6 @@ taken : {A : Type 0} (Costs : ℕ → A → Type 0) (ts : List Lexeme) (a : A) (
 taken Costs ts a us bytes h k = record { bytes = bytes; costs = h; paid = k }
 
 -- ---- tokens left
-
-abbrev Fewer : {A : Type 0} → List Lexeme → A × List Lexeme → Type 0
-Fewer ts r = length r.1 ≤ length ts
 
 abbrev OneFewer : {A : Type 0} → List Lexeme → A × List Lexeme → Type 0
 OneFewer ts r = length r.1 + 1 ≤ length ts
@@ -158,7 +158,7 @@ module _ (first : ℕ) (layout : Layout) (scope : Scope) where
   -- ---- simple statements
 
   abbrev Said : List Lexeme → Stmt × List Lexeme → Type 0
-  Said = Taken (Body first layout)
+  Said = Taken (Landed first layout)
 
   item-taken : (ts : List Lexeme) → IfSome (item scope ts) (OneFewer ts)
   unfolding item
@@ -174,7 +174,7 @@ module _ (first : ℕ) (layout : Layout) (scope : Scope) where
       after (Said ts) (OneFewer ts) (item scope ts) _ (item-taken ts)
       (λ i one. after (Said ts) (λ vs. length vs ≤ length i.1) (behind (is_assign (kind_of i.1)) i.1) _ (behind-shorter (is_assign (kind_of i.1)) i.1)
       (λ vs fewer. after (Said ts) (Sum vs) (sum_of scope vs) _ (sum-taken vs)
-      (λ e h. taken (Body first layout) ts _ e.1 (h.bytes + 15) (assign-costs first layout h.bytes (line_of ts) i.0 e.0 h.costs) (omega (arith, one, fewer, h.paid)))))
+      (λ e h. taken (Landed first layout) ts _ e.1 (h.bytes + 17) (assign-lands first layout h.bytes (line_of ts) i.0 e.0 h.costs) (omega (arith, one, fewer, h.paid)))))
 
   output-taken : (ts : List Lexeme) → IfSome (output scope ts) (Said ts)
   unfolding output
@@ -182,16 +182,16 @@ module _ (first : ℕ) (layout : Layout) (scope : Scope) where
       after (Said ts) (λ us. length us + 1 ≤ length (drop 1 ts)) (behind (is_open (kind_of (drop 1 ts))) (drop 1 ts)) _ (one-behind is_open (drop 1 ts) refl)
       (λ us one. after (Said ts) (Sum us) (sum_of scope us) _ (sum-taken us)
       (λ e h. after (Said ts) (λ ws. length ws ≤ length e.1) (behind (is_close (kind_of e.1)) e.1) _ (behind-shorter (is_close (kind_of e.1)) e.1)
-      (λ ws fewer. taken (Body first layout) ts _ ws (h.bytes + 8) (write-costs first layout h.bytes (line_of ts) e.0 h.costs) (omega (arith, one, fewer, h.paid, length-drop 1 ts)))))
+      (λ ws fewer. taken (Landed first layout) ts _ ws (h.bytes + 8) (write-lands first layout h.bytes (line_of ts) e.0 h.costs) (omega (arith, one, fewer, h.paid, length-drop 1 ts)))))
 
   jump-taken : (ts : List Lexeme) → IfSome (jump_to scope ts) (Said ts)
   unfolding jump_to
   jump-taken ts =
       after (Said ts) (OneFewer (drop 1 ts)) (label scope (drop 1 ts)) _ (label-taken (drop 1 ts))
-      (λ r one. taken (Body first layout) ts _ r.1 8 (jump-costs first layout (line_of ts) r.0) (omega (arith, one, length-drop 1 ts)))
+      (λ r one. taken (Landed first layout) ts _ r.1 8 (jump-lands first layout (line_of ts) r.0) (omega (arith, one, length-drop 1 ts)))
 
   nothing-taken : (ts : List Lexeme) → Said ts (row [], ts)
-  nothing-taken ts = taken (Body first layout) ts (row []) ts 0 (row-costs first layout 0 [] (none-costs first layout)) (omega arith)
+  nothing-taken ts = taken (Landed first layout) ts (row []) ts 0 (row-lands first layout 0 [] (none-lands first layout)) (omega arith)
 
   plain-taken : (ts : List Lexeme) → IfSome (plain scope ts) (Said ts)
   unfolding plain
@@ -207,57 +207,61 @@ module _ (first : ℕ) (layout : Layout) (scope : Scope) where
   -- what is read for less is read for more tokens
   earlier : (ts us : List Lexeme) (o : Found Stmt) → length us ≤ length ts → IfSome o (Said us) → IfSome o (Said ts)
   earlier ts us None h k = tt
-  earlier ts us (Some r) h k = taken (Body first layout) ts r.0 r.1 k.bytes k.costs (omega (arith, h, k.paid))
+  earlier ts us (Some r) h k = taken (Landed first layout) ts r.0 r.1 k.bytes k.costs (omega (arith, h, k.paid))
 
-  another_label-taken : (base : List Lexeme) (ls : List ℕ) (ts : List Lexeme) → Fewer base (ls, ts) → IfSome (another_label scope ls ts) (Fewer base)
+  -- labels are paid by the tokens taken
+  abbrev Named : List Lexeme → List ℕ × List Lexeme → Type 0
+  Named ts r = 15 * length r.0 + 32 * length r.1 ≤ 32 * length ts
+
+  another_label-taken : (base : List Lexeme) (ls : List ℕ) (ts : List Lexeme) → Named base (ls, ts) → IfSome (another_label scope ls ts) (Named base)
   unfolding another_label
   another_label-taken base ls ts h =
-      after (Fewer base) (OneFewer ts) (label scope ts) _ (label-taken ts) (λ r one. omega (arith, h, one, length-drop 1 r.1))
+      after (Named base) (OneFewer ts) (label scope ts) _ (label-taken ts) (λ r one. omega (arith, h, one, length-drop 1 r.1, length-append ls (r.0 ∷ [])))
 
-  labels-taken : (ts : List Lexeme) → IfSome (labels scope ts) (Fewer ts)
+  labels-taken : (ts : List Lexeme) → IfSome (labels scope ts) (Named ts)
   unfolding labels
-  labels-taken ts = keeps (Fewer ts) is_label (another_label scope) (another_label-taken ts) (length ts) [] ts (omega arith)
+  labels-taken ts = keeps (Named ts) is_label (another_label scope) (another_label-taken ts) (length ts) [] ts (omega arith)
 
   labelled-taken : (inner : Rule Stmt) → ((ts : List Lexeme) → IfSome (inner ts) (Said ts)) → (ts : List Lexeme) → IfSome (labelled scope inner ts) (Said ts)
   unfolding labelled
   labelled-taken inner h ts =
-      after (Said ts) (Fewer ts) (labels scope ts) _ (labels-taken ts)
-      (λ ls fewer. after (Said ts) (Said ls.1) (inner ls.1) _ (h ls.1)
-      (λ s k. taken (Body first layout) ts _ s.1 k.bytes (marked-costs first layout k.bytes ls.0 s.0 k.costs) (omega (arith, fewer, k.paid))))
+      after (Said ts) (Named ts) (labels scope ts) _ (labels-taken ts)
+      (λ ls named. after (Said ts) (Said ls.1) (inner ls.1) _ (h ls.1)
+      (λ s k. taken (Landed first layout) ts _ s.1 (k.bytes + 15 * length ls.0) (marked-lands first layout k.bytes ls.0 s.0 k.costs) (omega (arith, named, k.paid))))
 
   abbrev Several : List Lexeme → List Stmt × List Lexeme → Type 0
-  Several = Taken (Row first layout)
+  Several = Taken (RowLanded first layout)
 
   another_statement-taken : (inner : Rule Stmt) → ((ts : List Lexeme) → IfSome (inner ts) (Said ts)) → (base : List Lexeme) (ss : List Stmt) (ts : List Lexeme) → Several base (ss, ts) → IfSome (another_statement inner ss ts) (Several base)
   unfolding another_statement
   another_statement-taken inner h base ss ts t =
       after (Several base) (Said (drop 1 ts)) (inner (drop 1 ts)) _ (h (drop 1 ts))
-      (λ s k. taken (Row first layout) base _ s.1 (t.bytes + k.bytes) (more-costs first layout t.bytes k.bytes ss s.0 t.costs k.costs) (omega (arith, t.paid, k.paid, length-drop 1 ts)))
+      (λ s k. taken (RowLanded first layout) base _ s.1 (t.bytes + k.bytes) (more-lands first layout t.bytes k.bytes ss s.0 t.costs k.costs) (omega (arith, t.paid, k.paid, length-drop 1 ts)))
 
   row-taken : (inner : Rule Stmt) → ((ts : List Lexeme) → IfSome (inner ts) (Said ts)) → (ts : List Lexeme) → IfSome (statement_row inner ts) (Several ts)
   unfolding statement_row
   row-taken inner h ts =
       after (Several ts) (Said ts) (inner ts) _ (h ts)
       (λ s k. keeps (Several ts) (λ vs. is_semicolon (kind_of vs)) (another_statement inner) (another_statement-taken inner h ts) (length s.1) (s.0 ∷ []) s.1
-      (taken (Row first layout) ts (s.0 ∷ []) s.1 (0 + k.bytes) (more-costs first layout 0 k.bytes [] s.0 (none-costs first layout) k.costs) (omega (arith, k.paid))))
+      (taken (RowLanded first layout) ts (s.0 ∷ []) s.1 (0 + k.bytes) (more-lands first layout 0 k.bytes [] s.0 (none-lands first layout) k.costs) (omega (arith, k.paid))))
 
   -- the token END leaves 32 bytes to spare
   abbrev Spared : List Lexeme → Stmt × List Lexeme → Type 0
-  Spared ts r = (bytes : ℕ) × Body first layout bytes r.0 × bytes + 32 * length r.1 + 32 ≤ 32 * length ts
+  Spared ts r = (bytes : ℕ) × Landed first layout bytes r.0 × bytes + 32 * length r.1 + 32 ≤ 32 * length ts
 
   block-spares : (inner : Rule Stmt) → ((ts : List Lexeme) → IfSome (inner ts) (Said ts)) → (ts : List Lexeme) → IfSome (block inner ts) (Spared ts)
   unfolding block
   block-spares inner h ts =
       after (Spared ts) (Several ts) (statement_row inner ts) _ (row-taken inner h ts)
       (λ ss k. after (Spared ts) (λ vs. length vs + 1 ≤ length ss.1) (behind (is_end (kind_of ss.1)) ss.1) _ (one-behind is_end ss.1 refl)
-      (λ vs one. (k.bytes, row-costs first layout k.bytes ss.0 k.costs, omega (arith, one, k.paid))))
+      (λ vs one. (k.bytes, row-lands first layout k.bytes ss.0 k.costs, omega (arith, one, k.paid))))
 
   block-taken : (inner : Rule Stmt) → ((ts : List Lexeme) → IfSome (inner ts) (Said ts)) → (ts : List Lexeme) → IfSome (block inner ts) (Said ts)
   block-taken inner h ts = forget (block inner ts) (block-spares inner h ts)
     where
       forget : (o : Found Stmt) → IfSome o (Spared ts) → IfSome o (Said ts)
       forget None k = tt
-      forget (Some r) (bytes, costs, paid) = taken (Body first layout) ts r.0 r.1 bytes costs (omega (arith, paid))
+      forget (Some r) (bytes, costs, paid) = taken (Landed first layout) ts r.0 r.1 bytes costs (omega (arith, paid))
 
   simple_by-taken : (inner : Rule Stmt) → ((ts : List Lexeme) → IfSome (inner ts) (Said ts)) → (ts : List Lexeme) → IfSome (simple_by scope inner ts) (Said ts)
   unfolding simple_by
@@ -278,7 +282,7 @@ module _ (first : ℕ) (layout : Layout) (scope : Scope) where
       (λ c p. after (Said ts) (λ vs. length vs + 1 ≤ length c.1) (behind (is_then (kind_of c.1)) c.1) _ (one-behind is_then c.1 refl)
       (λ vs then_taken. after (Said ts) (Said vs) (labelled scope one vs) _ (labelled-taken one h vs)
       (λ s q. after (Said ts) (Said s.1) (other s.1) _ (k s.1)
-      (λ t r. taken (Body first layout) ts _ t.1 (5 + (p.bytes + (q.bytes + 3) + r.bytes)) (choice-costs first layout p.bytes q.bytes r.bytes (line_of ts) c.0 s.0 t.0 p.costs q.costs r.costs)
+      (λ t r. taken (Landed first layout) ts _ t.1 (5 + (p.bytes + (q.bytes + 3) + r.bytes)) (choice-lands first layout p.bytes q.bytes r.bytes (line_of ts) c.0 s.0 t.0 p.costs q.costs r.costs)
       (omega (arith, p.paid, then_taken, q.paid, r.paid, length-drop 1 ts))))))
 
   statement_by-taken : (one other : Rule Stmt) → ((ts : List Lexeme) → IfSome (one ts) (Said ts)) → ((ts : List Lexeme) → IfSome (other ts) (Said ts)) → (ts : List Lexeme) → IfSome (statement_by scope one other ts) (Said ts)
@@ -314,12 +318,12 @@ module _ (first : ℕ) (layout : Layout) (scope : Scope) where
 
   -- ---- the body
 
-  -- the code, with 32 bytes spared
+  -- the code and the landings, with 32 bytes spared
   abbrev pub Short : List Lexeme → Stmt → Type 0
-  Short ts s = (place next : ℕ) → total (statement_piece first layout s place next).orders + 32 ≤ 32 * length ts
+  Short ts s = (place next : ℕ) → total (statement_piece first layout s place next).orders + 15 * length (set_labels s) + 32 ≤ 32 * length ts
 
   short : (ts : List Lexeme) (s : Stmt × List Lexeme) → Spared ts s → Short ts s.0
-  short ts s (bytes, costs, paid) place next = omega (arith, costs place next, paid)
+  short ts s (bytes, (code, costs, within), paid) place next = omega (arith, costs place next, within, paid)
 
   pub body-short : (ts : List Lexeme) → IfSome (body scope ts) (Short ts)
   unfolding body

@@ -1,5 +1,5 @@
 -- The parts of a unit that the form needs.
-use Rattle.std.specs.Prelude.{ℕ, List, [], ◌∷◌, Some, None}
+use Rattle.std.specs.Prelude.{false, ℕ, List, [], ◌∷◌, Some, None}
 use Rattle.cw_unit.specs.declared.unit.Unit.{Unit as SourceUnit}
 use Rattle.cw_unit.specs.declared.unit.Item.{Item}
 use Rattle.cw_unit.specs.declared.unit.ItemKind.TheVariants as kind
@@ -101,6 +101,7 @@ unit name tokens items labels body =
     record {
       name = name;
       tokens = tokens;
+      bounds = false;
       descs = [];
       items = items;
       procs = [];

@@ -2,7 +2,6 @@
 #![tactic(auto)]
 
 mod fault;
-mod key;
 mod labels;
 pub mod laws;
 mod names;

@@ -4,7 +4,6 @@ ghost use Rattle.cw_form.specs.Grammar.{number_in, is_write, is_new, with_new};
 ghost use Rattle.cw_form.specs.Readings.{Gives};
 
 use crate::fault::Fault;
-use crate::key::Key;
 use cw_word::{List, Name};
 use std::alloc::Global;
 use std::collections::BTreeMap;
@@ -21,7 +20,7 @@ pub(crate) fn is_write(name: &Name) -> bool
 #[derive(Drop)]
 pub(crate) struct Names {
     names: List<Name>,
-    numbers: BTreeMap<Key, u32>,
+    numbers: BTreeMap<Name, u32>,
 }
 
 impl Model for Names {
@@ -56,8 +55,7 @@ impl Names {
     pub(crate) fn number(&self, name: &Name) -> Option<u32>
         ensures { result ≡ number_in self.now name.now }
     {
-        let key = Key { name: *name };
-        self.numbers.get(&key).copied()
+        self.numbers.get(name).copied()
     }
 
     /// Whether a name is none of these nor WRITEBYTE.
@@ -82,7 +80,7 @@ impl Names {
         } = self;
         let number = names.as_slice().len() as u32;
         names.push(name)?;
-        match numbers.insert(Key { name }, number) {
+        match numbers.insert(name, number) {
             Ok(_) => Ok(Names { names, numbers }),
             Err(_) => Err(Fault::NoMemory),
         }

@@ -190,6 +190,7 @@ fn unit(
     Unit {
         name,
         tokens,
+        bounds: false,
         descs: List::new(alloc),
         items,
         procs: List::new(alloc),

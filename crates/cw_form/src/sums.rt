@@ -13,8 +13,8 @@ use crate::tokens::{
     Tokens, compare_of, is_and, is_minus, is_number, is_or, is_sign, name_of, number_of,
 };
 use cw_lex::Token;
-use cw_unit::unit::{CompareOp, Cond, Expr, Num, Ref, Spot};
-use cw_word::{Boxed, NoMemory};
+use cw_unit::unit::{CompareOp, Cond, Expr, Ref, Spot};
+use cw_word::{Boxed, NoMemory, Num};
 use std::alloc::Global;
 
 // ---- trees
@@ -29,14 +29,10 @@ pub(crate) fn direct(i: u32) -> Ref
     }
 }
 
-fn number(whole: u64) -> Expr
+fn number(whole: u16) -> Expr
     ensures { result ≡ number whole }
 {
-    Expr::Num(Num {
-        whole,
-        digits: 0,
-        places: 0,
-    })
+    Expr::Num(Num::new(u64::from(whole), 0, 0))
 }
 
 fn read(alloc: Global, i: u32) -> Result<Expr, NoMemory>

@@ -257,18 +257,22 @@ fn value(digits: &[u8]) -> u64
     value
 }
 
-fn digits_number(text: &[u8]) -> Option<u64>
+fn digits_number(text: &[u8]) -> Option<u16>
     ensures { result ≡ digits_number text.now }
 {
     if text.is_empty() || text.len() > 12 || !all_digits(text) {
         return None;
     }
     let value = value(text);
-    (value <= 32767).then_some(value)
+    if value <= 32767 {
+        Some(value as u16)
+    } else {
+        None
+    }
 }
 
 /// The number, if the token is one that fits a word.
-pub(crate) fn number_of(token: &Token) -> Option<u64>
+pub(crate) fn number_of(token: &Token) -> Option<u16>
     ensures { result ≡ number_of (view token.now) }
 {
     if is_number(Some(token.kind)) {

@@ -2,13 +2,13 @@
 use Rattle.std.proofs.Common.{◌≡◌, ◌≢◌, ℕ, zero, suc, ◌≤◌, Option, Some, None, refl, sym, ap, ◌∙◌, subst, arith}
 use Rattle.std.proofs.lemmas.Bool.Decides.{nat_tests}
 use Rattle.cw_i86.specs.MachineRun as run
-use Rattle.cw_unit.specs.Stop.{StopKind, Overflow, ZeroDivisor, SwitchRange, AddressRange, FramesFull, DepthReached, stop_number, Stopped, Stuck}
-use Rattle.cw_unit.specs.Behaviour.{Shown}
-use Rattle.cw_tmpl.specs.Showing.{stop_of, stopped_by, end_of, shown_as}
+use Rattle.cw_unit.specs.Stop.{StopKind, Overflow, ZeroDivisor, SwitchRange, AddressRange, FramesFull, DepthReached, IndexRange, stop_number, Stopped, Stuck}
+use Rattle.cw_unit.specs.Behaviour.{Observation}
+use Rattle.cw_follow.specs.Showing.{stop_of, stopped_by, end_of, shown_as}
 use Rattle.cw_sim.specs.Preservation.{TellsEnd, ShowsAs}
 
 -- a number past the last is that of no stop
-none_past : (k : ℕ) → 7 ≤ k → stop_of k ≡ None
+none_past : (k : ℕ) → 8 ≤ k → stop_of k ≡ None
 none_past k past = grind (arith, nat_tests)
 
 stop_found : (kind : ℕ) (stop : StopKind) → stop_of kind ≡ Some stop → kind ≡ stop_number stop
@@ -18,9 +18,10 @@ stop_found (suc (suc (suc zero))) stop e = let s : SwitchRange ≡ stop = cc in 
 stop_found (suc (suc (suc (suc zero)))) stop e = let s : AddressRange ≡ stop = cc in ap stop_number s
 stop_found (suc (suc (suc (suc (suc zero))))) stop e = let s : FramesFull ≡ stop = cc in ap stop_number s
 stop_found (suc (suc (suc (suc (suc (suc zero)))))) stop e = let s : DepthReached ≡ stop = cc in ap stop_number s
+stop_found (suc (suc (suc (suc (suc (suc (suc zero))))))) stop e = let s : IndexRange ≡ stop = cc in ap stop_number s
 stop_found zero stop e = absurd (let n : ◌≡◌ {A = Option StopKind} None (Some stop) = e in cc)
-stop_found (suc (suc (suc (suc (suc (suc (suc n))))))) stop e =
-    absurd (let none : ◌≡◌ {A = Option StopKind} None (Some stop) = sym (none_past (suc (suc (suc (suc (suc (suc (suc n))))))) (omega arith)) ∙ e in cc)
+stop_found (suc (suc (suc (suc (suc (suc (suc (suc n)))))))) stop e =
+    absurd (let none : ◌≡◌ {A = Option StopKind} None (Some stop) = sym (none_past (suc (suc (suc (suc (suc (suc (suc (suc n)))))))) (omega arith)) ∙ e in cc)
 
 tells_stop : (kind segment line : ℕ) (o : Option StopKind) → stop_of kind ≡ o → stopped_by o segment line ≢ Stuck → (stop : StopKind) × (kind ≡ stop_number stop) × (stopped_by o segment line ≡ Stopped stop segment line)
 tells_stop kind segment line None e go = absurd (go refl)
@@ -33,7 +34,7 @@ tells (run.Stopped kind segment line) go = tells_stop kind segment line (stop_of
 tells (run.Bad offset) go = absurd (go refl)
 tells (run.Divided offset) go = absurd (go refl)
 
-pub shows_as : (o : run.Observed) (meant : Shown) → shown_as o ≡ meant → meant.end ≢ Stuck → ShowsAs o meant
+pub shows_as : (o : run.Observed) (meant : Observation) → shown_as o ≡ meant → meant.end ≢ Stuck → ShowsAs o meant
 shows_as o meant e go =
     let same : end_of o.end ≡ meant.end = ap (λ x. x.end) e in
     record {
@@ -49,3 +50,4 @@ stop_back SwitchRange segment line = refl
 stop_back AddressRange segment line = refl
 stop_back FramesFull segment line = refl
 stop_back DepthReached segment line = refl
+stop_back IndexRange segment line = refl

@@ -1,5 +1,9 @@
 -- The two halves, one on the other, and the bound in steps.
-use Rattle.std.proofs.Common.{◌≡◌, ◌≢◌, ℕ, zero, suc, ◌+◌, ◌*◌, ◌≤◌, false, List, refl, sym, ap, ◌∙◌, subst, inl, inr, ⊎_elim, arith}
+use Rattle.std.proofs.Common.{◌≡◌, ◌≢◌, ℕ, zero, suc, ◌+◌, ◌*◌, ◌≤◌, false, List, Option, Some, None, option_map, refl, sym, ap, ◌∙◌, subst, inl, inr, ⊎_elim, arith}
+use Rattle.std.specs.Prelude.{slice_get}
+use Rattle.std.proofs.lemmas.Option.{none-some, same_Some, slice_get-map}
+use Rattle.cw_order.specs.declared.order.Order.{Order}
+use Rattle.cw_order.specs.declared.order.Order.TheVariants as order
 use Rattle.cw_track.specs.Machine.{state_after, shown_after}
 use Rattle.cw_track.specs.Tracking.{Tracks, TracksAfter, KeepsPace}
 use Rattle.cw_track.proofs.Composition.{tracks_through}
@@ -9,18 +13,23 @@ use Rattle.cw_i86.specs.MachineRun as run
 use Rattle.cw_unit.specs.declared.unit.Unit.{Unit as SourceUnit}
 use Rattle.cw_unit.specs.declared.layout.Limits.{Limits}
 use Rattle.cw_unit.specs.declared.layout.Map.{Map}
+use Rattle.cw_unit.specs.Storage.{layout_of}
 use Rattle.cw_unit.specs.Program.{Program, program_at}
 use Rattle.cw_unit.specs.InitialMemory.{initial_memory}
 use Rattle.cw_unit.specs.Configuration.{Configuration}
 use Rattle.cw_unit.specs.Step.{steps}
 use Rattle.cw_unit.specs.Stop.{stop_number, Stopped, Stuck}
 use Rattle.cw_unit.specs.Behaviour.{shown, is_running, initial_configuration, observed as meant}
-use Rattle.cw_order.specs.OrderProgram.{OrderProgram}
+use Rattle.cw_order.specs.declared.order.Orders.{Orders}
+use Rattle.cw_order.specs.NamesAgree.{NamesAgree}
+use Rattle.cw_order.specs.OrderProgram.{Tables, OrderProgram, order_at}
 use Rattle.cw_order.specs.OrderMachine.{order_machine}
-use Rattle.cw_gen.specs.Following.{meaning, orders_program, first_order}
-use Rattle.cw_tmpl.specs.Showing.{end_of, shown_as}
-use Rattle.cw_tmpl.specs.Placing.{Codable, NeverStuck, startup_cost}
-use Rattle.cw_run86.specs.Processor.{Processor, processor, processor_start, processor_after, processor_step, observed}
+use Rattle.cw_gen.specs.MadeOrders.{IsMade}
+use Rattle.cw_gen.specs.UnitTables.{tables_of}
+use Rattle.cw_gen.specs.Following.{meaning, orders_for, orders_program, first_order}
+use Rattle.cw_follow.specs.Showing.{end_of, shown_as}
+use Rattle.cw_follow.specs.Placing.{Codable, NeverStuck, startup_cost}
+use Rattle.cw_run86.specs.Processor.{Processor, processor_machine, processor_start, processor_after, processor_step, observed}
 use Rattle.cw_sim.specs.Preservation.{TellsEnd, ShowsAs, Preserves, Completes, IsLoaded}
 use Rattle.cw_sim.proofs.Given.{Given}
 use Rattle.cw_sim.proofs.Ends.{shows_as, stop_back}
@@ -31,7 +40,7 @@ steps_are : (p : Program) (n : ℕ) (c : Configuration) → state_after (meaning
 steps_are p zero c = refl
 steps_are p (suc n) c = steps_are p n _
 
-instructions_are : (n : ℕ) (q : Processor) → state_after (processor shown_as) n q ≡ processor_after n q
+instructions_are : (n : ℕ) (q : Processor) → state_after (processor_machine shown_as) n q ≡ processor_after n q
 instructions_are zero q = refl
 instructions_are (suc n) q = instructions_are n (processor_step q)
 
@@ -54,29 +63,55 @@ module _ (given : Given) (us : List SourceUnit) (m : Map) (limits : Limits) (inp
   orders_never_stuck : NeverStuck q (initial_memory us m limits.area) input
   orders_never_stuck k e = let a = upper.shows_only k in not_stuck a.0 (ap (λ x. x.end) (sym a.1) ∙ e)
 
+  orders_made : (g place : ℕ) (o : Order) → order_at q g place ≡ Some o → IsMade o
+  orders_made g place o = given.made us m limits loaded.room g place o loaded.built
+
+  -- the tables and the orders of the same unit, which agree
+  names_in : (v : Option SourceUnit) (t : Tables) (o : Orders) → option_map (tables_of us) v ≡ Some t → option_map orders_for v ≡ Some o → NamesAgree t o
+  names_in None t o e h = absurd (none-some t e)
+  names_in (Some u) t o e h =
+      subst (λ x. NamesAgree x o) (same_Some (tables_of us u) t e) (subst (λ x. NamesAgree (tables_of us u) x) (same_Some (orders_for u) o h) (given.names us u (layout_of u)))
+
+  orders_in : (v : Option SourceUnit) (t : Tables) → option_map (tables_of us) v ≡ Some t → (o : Orders) × (option_map orders_for v ≡ Some o)
+  orders_in None t e = absurd (none-some t e)
+  orders_in (Some u) t e = (orders_for u, refl)
+
+  tables_at : (g : ℕ) (t : Tables) → slice_get q.tables g ≡ Some t → option_map (tables_of us) (slice_get us g) ≡ Some t
+  tables_at g t e = sym (slice_get-map (tables_of us) us g) ∙ e
+
+  paired : (g : ℕ) (t : Tables) → slice_get q.tables g ≡ Some t → (o : Orders) × (slice_get q.units g ≡ Some o)
+  paired g t e = let found = orders_in (slice_get us g) t (tables_at g t e) in (found.0, slice_get-map orders_for us g ∙ found.1)
+
   codable : Codable q
   codable = record {
     codes = λ g place o. given.codes us m limits loaded.room g place o loaded.built;
     constants = given.constants us m limits loaded.room loaded.built;
     lines = given.lines us m limits loaded.room loaded.built;
+    tables = λ g t o e h. names_in (slice_get us g) t o (tables_at g t e) (sym (slice_get-map orders_for us g) ∙ h);
+    paired = paired;
+    switches = λ g n o gs. given.switches us m limits loaded.room g n o gs loaded.built;
+    callable = given.callable us m limits loaded.room loaded.built loaded.frames;
     entries = given.entries us m limits loaded.room;
+    marks = λ g mark place e. elim (given.marks us m limits loaded.room g mark place e) [ inl first ↦ inl first | inr is ↦ inr (order.Mark, is, λ x. x) ];
+    frames = loaded.frames;
+    depth = loaded.depth;
     room = loaded.within;
   }
 
-  lower : TracksAfter is_running startup_cost (order_machine q) (first_order us m limits loaded.room input) (processor shown_as) (processor_start s input)
+  lower : TracksAfter is_running startup_cost (order_machine q) (first_order us m limits loaded.room input) (processor_machine shown_as) (processor_start s input)
   lower = given.lower q loaded.image loaded.words (initial_memory us m limits.area) input s loaded.is_image codable loaded.begins orders_never_stuck loaded.starts loaded.bytes
 
-  whole : TracksAfter is_running 21 (meaning p) (initial_configuration p input) (processor shown_as) (processor_start s input)
-  whole = tracks_through is_running (meaning p) (order_machine q) (processor shown_as) 0 21 21 _ _ _ refl upper lower
+  whole : TracksAfter is_running 20 (meaning p) (initial_configuration p input) (processor_machine shown_as) (processor_start s input)
+  whole = tracks_through is_running (meaning p) (order_machine q) (processor_machine shown_as) 0 20 20 _ _ _ refl upper lower
 
-  pace : KeepsPace is_running 256 (meaning p) (initial_configuration p input) (processor shown_as) (processor_start s input)
-  pace = keeps_budget is_running (meaning p) (processor shown_as) 21 (let l : 21 ≤ 32 = omega arith in l) (λ c. let l : 224 ≤ 224 = omega arith in l) (λ c. let l : 1 ≤ 1 = omega arith in l) _ _ whole
+  pace : KeepsPace is_running 256 (meaning p) (initial_configuration p input) (processor_machine shown_as) (processor_start s input)
+  pace = keeps_budget is_running (meaning p) (processor_machine shown_as) 20 (let l : 20 ≤ 32 = omega arith in l) (λ c. let l : 224 ≤ 224 = omega arith in l) (λ c. let l : 1 ≤ 1 = omega arith in l) _ _ whole
 
   -- what the processor shows after so many instructions
-  shown_then : (k : ℕ) → shown_after (processor shown_as) k (processor_start s input) ≡ shown_as (observed (processor_after k (processor_start s input)))
+  shown_then : (k : ℕ) → shown_after (processor_machine shown_as) k (processor_start s input) ≡ shown_as (observed (processor_after k (processor_start s input)))
   shown_then k = ap (λ x. shown_as (observed x)) (instructions_are k (processor_start s input))
 
-  shows_then : (k n : ℕ) → shown_after (processor shown_as) k (processor_start s input) ≡ shown_after (meaning p) n (initial_configuration p input) → ShowsAs (observed (processor_after k (processor_start s input))) (meant p input n)
+  shows_then : (k n : ℕ) → shown_after (processor_machine shown_as) k (processor_start s input) ≡ shown_after (meaning p) n (initial_configuration p input) → ShowsAs (observed (processor_after k (processor_start s input))) (meant p input n)
   shows_then k n e = shows_as _ _ (sym (shown_then k) ∙ (e ∙ means n)) (loaded.never_stuck n)
 
   pub preserves : (k : ℕ) (o : run.Observed) → run.Shows s input k o → Preserves p input k o
@@ -88,7 +123,7 @@ module _ (given : Given) (us : List SourceUnit) (m : Map) (limits : Limits) (inp
         shows = subst (λ x. ShowsAs x (meant p input a.0)) same (shows_then k a.0 a.1);
         pace = ⊎_elim
             (λ (l : k ≤ 256 * (a.0 + 1)). inl l)
-            (λ (off : is_running (shown_after (processor shown_as) k (processor_start s input)) ≡ false). inr (ap is_running (sym (a.1 ∙ means a.0)) ∙ off))
+            (λ (off : is_running (shown_after (processor_machine shown_as) k (processor_start s input)) ≡ false). inr (ap is_running (sym (a.1 ∙ means a.0)) ∙ off))
             a.2;
       }
 
@@ -106,4 +141,4 @@ module _ (given : Given) (us : List SourceUnit) (m : Map) (limits : Limits) (inp
       let first : (shown_as o).end ≡ Stopped t.0 segment line = ap end_of e ∙ ap (λ n. end_of (run.Stopped n segment line)) t.1 ∙ stop_back t.0 segment line in
       let second : (shown_after (order_machine q) a.0 (first_order us m limits loaded.room input)).end ≡ Stopped t.0 segment line =
       ap (λ x. x.end) (sym a.1 ∙ shown_then k ∙ ap shown_as same) ∙ first in
-      t.1 ∙ ap stop_number (only q codable.codes a.0 (initial_memory us m limits.area) input t.0 segment line second)
+      t.1 ∙ ap stop_number (only q orders_made a.0 (initial_memory us m limits.area) input t.0 segment line second)

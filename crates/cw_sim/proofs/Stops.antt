@@ -1,4 +1,4 @@
--- The orders that have code so far stop with Overflow alone.
+-- The orders of which units are made so far stop with Overflow alone.
 use Rattle.std.proofs.Common.{◌≡◌, ℕ, zero, suc, ◌+◌, Bool, true, false, List, [], ◌∷◌, ◌++◌, Option, Some, None, refl, subst}
 use Rattle.std.specs.Prelude.{ℤ, ◌+ℤ◌, ◌-ℤ◌, neg_ℤ, slice_get, nat_le}
 use Rattle.cw_track.specs.Machine.{state_after, shown_after}
@@ -14,7 +14,7 @@ use Rattle.cw_order.specs.OrderState.{OrderActivation, OrderState, at, stack_wor
 use Rattle.cw_order.specs.OrderChanges.{Way, Onward, ToMark, Nowhere}
 use Rattle.cw_order.specs.OrderActions.{Action, Perform, Access, SetLine, Pass, Branch, EndBody, action_of}
 use Rattle.cw_order.specs.OrderMachine.{go_on, go_at, after, unrefused, branch, next_body, end_body, act, carry_out, step, shown, order_machine, order_start}
-use Rattle.cw_order.specs.HasCode.{HasCode}
+use Rattle.cw_gen.specs.MadeOrders.{IsMade}
 
 -- ---- operations
 
@@ -74,7 +74,7 @@ of_body : (o : Option Orders) (g place line : ℕ) (w : Words) → OfState (next
 of_body None g place line w = tt
 of_body (Some u) g place line w = tt
 
-module _ (p : OrderProgram) (codes : (g place : ℕ) (o : Order) → order_at p g place ≡ Some o → HasCode o) where
+module _ (p : OrderProgram) (made : (g place : ℕ) (o : Order) → order_at p g place ≡ Some o → IsMade o) where
   of_end : (g place line : ℕ) (acts : List OrderActivation) (w : Words) → OfState (end_body p g place line acts w)
   of_end g place line [] w = of_body (slice_get p.units (g + 1)) g place line w
   of_end g place line (a ∷ acts) w = tt
@@ -84,7 +84,7 @@ module _ (p : OrderProgram) (codes : (g place : ℕ) (o : Order) → order_at p 
   of_way (ToMark m v) g place line acts w = of_mark (place_of p g m) g place line acts w v
   of_way Nowhere g place line acts w = tt
 
-  -- what the orders do that have code
+  -- what these orders do
   abbrev Fine : Action → Type 0
   Fine (Perform op) = (w : Words) → Overflows (perform p.limits.area op w)
   Fine (Access op) = Unit {0}
@@ -94,7 +94,7 @@ module _ (p : OrderProgram) (codes : (g place : ℕ) (o : Order) → order_at p 
   Fine EndBody = Unit {0}
   Fine _ = ⊥
 
-  is_fine : (g : ℕ) (acts : List OrderActivation) (o : Order) → HasCode o → Fine (action_of p g acts o)
+  is_fine : (g : ℕ) (acts : List OrderActivation) (o : Order) → IsMade o → Fine (action_of p g acts o)
   is_fine g acts (order.Const w) h = λ v. tt
   is_fine g acts (order.Home family offset) h = λ v. tt
   is_fine g acts order.Load h = tt
@@ -122,7 +122,7 @@ module _ (p : OrderProgram) (codes : (g place : ℕ) (o : Order) → order_at p 
 
   of_order : (o : Option Order) (g place line : ℕ) (acts : List OrderActivation) (w : Words) → order_at p g place ≡ o → OfState (carry_out p o g place line acts w)
   of_order None g place line acts w e = tt
-  of_order (Some o) g place line acts w e = of_action (action_of p g acts o) g place line acts w (is_fine g acts o (codes g place o e))
+  of_order (Some o) g place line acts w e = of_action (action_of p g acts o) g place line acts w (is_fine g acts o (made g place o e))
 
   of_step : (s : OrderState) → OfState s → OfState (step p s)
   of_step (at g place line acts w Running) h = of_order (order_at p g place) g place line acts w refl

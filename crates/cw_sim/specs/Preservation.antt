@@ -9,10 +9,10 @@ use Rattle.cw_unit.specs.declared.layout.Map.{Map}
 use Rattle.cw_unit.specs.Program.{Program, program_at}
 use Rattle.cw_unit.specs.InitialMemory.{initial_memory}
 use Rattle.cw_unit.specs.Stop.{StopKind, stop_number, End, Running, Ended, Stopped, Stuck}
-use Rattle.cw_unit.specs.Behaviour.{Shown, is_running, observed}
+use Rattle.cw_unit.specs.Behaviour.{Observation, is_running, observed}
 use Rattle.cw_gen.specs.Built.{AllBuilt}
 use Rattle.cw_gen.specs.Following.{orders_program, Suits}
-use Rattle.cw_tmpl.specs.Placing.{IsImage, BeginsWith}
+use Rattle.cw_follow.specs.Placing.{IsImage, BeginsWith}
 
 -- ---- what is promised
 
@@ -25,7 +25,7 @@ TellsEnd (run.Bad offset) end = ⊥
 TellsEnd (run.Divided offset) end = ⊥
 
 -- the output and the end are those that the source means
-pub record ShowsAs (shown : run.Observed) (meant : Shown) : Type 0 where
+pub record ShowsAs (shown : run.Observed) (meant : Observation) : Type 0 where
   pub output : shown.output ≡ meant.output
   pub end : TellsEnd shown.end meant.end
 
@@ -50,6 +50,8 @@ pub record Completes (p : Program) (input : List ℕ) (steps : ℕ) (s : State) 
 pub record IsLoaded (us : List SourceUnit) (m : Map) (limits : Limits) (input : List ℕ) (s : State) : Type 0 where
   pub room : ℕ
   pub within : room ≤ 32000
+  pub frames : limits.frames ≤ limits.area
+  pub depth : limits.depth < 65536
   pub built : AllBuilt us
   pub suits : Suits us m limits room input
   pub never_stuck : (steps : ℕ) → (observed (program_at us m limits) input steps).end ≢ Stuck

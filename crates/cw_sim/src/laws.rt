@@ -9,9 +9,9 @@ ghost use Rattle.cw_unit.specs.Program.{program_at};
 ghost use Rattle.cw_sim.specs.Preservation.{IsLoaded, Preserves, Completes};
 
 use cw_cpu86::laws::one_observation;
-use cw_gen::laws::{order_words, orders_follow_meaning};
+use cw_follow::laws::code_follows_orders;
+use cw_gen::laws::{names_agree, order_words, orders_follow_meaning};
 use cw_run86::laws::shows_the_run;
-use cw_tmpl::laws::code_follows_orders;
 
 /// Semantic preservation. Begun with the image of a program, the 8086 shows after each number of instructions what the source
 /// means after some number of its steps, and all that the source means, within 256 instructions a step. So it never meets bad
@@ -25,6 +25,7 @@ pub fn preservation()
         IsLoaded us m limits input s → Shows s input k shown → shown.end ≡ Stopped kind segment line → kind ≡ 1 }
 {
     one_observation();
+    names_agree();
     order_words();
     orders_follow_meaning();
     shows_the_run();

@@ -1,10 +1,11 @@
 pub mod Said
 pub mod Lines
 pub mod Singles
-pub mod Shown
 pub mod Built
-pub mod Causes
 pub mod Texts
 pub mod Loaded
 pub mod Meant
 pub mod Sizes
+pub mod Files
+pub mod Promised
+pub mod Statuses

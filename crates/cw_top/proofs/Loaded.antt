@@ -1,6 +1,6 @@
 -- A processor that is started with the image of a unit of the form.
-use Rattle.std.proofs.Common.{◌≡◌, ◌≢◌, ℕ, zero, suc, ◌+◌, ◌*◌, ◌-◌, ◌%◌, ◌<◌, ◌≤◌, Bool, true, false, cond, List, [], ◌∷◌, ◌++◌, length, map, replicate, Option, Some, None, refl, sym, ap, ◌∙◌, subst, arith}
-use Rattle.std.specs.Prelude.{ℤ, pos, All, nat_lt, slice_get, slice_index, slice_index_or, if◌then◌else◌}
+use Rattle.std.proofs.Common.{◌≡◌, ◌≢◌, ℕ, zero, suc, ◌+◌, ◌-◌, ◌*◌, ◌%◌, ◌<◌, ◌≤◌, Bool, true, false, cond, List, [], ◌∷◌, ◌++◌, length, map, replicate, Some, None, refl, sym, ap, ◌∙◌, subst, arith}
+use Rattle.std.specs.Prelude.{pos, All, nat_lt, slice_get, slice_index, slice_index_or, if◌then◌else◌}
 use Rattle.std.proofs.lemmas.List.{append-nil, length-replicate}
 use Rattle.std.proofs.lemmas.Bool.Decides.{nat_tests}
 use Rattle.std.proofs.lemmas.Int.{ints}
@@ -17,30 +17,29 @@ use Rattle.cw_unit.specs.OwnSingles.{IsOwnSingle, numbers_from, own_layout, own_
 use Rattle.cw_unit.specs.Storage.{layout_of}
 use Rattle.cw_unit.specs.Allocation.{storage_map}
 use Rattle.cw_unit.specs.InitialMemory.{initial_memory}
-use Rattle.cw_unit.specs.Program.{Program, program_of, no_layout, item_address, is_frame_family}
+use Rattle.cw_unit.specs.Program.{Program, program_of, no_layout, item_address, is_frame_family, definition_in, found_in, name_of}
 use Rattle.cw_unit.specs.StackBound.{body_depth}
 use Rattle.cw_unit.specs.Stop.{Stuck}
 use Rattle.cw_unit.specs.Words.{Operand, Word, Held}
-use Rattle.cw_unit.specs.Configuration.{Configuration, at, Activation, words_of, procedure_in, procedure_at}
+use Rattle.cw_unit.specs.Configuration.{Configuration, at, words_of, procedure_in}
 use Rattle.cw_unit.specs.Behaviour.{configuration_after, observed}
 use Rattle.cw_safety.specs.WellFormed.{WellFormed}
-use Rattle.cw_safety.specs.Depth.{operands_held, depth_of_unit, depth_of_procedure, depth_at, depth_in}
-use Rattle.cw_order.specs.OrderProgram.{OrderProgram}
+use Rattle.cw_safety.specs.Depth.{operands_held, depth_of_unit, depth_of_procedure, depth_in}
+use Rattle.cw_order.specs.OrderProgram.{OrderProgram, defined_at}
 use Rattle.cw_order.specs.OrderState.{operand_words}
-use Rattle.cw_order.specs.OrderActions.{home_word}
 use Rattle.cw_gen.specs.Built.{AllBuilt}
 use Rattle.cw_gen.specs.Following.{orders_for, orders_program, Suits}
 use Rattle.cw_tmpl.specs.declared.pieces.Coded.{Coded}
 use Rattle.cw_tmpl.specs.Pieces.{Filling, blanks, relocations, filled, fill}
 use Rattle.cw_tmpl.specs.Library.{routines, library_bytes, library_entry, entry_place}
 use Rattle.cw_tmpl.specs.ReferenceCode.{pieces_of, orders_code}
-use Rattle.cw_tmpl.specs.Placing.{Fills, AreCodes, no_code, a_code, IsImage, BeginsWith}
+use Rattle.cw_follow.specs.Placing.{definition_place, Fills, AreCodes, no_code, a_code, IsImage, BeginsWith}
 use Rattle.cw_lex.specs.Lexical.{Lexeme}
 use Rattle.cw_form.specs.Grammar.{unit_of}
 use Rattle.cw_sim.specs.Preservation.{IsLoaded}
-use Rattle.cw_top.specs.ReferenceImage.{code_start, entry_or_zero, word_value, linked_code}
-use Rattle.cw_top.specs.Correct.{default_limits, addresses_of, image_of, Links}
-use Rattle.cw_top.specs.Meaning.{program}
+use Rattle.cw_top.specs.ReferenceImage.{code_start, entry_or_zero, word_value}
+use Rattle.cw_top.specs.Calls.{default_limits}
+use Rattle.cw_top.specs.Images.{addresses_of, image_of, Links}
 
 -- the laws that this stands on
 pub record Given : Type 0 where
@@ -86,6 +85,9 @@ numbers_below : (n count k : ℕ) → slice_index (numbers_from n count) k ≤ n
 numbers_below n zero k = omega arith
 numbers_below n (suc count) zero = omega arith
 numbers_below n (suc count) (suc k) = omega (arith, numbers_below (n + 1) count k)
+
+twice_word : (n : ℕ) → (2 * n) % 65536 ≡ 2 * (n % 65536) % 65536
+twice_word n = omega arith
 
 -- an item's family, and its place there
 abbrev home_in : List (ℕ × ℕ) → ℕ → ℕ × ℕ
@@ -138,7 +140,7 @@ zero_at (suc n) (suc k) = zero_at n k
 entry_filled : (k : ℕ) → k < length routines → entry_or_zero (library_entry k) ≡ entry_place k
 entry_filled k lt = ap (λ b. entry_or_zero (cond b (Some (entry_place k)) None)) (let t : nat_lt k (length routines) ≡ true = grind (arith, nat_tests) in t)
 
-module _ (given : Given) (tokens : List Lexeme) (u : SourceUnit) (is : unit_of tokens ≡ Some u) (links : Links u) where
+module _ (given : Given) (tokens : List Lexeme) (u : SourceUnit) (is : unit_of tokens ≡ Some u) (links : Links (u ∷ []) default_limits) (input : List ℕ) (bytes : All (λ b. b < 256) input) where
   abbrev m : Map
   m = storage_map (u ∷ [])
 
@@ -160,23 +162,23 @@ module _ (given : Given) (tokens : List Lexeme) (u : SourceUnit) (is : unit_of t
       let end : (storage_map (u ∷ [])).end ≡ length u.items = ap (λ m. m.end) (given.storage u own) in
       omega (arith, links.words, end)
 
-  addresses_small : (g item : ℕ) → item_address (program u) g item 0 < 16384
+  addresses_small : (g item : ℕ) → item_address (program_of (u ∷ []) default_limits) g item 0 < 16384
   addresses_small zero item =
-      let e = item_place (program u) 0 item _ _ layout_is addresses_are in
+      let e = item_place (program_of (u ∷ []) default_limits) 0 item _ _ layout_is addresses_are in
       subst (λ n. n < 16384) (sym e) (place_small (length u.items) item few_words)
   addresses_small (suc g) item =
-      let e = item_place (program u) (suc g) item no_layout [] refl (no_more g) in
+      let e = item_place (program_of (u ∷ []) default_limits) (suc g) item no_layout [] refl (no_more g) in
       subst (λ n. n < 16384) (sym e) (let l : 0 < 16384 = omega arith in l)
 
   memory_is : initial_memory (u ∷ []) m 16384 ≡ replicate 16384 (pos 0)
   memory_is = given.memory u m 16384 own
 
-  has_room : (n : ℕ) → operand_words (words_of (configuration_after (program u) [] n)).operands ≤ 32000
+  has_room : (n : ℕ) → operand_words (words_of (configuration_after (program_of (u ∷ []) default_limits) input n)).operands ≤ 32000
   has_room n =
-      let c = configuration_after (program u) [] n in
-      omega (arith, words_held (words_of c).operands, given.within_depth (program u) [] n (given.well_formed tokens u default_limits is), depth_small u default_limits c (given.no_procedures tokens u is) (given.shallow tokens u is))
+      let c = configuration_after (program_of (u ∷ []) default_limits) input n in
+      omega (arith, words_held (words_of c).operands, given.within_depth (program_of (u ∷ []) default_limits) input n (given.well_formed tokens u default_limits is), depth_small u default_limits c (given.no_procedures tokens u is) (given.shallow tokens u is))
 
-  suits : Suits (u ∷ []) m default_limits 32000 []
+  suits : Suits (u ∷ []) m default_limits 32000 input
   suits = record {
     not_empty = λ e. cc;
     has_room = has_room;
@@ -191,10 +193,17 @@ module _ (given : Given) (tokens : List Lexeme) (u : SourceUnit) (is : unit_of t
   value : Filling
   value = word_value (addresses_of u) default_limits
 
+  nothing_defined : (d : ℕ) → defined_at orders 0 d ≡ None
+  nothing_defined d = ap (λ ds. found_in 0 (definition_in u (name_of u d) ds) None) (given.built tokens u is).0.no_definitions
+
   fills : Fills orders 0 (entry_place 0) value
   unfolding value
   fills = record {
     homes = λ family offset after. refl;
+    bytes = λ family offset after. twice_word _;
+    places = λ add after. refl;
+    definitions = λ d after. ap (definition_place orders) (sym (nothing_defined d));
+    ahead = λ d after. ap (λ found. (definition_place orders found + (65536 - after % 65536)) % 65536) (sym (nothing_defined d));
     library = λ entry after lt. ap (λ n. (n + (65536 - after % 65536)) % 65536) (entry_filled entry lt);
     area = λ after. refl;
     frames = λ after. refl;
@@ -203,14 +212,14 @@ module _ (given : Given) (tokens : List Lexeme) (u : SourceUnit) (is : unit_of t
     next_is = λ after. refl;
   }
 
-  image_is : image_of u ≡ library_bytes ++ (filled value (length library_bytes) (pieces_of (orders_for u)) ++ [])
+  image_is : image_of (u ∷ []) default_limits ≡ library_bytes ++ (filled value (length library_bytes) (pieces_of (orders_for u)) ++ [])
   unfolding image_of value
   image_is =
       let pieces = pieces_of (orders_for u) in
       ap (λ bs. fill (word_value (addresses_of u) default_limits) code_start (relocations 0 pieces) (library_bytes ++ bs)) (sym (append-nil (blanks pieces)))
       ∙ given.filling (word_value (addresses_of u) default_limits) pieces library_bytes []
 
-  is_image : IsImage orders (image_of u)
+  is_image : IsImage orders (image_of (u ∷ []) default_limits)
   is_image = record {
     codes = filled value (length library_bytes) (pieces_of (orders_for u)) ++ [];
     is = image_is;
@@ -228,17 +237,19 @@ module _ (given : Given) (tokens : List Lexeme) (u : SourceUnit) (is : unit_of t
     same = λ k lt. ap (λ x. slice_index_or x k (pos 0)) memory_is ∙ zero_at 16384 k;
   }
 
-  pub loaded : (s : State) → IsStart (image_of u) [] s → IsLoaded (u ∷ []) m default_limits [] s
+  pub loaded : (s : State) → IsStart (image_of (u ∷ []) default_limits) [] s → IsLoaded (u ∷ []) m default_limits input s
   loaded s start = record {
     room = 32000;
     within = (let l : 32000 ≤ 32000 = omega arith in l);
+    frames = (let l : 4096 ≤ 16384 = omega arith in l);
+    depth = (let l : 256 < 65536 = omega arith in l);
     built = given.built tokens u is;
     suits = suits;
-    never_stuck = λ n. given.never_stuck (program u) [] n (given.well_formed tokens u default_limits is);
-    image = image_of u;
+    never_stuck = λ n. given.never_stuck (program_of (u ∷ []) default_limits) input n (given.well_formed tokens u default_limits is);
+    image = image_of (u ∷ []) default_limits;
     words = [];
     is_image = is_image;
     begins = begins;
     starts = start;
-    bytes = All-nil (λ b. b < 256);
+    bytes = bytes;
   }

@@ -12,7 +12,8 @@ use Rattle.cw_tmpl.specs.Pieces.{Filling, word_of, fill}
 use Rattle.cw_tmpl.specs.ReferenceCode.{orders_code}
 use Rattle.cw_form.specs.Grammar.{unit_of}
 use Rattle.cw_top.specs.ReferenceImage.{code_start, word_value}
-use Rattle.cw_top.specs.Correct.{default_limits, addresses_of, image_of}
+use Rattle.cw_top.specs.Calls.{default_limits}
+use Rattle.cw_top.specs.Images.{addresses_of, image_of}
 
 filling_stays : (value : Filling) (base : ℕ) (rs : List Reloc) (code : List ℕ) → length (fill value base rs code) ≡ length code
 filling_stays value base [] code = refl
@@ -23,7 +24,7 @@ filling_stays value base (r ∷ rs) code =
     filling_stays value base rs (set low (place + 1) (w / 256 % 256)) ∙ length-set low (place + 1) (w / 256 % 256) ∙ length-set code place (w % 256)
 
 pub image_size : ((tokens : List Lexeme) (u : SourceUnit) (layout : Layout) → unit_of tokens ≡ Some u → length (orders_code (unit_orders u layout)).bytes ≤ 32 * length tokens)
-    → length library_bytes ≤ 4096 → (tokens : List Lexeme) (u : SourceUnit) → unit_of tokens ≡ Some u → length (image_of u) ≤ 32 * length tokens + 4096
+    → length library_bytes ≤ 4096 → (tokens : List Lexeme) (u : SourceUnit) → unit_of tokens ≡ Some u → length (image_of (u ∷ []) default_limits) ≤ 32 * length tokens + 4096
 unfolding image_of
 image_size few library tokens u is =
     let code = orders_code (unit_orders u (layout_of u)) in

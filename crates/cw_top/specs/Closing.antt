@@ -11,9 +11,10 @@ use Rattle.cw_lex.specs.declared.token.LexFault.TheVariants as lexical
 use Rattle.cw_macro.specs.declared.fault.MacroFault.{MacroFault}
 use Rattle.cw_macro.specs.declared.fault.MacroFault.TheVariants as expansion
 use Rattle.cw_top.specs.declared.status.Which.{Which}
-use Rattle.cw_top.specs.declared.status.Which.TheVariants.{Store, Out, Say}
+use Rattle.cw_top.specs.declared.status.Which.TheVariants.{Store, Input, Out, Say}
 use Rattle.cw_top.specs.declared.status.Long.{Long}
 use Rattle.cw_top.specs.declared.status.Long.TheVariants.{File}
+use Rattle.cw_top.specs.declared.status.Long.TheVariants as long
 
 abbrev pub status_code : Status → ℕ
 status_code Ended = 0
@@ -35,6 +36,7 @@ file_name words file = slice_index_or words (file + 1) []
 
 abbrev pub which_name : Which → List ℕ
 which_name Store = codes "store"
+which_name Input = codes "input"
 which_name Out = codes "out"
 which_name Say = codes "say"
 
@@ -47,6 +49,7 @@ stop_name kind =
     else if kind == 4 then Some (codes "Address")
     else if kind == 5 then Some (codes "Frames")
     else if kind == 6 then Some (codes "Depth")
+    else if kind == 7 then Some (codes "Bounds")
     else None
 
 abbrev pub name_or_number : Option (List ℕ) → ℕ → List ℕ
@@ -89,6 +92,7 @@ link_line (CodeTooBig bytes) = codes "link: P4 CodeTooBig " ++ decimal bytes ++ 
 
 abbrev pub long_name : List (List ℕ) → Long → List ℕ
 long_name words (File file) = file_name words file
+long_name words long.Input = codes "input"
 
 -- The last line, for the words of the command and the name of the one segment, where a text was compiled.
 abbrev pub closing_line : List (List ℕ) → Option (List ℕ) → Status → List ℕ

@@ -1,100 +1,98 @@
--- What the command promises. So far its words are `go` and the name of one file, whose text is one segment.
-use Rattle.std.specs.Prelude.{◌≡◌, ℕ, ◌+◌, ◌*◌, ◌<◌, ◌≤◌, List, [], ◌∷◌, length, take, Option, None, Some, slice_index_or, codes}
+-- What the command promises of a call: `Correct`.
+use Rattle.std.specs.Prelude.{◌≡◌, ◌≢◌, ◌⊎◌, ℕ, ◌+◌, ◌*◌, ◌<◌, ◌≤◌, Bool, false, List, [], ◌∷◌, length, take, map, sum, Option, None, Some, slice_get}
 use Rattle.cw_io.specs.Bytes.{after_told}
 use Rattle.cw_io.specs.Count.{Rose}
-use Rattle.cw_io.specs.File.{Told, Is, IsAbsent, IsLonger}
-use Rattle.cw_i86.specs.State.{State}
+use Rattle.cw_io.specs.File.{Told, IsAbsent, IsLonger, AllStay}
 use Rattle.cw_i86.specs.MachineRun as run
+use Rattle.cw_cpu86.specs.Ports.{AreBytes}
+use Rattle.cw_ports.specs.Pieces.{input_limit}
+use Rattle.cw_ports.specs.Running.{IsInput, Taken, TakenWithin}
 use Rattle.cw_unit.specs.declared.unit.Unit.{Unit as SourceUnit}
-use Rattle.cw_unit.specs.declared.layout.Limits.{Limits}
-use Rattle.cw_unit.specs.Storage.{layout_of}
 use Rattle.cw_unit.specs.Allocation.{storage_map}
 use Rattle.cw_unit.specs.ValidStorage.{ValidStorageMap}
-use Rattle.cw_gen.specs.ReferenceOrders.{unit_orders}
-use Rattle.cw_tmpl.specs.ReferenceCode.{orders_code}
-use Rattle.cw_lex.specs.declared.token.Form.TheVariants.{Source}
-use Rattle.cw_lex.specs.declared.token.LexFault.{LexFault}
-use Rattle.cw_lex.specs.Lexical.{Lexeme, first_place, Tokenizes, IsFirstFault}
-use Rattle.cw_macro.specs.declared.fault.MacroFault.{MacroFault}
-use Rattle.cw_macro.specs.Expansion.{Expands, FailsToExpand}
-use Rattle.cw_form.specs.Grammar.{unit_of}
-use Rattle.cw_top.specs.Closing.{closing_line}
-use Rattle.cw_top.specs.Listing.{listing}
-use Rattle.cw_top.specs.ReferenceImage.{linked_code}
+use Rattle.cw_unit.specs.Program.{program_of}
+use Rattle.cw_lex.specs.Lexical.{Lexeme}
 use Rattle.cw_top.specs.Said.{Says}
+use Rattle.cw_top.specs.Closing.{closing_line}
+use Rattle.cw_top.specs.Texts.{text_limit, IsRefused, HaveTexts, HaveUnits, ExpandTo, Compile}
+use Rattle.cw_top.specs.Images.{map_text, image_of, need_of, Links, ImageShows, ImageReads}
+use Rattle.cw_top.specs.Calls.{IsCommand, Call, names, limits, told_files, NoFault}
+use Rattle.cw_top.specs.Meaning.{PreservesMeaning, CompletesRuns}
 use Rattle.cw_top.specs.declared.status.Status.{Status}
 use Rattle.cw_top.specs.declared.status.Status.TheVariants.{Ended, Usage, Refused, Unlinked, Stopped, Unfinished, NoFile, Outside, NoMemory, TooLong, BadCode, Divided}
-use Rattle.cw_top.specs.declared.status.Refused.TheVariants.{Lex, Macro, NotBuilt}
+use Rattle.cw_top.specs.declared.status.Refused.{Refused as Refusal}
 use Rattle.cw_top.specs.declared.status.LinkFault.TheVariants.{DataTooBig, CodeTooBig}
-use Rattle.cw_top.specs.declared.status.Which.TheVariants.{Store, Out, Say}
+use Rattle.cw_top.specs.declared.status.Which.TheVariants.{Store, Input, Out, Say}
 use Rattle.cw_top.specs.declared.status.Long.TheVariants.{File}
+use Rattle.cw_top.specs.declared.status.Long.TheVariants as long
 
--- ---- the words
+-- ---- when each status comes
 
--- the words are the command: `go` and a file
-abbrev pub IsCommand : List (List ℕ) → Type 0
-IsCommand words = (length words ≡ 2) × (slice_index_or words 0 [] ≡ codes "go")
+-- each file of the call was compiled
+abbrev pub AllCompiled : Call → List SourceUnit → Type 0
+AllCompiled c us = length us ≡ length (names c)
 
--- the most bytes of a source text
-abbrev pub text_limit : ℕ
-text_limit = 1048576
+abbrev pub IsRefusedAt : Option (List ℕ) → Refusal → Type 0
+IsRefusedAt None fault = ⊥
+IsRefusedAt (Some text) fault = IsRefused text fault
 
--- the instructions of a run, where nothing else is said
-abbrev pub run_steps : ℕ
-run_steps = 200000000
+abbrev pub IsAbsentAt : Option Told → Type 0
+IsAbsentAt None = ⊥
+IsAbsentAt (Some file) = IsAbsent file
 
--- the words of data, those of the frame area at their end, and the calls that may be active
-abbrev pub default_limits : Limits
-default_limits = record { area = 16384; frames = 4096; depth = 256 }
+abbrev pub IsLongerAt : Option Told → (most : ℕ) → Type 0
+IsLongerAt None most = ⊥
+IsLongerAt (Some file) most = IsLonger file most
 
--- ---- the text, its map and its image
+-- the texts have more items than 32 bytes for each and 4,096 for the library leave room for
+abbrev pub HaveManyItems : List (List ℕ) → Type 0
+HaveManyItems texts = (expanded : List (List Lexeme)) × ExpandTo texts expanded × (65536 < 32 * sum (map length expanded) + 4096)
 
--- the file has this text, as far as it is told, and its items are these
-pub record HasItems (file : Told) (items : List Lexeme) : Type 0 where
-  pub text : List ℕ
-  pub is : Is file text
-  pub within : length text ≤ text_limit
-  pub tokenizes : Tokenizes Source first_place text items
+-- When each status comes, for texts of the first files and the units of the first of these. Files are taken in order, from number 0, and each is
+-- read and compiled before the next is read: so the file that is refused, or was not read, is the one behind those that have a unit.
+abbrev pub Comes : Call → (texts : List (List ℕ)) → (us : List SourceUnit) → Status → Type 0
+Comes c texts us Usage = IsCommand c.words → ⊥
+Comes c texts us (Refused number fault) = IsCommand c.words × (number ≡ length us) × IsRefusedAt (slice_get texts number) fault
+Comes c texts us (Unlinked (DataTooBig need)) = IsCommand c.words × AllCompiled c us × (need ≡ need_of us (limits c)) × ((limits c).area < need)
+Comes c texts us (Unlinked (CodeTooBig bytes)) =
+    IsCommand c.words × AllCompiled c us × (need_of us (limits c) ≤ (limits c).area) × (bytes ≡ length (image_of us (limits c))) × (65536 < bytes) × HaveManyItems texts
+Comes c texts us (NoFile number) = IsCommand c.words × (number ≡ length us) × IsAbsentAt (slice_get (told_files c) number) × Rose c.before.absences c.after.absences
+Comes c texts us (Outside Store) = IsCommand c.words × Rose c.before.store_faults c.after.store_faults
+Comes c texts us (Outside Input) = IsCommand c.words × AllCompiled c us × Links us (limits c) × Rose c.before.input_faults c.after.input_faults
+Comes c texts us (Outside Out) = IsCommand c.words × AllCompiled c us × Links us (limits c) × Rose c.before.out_faults c.after.out_faults
+Comes c texts us NoMemory = IsCommand c.words
+Comes c texts us (TooLong (File number)) = IsCommand c.words × (number ≡ length us) × IsLongerAt (slice_get (told_files c) number) text_limit
+Comes c texts us (TooLong long.Input) = IsCommand c.words × AllCompiled c us × Links us (limits c) × Taken c.before.left c.after.left (input_limit + 1)
+Comes c texts us status = IsCommand c.words × AllCompiled c us × Links us (limits c)
 
--- the items of the text expand to these
-pub record HasExpanded (file : Told) (expanded : List Lexeme) : Type 0 where
-  pub items : List Lexeme
-  pub has : HasItems file items
-  pub expands : Expands items expanded
+-- ---- what is said
 
--- and they are those of the unit
-pub record Compiles (file : Told) (unit : SourceUnit) : Type 0 where
-  pub expanded : List Lexeme
-  pub has : HasExpanded file expanded
-  pub unit_is : unit_of expanded ≡ Some unit
+-- The first part of what is said: the storage map, whole before the image runs; or a proper part of it, where the count of `say` rose while it was written.
+abbrev pub IsFirstPart : (text : List ℕ) → (faults middle : ℕ) → Status → (first : List ℕ) → Type 0
+IsFirstPart text faults middle Usage first = first ≡ []
+IsFirstPart text faults middle (Refused number fault) first = first ≡ []
+IsFirstPart text faults middle (Unlinked fault) first = first ≡ []
+IsFirstPart text faults middle (NoFile number) first = first ≡ []
+IsFirstPart text faults middle (Outside Store) first = first ≡ []
+IsFirstPart text faults middle (TooLong (File number)) first = first ≡ []
+IsFirstPart text faults middle NoMemory first = first ≡ []
+IsFirstPart text faults middle (Outside Say) first = (count : ℕ) × (count < length text) × (first ≡ take count text) × Rose faults middle
+IsFirstPart text faults middle status first = first ≡ text
 
--- the addresses of the unit's families in its storage map
-abbrev pub addresses_of : SourceUnit → List ℕ
-addresses_of u = slice_index_or (storage_map (u ∷ [])).homes 0 []
+-- the name of the one segment, where there is one
+abbrev pub first_name : List SourceUnit → Option (List ℕ)
+first_name [] = None
+first_name (u ∷ us) = Some u.name
 
-unfoldable pub map_text : SourceUnit → List ℕ
-map_text u = listing u (layout_of u) (addresses_of u) default_limits
+-- `say` gets the first part, and then the closing line of the status, or a part of that where it failed
+pub record ListsFirst (c : Call) (us : List SourceUnit) (status : Status) : Type 0 where
+  pub first : List ℕ
+  pub middle : ℕ
+  pub is_first : IsFirstPart (map_text us (limits c)) c.before.say_faults middle status first
+  pub later : c.before.say_faults ≤ middle
+  pub closing : Says (after_told c.before.say first) c.after.say middle c.after.say_faults (closing_line c.words (first_name us) status)
 
--- the linked code of the unit
-unfoldable pub image_of : SourceUnit → List ℕ
-image_of u = linked_code (orders_code (unit_orders u (layout_of u))) (addresses_of u) default_limits
-
--- the words that its items and the frame area need
-abbrev pub need_of : SourceUnit → ℕ
-need_of u = (storage_map (u ∷ [])).end + default_limits.frames
-
--- The unit links: there is room for its words and for its code.
-pub record Links (unit : SourceUnit) : Type 0 where
-  pub words : need_of unit ≤ default_limits.area
-  pub code : length (image_of unit) ≤ 65536
-
--- What the image of a unit shows after n instructions. No input is read so far.
-pub record ImageShows (u : SourceUnit) (n : ℕ) (shown : run.Observed) : Type 0 where
-  pub start : State
-  pub is_start : run.IsStart (image_of u) [] start
-  pub shows : run.Shows start [] n shown
-
--- ---- the answers
+-- ---- what is run
 
 -- how a run of so many steps stands that ends with a status
 abbrev pub Tells : (steps : ℕ) → Status → run.End → Type 0
@@ -105,130 +103,95 @@ Tells steps (BadCode offset) end = end ≡ run.Bad offset
 Tells steps (Divided offset) end = end ≡ run.Divided offset
 Tells steps _ end = ⊥
 
--- What a run from a state does to `out`: it gets the output, and the status tells the end; or it failed, after a first part.
-abbrev pub RunShows : State → (steps : ℕ) → (old new : Option (List ℕ)) → (faults faults' : ℕ) → Status → Type 0
-RunShows s steps old new faults faults' (Outside Out) =
-    (n : ℕ) × (shown : run.Observed) × (n ≤ steps) × run.Shows s [] n shown × (new ≡ after_told old shown.output) × Rose faults faults'
-RunShows s steps old new faults faults' status =
-    (shown : run.Observed) × run.Shows s [] steps shown × Tells steps status shown.end × (new ≡ after_told old shown.output) × (faults' ≡ faults)
-
--- what is outside before and after a call: the counts of faults and absences, and what `out` holds
-pub record Outer : Type 0 where
-  pub store_faults : ℕ
-  pub absences : ℕ
-  pub out : Option (List ℕ)
-  pub out_faults : ℕ
-  pub say_faults : ℕ
-
 -- The image ran, `out` got its output, and the status tells its end. No count rose but maybe that of `say`, and not for Ended.
-pub record Ran (file : Told) (steps : ℕ) (before after : Outer) (status : Status) : Type 0 where
-  pub unit : SourceUnit
-  pub compiles : Compiles file unit
-  pub links : Links unit
-  pub shown : run.Observed
-  pub shows : ImageShows unit steps shown
-  pub tells : Tells steps status shown.end
-  pub output : after.out ≡ after_told before.out shown.output
-  pub no_store_fault : after.store_faults ≡ before.store_faults
-  pub no_absence : after.absences ≡ before.absences
-  pub no_out_fault : after.out_faults ≡ before.out_faults
-  pub no_say_fault : status ≡ Ended → after.say_faults ≡ before.say_faults
+pub record Ran (c : Call) (input : List ℕ) (us : List SourceUnit) (n : ℕ) (shown : run.Observed) (status : Status) : Type 0 where
+  pub all : n ≡ c.steps
+  pub shows : ImageShows us (limits c) input n shown
+  pub tells : Tells c.steps status shown.end
+  pub output : c.after.out ≡ after_told c.before.out shown.output
+  pub no_store_fault : c.after.store_faults ≡ c.before.store_faults
+  pub no_absence : c.after.absences ≡ c.before.absences
+  pub no_input_fault : c.after.input_faults ≡ c.before.input_faults
+  pub no_out_fault : c.after.out_faults ≡ c.before.out_faults
+  pub no_say_fault : status ≡ Ended → c.after.say_faults ≡ c.before.say_faults
 
--- `out` failed after a first part of what the image writes within the steps of a run
-pub record OutFailed (file : Told) (steps : ℕ) (before after : Outer) : Type 0 where
-  pub unit : SourceUnit
-  pub compiles : Compiles file unit
-  pub links : Links unit
+-- `out` failed: it got a first part of what the image writes in some number of instructions within those of the run
+pub record OutFailed (c : Call) (input : List ℕ) (us : List SourceUnit) (n : ℕ) (shown : run.Observed) : Type 0 where
+  pub within : n ≤ c.steps
+  pub shows : ImageShows us (limits c) input n shown
+  pub count : ℕ
+  pub output : c.after.out ≡ after_told c.before.out (take count shown.output)
+  pub no_input_fault : c.after.input_faults ≡ c.before.input_faults
+
+-- The run was cut short where the input was asked for: `out` got all that the image writes in the instructions before that one.
+pub record Cut (c : Call) (input : List ℕ) (us : List SourceUnit) (n : ℕ) (shown : run.Observed) : Type 0 where
+  pub within : n < c.steps
+  pub shows : ImageShows us (limits c) input n shown
+  pub running : shown.end ≡ run.Running
+  pub output : c.after.out ≡ after_told c.before.out shown.output
+
+-- `out` gets, and the status tells, what the image shows; and nothing where it did not run
+abbrev pub RunsImage : Call → (input : List ℕ) → (us : List SourceUnit) → (n : ℕ) → (shown : run.Observed) → Status → Type 0
+RunsImage c input us n shown Ended = Ran c input us n shown Ended
+RunsImage c input us n shown (Stopped kind segment line) = Ran c input us n shown (Stopped kind segment line)
+RunsImage c input us n shown (Unfinished ran) = Ran c input us n shown (Unfinished ran)
+RunsImage c input us n shown (BadCode offset) = Ran c input us n shown (BadCode offset)
+RunsImage c input us n shown (Divided offset) = Ran c input us n shown (Divided offset)
+RunsImage c input us n shown (Outside Out) = OutFailed c input us n shown
+RunsImage c input us n shown (Outside Input) = Cut c input us n shown
+RunsImage c input us n shown (TooLong long.Input) = Cut c input us n shown × (input_limit < length input)
+RunsImage c input us n shown status = c.after.out ≡ c.before.out
+
+-- ---- what is read
+
+-- no byte of the input is taken, and the count of its faults stands
+pub record IsUntouched (c : Call) : Type 0 where
+  pub input : c.after.left ≡ c.before.left
+  pub faults : c.after.input_faults ≡ c.before.input_faults
+
+-- what is left of the input where the image ran so many instructions, and maybe tried one more that asks for input
+abbrev pub Leaves : Call → (input : List ℕ) → (us : List SourceUnit) → (n : ℕ) → (shown : run.Observed) → (is_asking : Bool) → Type 0
+Leaves c input us n shown is_asking = ImageReads us (limits c) input n shown c.before.left c.after.left is_asking
+
+-- Bytes are taken ahead of need only where the image asks for input, and then at most 4,096 more than it asked for; none where it did not run.
+abbrev pub ReadsInput : Call → (input : List ℕ) → (us : List SourceUnit) → (n : ℕ) → (shown : run.Observed) → Status → Type 0
+ReadsInput c input us n shown Ended = Leaves c input us n shown false
+ReadsInput c input us n shown (Stopped kind segment line) = Leaves c input us n shown false
+ReadsInput c input us n shown (Unfinished ran) = Leaves c input us n shown false
+ReadsInput c input us n shown (BadCode offset) = Leaves c input us n shown false
+ReadsInput c input us n shown (Divided offset) = Leaves c input us n shown false
+ReadsInput c input us n shown (Outside Out) = (is_asking : Bool) × Leaves c input us n shown is_asking
+ReadsInput c input us n shown (Outside Input) = (is_asking : Bool) × Leaves c input us n shown is_asking
+ReadsInput c input us n shown (TooLong long.Input) = (is_asking : Bool) × Leaves c input us n shown is_asking
+ReadsInput c input us n shown status = IsUntouched c
+
+-- ---- the promise
+
+-- A call that answers with this status, over this input: for the texts of its files and their units, and for the instructions that the image ran and what
+-- showed of them.
+pub record Correct (c : Call) (input : List ℕ) (status : Status) : Type 0 where
+  pub texts : List (List ℕ)
+  pub units : List SourceUnit
   pub instructions : ℕ
-  pub within : instructions ≤ steps
   pub shown : run.Observed
-  pub shows : ImageShows unit instructions shown
-  pub output : after.out ≡ after_told before.out shown.output
-  pub cause : Rose before.out_faults after.out_faults
+  pub have_texts : HaveTexts (told_files c) texts
+  pub have_units : HaveUnits texts units
+  pub comes : Comes c texts units status
+  pub listing_first : ListsFirst c units status
+  pub runs_image : RunsImage c input units instructions shown status
+  pub read_ahead : ReadsInput c input units instructions shown status
+  pub within_limit : status ≢ TooLong long.Input → TakenWithin c.before.left c.after.left
+  pub preserves : AreBytes input → PreservesMeaning (program_of units (limits c)) input instructions shown status
+  pub valid_storage : (us : List SourceUnit) → Compile (told_files c) us → need_of us (limits c) ≤ (limits c).area → ValidStorageMap us (limits c) (storage_map us)
+  pub completes : CompletesRuns c input status
+  pub stays : AllStay c.before.files c.after.files
 
--- The text has this first fault.
-pub record HasLexFault (file : Told) (fault : LexFault) : Type 0 where
-  pub text : List ℕ
-  pub is : Is file text
-  pub within : length text ≤ text_limit
-  pub fails : IsFirstFault Source first_place text fault
+-- for the input that the source tells, or for some bytes where it tells none
+abbrev pub IsCorrect : Call → Status → Type 0
+IsCorrect c status = (input : List ℕ) × IsInput c.before.left input × Correct c input status
 
--- The expansion of its items has this first fault.
-pub record HasMacroFault (file : Told) (fault : MacroFault) : Type 0 where
-  pub items : List Lexeme
-  pub has : HasItems file items
-  pub fails : FailsToExpand items fault
-
--- The expanded items are not of the form that is compiled so far.
-pub record IsNotBuilt (file : Told) : Type 0 where
-  pub expanded : List Lexeme
-  pub has : HasExpanded file expanded
-  pub no_unit : unit_of expanded ≡ None
-
--- The items and the frame area need more words than the data area has.
-pub record NeedsWords (file : Told) (need : ℕ) : Type 0 where
-  pub unit : SourceUnit
-  pub compiles : Compiles file unit
-  pub is : need ≡ need_of unit
-  pub more : default_limits.area < need
-
--- The image has more bytes than the code segment. Then the text has more items than 32 bytes for each and 4,096 for the library leave room for.
-pub record NeedsBytes (file : Told) (bytes : ℕ) : Type 0 where
-  pub unit : SourceUnit
-  pub compiles : Compiles file unit
-  pub words : need_of unit ≤ default_limits.area
-  pub is : bytes ≡ length (image_of unit)
-  pub more : 65536 < bytes
-  pub many_items : 65536 < 32 * length compiles.expanded + 4096
-
--- When each status comes. Two of them never come of one file that is told and one run, so each comes exactly where its cause is.
-abbrev pub Causes : (words : List (List ℕ)) → (file : Told) → (steps : ℕ) → (before after : Outer) → Status → Type 0
-Causes words file steps before after Usage = (IsCommand words → ⊥) × (after.out ≡ before.out)
-Causes words file steps before after (Refused number (Lex fault)) = IsCommand words × (number ≡ 0) × HasLexFault file fault × (after.out ≡ before.out)
-Causes words file steps before after (Refused number (Macro fault)) = IsCommand words × (number ≡ 0) × HasMacroFault file fault × (after.out ≡ before.out)
-Causes words file steps before after (Refused number NotBuilt) = IsCommand words × (number ≡ 0) × IsNotBuilt file × (after.out ≡ before.out)
-Causes words file steps before after (Unlinked (DataTooBig need)) = IsCommand words × NeedsWords file need × (after.out ≡ before.out)
-Causes words file steps before after (Unlinked (CodeTooBig bytes)) = IsCommand words × NeedsBytes file bytes × (after.out ≡ before.out)
-Causes words file steps before after (NoFile number) =
-    IsCommand words × (number ≡ 0) × IsAbsent file × Rose before.absences after.absences × (after.out ≡ before.out)
-Causes words file steps before after (Outside Store) = IsCommand words × Rose before.store_faults after.store_faults × (after.out ≡ before.out)
-Causes words file steps before after (Outside Say) = IsCommand words × Rose before.say_faults after.say_faults × (after.out ≡ before.out)
-Causes words file steps before after (Outside Out) = IsCommand words × OutFailed file steps before after
-Causes words file steps before after NoMemory = IsCommand words × (after.out ≡ before.out)
-Causes words file steps before after (TooLong (File number)) = IsCommand words × (number ≡ 0) × IsLonger file text_limit × (after.out ≡ before.out)
-Causes words file steps before after status = IsCommand words × Ran file steps before after status
-
--- ---- what is said
-
--- the first part of what is said: the map, whole before `out` gets a byte
-abbrev pub IsFirstPart : (file : Told) → Status → (segment : Option (List ℕ)) → (first : List ℕ) → Type 0
-IsFirstPart file Usage segment first = first ≡ []
-IsFirstPart file (Refused number fault) segment first = first ≡ []
-IsFirstPart file (Unlinked fault) segment first = first ≡ []
-IsFirstPart file (NoFile number) segment first = first ≡ []
-IsFirstPart file (Outside Store) segment first = first ≡ []
-IsFirstPart file (TooLong long) segment first = first ≡ []
-IsFirstPart file NoMemory segment first = first ≡ []
-IsFirstPart file (Outside Say) segment first = (u : SourceUnit) × (n : ℕ) × Compiles file u × (first ≡ take n (map_text u))
-IsFirstPart file status segment first = (u : SourceUnit) × Compiles file u × (first ≡ map_text u) × (segment ≡ Some u.name)
-
--- `say` gets the first part, and then the closing line, or a part of that where it failed
-pub record SaysAll (words : List (List ℕ)) (file : Told) (old new : Option (List ℕ)) (faults faults' : ℕ) (status : Status) : Type 0 where
-  pub first : List ℕ
-  pub segment : Option (List ℕ)
-  pub is_first : IsFirstPart file status segment first
-  pub middle : ℕ
-  pub later : faults ≤ middle
-  pub closing : Says (after_told old first) new middle faults' (closing_line words segment status)
-
--- the first part was said, and nothing else so far
-abbrev pub SaysFirst : (file : Told) → (old new : Option (List ℕ)) → Status → (segment : Option (List ℕ)) → Type 0
-SaysFirst file old new status segment = (first : List ℕ) × IsFirstPart file status segment first × (new ≡ after_told old first)
-
-abbrev pub outer : (store_faults absences : ℕ) → (out : Option (List ℕ)) → (out_faults say_faults : ℕ) → Outer
-outer store_faults absences out out_faults say_faults =
-    record { store_faults = store_faults; absences = absences; out = out; out_faults = out_faults; say_faults = say_faults }
-
--- the storage map of each unit of the file that has room for its words is valid
-abbrev pub CompilesValid : (file : Told) → Type 0
-CompilesValid file = (u : SourceUnit) → Compiles file u → need_of u ≤ default_limits.area → ValidStorageMap (u ∷ []) default_limits (storage_map (u ∷ []))
+-- Two statuses never come of one call, where the store tells its files, no count rose, and memory was found; and where one is TooLong(Input), the source its input.
+abbrev pub HasOneStatus : Type 0
+HasOneStatus =
+    (c : Call) (input : List ℕ) (a b : Status) (found : List (Option (List ℕ))) → told_files c ≡ map Some found → NoFault c → a ≢ NoMemory → b ≢ NoMemory
+    → ((a ≡ TooLong long.Input) ⊎ (b ≡ TooLong long.Input) → (told : List ℕ) × (c.before.left ≡ Some told)) → Correct c input a → Correct c input b → a ≡ b

@@ -2,5 +2,9 @@ pub mod Said
 pub mod Closing
 pub mod Listing
 pub mod ReferenceImage
-pub mod Correct
+pub mod Texts
+pub mod Images
+pub mod Calls
 pub mod Meaning
+pub mod Correct
+pub mod Going

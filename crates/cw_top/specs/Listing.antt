@@ -31,25 +31,24 @@ abbrev pub item_line : (segment : List ℕ) → (address : ℕ) → Item → Lis
 item_line segment address i =
     text_of (five_digits address ∷ codes " " ∷ five_digits i.words ∷ codes " " ∷ segment ∷ codes "." ∷ name_or_none i.name ∷ codes " " ∷ kind_name i.kind ∷ codes "\n" ∷ [])
 
--- the address of an item, where the families stand at these addresses
-abbrev pub item_address : Layout → (addresses : List ℕ) → (item : ℕ) → ℕ
-item_address l addresses k =
-    let home = slice_index_or l.homes k (0, 0) in
-    slice_index addresses home.0 + home.1
-
 abbrev pub line_of : (segment : List ℕ) → (address : ℕ) → Option Item → List ℕ
 line_of segment address None = []
 line_of segment address (Some i) = item_line segment address i
 
--- the lines of the first n items
-abbrev pub item_lines : SourceUnit → Layout → (addresses : List ℕ) → ℕ → List ℕ
-item_lines u l addresses zero = []
-item_lines u l addresses (suc n) =
-    item_lines u l addresses n ++ line_of u.name (item_address l addresses n) (slice_get u.items n)
+-- the lines of the first n items, which stand at these addresses
+abbrev pub item_lines : (address : ℕ → ℕ) → SourceUnit → ℕ → List ℕ
+item_lines address u zero = []
+item_lines address u (suc n) = item_lines address u n ++ line_of u.name (address n) (slice_get u.items n)
 
 -- where the frame area begins, and its words
 abbrev pub frames_line : Limits → List ℕ
 frames_line limits = five_digits (limits.area - limits.frames) ++ codes " " ++ five_digits limits.frames ++ codes " FRAMES\n"
 
-abbrev pub listing : SourceUnit → Layout → (addresses : List ℕ) → Limits → List ℕ
-listing u l addresses limits = item_lines u l addresses (length u.items) ++ frames_line limits
+abbrev pub listing : (address : ℕ → ℕ) → SourceUnit → Limits → List ℕ
+listing address u limits = item_lines address u (length u.items) ++ frames_line limits
+
+-- where an item stands, by the layout and the addresses of its families, none of which is a frame's
+abbrev pub place_in : Layout → (addresses : List ℕ) → (item : ℕ) → ℕ
+place_in l addresses item =
+    let home = slice_index_or l.homes item (0, 0) in
+    slice_index addresses home.0 + home.1

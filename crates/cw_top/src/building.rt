@@ -1,14 +1,17 @@
 // From a unit to its storage map and its image.
-ghost use Rattle.std.specs.Prelude.{◌≡◌, ◌≤◌, ◌<◌, [], length, IfOk};
+ghost use Rattle.std.specs.Prelude.{◌≡◌, ◌≤◌, ◌<◌, [], ◌∷◌, length, IfOk};
 ghost use Rattle.std.specs.List.{All};
 ghost use Rattle.cw_unit.specs.OwnSingles.{IsOwnSingle};
 ghost use Rattle.cw_unit.specs.Storage.{layout_of};
-ghost use Rattle.cw_top.specs.Correct.{default_limits, addresses_of, need_of, image_of};
+ghost use Rattle.cw_top.specs.Calls.{default_limits};
+ghost use Rattle.cw_top.specs.Images.{addresses_of, need_of, image_of};
+ghost use Rattle.cw_gen.specs.Built.{AllBuilt};
 
 use crate::image::link;
 use crate::storage::{own_addresses, own_layout};
+use cw_assemble::assemble;
+use cw_gen::laws::order_words;
 use cw_gen::orders;
-use cw_tmpl::assemble;
 use cw_unit::laws::own_singles;
 use cw_unit::layout::{Layout, Limits};
 use cw_unit::unit::Unit;
@@ -39,12 +42,14 @@ pub(crate) fn build(alloc: Global, unit: &Unit) -> Result<Built, NoMemory>
     requires own { All IsOwnSingle unit.now.items }
     requires few { length unit.now.items ≤ 65535 }
     requires no_procedures { unit.now.procs ≡ [] }
+    requires built { AllBuilt (unit.now ∷ []) }
     ensures layout { IfOk result (λ built. built.layout ≡ layout_of unit.now) }
     ensures addresses { IfOk result (λ built. built.addresses ≡ addresses_of unit.now) }
-    ensures code { IfOk result (λ built. built.code.items ≡ image_of unit.now) }
+    ensures code { IfOk result (λ built. built.code.items ≡ image_of (unit.now ∷ []) default_limits) }
     ensures some { IfOk result (λ built. 0 < length built.code.items) }
 {
     own_singles();
+    order_words();
     let items = unit.items.as_slice().len() as u16;
     let layout = own_layout(alloc, items)?;
     let addresses = own_addresses(alloc, items)?;
@@ -62,7 +67,7 @@ pub(crate) fn build(alloc: Global, unit: &Unit) -> Result<Built, NoMemory>
 pub(crate) fn need_of(unit: &Unit) -> u64
     requires own { All IsOwnSingle unit.now.items }
     requires few { length unit.now.items ≤ 65535 }
-    ensures { result ≡ need_of unit.now }
+    ensures { result ≡ need_of (unit.now ∷ []) default_limits }
 {
     own_singles();
     unit.items.as_slice().len() as u64 + u64::from(default_limits().frames)

@@ -1,7 +1,7 @@
 // The words of the command. So far they are `go` and a file.
 ghost use Rattle.std.specs.Prelude.{◌≡◌, map, string_bytes, IfSome, IsSome, IsNone};
 ghost use Rattle.cw_top.specs.Closing.{file_name};
-ghost use Rattle.cw_top.specs.Correct.{IsCommand};
+ghost use Rattle.cw_top.specs.Calls.{IsCommand};
 
 /// The file of the command, where the words are one.
 pub(crate) fn file_of(words: &[String]) -> Option<&str>

@@ -1,27 +1,29 @@
 // The action `go`: reads and compiles a file, writes the storage map, and runs the image.
-ghost use Rattle.std.specs.Prelude.{◌≡◌, ◌<◌, ◌≤◌, ℕ, List, Option, Some, None, [], length, map, string_bytes};
+ghost use Rattle.std.specs.Prelude.{◌≡◌, ◌<◌, ◌≤◌, Some, None, [], ◌∷◌, length, map, string_bytes};
 ghost use Rattle.std.specs.List.{All};
 ghost use Rattle.cw_unit.specs.OwnSingles.{IsOwnSingle};
-ghost use Rattle.cw_io.specs.File.{Told, Is, AllStay};
+ghost use Rattle.cw_gen.specs.Built.{AllBuilt};
+ghost use Rattle.cw_io.specs.File.{AllStay};
 ghost use Rattle.cw_lex.specs.Lexical.{view};
 ghost use Rattle.cw_macro.specs.Premises.{AreOfText};
 ghost use Rattle.cw_top.specs.Closing.{file_name};
 ghost use Rattle.cw_unit.specs.Storage.{layout_of};
 ghost use Rattle.cw_i86.specs.MachineRun.{IsStart};
-ghost use Rattle.cw_top.specs.Correct.{IsCommand, HasItems, HasExpanded, Compiles, Links, Causes, SaysFirst, outer, default_limits, addresses_of, need_of, image_of};
+ghost use Rattle.cw_top.specs.Calls.{default_limits};
+ghost use Rattle.cw_top.specs.Images.{addresses_of, need_of, image_of, Links};
+ghost use Rattle.cw_top.specs.Going.{status_of, streams_at, counts_at, UnitGoes, ExpandedGoes, ItemsGo, TextGoes, CommandGoes};
 
 use crate::building::{Built, build, default_limits, need_of};
 use crate::command::file_of;
-use crate::laws::image_sizes;
 use crate::listing::write_listing;
-use crate::running::run_image;
 use crate::status::{LinkFault, Long, Refused, Status, Which};
 use cw_cpu86::Cpu;
 use cw_form::laws::own_singles;
 use cw_form::read_unit;
-use cw_io::{FileFault, Sink, Store, read_file};
+use cw_io::{FileFault, Sink, Source, Store, read_file};
 use cw_lex::{LexFault, Token, lex};
 use cw_macro::{MacroFault, expand};
+use cw_ports::{ImageEnd, run_image};
 use cw_unit::unit::Unit;
 use cw_word::Name;
 use std::alloc::Global;
@@ -52,72 +54,93 @@ impl Answer {
     }
 }
 
+// The status of a run of so many instructions that ended so.
+fn status_of(end: ImageEnd, steps: u64) -> Status
+    ensures { result ≡ status_of steps end }
+{
+    match end {
+        ImageEnd::Ended => Status::Ended,
+        ImageEnd::Stopped {
+            kind,
+            segment,
+            line,
+        } => Status::Stopped {
+            kind,
+            segment,
+            line,
+        },
+        ImageEnd::Unfinished => Status::Unfinished { steps },
+        ImageEnd::BadCode { offset } => Status::BadCode { offset },
+        ImageEnd::Divided { offset } => Status::Divided { offset },
+        ImageEnd::InputFault => Status::Outside(Which::Input),
+        ImageEnd::OutFault => Status::Outside(Which::Out),
+        ImageEnd::TooLong => Status::TooLong(Long::Input),
+    }
+}
+
 // Writes the storage map of a unit, and runs its image, which is loaded.
-fn show_and_run<O: Sink, S: Sink>(
+fn show_and_run<I: Source, O: Sink, S: Sink>(
     cpu: &mut Cpu,
     unit: &Unit,
     built: &Built,
     steps: u64,
+    input: &mut I,
     out: &mut O,
     say: &mut S,
 ) -> Status
     requires layout { built.now.layout ≡ layout_of unit.now }
     requires addresses { built.now.addresses ≡ addresses_of unit.now }
-    requires links { Links unit.now }
-    requires start { IsStart (image_of unit.now) [] cpu.old }
-    ensures causes { (words : List (List ℕ)) (file : Told) (f a : ℕ) → IsCommand words → Compiles file unit.now → Causes words file steps (outer f a (O.held out.old) (O.faults out.old) (S.faults say.old)) (outer f a (O.held out.new) (O.faults out.new) (S.faults say.new)) result }
-    ensures says { (file : Told) → Compiles file unit.now → SaysFirst file (S.held say.old) (S.held say.new) result (Some unit.now.name) }
-    ensures later { S.faults say.old ≤ S.faults say.new }
+    requires links { Links (unit.now ∷ []) default_limits }
+    requires start { IsStart (image_of (unit.now ∷ []) default_limits) [] cpu.old }
+    ensures { UnitGoes unit.now steps (streams_at (I.left input.old) (I.faults input.old) (O.held out.old) (O.faults out.old) (S.held say.old) (S.faults say.old)) (streams_at (I.left input.new) (I.faults input.new) (O.held out.new) (O.faults out.new) (S.held say.new) (S.faults say.new)) result }
 {
     let limits = default_limits();
     let addresses = built.addresses.as_slice();
     match write_listing(say, unit, &built.layout, addresses, &limits) {
-        Ok(()) => run_image(cpu, out, steps),
+        Ok(()) => status_of(run_image(cpu, input, out, steps), steps),
         Err(_) => Status::Outside(Which::Say),
     }
 }
 
 // Loads the image of a unit, writes its storage map and runs it.
-fn load_and_run<O: Sink, S: Sink>(
+fn load_and_run<I: Source, O: Sink, S: Sink>(
     alloc: Global,
     unit: &Unit,
     built: &Built,
     steps: u64,
+    input: &mut I,
     out: &mut O,
     say: &mut S,
 ) -> Status
     requires layout { built.now.layout ≡ layout_of unit.now }
     requires addresses { built.now.addresses ≡ addresses_of unit.now }
-    requires code { built.now.code.items ≡ image_of unit.now }
+    requires code { built.now.code.items ≡ image_of (unit.now ∷ []) default_limits }
     requires some { 0 < length built.now.code.items }
-    requires links { Links unit.now }
-    ensures causes { (words : List (List ℕ)) (file : Told) (f a : ℕ) → IsCommand words → Compiles file unit.now → Causes words file steps (outer f a (O.held out.old) (O.faults out.old) (S.faults say.old)) (outer f a (O.held out.new) (O.faults out.new) (S.faults say.new)) result }
-    ensures says { (file : Told) → Compiles file unit.now → SaysFirst file (S.held say.old) (S.held say.new) result (Some unit.now.name) }
-    ensures later { S.faults say.old ≤ S.faults say.new }
+    requires links { Links (unit.now ∷ []) default_limits }
+    ensures { UnitGoes unit.now steps (streams_at (I.left input.old) (I.faults input.old) (O.held out.old) (O.faults out.old) (S.held say.old) (S.faults say.old)) (streams_at (I.left input.new) (I.faults input.new) (O.held out.new) (O.faults out.new) (S.held say.new) (S.faults say.new)) result }
 {
     let Ok(mut cpu) = Cpu::start(alloc, built.code.as_slice(), &[]) else {
         return Status::NoMemory;
     };
-    show_and_run(&mut cpu, unit, built, steps, out, say)
+    show_and_run(&mut cpu, unit, built, steps, input, out, say)
 }
 
 // Builds a unit that has room for its words, links it and runs its image.
-fn build_and_run<O: Sink, S: Sink>(
+fn build_and_run<I: Source, O: Sink, S: Sink>(
     alloc: Global,
     unit: &Unit,
     steps: u64,
+    input: &mut I,
     out: &mut O,
     say: &mut S,
 ) -> Status
     requires own { All IsOwnSingle unit.now.items }
     requires few { length unit.now.items ≤ 65535 }
     requires no_procedures { unit.now.procs ≡ [] }
-    requires words { need_of unit.now ≤ default_limits.area }
-    ensures causes { (words : List (List ℕ)) (file : Told) (f a : ℕ) → IsCommand words → Compiles file unit.now → Causes words file steps (outer f a (O.held out.old) (O.faults out.old) (S.faults say.old)) (outer f a (O.held out.new) (O.faults out.new) (S.faults say.new)) result }
-    ensures says { (file : Told) → Compiles file unit.now → SaysFirst file (S.held say.old) (S.held say.new) result (Some unit.now.name) }
-    ensures later { S.faults say.old ≤ S.faults say.new }
+    requires built { AllBuilt (unit.now ∷ []) }
+    requires words { need_of (unit.now ∷ []) default_limits ≤ default_limits.area }
+    ensures { UnitGoes unit.now steps (streams_at (I.left input.old) (I.faults input.old) (O.held out.old) (O.faults out.old) (S.held say.old) (S.faults say.old)) (streams_at (I.left input.new) (I.faults input.new) (O.held out.new) (O.faults out.new) (S.held say.new) (S.faults say.new)) result }
 {
-    image_sizes();
     let Ok(built) = build(alloc, unit) else {
         return Status::NoMemory;
     };
@@ -127,47 +150,47 @@ fn build_and_run<O: Sink, S: Sink>(
             bytes: bytes as u64,
         });
     }
-    load_and_run(alloc, unit, &built, steps, out, say)
+    load_and_run(alloc, unit, &built, steps, input, out, say)
 }
 
 // Links a unit and runs its image.
-fn run_unit<O: Sink, S: Sink>(
+fn run_unit<I: Source, O: Sink, S: Sink>(
     alloc: Global,
     unit: &Unit,
     steps: u64,
+    input: &mut I,
     out: &mut O,
     say: &mut S,
 ) -> Status
     requires own { All IsOwnSingle unit.now.items }
     requires few { length unit.now.items ≤ 65535 }
     requires no_procedures { unit.now.procs ≡ [] }
-    ensures causes { (words : List (List ℕ)) (file : Told) (f a : ℕ) → IsCommand words → Compiles file unit.now → Causes words file steps (outer f a (O.held out.old) (O.faults out.old) (S.faults say.old)) (outer f a (O.held out.new) (O.faults out.new) (S.faults say.new)) result }
-    ensures says { (file : Told) → Compiles file unit.now → SaysFirst file (S.held say.old) (S.held say.new) result (Some unit.now.name) }
-    ensures later { S.faults say.old ≤ S.faults say.new }
+    requires built { AllBuilt (unit.now ∷ []) }
+    ensures { UnitGoes unit.now steps (streams_at (I.left input.old) (I.faults input.old) (O.held out.old) (O.faults out.old) (S.held say.old) (S.faults say.old)) (streams_at (I.left input.new) (I.faults input.new) (O.held out.new) (O.faults out.new) (S.held say.new) (S.faults say.new)) result }
 {
     let need = need_of(unit);
     if need > u64::from(default_limits().area) {
         return Status::Unlinked(LinkFault::DataTooBig { need });
     }
-    build_and_run(alloc, unit, steps, out, say)
+    build_and_run(alloc, unit, steps, input, out, say)
 }
 
 // Compiles expanded items and runs them.
-fn run_expanded<O: Sink, S: Sink>(
+fn run_expanded<I: Source, O: Sink, S: Sink>(
     alloc: Global,
     items: &[Token<'_>],
     steps: u64,
+    input: &mut I,
     out: &mut O,
     say: &mut S,
 ) -> Answer
-    ensures causes { (words : List (List ℕ)) (file : Told) (f a : ℕ) → IsCommand words → HasExpanded file (map view items.now) → Causes words file steps (outer f a (O.held out.old) (O.faults out.old) (S.faults say.old)) (outer f a (O.held out.new) (O.faults out.new) (S.faults say.new)) result.status }
-    ensures says { (file : Told) → HasExpanded file (map view items.now) → SaysFirst file (S.held say.old) (S.held say.new) result.status result.segment }
-    ensures later { S.faults say.old ≤ S.faults say.new }
+    ensures { ExpandedGoes (map view items.now) steps (streams_at (I.left input.old) (I.faults input.old) (O.held out.old) (O.faults out.old) (S.held say.old) (S.faults say.old)) (streams_at (I.left input.new) (I.faults input.new) (O.held out.new) (O.faults out.new) (S.held say.new) (S.faults say.new)) result.status result.segment }
 {
     own_singles();
+    cw_form::laws::built();
     match read_unit(alloc, items) {
         Ok(Some(unit)) => Answer {
-            status: run_unit(alloc, &unit, steps, out, say),
+            status: run_unit(alloc, &unit, steps, input, out, say),
             segment: Some(unit.name),
         },
         Ok(None) => Answer::of(Status::Refused {
@@ -179,20 +202,19 @@ fn run_expanded<O: Sink, S: Sink>(
 }
 
 // Expands the items of a text, compiles and runs them.
-fn run_items<O: Sink, S: Sink>(
+fn run_items<I: Source, O: Sink, S: Sink>(
     alloc: Global,
     items: &[Token<'_>],
     steps: u64,
+    input: &mut I,
     out: &mut O,
     say: &mut S,
 ) -> Answer
     requires { AreOfText (map view items.now) }
-    ensures causes { (words : List (List ℕ)) (file : Told) (f a : ℕ) → IsCommand words → HasItems file (map view items.now) → Causes words file steps (outer f a (O.held out.old) (O.faults out.old) (S.faults say.old)) (outer f a (O.held out.new) (O.faults out.new) (S.faults say.new)) result.status }
-    ensures says { (file : Told) → HasItems file (map view items.now) → SaysFirst file (S.held say.old) (S.held say.new) result.status result.segment }
-    ensures later { S.faults say.old ≤ S.faults say.new }
+    ensures { ItemsGo (map view items.now) steps (streams_at (I.left input.old) (I.faults input.old) (O.held out.old) (O.faults out.old) (S.held say.old) (S.faults say.old)) (streams_at (I.left input.new) (I.faults input.new) (O.held out.new) (O.faults out.new) (S.held say.new) (S.faults say.new)) result.status result.segment }
 {
     match expand(alloc, items) {
-        Ok(expanded) => run_expanded(alloc, expanded.as_slice(), steps, out, say),
+        Ok(expanded) => run_expanded(alloc, expanded.as_slice(), steps, input, out, say),
         Err(MacroFault::NoMemory) => Answer::of(Status::NoMemory),
         Err(fault) => Answer::of(Status::Refused {
             file: 0,
@@ -202,20 +224,19 @@ fn run_items<O: Sink, S: Sink>(
 }
 
 // Compiles a text and runs it.
-fn run_text<O: Sink, S: Sink>(
+fn run_text<I: Source, O: Sink, S: Sink>(
     alloc: Global,
     text: &[u8],
     steps: u64,
+    input: &mut I,
     out: &mut O,
     say: &mut S,
 ) -> Answer
     requires within { length text.now ≤ 1048576 }
-    ensures causes { (words : List (List ℕ)) (file : Told) (f a : ℕ) → IsCommand words → Is file text.now → Causes words file steps (outer f a (O.held out.old) (O.faults out.old) (S.faults say.old)) (outer f a (O.held out.new) (O.faults out.new) (S.faults say.new)) result.status }
-    ensures says { (file : Told) → Is file text.now → SaysFirst file (S.held say.old) (S.held say.new) result.status result.segment }
-    ensures later { S.faults say.old ≤ S.faults say.new }
+    ensures { TextGoes text.now steps (streams_at (I.left input.old) (I.faults input.old) (O.held out.old) (O.faults out.old) (S.held say.old) (S.faults say.old)) (streams_at (I.left input.new) (I.faults input.new) (O.held out.new) (O.faults out.new) (S.held say.new) (S.faults say.new)) result.status result.segment }
 {
     match lex(alloc, text) {
-        Ok(items) => run_items(alloc, items.as_slice(), steps, out, say),
+        Ok(items) => run_items(alloc, items.as_slice(), steps, input, out, say),
         Err(LexFault::NoMemory) => Answer::of(Status::NoMemory),
         Err(fault) => Answer::of(Status::Refused {
             file: 0,
@@ -225,24 +246,23 @@ fn run_text<O: Sink, S: Sink>(
 }
 
 /// The action `go`, but for the closing line.
-pub(crate) fn go<F: Store, O: Sink, S: Sink>(
+pub(crate) fn go<F: Store, I: Source, O: Sink, S: Sink>(
     alloc: Global,
     words: &[String],
     files: &mut F,
     steps: u64,
+    input: &mut I,
     out: &mut O,
     say: &mut S,
 ) -> Answer
-    ensures causes { Causes (map string_bytes words.now) (F.file files.old (file_name (map string_bytes words.now) 0)) steps (outer (F.faults files.old) (F.absences files.old) (O.held out.old) (O.faults out.old) (S.faults say.old)) (outer (F.faults files.new) (F.absences files.new) (O.held out.new) (O.faults out.new) (S.faults say.new)) result.status }
-    ensures says { SaysFirst (F.file files.old (file_name (map string_bytes words.now) 0)) (S.held say.old) (S.held say.new) result.status result.segment }
-    ensures later { S.faults say.old ≤ S.faults say.new }
+    ensures goes { CommandGoes (map string_bytes words.now) (F.file files.old (file_name (map string_bytes words.now) 0)) (counts_at (F.faults files.old) (F.absences files.old)) (counts_at (F.faults files.new) (F.absences files.new)) steps (streams_at (I.left input.old) (I.faults input.old) (O.held out.old) (O.faults out.old) (S.held say.old) (S.faults say.old)) (streams_at (I.left input.new) (I.faults input.new) (O.held out.new) (O.faults out.new) (S.held say.new) (S.faults say.new)) result.status result.segment }
     ensures files_stay { AllStay (F.file files.old) (F.file files.new) }
 {
     let Some(name) = file_of(words) else {
         return Answer::of(Status::Usage);
     };
     match read_file(alloc, files, name, TEXT_LIMIT) {
-        Ok(text) => run_text(alloc, text.as_slice(), steps, out, say),
+        Ok(text) => run_text(alloc, text.as_slice(), steps, input, out, say),
         Err(FileFault::Missing) => Answer::of(Status::NoFile { file: 0 }),
         Err(FileFault::Failed) => Answer::of(Status::Outside(Which::Store)),
         Err(FileFault::TooLong) => Answer::of(Status::TooLong(Long::File(0))),

@@ -1,7 +1,7 @@
 // The line that closes what is told of a run.
 ghost use Rattle.std.specs.Prelude.{◌≡◌, ◌++◌, map, string_bytes, option_map, decimal, codes};
 ghost use Rattle.cw_top.specs.Said.{Writes};
-ghost use Rattle.cw_top.specs.Closing.{closing_line, file_name, fault_line, lexical_line, expansion_line, refusal_line, link_line, stop_name, name_or_number, segment_name};
+ghost use Rattle.cw_top.specs.Closing.{closing_line, file_name, fault_line, lexical_line, expansion_line, refusal_line, link_line, long_name, stop_name, name_or_number, segment_name};
 
 use crate::say::{write_line, write_piece};
 use crate::status::{LinkFault, Long, Refused, Status};
@@ -92,6 +92,15 @@ fn write_unlinked<S: Sink>(say: &mut S, fault: &LinkFault) -> Result<(), Failed>
     }
 }
 
+fn write_too_long<S: Sink>(say: &mut S, words: &[String], long: &Long) -> Result<(), Failed>
+    ensures { Writes (S.held say.old) (S.held say.new) (S.faults say.old) (S.faults say.new) (codes "too long: " ++ long_name (map string_bytes words.now) long.now ++ codes "\n") result }
+{
+    match long {
+        Long::File(file) => write_name(say, b"too long: ", file_name(words, *file)),
+        Long::Input => write_name(say, b"too long: ", b"input"),
+    }
+}
+
 /// Writes the line that closes what is told of a run.
 pub(crate) fn write_last<S: Sink>(
     say: &mut S,
@@ -116,9 +125,7 @@ pub(crate) fn write_last<S: Sink>(
         Status::NoFile { file } => write_name(say, b"no file: ", file_name(words, *file)),
         Status::Outside(which) => write_name(say, b"fault: ", which.name()),
         Status::NoMemory => write_piece(say, b"no memory\n"),
-        Status::TooLong(Long::File(file)) => {
-            write_name(say, b"too long: ", file_name(words, *file))
-        }
+        Status::TooLong(long) => write_too_long(say, words, long),
         Status::BadCode { offset } => write_number(say, b"bad code: ", u64::from(*offset)),
         Status::Divided { offset } => write_number(say, b"divided: ", u64::from(*offset)),
     }
@@ -135,6 +142,7 @@ fn stop_name(kind: u8) -> Option<&'static [u8]>
         4 => Some(b"Address"),
         5 => Some(b"Frames"),
         6 => Some(b"Depth"),
+        7 => Some(b"Bounds"),
         _ => None,
     }
 }

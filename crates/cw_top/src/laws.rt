@@ -1,14 +1,15 @@
-// The size of an image, and what a call does by the meaning of its text.
-ghost use Rattle.std.specs.Prelude.{◌≡◌, ◌+◌, ◌*◌, ◌≤◌, ℕ, List, Some, length};
-ghost use Rattle.cw_io.specs.File.{Told};
+//! What a call promises, from how it goes; and that no two statuses come of one call.
+ghost use Rattle.std.specs.Prelude.{◌≡◌, ◌+◌, ◌*◌, ◌≤◌, ℕ, List, Option, Some, [], ◌∷◌, length};
 ghost use Rattle.cw_lex.specs.Lexical.{Lexeme};
 ghost use Rattle.cw_unit.specs.declared.unit.Unit.{Unit as SourceUnit};
 ghost use Rattle.cw_form.specs.Grammar.{unit_of};
-ghost use Rattle.cw_top.specs.Correct.{Outer, Causes, image_of};
-ghost use Rattle.cw_top.specs.Meaning.{PreservesMeaning, CompletesRuns};
+ghost use Rattle.cw_top.specs.Calls.{Call, default_limits};
+ghost use Rattle.cw_top.specs.Images.{image_of};
+ghost use Rattle.cw_top.specs.Correct.{IsCorrect, HasOneStatus};
+ghost use Rattle.cw_top.specs.Going.{Streams, Goes, Closes};
 ghost use Rattle.cw_top.specs.declared.status.Status.{Status};
 
-use cw_cpu86::laws::one_observation;
+use cw_cpu86::laws::{one_observation, one_start};
 use cw_form::laws::{built, own_singles, shallow, well_formed};
 use cw_form::sizes::code_sizes;
 use cw_lex::laws::lexical_structure;
@@ -20,18 +21,17 @@ use cw_unit::laws::own_singles as own_storage;
 
 /// The image of a unit has at most 32 bytes for each item of its text, and 4,096 for the library.
 pub(crate) fn image_sizes()
-    ensures { (items : List Lexeme) (u : SourceUnit) → unit_of items ≡ Some u → length (image_of u) ≤ 32 * length items + 4096 }
+    ensures { (items : List Lexeme) (u : SourceUnit) → unit_of items ≡ Some u → length (image_of (u ∷ []) default_limits) ≤ 32 * length items + 4096 }
 {
     code_sizes();
     sizes();
 }
 
-/// Where each status has its cause, what was written and told is what the source means, and a text that compiles and links runs to
-/// its end or to a stop, if its meaning does in time.
-pub(crate) fn means()
-    ensures preserves { (words : List (List ℕ)) (file : Told) (steps : ℕ) (before after : Outer) (status : Status) → Causes words file steps before after status → PreservesMeaning file steps before after status }
-    ensures completes { (words : List (List ℕ)) (file : Told) (steps : ℕ) (before after : Outer) (status : Status) → Causes words file steps before after status → CompletesRuns words file steps before after status }
+/// A call that goes so, and is closed so, keeps its promise.
+pub(crate) fn promises()
+    ensures { (c : Call) (between : Streams) (segment : Option (List ℕ)) (status : Status) → Goes c between segment status → Closes c between segment status → IsCorrect c status }
 {
+    image_sizes();
     own_singles();
     built();
     well_formed();
@@ -41,6 +41,17 @@ pub(crate) fn means()
     operands_within_depth();
     filling();
     preservation();
+    one_observation();
+    lexical_structure();
+    macro_expansion();
+}
+
+/// Two statuses never come of one call, where the store tells its files, no count rose, and memory was found; and where one is
+/// TooLong(Input), the source its input.
+pub fn one_status()
+    ensures { HasOneStatus }
+{
+    one_start();
     one_observation();
     lexical_structure();
     macro_expansion();

@@ -1,7 +1,7 @@
 // The storage map as text, written line by line without memory.
 ghost use Rattle.std.specs.Prelude.{◌≡◌, ◌++◌, ◌∷◌, [], ◌+◌, ◌≤◌, length, slice_index, slice_index_or, codes};
 ghost use Rattle.cw_top.specs.Said.{Writes, text_of};
-ghost use Rattle.cw_top.specs.Listing.{digit, five_digits, kind_name, name_or_none, item_line, item_lines, item_address, frames_line, listing};
+ghost use Rattle.cw_top.specs.Listing.{digit, five_digits, kind_name, name_or_none, item_line, item_lines, frames_line, listing, place_in};
 
 use crate::say::write_line;
 use cw_io::{Failed, Sink};
@@ -98,8 +98,8 @@ fn write_frames_parts<S: Sink>(say: &mut S, at: &[u8], words: &[u8]) -> Result<(
 }
 
 // The address of an item, where the families stand at these addresses.
-fn item_address(layout: &Layout, addresses: &[u16], item: usize) -> u32
-    ensures { result ≡ item_address layout.now addresses.now item }
+fn place_in(layout: &Layout, addresses: &[u16], item: usize) -> u32
+    ensures { result ≡ place_in layout.now addresses.now item }
 {
     let (family, offset) = match layout.homes.as_slice().get(item) {
         Some((family, offset)) => (*family, *offset),
@@ -118,11 +118,11 @@ fn write_items<S: Sink>(
     layout: &Layout,
     addresses: &[u16],
 ) -> Result<(), Failed>
-    ensures { Writes (S.held say.old) (S.held say.new) (S.faults say.old) (S.faults say.new) (item_lines unit.now layout.now addresses.now (length unit.now.items)) result }
+    ensures { Writes (S.held say.old) (S.held say.new) (S.faults say.old) (S.faults say.new) (item_lines (place_in layout.now addresses.now) unit.now (length unit.now.items)) result }
 {
     let items = unit.items.as_slice();
     for k in 0..items.len() {
-        let address = item_address(layout, addresses, k);
+        let address = place_in(layout, addresses, k);
         if let Err(failed) = write_item(say, &unit.name, address, &items[k]) {
             return Err(failed);
         }
@@ -139,7 +139,7 @@ pub(crate) fn write_listing<S: Sink>(
     limits: &Limits,
 ) -> Result<(), Failed>
     requires { limits.now.frames ≤ limits.now.area }
-    ensures { Writes (S.held say.old) (S.held say.new) (S.faults say.old) (S.faults say.new) (listing unit.now layout.now addresses.now limits.now) result }
+    ensures { Writes (S.held say.old) (S.held say.new) (S.faults say.old) (S.faults say.new) (listing (place_in layout.now addresses.now) unit.now limits.now) result }
 {
     if let Err(failed) = write_items(say, unit, layout, addresses) {
         return Err(failed);

@@ -54,6 +54,7 @@ pub enum LinkFault {
 #[derive(Clone, Copy, Debug, PartialEq, Eq)]
 pub enum Which {
     Store,
+    Input,
     Out,
     Say,
 }
@@ -62,6 +63,7 @@ pub enum Which {
 #[derive(Clone, Copy, Debug, PartialEq, Eq)]
 pub enum Long {
     File(u16),
+    Input,
 }
 
 impl Status {
@@ -98,6 +100,7 @@ impl Which {
     {
         match self {
             Which::Store => b"store",
+            Which::Input => b"input",
             Which::Out => b"out",
             Which::Say => b"say",
         }

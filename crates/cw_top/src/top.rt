@@ -1,17 +1,13 @@
 // The call that the program makes.
-ghost use Rattle.std.specs.Prelude.{◌≡◌, map, string_bytes};
-ghost use Rattle.cw_io.specs.File.{AllStay};
-ghost use Rattle.cw_top.specs.Closing.{file_name};
-ghost use Rattle.cw_top.specs.Correct.{Causes, SaysAll, outer, CompilesValid, run_steps};
-ghost use Rattle.cw_top.specs.Meaning.{PreservesMeaning, CompletesRuns};
+ghost use Rattle.std.specs.Prelude.{map, string_bytes};
+ghost use Rattle.cw_top.specs.Calls.{call_of, surroundings_of, run_steps};
+ghost use Rattle.cw_top.specs.Correct.{IsCorrect};
 
 use crate::go::go;
 use crate::last::write_last;
-use crate::laws::means;
+use crate::laws::promises;
 use crate::status::Status;
-use cw_form::laws::own_singles;
 use cw_io::{Sink, Source, Store};
-use cw_unit::laws::own_singles as own_storage;
 use std::alloc::Global;
 
 /// The instructions of a run, where nothing else is said.
@@ -20,7 +16,8 @@ const RUN_STEPS: u64 = 200_000_000;
 /// Does what the words ask for, and tells of it on `say`: the storage map before the first byte of `out`, and at last the
 /// closing line of the status. A run has at most so many instructions.
 ///
-/// So far the words are `go FILE`, where the file has the text of one segment. No byte of the input is read.
+/// So far the words are `go FILE`, where the file has the text of one segment. The input is read in pieces, and only where
+/// the image asks for it.
 pub fn coral66_within<F: Store, I: Source, O: Sink, S: Sink>(
     alloc: Global,
     words: &[String],
@@ -30,30 +27,10 @@ pub fn coral66_within<F: Store, I: Source, O: Sink, S: Sink>(
     say: &mut S,
     steps: u64,
 ) -> Status
-    // When each status comes, and what the linked image has to do with it.
-    ensures runs_image { Causes (map string_bytes words.now) (F.file files.old (file_name (map string_bytes words.now) 0)) steps (outer (F.faults files.old) (F.absences files.old) (O.held out.old) (O.faults out.old) (S.faults say.old)) (outer (F.faults files.new) (F.absences files.new) (O.held out.new) (O.faults out.new) (S.faults say.new)) result }
-
-    // What was written and told is what the source means, and the image kept pace with it.
-    ensures preserves { PreservesMeaning (F.file files.old (file_name (map string_bytes words.now) 0)) steps (outer (F.faults files.old) (F.absences files.old) (O.held out.old) (O.faults out.old) (S.faults say.old)) (outer (F.faults files.new) (F.absences files.new) (O.held out.new) (O.faults out.new) (S.faults say.new)) result }
-
-    // A text that compiles and links ends or stops as its meaning does, where that comes in time, nothing outside fails and memory is found.
-    ensures completes { CompletesRuns (map string_bytes words.now) (F.file files.old (file_name (map string_bytes words.now) 0)) steps (outer (F.faults files.old) (F.absences files.old) (O.held out.old) (O.faults out.old) (S.faults say.old)) (outer (F.faults files.new) (F.absences files.new) (O.held out.new) (O.faults out.new) (S.faults say.new)) result }
-
-    // The map is on `say` before `out` gets a byte; then the closing line.
-    ensures listing_first { SaysAll (map string_bytes words.now) (F.file files.old (file_name (map string_bytes words.now) 0)) (S.held say.old) (S.held say.new) (S.faults say.old) (S.faults say.new) result }
-
-    // The printed map is a valid storage map.
-    ensures valid_storage { CompilesValid (F.file files.old (file_name (map string_bytes words.now) 0)) }
-
-    // No file is changed, and no input is read.
-    ensures files_stay { AllStay (F.file files.old) (F.file files.new) }
-    ensures no_input { I.left input.new ≡ I.left input.old }
+    ensures { IsCorrect (call_of (map string_bytes words.now) steps (surroundings_of (F.file files.old) (F.faults files.old) (F.absences files.old) (I.left input.old) (I.faults input.old) (O.held out.old) (O.faults out.old) (S.held say.old) (S.faults say.old)) (surroundings_of (F.file files.new) (F.faults files.new) (F.absences files.new) (I.left input.new) (I.faults input.new) (O.held out.new) (O.faults out.new) (S.held say.new) (S.faults say.new))) result }
 {
-    own_singles();
-    own_storage();
-    means();
-    let _ = input;
-    let answer = go(alloc, words, files, steps, out, say);
+    promises();
+    let answer = go(alloc, words, files, steps, input, out, say);
     let _ = write_last(say, words, answer.segment, &answer.status);
     answer.status
 }
@@ -67,24 +44,7 @@ pub fn coral66<F: Store, I: Source, O: Sink, S: Sink>(
     out: &mut O,
     say: &mut S,
 ) -> Status
-    // When each status comes, and what the linked image has to do with it.
-    ensures runs_image { Causes (map string_bytes words.now) (F.file files.old (file_name (map string_bytes words.now) 0)) run_steps (outer (F.faults files.old) (F.absences files.old) (O.held out.old) (O.faults out.old) (S.faults say.old)) (outer (F.faults files.new) (F.absences files.new) (O.held out.new) (O.faults out.new) (S.faults say.new)) result }
-
-    // What was written and told is what the source means, and the image kept pace with it.
-    ensures preserves { PreservesMeaning (F.file files.old (file_name (map string_bytes words.now) 0)) run_steps (outer (F.faults files.old) (F.absences files.old) (O.held out.old) (O.faults out.old) (S.faults say.old)) (outer (F.faults files.new) (F.absences files.new) (O.held out.new) (O.faults out.new) (S.faults say.new)) result }
-
-    // A text that compiles and links ends or stops as its meaning does, where that comes in time, nothing outside fails and memory is found.
-    ensures completes { CompletesRuns (map string_bytes words.now) (F.file files.old (file_name (map string_bytes words.now) 0)) run_steps (outer (F.faults files.old) (F.absences files.old) (O.held out.old) (O.faults out.old) (S.faults say.old)) (outer (F.faults files.new) (F.absences files.new) (O.held out.new) (O.faults out.new) (S.faults say.new)) result }
-
-    // The map is on `say` before `out` gets a byte; then the closing line.
-    ensures listing_first { SaysAll (map string_bytes words.now) (F.file files.old (file_name (map string_bytes words.now) 0)) (S.held say.old) (S.held say.new) (S.faults say.old) (S.faults say.new) result }
-
-    // The printed map is a valid storage map.
-    ensures valid_storage { CompilesValid (F.file files.old (file_name (map string_bytes words.now) 0)) }
-
-    // No file is changed, and no input is read.
-    ensures files_stay { AllStay (F.file files.old) (F.file files.new) }
-    ensures no_input { I.left input.new ≡ I.left input.old }
+    ensures { IsCorrect (call_of (map string_bytes words.now) run_steps (surroundings_of (F.file files.old) (F.faults files.old) (F.absences files.old) (I.left input.old) (I.faults input.old) (O.held out.old) (O.faults out.old) (S.held say.old) (S.faults say.old)) (surroundings_of (F.file files.new) (F.faults files.new) (F.absences files.new) (I.left input.new) (I.faults input.new) (O.held out.new) (O.faults out.new) (S.held say.new) (S.faults say.new))) result }
 {
     coral66_within(alloc, words, files, input, out, say, RUN_STEPS)
 }

@@ -1,20 +1,37 @@
-use Rattle.std.proofs.Common.{take, refl, ap, ◌∙◌}
+use Rattle.std.proofs.Common.{refl, ap, ◌∙◌, subst, inl, inr}
+use Rattle.std.specs.Prelude.{ℕ, List, ◌<◌, length, take}
 use Rattle.cw_io.specs.Bytes.{after_told}
-use Rattle.cw_top.specs.Correct.{map_text}
-use Rattle.cw_top.proofs.Causes.{run_causes, run_says, map_is}
+use Rattle.cw_top.proofs.Built.{map_is}
 use Rattle.cw_top.proofs.go.show_and_run.Goals as goal
 
-pub returns-in-Ok-clause-causes : goal.returns-in-Ok-clause-causes
-returns-in-Ok-clause-causes g c = λ words file f a command compiles.
-    run_causes words file c.args.steps f a c.args.unit.now c.args.cpu.now _ _ _ _ _ _ c.run_image.result command compiles c.requires.links c.requires.start c.run_image.ensures c.in-Ok.ensures.ok_faults
-
-pub returns-in-Ok-clause-says : goal.returns-in-Ok-clause-says
-returns-in-Ok-clause-says g c = λ file compiles.
+pub returns-in-Ok : goal.returns-in-Ok
+returns-in-Ok g c =
     let map = map_is c.args.unit.now c.args.built.now.layout c.as_slice-addresses.result.now c.default_limits-limits.result c.requires.layout (c.as_slice-addresses.ensures ∙ c.requires.addresses) c.default_limits-limits.ensures in
-    run_says file c.args.steps c.args.unit.now c.args.cpu.now _ _ _ _ _ _ c.run_image.result compiles c.run_image.ensures (c.in-Ok.ensures.ok ∙ ap (λ x. after_told (g.S.Sink.held c.args.say.now) x) map)
+    inr (record {
+      links = c.requires.links;
+      lists = record { said = c.in-Ok.ensures.ok ∙ ap (λ x. after_told (g.S.Sink.held c.args.say.now) x) map; same = c.in-Ok.ensures.ok_faults };
+      start = c.args.cpu.now;
+      is_start = c.requires.start;
+      end = c.run_image.result;
+      is = c.status_of.ensures;
+      tells = c.run_image.ensures;
+    })
 
-pub returns-in-Err-clause-says : goal.returns-in-Err-clause-says
-returns-in-Err-clause-says g c = λ file compiles.
-    let cut = c.in-Err.ensures.prefix in
+pub returns-in-Err : goal.returns-in-Err
+returns-in-Err g c =
+    let cut = c.in-Err.ensures.cut in
     let map = map_is c.args.unit.now c.args.built.now.layout c.as_slice-addresses.result.now c.default_limits-limits.result c.requires.layout (c.as_slice-addresses.ensures ∙ c.requires.addresses) c.default_limits-limits.ensures in
-    (take cut.0 (map_text c.args.unit.now), (c.args.unit.now, cut.0, compiles, refl), cut.1 ∙ ap (λ x. after_told (g.S.Sink.held c.args.say.now) (take cut.0 x)) map)
+    let P : List ℕ → Type 0 = λ text. cut.0 < length text in
+    inl (
+      c.requires.links,
+      record {
+        count = cut.0;
+        proper = subst P map cut.1;
+        said = cut.2 ∙ ap (λ x. after_told (g.S.Sink.held c.args.say.now) (take cut.0 x)) map;
+        later = c.in-Err.ensures.later;
+        rose = c.in-Err.ensures.err;
+        left = refl;
+        input_faults = refl;
+        out = refl;
+      },
+    )

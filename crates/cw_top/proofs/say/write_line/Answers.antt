@@ -1,5 +1,5 @@
 use Rattle.std.proofs.Common.{◌≡◌, arith, rules}
-use Rattle.cw_top.proofs.Said.{line_is_cut, whole_is_prefix}
+use Rattle.cw_top.proofs.Said.{line_is_cut}
 use Rattle.std.proofs.lemmas.Grind.{common_steps}
 use Rattle.cw_io.specs.Bytes.{after_told}
 use Rattle.cw_top.specs.Said.{joined}
@@ -7,12 +7,12 @@ use Rattle.cw_top.proofs.say.write_line.Goals as goal
 
 pub returns-in-Err : goal.returns-in-Err
 returns-in-Err g c =
-    let cut = c.in-Err.ensures.prefix in
+    let cut = c.in-Err.ensures.cut in
     record {
       later = search rules;
-      prefix = line_is_cut _ _ _ c.args.pieces.now c.loop-piece.piece-index cut.0 _ (search rules) c.loop-piece.invariant.held cut.1;
       ok = search rules;
       ok_faults = search rules;
+      cut = line_is_cut _ _ _ c.args.pieces.now c.loop-piece.piece-index cut.0 _ (search rules) c.loop-piece.invariant.held cut.1 cut.2;
       err = search rules;
     }
 
@@ -21,8 +21,8 @@ returns g c =
     let whole : g.S.Sink.held c.loop-piece.sink ≡ after_told (g.S.Sink.held c.args.sink.now) (joined c.args.pieces.now) = grind (arith, common_steps) in
     record {
       later = search rules;
-      prefix = whole_is_prefix _ _ _ whole;
       ok = whole;
       ok_faults = search rules;
+      cut = tt;
       err = search rules;
     }

@@ -1,6 +1,7 @@
 use Rattle.cw_top.proofs.Loaded as loading
-use Rattle.cw_top.proofs.Meant.{Given, preserves_meaning, completes_runs}
-use Rattle.cw_top.proofs.laws.means.Goals as goal
+use Rattle.cw_top.proofs.Meant.{Given}
+use Rattle.cw_top.proofs.Promised.{keeps}
+use Rattle.cw_top.proofs.laws.promises.Goals as goal
 
 pub returns : goal.returns
 returns c =
@@ -19,16 +20,13 @@ returns c =
       filling = c.filling.ensures.gives;
     } in
     let given : Given = record {
+      texts = record { one_list = c.lexical_structure.ensures.one_list; one_fault = c.lexical_structure.ensures.one_fault; not_both = c.lexical_structure.ensures.not_both; one_outcome = c.macro_expansion.ensures };
       loading = load;
+      sizes = c.image_sizes.ensures;
+      valid = c.own_singles-2.ensures.valid;
       preserves = c.preservation.ensures.preserves;
       completes = c.preservation.ensures.completes;
       overflow_alone = c.preservation.ensures.overflow_alone;
       once = c.one_observation.ensures;
-      one_list = c.lexical_structure.ensures.one_list;
-      not_both = c.lexical_structure.ensures.not_both;
-      one_outcome = c.macro_expansion.ensures;
     } in
-    record {
-      preserves = λ words file steps before after status cause. preserves_meaning given words file steps before after status cause;
-      completes = λ words file steps before after status cause. completes_runs given words file steps before after status cause;
-    }
+    λ call between segment status goes closes. keeps given call between segment status goes closes
