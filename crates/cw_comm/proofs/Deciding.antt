@@ -1,18 +1,16 @@
 -- Whether a descriptor is the first difference.
 use Rattle.std.proofs.Common.{◌≡◌, ◌≢◌, ℕ, ◌+◌, ◌<◌, ◌≤◌, List, [], length, Option, Some, None, slice_get, get_or, refl, sym, ap, ap₂, subst, ◌∙◌, arith}
-use Rattle.std.proofs.lemmas.Option.{none-some, same_Some, slice_get_within}
-use Rattle.std.proofs.lemmas.List.{get_or_default, length-map}
+use Rattle.std.proofs.lemmas.Option.{none-some, same_Some}
 use Rattle.cw_unit.specs.Allocation.{name_at}
 use Rattle.cw_unit.specs.declared.descriptor.Desc.{Desc}
 use Rattle.cw_comm.specs.declared.face.Face.{Face}
-use Rattle.cw_comm.specs.Agreement.{Name, as_listed, places_in}
+use Rattle.cw_comm.specs.Agreement.{Name, as_listed}
 use Rattle.cw_comm.specs.Clashes.{Names, Lists, IsDifference, NoneBefore}
 use Rattle.cw_comm.specs.Numbered.{AreNumbered}
 use Rattle.cw_comm.specs.Tables.{place_from, first_listing, TellsListings, TellsHere, AreAlike, IsFirstTold}
 use Rattle.cw_comm.proofs.Differences.{next_new, next_seen, next_same, found}
-use Rattle.cw_comm.proofs.Entries.{place_there, number_is}
+use Rattle.cw_comm.proofs.Entries.{IsNumbered, numbered}
 use Rattle.cw_comm.proofs.Listed.{Placed, placed, first_place, first_lister, none_listed}
-use Rattle.cw_comm.proofs.Naming.{HasPlace}
 
 abbrev pair : ℕ → ℕ → ℕ × ℕ
 pair a b = (a, b)
@@ -28,26 +26,17 @@ module _ (faces : List Face) (names : List Name) (numbers : List (List ℕ)) (nu
   mine : Names faces g d x.name
   mine = record { face = f; desc = x; segment_is = is; descriptor_is = at; name_is = refl }
 
-  record Number : Type 0 where
-    within : k < length names
-    there : name_at names k ≡ x.name
-
-  numbered : Number
-  numbered =
-      let len : length numbers ≡ length faces = ap length num.numbers_are ∙ length-map faces (λ y. places_in names y.descs) in
-      let lt : g < length numbers = omega (arith, len, slice_get_within faces g f is) in
-      let has : HasPlace names x.name = place_there faces names numbers num g d f x is at in
-      let e = number ∙ number_is faces names numbers num g d f x (get_or numbers g []) is at (get_or_default numbers g [] (get_or numbers g []) lt) in
-      record { within = omega (arith, e, has.within); there = ap (name_at names) e ∙ has.there }
+  stands : IsNumbered names k x.name
+  stands = numbered faces names numbers num g d f x k is at number
 
   own-place : (p : ℕ) × (place_from 0 x.name f.descs ≡ Some p) × (p ≤ 0 + d)
   own-place = first_place 0 d x.name f.descs x at refl
 
   here-is : get_or here k None ≡ Some (g, own-place.0)
-  here-is = th.at k own-place.0 f numbered.within is (ap (λ n. place_from 0 n f.descs) numbered.there ∙ own-place.1)
+  here-is = th.at k own-place.0 f stands.within is (ap (λ n. place_from 0 n f.descs) stands.there ∙ own-place.1)
 
   first-is : get_or firsts k None ≡ first_listing 0 x.name faces
-  first-is = tf.at k numbered.within ∙ ap (λ n. first_listing 0 n faces) numbered.there
+  first-is = tf.at k stands.within ∙ ap (λ n. first_listing 0 n faces) stands.there
 
   pub here_some : get_or here k None ≡ None → ⊥
   here_some h = none-some (pair g own-place.0) (sym h ∙ here-is)
@@ -56,7 +45,7 @@ module _ (faces : List Face) (names : List Name) (numbers : List (List ℕ)) (nu
   own-is a own h = ap (λ (q : ℕ × ℕ). q.1) (same_Some (pair g own-place.0) (pair a own) (sym here-is ∙ h))
 
   -- an earlier descriptor of the segment has the name
-  pub not_first : (a own : ℕ) → get_or here k None ≡ Some (a, own) → own ≢ d → NoneBefore faces g d → NoneBefore faces g (d + 1)
+  pub not_first : (a own : ℕ) → get_or here k None ≡ Some (a, own) → own ≢ d → NoneBefore (IsDifference faces) g d → NoneBefore (IsDifference faces) g (d + 1)
   not_first a own h ne none =
       let p : Placed f.descs 0 x.name own-place.0 = placed 0 own-place.0 x.name f.descs own-place.1 in
       let e : own-place.0 ≡ own = own-is a own h in
@@ -70,23 +59,23 @@ module _ (faces : List Face) (names : List Name) (numbers : List (List ℕ)) (nu
       let same : p.d ≡ x = same_Some p.d x (sym p.at ∙ ap (slice_get f.descs) e ∙ at) in
       record { face = f; desc = x; segment_is = is; descriptor_is = p.listing ∙ ap someD same; told_is = refl }
 
-  pub no_lister : get_or firsts k None ≡ None → NoneBefore faces g d → NoneBefore faces g (d + 1)
+  pub no_lister : get_or firsts k None ≡ None → NoneBefore (IsDifference faces) g d → NoneBefore (IsDifference faces) g (d + 1)
   no_lister h none =
       next_new faces g d x.name mine (λ i y lt l. none-some l.desc (sym (none_listed 0 x.name faces (sym first-is ∙ h) i l.face l.segment_is) ∙ l.descriptor_is)) none
 
   -- no earlier segment lists the name
-  pub none_earlier : (i p : ℕ) → get_or firsts k None ≡ Some (i, p) → g ≤ i → NoneBefore faces g d → NoneBefore faces g (d + 1)
+  pub none_earlier : (i p : ℕ) → get_or firsts k None ≡ Some (i, p) → g ≤ i → NoneBefore (IsDifference faces) g d → NoneBefore (IsDifference faces) g (d + 1)
   none_earlier i p h le none =
       let r = first_lister faces x.name i p (sym first-is ∙ h) in
       next_new faces g d x.name mine (λ j y lt l. let m = r.4.least j y l in absurd (omega (arith, m, lt, le))) none
 
-  pub alike : (a i p : ℕ) → get_or here k None ≡ Some (a, d) → get_or firsts k None ≡ Some (i, p) → AreAlike faces g d i p → NoneBefore faces g d → NoneBefore faces g (d + 1)
+  pub alike : (a i p : ℕ) → get_or here k None ≡ Some (a, d) → get_or firsts k None ≡ Some (i, p) → AreAlike faces g d i p → NoneBefore (IsDifference faces) g d → NoneBefore (IsDifference faces) g (d + 1)
   alike a i p own h same none =
       let r = first_lister faces x.name i p (sym first-is ∙ h) in
       let told : as_listed f.descs x ≡ as_listed r.0.descs r.1 = same f r.0 x r.1 is at r.2 r.3 in
       next_same faces g d i x.name (as_listed r.0.descs r.1) mine r.4 (subst (Lists faces g x.name) told (own-listing a own)) none
 
-  pub differs : (a i p : ℕ) → get_or here k None ≡ Some (a, d) → get_or firsts k None ≡ Some (i, p) → i < g → (AreAlike faces g d i p → ⊥) → NoneBefore faces g d → IsFirstTold (IsDifference faces) faces g d i
+  pub differs : (a i p : ℕ) → get_or here k None ≡ Some (a, d) → get_or firsts k None ≡ Some (i, p) → i < g → (AreAlike faces g d i p → ⊥) → NoneBefore (IsDifference faces) g d → IsFirstTold (IsDifference faces) faces g d i
   differs a i p own h lt same none =
       let r = first_lister faces x.name i p (sym first-is ∙ h) in
       record {

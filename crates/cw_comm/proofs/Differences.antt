@@ -8,27 +8,13 @@ use Rattle.std.proofs.lemmas.Slice.Eq.{bytes_eq-Decides}
 use Rattle.cw_unit.specs.declared.descriptor.Desc.{Desc}
 use Rattle.cw_comm.specs.declared.face.Face.{Face}
 use Rattle.cw_comm.specs.Agreement.{Name, listing_of, Listing, as_listed}
-use Rattle.cw_comm.specs.Clashes.{Names, Lists, IsDifference, IsFirst, HasNone, NoneBefore, IsFirstLister}
+use Rattle.cw_comm.specs.Clashes.{Names, Lists, IsDifference, IsFirst, NoneBefore, IsFirstLister}
+use Rattle.cw_comm.proofs.Firsts.{TellsNames, name_is, told_is, one_more, first_here}
 
 some : {A : Type 0} (x y : A) → Some x ≡ Some y → x ≡ y
 some x y e = cc
 
 -- ---- what stands where
-
-face_is : (faces : List Face) (j : ℕ) (f g : Face) → slice_get faces j ≡ Some f → slice_get faces j ≡ Some g → f ≡ g
-face_is faces j f g h k = some f g (sym h ∙ k)
-
-name_is : (faces : List Face) (j d : ℕ) (n m : Name) → Names faces j d n → Names faces j d m → n ≡ m
-name_is faces j d n m a b =
-    let same : a.face ≡ b.face = face_is faces j a.face b.face a.segment_is b.segment_is in
-    let desc : a.desc ≡ b.desc = some a.desc b.desc (sym a.descriptor_is ∙ ap (λ (f : Face). slice_get f.descs d) same ∙ b.descriptor_is) in
-    sym a.name_is ∙ ap (λ (x : Desc). x.name) desc ∙ b.name_is
-
-told_is : (faces : List Face) (j : ℕ) (n : Name) (x y : Listing) → Lists faces j n x → Lists faces j n y → x ≡ y
-told_is faces j n x y a b =
-    let same : a.face ≡ b.face = face_is faces j a.face b.face a.segment_is b.segment_is in
-    let desc : a.desc ≡ b.desc = some a.desc b.desc (sym a.descriptor_is ∙ ap (λ (f : Face). listing_of n f.descs) same ∙ b.descriptor_is) in
-    sym a.told_is ∙ ap (λ (f : Face). as_listed f.descs a.desc) same ∙ ap (λ (z : Desc). as_listed b.face.descs z) desc ∙ b.told_is
 
 record At (ds : List Desc) (n : Name) (x : Desc) : Type 0 where
   place : ℕ
@@ -50,29 +36,15 @@ names_at faces i n x l =
 
 -- ---- none so far
 
--- one more descriptor, where it has no difference
-one_more : (faces : List Face) (j d : ℕ) → NoneBefore faces j d → ((i : ℕ) (n : Name) → IsDifference faces j d i n → ⊥) → NoneBefore faces j (d + 1)
-one_more faces j d none here j' d' i n p =
-    elim (none j' d' i n p) [
-      | inl lt ↦ inl lt
-      | inr same ↦ elim (cases_eq d d') [
-        | inl e ↦ absurd (here i n (subst (λ k. IsDifference faces j k i n) (sym e) (subst (λ k. IsDifference faces k d' i n) (sym same.0) p)))
-        | inr ne ↦ inr (same.0, omega (arith, same.1, ne))
-      ]
-    ]
-
-pub none_at_first : (faces : List Face) → NoneBefore faces 0 0
-none_at_first faces j d i n p = elim (cases_eq 0 j) [ inl e ↦ inr (e, omega arith) | inr ne ↦ inl (omega (arith, ne)) ]
-
 -- its name was not listed before
-pub next_new : (faces : List Face) (j d : ℕ) (name : Name) → Names faces j d name → ((i : ℕ) (x : Listing) → i < j → Lists faces i name x → ⊥) → NoneBefore faces j d → NoneBefore faces j (d + 1)
+pub next_new : (faces : List Face) (j d : ℕ) (name : Name) → Names faces j d name → ((i : ℕ) (x : Listing) → i < j → Lists faces i name x → ⊥) → NoneBefore (IsDifference faces) j d → NoneBefore (IsDifference faces) j (d + 1)
 next_new faces j d name at new none =
-    one_more faces j d none (λ i n p. new i p.there p.before (subst (λ m. Lists faces i m p.there) (name_is faces j d n name p.names at) p.lists_there))
+    one_more (IsDifference faces) j d none (λ i n p. new i p.there p.before (subst (λ m. Lists faces i m p.there) (name_is faces j d n name p.names at) p.lists_there))
 
 -- its name was listed before in this segment
-pub next_seen : (faces : List Face) (j d e : ℕ) (name : Name) → Names faces j d name → e < d → Names faces j e name → NoneBefore faces j d → NoneBefore faces j (d + 1)
+pub next_seen : (faces : List Face) (j d e : ℕ) (name : Name) → Names faces j d name → e < d → Names faces j e name → NoneBefore (IsDifference faces) j d → NoneBefore (IsDifference faces) j (d + 1)
 next_seen faces j d e name at lt seen none =
-    one_more faces j d none (λ i n p.
+    one_more (IsDifference faces) j d none (λ i n p.
     let same : name ≡ n = name_is faces j d name n at p.names in
     elim (none j e i n (record { names = subst (Names faces j e) same seen; before = p.before; here = p.here; there = p.there; lists_here = p.lists_here; lists_there = p.lists_there; differ = p.differ })) [
       | inl h ↦ absurd (omega (arith, h))
@@ -80,9 +52,9 @@ next_seen faces j d e name at lt seen none =
     ])
 
 -- it tells what the first listing of its name does
-pub next_same : (faces : List Face) (j d first : ℕ) (name : Name) (told : Listing) → Names faces j d name → IsFirstLister faces name first told → Lists faces j name told → NoneBefore faces j d → NoneBefore faces j (d + 1)
+pub next_same : (faces : List Face) (j d first : ℕ) (name : Name) (told : Listing) → Names faces j d name → IsFirstLister faces name first told → Lists faces j name told → NoneBefore (IsDifference faces) j d → NoneBefore (IsDifference faces) j (d + 1)
 next_same faces j d first name told at l own none =
-    one_more faces j d none (λ i n p.
+    one_more (IsDifference faces) j d none (λ i n p.
     let same : n ≡ name = name_is faces j d n name p.names at in
     let there : Lists faces i name p.there = subst (λ m. Lists faces i m p.there) same p.lists_there in
     let here_is : p.here ≡ told = told_is faces j name p.here told (subst (λ m. Lists faces j m p.here) same p.lists_here) own in
@@ -96,38 +68,13 @@ next_same faces j d first name told at l own none =
     ])
 
 -- it differs from the first listing of its name: this is the first difference
-pub found : (faces : List Face) (j d first : ℕ) (name : Name) (here told : Listing) → Names faces j d name → IsFirstLister faces name first told → first < j → Lists faces j name here → here ≢ told → NoneBefore faces j d → IsFirst (IsDifference faces) j d first name
-found faces j d first name here told at l lt own ne none = record {
-  holds = record { names = at; before = lt; here = here; there = told; lists_here = own; lists_there = l.lists; differ = ne };
-  least = λ j' d' i n p.
-      elim (none j' d' i n p) [
-        | inl h ↦ inl h
-        | inr same ↦ elim (cases_eq d d') [
-          | inl e ↦
-              let here_too : Names faces j d n = subst (λ k. Names faces j k n) (sym e) (subst (λ k. Names faces k d' n) (sym same.0) p.names) in
-              inr (same.0, inr (e, l.least i p.there (subst (λ m. Lists faces i m p.there) (name_is faces j d n name here_too at) p.lists_there)))
-          | inr other ↦ inr (same.0, inl (omega (arith, same.1, other)))
-        ]
-      ];
-}
+pub found : (faces : List Face) (j d first : ℕ) (name : Name) (here told : Listing) → Names faces j d name → IsFirstLister faces name first told → first < j → Lists faces j name here → here ≢ told → NoneBefore (IsDifference faces) j d → IsFirst (IsDifference faces) j d first name
+found faces j d first name here told at l lt own ne none =
+    first_here (IsDifference faces) j d first name
+    (record { names = at; before = lt; here = here; there = told; lists_here = own; lists_there = l.lists; differ = ne })
+    (λ i n p. l.least i p.there (subst (λ m. Lists faces i m p.there) (name_is faces j d n name p.names at) p.lists_there)) none
 
-get_below : {A : Type 0} (xs : List A) (k : ℕ) (x : A) → slice_get xs k ≡ Some x → k < length xs
-get_below [] k x e = absurd cc
-get_below (y ∷ ys) zero x e = omega arith
-get_below (y ∷ ys) (suc k) x e = omega (arith, get_below ys k x e)
+pub named : (faces : List Face) → TellsNames faces (IsDifference faces)
+named faces j d i n p = p.names
 
-pub next_segment : (faces : List Face) (j : ℕ) (f : Face) → slice_get faces j ≡ Some f → NoneBefore faces j (length f.descs) → NoneBefore faces (j + 1) 0
-next_segment faces j f at none j' d i n p =
-    elim (none j' d i n p) [
-      | inl lt ↦ elim (cases_eq (j + 1) j') [ inl e ↦ inr (e, omega arith) | inr ne ↦ inl (omega (arith, ne, lt)) ]
-      | inr same ↦
-          let face : p.names.face ≡ f = face_is faces j' p.names.face f p.names.segment_is (subst (λ k. slice_get faces k ≡ Some f) same.0 at) in
-          absurd (omega (arith, get_below p.names.face.descs d p.names.desc p.names.descriptor_is, ap (λ (g : Face). length g.descs) face, same.1))
-    ]
-
-pub none_at_all : (faces : List Face) → NoneBefore faces (length faces) 0 → HasNone (IsDifference faces)
-none_at_all faces none j d i n p =
-    let below = get_below faces j p.names.face p.names.segment_is in
-    elim (none j d i n p) [ inl h ↦ omega (arith, h, below) | inr h ↦ omega (arith, h.0, below) ]
-
-pub ruleset differences = (none_at_first, next_new, next_seen, next_same, found, next_segment, none_at_all)
+pub ruleset differences = (next_new, next_seen, next_same, found)

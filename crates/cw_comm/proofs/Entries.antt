@@ -2,16 +2,16 @@
 use Rattle.std.proofs.Common.{◌≡◌, ℕ, ◌+◌, ◌<◌, ◌≤◌, Bool, true, false, cond, ◌||◌, nat_eq, List, [], ◌∷◌, length, drop, set, get_or, Option, Some, None, slice_get, refl, sym, ap, ap₂, subst, ◌∙◌, arith, inl, inr}
 use Rattle.std.specs.Str.{bytes_eq}
 use Rattle.std.proofs.lemmas.Bool.{cases_eq, eq-eqb, ne_eqb, false_from_ne_true}
-use Rattle.std.proofs.lemmas.List.{drop_more, drop_all, get_or_read, length-map, get_or-set_same, get_or-set_other}
+use Rattle.std.proofs.lemmas.List.{get_or_default, drop_more, drop_all, get_or_read, length-map, get_or-set_same, get_or-set_other}
 use Rattle.std.proofs.lemmas.Option.{slice_get-get_or, slice_get_within, get_or_from_slice_get}
 use Rattle.std.proofs.lemmas.Slice.Eq.{bytes_eq-Decides}
 use Rattle.cw_unit.specs.Allocation.{name_at}
 use Rattle.cw_unit.specs.declared.descriptor.Desc.{Desc}
 use Rattle.cw_unit.specs.declared.descriptor.DescBody.TheVariants as bodies
 use Rattle.cw_comm.specs.declared.face.Face.{Face}
-use Rattle.cw_comm.specs.Agreement.{Name, base_name, defines, place_of, places_in}
+use Rattle.cw_comm.specs.Agreement.{Name, base_name, defines, definer_from, place_of, places_in}
 use Rattle.cw_comm.specs.Numbered.{AreNumbered, IsOnce, OwnDefinitions}
-use Rattle.cw_comm.specs.Tables.{place_from, listed_in, first_listing, defined_in, first_definer}
+use Rattle.cw_comm.specs.Tables.{place_from, listed_in, first_listing, defined_in}
 use Rattle.cw_comm.proofs.Naming.{HasPlace, listed_once, listed, numbers_at, number_at}
 
 pub same_number : (names : List Name) (x : Name) (k : ℕ) → IsOnce names → HasPlace names x → k < length names → bytes_eq (name_at names k) x ≡ nat_eq k (place_of names x)
@@ -40,6 +40,14 @@ through-defined false c g old = refl
 abbrev pub no_face : Face
 no_face = record { name = []; descs = []; defined = [] }
 
+abbrev pub no_desc : Desc
+no_desc = record { name = []; library = false; over = None; body = bodies.Label }
+
+-- a number stands for a name
+pub record IsNumbered (names : List Name) (k : ℕ) (name : Name) : Type 0 where
+  pub within : k < length names
+  pub there : name_at names k ≡ name
+
 module _ (faces : List Face) (names : List Name) (numbers : List (List ℕ)) (num : AreNumbered faces names numbers) where
   pub once : IsOnce names
   once = subst IsOnce (sym num.names_are) (listed_once faces)
@@ -59,15 +67,20 @@ module _ (faces : List Face) (names : List Name) (numbers : List (List ℕ)) (nu
   pub number_is : (g n : ℕ) (f : Face) (d : Desc) (ns : List ℕ) → slice_get faces g ≡ Some f → slice_get f.descs n ≡ Some d → ns ≡ get_or numbers g ns → get_or ns n 0 ≡ place_of names d.name
   number_is g n f d ns is at e = ap (λ (xs : List ℕ). get_or xs n 0) (read_numbers g f ns is e) ∙ number_at names f.descs n d at
 
-  abbrev default : Desc
-  default = record { name = []; library = false; over = None; body = bodies.Label }
+  pub numbered : (g n : ℕ) (f : Face) (d : Desc) (k : ℕ) → slice_get faces g ≡ Some f → slice_get f.descs n ≡ Some d → k ≡ get_or (get_or numbers g []) n 0 → IsNumbered names k d.name
+  numbered g n f d k is at number =
+      let len : length numbers ≡ length faces = ap length num.numbers_are ∙ length-map faces (λ x. places_in names x.descs) in
+      let lt : g < length numbers = omega (arith, len, slice_get_within faces g f is) in
+      let has : HasPlace names d.name = place_there g n f d is at in
+      let e = number ∙ number_is g n f d (get_or numbers g []) is at (get_or_default numbers g [] (get_or numbers g []) lt) in
+      record { within = omega (arith, e, has.within); there = ap (name_at names) e ∙ has.there }
 
   pub number_within : (g n : ℕ) (ns : List ℕ) → g < length faces → ns ≡ get_or numbers g ns → n < length ns → get_or ns n 0 < length names
   number_within g n ns lg e lt =
       let f : Face = get_or faces g no_face in
       let is : slice_get faces g ≡ Some f = slice_get-get_or faces g no_face lg in
-      let d : Desc = get_or f.descs n default in
-      let at : slice_get f.descs n ≡ Some d = slice_get-get_or f.descs n default (omega (arith, lt, count_is g f ns is e)) in
+      let d : Desc = get_or f.descs n no_desc in
+      let at : slice_get f.descs n ≡ Some d = slice_get-get_or f.descs n no_desc (omega (arith, lt, count_is g f ns is e)) in
       let has = place_there g n f d is at in
       omega (arith, number_is g n f d ns is at e, has.within)
 
@@ -79,8 +92,8 @@ module _ (faces : List Face) (names : List Name) (numbers : List (List ℕ)) (nu
       → get_or table k None ≡ listed_in g (place_from m (name_at names k) (drop m f.descs)) old
       → get_or (set table (get_or ns n 0) (Some (g, n))) k None ≡ listed_in g (place_from n (name_at names k) (drop n f.descs)) old
   next_listing g n f ns k m table old is e lt next lk count h =
-      let d : Desc = get_or f.descs n default in
-      let at : slice_get f.descs n ≡ Some d = slice_get-get_or f.descs n default (omega (arith, lt, count_is g f ns is e)) in
+      let d : Desc = get_or f.descs n no_desc in
+      let at : slice_get f.descs n ≡ Some d = slice_get-get_or f.descs n no_desc (omega (arith, lt, count_is g f ns is e)) in
       let has = place_there g n f d is at in
       let number = number_is g n f d ns is at e in
       let within : get_or ns n 0 < length table = omega (arith, number, has.within, count) in
@@ -106,8 +119,8 @@ module _ (faces : List Face) (names : List Name) (numbers : List (List ℕ)) (nu
   next_definition own g n f ns k m table old is e lt next lk count h =
       let x = get_or f.defined n 0 in
       let below : x < length f.descs = own g f is n 0 lt in
-      let d : Desc = get_or f.descs x default in
-      let at : slice_get f.descs x ≡ Some d = slice_get-get_or f.descs x default below in
+      let d : Desc = get_or f.descs x no_desc in
+      let at : slice_get f.descs x ≡ Some d = slice_get-get_or f.descs x no_desc below in
       let has = place_there g x f d is at in
       let number = number_is g x f d ns is at e in
       let within : get_or ns x 0 < length table = omega (arith, number, has.within, count) in
@@ -131,8 +144,8 @@ earlier_listing faces name g m now before lt next told h =
     let is : slice_get faces g ≡ Some f = slice_get-get_or faces g no_face lt in
     told f is ∙ ap (listed_in g (place_from 0 name f.descs)) (h ∙ ap (λ i. first_listing i name (drop i faces)) (sym next)) ∙ ap (first_listing g name) (sym (drop-face faces g f is))
 
-pub earlier_definer : (faces : List Face) (name : Name) (g m : ℕ) (now before : Option ℕ) → g < length faces → g + 1 ≡ m → ((f : Face) → slice_get faces g ≡ Some f → now ≡ defined_in g (defines name f.descs f.defined) before) → before ≡ first_definer m name (drop m faces) → now ≡ first_definer g name (drop g faces)
+pub earlier_definer : (faces : List Face) (name : Name) (g m : ℕ) (now before : Option ℕ) → g < length faces → g + 1 ≡ m → ((f : Face) → slice_get faces g ≡ Some f → now ≡ defined_in g (defines name f.descs f.defined) before) → before ≡ definer_from m name (drop m faces) → now ≡ definer_from g name (drop g faces)
 earlier_definer faces name g m now before lt next told h =
     let f : Face = get_or faces g no_face in
     let is : slice_get faces g ≡ Some f = slice_get-get_or faces g no_face lt in
-    told f is ∙ ap (defined_in g (defines name f.descs f.defined)) (h ∙ ap (λ i. first_definer i name (drop i faces)) (sym next)) ∙ ap (first_definer g name) (sym (drop-face faces g f is))
+    told f is ∙ ap (defined_in g (defines name f.descs f.defined)) (h ∙ ap (λ i. definer_from i name (drop i faces)) (sym next)) ∙ ap (definer_from g name) (sym (drop-face faces g f is))

@@ -1,7 +1,10 @@
 pub mod Deciding
+pub mod Definers
 pub mod Differences
 pub mod Entries
+pub mod Firsts
 pub mod Keyed
 pub mod Naming
 pub mod Listed
 pub mod Listings
+pub mod Wanting

@@ -71,9 +71,9 @@ pub record IsFirst (P : Kind) (later descriptor earlier : ℕ) (name : Name) : T
 abbrev pub HasNone : Kind → Type 0
 HasNone P = (j d i : ℕ) (name : Name) → P j d i name → ⊥
 
--- no difference stands before this descriptor of this segment
-abbrev pub NoneBefore : (faces : List Face) → (segment descriptor : ℕ) → Type 0
-NoneBefore faces j d = (j' d' i : ℕ) (n : Name) → IsDifference faces j' d' i n → (j < j') ⊎ ((j ≡ j') × (d ≤ d'))
+-- no clash of a kind stands before this descriptor of this segment
+abbrev pub NoneBefore : Kind → (segment descriptor : ℕ) → Type 0
+NoneBefore P j d = (j' d' i : ℕ) (n : Name) → P j' d' i n → (j < j') ⊎ ((j ≡ j') × (d ≤ d'))
 
 -- the first segment that lists a name
 pub record IsFirstLister (faces : List Face) (name : Name) (segment : ℕ) (told : Listing) : Type 0 where

@@ -1,11 +1,11 @@
 -- Tables by numbers of names: where names are listed, and which segments define them. Segments and descriptors count from 0.
-use Rattle.std.specs.Prelude.{◌≡◌, ◌<◌, ℕ, ◌+◌, Bool, if◌then◌else◌, List, [], ◌∷◌, length, slice_get, slice_index_or, Option, Some, None}
+use Rattle.std.specs.Prelude.{◌≡◌, ◌↔◌, ◌<◌, ℕ, ◌+◌, Bool, if◌then◌else◌, List, [], ◌∷◌, length, slice_get, slice_index_or, Option, Some, None}
 use Rattle.std.specs.Str.{bytes_eq}
 use Rattle.cw_unit.specs.Allocation.{name_at}
 use Rattle.cw_unit.specs.declared.descriptor.Desc.{Desc}
 use Rattle.cw_comm.specs.declared.face.Face.{Face}
-use Rattle.cw_comm.specs.Agreement.{Name, defines, as_listed}
-use Rattle.cw_comm.specs.Clashes.{Kind, Names, IsFirst}
+use Rattle.cw_comm.specs.Agreement.{Name, definer_from, as_listed, wants_definition}
+use Rattle.cw_comm.specs.Clashes.{Kind, Names, Defines, IsFirst}
 
 -- the first of these descriptors that has the name, counted from n on
 abbrev pub place_from : (n : ℕ) → Name → List Desc → Option ℕ
@@ -22,13 +22,9 @@ abbrev pub first_listing : (g : ℕ) → Name → List Face → Option (ℕ × �
 first_listing g name [] = None
 first_listing g name (f ∷ fs) = listed_in g (place_from 0 name f.descs) (first_listing (g + 1) name fs)
 
--- the first definer, or else what is known
+-- the definer, or else what is known
 abbrev pub defined_in : (segment : ℕ) → Bool → Option ℕ → Option ℕ
 defined_in g b other = if b then Some g else other
-
-abbrev pub first_definer : (g : ℕ) → Name → List Face → Option ℕ
-first_definer g name [] = None
-first_definer g name (f ∷ fs) = defined_in g (defines name f.descs f.defined) (first_definer (g + 1) name fs)
 
 -- what each name's entry is
 pub record TellsListings (names : List Name) (faces : List Face) (table : List (Option (ℕ × ℕ))) : Type 0 where
@@ -37,12 +33,21 @@ pub record TellsListings (names : List Name) (faces : List Face) (table : List (
 
 pub record TellsDefiners (names : List Name) (faces : List Face) (table : List (Option ℕ)) : Type 0 where
   pub count : length table ≡ length names
-  pub at : (k : ℕ) → k < length names → slice_index_or table k None ≡ first_definer 0 (name_at names k) faces
+  pub at : (k : ℕ) → k < length names → slice_index_or table k None ≡ definer_from 0 (name_at names k) faces
 
 -- the entries of the names that a segment lists are its own
 pub record TellsHere (names : List Name) (faces : List Face) (segment : ℕ) (table : List (Option (ℕ × ℕ))) : Type 0 where
   pub count : length table ≡ length names
   pub at : (k p : ℕ) (f : Face) → k < length names → slice_get faces segment ≡ Some f → place_from 0 (name_at names k) f.descs ≡ Some p → slice_index_or table k None ≡ Some (segment, p)
+
+-- the entries of the names that a segment defines are its own, and no others
+pub record TellsOwn (names : List Name) (faces : List Face) (segment : ℕ) (table : List (Option ℕ)) : Type 0 where
+  pub count : length table ≡ length names
+  pub at : (k : ℕ) → k < length names → (slice_index_or table k None ≡ Some segment) ↔ Defines faces segment (name_at names k)
+
+-- whether a descriptor wants a definition, if it is there
+abbrev pub TellsWanted : List Face → (segment descriptor : ℕ) → Bool → Type 0
+TellsWanted faces g d wanted = (f : Face) (x : Desc) → slice_get faces g ≡ Some f → slice_get f.descs d ≡ Some x → wanted ≡ wants_definition x.body
 
 -- two descriptors tell the same, if they are there
 abbrev pub AreAlike : List Face → (segment descriptor other place : ℕ) → Type 0

@@ -27,7 +27,7 @@ fn difference_at(
     requires here { TellsHere names.now segments.now segment here.now }
     requires segment { segment < length segments.now }
     requires descriptor { (f : SegmentFace) → slice_get segments.now segment ≡ Some f → descriptor < length f.descs }
-    ensures { NoneBefore segments.now segment descriptor → MatchOption result (NoneBefore segments.now segment (descriptor + 1)) (IsFirstTold (IsDifference segments.now) segments.now segment descriptor) }
+    ensures { NoneBefore (IsDifference segments.now) segment descriptor → MatchOption result (NoneBefore (IsDifference segments.now) segment (descriptor + 1)) (IsFirstTold (IsDifference segments.now) segments.now segment descriptor) }
 {
     let name = number(numbers, segment, descriptor);
     match entry(here, name) {
@@ -65,7 +65,7 @@ fn segment_difference(
     requires firsts { TellsListings names.now segments.now firsts.now }
     requires here { TellsHere names.now segments.now segment here.now }
     requires segment { segment < length segments.now }
-    ensures { NoneBefore segments.now segment 0 → MatchOption result (NoneBefore segments.now (segment + 1) 0) (λ clash. IsFirstIn (IsDifference segments.now) clash.0 clash.1 segment) }
+    ensures { NoneBefore (IsDifference segments.now) segment 0 → MatchOption result (NoneBefore (IsDifference segments.now) (segment + 1) 0) (λ clash. IsFirstIn (IsDifference segments.now) clash.0 clash.1 segment) }
 {
     let descriptors = segments[segment].descs.as_slice();
     for d in 0..descriptors.len() {

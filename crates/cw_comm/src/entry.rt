@@ -1,5 +1,5 @@
 //! What an entry of a table stands for.
-ghost use Rattle.std.specs.Prelude.{◌≡◌, ◌↔◌, [], slice_index_or, None, IsTrue};
+ghost use Rattle.std.specs.Prelude.{◌≡◌, ◌↔◌, [], slice_index_or, Some, None, IsTrue};
 ghost use Rattle.cw_comm.specs.Tables.{AreAlike};
 
 use crate::face::Face;
@@ -13,6 +13,26 @@ pub(crate) fn entry(table: &[Option<(u8, usize)>], name: usize) -> Option<(u8, u
     match table.get(name) {
         Some(entry) => *entry,
         None => None,
+    }
+}
+
+/// The segment that a name's entry tells, if there is one.
+pub(crate) fn definer(table: &[Option<u8>], name: usize) -> Option<u8>
+    ensures { result ≡ slice_index_or table.now name None }
+{
+    match table.get(name) {
+        Some(entry) => *entry,
+        None => None,
+    }
+}
+
+/// Whether the entry of a name tells this segment.
+pub(crate) fn is_definer(table: &[Option<u8>], name: usize, segment: usize) -> bool
+    ensures { IsTrue result ↔ (slice_index_or table.now name None ≡ Some segment) }
+{
+    match definer(table, name) {
+        Some(definer) => definer as usize == segment,
+        None => false,
     }
 }
 

@@ -10,7 +10,7 @@ ghost use Rattle.cw_comm.specs.Clashes.{Names, Lists, IsDifference, IsFirst, Non
 /// Where none was found before, a descriptor that differs from the first listing of its name is the first difference.
 #[tactic(auto, using(crate::proofs::Differences::differences))]
 pub fn first_difference()
-    ensures { (faces : List Face) (j d first : ℕ) (name : Name) (here told : Listing) → Names faces j d name → IsFirstLister faces name first told → first < j → Lists faces j name here → here ≢ told → NoneBefore faces j d → IsFirst (IsDifference faces) j d first name }
+    ensures { (faces : List Face) (j d first : ℕ) (name : Name) (here told : Listing) → Names faces j d name → IsFirstLister faces name first told → first < j → Lists faces j name here → here ≢ told → NoneBefore (IsDifference faces) j d → IsFirst (IsDifference faces) j d first name }
 {}
 
 /// What segments agree on has each name once, and the number of each descriptor is that of its name.

@@ -3,12 +3,14 @@
 
 mod agreement;
 mod clash;
+mod defining;
 mod differing;
 mod entry;
 mod face;
 pub mod laws;
 mod listing;
 mod tables;
+mod undefined;
 
 pub use clash::Clash;
 pub use face::{Agreed, Face};

@@ -1,18 +1,14 @@
-use Rattle.std.proofs.Common.{◌≡◌, ℕ, [], Option, Some, None, false, slice_get, get_or, sym, ap, ◌∙◌}
+use Rattle.std.proofs.Common.{◌≡◌, ℕ, Option, Some, None, slice_get, get_or, sym, ap, ◌∙◌}
 use Rattle.std.proofs.lemmas.Bool.{true≢false}
 use Rattle.std.proofs.lemmas.Option.{slice_get-get_or}
 use Rattle.cw_unit.specs.declared.descriptor.Desc.{Desc}
-use Rattle.cw_unit.specs.declared.descriptor.DescBody.TheVariants as bodies
 use Rattle.cw_comm.specs.declared.face.Face.{Face}
-use Rattle.cw_comm.proofs.Entries.{no_face}
+use Rattle.cw_comm.proofs.Entries.{no_face, no_desc}
 use Rattle.cw_comm.proofs.Deciding.{here_some, not_first, no_lister, none_earlier, alike, differs}
 use Rattle.cw_comm.proofs.differing.difference_at.Goals as goal
 
 abbrev some : ℕ → ℕ → Option (ℕ × ℕ)
 some a b = Some (a, b)
-
-abbrev no_desc : Desc
-no_desc = record { name = []; library = false; over = None; body = bodies.Label }
 
 pub returns-then-own-descriptor : goal.returns-then-own-descriptor
 returns-then-own-descriptor c =
