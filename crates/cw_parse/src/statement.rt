@@ -2,84 +2,56 @@
 ghost use Rattle.std.specs.Prelude.{◌≡◌, ℕ, [], ◌∷◌, false};
 ghost use Rattle.cw_grammar.specs.Tokens.{behind};
 ghost use Rattle.cw_grammar.specs.Grammar.{starts, first, many, a_pair, a_list, an_option, a_from, a_name, a_type, a_stmt, a_form, a_simple, a_felem, a_decl, a_param, a_cond, a_ref, if_rest, else_rest, for_rest, block_rest, proc_body, labelled, labelled_simple, again};
-ghost use Rattle.cw_grammar.specs.Rules.{commas, symbol, ◌<*◌};
-ghost use Rattle.cw_grammar.specs.Statements.{semicolons, listed, in_round, param, simple_behind, unnamed, felem, proc_behind, decl};
-ghost use Rattle.cw_grammar.specs.Reading.{Gives, read, inside};
-ghost use Rattle.cw_grammar.specs.Labels.{labels, unlabelled, unlabelled_simple};
-ghost use Rattle.cw_grammar.specs.Reading.{applied};
+ghost use Rattle.cw_grammar.specs.Rules.{symbol, ◌<*◌};
+ghost use Rattle.cw_grammar.specs.Statements.{semicolons, listed, in_round, param, unnamed, proc_behind, decl};
+ghost use Rattle.cw_grammar.specs.Reading.{Gives, read, inside, applied};
+ghost use Rattle.cw_grammar.specs.Labels.{unlabelled, unlabelled_simple};
 ghost use Rattle.cw_lex.specs.declared.token.Symbol.TheVariants.{Semicolon};
+ghost use Rattle.cw_parse_simple.specs.Alternatives.{block, if_form, for_form, second_stmt};
 
 use cw_grammar::reading::{read_name, read_type};
 use cw_grammar::stop::Stop;
 use cw_grammar::token::{deep, next_is, position, take_kind};
 use cw_lex::{Symbol, Token, TokenKind, Word};
-use cw_parse_expr::reading::{
-    indexed_name, read_bits, read_called, read_condition, read_expr, read_indexed, read_reference,
-    read_subscript,
-};
+use cw_parse_data::data::{is_type, read_arrays, read_singles};
+use cw_parse_expr::reading::{read_condition, read_reference};
 use cw_parse_items::decls::{
     is_local_decl, is_outer_decl, is_worded_decl, read_local_decl, read_worded_decl,
 };
-use cw_parse_items::items::{is_type, read_arrays, read_ptag, read_singles};
 use cw_parse_items::params::read_param_list;
-use cw_tree::expression::{RawBits, RawCond, RawRef};
-use cw_tree::leaf::{RawName, RawType};
-use cw_tree::statement::{
-    RawBlock, RawDecl, RawFelem, RawForm, RawParam, RawProc, RawSimple, RawStmt,
+use cw_parse_items::specifications::read_ptag;
+use cw_parse_simple::simple::{
+    for_form, if_form, proc_decl, read_address_assigned, read_answered, read_bits_assigned,
+    read_felems, read_goto, read_labels, read_simple_behind,
 };
+use cw_tree::expression::{RawCond, RawRef};
+use cw_tree::leaf::{RawName, RawType};
+use cw_tree::statement::{RawBlock, RawDecl, RawFelem, RawForm, RawParam, RawSimple, RawStmt};
 use cw_word::{Boxed, List};
 use std::alloc::Global;
 
-fn read_labels(alloc: Global, tokens: &[Token], at: usize) -> Result<(List<RawName>, usize), Stop>
-    ensures { Gives (λ x. (x.0, behind tokens.now x.1)) result (labels (behind tokens.now at)) }
-{
-    let mut labels = List::new(alloc);
-    let mut next = at;
-    while next_is(tokens, next, TokenKind::Name) {
-        let (name, after) = read_name(tokens, next)?;
-        if !next_is(tokens, after, TokenKind::Symbol(Symbol::Colon)) {
-            return Ok((labels, next));
-        }
-        let (_, after) = take_kind(tokens, after, TokenKind::Symbol(Symbol::Colon))?;
-        labels.push(name)?;
-        next = after;
-    }
-    Ok((labels, next))
-}
-
-#[tactic(auto, unfolding(cw_grammar::specs::Statements::simple_behind))]
-fn read_simple_behind(
+#[cycle(statement_reader)]
+fn read_block(
     alloc: Global,
     levels: u8,
+    in_proc: bool,
     tokens: &[Token],
     at: usize,
-    name: RawName,
 ) -> Result<(RawSimple, usize), Stop>
-    ensures { Gives (λ x. (x.0, behind tokens.now x.1)) result (applied name (read levels (a_from a_name a_simple) simple_behind (behind tokens.now at))) }
+    ensures { Gives (λ x. (x.0, behind tokens.now x.1)) result (read levels a_simple (block in_proc) (behind tokens.now at)) }
 {
-    if next_is(tokens, at, TokenKind::Symbol(Symbol::Assign)) {
-        let (_, at) = take_kind(tokens, at, TokenKind::Symbol(Symbol::Assign))?;
-        let (value, at) = read_expr(alloc, levels, tokens, at)?;
-        let target = Boxed::new(alloc, RawRef::Name(name))?;
-        return Ok((RawSimple::Assign(target, Boxed::new(alloc, value)?), at));
-    }
-    if next_is(tokens, at, TokenKind::Symbol(Symbol::OpenSquare)) {
-        let (_, at) = take_kind(tokens, at, TokenKind::Symbol(Symbol::OpenSquare))?;
-        let (index, at) = read_indexed(alloc, levels, tokens, at)?;
-        let (_, at) = take_kind(tokens, at, TokenKind::Symbol(Symbol::Assign))?;
-        let (value, at) = read_expr(alloc, levels, tokens, at)?;
-        let target = Boxed::new(alloc, indexed_name(alloc, name, index)?)?;
-        return Ok((RawSimple::Assign(target, Boxed::new(alloc, value)?), at));
-    }
-    if next_is(tokens, at, TokenKind::Symbol(Symbol::Open)) {
-        let (_, at) = take_kind(tokens, at, TokenKind::Symbol(Symbol::Open))?;
-        let (arguments, at) = read_called(alloc, levels, tokens, at)?;
-        return Ok((RawSimple::Call(name, arguments), at));
-    }
-    Ok((RawSimple::Call(name, List::new(alloc)), at))
+    let (word, at) = take_kind(tokens, at, TokenKind::Word(Word::Begin))?;
+    let (parts, at) = read_block_rest(alloc, levels, in_proc, tokens, at)?;
+    let (decls, stmts) = parts;
+    let block = RawBlock {
+        at: position(word),
+        decls,
+        stmts,
+    };
+    Ok((RawSimple::Block(Boxed::new(alloc, block)?), at))
 }
 
-#[tactic(auto, unfolding(cw_grammar::specs::Statements::unnamed, cw_grammar::specs::Rules::bits, cw_grammar::specs::Rules::size, cw_grammar::specs::Rules::int, cw_grammar::specs::Rules::octal))]
+#[tactic(auto, unfolding(cw_grammar::specs::Statements::unnamed, cw_grammar::specs::Rules::bits))]
 #[cycle(statement_reader)]
 fn read_unnamed(
     alloc: Global,
@@ -91,60 +63,19 @@ fn read_unnamed(
     ensures { Gives (λ x. (x.0, behind tokens.now x.1)) result (read levels a_simple (unnamed in_proc) (behind tokens.now at)) }
 {
     if next_is(tokens, at, TokenKind::Symbol(Symbol::OpenSquare)) {
-        let (bracket, at) = take_kind(tokens, at, TokenKind::Symbol(Symbol::OpenSquare))?;
-        let (address, at) = read_subscript(alloc, levels, tokens, at)?;
-        let (_, at) = take_kind(tokens, at, TokenKind::Symbol(Symbol::Assign))?;
-        let (value, at) = read_expr(alloc, levels, tokens, at)?;
-        let target = RawRef::Bare(position(bracket), Boxed::new(alloc, address)?);
-        return Ok((
-            RawSimple::Assign(Boxed::new(alloc, target)?, Boxed::new(alloc, value)?),
-            at,
-        ));
+        return read_address_assigned(alloc, levels, tokens, at);
     }
     if next_is(tokens, at, TokenKind::Word(Word::Bits)) {
-        let (bits, at) = read_bits(tokens, at)?;
-        // The size alone shows the prover where the ranges of its numbers are stated.
-        let RawBits { at: word, size } = bits;
-        let (target, at) = read_reference(alloc, levels, tokens, at)?;
-        let (_, at) = take_kind(tokens, at, TokenKind::Symbol(Symbol::Assign))?;
-        let (value, at) = read_expr(alloc, levels, tokens, at)?;
-        let bits = RawBits { at: word, size };
-        return Ok((
-            RawSimple::AssignBits(bits, Boxed::new(alloc, target)?, Boxed::new(alloc, value)?),
-            at,
-        ));
+        return read_bits_assigned(alloc, levels, tokens, at);
     }
     if next_is(tokens, at, TokenKind::Word(Word::Goto)) {
-        let (word, at) = take_kind(tokens, at, TokenKind::Word(Word::Goto))?;
-        let (name, at) = read_name(tokens, at)?;
-        if next_is(tokens, at, TokenKind::Symbol(Symbol::OpenSquare)) {
-            let (_, at) = take_kind(tokens, at, TokenKind::Symbol(Symbol::OpenSquare))?;
-            let (index, at) = read_subscript(alloc, levels, tokens, at)?;
-            return Ok((
-                RawSimple::GotoSwitch(position(word), name, Boxed::new(alloc, index)?),
-                at,
-            ));
-        }
-        return Ok((RawSimple::Goto(position(word), name), at));
+        return read_goto(alloc, levels, tokens, at);
     }
     if next_is(tokens, at, TokenKind::Word(Word::Answer)) {
-        let (word, at) = take_kind(tokens, at, TokenKind::Word(Word::Answer))?;
-        let (value, at) = read_expr(alloc, levels, tokens, at)?;
-        return Ok((
-            RawSimple::Answer(position(word), Boxed::new(alloc, value)?),
-            at,
-        ));
+        return read_answered(alloc, levels, tokens, at);
     }
     if next_is(tokens, at, TokenKind::Word(Word::Begin)) {
-        let (word, at) = take_kind(tokens, at, TokenKind::Word(Word::Begin))?;
-        let (parts, at) = read_block_rest(alloc, levels, in_proc, tokens, at)?;
-        let (decls, stmts) = parts;
-        let block = RawBlock {
-            at: position(word),
-            decls,
-            stmts,
-        };
-        return Ok((RawSimple::Block(Boxed::new(alloc, block)?), at));
+        return read_block(alloc, levels, in_proc, tokens, at);
     }
     Ok((RawSimple::Empty, at))
 }
@@ -199,6 +130,24 @@ fn read_else_rest(
     read_stmt(alloc, levels - 1, in_proc, tokens, at)
 }
 
+#[cycle(statement_reader)]
+fn read_second(
+    alloc: Global,
+    levels: u8,
+    in_proc: bool,
+    tokens: &[Token],
+    at: usize,
+) -> Result<(Option<RawStmt>, usize), Stop>
+    ensures { Gives (λ x. (x.0, behind tokens.now x.1)) result (read levels (an_option a_stmt) (second_stmt in_proc) (behind tokens.now at)) }
+{
+    if next_is(tokens, at, TokenKind::Word(Word::Else)) {
+        let (_, at) = take_kind(tokens, at, TokenKind::Word(Word::Else))?;
+        let (second, at) = read_else_rest(alloc, levels, in_proc, tokens, at)?;
+        return Ok((Some(second), at));
+    }
+    Ok((None, at))
+}
+
 #[tactic(auto, using(cw_grammar::proofs::Levels::inside_opened, cw_grammar::proofs::Levels::inside_full), unfolding(cw_grammar::specs::Table::rule))]
 #[cycle(statement_reader)]
 fn read_if_rest(
@@ -222,62 +171,8 @@ fn read_if_rest(
     let (test, at) = read_condition(alloc, levels - 1, tokens, at)?;
     let (_, at) = take_kind(tokens, at, TokenKind::Word(Word::Then))?;
     let (first, at) = read_labelled_simple(alloc, levels - 1, in_proc, tokens, at)?;
-    if next_is(tokens, at, TokenKind::Word(Word::Else)) {
-        let (_, at) = take_kind(tokens, at, TokenKind::Word(Word::Else))?;
-        let (second, at) = read_else_rest(alloc, levels - 1, in_proc, tokens, at)?;
-        return Ok(((test, (first, Some(second))), at));
-    }
-    Ok(((test, (first, None)), at))
-}
-
-#[tactic(auto, unfolding(cw_grammar::specs::Statements::felem))]
-fn read_felem(
-    alloc: Global,
-    levels: u8,
-    tokens: &[Token],
-    at: usize,
-) -> Result<(RawFelem, usize), Stop>
-    ensures { Gives (λ x. (x.0, behind tokens.now x.1)) result (read levels a_felem felem (behind tokens.now at)) }
-{
-    let (first, at) = read_expr(alloc, levels, tokens, at)?;
-    let first = Boxed::new(alloc, first)?;
-    if next_is(tokens, at, TokenKind::Word(Word::While)) {
-        let (_, at) = take_kind(tokens, at, TokenKind::Word(Word::While))?;
-        let (test, at) = read_condition(alloc, levels, tokens, at)?;
-        return Ok((RawFelem::While(first, Boxed::new(alloc, test)?), at));
-    }
-    if next_is(tokens, at, TokenKind::Word(Word::Step)) {
-        let (_, at) = take_kind(tokens, at, TokenKind::Word(Word::Step))?;
-        let (step, at) = read_expr(alloc, levels, tokens, at)?;
-        let (_, at) = take_kind(tokens, at, TokenKind::Word(Word::Until))?;
-        let (limit, at) = read_expr(alloc, levels, tokens, at)?;
-        return Ok((
-            RawFelem::Step(first, Boxed::new(alloc, step)?, Boxed::new(alloc, limit)?),
-            at,
-        ));
-    }
-    Ok((RawFelem::One(first), at))
-}
-
-fn read_felems(
-    alloc: Global,
-    levels: u8,
-    tokens: &[Token],
-    at: usize,
-) -> Result<(List<RawFelem>, usize), Stop>
-    ensures { Gives (λ x. (x.0, behind tokens.now x.1)) result (read levels (a_list a_felem) (commas felem) (behind tokens.now at)) }
-{
-    let (first, at) = read_felem(alloc, levels, tokens, at)?;
-    let mut found = List::new(alloc);
-    found.push(first)?;
-    let mut next = at;
-    while next_is(tokens, next, TokenKind::Symbol(Symbol::Comma)) {
-        let (_, after) = take_kind(tokens, next, TokenKind::Symbol(Symbol::Comma))?;
-        let (item, after) = read_felem(alloc, levels, tokens, after)?;
-        found.push(item)?;
-        next = after;
-    }
-    Ok((found, next))
+    let (second, at) = read_second(alloc, levels - 1, in_proc, tokens, at)?;
+    Ok(((test, (first, second)), at))
 }
 
 #[tactic(auto, using(cw_grammar::proofs::Levels::inside_opened, cw_grammar::proofs::Levels::inside_full), unfolding(cw_grammar::specs::Table::rule))]
@@ -302,6 +197,38 @@ fn read_for_rest(
     Ok(((variable, (elems, body)), at))
 }
 
+#[cycle(statement_reader)]
+fn read_if(
+    alloc: Global,
+    levels: u8,
+    in_proc: bool,
+    tokens: &[Token],
+    at: usize,
+) -> Result<(RawForm, usize), Stop>
+    ensures { Gives (λ x. (x.0, behind tokens.now x.1)) result (read levels a_form (if_form in_proc) (behind tokens.now at)) }
+{
+    let (word, at) = take_kind(tokens, at, TokenKind::Word(Word::If))?;
+    let (parts, at) = read_if_rest(alloc, levels, in_proc, tokens, at)?;
+    let form = if_form(alloc, word, parts)?;
+    Ok((form, at))
+}
+
+#[cycle(statement_reader)]
+fn read_for(
+    alloc: Global,
+    levels: u8,
+    in_proc: bool,
+    tokens: &[Token],
+    at: usize,
+) -> Result<(RawForm, usize), Stop>
+    ensures { Gives (λ x. (x.0, behind tokens.now x.1)) result (read levels a_form (for_form in_proc) (behind tokens.now at)) }
+{
+    let (word, at) = take_kind(tokens, at, TokenKind::Word(Word::For))?;
+    let (parts, at) = read_for_rest(alloc, levels, in_proc, tokens, at)?;
+    let form = for_form(alloc, word, parts)?;
+    Ok((form, at))
+}
+
 #[tactic(auto, unfolding(cw_grammar::specs::Labels::unlabelled))]
 #[cycle(statement_reader)]
 fn read_form(
@@ -320,34 +247,10 @@ fn read_form(
         return Ok((RawForm::Simple(boxed), at));
     }
     if next_is(tokens, at, TokenKind::Word(Word::If)) {
-        let (word, at) = take_kind(tokens, at, TokenKind::Word(Word::If))?;
-        let (parts, at) = read_if_rest(alloc, levels, in_proc, tokens, at)?;
-        let (test, (then, second)) = parts;
-        let (labels, first) = then;
-        let second = match second {
-            None => None,
-            Some(stmt) => Some(Boxed::new(alloc, stmt)?),
-        };
-        let form = RawForm::If {
-            at: position(word),
-            test: Boxed::new(alloc, test)?,
-            labels,
-            first: Boxed::new(alloc, first)?,
-            second,
-        };
-        return Ok((form, at));
+        return read_if(alloc, levels, in_proc, tokens, at);
     }
     if next_is(tokens, at, TokenKind::Word(Word::For)) {
-        let (word, at) = take_kind(tokens, at, TokenKind::Word(Word::For))?;
-        let (parts, at) = read_for_rest(alloc, levels, in_proc, tokens, at)?;
-        let (variable, (elems, body)) = parts;
-        let form = RawForm::For {
-            at: position(word),
-            variable: Boxed::new(alloc, variable)?,
-            elems,
-            body: Boxed::new(alloc, body)?,
-        };
-        return Ok((form, at));
+        return read_for(alloc, levels, in_proc, tokens, at);
     }
     let (simple, at) = read_unnamed(alloc, levels, in_proc, tokens, at)?;
     let boxed = Boxed::new(alloc, simple)?;
@@ -402,14 +305,8 @@ fn read_proc_behind(
     let (params, at) = read_params(alloc, levels, tokens, at)?;
     let (_, at) = take_kind(tokens, at, TokenKind::Symbol(Symbol::Semicolon))?;
     let (body, at) = read_proc_body(alloc, levels, tokens, at)?;
-    let proc = RawProc {
-        answer: kind,
-        tag,
-        name,
-        params,
-        body: Boxed::new(alloc, body)?,
-    };
-    Ok((RawDecl::Proc(Boxed::new(alloc, proc)?), at))
+    let decl = proc_decl(alloc, kind, tag, name, params, body)?;
+    Ok((decl, at))
 }
 
 // The levels that are left do not matter.

@@ -1,45 +1,29 @@
 //! Expressions, conditions and references from left to right.
 ghost use Rattle.std.specs.Prelude.{◌≡◌, ℕ, [], ◌∷◌, IfOk};
-ghost use Rattle.cw_grammar.specs.Tokens.{behind, seen, position};
-ghost use Rattle.cw_grammar.specs.Grammar.{starts, first, a_pair, a_list, an_option, a_bits, a_compare_sign, a_factor_sign, an_expr, a_cond, a_cand, a_cmp, a_sum, a_term, a_differ, a_union, a_mask, a_prim, a_primary, a_ref, bracketed, subscript, indexed, called, located, conditional, many, ◌·◌, ◌⇒◌};
-ghost use Rattle.cw_grammar.specs.Rules.{word as grammar_word, symbol, indexed_name, compared, optional, commas, ◌*>◌, bits, reference, constant, worded, enclosed, named, primary, prim, mask, union, differ, term, sum, cmp, cand, condition, expr, factor_sign, comparator};
+ghost use Rattle.cw_grammar.specs.Tokens.{behind};
+ghost use Rattle.cw_grammar.specs.Grammar.{a_pair, a_list, an_option, an_expr, a_cond, a_cand, a_cmp, a_sum, a_term, a_differ, a_union, a_mask, a_prim, a_primary, a_ref, bracketed, subscript, indexed, called, located, conditional};
+ghost use Rattle.cw_grammar.specs.Rules.{word as grammar_word, symbol, optional, commas, ◌*>◌, reference, worded, enclosed, named, primary, prim, mask, union, differ, term, sum, cmp, cand, condition, expr};
 ghost use Rattle.cw_grammar.specs.Reading.{Gives, read, inside};
 ghost use Rattle.cw_lex.specs.declared.token.Symbol.TheVariants.{Comma};
-ghost use Rattle.cw_tree.specs.declared.expression.RawExpr.TheVariants.{Choice};
+ghost use Rattle.cw_operand.specs.Operands.{location, forced, in_brackets, addressed};
 
-use crate::brackets::{
+use cw_grammar::reading::{is_sign, read_name, read_optional_sign, read_sign, read_type};
+use cw_grammar::stop::Stop;
+use cw_grammar::token::{deep, next_is, position, take_kind};
+use cw_lex::{Symbol, Token, TokenKind, Word};
+use cw_operand::brackets::{
     differ_start, expr_of, mask_start, prim_of, start, sum_start, term_start, union_start,
 };
-use cw_grammar::leaf::{characters, literal_byte};
-use cw_grammar::reading::{
-    is_sign, read_name, read_number, read_octal, read_optional_sign, read_sign, read_size,
-    read_type,
+use cw_operand::operands::{
+    choice, indexed_name, is_constant, is_enclosed, is_factor_sign, is_worded, read_all_bits,
+    read_comparator, read_constant, read_factor_sign, read_operator,
 };
-use cw_grammar::stop::Stop;
-use cw_grammar::token::{Item, deep, next_is, position, take_kind};
-use cw_lex::{Symbol, Token, TokenKind, Word};
 use cw_tree::expression::{
-    RawBits, RawCand, RawCmp, RawCond, RawDiffer, RawExpr, RawMask, RawPrim, RawPrimary, RawRef,
-    RawSum, RawTerm, RawUnion,
+    RawCand, RawCmp, RawCond, RawDiffer, RawExpr, RawMask, RawPrim, RawPrimary, RawRef, RawSum,
+    RawTerm, RawUnion,
 };
-use cw_tree::leaf::{CompareOp, MulOp, RawCompareSign, RawFactorSign, RawLiteral, RawName};
-use cw_word::{Boxed, List, NoMemory};
+use cw_word::{Boxed, List};
 use std::alloc::Global;
-
-#[tactic(auto, unfolding(cw_grammar::specs::Rules::bits))]
-pub fn read_bits(tokens: &[Token], at: usize) -> Result<(RawBits, usize), Stop>
-    ensures { Gives (λ x. (x.0, behind tokens.now x.1)) result (read 0 a_bits bits (behind tokens.now at)) }
-{
-    let (word, at) = take_kind(tokens, at, TokenKind::Word(Word::Bits))?;
-    let (size, at) = read_size(tokens, at)?;
-    Ok((
-        RawBits {
-            at: position(word),
-            size,
-        },
-        at,
-    ))
-}
 
 #[tactic(auto, using(cw_grammar::proofs::Levels::inside_opened, cw_grammar::proofs::Levels::inside_full), unfolding(cw_grammar::specs::Table::rule))]
 #[cycle(reader)]
@@ -205,21 +189,6 @@ fn read_conditional(
     Ok(((test, (yes, no)), at))
 }
 
-pub fn indexed_name(
-    alloc: Global,
-    name: RawName,
-    index: (RawExpr, Option<RawExpr>),
-) -> Result<RawRef, NoMemory>
-    ensures { IfOk result (λ x. x ≡ indexed_name name index.0 index.1) }
-{
-    let (first, second) = index;
-    let first = Boxed::new(alloc, first)?;
-    match second {
-        None => Ok(RawRef::One(name, first)),
-        Some(second) => Ok(RawRef::Two(name, first, Boxed::new(alloc, second)?)),
-    }
-}
-
 #[tactic(auto, unfolding(cw_grammar::specs::Rules::reference))]
 #[cycle(reader)]
 pub fn read_reference(
@@ -247,39 +216,39 @@ pub fn read_reference(
     ))
 }
 
-#[tactic(auto, unfolding(cw_grammar::specs::Rules::constant, cw_grammar::specs::Rules::octal))]
-fn read_constant(
+#[cycle(reader)]
+fn read_location(
     alloc: Global,
     levels: u8,
     tokens: &[Token],
     at: usize,
 ) -> Result<(RawPrimary, usize), Stop>
-    ensures { Gives (λ x. (x.0, behind tokens.now x.1)) result (read levels a_primary constant (behind tokens.now at)) }
+    ensures { Gives (λ x. (x.0, behind tokens.now x.1)) result (read levels a_primary location (behind tokens.now at)) }
 {
-    if next_is(tokens, at, TokenKind::Number) {
-        let (number, at) = read_number(tokens, at)?;
-        return Ok((RawPrimary::Number(number), at));
-    }
-    if next_is(tokens, at, TokenKind::Word(Word::Octal)) {
-        let (octal, at) = read_octal(tokens, at)?;
-        return Ok((RawPrimary::Octal(octal), at));
-    }
-    if next_is(tokens, at, TokenKind::Literal) {
-        let (item, at) = take_kind(tokens, at, TokenKind::Literal)?;
-        let literal = RawLiteral {
-            at: position(item),
-            byte: literal_byte(item.text),
-        };
-        return Ok((RawPrimary::Literal(literal), at));
-    }
-    let (item, at) = take_kind(tokens, at, TokenKind::Text)?;
-    Ok((
-        RawPrimary::Text(position(item), characters(alloc, item.kind, item.text)?),
-        at,
-    ))
+    let (word, at) = take_kind(tokens, at, TokenKind::Word(Word::Location))?;
+    let (_, at) = take_kind(tokens, at, TokenKind::Symbol(Symbol::Open))?;
+    let (reference, at) = read_located(alloc, levels, tokens, at)?;
+    let reference = Boxed::new(alloc, reference)?;
+    Ok((RawPrimary::Location(position(word), reference), at))
 }
 
-#[tactic(auto, unfolding(cw_grammar::specs::Rules::worded, cw_grammar::specs::Rules::number_type, cw_grammar::specs::Rules::int, cw_grammar::specs::Rules::octal, cw_grammar::specs::Rules::sint))]
+#[tactic(auto, unfolding(cw_grammar::specs::Rules::number_type, cw_grammar::specs::Rules::int, cw_grammar::specs::Rules::octal, cw_grammar::specs::Rules::sint))]
+#[cycle(reader)]
+fn read_forced(
+    alloc: Global,
+    levels: u8,
+    tokens: &[Token],
+    at: usize,
+) -> Result<(RawPrimary, usize), Stop>
+    ensures { Gives (λ x. (x.0, behind tokens.now x.1)) result (read levels a_primary forced (behind tokens.now at)) }
+{
+    let (kind, at) = read_type(tokens, at)?;
+    let (_, at) = take_kind(tokens, at, TokenKind::Symbol(Symbol::Open))?;
+    let (inner, at) = read_bracketed(alloc, levels, tokens, at)?;
+    Ok((RawPrimary::Forced(kind, Boxed::new(alloc, inner)?), at))
+}
+
+#[tactic(auto, unfolding(cw_grammar::specs::Rules::worded))]
 #[cycle(reader)]
 fn read_worded(
     alloc: Global,
@@ -290,18 +259,39 @@ fn read_worded(
     ensures { Gives (λ x. (x.0, behind tokens.now x.1)) result (read levels a_primary worded (behind tokens.now at)) }
 {
     if next_is(tokens, at, TokenKind::Word(Word::Location)) {
-        let (word, at) = take_kind(tokens, at, TokenKind::Word(Word::Location))?;
-        let (_, at) = take_kind(tokens, at, TokenKind::Symbol(Symbol::Open))?;
-        let (reference, at) = read_located(alloc, levels, tokens, at)?;
-        return Ok((
-            RawPrimary::Location(position(word), Boxed::new(alloc, reference)?),
-            at,
-        ));
+        return read_location(alloc, levels, tokens, at);
     }
-    let (kind, at) = read_type(tokens, at)?;
-    let (_, at) = take_kind(tokens, at, TokenKind::Symbol(Symbol::Open))?;
+    read_forced(alloc, levels, tokens, at)
+}
+
+#[cycle(reader)]
+fn read_in_brackets(
+    alloc: Global,
+    levels: u8,
+    tokens: &[Token],
+    at: usize,
+) -> Result<(RawPrimary, usize), Stop>
+    ensures { Gives (λ x. (x.0, behind tokens.now x.1)) result (read levels a_primary in_brackets (behind tokens.now at)) }
+{
+    let (bracket, at) = take_kind(tokens, at, TokenKind::Symbol(Symbol::Open))?;
     let (inner, at) = read_bracketed(alloc, levels, tokens, at)?;
-    Ok((RawPrimary::Forced(kind, Boxed::new(alloc, inner)?), at))
+    let inner = Boxed::new(alloc, inner)?;
+    Ok((RawPrimary::Bracket(position(bracket), inner), at))
+}
+
+#[cycle(reader)]
+fn read_addressed(
+    alloc: Global,
+    levels: u8,
+    tokens: &[Token],
+    at: usize,
+) -> Result<(RawPrimary, usize), Stop>
+    ensures { Gives (λ x. (x.0, behind tokens.now x.1)) result (read levels a_primary addressed (behind tokens.now at)) }
+{
+    let (bracket, at) = take_kind(tokens, at, TokenKind::Symbol(Symbol::OpenSquare))?;
+    let (inner, at) = read_subscript(alloc, levels, tokens, at)?;
+    let reference = RawRef::Bare(position(bracket), Boxed::new(alloc, inner)?);
+    Ok((RawPrimary::Ref(Boxed::new(alloc, reference)?), at))
 }
 
 #[tactic(auto, unfolding(cw_grammar::specs::Rules::enclosed))]
@@ -315,17 +305,9 @@ fn read_enclosed(
     ensures { Gives (λ x. (x.0, behind tokens.now x.1)) result (read levels a_primary enclosed (behind tokens.now at)) }
 {
     if next_is(tokens, at, TokenKind::Symbol(Symbol::Open)) {
-        let (bracket, at) = take_kind(tokens, at, TokenKind::Symbol(Symbol::Open))?;
-        let (inner, at) = read_bracketed(alloc, levels, tokens, at)?;
-        return Ok((
-            RawPrimary::Bracket(position(bracket), Boxed::new(alloc, inner)?),
-            at,
-        ));
+        return read_in_brackets(alloc, levels, tokens, at);
     }
-    let (bracket, at) = take_kind(tokens, at, TokenKind::Symbol(Symbol::OpenSquare))?;
-    let (inner, at) = read_subscript(alloc, levels, tokens, at)?;
-    let reference = RawRef::Bare(position(bracket), Boxed::new(alloc, inner)?);
-    Ok((RawPrimary::Ref(Boxed::new(alloc, reference)?), at))
+    read_addressed(alloc, levels, tokens, at)
 }
 
 #[tactic(auto, unfolding(cw_grammar::specs::Rules::named))]
@@ -353,33 +335,6 @@ fn read_named(
     Ok((RawPrimary::Ref(Boxed::new(alloc, RawRef::Name(name))?), at))
 }
 
-#[tactic(auto, unfolding(cw_grammar::specs::Rules::constant, cw_grammar::specs::Rules::octal))]
-fn is_constant(tokens: &[Token], at: usize) -> bool
-    ensures { result ≡ starts (behind tokens.now at) (first constant) }
-{
-    next_is(tokens, at, TokenKind::Number)
-        || next_is(tokens, at, TokenKind::Word(Word::Octal))
-        || next_is(tokens, at, TokenKind::Literal)
-        || next_is(tokens, at, TokenKind::Text)
-}
-
-#[tactic(auto, unfolding(cw_grammar::specs::Rules::worded, cw_grammar::specs::Rules::number_type))]
-fn is_worded(tokens: &[Token], at: usize) -> bool
-    ensures { result ≡ starts (behind tokens.now at) (first worded) }
-{
-    next_is(tokens, at, TokenKind::Word(Word::Location))
-        || next_is(tokens, at, TokenKind::Word(Word::Integer))
-        || next_is(tokens, at, TokenKind::Word(Word::Fixed))
-}
-
-#[tactic(auto, unfolding(cw_grammar::specs::Rules::enclosed))]
-fn is_enclosed(tokens: &[Token], at: usize) -> bool
-    ensures { result ≡ starts (behind tokens.now at) (first enclosed) }
-{
-    next_is(tokens, at, TokenKind::Symbol(Symbol::Open))
-        || next_is(tokens, at, TokenKind::Symbol(Symbol::OpenSquare))
-}
-
 #[tactic(auto, unfolding(cw_grammar::specs::Rules::primary))]
 #[cycle(reader)]
 fn read_primary(
@@ -400,26 +355,6 @@ fn read_primary(
         return read_enclosed(alloc, levels, tokens, at);
     }
     read_named(alloc, levels, tokens, at)
-}
-
-fn read_all_bits(
-    alloc: Global,
-    levels: u8,
-    tokens: &[Token],
-    at: usize,
-) -> Result<(List<RawBits>, usize), Stop>
-    ensures { Gives (λ x. (x.0, behind tokens.now x.1)) result (read levels (a_list a_bits) (many bits) (behind tokens.now at)) }
-{
-    let mut found = List::new(alloc);
-    let mut next = at;
-    while next_is(tokens, next, TokenKind::Word(Word::Bits)) {
-        let (item, after) = read_bits(tokens, next)?;
-        // The size alone shows the prover where the ranges of its numbers are stated.
-        let RawBits { at, size } = item;
-        found.push(RawBits { at, size })?;
-        next = after;
-    }
-    Ok((found, next))
 }
 
 #[tactic(auto, unfolding(cw_grammar::specs::Rules::prim))]
@@ -451,10 +386,10 @@ fn read_mask(
     let (mut operands, mut operators) = mask_start(alloc, first)?;
     let mut next = at;
     while next_is(tokens, next, TokenKind::Word(Word::Mask)) {
-        let (operator, after) = take_kind(tokens, next, TokenKind::Word(Word::Mask))?;
+        let (operator, after) = read_operator(tokens, next, Word::Mask)?;
         let (operand, after) = read_prim(alloc, levels, tokens, after)?;
         operands.push(operand)?;
-        operators.push(position(operator))?;
+        operators.push(operator)?;
         next = after;
     }
     Ok((
@@ -480,10 +415,10 @@ fn read_union(
     let (mut operands, mut operators) = union_start(alloc, first)?;
     let mut next = at;
     while next_is(tokens, next, TokenKind::Word(Word::Union)) {
-        let (operator, after) = take_kind(tokens, next, TokenKind::Word(Word::Union))?;
+        let (operator, after) = read_operator(tokens, next, Word::Union)?;
         let (operand, after) = read_mask(alloc, levels, tokens, after)?;
         operands.push(operand)?;
-        operators.push(position(operator))?;
+        operators.push(operator)?;
         next = after;
     }
     Ok((
@@ -509,10 +444,10 @@ fn read_differ(
     let (mut operands, mut operators) = differ_start(alloc, first)?;
     let mut next = at;
     while next_is(tokens, next, TokenKind::Word(Word::Differ)) {
-        let (operator, after) = take_kind(tokens, next, TokenKind::Word(Word::Differ))?;
+        let (operator, after) = read_operator(tokens, next, Word::Differ)?;
         let (operand, after) = read_union(alloc, levels, tokens, after)?;
         operands.push(operand)?;
-        operators.push(position(operator))?;
+        operators.push(operator)?;
         next = after;
     }
     Ok((
@@ -522,32 +457,6 @@ fn read_differ(
         },
         next,
     ))
-}
-
-fn is_factor_sign(tokens: &[Token], at: usize) -> bool
-    ensures { result ≡ starts (behind tokens.now at) (first factor_sign) }
-{
-    next_is(tokens, at, TokenKind::Symbol(Symbol::Times))
-        || next_is(tokens, at, TokenKind::Symbol(Symbol::Divide))
-}
-
-fn read_factor_sign(tokens: &[Token], at: usize) -> Result<(RawFactorSign, usize), Stop>
-    ensures { Gives (λ x. (x.0, behind tokens.now x.1)) result (read 0 a_factor_sign factor_sign (behind tokens.now at)) }
-{
-    if next_is(tokens, at, TokenKind::Symbol(Symbol::Times)) {
-        let (item, at) = take_kind(tokens, at, TokenKind::Symbol(Symbol::Times))?;
-        let sign = RawFactorSign {
-            at: position(item),
-            op: MulOp::Times,
-        };
-        return Ok((sign, at));
-    }
-    let (item, at) = take_kind(tokens, at, TokenKind::Symbol(Symbol::Divide))?;
-    let sign = RawFactorSign {
-        at: position(item),
-        op: MulOp::Divide,
-    };
-    Ok((sign, at))
 }
 
 #[tactic(auto, unfolding(cw_grammar::specs::Rules::term))]
@@ -603,42 +512,6 @@ fn read_sum(alloc: Global, levels: u8, tokens: &[Token], at: usize) -> Result<(R
     Ok((sum, next))
 }
 
-fn compared(op: CompareOp, item: Item) -> RawCompareSign
-    ensures { result ≡ compared op (seen item.entry) }
-{
-    RawCompareSign {
-        at: position(item),
-        op,
-    }
-}
-
-fn read_comparator(tokens: &[Token], at: usize) -> Result<(RawCompareSign, usize), Stop>
-    ensures { Gives (λ x. (x.0, behind tokens.now x.1)) result (read 0 a_compare_sign comparator (behind tokens.now at)) }
-{
-    if next_is(tokens, at, TokenKind::Symbol(Symbol::Less)) {
-        let (item, at) = take_kind(tokens, at, TokenKind::Symbol(Symbol::Less))?;
-        return Ok((compared(CompareOp::Less, item), at));
-    }
-    if next_is(tokens, at, TokenKind::Symbol(Symbol::LessOrEqual)) {
-        let (item, at) = take_kind(tokens, at, TokenKind::Symbol(Symbol::LessOrEqual))?;
-        return Ok((compared(CompareOp::LessOrEqual, item), at));
-    }
-    if next_is(tokens, at, TokenKind::Symbol(Symbol::Equal)) {
-        let (item, at) = take_kind(tokens, at, TokenKind::Symbol(Symbol::Equal))?;
-        return Ok((compared(CompareOp::Equal, item), at));
-    }
-    if next_is(tokens, at, TokenKind::Symbol(Symbol::GreaterOrEqual)) {
-        let (item, at) = take_kind(tokens, at, TokenKind::Symbol(Symbol::GreaterOrEqual))?;
-        return Ok((compared(CompareOp::GreaterOrEqual, item), at));
-    }
-    if next_is(tokens, at, TokenKind::Symbol(Symbol::Greater)) {
-        let (item, at) = take_kind(tokens, at, TokenKind::Symbol(Symbol::Greater))?;
-        return Ok((compared(CompareOp::Greater, item), at));
-    }
-    let (item, at) = take_kind(tokens, at, TokenKind::Symbol(Symbol::NotEqual))?;
-    Ok((compared(CompareOp::NotEqual, item), at))
-}
-
 #[tactic(auto, unfolding(cw_grammar::specs::Rules::cmp))]
 #[cycle(reader)]
 fn read_cmp(alloc: Global, levels: u8, tokens: &[Token], at: usize) -> Result<(RawCmp, usize), Stop>
@@ -673,10 +546,10 @@ fn read_cand(
     let (mut operands, mut operators) = start(alloc, first)?;
     let mut next = at;
     while next_is(tokens, next, TokenKind::Word(Word::And)) {
-        let (operator, after) = take_kind(tokens, next, TokenKind::Word(Word::And))?;
+        let (operator, after) = read_operator(tokens, next, Word::And)?;
         let (operand, after) = read_cmp(alloc, levels, tokens, after)?;
         operands.push(operand)?;
-        operators.push(position(operator))?;
+        operators.push(operator)?;
         next = after;
     }
     Ok((
@@ -702,10 +575,10 @@ pub fn read_condition(
     let (mut operands, mut operators) = start(alloc, first)?;
     let mut next = at;
     while next_is(tokens, next, TokenKind::Word(Word::Or)) {
-        let (operator, after) = take_kind(tokens, next, TokenKind::Word(Word::Or))?;
+        let (operator, after) = read_operator(tokens, next, Word::Or)?;
         let (operand, after) = read_cand(alloc, levels, tokens, after)?;
         operands.push(operand)?;
-        operators.push(position(operator))?;
+        operators.push(operator)?;
         next = after;
     }
     Ok((
@@ -715,20 +588,6 @@ pub fn read_condition(
         },
         next,
     ))
-}
-
-fn choice(
-    alloc: Global,
-    item: Item,
-    parts: (RawCond, (RawExpr, RawExpr)),
-) -> Result<RawExpr, NoMemory>
-    ensures { IfOk result (λ x. x ≡ Choice (position (seen item.entry)) parts.0 parts.1.0 parts.1.1) }
-{
-    let (test, (yes, no)) = parts;
-    let test = Boxed::new(alloc, test)?;
-    let yes = Boxed::new(alloc, yes)?;
-    let no = Boxed::new(alloc, no)?;
-    Ok(RawExpr::Choice(position(item), test, yes, no))
 }
 
 #[tactic(auto, unfolding(cw_grammar::specs::Rules::expr))]

@@ -1,4 +1,2 @@
-pub mod Places
-pub mod Elems
 pub mod Typed
 pub mod Communicators

@@ -11,18 +11,24 @@ use Rattle.cw_grammar.specs.Tokens.{Item}
 use Rattle.cw_grammar.specs.Grammar.{Sort, a_from, an_option, a_type, a_data, a_citem, a_decl, a_param, Value, Grammar, ◌·◌, ◌∣◌, ◌⇒◌, starts, first}
 use Rattle.cw_grammar.specs.Rules.{number_type, word, name, commas, ◌*>◌}
 use Rattle.cw_grammar.specs.Statements.{from, singles, arrays, item_data, citem, decl, param, procedure_param, spec_behind, proc_behind}
-use Rattle.cw_grammar.specs.Reading.{Read, applied, reads}
-use Rattle.cw_grammar.proofs.From.{from_first, from_other, first_one, mapped_ok, some_applied}
+use Rattle.cw_grammar.specs.declared.stop.Stop.{Stop}
+use Rattle.cw_grammar.specs.declared.stop.Stop.TheVariants as stops
+use Rattle.cw_grammar.specs.Reading.{Read, Fails, syntax_at, deep_at, ◌>>=◌, applied, reads}
+use Rattle.cw_grammar.proofs.From.{from_first, from_other, first_one, second_of, applied_map, mapped_ok, some_applied}
 
--- ---- data
+-- ---- forms
 
-pub data_singles : (ts us : List Item) (x : RawType) → starts ts (first number_type) ≡ true → reads 0 number_type ts ≡ Ok (x, us) → starts us (kinds.Name ∷ []) ≡ true → applied x (reads 0 singles us) ≡ reads 0 item_data ts
-unfolding item_data singles number_type
-data_singles ts us x t e f = sym (rw t (from_first 0 a_type a_data number_type singles arrays x ts us e f))
+pub mapped_fails : {A B : Type 0} (s : Stop) (f : A → B) (o : Read A) (total : Read B) → (o >>= λ y. Ok (f y.0, y.1)) ≡ total → Fails s o → Fails s total
+mapped_fails stops.Memory f o total e h = tt
+mapped_fails (stops.Syntax j) f o total e h = sym e ∙ rw h refl
+mapped_fails (stops.Deep j) f o total e h = sym e ∙ rw h refl
 
-pub data_arrays : (ts us : List Item) (x : RawType) → starts ts (first number_type) ≡ true → reads 0 number_type ts ≡ Ok (x, us) → starts us (kinds.Name ∷ []) ≡ false → applied x (reads 0 arrays us) ≡ reads 0 item_data ts
-unfolding item_data singles number_type
-data_arrays ts us x t e f = sym (rw t (from_other 0 a_type a_data number_type singles arrays x ts us e f))
+pub mapped_reads : {A B : Type 0} (f : A → B) (o : Read A) (total : Read B) (x : A) (us : List Item) → (o >>= λ y. Ok (f y.0, y.1)) ≡ total → o ≡ Ok (x, us) → total ≡ Ok (f x, us)
+mapped_reads f o total x us e h = sym e ∙ rw h refl
+
+some_mapped : {A B C : Type 0} (x : A) (f : B → C) (o : Read (Option A → B)) → applied x (o >>= λ y. Ok ((λ a. f (y.0 (Some a))), y.1)) ≡ (applied (Some x) o >>= λ y. Ok (f y.0, y.1))
+some_mapped x f (Ok y) = refl
+some_mapped x f (Err k) = refl
 
 -- ---- communicators' items
 
@@ -46,6 +52,25 @@ citem_of_arrays ts us vs x d t e f g h =
     rw t (from_other 0 a_type a_citem number_type citem_singles (citem_arrays ∣ citem_spec) x ts us e f
     ∙ ap (λ (o : Read (Value (a_from a_type a_citem))). applied x o) (first_one 0 (a_from a_type a_citem) citem_arrays citem_spec us g) ∙ mapped_ok 0 a_type a_data a_citem arrays (λ y. citem_tree.Data y) x d us vs h)
 
+pub citem_singles_read : (ts us : List Item) (x : RawType) → starts ts (first number_type) ≡ true → reads 0 number_type ts ≡ Ok (x, us) → starts us (kinds.Name ∷ []) ≡ true → (applied x (reads 0 singles us) >>= λ y. Ok (citem_tree.Data y.0, y.1)) ≡ reads 0 citem ts
+unfolding citem singles number_type
+citem_singles_read ts us x t e f =
+    sym (rw t (from_first 0 a_type a_citem number_type citem_singles (citem_arrays ∣ citem_spec) x ts us e f ∙ applied_map x (λ y. citem_tree.Data y) (reads 0 singles us)))
+
+pub citem_arrays_read : (ts us : List Item) (x : RawType) → starts ts (first number_type) ≡ true → reads 0 number_type ts ≡ Ok (x, us) → starts us (kinds.Name ∷ []) ≡ false → starts us (kinds.Word words.Array ∷ []) ≡ true
+    → (applied x (reads 0 arrays us) >>= λ y. Ok (citem_tree.Data y.0, y.1)) ≡ reads 0 citem ts
+unfolding citem singles arrays number_type
+citem_arrays_read ts us x t e f g =
+    sym (rw t (from_other 0 a_type a_citem number_type citem_singles (citem_arrays ∣ citem_spec) x ts us e f
+    ∙ ap (λ (o : Read (Value (a_from a_type a_citem))). applied x o) (first_one 0 (a_from a_type a_citem) citem_arrays citem_spec us g) ∙ applied_map x (λ y. citem_tree.Data y) (reads 0 arrays us)))
+
+pub citem_spec_read : (ts us : List Item) (x : RawType) → starts ts (first number_type) ≡ true → reads 0 number_type ts ≡ Ok (x, us) → starts us (kinds.Name ∷ []) ≡ false → starts us (kinds.Word words.Array ∷ []) ≡ false
+    → (applied (Some x) (reads 0 spec_behind us) >>= λ y. Ok (citem_tree.Spec y.0, y.1)) ≡ reads 0 citem ts
+unfolding citem singles arrays number_type
+citem_spec_read ts us x t e f g =
+    sym (rw t (from_other 0 a_type a_citem number_type citem_singles (citem_arrays ∣ citem_spec) x ts us e f
+    ∙ ap (λ (o : Read (Value (a_from a_type a_citem))). applied x o) (second_of 0 (a_from a_type a_citem) citem_arrays citem_spec us g) ∙ some_mapped x (λ y. citem_tree.Spec y) (reads 0 spec_behind us)))
+
 -- ---- declarations
 
 abbrev pub decl_singles : Grammar (a_from a_type a_decl)
@@ -66,6 +91,14 @@ pub local_arrays : (ts us vs : List Item) (x : RawType) (d : RawData) → starts
 unfolding decl singles number_type
 local_arrays ts us vs x d t e f h =
     rw t (from_other 0 a_type a_decl number_type decl_singles decl_arrays x ts us e f ∙ mapped_ok 0 a_type a_data a_decl arrays (λ y. decl_tree.Data y) x d us vs h)
+
+pub local_singles_read : (ts us : List Item) (x : RawType) → starts ts (first number_type) ≡ true → reads 0 number_type ts ≡ Ok (x, us) → starts us (kinds.Name ∷ []) ≡ true → (applied x (reads 0 singles us) >>= λ y. Ok (decl_tree.Data y.0, y.1)) ≡ reads 0 (decl true) ts
+unfolding decl singles number_type
+local_singles_read ts us x t e f = sym (rw t (from_first 0 a_type a_decl number_type decl_singles decl_arrays x ts us e f ∙ applied_map x (λ y. decl_tree.Data y) (reads 0 singles us)))
+
+pub local_arrays_read : (ts us : List Item) (x : RawType) → starts ts (first number_type) ≡ true → reads 0 number_type ts ≡ Ok (x, us) → starts us (kinds.Name ∷ []) ≡ false → (applied x (reads 0 arrays us) >>= λ y. Ok (decl_tree.Data y.0, y.1)) ≡ reads 0 (decl true) ts
+unfolding decl singles number_type
+local_arrays_read ts us x t e f = sym (rw t (from_other 0 a_type a_decl number_type decl_singles decl_arrays x ts us e f ∙ applied_map x (λ y. decl_tree.Data y) (reads 0 arrays us)))
 
 -- ---- parameters
 

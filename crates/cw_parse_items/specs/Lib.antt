@@ -1,1 +1,1 @@
-pub mod Elems
+pub mod Alternatives

@@ -1,23 +1,51 @@
 //! Communicators from left to right.
 ghost use Rattle.std.specs.Prelude.{◌≡◌, ◌≤◌, ℕ, [], ◌∷◌, length};
 ghost use Rattle.cw_grammar.specs.Tokens.{behind};
-ghost use Rattle.cw_grammar.specs.Grammar.{starts, first, many, a_list, a_citem, a_spec, an_aitem, a_comm};
+ghost use Rattle.cw_grammar.specs.Grammar.{starts, first, many, a_pair, a_list, a_name, a_bounds, an_int, a_citem, a_spec, an_aitem, a_comm};
 ghost use Rattle.cw_grammar.specs.Rules.{symbol, ◌<*◌};
-ghost use Rattle.cw_grammar.specs.Statements.{ptag, semicolons, citem, spec, aitem, comm};
+ghost use Rattle.cw_grammar.specs.Statements.{in_round, semicolons, citem, spec, aitem, comm};
 ghost use Rattle.cw_grammar.specs.Reading.{Gives, read};
+ghost use Rattle.cw_parse_items.specs.Alternatives.{overlay_citem, label_citem, switch_citem, absolute_address, bounded, common, library, absolute};
 ghost use Rattle.cw_lex.specs.declared.token.Symbol.TheVariants.{Semicolon};
 
-use crate::items::{
-    is_type, read_arrays, read_data_table, read_names, read_overlay, read_singles, read_spec,
-    read_spec_behind, read_square_bounds, read_table,
-};
+use crate::specifications::{read_spec, read_spec_behind};
 use cw_grammar::reading::{read_int, read_name, read_type};
 use cw_grammar::stop::Stop;
 use cw_grammar::token::{next_is, position, take_kind};
 use cw_lex::{Symbol, Token, TokenKind, Word};
+use cw_parse_data::data::{
+    is_type, read_arrays, read_data_table, read_names, read_overlay, read_singles,
+    read_square_bounds, read_table,
+};
+use cw_tree::items::RawBounds;
+use cw_tree::leaf::{RawInt, RawName};
 use cw_tree::segment::{RawAitem, RawCitem, RawComm, RawSpec};
 use cw_word::List;
 use std::alloc::Global;
+
+fn read_overlay_citem(alloc: Global, tokens: &[Token], at: usize) -> Result<(RawCitem, usize), Stop>
+    ensures { Gives (λ x. (x.0, behind tokens.now x.1)) result (read 0 a_citem overlay_citem (behind tokens.now at)) }
+{
+    let (parts, at) = read_overlay(alloc, tokens, at)?;
+    let (word, (base, item)) = parts;
+    Ok((RawCitem::Overlay(position(word), base, item), at))
+}
+
+fn read_label_citem(alloc: Global, tokens: &[Token], at: usize) -> Result<(RawCitem, usize), Stop>
+    ensures { Gives (λ x. (x.0, behind tokens.now x.1)) result (read 0 a_citem label_citem (behind tokens.now at)) }
+{
+    let (word, at) = take_kind(tokens, at, TokenKind::Word(Word::Label))?;
+    let (names, at) = read_names(alloc, tokens, at)?;
+    Ok((RawCitem::Label(position(word), names), at))
+}
+
+fn read_switch_citem(alloc: Global, tokens: &[Token], at: usize) -> Result<(RawCitem, usize), Stop>
+    ensures { Gives (λ x. (x.0, behind tokens.now x.1)) result (read 0 a_citem switch_citem (behind tokens.now at)) }
+{
+    let (word, at) = take_kind(tokens, at, TokenKind::Word(Word::Switch))?;
+    let (names, at) = read_names(alloc, tokens, at)?;
+    Ok((RawCitem::Switch(position(word), names), at))
+}
 
 #[tactic(auto, unfolding(cw_grammar::specs::Statements::citem, cw_grammar::specs::Statements::singles, cw_grammar::specs::Statements::arrays, cw_grammar::specs::Statements::data_table, cw_grammar::specs::Statements::overlay, cw_grammar::specs::Rules::number_type))]
 fn read_citem(alloc: Global, tokens: &[Token], at: usize) -> Result<(RawCitem, usize), Stop>
@@ -41,22 +69,33 @@ fn read_citem(alloc: Global, tokens: &[Token], at: usize) -> Result<(RawCitem, u
         return Ok((RawCitem::Data(item), at));
     }
     if next_is(tokens, at, TokenKind::Word(Word::Overlay)) {
-        let (parts, at) = read_overlay(alloc, tokens, at)?;
-        let (word, (base, item)) = parts;
-        return Ok((RawCitem::Overlay(position(word), base, item), at));
+        return read_overlay_citem(alloc, tokens, at);
     }
     if next_is(tokens, at, TokenKind::Word(Word::Label)) {
-        let (word, at) = take_kind(tokens, at, TokenKind::Word(Word::Label))?;
-        let (names, at) = read_names(alloc, tokens, at)?;
-        return Ok((RawCitem::Label(position(word), names), at));
+        return read_label_citem(alloc, tokens, at);
     }
     if next_is(tokens, at, TokenKind::Word(Word::Switch)) {
-        let (word, at) = take_kind(tokens, at, TokenKind::Word(Word::Switch))?;
-        let (names, at) = read_names(alloc, tokens, at)?;
-        return Ok((RawCitem::Switch(position(word), names), at));
+        return read_switch_citem(alloc, tokens, at);
     }
     let (spec, at) = read_spec_behind(alloc, tokens, at, None)?;
     Ok((RawCitem::Spec(spec), at))
+}
+
+fn read_absolute_address(tokens: &[Token], at: usize) -> Result<(RawInt, usize), Stop>
+    ensures { Gives (λ x. (x.0, behind tokens.now x.1)) result (read 0 an_int absolute_address (behind tokens.now at)) }
+{
+    let (_, at) = take_kind(tokens, at, TokenKind::Symbol(Symbol::Divide))?;
+    let (address, at) = read_int(tokens, at)?;
+    Ok((address, at))
+}
+
+fn read_bounded(tokens: &[Token], at: usize) -> Result<((RawName, RawBounds), usize), Stop>
+    ensures { Gives (λ x. (x.0, behind tokens.now x.1)) result (read 0 (a_pair a_name a_bounds) bounded (behind tokens.now at)) }
+{
+    let (_, at) = take_kind(tokens, at, TokenKind::Word(Word::Array))?;
+    let (name, at) = read_name(tokens, at)?;
+    let (bounds, at) = read_square_bounds(tokens, at)?;
+    Ok(((name, bounds), at))
 }
 
 #[tactic(auto, unfolding(cw_grammar::specs::Statements::aitem, cw_grammar::specs::Statements::unplaced_aitem, cw_grammar::specs::Statements::typed_aitem, cw_grammar::specs::Rules::number_type))]
@@ -67,20 +106,16 @@ fn read_aitem(alloc: Global, tokens: &[Token], at: usize) -> Result<(RawAitem, u
         let (kind, at) = read_type(tokens, at)?;
         if next_is(tokens, at, TokenKind::Name) {
             let (name, at) = read_name(tokens, at)?;
-            let (_, at) = take_kind(tokens, at, TokenKind::Symbol(Symbol::Divide))?;
-            let (address, at) = read_int(tokens, at)?;
+            let (address, at) = read_absolute_address(tokens, at)?;
             return Ok((RawAitem::Single(kind, name, address), at));
         }
-        let (_, at) = take_kind(tokens, at, TokenKind::Word(Word::Array))?;
-        let (name, at) = read_name(tokens, at)?;
-        let (bounds, at) = read_square_bounds(tokens, at)?;
-        let (_, at) = take_kind(tokens, at, TokenKind::Symbol(Symbol::Divide))?;
-        let (address, at) = read_int(tokens, at)?;
+        let (parts, at) = read_bounded(tokens, at)?;
+        let (name, bounds) = parts;
+        let (address, at) = read_absolute_address(tokens, at)?;
         return Ok((RawAitem::Array(kind, name, bounds, address), at));
     }
     let (table, at) = read_table(alloc, tokens, at)?;
-    let (_, at) = take_kind(tokens, at, TokenKind::Symbol(Symbol::Divide))?;
-    let (address, at) = read_int(tokens, at)?;
+    let (address, at) = read_absolute_address(tokens, at)?;
     Ok((RawAitem::Table(table, address), at))
 }
 
@@ -132,29 +167,47 @@ fn read_aitems(alloc: Global, tokens: &[Token], at: usize) -> Result<(List<RawAi
     Ok((found, next))
 }
 
-#[tactic(auto, unfolding(cw_grammar::specs::Statements::comm))]
-fn read_comm(alloc: Global, tokens: &[Token], at: usize) -> Result<(RawComm, usize), Stop>
-    ensures { Gives (λ x. (x.0, behind tokens.now x.1)) result (read 0 a_comm comm (behind tokens.now at)) }
+fn read_common(alloc: Global, tokens: &[Token], at: usize) -> Result<(RawComm, usize), Stop>
+    ensures { Gives (λ x. (x.0, behind tokens.now x.1)) result (read 0 a_comm common (behind tokens.now at)) }
 {
-    if next_is(tokens, at, TokenKind::Word(Word::Common)) {
-        let (word, at) = take_kind(tokens, at, TokenKind::Word(Word::Common))?;
-        let (_, at) = take_kind(tokens, at, TokenKind::Symbol(Symbol::Open))?;
-        let (list, at) = read_citems(alloc, tokens, at)?;
-        let (_, at) = take_kind(tokens, at, TokenKind::Symbol(Symbol::Close))?;
-        return Ok((RawComm::Common(position(word), list), at));
-    }
-    if next_is(tokens, at, TokenKind::Word(Word::Library)) {
-        let (word, at) = take_kind(tokens, at, TokenKind::Word(Word::Library))?;
-        let (_, at) = take_kind(tokens, at, TokenKind::Symbol(Symbol::Open))?;
-        let (list, at) = read_specs(alloc, tokens, at)?;
-        let (_, at) = take_kind(tokens, at, TokenKind::Symbol(Symbol::Close))?;
-        return Ok((RawComm::Library(position(word), list), at));
-    }
+    let (word, at) = take_kind(tokens, at, TokenKind::Word(Word::Common))?;
+    let (_, at) = take_kind(tokens, at, TokenKind::Symbol(Symbol::Open))?;
+    let (list, at) = read_citems(alloc, tokens, at)?;
+    let (_, at) = take_kind(tokens, at, TokenKind::Symbol(Symbol::Close))?;
+    Ok((RawComm::Common(position(word), list), at))
+}
+
+fn read_library(alloc: Global, tokens: &[Token], at: usize) -> Result<(RawComm, usize), Stop>
+    ensures { Gives (λ x. (x.0, behind tokens.now x.1)) result (read 0 a_comm library (behind tokens.now at)) }
+{
+    let (word, at) = take_kind(tokens, at, TokenKind::Word(Word::Library))?;
+    let (_, at) = take_kind(tokens, at, TokenKind::Symbol(Symbol::Open))?;
+    let (list, at) = read_specs(alloc, tokens, at)?;
+    let (_, at) = take_kind(tokens, at, TokenKind::Symbol(Symbol::Close))?;
+    Ok((RawComm::Library(position(word), list), at))
+}
+
+fn read_absolute(alloc: Global, tokens: &[Token], at: usize) -> Result<(RawComm, usize), Stop>
+    ensures { Gives (λ x. (x.0, behind tokens.now x.1)) result (read 0 a_comm absolute (behind tokens.now at)) }
+{
     let (word, at) = take_kind(tokens, at, TokenKind::Word(Word::Absolute))?;
     let (_, at) = take_kind(tokens, at, TokenKind::Symbol(Symbol::Open))?;
     let (list, at) = read_aitems(alloc, tokens, at)?;
     let (_, at) = take_kind(tokens, at, TokenKind::Symbol(Symbol::Close))?;
     Ok((RawComm::Absolute(position(word), list), at))
+}
+
+#[tactic(auto, unfolding(cw_grammar::specs::Statements::comm))]
+fn read_comm(alloc: Global, tokens: &[Token], at: usize) -> Result<(RawComm, usize), Stop>
+    ensures { Gives (λ x. (x.0, behind tokens.now x.1)) result (read 0 a_comm comm (behind tokens.now at)) }
+{
+    if next_is(tokens, at, TokenKind::Word(Word::Common)) {
+        return read_common(alloc, tokens, at);
+    }
+    if next_is(tokens, at, TokenKind::Word(Word::Library)) {
+        return read_library(alloc, tokens, at);
+    }
+    read_absolute(alloc, tokens, at)
 }
 
 #[tactic(auto, unfolding(cw_grammar::specs::Statements::comm))]

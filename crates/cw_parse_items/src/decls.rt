@@ -4,12 +4,15 @@ ghost use Rattle.cw_grammar.specs.Tokens.{behind};
 ghost use Rattle.cw_grammar.specs.Grammar.{starts, first, a_decl};
 ghost use Rattle.cw_grammar.specs.Statements.{decl, worded_decl};
 ghost use Rattle.cw_grammar.specs.Reading.{Gives, read};
+ghost use Rattle.cw_parse_items.specs.Alternatives.{overlay_decl, switch_decl};
 
-use crate::items::{is_type, read_arrays, read_data_table, read_names, read_overlay, read_singles};
 use cw_grammar::reading::{read_name, read_type};
 use cw_grammar::stop::Stop;
 use cw_grammar::token::{next_is, position, take_kind};
 use cw_lex::{Symbol, Token, TokenKind, Word};
+use cw_parse_data::data::{
+    is_type, read_arrays, read_data_table, read_names, read_overlay, read_singles,
+};
 use cw_tree::statement::RawDecl;
 use std::alloc::Global;
 
@@ -46,6 +49,24 @@ pub fn is_outer_decl(tokens: &[Token], at: usize) -> bool
         || next_is(tokens, at, TokenKind::Word(Word::Recursive))
 }
 
+fn read_overlay_decl(alloc: Global, tokens: &[Token], at: usize) -> Result<(RawDecl, usize), Stop>
+    ensures { Gives (λ x. (x.0, behind tokens.now x.1)) result (read 0 a_decl overlay_decl (behind tokens.now at)) }
+{
+    let (parts, at) = read_overlay(alloc, tokens, at)?;
+    let (word, (base, item)) = parts;
+    Ok((RawDecl::Overlay(position(word), base, item), at))
+}
+
+fn read_switch_decl(alloc: Global, tokens: &[Token], at: usize) -> Result<(RawDecl, usize), Stop>
+    ensures { Gives (λ x. (x.0, behind tokens.now x.1)) result (read 0 a_decl switch_decl (behind tokens.now at)) }
+{
+    let (word, at) = take_kind(tokens, at, TokenKind::Word(Word::Switch))?;
+    let (name, at) = read_name(tokens, at)?;
+    let (_, at) = take_kind(tokens, at, TokenKind::Symbol(Symbol::Assign))?;
+    let (names, at) = read_names(alloc, tokens, at)?;
+    Ok((RawDecl::Switch(position(word), name, names), at))
+}
+
 /// A table, an overlay or a switch.
 #[tactic(auto, unfolding(cw_grammar::specs::Statements::worded_decl, cw_grammar::specs::Statements::data_table, cw_grammar::specs::Statements::overlay))]
 pub fn read_worded_decl(
@@ -60,15 +81,9 @@ pub fn read_worded_decl(
         return Ok((RawDecl::Data(item), at));
     }
     if next_is(tokens, at, TokenKind::Word(Word::Overlay)) {
-        let (parts, at) = read_overlay(alloc, tokens, at)?;
-        let (word, (base, item)) = parts;
-        return Ok((RawDecl::Overlay(position(word), base, item), at));
+        return read_overlay_decl(alloc, tokens, at);
     }
-    let (word, at) = take_kind(tokens, at, TokenKind::Word(Word::Switch))?;
-    let (name, at) = read_name(tokens, at)?;
-    let (_, at) = take_kind(tokens, at, TokenKind::Symbol(Symbol::Assign))?;
-    let (names, at) = read_names(alloc, tokens, at)?;
-    Ok((RawDecl::Switch(position(word), name, names), at))
+    read_switch_decl(alloc, tokens, at)
 }
 
 /// A declaration inside a procedure's body.

@@ -1,7 +1,7 @@
-//! Declarations, parameters and communicators from left to right: all that opens no level.
+//! Specifications, declarations, parameters and communicators from left to right: what opens no level.
 #![tactic(auto)]
 
 pub mod comms;
 pub mod decls;
-pub mod items;
 pub mod params;
+pub mod specifications;

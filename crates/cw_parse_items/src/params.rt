@@ -3,14 +3,15 @@ ghost use Rattle.std.specs.Prelude.{◌≡◌, ℕ, [], ◌∷◌};
 ghost use Rattle.cw_grammar.specs.Tokens.{behind};
 ghost use Rattle.cw_grammar.specs.Grammar.{starts, first, a_list, an_option, a_from, a_type, a_param};
 ghost use Rattle.cw_grammar.specs.Statements.{semicolons, listed, in_round, procedure_param, param};
-ghost use Rattle.cw_grammar.specs.Reading.{Gives, read};
-ghost use Rattle.cw_grammar.specs.Reading.{applied};
+ghost use Rattle.cw_grammar.specs.Reading.{Gives, read, applied};
+ghost use Rattle.cw_parse_items.specs.Alternatives.{value_param, location_param, label_param, switch_param};
 
-use crate::items::{is_type, read_ips_list, read_names, read_table};
+use crate::specifications::read_ips_list;
 use cw_grammar::reading::{read_name, read_type};
 use cw_grammar::stop::Stop;
 use cw_grammar::token::{next_is, position, take_kind};
 use cw_lex::{Symbol, Token, TokenKind, Word};
+use cw_parse_data::data::{is_type, read_names, read_table};
 use cw_tree::leaf::RawType;
 use cw_tree::statement::RawParam;
 use cw_word::List;
@@ -31,6 +32,44 @@ fn read_procedure_param(
     Ok((RawParam::Proc(kind, position(word), name, list), at))
 }
 
+fn read_value_param(alloc: Global, tokens: &[Token], at: usize) -> Result<(RawParam, usize), Stop>
+    ensures { Gives (λ x. (x.0, behind tokens.now x.1)) result (read 0 a_param value_param (behind tokens.now at)) }
+{
+    let (word, at) = take_kind(tokens, at, TokenKind::Word(Word::Value))?;
+    let (kind, at) = read_type(tokens, at)?;
+    let (names, at) = read_names(alloc, tokens, at)?;
+    Ok((RawParam::Value(position(word), kind, names), at))
+}
+
+fn read_location_param(
+    alloc: Global,
+    tokens: &[Token],
+    at: usize,
+) -> Result<(RawParam, usize), Stop>
+    ensures { Gives (λ x. (x.0, behind tokens.now x.1)) result (read 0 a_param location_param (behind tokens.now at)) }
+{
+    let (word, at) = take_kind(tokens, at, TokenKind::Word(Word::Location))?;
+    let (kind, at) = read_type(tokens, at)?;
+    let (names, at) = read_names(alloc, tokens, at)?;
+    Ok((RawParam::Location(position(word), kind, names), at))
+}
+
+fn read_label_param(alloc: Global, tokens: &[Token], at: usize) -> Result<(RawParam, usize), Stop>
+    ensures { Gives (λ x. (x.0, behind tokens.now x.1)) result (read 0 a_param label_param (behind tokens.now at)) }
+{
+    let (word, at) = take_kind(tokens, at, TokenKind::Word(Word::Label))?;
+    let (names, at) = read_names(alloc, tokens, at)?;
+    Ok((RawParam::Label(position(word), names), at))
+}
+
+fn read_switch_param(alloc: Global, tokens: &[Token], at: usize) -> Result<(RawParam, usize), Stop>
+    ensures { Gives (λ x. (x.0, behind tokens.now x.1)) result (read 0 a_param switch_param (behind tokens.now at)) }
+{
+    let (word, at) = take_kind(tokens, at, TokenKind::Word(Word::Switch))?;
+    let (names, at) = read_names(alloc, tokens, at)?;
+    Ok((RawParam::Switch(position(word), names), at))
+}
+
 #[tactic(auto, unfolding(cw_grammar::specs::Statements::param, cw_grammar::specs::Statements::procedure_param, cw_grammar::specs::Statements::table, cw_grammar::specs::Rules::number_type))]
 fn read_param(alloc: Global, tokens: &[Token], at: usize) -> Result<(RawParam, usize), Stop>
     ensures { Gives (λ x. (x.0, behind tokens.now x.1)) result (read 0 a_param param (behind tokens.now at)) }
@@ -48,29 +87,19 @@ fn read_param(alloc: Global, tokens: &[Token], at: usize) -> Result<(RawParam, u
         return read_procedure_param(alloc, tokens, at, None);
     }
     if next_is(tokens, at, TokenKind::Word(Word::Value)) {
-        let (word, at) = take_kind(tokens, at, TokenKind::Word(Word::Value))?;
-        let (kind, at) = read_type(tokens, at)?;
-        let (names, at) = read_names(alloc, tokens, at)?;
-        return Ok((RawParam::Value(position(word), kind, names), at));
+        return read_value_param(alloc, tokens, at);
     }
     if next_is(tokens, at, TokenKind::Word(Word::Location)) {
-        let (word, at) = take_kind(tokens, at, TokenKind::Word(Word::Location))?;
-        let (kind, at) = read_type(tokens, at)?;
-        let (names, at) = read_names(alloc, tokens, at)?;
-        return Ok((RawParam::Location(position(word), kind, names), at));
+        return read_location_param(alloc, tokens, at);
     }
     if next_is(tokens, at, TokenKind::Word(Word::Table)) {
         let (table, at) = read_table(alloc, tokens, at)?;
         return Ok((RawParam::Table(table), at));
     }
     if next_is(tokens, at, TokenKind::Word(Word::Label)) {
-        let (word, at) = take_kind(tokens, at, TokenKind::Word(Word::Label))?;
-        let (names, at) = read_names(alloc, tokens, at)?;
-        return Ok((RawParam::Label(position(word), names), at));
+        return read_label_param(alloc, tokens, at);
     }
-    let (word, at) = take_kind(tokens, at, TokenKind::Word(Word::Switch))?;
-    let (names, at) = read_names(alloc, tokens, at)?;
-    Ok((RawParam::Switch(position(word), names), at))
+    read_switch_param(alloc, tokens, at)
 }
 
 fn read_params(alloc: Global, tokens: &[Token], at: usize) -> Result<(List<RawParam>, usize), Stop>

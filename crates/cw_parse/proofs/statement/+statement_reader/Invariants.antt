@@ -24,23 +24,35 @@ decreases-read_block_rest l = 100 * l.levels + 0
 abbrev pub decreases-read_proc_body : goal.decreases-read_proc_body
 decreases-read_proc_body l = 100 * l.levels + 0
 
+abbrev pub decreases-read_block : goal.decreases-read_block
+decreases-read_block l = 100 * l.levels + 1
+
+abbrev pub decreases-read_second : goal.decreases-read_second
+decreases-read_second l = 100 * l.levels + 1
+
+abbrev pub decreases-read_if : goal.decreases-read_if
+decreases-read_if l = 100 * l.levels + 1
+
+abbrev pub decreases-read_for : goal.decreases-read_for
+decreases-read_for l = 100 * l.levels + 1
+
 abbrev pub decreases-read_unnamed : goal.decreases-read_unnamed
-decreases-read_unnamed l = 100 * l.levels + 1
+decreases-read_unnamed l = 100 * l.levels + 2
 
 abbrev pub decreases-read_simple : goal.decreases-read_simple
-decreases-read_simple l = 100 * l.levels + 2
+decreases-read_simple l = 100 * l.levels + 3
 
 abbrev pub decreases-read_labelled_simple : goal.decreases-read_labelled_simple
-decreases-read_labelled_simple l = 100 * l.levels + 3
+decreases-read_labelled_simple l = 100 * l.levels + 4
 
 abbrev pub decreases-read_form : goal.decreases-read_form
-decreases-read_form l = 100 * l.levels + 3
+decreases-read_form l = 100 * l.levels + 4
 
 abbrev pub decreases-read_stmt : goal.decreases-read_stmt
-decreases-read_stmt l = 100 * l.levels + 4
+decreases-read_stmt l = 100 * l.levels + 5
 
 abbrev pub decreases-read_stmts : goal.decreases-read_stmts
-decreases-read_stmts l = 100 * l.levels + 5
+decreases-read_stmts l = 100 * l.levels + 6
 
 abbrev pub decreases-read_proc_behind : goal.decreases-read_proc_behind
 decreases-read_proc_behind l = 100 * l.levels + 1

@@ -40,17 +40,17 @@ read_mask-loop-alloc-init t c =
     rw c.in_ok-operands.ensures e
 
 pub read_mask-loop-alloc-smaller : goal.read_mask-loop-alloc-smaller
-read_mask-loop-alloc-smaller t c = chain_smaller c.args.levels a_prim a_position (operator words.Mask) prim _ c.in_ok-operand.operand (behind c.args.tokens.now c.loop-alloc.next) (behind c.args.tokens.now c.in_ok-operator.after) (behind c.args.tokens.now c.in_ok-operand.after) refl (operator_read c.args.levels (kinds.Word words.Mask) _ (behind c.args.tokens.now c.loop-alloc.next) (behind c.args.tokens.now c.in_ok-operator.after) c.in_ok-operator.ensures) c.in_ok-operand.ensures
+read_mask-loop-alloc-smaller t c = chain_smaller c.args.levels a_prim a_position (operator words.Mask) prim _ c.in_ok-operand.operand (behind c.args.tokens.now c.loop-alloc.next) (behind c.args.tokens.now c.in_ok-operator.after) (behind c.args.tokens.now c.in_ok-operand.after) refl c.in_ok-operator.ensures c.in_ok-operand.ensures
 
 pub read_mask-loop-alloc-preserved : goal.read_mask-loop-alloc-preserved
 read_mask-loop-alloc-preserved t c =
-    rw (c.in_ok-push.ensures.ok, c.in_ok-push-2.ensures.ok, c.position.ensures)
-    (chain_goes_on c.args.levels a_prim a_position (operator words.Mask) prim RawMask mask_tree (c.loop-alloc.operands, c.loop-alloc.operators) _ c.in_ok-operand.operand (behind c.args.tokens.now c.loop-alloc.next) (behind c.args.tokens.now c.in_ok-operator.after) (behind c.args.tokens.now c.in_ok-operand.after) (read c.args.levels a_mask mask (behind c.args.tokens.now c.args.at)) refl (sym c.next_is.ensures ∙ c.loop-alloc-test.true) (operator_read c.args.levels (kinds.Word words.Mask) _ (behind c.args.tokens.now c.loop-alloc.next) (behind c.args.tokens.now c.in_ok-operator.after) c.in_ok-operator.ensures) c.in_ok-operand.ensures c.loop-alloc.invariant)
+    rw (c.in_ok-push.ensures.ok, c.in_ok-push-2.ensures.ok)
+    (chain_goes_on c.args.levels a_prim a_position (operator words.Mask) prim RawMask mask_tree (c.loop-alloc.operands, c.loop-alloc.operators) _ c.in_ok-operand.operand (behind c.args.tokens.now c.loop-alloc.next) (behind c.args.tokens.now c.in_ok-operator.after) (behind c.args.tokens.now c.in_ok-operand.after) (read c.args.levels a_mask mask (behind c.args.tokens.now c.args.at)) refl (sym c.next_is.ensures ∙ c.loop-alloc-test.true) c.in_ok-operator.ensures c.in_ok-operand.ensures c.loop-alloc.invariant)
 
 pub read_mask-returns-in_err-operand : goal.read_mask-returns-in_err-operand
 read_mask-returns-in_err-operand t c =
     let p = err_from_is_err_and c.from_residual-in_err-operand.result c.from_residual-in_err-operand.ensures.1 in
-    rw (p.1, p.2) (chain_fails_operand c.in_err-operand.field-0.0 c.args.levels a_prim a_position (operator words.Mask) prim RawMask mask_tree (c.loop-alloc.operands, c.loop-alloc.operators) _ (behind c.args.tokens.now c.loop-alloc.next) (behind c.args.tokens.now c.in_ok-operator.after) (read c.args.levels a_mask mask (behind c.args.tokens.now c.args.at)) refl (sym c.next_is.ensures ∙ c.loop-alloc-test.true) (operator_read c.args.levels (kinds.Word words.Mask) _ (behind c.args.tokens.now c.loop-alloc.next) (behind c.args.tokens.now c.in_ok-operator.after) c.in_ok-operator.ensures) c.in_err-operand.ensures c.loop-alloc.invariant)
+    rw (p.1, p.2) (chain_fails_operand c.in_err-operand.field-0.0 c.args.levels a_prim a_position (operator words.Mask) prim RawMask mask_tree (c.loop-alloc.operands, c.loop-alloc.operators) _ (behind c.args.tokens.now c.loop-alloc.next) (behind c.args.tokens.now c.in_ok-operator.after) (read c.args.levels a_mask mask (behind c.args.tokens.now c.args.at)) refl (sym c.next_is.ensures ∙ c.loop-alloc-test.true) c.in_ok-operator.ensures c.in_err-operand.ensures c.loop-alloc.invariant)
 
 pub read_union-loop-alloc-init : goal.read_union-loop-alloc-init
 unfolding union
@@ -59,17 +59,17 @@ read_union-loop-alloc-init t c =
     rw c.in_ok-operands.ensures e
 
 pub read_union-loop-alloc-smaller : goal.read_union-loop-alloc-smaller
-read_union-loop-alloc-smaller t c = chain_smaller c.args.levels a_mask a_position (operator words.Union) mask _ c.in_ok-operand.operand (behind c.args.tokens.now c.loop-alloc.next) (behind c.args.tokens.now c.in_ok-operator.after) (behind c.args.tokens.now c.in_ok-operand.after) refl (operator_read c.args.levels (kinds.Word words.Union) _ (behind c.args.tokens.now c.loop-alloc.next) (behind c.args.tokens.now c.in_ok-operator.after) c.in_ok-operator.ensures) c.in_ok-operand.ensures
+read_union-loop-alloc-smaller t c = chain_smaller c.args.levels a_mask a_position (operator words.Union) mask _ c.in_ok-operand.operand (behind c.args.tokens.now c.loop-alloc.next) (behind c.args.tokens.now c.in_ok-operator.after) (behind c.args.tokens.now c.in_ok-operand.after) refl c.in_ok-operator.ensures c.in_ok-operand.ensures
 
 pub read_union-loop-alloc-preserved : goal.read_union-loop-alloc-preserved
 read_union-loop-alloc-preserved t c =
-    rw (c.in_ok-push.ensures.ok, c.in_ok-push-2.ensures.ok, c.position.ensures)
-    (chain_goes_on c.args.levels a_mask a_position (operator words.Union) mask RawUnion union_tree (c.loop-alloc.operands, c.loop-alloc.operators) _ c.in_ok-operand.operand (behind c.args.tokens.now c.loop-alloc.next) (behind c.args.tokens.now c.in_ok-operator.after) (behind c.args.tokens.now c.in_ok-operand.after) (read c.args.levels a_union union (behind c.args.tokens.now c.args.at)) refl (sym c.next_is.ensures ∙ c.loop-alloc-test.true) (operator_read c.args.levels (kinds.Word words.Union) _ (behind c.args.tokens.now c.loop-alloc.next) (behind c.args.tokens.now c.in_ok-operator.after) c.in_ok-operator.ensures) c.in_ok-operand.ensures c.loop-alloc.invariant)
+    rw (c.in_ok-push.ensures.ok, c.in_ok-push-2.ensures.ok)
+    (chain_goes_on c.args.levels a_mask a_position (operator words.Union) mask RawUnion union_tree (c.loop-alloc.operands, c.loop-alloc.operators) _ c.in_ok-operand.operand (behind c.args.tokens.now c.loop-alloc.next) (behind c.args.tokens.now c.in_ok-operator.after) (behind c.args.tokens.now c.in_ok-operand.after) (read c.args.levels a_union union (behind c.args.tokens.now c.args.at)) refl (sym c.next_is.ensures ∙ c.loop-alloc-test.true) c.in_ok-operator.ensures c.in_ok-operand.ensures c.loop-alloc.invariant)
 
 pub read_union-returns-in_err-operand : goal.read_union-returns-in_err-operand
 read_union-returns-in_err-operand t c =
     let p = err_from_is_err_and c.from_residual-in_err-operand.result c.from_residual-in_err-operand.ensures.1 in
-    rw (p.1, p.2) (chain_fails_operand c.in_err-operand.field-0.0 c.args.levels a_mask a_position (operator words.Union) mask RawUnion union_tree (c.loop-alloc.operands, c.loop-alloc.operators) _ (behind c.args.tokens.now c.loop-alloc.next) (behind c.args.tokens.now c.in_ok-operator.after) (read c.args.levels a_union union (behind c.args.tokens.now c.args.at)) refl (sym c.next_is.ensures ∙ c.loop-alloc-test.true) (operator_read c.args.levels (kinds.Word words.Union) _ (behind c.args.tokens.now c.loop-alloc.next) (behind c.args.tokens.now c.in_ok-operator.after) c.in_ok-operator.ensures) c.in_err-operand.ensures c.loop-alloc.invariant)
+    rw (p.1, p.2) (chain_fails_operand c.in_err-operand.field-0.0 c.args.levels a_mask a_position (operator words.Union) mask RawUnion union_tree (c.loop-alloc.operands, c.loop-alloc.operators) _ (behind c.args.tokens.now c.loop-alloc.next) (behind c.args.tokens.now c.in_ok-operator.after) (read c.args.levels a_union union (behind c.args.tokens.now c.args.at)) refl (sym c.next_is.ensures ∙ c.loop-alloc-test.true) c.in_ok-operator.ensures c.in_err-operand.ensures c.loop-alloc.invariant)
 
 pub read_differ-loop-alloc-init : goal.read_differ-loop-alloc-init
 unfolding differ
@@ -78,17 +78,17 @@ read_differ-loop-alloc-init t c =
     rw c.in_ok-operands.ensures e
 
 pub read_differ-loop-alloc-smaller : goal.read_differ-loop-alloc-smaller
-read_differ-loop-alloc-smaller t c = chain_smaller c.args.levels a_union a_position (operator words.Differ) union _ c.in_ok-operand.operand (behind c.args.tokens.now c.loop-alloc.next) (behind c.args.tokens.now c.in_ok-operator.after) (behind c.args.tokens.now c.in_ok-operand.after) refl (operator_read c.args.levels (kinds.Word words.Differ) _ (behind c.args.tokens.now c.loop-alloc.next) (behind c.args.tokens.now c.in_ok-operator.after) c.in_ok-operator.ensures) c.in_ok-operand.ensures
+read_differ-loop-alloc-smaller t c = chain_smaller c.args.levels a_union a_position (operator words.Differ) union _ c.in_ok-operand.operand (behind c.args.tokens.now c.loop-alloc.next) (behind c.args.tokens.now c.in_ok-operator.after) (behind c.args.tokens.now c.in_ok-operand.after) refl c.in_ok-operator.ensures c.in_ok-operand.ensures
 
 pub read_differ-loop-alloc-preserved : goal.read_differ-loop-alloc-preserved
 read_differ-loop-alloc-preserved t c =
-    rw (c.in_ok-push.ensures.ok, c.in_ok-push-2.ensures.ok, c.position.ensures)
-    (chain_goes_on c.args.levels a_union a_position (operator words.Differ) union RawDiffer differ_tree (c.loop-alloc.operands, c.loop-alloc.operators) _ c.in_ok-operand.operand (behind c.args.tokens.now c.loop-alloc.next) (behind c.args.tokens.now c.in_ok-operator.after) (behind c.args.tokens.now c.in_ok-operand.after) (read c.args.levels a_differ differ (behind c.args.tokens.now c.args.at)) refl (sym c.next_is.ensures ∙ c.loop-alloc-test.true) (operator_read c.args.levels (kinds.Word words.Differ) _ (behind c.args.tokens.now c.loop-alloc.next) (behind c.args.tokens.now c.in_ok-operator.after) c.in_ok-operator.ensures) c.in_ok-operand.ensures c.loop-alloc.invariant)
+    rw (c.in_ok-push.ensures.ok, c.in_ok-push-2.ensures.ok)
+    (chain_goes_on c.args.levels a_union a_position (operator words.Differ) union RawDiffer differ_tree (c.loop-alloc.operands, c.loop-alloc.operators) _ c.in_ok-operand.operand (behind c.args.tokens.now c.loop-alloc.next) (behind c.args.tokens.now c.in_ok-operator.after) (behind c.args.tokens.now c.in_ok-operand.after) (read c.args.levels a_differ differ (behind c.args.tokens.now c.args.at)) refl (sym c.next_is.ensures ∙ c.loop-alloc-test.true) c.in_ok-operator.ensures c.in_ok-operand.ensures c.loop-alloc.invariant)
 
 pub read_differ-returns-in_err-operand : goal.read_differ-returns-in_err-operand
 read_differ-returns-in_err-operand t c =
     let p = err_from_is_err_and c.from_residual-in_err-operand.result c.from_residual-in_err-operand.ensures.1 in
-    rw (p.1, p.2) (chain_fails_operand c.in_err-operand.field-0.0 c.args.levels a_union a_position (operator words.Differ) union RawDiffer differ_tree (c.loop-alloc.operands, c.loop-alloc.operators) _ (behind c.args.tokens.now c.loop-alloc.next) (behind c.args.tokens.now c.in_ok-operator.after) (read c.args.levels a_differ differ (behind c.args.tokens.now c.args.at)) refl (sym c.next_is.ensures ∙ c.loop-alloc-test.true) (operator_read c.args.levels (kinds.Word words.Differ) _ (behind c.args.tokens.now c.loop-alloc.next) (behind c.args.tokens.now c.in_ok-operator.after) c.in_ok-operator.ensures) c.in_err-operand.ensures c.loop-alloc.invariant)
+    rw (p.1, p.2) (chain_fails_operand c.in_err-operand.field-0.0 c.args.levels a_union a_position (operator words.Differ) union RawDiffer differ_tree (c.loop-alloc.operands, c.loop-alloc.operators) _ (behind c.args.tokens.now c.loop-alloc.next) (behind c.args.tokens.now c.in_ok-operator.after) (read c.args.levels a_differ differ (behind c.args.tokens.now c.args.at)) refl (sym c.next_is.ensures ∙ c.loop-alloc-test.true) c.in_ok-operator.ensures c.in_err-operand.ensures c.loop-alloc.invariant)
 
 pub read_term-loop-alloc-init : goal.read_term-loop-alloc-init
 unfolding term
@@ -111,12 +111,12 @@ read_cand-loop-alloc-init t c =
     rw c.in_ok-operands.ensures e
 
 pub read_cand-loop-alloc-smaller : goal.read_cand-loop-alloc-smaller
-read_cand-loop-alloc-smaller t c = chain_smaller c.args.levels a_cmp a_position (operator words.And) cmp _ c.in_ok-operand.operand (behind c.args.tokens.now c.loop-alloc.next) (behind c.args.tokens.now c.in_ok-operator.after) (behind c.args.tokens.now c.in_ok-operand.after) refl (operator_read c.args.levels (kinds.Word words.And) _ (behind c.args.tokens.now c.loop-alloc.next) (behind c.args.tokens.now c.in_ok-operator.after) c.in_ok-operator.ensures) c.in_ok-operand.ensures
+read_cand-loop-alloc-smaller t c = chain_smaller c.args.levels a_cmp a_position (operator words.And) cmp _ c.in_ok-operand.operand (behind c.args.tokens.now c.loop-alloc.next) (behind c.args.tokens.now c.in_ok-operator.after) (behind c.args.tokens.now c.in_ok-operand.after) refl c.in_ok-operator.ensures c.in_ok-operand.ensures
 
 pub read_cand-loop-alloc-preserved : goal.read_cand-loop-alloc-preserved
 read_cand-loop-alloc-preserved t c =
-    rw (c.in_ok-push.ensures.ok, c.in_ok-push-2.ensures.ok, c.position.ensures)
-    (chain_goes_on c.args.levels a_cmp a_position (operator words.And) cmp RawCand cand_tree (c.loop-alloc.operands, c.loop-alloc.operators) _ c.in_ok-operand.operand (behind c.args.tokens.now c.loop-alloc.next) (behind c.args.tokens.now c.in_ok-operator.after) (behind c.args.tokens.now c.in_ok-operand.after) (read c.args.levels a_cand cand (behind c.args.tokens.now c.args.at)) refl (sym c.next_is.ensures ∙ c.loop-alloc-test.true) (operator_read c.args.levels (kinds.Word words.And) _ (behind c.args.tokens.now c.loop-alloc.next) (behind c.args.tokens.now c.in_ok-operator.after) c.in_ok-operator.ensures) c.in_ok-operand.ensures c.loop-alloc.invariant)
+    rw (c.in_ok-push.ensures.ok, c.in_ok-push-2.ensures.ok)
+    (chain_goes_on c.args.levels a_cmp a_position (operator words.And) cmp RawCand cand_tree (c.loop-alloc.operands, c.loop-alloc.operators) _ c.in_ok-operand.operand (behind c.args.tokens.now c.loop-alloc.next) (behind c.args.tokens.now c.in_ok-operator.after) (behind c.args.tokens.now c.in_ok-operand.after) (read c.args.levels a_cand cand (behind c.args.tokens.now c.args.at)) refl (sym c.next_is.ensures ∙ c.loop-alloc-test.true) c.in_ok-operator.ensures c.in_ok-operand.ensures c.loop-alloc.invariant)
 
 pub read_condition-loop-alloc-init : goal.read_condition-loop-alloc-init
 unfolding condition
@@ -125,12 +125,12 @@ read_condition-loop-alloc-init t c =
     rw c.in_ok-operands.ensures e
 
 pub read_condition-loop-alloc-smaller : goal.read_condition-loop-alloc-smaller
-read_condition-loop-alloc-smaller t c = chain_smaller c.args.levels a_cand a_position (operator words.Or) cand _ c.in_ok-operand.operand (behind c.args.tokens.now c.loop-alloc.next) (behind c.args.tokens.now c.in_ok-operator.after) (behind c.args.tokens.now c.in_ok-operand.after) refl (operator_read c.args.levels (kinds.Word words.Or) _ (behind c.args.tokens.now c.loop-alloc.next) (behind c.args.tokens.now c.in_ok-operator.after) c.in_ok-operator.ensures) c.in_ok-operand.ensures
+read_condition-loop-alloc-smaller t c = chain_smaller c.args.levels a_cand a_position (operator words.Or) cand _ c.in_ok-operand.operand (behind c.args.tokens.now c.loop-alloc.next) (behind c.args.tokens.now c.in_ok-operator.after) (behind c.args.tokens.now c.in_ok-operand.after) refl c.in_ok-operator.ensures c.in_ok-operand.ensures
 
 pub read_condition-loop-alloc-preserved : goal.read_condition-loop-alloc-preserved
 read_condition-loop-alloc-preserved t c =
-    rw (c.in_ok-push.ensures.ok, c.in_ok-push-2.ensures.ok, c.position.ensures)
-    (chain_goes_on c.args.levels a_cand a_position (operator words.Or) cand RawCond cond_tree (c.loop-alloc.operands, c.loop-alloc.operators) _ c.in_ok-operand.operand (behind c.args.tokens.now c.loop-alloc.next) (behind c.args.tokens.now c.in_ok-operator.after) (behind c.args.tokens.now c.in_ok-operand.after) (read c.args.levels a_cond condition (behind c.args.tokens.now c.args.at)) refl (sym c.next_is.ensures ∙ c.loop-alloc-test.true) (operator_read c.args.levels (kinds.Word words.Or) _ (behind c.args.tokens.now c.loop-alloc.next) (behind c.args.tokens.now c.in_ok-operator.after) c.in_ok-operator.ensures) c.in_ok-operand.ensures c.loop-alloc.invariant)
+    rw (c.in_ok-push.ensures.ok, c.in_ok-push-2.ensures.ok)
+    (chain_goes_on c.args.levels a_cand a_position (operator words.Or) cand RawCond cond_tree (c.loop-alloc.operands, c.loop-alloc.operators) _ c.in_ok-operand.operand (behind c.args.tokens.now c.loop-alloc.next) (behind c.args.tokens.now c.in_ok-operator.after) (behind c.args.tokens.now c.in_ok-operand.after) (read c.args.levels a_cond condition (behind c.args.tokens.now c.args.at)) refl (sym c.next_is.ensures ∙ c.loop-alloc-test.true) c.in_ok-operator.ensures c.in_ok-operand.ensures c.loop-alloc.invariant)
 
 pub read_sum-loop-alloc-init : goal.read_sum-loop-alloc-init
 unfolding sum
@@ -145,3 +145,79 @@ pub read_sum-loop-alloc-preserved : goal.read_sum-loop-alloc-preserved
 read_sum-loop-alloc-preserved t c =
     rw (c.in_ok-push.ensures.ok, c.in_ok-push-2.ensures.ok)
     (chain_goes_on c.args.levels a_term a_sign sign term RawSum (λ x. sum_tree (c.in_ok-front.front, x)) (c.loop-alloc.operands, c.loop-alloc.operators) _ c.in_ok-operand.operand (behind c.args.tokens.now c.loop-alloc.next) (behind c.args.tokens.now c.in_ok-operator.after) (behind c.args.tokens.now c.in_ok-operand.after) (read c.args.levels a_sum sum (behind c.args.tokens.now c.args.at)) refl (sym c.is_sign.ensures ∙ c.loop-alloc-test.true) c.in_ok-operator.ensures c.in_ok-operand.ensures c.loop-alloc.invariant)
+
+pub read_mask-returns : goal.read_mask-returns
+read_mask-returns t c = chain_ends c.args.levels a_prim a_position (operator words.Mask) prim RawMask mask_tree (c.loop-alloc.operands, c.loop-alloc.operators) (behind c.args.tokens.now c.loop-alloc.next) (read c.args.levels a_mask mask (behind c.args.tokens.now c.args.at)) (sym c.next_is.ensures ∙ c.loop-alloc-test.false) c.loop-alloc.invariant
+
+pub read_mask-returns-in_err-operator : goal.read_mask-returns-in_err-operator
+read_mask-returns-in_err-operator t c =
+    let p = err_from_is_err_and c.from_residual-in_err-operator.result c.from_residual-in_err-operator.ensures.1 in
+    rw (p.1, p.2) (chain_fails_operator c.in_err-operator.field-0.0 c.args.levels a_prim a_position (operator words.Mask) prim RawMask mask_tree (c.loop-alloc.operands, c.loop-alloc.operators) (behind c.args.tokens.now c.loop-alloc.next) (read c.args.levels a_mask mask (behind c.args.tokens.now c.args.at)) refl (sym c.next_is.ensures ∙ c.loop-alloc-test.true) c.in_err-operator.ensures c.loop-alloc.invariant)
+
+pub read_union-returns : goal.read_union-returns
+read_union-returns t c = chain_ends c.args.levels a_mask a_position (operator words.Union) mask RawUnion union_tree (c.loop-alloc.operands, c.loop-alloc.operators) (behind c.args.tokens.now c.loop-alloc.next) (read c.args.levels a_union union (behind c.args.tokens.now c.args.at)) (sym c.next_is.ensures ∙ c.loop-alloc-test.false) c.loop-alloc.invariant
+
+pub read_union-returns-in_err-operator : goal.read_union-returns-in_err-operator
+read_union-returns-in_err-operator t c =
+    let p = err_from_is_err_and c.from_residual-in_err-operator.result c.from_residual-in_err-operator.ensures.1 in
+    rw (p.1, p.2) (chain_fails_operator c.in_err-operator.field-0.0 c.args.levels a_mask a_position (operator words.Union) mask RawUnion union_tree (c.loop-alloc.operands, c.loop-alloc.operators) (behind c.args.tokens.now c.loop-alloc.next) (read c.args.levels a_union union (behind c.args.tokens.now c.args.at)) refl (sym c.next_is.ensures ∙ c.loop-alloc-test.true) c.in_err-operator.ensures c.loop-alloc.invariant)
+
+pub read_differ-returns : goal.read_differ-returns
+read_differ-returns t c = chain_ends c.args.levels a_union a_position (operator words.Differ) union RawDiffer differ_tree (c.loop-alloc.operands, c.loop-alloc.operators) (behind c.args.tokens.now c.loop-alloc.next) (read c.args.levels a_differ differ (behind c.args.tokens.now c.args.at)) (sym c.next_is.ensures ∙ c.loop-alloc-test.false) c.loop-alloc.invariant
+
+pub read_differ-returns-in_err-operator : goal.read_differ-returns-in_err-operator
+read_differ-returns-in_err-operator t c =
+    let p = err_from_is_err_and c.from_residual-in_err-operator.result c.from_residual-in_err-operator.ensures.1 in
+    rw (p.1, p.2) (chain_fails_operator c.in_err-operator.field-0.0 c.args.levels a_union a_position (operator words.Differ) union RawDiffer differ_tree (c.loop-alloc.operands, c.loop-alloc.operators) (behind c.args.tokens.now c.loop-alloc.next) (read c.args.levels a_differ differ (behind c.args.tokens.now c.args.at)) refl (sym c.next_is.ensures ∙ c.loop-alloc-test.true) c.in_err-operator.ensures c.loop-alloc.invariant)
+
+pub read_term-returns : goal.read_term-returns
+read_term-returns t c = chain_ends c.args.levels a_differ a_factor_sign factor_sign differ RawTerm term_tree (c.loop-alloc.operands, c.loop-alloc.operators) (behind c.args.tokens.now c.loop-alloc.next) (read c.args.levels a_term term (behind c.args.tokens.now c.args.at)) (sym c.is_factor_sign.ensures ∙ c.loop-alloc-test.false) c.loop-alloc.invariant
+
+pub read_term-returns-in_err-operator : goal.read_term-returns-in_err-operator
+read_term-returns-in_err-operator t c =
+    let p = err_from_is_err_and c.from_residual-in_err-operator.result c.from_residual-in_err-operator.ensures.1 in
+    rw (p.1, p.2) (chain_fails_operator c.in_err-operator.field-0.0 c.args.levels a_differ a_factor_sign factor_sign differ RawTerm term_tree (c.loop-alloc.operands, c.loop-alloc.operators) (behind c.args.tokens.now c.loop-alloc.next) (read c.args.levels a_term term (behind c.args.tokens.now c.args.at)) refl (sym c.is_factor_sign.ensures ∙ c.loop-alloc-test.true) c.in_err-operator.ensures c.loop-alloc.invariant)
+
+pub read_term-returns-in_err-operand : goal.read_term-returns-in_err-operand
+read_term-returns-in_err-operand t c =
+    let p = err_from_is_err_and c.from_residual-in_err-operand.result c.from_residual-in_err-operand.ensures.1 in
+    rw (p.1, p.2) (chain_fails_operand c.in_err-operand.field-0.0 c.args.levels a_differ a_factor_sign factor_sign differ RawTerm term_tree (c.loop-alloc.operands, c.loop-alloc.operators) _ (behind c.args.tokens.now c.loop-alloc.next) (behind c.args.tokens.now c.in_ok-operator.after) (read c.args.levels a_term term (behind c.args.tokens.now c.args.at)) refl (sym c.is_factor_sign.ensures ∙ c.loop-alloc-test.true) c.in_ok-operator.ensures c.in_err-operand.ensures c.loop-alloc.invariant)
+
+pub read_cand-returns : goal.read_cand-returns
+read_cand-returns t c = chain_ends c.args.levels a_cmp a_position (operator words.And) cmp RawCand cand_tree (c.loop-alloc.operands, c.loop-alloc.operators) (behind c.args.tokens.now c.loop-alloc.next) (read c.args.levels a_cand cand (behind c.args.tokens.now c.args.at)) (sym c.next_is.ensures ∙ c.loop-alloc-test.false) c.loop-alloc.invariant
+
+pub read_cand-returns-in_err-operator : goal.read_cand-returns-in_err-operator
+read_cand-returns-in_err-operator t c =
+    let p = err_from_is_err_and c.from_residual-in_err-operator.result c.from_residual-in_err-operator.ensures.1 in
+    rw (p.1, p.2) (chain_fails_operator c.in_err-operator.field-0.0 c.args.levels a_cmp a_position (operator words.And) cmp RawCand cand_tree (c.loop-alloc.operands, c.loop-alloc.operators) (behind c.args.tokens.now c.loop-alloc.next) (read c.args.levels a_cand cand (behind c.args.tokens.now c.args.at)) refl (sym c.next_is.ensures ∙ c.loop-alloc-test.true) c.in_err-operator.ensures c.loop-alloc.invariant)
+
+pub read_cand-returns-in_err-operand : goal.read_cand-returns-in_err-operand
+read_cand-returns-in_err-operand t c =
+    let p = err_from_is_err_and c.from_residual-in_err-operand.result c.from_residual-in_err-operand.ensures.1 in
+    rw (p.1, p.2) (chain_fails_operand c.in_err-operand.field-0.0 c.args.levels a_cmp a_position (operator words.And) cmp RawCand cand_tree (c.loop-alloc.operands, c.loop-alloc.operators) _ (behind c.args.tokens.now c.loop-alloc.next) (behind c.args.tokens.now c.in_ok-operator.after) (read c.args.levels a_cand cand (behind c.args.tokens.now c.args.at)) refl (sym c.next_is.ensures ∙ c.loop-alloc-test.true) c.in_ok-operator.ensures c.in_err-operand.ensures c.loop-alloc.invariant)
+
+pub read_condition-returns : goal.read_condition-returns
+read_condition-returns t c = chain_ends c.args.levels a_cand a_position (operator words.Or) cand RawCond cond_tree (c.loop-alloc.operands, c.loop-alloc.operators) (behind c.args.tokens.now c.loop-alloc.next) (read c.args.levels a_cond condition (behind c.args.tokens.now c.args.at)) (sym c.next_is.ensures ∙ c.loop-alloc-test.false) c.loop-alloc.invariant
+
+pub read_condition-returns-in_err-operator : goal.read_condition-returns-in_err-operator
+read_condition-returns-in_err-operator t c =
+    let p = err_from_is_err_and c.from_residual-in_err-operator.result c.from_residual-in_err-operator.ensures.1 in
+    rw (p.1, p.2) (chain_fails_operator c.in_err-operator.field-0.0 c.args.levels a_cand a_position (operator words.Or) cand RawCond cond_tree (c.loop-alloc.operands, c.loop-alloc.operators) (behind c.args.tokens.now c.loop-alloc.next) (read c.args.levels a_cond condition (behind c.args.tokens.now c.args.at)) refl (sym c.next_is.ensures ∙ c.loop-alloc-test.true) c.in_err-operator.ensures c.loop-alloc.invariant)
+
+pub read_condition-returns-in_err-operand : goal.read_condition-returns-in_err-operand
+read_condition-returns-in_err-operand t c =
+    let p = err_from_is_err_and c.from_residual-in_err-operand.result c.from_residual-in_err-operand.ensures.1 in
+    rw (p.1, p.2) (chain_fails_operand c.in_err-operand.field-0.0 c.args.levels a_cand a_position (operator words.Or) cand RawCond cond_tree (c.loop-alloc.operands, c.loop-alloc.operators) _ (behind c.args.tokens.now c.loop-alloc.next) (behind c.args.tokens.now c.in_ok-operator.after) (read c.args.levels a_cond condition (behind c.args.tokens.now c.args.at)) refl (sym c.next_is.ensures ∙ c.loop-alloc-test.true) c.in_ok-operator.ensures c.in_err-operand.ensures c.loop-alloc.invariant)
+
+pub read_sum-returns : goal.read_sum-returns
+read_sum-returns t c = chain_ends c.args.levels a_term a_sign sign term RawSum (λ x. sum_tree (c.in_ok-front.front, x)) (c.loop-alloc.operands, c.loop-alloc.operators) (behind c.args.tokens.now c.loop-alloc.next) (read c.args.levels a_sum sum (behind c.args.tokens.now c.args.at)) (sym c.is_sign.ensures ∙ c.loop-alloc-test.false) c.loop-alloc.invariant
+
+pub read_sum-returns-in_err-operator : goal.read_sum-returns-in_err-operator
+read_sum-returns-in_err-operator t c =
+    let p = err_from_is_err_and c.from_residual-in_err-operator.result c.from_residual-in_err-operator.ensures.1 in
+    rw (p.1, p.2) (chain_fails_operator c.in_err-operator.field-0.0 c.args.levels a_term a_sign sign term RawSum (λ x. sum_tree (c.in_ok-front.front, x)) (c.loop-alloc.operands, c.loop-alloc.operators) (behind c.args.tokens.now c.loop-alloc.next) (read c.args.levels a_sum sum (behind c.args.tokens.now c.args.at)) refl (sym c.is_sign.ensures ∙ c.loop-alloc-test.true) c.in_err-operator.ensures c.loop-alloc.invariant)
+
+pub read_sum-returns-in_err-operand : goal.read_sum-returns-in_err-operand
+read_sum-returns-in_err-operand t c =
+    let p = err_from_is_err_and c.from_residual-in_err-operand.result c.from_residual-in_err-operand.ensures.1 in
+    rw (p.1, p.2) (chain_fails_operand c.in_err-operand.field-0.0 c.args.levels a_term a_sign sign term RawSum (λ x. sum_tree (c.in_ok-front.front, x)) (c.loop-alloc.operands, c.loop-alloc.operators) _ (behind c.args.tokens.now c.loop-alloc.next) (behind c.args.tokens.now c.in_ok-operator.after) (read c.args.levels a_sum sum (behind c.args.tokens.now c.args.at)) refl (sym c.is_sign.ensures ∙ c.loop-alloc-test.true) c.in_ok-operator.ensures c.in_err-operand.ensures c.loop-alloc.invariant)

@@ -32,56 +32,68 @@ decreases-read_conditional l = 100 * l.levels + 0
 abbrev pub decreases-read_reference : goal.decreases-read_reference
 decreases-read_reference l = 100 * l.levels + 1
 
+abbrev pub decreases-read_location : goal.decreases-read_location
+decreases-read_location l = 100 * l.levels + 1
+
+abbrev pub decreases-read_forced : goal.decreases-read_forced
+decreases-read_forced l = 100 * l.levels + 1
+
 abbrev pub decreases-read_worded : goal.decreases-read_worded
-decreases-read_worded l = 100 * l.levels + 1
+decreases-read_worded l = 100 * l.levels + 2
+
+abbrev pub decreases-read_in_brackets : goal.decreases-read_in_brackets
+decreases-read_in_brackets l = 100 * l.levels + 1
+
+abbrev pub decreases-read_addressed : goal.decreases-read_addressed
+decreases-read_addressed l = 100 * l.levels + 1
 
 abbrev pub decreases-read_enclosed : goal.decreases-read_enclosed
-decreases-read_enclosed l = 100 * l.levels + 1
+decreases-read_enclosed l = 100 * l.levels + 2
 
 abbrev pub decreases-read_named : goal.decreases-read_named
 decreases-read_named l = 100 * l.levels + 1
 
 abbrev pub decreases-read_primary : goal.decreases-read_primary
-decreases-read_primary l = 100 * l.levels + 2
+decreases-read_primary l = 100 * l.levels + 3
 
 abbrev pub decreases-read_prim : goal.decreases-read_prim
-decreases-read_prim l = 100 * l.levels + 3
+decreases-read_prim l = 100 * l.levels + 4
 
 abbrev pub decreases-read_mask : goal.decreases-read_mask
-decreases-read_mask l = 100 * l.levels + 4
+decreases-read_mask l = 100 * l.levels + 5
 
 abbrev pub decreases-read_union : goal.decreases-read_union
-decreases-read_union l = 100 * l.levels + 5
+decreases-read_union l = 100 * l.levels + 6
 
 abbrev pub decreases-read_differ : goal.decreases-read_differ
-decreases-read_differ l = 100 * l.levels + 6
+decreases-read_differ l = 100 * l.levels + 7
 
 abbrev pub decreases-read_term : goal.decreases-read_term
-decreases-read_term l = 100 * l.levels + 7
+decreases-read_term l = 100 * l.levels + 8
 
 abbrev pub decreases-read_sum : goal.decreases-read_sum
-decreases-read_sum l = 100 * l.levels + 8
+decreases-read_sum l = 100 * l.levels + 9
 
 abbrev pub decreases-read_cmp : goal.decreases-read_cmp
-decreases-read_cmp l = 100 * l.levels + 9
+decreases-read_cmp l = 100 * l.levels + 10
 
 abbrev pub decreases-read_cand : goal.decreases-read_cand
-decreases-read_cand l = 100 * l.levels + 10
+decreases-read_cand l = 100 * l.levels + 11
 
 abbrev pub decreases-read_condition : goal.decreases-read_condition
-decreases-read_condition l = 100 * l.levels + 11
+decreases-read_condition l = 100 * l.levels + 12
 
 abbrev pub decreases-read_expr : goal.decreases-read_expr
-decreases-read_expr l = 100 * l.levels + 9
+decreases-read_expr l = 100 * l.levels + 10
 
 abbrev pub decreases-read_second : goal.decreases-read_second
-decreases-read_second l = 100 * l.levels + 12
+decreases-read_second l = 100 * l.levels + 13
 
 abbrev pub decreases-read_arguments : goal.decreases-read_arguments
-decreases-read_arguments l = 100 * l.levels + 12
+decreases-read_arguments l = 100 * l.levels + 13
 
 abbrev pub decreases-read_branch : goal.decreases-read_branch
-decreases-read_branch l = 100 * l.levels + 12
+decreases-read_branch l = 100 * l.levels + 13
 
 abbrev pub invariant-read_arguments-loop-alloc : goal.invariant-read_arguments-loop-alloc
 invariant-read_arguments-loop-alloc l = with_front l.found (read l.fn.levels (a_list an_expr) (many (symbol Comma *> expr)) (behind l.fn.tokens l.next)) ≡ read l.fn.levels (a_list an_expr) (commas expr) (behind l.fn.tokens l.fn.at)

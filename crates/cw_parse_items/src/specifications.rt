@@ -1,0 +1,271 @@
+//! Specifications from left to right.
+ghost use Rattle.std.specs.Prelude.{◌≡◌, ℕ, [], ◌∷◌};
+ghost use Rattle.cw_grammar.specs.Tokens.{behind, seen};
+ghost use Rattle.cw_grammar.specs.Grammar.{starts, first, a_list, an_option, a_from, a_token, a_type, a_ptag, an_ips, a_ps, a_spec};
+ghost use Rattle.cw_grammar.specs.Statements.{separated, separator, listed, in_round, ptag, worded_ips, ips, ips_list, procedure_ps, ps, spec_behind, spec};
+ghost use Rattle.cw_grammar.specs.Reading.{Gives, read, applied};
+ghost use Rattle.cw_parse_items.specs.Alternatives.{value_ips, location_ips, table_ips, label_ips, switch_ips};
+
+use cw_grammar::reading::{read_name, read_size, read_type};
+use cw_grammar::stop::Stop;
+use cw_grammar::token::{Item, next_is, position, take_kind};
+use cw_lex::{Symbol, Token, TokenKind, Word};
+use cw_parse_data::data::is_type;
+use cw_tree::leaf::{RawInt, RawSint, RawSize, RawType};
+use cw_tree::segment::{RawIps, RawPs, RawSpec};
+use cw_tree::statement::RawPtag;
+use cw_word::List;
+use std::alloc::Global;
+
+// What stands inside the items of lists. A loop that keeps such items names it once: only so does the prover find where the
+// ranges of the numbers inside them are stated.
+type Inside = (RawInt, RawSint, RawSize, RawType);
+
+#[tactic(auto, unfolding(cw_grammar::specs::Statements::ptag))]
+pub fn read_ptag(tokens: &[Token], at: usize) -> Result<(RawPtag, usize), Stop>
+    ensures { Gives (λ x. (x.0, behind tokens.now x.1)) result (read 0 a_ptag ptag (behind tokens.now at)) }
+{
+    if next_is(tokens, at, TokenKind::Word(Word::Procedure)) {
+        let (word, at) = take_kind(tokens, at, TokenKind::Word(Word::Procedure))?;
+        return Ok((RawPtag::Procedure(position(word)), at));
+    }
+    let (word, at) = take_kind(tokens, at, TokenKind::Word(Word::Recursive))?;
+    if next_is(tokens, at, TokenKind::Word(Word::Procedure)) {
+        let (_, at) = take_kind(tokens, at, TokenKind::Word(Word::Procedure))?;
+        return Ok((RawPtag::Recursive(position(word)), at));
+    }
+    Ok((RawPtag::Recursive(position(word)), at))
+}
+
+fn read_value_ips(tokens: &[Token], at: usize) -> Result<(RawIps, usize), Stop>
+    ensures { Gives (λ x. (x.0, behind tokens.now x.1)) result (read 0 an_ips value_ips (behind tokens.now at)) }
+{
+    let (word, at) = take_kind(tokens, at, TokenKind::Word(Word::Value))?;
+    let (kind, at) = read_type(tokens, at)?;
+    Ok((RawIps::Value(position(word), kind), at))
+}
+
+fn read_location_ips(tokens: &[Token], at: usize) -> Result<(RawIps, usize), Stop>
+    ensures { Gives (λ x. (x.0, behind tokens.now x.1)) result (read 0 an_ips location_ips (behind tokens.now at)) }
+{
+    let (word, at) = take_kind(tokens, at, TokenKind::Word(Word::Location))?;
+    let (kind, at) = read_type(tokens, at)?;
+    Ok((RawIps::Location(position(word), kind), at))
+}
+
+fn read_table_ips(tokens: &[Token], at: usize) -> Result<(RawIps, usize), Stop>
+    ensures { Gives (λ x. (x.0, behind tokens.now x.1)) result (read 0 an_ips table_ips (behind tokens.now at)) }
+{
+    let (word, at) = take_kind(tokens, at, TokenKind::Word(Word::Table))?;
+    let (size, at) = read_size(tokens, at)?;
+    Ok((RawIps::Table(position(word), size), at))
+}
+
+fn read_label_ips(tokens: &[Token], at: usize) -> Result<(RawIps, usize), Stop>
+    ensures { Gives (λ x. (x.0, behind tokens.now x.1)) result (read 0 an_ips label_ips (behind tokens.now at)) }
+{
+    let (word, at) = take_kind(tokens, at, TokenKind::Word(Word::Label))?;
+    Ok((RawIps::Label(position(word)), at))
+}
+
+fn read_switch_ips(tokens: &[Token], at: usize) -> Result<(RawIps, usize), Stop>
+    ensures { Gives (λ x. (x.0, behind tokens.now x.1)) result (read 0 an_ips switch_ips (behind tokens.now at)) }
+{
+    let (word, at) = take_kind(tokens, at, TokenKind::Word(Word::Switch))?;
+    Ok((RawIps::Switch(position(word)), at))
+}
+
+#[tactic(auto, unfolding(cw_grammar::specs::Statements::worded_ips))]
+fn read_worded_ips(tokens: &[Token], at: usize) -> Result<(RawIps, usize), Stop>
+    ensures { Gives (λ x. (x.0, behind tokens.now x.1)) result (read 0 an_ips worded_ips (behind tokens.now at)) }
+{
+    if next_is(tokens, at, TokenKind::Word(Word::Value)) {
+        return read_value_ips(tokens, at);
+    }
+    if next_is(tokens, at, TokenKind::Word(Word::Location)) {
+        return read_location_ips(tokens, at);
+    }
+    if next_is(tokens, at, TokenKind::Word(Word::Table)) {
+        return read_table_ips(tokens, at);
+    }
+    if next_is(tokens, at, TokenKind::Word(Word::Label)) {
+        return read_label_ips(tokens, at);
+    }
+    read_switch_ips(tokens, at)
+}
+
+#[tactic(auto, unfolding(cw_grammar::specs::Statements::worded_ips))]
+fn is_worded_ips(tokens: &[Token], at: usize) -> bool
+    ensures { result ≡ starts (behind tokens.now at) (first worded_ips) }
+{
+    next_is(tokens, at, TokenKind::Word(Word::Value))
+        || next_is(tokens, at, TokenKind::Word(Word::Location))
+        || next_is(tokens, at, TokenKind::Word(Word::Table))
+        || next_is(tokens, at, TokenKind::Word(Word::Label))
+        || next_is(tokens, at, TokenKind::Word(Word::Switch))
+}
+
+#[tactic(auto, unfolding(cw_grammar::specs::Statements::ips))]
+fn read_ips(tokens: &[Token], at: usize) -> Result<(RawIps, usize), Stop>
+    ensures { Gives (λ x. (x.0, behind tokens.now x.1)) result (read 0 an_ips ips (behind tokens.now at)) }
+{
+    if is_worded_ips(tokens, at) {
+        return read_worded_ips(tokens, at);
+    }
+    let (kind, at) = read_type(tokens, at)?;
+    let (_, at) = take_kind(tokens, at, TokenKind::Word(Word::Array))?;
+    Ok((RawIps::Array(kind), at))
+}
+
+fn is_separator(tokens: &[Token], at: usize) -> bool
+    ensures { result ≡ starts (behind tokens.now at) (first separator) }
+{
+    next_is(tokens, at, TokenKind::Symbol(Symbol::Comma))
+        || next_is(tokens, at, TokenKind::Symbol(Symbol::Semicolon))
+}
+
+fn take_separator<'a>(tokens: &[Token<'a>], at: usize) -> Result<(Item<'a>, usize), Stop>
+    ensures { Gives (λ x. (seen x.0, behind tokens.now x.1)) result (read 0 a_token separator (behind tokens.now at)) }
+{
+    if next_is(tokens, at, TokenKind::Symbol(Symbol::Comma)) {
+        return take_kind(tokens, at, TokenKind::Symbol(Symbol::Comma));
+    }
+    take_kind(tokens, at, TokenKind::Symbol(Symbol::Semicolon))
+}
+
+fn read_separated_ips(
+    alloc: Global,
+    tokens: &[Token],
+    at: usize,
+) -> Result<(List<RawIps>, usize), Stop>
+    ensures { Gives (λ x. (x.0, behind tokens.now x.1)) result (read 0 (a_list an_ips) (separated ips) (behind tokens.now at)) }
+{
+    let (first, at) = read_ips(tokens, at)?;
+    let none: Option<Inside> = None;
+    prove!(none.is_none());
+    let mut found = List::new(alloc);
+    found.push(first)?;
+    let mut next = at;
+    while is_separator(tokens, next) {
+        let (_, after) = take_separator(tokens, next)?;
+        let (item, after) = read_ips(tokens, after)?;
+        found.push(item)?;
+        next = after;
+    }
+    Ok((found, next))
+}
+
+#[tactic(auto, unfolding(cw_grammar::specs::Statements::ips_list, cw_grammar::specs::Statements::ips, cw_grammar::specs::Statements::worded_ips, cw_grammar::specs::Rules::number_type))]
+pub fn read_ips_list(
+    alloc: Global,
+    tokens: &[Token],
+    at: usize,
+) -> Result<(List<RawIps>, usize), Stop>
+    ensures { Gives (λ x. (x.0, behind tokens.now x.1)) result (read 0 (a_list an_ips) ips_list (behind tokens.now at)) }
+{
+    if next_is(tokens, at, TokenKind::Symbol(Symbol::Open)) {
+        let (_, at) = take_kind(tokens, at, TokenKind::Symbol(Symbol::Open))?;
+        let (found, at) = read_separated_ips(alloc, tokens, at)?;
+        let (_, at) = take_kind(tokens, at, TokenKind::Symbol(Symbol::Close))?;
+        return Ok((found, at));
+    }
+    Ok((List::new(alloc), at))
+}
+
+#[tactic(auto, unfolding(cw_grammar::specs::Statements::procedure_ps))]
+fn read_procedure_ps(
+    alloc: Global,
+    tokens: &[Token],
+    at: usize,
+    kind: Option<RawType>,
+) -> Result<(RawPs, usize), Stop>
+    ensures { Gives (λ x. (x.0, behind tokens.now x.1)) result (applied kind (read 0 (a_from (an_option a_type) a_ps) procedure_ps (behind tokens.now at))) }
+{
+    let (word, at) = take_kind(tokens, at, TokenKind::Word(Word::Procedure))?;
+    let (list, at) = read_ips_list(alloc, tokens, at)?;
+    Ok((RawPs::Proc(kind, position(word), list), at))
+}
+
+#[tactic(auto, unfolding(cw_grammar::specs::Statements::ps, cw_grammar::specs::Statements::procedure_ps, cw_grammar::specs::Statements::worded_ips, cw_grammar::specs::Rules::number_type))]
+fn read_ps(alloc: Global, tokens: &[Token], at: usize) -> Result<(RawPs, usize), Stop>
+    ensures { Gives (λ x. (x.0, behind tokens.now x.1)) result (read 0 a_ps ps (behind tokens.now at)) }
+{
+    if is_type(tokens, at) {
+        let (kind, at) = read_type(tokens, at)?;
+        if next_is(tokens, at, TokenKind::Word(Word::Array)) {
+            let (_, at) = take_kind(tokens, at, TokenKind::Word(Word::Array))?;
+            return Ok((RawPs::Plain(RawIps::Array(kind)), at));
+        }
+        return read_procedure_ps(alloc, tokens, at, Some(kind));
+    }
+    if next_is(tokens, at, TokenKind::Word(Word::Procedure)) {
+        return read_procedure_ps(alloc, tokens, at, None);
+    }
+    let (plain, at) = read_worded_ips(tokens, at)?;
+    Ok((RawPs::Plain(plain), at))
+}
+
+fn read_separated_ps(
+    alloc: Global,
+    tokens: &[Token],
+    at: usize,
+) -> Result<(List<RawPs>, usize), Stop>
+    ensures { Gives (λ x. (x.0, behind tokens.now x.1)) result (read 0 (a_list a_ps) (separated ps) (behind tokens.now at)) }
+{
+    let (first, at) = read_ps(alloc, tokens, at)?;
+    let mut found = List::new(alloc);
+    found.push(first)?;
+    let mut next = at;
+    while is_separator(tokens, next) {
+        let (_, after) = take_separator(tokens, next)?;
+        let (item, after) = read_ps(alloc, tokens, after)?;
+        found.push(item)?;
+        next = after;
+    }
+    Ok((found, next))
+}
+
+#[tactic(auto, unfolding(cw_grammar::specs::Statements::ps, cw_grammar::specs::Statements::worded_ips, cw_grammar::specs::Rules::number_type))]
+fn read_ps_list(alloc: Global, tokens: &[Token], at: usize) -> Result<(List<RawPs>, usize), Stop>
+    ensures { Gives (λ x. (x.0, behind tokens.now x.1)) result (read 0 (a_list a_ps) (listed (in_round (separated ps))) (behind tokens.now at)) }
+{
+    if next_is(tokens, at, TokenKind::Symbol(Symbol::Open)) {
+        let (_, at) = take_kind(tokens, at, TokenKind::Symbol(Symbol::Open))?;
+        let (found, at) = read_separated_ps(alloc, tokens, at)?;
+        let (_, at) = take_kind(tokens, at, TokenKind::Symbol(Symbol::Close))?;
+        return Ok((found, at));
+    }
+    Ok((List::new(alloc), at))
+}
+
+#[tactic(auto, unfolding(cw_grammar::specs::Statements::spec_behind))]
+pub fn read_spec_behind(
+    alloc: Global,
+    tokens: &[Token],
+    at: usize,
+    kind: Option<RawType>,
+) -> Result<(RawSpec, usize), Stop>
+    ensures { Gives (λ x. (x.0, behind tokens.now x.1)) result (applied kind (read 0 (a_from (an_option a_type) a_spec) spec_behind (behind tokens.now at))) }
+{
+    let (tag, at) = read_ptag(tokens, at)?;
+    let (name, at) = read_name(tokens, at)?;
+    let (params, at) = read_ps_list(alloc, tokens, at)?;
+    let spec = RawSpec {
+        answer: kind,
+        tag,
+        name,
+        params,
+    };
+    Ok((spec, at))
+}
+
+#[tactic(auto, unfolding(cw_grammar::specs::Statements::spec, cw_grammar::specs::Rules::number_type))]
+pub fn read_spec(alloc: Global, tokens: &[Token], at: usize) -> Result<(RawSpec, usize), Stop>
+    ensures { Gives (λ x. (x.0, behind tokens.now x.1)) result (read 0 a_spec spec (behind tokens.now at)) }
+{
+    if is_type(tokens, at) {
+        let (kind, at) = read_type(tokens, at)?;
+        return read_spec_behind(alloc, tokens, at, Some(kind));
+    }
+    read_spec_behind(alloc, tokens, at, None)
+}

@@ -1,0 +1,7 @@
+mod Chains
+mod Expand
+pub mod Rules
+pub mod Labels
+pub mod SimpleLabels
+pub mod Elems
+pub mod Places
