@@ -1,7 +1,8 @@
 -- Whether a descriptor is the first that is defined twice.
-use Rattle.std.proofs.Common.{◌≡◌, ℕ, zero, suc, ◌+◌, ◌<◌, ◌≤◌, Bool, true, false, cond, List, [], ◌∷◌, length, Option, Some, None, slice_get, get_or, refl, sym, ap, subst, ◌∙◌, arith, inl, inr}
+use Rattle.std.proofs.Common.{◌≡◌, ℕ, zero, suc, ◌+◌, ◌<◌, ◌≤◌, Bool, true, false, cond, List, [], ◌∷◌, length, Option, Some, None, slice_get, get_or, option_map, map, drop, ◌++◌, append_assoc, refl, sym, ap, subst, ◌∙◌, arith, inl, inr}
 use Rattle.std.proofs.lemmas.Bool.{cases_lt, true≢false}
 use Rattle.std.proofs.lemmas.Option.{none-some, same_Some, slice_get-get_or}
+use Rattle.std.proofs.lemmas.List.{drop_more}
 use Rattle.cw_unit.specs.Allocation.{name_at}
 use Rattle.cw_unit.specs.declared.descriptor.Desc.{Desc}
 use Rattle.cw_comm.specs.declared.face.Face.{Face}
@@ -10,6 +11,7 @@ use Rattle.cw_comm.specs.Clashes.{Names, Defines, IsSecondDefinition, NoneBefore
 use Rattle.cw_comm.specs.Numbered.{AreNumbered}
 use Rattle.cw_comm.specs.Tables.{defined_in, TellsDefiners, TellsOwn, IsFirstTold}
 use Rattle.cw_comm.proofs.Entries.{no_face, IsNumbered, numbered}
+use Rattle.cw_comm.proofs.Naming.{read_name}
 use Rattle.cw_comm.proofs.Firsts.{TellsNames, name_is, one_more, first_here}
 
 -- ---- the first segment that defines a name
@@ -58,6 +60,23 @@ first_definer faces name i h =
             | inr le ↦ omega (arith, le, seg)
           ];
     }
+
+-- segments counted from one more
+next-if : (b : Bool) (g : ℕ) (o o' : Option ℕ) → o' ≡ option_map (λ i. i + 1) o → cond b (Some (g + 1)) o' ≡ option_map (λ i. i + 1) (cond b (Some g) o)
+next-if true g o o' h = refl
+next-if false g o o' h = h
+
+pub next_definer : (g : ℕ) (name : Name) (fs : List Face) → definer_from (g + 1) name fs ≡ option_map (λ i. i + 1) (definer_from g name fs)
+next_definer g name [] = refl
+next_definer g name (f ∷ fs) = next-if (DefinesIt name f) g (definer_from (g + 1) name fs) (definer_from (g + 1 + 1) name fs) (next_definer (g + 1) name fs)
+
+-- the definer of one more name
+pub one_definer : (faces : List Face) (names : List Name) (n : ℕ) (done : List (Option ℕ)) (all : List (Option ℕ)) (one : Option ℕ) → n < length names → one ≡ definer_from 1 (name_at names n) faces
+    → done ++ map (λ name. definer_from 1 name faces) (drop n names) ≡ all → (done ++ one ∷ []) ++ map (λ name. definer_from 1 name faces) (drop (n + 1) names) ≡ all
+one_definer faces names n done all one lt is h =
+    let f : Name → Option ℕ = λ name. definer_from 1 name faces in
+    append_assoc done (one ∷ []) (map f (drop (n + 1) names))
+    ∙ ap (λ o. done ++ o ∷ map f (drop (n + 1) names)) (is ∙ ap f (read_name names n lt)) ∙ ap (λ ns. done ++ map f ns) (sym (drop_more names n [] lt)) ∙ h
 
 neither : (b : Bool) (g : ℕ) (o : Option ℕ) → cond b (Some g) o ≡ None → (b ≡ false) × (o ≡ None)
 neither true g o h = absurd (none-some g (sym h))

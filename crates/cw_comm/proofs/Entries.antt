@@ -1,16 +1,16 @@
 -- One entry more in a table of names.
 use Rattle.std.proofs.Common.{◌≡◌, ℕ, ◌+◌, ◌<◌, ◌≤◌, Bool, true, false, cond, ◌||◌, nat_eq, List, [], ◌∷◌, length, drop, set, get_or, Option, Some, None, slice_get, refl, sym, ap, ap₂, subst, ◌∙◌, arith, inl, inr}
 use Rattle.std.specs.Str.{bytes_eq}
-use Rattle.std.proofs.lemmas.Bool.{cases_eq, eq-eqb, ne_eqb, false_from_ne_true}
+use Rattle.std.proofs.lemmas.Bool.{cases_eq, cases_lt, eq-eqb, ne_eqb, false_from_ne_true}
 use Rattle.std.proofs.lemmas.List.{get_or_default, drop_more, drop_all, get_or_read, length-map, get_or-set_same, get_or-set_other}
-use Rattle.std.proofs.lemmas.Option.{slice_get-get_or, slice_get_within, get_or_from_slice_get}
+use Rattle.std.proofs.lemmas.Option.{none-some, slice_get_past, slice_get-get_or, slice_get_within, get_or_from_slice_get}
 use Rattle.std.proofs.lemmas.Slice.Eq.{bytes_eq-Decides}
 use Rattle.cw_unit.specs.Allocation.{name_at}
 use Rattle.cw_unit.specs.declared.descriptor.Desc.{Desc}
 use Rattle.cw_unit.specs.declared.descriptor.DescBody.TheVariants as bodies
 use Rattle.cw_comm.specs.declared.face.Face.{Face}
-use Rattle.cw_comm.specs.Agreement.{Name, base_name, defines, definer_from, place_of, places_in}
-use Rattle.cw_comm.specs.Numbered.{AreNumbered, IsOnce, OwnDefinitions}
+use Rattle.cw_comm.specs.Agreement.{Name, has_name, defines, definer_from, place_of, places_in}
+use Rattle.cw_comm.specs.Numbered.{AreNumbered, IsOnce}
 use Rattle.cw_comm.specs.Tables.{place_from, listed_in, first_listing, defined_in}
 use Rattle.cw_comm.proofs.Naming.{HasPlace, listed_once, listed, numbers_at, number_at}
 
@@ -42,6 +42,9 @@ no_face = record { name = []; descs = []; defined = [] }
 
 abbrev pub no_desc : Desc
 no_desc = record { name = []; library = false; over = None; body = bodies.Label }
+
+slice_get_behind : (xs : List ℕ) (i : ℕ) → slice_get xs i ≡ None → length xs ≤ i
+slice_get_behind xs i none = elim (cases_lt i (length xs)) [ inl lt ↦ absurd (none-some (get_or xs i 0) (sym none ∙ slice_get-get_or xs i 0 lt)) | inr le ↦ le ]
 
 -- a number stands for a name
 pub record IsNumbered (names : List Name) (k : ℕ) (name : Name) : Type 0 where
@@ -109,26 +112,33 @@ module _ (faces : List Face) (names : List Name) (numbers : List (List ℕ)) (nu
   drop-number : (ds : List ℕ) (n : ℕ) → n < length ds → drop n ds ≡ get_or ds n 0 ∷ drop (n + 1) ds
   drop-number ds n lt = drop_more ds n 0 lt
 
-  -- a definition's descriptor
-  pub own_is : OwnDefinitions faces → (g n : ℕ) (f : Face) (ns : List ℕ) → slice_get faces g ≡ Some f → ns ≡ get_or numbers g ns → n < length f.defined → get_or f.defined n 0 < length ns
-  own_is own g n f ns is e lt = let below = own g f is n 0 lt in omega (arith, below, count_is g f ns is e)
+  -- a definition, of one of the segment's descriptors or of none
+  defined-more : (g n m x : ℕ) (f : Face) (k : ℕ) (b : Bool) (new old : Option ℕ) (more : Option ℕ) → n < length f.defined → n + 1 ≡ m → get_or f.defined n 0 ≡ x → has_name (name_at names k) (slice_get f.descs x) ≡ b
+      → more ≡ defined_in g (defines (name_at names k) f.descs (drop m f.defined)) old → new ≡ cond b (Some g) more → new ≡ defined_in g (defines (name_at names k) f.descs (drop n f.defined)) old
+  defined-more g n m x f k b new old more lt next is named h e =
+      let rest = defines (name_at names k) f.descs (drop (n + 1) f.defined) in
+      e ∙ ap₂ (λ c o. cond c (Some g) o) (sym named ∙ ap (λ i. has_name (name_at names k) (slice_get f.descs i)) (sym is)) (h ∙ ap (λ i. defined_in g (defines (name_at names k) f.descs (drop i f.defined)) old) (sym next))
+      ∙ sym (ap (λ ds. defined_in g (defines (name_at names k) f.descs ds) old) (drop-number f.defined n lt) ∙ through-defined (has_name (name_at names k) (slice_get f.descs (get_or f.defined n 0))) rest g old)
 
-  pub next_definition : OwnDefinitions faces → (g n : ℕ) (f : Face) (ns : List ℕ) (k m : ℕ) (table : List (Option ℕ)) (old : Option ℕ) → slice_get faces g ≡ Some f → ns ≡ get_or numbers g ns → n < length f.defined → n + 1 ≡ m → k < length names → length table ≡ length names
+  pub next_definition : (g n x : ℕ) (f : Face) (ns : List ℕ) (number k m : ℕ) (table : List (Option ℕ)) (old : Option ℕ) → slice_get faces g ≡ Some f → ns ≡ get_or numbers g ns → slice_get ns x ≡ Some number → n < length f.defined → n + 1 ≡ m → get_or f.defined n 0 ≡ x → k < length names → length table ≡ length names
       → get_or table k None ≡ defined_in g (defines (name_at names k) f.descs (drop m f.defined)) old
-      → get_or (set table (get_or ns (get_or f.defined n 0) 0) (Some g)) k None ≡ defined_in g (defines (name_at names k) f.descs (drop n f.defined)) old
-  next_definition own g n f ns k m table old is e lt next lk count h =
-      let x = get_or f.defined n 0 in
-      let below : x < length f.descs = own g f is n 0 lt in
+      → get_or (set table number (Some g)) k None ≡ defined_in g (defines (name_at names k) f.descs (drop n f.defined)) old
+  next_definition g n x f ns number k m table old is e read lt next defined lk count h =
+      let below : x < length f.descs = omega (arith, slice_get_within ns x number read, count_is g f ns is e) in
       let d : Desc = get_or f.descs x no_desc in
       let at : slice_get f.descs x ≡ Some d = slice_get-get_or f.descs x no_desc below in
       let has = place_there g x f d is at in
-      let number = number_is g x f d ns is at e in
-      let within : get_or ns x 0 < length table = omega (arith, number, has.within, count) in
-      let named : base_name f.descs x ≡ d.name = ap (λ (o : Option Desc). elim o [ None ↦ [] | Some b ↦ b.name ]) at in
-      let same : nat_eq k (get_or ns x 0) ≡ bytes_eq (name_at names k) (base_name f.descs x) = ap (nat_eq k) number ∙ sym (same_number names d.name k once has lk) ∙ ap (bytes_eq (name_at names k)) (sym named) in
-      entry table (get_or ns x 0) k (Some g) None within
-      ∙ ap₂ (λ b o. cond b (Some g) o) same (h ∙ ap (λ i. defined_in g (defines (name_at names k) f.descs (drop i f.defined)) old) (sym next))
-      ∙ sym (ap (λ ds. defined_in g (defines (name_at names k) f.descs ds) old) (drop-number f.defined n lt) ∙ through-defined (bytes_eq (name_at names k) (base_name f.descs x)) (defines (name_at names k) f.descs (drop (n + 1) f.defined)) g old)
+      let told : number ≡ place_of names d.name = sym (get_or_from_slice_get ns x number 0 read) ∙ number_is g x f d ns is at e in
+      let within : number < length table = omega (arith, told, has.within, count) in
+      let same : nat_eq k number ≡ bytes_eq (name_at names k) d.name = ap (nat_eq k) told ∙ sym (same_number names d.name k once has lk) in
+      defined-more g n m x f k (nat_eq k number) (get_or (set table number (Some g)) k None) old (get_or table k None) lt next defined (ap (has_name (name_at names k)) at ∙ sym same) h (entry table number k (Some g) None within)
+
+  pub skip_definition : (g n x : ℕ) (f : Face) (ns : List ℕ) (k m : ℕ) (table : List (Option ℕ)) (old : Option ℕ) → slice_get faces g ≡ Some f → ns ≡ get_or numbers g ns → slice_get ns x ≡ None → n < length f.defined → n + 1 ≡ m → get_or f.defined n 0 ≡ x
+      → get_or table k None ≡ defined_in g (defines (name_at names k) f.descs (drop m f.defined)) old
+      → get_or table k None ≡ defined_in g (defines (name_at names k) f.descs (drop n f.defined)) old
+  skip_definition g n x f ns k m table old is e read lt next defined h =
+      let behind : length f.descs ≤ x = omega (arith, slice_get_behind ns x read, count_is g f ns is e) in
+      defined-more g n m x f k false (get_or table k None) old (get_or table k None) lt next defined (ap (has_name (name_at names k)) (slice_get_past f.descs x behind)) h refl
 
   pub no_definition : (g n : ℕ) (f : Face) (k : ℕ) (old : Option ℕ) → length f.defined ≤ n → old ≡ defined_in g (defines (name_at names k) f.descs (drop n f.defined)) old
   no_definition g n f k old le = sym (ap (λ ds. defined_in g (defines (name_at names k) f.descs ds) old) (drop_all n f.defined le))

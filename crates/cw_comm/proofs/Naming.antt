@@ -1,18 +1,19 @@
 -- Each name that is listed has one number.
-use Rattle.std.proofs.Common.{◌≡◌, ℕ, zero, suc, ◌+◌, ◌<◌, ◌≤◌, Bool, true, false, cond, not, ◌||◌, List, [], ◌∷◌, ◌++◌, length, map, get_or, Some, None, slice_get, refl, sym, ap, ap₂, subst, ◌∙◌, arith, inl, inr}
+use Rattle.std.proofs.Common.{◌≡◌, ℕ, zero, suc, ◌+◌, ◌<◌, ◌≤◌, Bool, true, false, cond, not, ◌||◌, List, [], ◌∷◌, ◌++◌, length, map, drop, get_or, Option, Some, None, append_assoc, slice_get, refl, sym, ap, ap₂, subst, ◌∙◌, arith, inl, inr}
 use Rattle.std.specs.Prelude.{unwrap_or}
 use Rattle.std.specs.List.{list_any, prefix_len}
 use Rattle.std.specs.Str.{bytes_eq}
 use Rattle.std.proofs.lemmas.Bool.{cases_lt, lt-ltb, or_right, or_left, true≢false, false≢true}
-use Rattle.std.proofs.lemmas.List.{length_push, get_or_append_left, get_or_push, length-map}
+use Rattle.std.proofs.lemmas.List.{length_push, get_or_append_left, get_or_push, length-map, drop_more}
 use Rattle.std.proofs.lemmas.List.Folds.{list_any-append, list_any_at}
-use Rattle.std.proofs.lemmas.Option.{none-some, same_Some, slice_get-get_or}
+use Rattle.std.proofs.lemmas.Option.{none-some, same_Some, slice_get-get_or, slice_get_within, get_or_from_slice_get}
 use Rattle.std.proofs.lemmas.Slice.Eq.{bytes_eq-Decides}
 use Rattle.cw_unit.specs.Allocation.{name_or_none, name_at}
 use Rattle.cw_unit.specs.declared.descriptor.Desc.{Desc}
 use Rattle.cw_comm.specs.declared.face.Face.{Face}
-use Rattle.cw_comm.specs.Agreement.{Name, with_name, names_with, names_from, listed_names, place_of, places_in, all_places}
-use Rattle.cw_comm.specs.Numbered.{IsOnce, IsNumberOf}
+use Rattle.cw_comm.specs.declared.face.Agreed.{Agreed}
+use Rattle.cw_comm.specs.Agreement.{Name, with_name, names_with, names_from, listed_names, place_of, places_in, all_places, definer_from}
+use Rattle.cw_comm.specs.Numbered.{AreNumbered, IsOnce, IsNumberOf}
 use Rattle.cw_comm.specs.Clashes.{agreed_of}
 
 -- ---- the number of a name that is listed
@@ -38,8 +39,8 @@ at : (names : List Name) (name : Name) → is_in names name ≡ true → At name
 at [] name h = absurd (false≢true h)
 at (x ∷ xs) name h = let p = at-if (bytes_eq name x) name x xs refl (at xs name) h in record { within = p.0; there = p.1 }
 
-name-is : (names : List Name) (k : ℕ) → k < length names → name_at names k ≡ get_or names k []
-name-is names k lt = ap name_or_none (slice_get-get_or names k [] lt)
+pub read_name : (names : List Name) (k : ℕ) → k < length names → name_at names k ≡ get_or names k []
+read_name names k lt = ap name_or_none (slice_get-get_or names k [] lt)
 
 place-is : (names : List Name) (name : Name) → before name names < length names → place_of names name ≡ before name names
 place-is names name lt = ap (λ b. unwrap_or (cond b (Some (before name names)) None) (length names)) (lt-ltb (before name names) (length names) lt)
@@ -54,7 +55,7 @@ has_place names name h =
     let a = at names name h in
     let e = place-is names name a.within in
     let within : place_of names name < length names = omega (arith, e, a.within) in
-    record { within = within; there = ap (name_at names) e ∙ name-is names (before name names) a.within ∙ a.there }
+    record { within = within; there = ap (name_at names) e ∙ read_name names (before name names) a.within ∙ a.there }
 
 -- ---- names are listed once
 
@@ -62,14 +63,14 @@ once-push : (names : List Name) (name : Name) → is_in names name ≡ false →
 once-push names name absent h j k lj lk e =
     let len = length_push names name in
     let new : get_or (names ++ name ∷ []) (length names) [] ≡ name = get_or_push names name [] (length names) refl in
-    let far : (i : ℕ) → i < length names → name_at (names ++ name ∷ []) i ≡ get_or names i [] = λ i lt. name-is (names ++ name ∷ []) i (omega (arith, lt, len)) ∙ get_or_append_left names (name ∷ []) [] i lt in
+    let far : (i : ℕ) → i < length names → name_at (names ++ name ∷ []) i ≡ get_or names i [] = λ i lt. read_name (names ++ name ∷ []) i (omega (arith, lt, len)) ∙ get_or_append_left names (name ∷ []) [] i lt in
     let last : (i : ℕ) → length names ≤ i → i < length (names ++ name ∷ []) → name_at (names ++ name ∷ []) i ≡ name = λ i le lt.
     let at_end : i ≡ length names = omega (arith, le, lt, len) in
-    name-is (names ++ name ∷ []) i lt ∙ ap (λ n. get_or (names ++ name ∷ []) n []) at_end ∙ new in
+    read_name (names ++ name ∷ []) i lt ∙ ap (λ n. get_or (names ++ name ∷ []) n []) at_end ∙ new in
     let apart : (i : ℕ) → i < length names → get_or names i [] ≡ name → ⊥ = λ i lt is. true≢false (sym (list_any_at (bytes_eq name) names i [] lt ((bytes_eq-Decides name (get_or names i [])).1 (sym is))) ∙ absent) in
     elim (cases_lt j (length names)) [
       | inl a ↦ elim (cases_lt k (length names)) [
-        | inl b ↦ h j k a b (name-is names j a ∙ sym (far j a) ∙ e ∙ far k b ∙ sym (name-is names k b))
+        | inl b ↦ h j k a b (read_name names j a ∙ sym (far j a) ∙ e ∙ far k b ∙ sym (read_name names k b))
         | inr b ↦ absurd (apart j a (sym (far j a) ∙ e ∙ last k b lk))
       ]
       | inr a ↦ elim (cases_lt k (length names)) [
@@ -157,5 +158,22 @@ names-each names (d ∷ ds) h = ap₂ (λ n ns. n ∷ ns) (h 0 d refl).there (na
 pub names_told : (faces : List Face) (g : ℕ) (f : Face) → slice_get faces g ≡ Some f → map (name_at (agreed_of faces).names) (get_or (agreed_of faces).of g []) ≡ map (λ (d : Desc). d.name) f.descs
 names_told faces g f e =
     ap (map (name_at (listed_names faces))) (numbers_at (listed_names faces) faces g f e) ∙ names-each (listed_names faces) f.descs (λ n d at_. listed faces g n f d e at_)
+
+-- ---- lists of names
+
+-- one more name
+pub next_name : (names done : List Name) (n : ℕ) (name : Name) → Some name ≡ slice_get names n → done ++ drop n names ≡ names → (done ++ name ∷ []) ++ drop (n + 1) names ≡ names
+next_name names done n name is h =
+    append_assoc done (name ∷ []) (drop (n + 1) names)
+    ∙ ap (λ x. done ++ x ∷ drop (n + 1) names) (sym (get_or_from_slice_get names n name [] (sym is))) ∙ ap (λ ns. done ++ ns) (sym (drop_more names n [] (slice_get_within names n name (sym is)))) ∙ h
+
+abbrev made : List Name → List (List ℕ) → List (Option ℕ) → Agreed
+made names numbers defined = record { names = names; of = numbers; defined = defined }
+
+pub agreed_is : (faces : List Face) (names : List Name) (numbers : List (List ℕ)) (defined : List (Option ℕ)) (listed : List Name) → AreNumbered faces names numbers → listed ≡ names → defined ≡ map (λ name. definer_from 1 name faces) listed → made names numbers defined ≡ agreed_of faces
+agreed_is faces names numbers defined listed num same is =
+    let of : numbers ≡ all_places (listed_names faces) faces = num.numbers_are ∙ ap (λ ns. all_places ns faces) num.names_are in
+    let definers : defined ≡ map (λ name. definer_from 1 name faces) (listed_names faces) = is ∙ ap (map (λ name. definer_from 1 name faces)) (same ∙ num.names_are) in
+    λ i. record { names = num.names_are i; of = of i; defined = definers i }
 
 pub ruleset naming = (listed_once, numbers_of_names, number_count, segment_count, names_told)

@@ -83,10 +83,14 @@ wants_definition bodies.Label = true
 wants_definition bodies.Switch = true
 wants_definition (bodies.Proc s) = true
 
--- whether one of these descriptors of a segment, which it defines, has the name
+abbrev pub has_name : Name → Option Desc → Bool
+has_name name None = false
+has_name name (Some d) = bytes_eq name d.name
+
+-- Whether one of these descriptors of a segment, which it defines, has the name. A number that is none of its descriptors defines nothing.
 abbrev pub defines : Name → List Desc → List ℕ → Bool
 defines name ds [] = false
-defines name ds (d ∷ more) = bytes_eq name (base_name ds d) || defines name ds more
+defines name ds (d ∷ more) = has_name name (slice_get ds d) || defines name ds more
 
 -- the first segment that defines a name, where these are the segments from number n on
 abbrev pub definer_from : (n : ℕ) → Name → List Face → Option ℕ

@@ -1,6 +1,5 @@
 -- The names of segments by their numbers.
-use Rattle.std.specs.Prelude.{◌≡◌, ◌<◌, ℕ, List, [], length, Some, slice_get, slice_index, slice_index_or}
-use Rattle.std.specs.List.{All}
+use Rattle.std.specs.Prelude.{◌≡◌, ◌<◌, ℕ, List, [], length, slice_index, slice_index_or}
 use Rattle.cw_unit.specs.Allocation.{name_at}
 use Rattle.cw_comm.specs.declared.face.Face.{Face}
 use Rattle.cw_comm.specs.declared.face.Agreed.{Agreed}
@@ -19,7 +18,3 @@ IsOnce names = (j k : ℕ) → j < length names → k < length names → name_at
 pub record IsNumberOf (agreed : Agreed) (segment descriptor : ℕ) (name : Name) : Type 0 where
   pub within : slice_index (slice_index_or agreed.of segment []) descriptor < length agreed.names
   pub there : name_at agreed.names (slice_index (slice_index_or agreed.of segment []) descriptor) ≡ name
-
--- what a segment defines are descriptors of its own
-abbrev pub OwnDefinitions : List Face → Type 0
-OwnDefinitions faces = (g : ℕ) (f : Face) → slice_get faces g ≡ Some f → All (λ d. d < length f.descs) f.defined

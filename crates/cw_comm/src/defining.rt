@@ -2,7 +2,7 @@
 ghost use Rattle.std.specs.Prelude.{◌≡◌, ◌≤◌, ◌<◌, ◌+◌, length, slice_get, Some, IfOk, MatchOption};
 ghost use Rattle.cw_comm.specs.declared.face.Face.{Face as SegmentFace};
 ghost use Rattle.cw_comm.specs.Clashes.{IsSecondDefinition, NoneBefore, HasNone};
-ghost use Rattle.cw_comm.specs.Numbered.{AreNumbered, OwnDefinitions};
+ghost use Rattle.cw_comm.specs.Numbered.{AreNumbered};
 ghost use Rattle.cw_comm.specs.Tables.{TellsDefiners, TellsOwn, IsFirstTold, IsFirstIn};
 
 use crate::entry::{definer, is_definer, number};
@@ -77,7 +77,6 @@ pub(crate) fn second_definition(
     definers: &[Option<u8>],
 ) -> Result<Option<(Name, u8, u8)>, NoMemory>
     requires numbered { AreNumbered segments.now names.now numbers.now }
-    requires own { OwnDefinitions segments.now }
     requires few { length segments.now ≤ 200 }
     requires definers { TellsDefiners names.now segments.now definers.now }
     ensures { IfOk result (λ found. MatchOption found (HasNone (IsSecondDefinition segments.now)) (λ clash. IsFirstIn (IsSecondDefinition segments.now) clash.0 clash.1 clash.2)) }

@@ -1,5 +1,5 @@
 //! What an entry of a table stands for.
-ghost use Rattle.std.specs.Prelude.{◌≡◌, ◌↔◌, [], slice_index_or, Some, None, IsTrue};
+ghost use Rattle.std.specs.Prelude.{◌≡◌, ◌↔◌, [], slice_get, slice_index_or, Some, None, IsTrue};
 ghost use Rattle.cw_comm.specs.Tables.{AreAlike};
 
 use crate::face::Face;
@@ -34,6 +34,13 @@ pub(crate) fn is_definer(table: &[Option<u8>], name: usize, segment: usize) -> b
         Some(definer) => definer as usize == segment,
         None => false,
     }
+}
+
+/// The number of a descriptor's name, where these are those of its segment.
+pub(crate) fn own_number(numbers: &[usize], descriptor: usize) -> Option<usize>
+    ensures { result ≡ slice_get numbers.now descriptor }
+{
+    numbers.get(descriptor).copied()
 }
 
 /// The number of a descriptor's name.

@@ -1,6 +1,7 @@
 //! Symbol agreement between segments.
 #![tactic(auto)]
 
+mod agreeing;
 mod agreement;
 mod clash;
 mod defining;
@@ -12,5 +13,6 @@ mod listing;
 mod tables;
 mod undefined;
 
+pub use agreeing::agree;
 pub use clash::Clash;
 pub use face::{Agreed, Face};

@@ -3,9 +3,10 @@ ghost use Rattle.std.specs.Prelude.{◌≡◌, ◌≤◌, ◌<◌, ℕ, length, 
 ghost use Rattle.cw_unit.specs.Allocation.{name_at};
 ghost use Rattle.cw_comm.specs.declared.face.Face.{Face as SegmentFace};
 ghost use Rattle.cw_comm.specs.Agreement.{defines};
-ghost use Rattle.cw_comm.specs.Numbered.{AreNumbered, OwnDefinitions};
+ghost use Rattle.cw_comm.specs.Numbered.{AreNumbered};
 ghost use Rattle.cw_comm.specs.Tables.{place_from, listed_in, defined_in, TellsListings, TellsDefiners};
 
+use crate::entry::own_number;
 use crate::face::Face;
 use cw_word::{List, Name, NoMemory};
 use std::alloc::Global;
@@ -58,7 +59,6 @@ pub(crate) fn enter_definitions(
     segment: usize,
 )
     requires numbered { AreNumbered segments.now names.now numbers.now }
-    requires own { OwnDefinitions segments.now }
     requires few { length segments.now ≤ 200 }
     requires segment { segment < length segments.now }
     requires count { length table.old.items ≡ length names.now }
@@ -68,7 +68,9 @@ pub(crate) fn enter_definitions(
     let numbers = numbers[segment].as_slice();
     let defined = segments[segment].defined.as_slice();
     for n in (0..defined.len()).rev() {
-        table[numbers[defined[n] as usize]] = Some(segment as u8);
+        if let Some(number) = own_number(numbers, defined[n] as usize) {
+            table[number] = Some(segment as u8);
+        }
     }
 }
 
@@ -80,7 +82,6 @@ pub(crate) fn first_definers(
     numbers: &[List<usize>],
 ) -> Result<Vec<Option<u8>>, NoMemory>
     requires numbered { AreNumbered segments.now names.now numbers.now }
-    requires own { OwnDefinitions segments.now }
     requires few { length segments.now ≤ 200 }
     ensures { IfOk result (λ table. TellsDefiners names.now segments.now table.items) }
 {

@@ -1,5 +1,9 @@
 pub mod Contents
+pub mod Definitions
 pub mod Filled
+pub mod LinkFaults
+pub mod LinkedImage
+pub mod OtherBytes
 pub mod Presets
 pub mod Relocation
 pub mod Views

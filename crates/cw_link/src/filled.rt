@@ -9,13 +9,13 @@ use std::alloc::Global;
 /// For each word of the data area the segment, from 1, and the value of its first preset; and the lowest word with
 /// presets of different values, with the segment of the first and that of the first other one.
 #[derive(Drop)]
-pub(crate) struct Filled {
-    words: Vec<Option<(u8, u16)>>,
-    clash: Option<(u32, u8, u8)>,
+pub struct Filled {
+    pub words: Vec<Option<(u8, u16)>>,
+    pub clash: Option<(u32, u8, u8)>,
 }
 
 /// Words that no preset has filled.
-pub(crate) fn no_words(alloc: Global, area: u32) -> Result<Filled, NoMemory>
+pub fn no_words(alloc: Global, area: u32) -> Result<Filled, NoMemory>
     ensures filled { IfOk result (HasFilled []) }
     ensures count { IfOk result (λ filled. length filled.words.items ≡ area) }
 {
@@ -34,7 +34,7 @@ fn is_lowest(clash: Option<(u32, u8, u8)>, address: u32) -> bool
 }
 
 /// Fills a word. The first value stays.
-pub(crate) fn fill_word(filled: &mut Filled, segment: u8, address: u32, word: u16)
+pub fn fill_word(filled: &mut Filled, segment: u8, address: u32, word: u16)
     requires { address < length filled.old.words.items }
     ensures filled { (ps : List FilledWord) → HasFilled ps filled.old → HasFilled (ps ++ record { segment = segment; address = address; word = word } ∷ []) filled.new }
     ensures count { length filled.new.words.items ≡ length filled.old.words.items }

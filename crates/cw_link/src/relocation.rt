@@ -1,10 +1,9 @@
 //! The words that the linker fills.
-ghost use Rattle.std.specs.Prelude.{◌≡◌, ◌<◌, ◌^◌, ◌+◌, drop, slice_index, slice_set, length};
+ghost use Rattle.std.specs.Prelude.{◌≡◌, ◌<◌, ◌^◌, ◌+◌, slice_index, slice_set, length};
 ghost use Rattle.cw_tmpl.specs.Library.{library_entry};
 ghost use Rattle.cw_tmpl.specs.Pieces.{fill};
 ghost use Rattle.cw_view.specs.Reading.{relocation_in};
-ghost use Rattle.cw_view.specs.Splitting.{payloads_in};
-ghost use Rattle.cw_link.specs.Contents.{values_in};
+ghost use Rattle.cw_link.specs.Contents.{records_of};
 ghost use Rattle.cw_link.specs.Relocation.{word, word_less, entry_or_zero, limit_word, linked_word};
 ghost use Rattle.cw_link.specs.Views.{links_of};
 
@@ -15,15 +14,15 @@ use cw_view::{View, read_reloc};
 /// What decides the words of a segment: the addresses of its families and of the definitions of its descriptors, where
 /// its code begins, its number, and where the next segment is entered or the program ends.
 #[derive(Clone, Copy)]
-pub(crate) struct Links<'a> {
-    pub(crate) homes: &'a [u16],
-    pub(crate) definitions: &'a [u16],
-    pub(crate) start: u32,
-    pub(crate) number: u16,
-    pub(crate) next: u16,
+pub struct Links<'a> {
+    pub homes: &'a [u16],
+    pub definitions: &'a [u16],
+    pub start: u32,
+    pub number: u16,
+    pub next: u16,
 }
 
-fn word(n: u64) -> u16
+pub(crate) fn word(n: u64) -> u16
     ensures { result ≡ word n }
 {
     (n % 65536) as u16
@@ -35,7 +34,7 @@ fn word_less(a: u16, b: u64) -> u16
     word(u64::from(a) + (65536 - b % 65536))
 }
 
-fn entry_or_zero(k: u16) -> u16
+pub(crate) fn entry_or_zero(k: u16) -> u16
     ensures { result ≡ entry_or_zero (library_entry k) }
 {
     match base_entry(k) {
@@ -90,7 +89,15 @@ fn linked_word(links: &Links, limits: &Limits, reloc: &Reloc, after: u64) -> u16
     }
 }
 
-fn put(image: &mut [u8], at: usize, byte: u8)
+fn put(image: &mut Vec<u8>, at: usize, byte: u8)
+    ensures { image.new.items ≡ slice_set image.old.items at byte }
+{
+    if at < image.len() {
+        image[at] = byte;
+    }
+}
+
+fn put_byte(image: &mut [u8], at: usize, byte: u8)
     ensures { image.new ≡ slice_set image.old at byte }
 {
     if at < image.len() {
@@ -98,9 +105,22 @@ fn put(image: &mut [u8], at: usize, byte: u8)
     }
 }
 
+/// Fills the words of these relocations of a segment, whose code begins there in the image.
+pub fn fill(image: &mut [u8], relocs: &[Reloc], links: &Links, limits: &Limits)
+    ensures { image.new ≡ fill (linked_word (links_of links.now) limits.now) links.now.start relocs.now image.old }
+{
+    let base = links.start as usize;
+    for reloc in relocs {
+        let at = base + reloc.place as usize;
+        let value = linked_word(links, limits, reloc, at as u64 + 2);
+        put_byte(image, at, (value % 256) as u8);
+        put_byte(image, at + 1, (value / 256) as u8);
+    }
+}
+
 /// Fills the relocated words of a segment, whose code begins there in the image.
-pub(crate) fn relocate(image: &mut [u8], view: &View, links: &Links, limits: &Limits)
-    ensures { image.new ≡ fill (linked_word (links_of links.now) limits.now) links.now.start (values_in relocation_in (payloads_in 7 (drop 6 view.now.bytes.now))) image.old }
+pub(crate) fn relocate(image: &mut Vec<u8>, view: &View, links: &Links, limits: &Limits)
+    ensures { image.new.items ≡ fill (linked_word (links_of links.now) limits.now) links.now.start (records_of relocation_in 7 view.now) image.old.items }
 {
     let base = links.start as usize;
     for payload in view.records(7) {

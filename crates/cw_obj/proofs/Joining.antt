@@ -5,7 +5,7 @@ use Rattle.cw_unit.specs.declared.layout.Layout.{Layout}
 use Rattle.cw_tmpl.specs.declared.assembling.Code.{Code as MadeCode}
 use Rattle.cw_view.specs.ObjectFormat.{Record, SegmentName, Descriptor, StorageFamily, PresetWord, Code, Relocation, BodyFacts, Statement, End, record_bytes}
 use Rattle.cw_view.specs.Fields.{text_bytes}
-use Rattle.cw_obj.specs.ReferenceObject.{records_bytes, items_from, definitions_from, descriptors_of, front_records, back_records}
+use Rattle.cw_obj.specs.ReferenceObject.{records_bytes, items_from, definition_records, front_records, back_records}
 
 pub records_append : (rs ts : List Record) → records_bytes (rs ++ ts) ≡ records_bytes rs ++ records_bytes ts
 records_append [] ts = refl
@@ -28,12 +28,12 @@ front_joined u l o a b c d e ha hb hc hd he =
 
 -- behind it the code, the relocations, the definitions, the facts of the body, the statements and the end
 pub back_joined : (u : SourceUnit) (m : MadeCode) (need : ℕ) (places : List (ℕ × ℕ)) (o a b c d e f : List ℕ)
-    → a ≡ o ++ record_bytes (Code m.bytes) → b ≡ a ++ records_bytes (map Relocation m.relocs) → c ≡ b ++ records_bytes (definitions_from 0 m.starts (descriptors_of u.defined))
+    → a ≡ o ++ record_bytes (Code m.bytes) → b ≡ a ++ records_bytes (map Relocation m.relocs) → c ≡ b ++ records_bytes (definition_records m u.defined)
     → d ≡ c ++ record_bytes (BodyFacts (record { entry = m.entry; need = need; tokens = u.tokens })) → e ≡ d ++ records_bytes (map Statement places) → f ≡ e ++ record_bytes End
     → f ≡ o ++ records_bytes (back_records u m need places)
 back_joined u m need places o a b c d e f ha hb hc hd he hf =
     let facts : Record = BodyFacts (record { entry = m.entry; need = need; tokens = u.tokens }) in
-    let defs : List Record = definitions_from 0 m.starts (descriptors_of u.defined) in
+    let defs : List Record = definition_records m u.defined in
     let tail : List Record = map Statement places ++ End ∷ [] in
     let ef : f ≡ d ++ records_bytes tail = join d e f _ _ he hf ∙ ap (λ y. d ++ y) (sym (records_append (map Statement places) (End ∷ []))) in
     let df : f ≡ c ++ records_bytes (facts ∷ tail) = join c d f (record_bytes facts) (records_bytes tail) hd ef in

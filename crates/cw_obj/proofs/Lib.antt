@@ -1,4 +1,5 @@
 pub mod Appending
 pub mod Joining
+pub mod Migrated
 pub mod Telling
 pub mod Written

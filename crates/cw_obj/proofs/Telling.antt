@@ -7,7 +7,7 @@ use Rattle.cw_tmpl.specs.declared.assembling.Code.{Code as MadeCode}
 use Rattle.cw_view.specs.Payloads.{descriptor_bytes, family_bytes, item_bytes, preset_bytes, relocation_bytes, definition_bytes, statement_bytes, body_facts_bytes}
 use Rattle.cw_view.specs.Fields.{text_bytes}
 use Rattle.cw_view.specs.ObjectFormat.{Record, SegmentName, Descriptor, StorageFamily, StoredItem, PresetWord, Code, Relocation, Definition, BodyFacts, Statement, End, payload_if, payloads}
-use Rattle.cw_obj.specs.ReferenceObject.{entries_from, starts_from, descriptors_of, body_of, front_records, back_records, object_records}
+use Rattle.cw_obj.specs.ReferenceObject.{entries_from, definitions_of, body_of, front_records, back_records, object_records}
 use Rattle.cw_obj.specs.Writable.{onto, TellsUnits}
 
 -- the payloads of a kind, where the first record stands first
@@ -38,10 +38,10 @@ joined kind u c need d f i p r e s =
     ++ ((payload_if kind (Code c.bytes) ++ r) ++ (e ++ (payload_if kind (BodyFacts (body_of u c need)) ++ (s ++ (payload_if kind End ++ [])))))
 
 tell : (kind : ℕ) (u : SourceUnit) (l : Layout) (c : MadeCode) (need : ℕ) (places : List (ℕ × ℕ))
-    → payloads kind (onto (object_records u l c need places) []) ≡ joined kind u c need (told kind (map Descriptor u.descs)) (told kind (map StorageFamily l.families)) (told kind (map StoredItem (entries_from 0 u l u.items))) (told kind (map PresetWord l.words)) (told kind (map Relocation c.relocs)) (told kind (map Definition (starts_from 0 c.starts (descriptors_of u.defined)))) (told kind (map Statement places))
+    → payloads kind (onto (object_records u l c need places) []) ≡ joined kind u c need (told kind (map Descriptor u.descs)) (told kind (map StorageFamily l.families)) (told kind (map StoredItem (entries_from 0 u l u.items))) (told kind (map PresetWord l.words)) (told kind (map Relocation c.relocs)) (told kind (map Definition (definitions_of c u.defined))) (told kind (map Statement places))
 tell kind u l c need places =
     let items : List Record = map StoredItem (entries_from 0 u l u.items) in
-    let defs : List Record = map Definition (starts_from 0 c.starts (descriptors_of u.defined)) in
+    let defs : List Record = map Definition (definitions_of c u.defined) in
     let facts : Record = BodyFacts (body_of u c need) in
     let tail : List Record = map Statement places ++ End ∷ [] in
     let front : told kind (front_records u l) ≡ told kind (SegmentName u.name ∷ map Descriptor u.descs) ++ (told kind (map StorageFamily l.families) ++ (told kind items ++ told kind (map PresetWord l.words))) =
@@ -61,7 +61,7 @@ tells_name u l c need places =
     (told_none 1 StoredItem (λ x. refl) (entries_from 0 u l u.items) t)
     (told_none 1 PresetWord (λ x. refl) l.words t)
     (told_none 1 Relocation (λ x. refl) c.relocs t)
-    (told_none 1 Definition (λ x. refl) (starts_from 0 c.starts (descriptors_of u.defined)) t)
+    (told_none 1 Definition (λ x. refl) (definitions_of c u.defined) t)
     (told_none 1 Statement (λ x. refl) places t))
 
 tells_descriptors : (u : SourceUnit) (l : Layout) (c : MadeCode) (need : ℕ) (places : List (ℕ × ℕ)) → payloads 2 (onto (object_records u l c need places) []) ≡ map descriptor_bytes u.descs
@@ -73,7 +73,7 @@ tells_descriptors u l c need places =
     (told_none 2 StoredItem (λ x. refl) (entries_from 0 u l u.items) t)
     (told_none 2 PresetWord (λ x. refl) l.words t)
     (told_none 2 Relocation (λ x. refl) c.relocs t)
-    (told_none 2 Definition (λ x. refl) (starts_from 0 c.starts (descriptors_of u.defined)) t)
+    (told_none 2 Definition (λ x. refl) (definitions_of c u.defined) t)
     (told_none 2 Statement (λ x. refl) places t))
     ∙ append-nil (map descriptor_bytes u.descs ++ []) ∙ append-nil (map descriptor_bytes u.descs)
 
@@ -86,7 +86,7 @@ tells_families u l c need places =
     (told_none 3 StoredItem (λ x. refl) (entries_from 0 u l u.items) t)
     (told_none 3 PresetWord (λ x. refl) l.words t)
     (told_none 3 Relocation (λ x. refl) c.relocs t)
-    (told_none 3 Definition (λ x. refl) (starts_from 0 c.starts (descriptors_of u.defined)) t)
+    (told_none 3 Definition (λ x. refl) (definitions_of c u.defined) t)
     (told_none 3 Statement (λ x. refl) places t))
     ∙ append-nil (map family_bytes l.families ++ []) ∙ append-nil (map family_bytes l.families)
 
@@ -99,7 +99,7 @@ tells_items u l c need places =
     (told_all 4 StoredItem item_bytes (λ x. refl) (entries_from 0 u l u.items) t)
     (told_none 4 PresetWord (λ x. refl) l.words t)
     (told_none 4 Relocation (λ x. refl) c.relocs t)
-    (told_none 4 Definition (λ x. refl) (starts_from 0 c.starts (descriptors_of u.defined)) t)
+    (told_none 4 Definition (λ x. refl) (definitions_of c u.defined) t)
     (told_none 4 Statement (λ x. refl) places t))
     ∙ append-nil (map item_bytes (entries_from 0 u l u.items) ++ []) ∙ append-nil (map item_bytes (entries_from 0 u l u.items))
 
@@ -112,7 +112,7 @@ tells_presets u l c need places =
     (told_none 5 StoredItem (λ x. refl) (entries_from 0 u l u.items) t)
     (told_all 5 PresetWord preset_bytes (λ x. refl) l.words t)
     (told_none 5 Relocation (λ x. refl) c.relocs t)
-    (told_none 5 Definition (λ x. refl) (starts_from 0 c.starts (descriptors_of u.defined)) t)
+    (told_none 5 Definition (λ x. refl) (definitions_of c u.defined) t)
     (told_none 5 Statement (λ x. refl) places t))
     ∙ append-nil (map preset_bytes l.words)
 
@@ -125,7 +125,7 @@ tells_code u l c need places =
     (told_none 6 StoredItem (λ x. refl) (entries_from 0 u l u.items) t)
     (told_none 6 PresetWord (λ x. refl) l.words t)
     (told_none 6 Relocation (λ x. refl) c.relocs t)
-    (told_none 6 Definition (λ x. refl) (starts_from 0 c.starts (descriptors_of u.defined)) t)
+    (told_none 6 Definition (λ x. refl) (definitions_of c u.defined) t)
     (told_none 6 Statement (λ x. refl) places t))
 
 tells_relocations : (u : SourceUnit) (l : Layout) (c : MadeCode) (need : ℕ) (places : List (ℕ × ℕ)) → payloads 7 (onto (object_records u l c need places) []) ≡ map relocation_bytes c.relocs
@@ -137,11 +137,11 @@ tells_relocations u l c need places =
     (told_none 7 StoredItem (λ x. refl) (entries_from 0 u l u.items) t)
     (told_none 7 PresetWord (λ x. refl) l.words t)
     (told_all 7 Relocation relocation_bytes (λ x. refl) c.relocs t)
-    (told_none 7 Definition (λ x. refl) (starts_from 0 c.starts (descriptors_of u.defined)) t)
+    (told_none 7 Definition (λ x. refl) (definitions_of c u.defined) t)
     (told_none 7 Statement (λ x. refl) places t))
     ∙ append-nil (map relocation_bytes c.relocs)
 
-tells_definitions : (u : SourceUnit) (l : Layout) (c : MadeCode) (need : ℕ) (places : List (ℕ × ℕ)) → payloads 8 (onto (object_records u l c need places) []) ≡ map definition_bytes (starts_from 0 c.starts (descriptors_of u.defined))
+tells_definitions : (u : SourceUnit) (l : Layout) (c : MadeCode) (need : ℕ) (places : List (ℕ × ℕ)) → payloads 8 (onto (object_records u l c need places) []) ≡ map definition_bytes (definitions_of c u.defined)
 tells_definitions u l c need places =
     tell 8 u l c need places
     ∙ (λ t. joined 8 u c need
@@ -150,9 +150,9 @@ tells_definitions u l c need places =
     (told_none 8 StoredItem (λ x. refl) (entries_from 0 u l u.items) t)
     (told_none 8 PresetWord (λ x. refl) l.words t)
     (told_none 8 Relocation (λ x. refl) c.relocs t)
-    (told_all 8 Definition definition_bytes (λ x. refl) (starts_from 0 c.starts (descriptors_of u.defined)) t)
+    (told_all 8 Definition definition_bytes (λ x. refl) (definitions_of c u.defined) t)
     (told_none 8 Statement (λ x. refl) places t))
-    ∙ append-nil (map definition_bytes (starts_from 0 c.starts (descriptors_of u.defined)))
+    ∙ append-nil (map definition_bytes (definitions_of c u.defined))
 
 tells_body : (u : SourceUnit) (l : Layout) (c : MadeCode) (need : ℕ) (places : List (ℕ × ℕ)) → payloads 9 (onto (object_records u l c need places) []) ≡ body_facts_bytes (body_of u c need) ∷ []
 tells_body u l c need places =
@@ -163,7 +163,7 @@ tells_body u l c need places =
     (told_none 9 StoredItem (λ x. refl) (entries_from 0 u l u.items) t)
     (told_none 9 PresetWord (λ x. refl) l.words t)
     (told_none 9 Relocation (λ x. refl) c.relocs t)
-    (told_none 9 Definition (λ x. refl) (starts_from 0 c.starts (descriptors_of u.defined)) t)
+    (told_none 9 Definition (λ x. refl) (definitions_of c u.defined) t)
     (told_none 9 Statement (λ x. refl) places t))
 
 tells_statements : (u : SourceUnit) (l : Layout) (c : MadeCode) (need : ℕ) (places : List (ℕ × ℕ)) → payloads 10 (onto (object_records u l c need places) []) ≡ map statement_bytes places
@@ -175,7 +175,7 @@ tells_statements u l c need places =
     (told_none 10 StoredItem (λ x. refl) (entries_from 0 u l u.items) t)
     (told_none 10 PresetWord (λ x. refl) l.words t)
     (told_none 10 Relocation (λ x. refl) c.relocs t)
-    (told_none 10 Definition (λ x. refl) (starts_from 0 c.starts (descriptors_of u.defined)) t)
+    (told_none 10 Definition (λ x. refl) (definitions_of c u.defined) t)
     (told_all 10 Statement statement_bytes (λ x. refl) places t))
     ∙ append-nil (map statement_bytes places)
 

@@ -8,7 +8,7 @@ use Rattle.cw_unit.specs.declared.layout.Family.{Family}
 use Rattle.cw_view.specs.Fields.{text_bytes}
 use Rattle.cw_view.specs.Payloads.{IsLong, ItemEntry, IsNameOrEmpty}
 use Rattle.cw_view.specs.ObjectFormat.{Record, SegmentName, Descriptor, StorageFamily, StoredItem, PresetWord, Code, Relocation, Definition, BodyFacts, Statement, End, record_bytes, front_bytes, last_kind, last_number, descriptor_count, families_of, code_of, can_follow, rises, has_base, is_placed, has_words, has_preset, is_blank, has_index, IsNext, IsFront}
-use Rattle.cw_obj.specs.ReferenceObject.{records_bytes, entries_from, starts_from, descriptors_of, body_of, front_records, back_records, object_records}
+use Rattle.cw_obj.specs.ReferenceObject.{records_bytes, entries_from, definitions_of, body_of, front_records, back_records, object_records}
 use Rattle.cw_obj.specs.Writable.{AllFrom, by_one, the_same, IsListed, IsKept, IsEntry, IsSet, tables, IsFilled, behind_word, IsDefined, behind_number, IsBegun, onto, WritesObjects}
 
 -- ---- records after others
@@ -238,7 +238,7 @@ written u l c need places w =
     let s7 = walk Relocation (IsFilled ds fs code) behind_word (Rising 6 7 ds fs code 7 2) (next_relocation ds fs code) c.relocs 0 b6 (k6, λ h. absurd (omega (arith, h))) w.relocations in
     let b7 : List Record = onto (map Relocation c.relocs) b6 in
     let k7 : Known 6 7 ds fs code b7 = s7.1.1.0 in
-    let defs : List (ℕ × ℕ) = starts_from 0 c.starts (descriptors_of u.defined) in
+    let defs : List (ℕ × ℕ) = definitions_of c u.defined in
     let s8 = walk Definition (IsDefined ds code) behind_number (Rising 6 8 ds fs code 8 1) (next_definition ds fs code) defs 0 b7 (widen k7 (omega arith) (omega arith), λ h. absurd (omega (arith, h, k7.to))) w.definitions in
     let b8 : List Record = onto (map Definition defs) b7 in
     let k8 : Known 6 8 ds fs code b8 = s8.1.1.0 in

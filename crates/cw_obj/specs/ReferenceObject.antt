@@ -5,6 +5,7 @@ use Rattle.cw_unit.specs.declared.unit.Item.{Item}
 use Rattle.cw_unit.specs.declared.unit.Proc.{Proc}
 use Rattle.cw_unit.specs.declared.unit.Home.{Home}
 use Rattle.cw_unit.specs.declared.unit.Def.{Def}
+use Rattle.cw_unit.specs.declared.unit.Def.TheVariants as def
 use Rattle.cw_unit.specs.declared.unit.Home.TheVariants as home
 use Rattle.cw_unit.specs.declared.layout.Layout.{Layout}
 use Rattle.cw_unit.specs.declared.layout.Body.{Body}
@@ -50,16 +51,21 @@ entries_from n u l (i ∷ is) = entry_of u (slice_index_or l.homes n (0, 0)) i �
 abbrev pub items_from : (n : ℕ) → SourceUnit → Layout → List Item → List Record
 items_from n u l is = map StoredItem (entries_from n u l is)
 
-abbrev pub descriptors_of : List (ℕ × Def) → List ℕ
-descriptors_of ds = map (λ d. d.0) ds
+-- where the code of what defines a descriptor begins
+abbrev pub definition_place : MadeCode → Def → ℕ
+definition_place c (def.Proc q) = slice_index c.procedures q
+definition_place c (def.Label l) = slice_index c.labels l
+definition_place c (def.Switch s) = slice_index c.switches s
 
--- descriptors with the places of their definitions: the first marks are those of the definitions, in their order
-abbrev pub starts_from : (n : ℕ) → (starts : List ℕ) → List ℕ → List (ℕ × ℕ)
-starts_from n starts [] = []
-starts_from n starts (d ∷ ds) = (d, slice_index starts n) ∷ starts_from (n + 1) starts ds
+-- a descriptor with the place of its definition
+abbrev pub definition_of : MadeCode → ℕ × Def → ℕ × ℕ
+definition_of c d = (d.0, definition_place c d.1)
 
-abbrev pub definitions_from : (n : ℕ) → (starts : List ℕ) → List ℕ → List Record
-definitions_from n starts ds = map Definition (starts_from n starts ds)
+abbrev pub definitions_of : MadeCode → List (ℕ × Def) → List (ℕ × ℕ)
+definitions_of c ds = map (definition_of c) ds
+
+abbrev pub definition_records : MadeCode → List (ℕ × Def) → List Record
+definition_records c ds = map Definition (definitions_of c ds)
 
 abbrev pub body_of : SourceUnit → MadeCode → (need : ℕ) → Body
 body_of u c need = record { entry = c.entry; need = need; tokens = u.tokens }
@@ -72,7 +78,7 @@ front_records u l = (SegmentName u.name ∷ map Descriptor u.descs) ++ (map Stor
 abbrev pub back_records : SourceUnit → MadeCode → (need : ℕ) → (places : List (ℕ × ℕ)) → List Record
 back_records u c need places =
     (Code c.bytes ∷ map Relocation c.relocs)
-    ++ (definitions_from 0 c.starts (descriptors_of u.defined) ++ (BodyFacts (body_of u c need) ∷ map Statement places ++ End ∷ []))
+    ++ (definition_records c u.defined ++ (BodyFacts (body_of u c need) ∷ map Statement places ++ End ∷ []))
 
 -- in the order in which they stand
 abbrev pub object_records : SourceUnit → Layout → MadeCode → (need : ℕ) → (places : List (ℕ × ℕ)) → List Record

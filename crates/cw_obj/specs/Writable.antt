@@ -11,7 +11,7 @@ use Rattle.cw_tmpl.specs.declared.assembling.Code.{Code as MadeCode}
 use Rattle.cw_view.specs.Fields.{text_bytes}
 use Rattle.cw_view.specs.Payloads.{IsLong, ItemEntry, descriptor_bytes, family_bytes, item_bytes, preset_bytes, relocation_bytes, definition_bytes, body_facts_bytes, statement_bytes, FitsDescriptor, FitsFamily, FitsItem, FitsPreset, FitsRelocation, FitsDefinition, FitsBodyFacts, FitsStatement}
 use Rattle.cw_view.specs.ObjectFormat.{Record, Facts, has_base, is_placed, is_named, has_words, has_preset, is_blank, has_index, IsObjectOf, payloads}
-use Rattle.cw_obj.specs.ReferenceObject.{entries_from, starts_from, descriptors_of, body_of, object_records, object_bytes}
+use Rattle.cw_obj.specs.ReferenceObject.{entries_from, definitions_of, body_of, object_records, object_bytes}
 
 -- something that hangs on a number, which each value moves on
 abbrev pub AllFrom : {A : Type 0} → (ℕ → A → Type 0) → (ℕ → A → ℕ) → (n : ℕ) → List A → Type 0
@@ -80,7 +80,7 @@ pub record IsWritable (u : SourceUnit) (l : Layout) (c : MadeCode) (need : ℕ) 
   pub presets : AllFrom (λ n. IsSet l.families) the_same 0 l.words
   pub code : IsLong (length c.bytes)
   pub relocations : AllFrom (IsFilled (length u.descs) l.families c.bytes) behind_word 0 c.relocs
-  pub definitions : AllFrom (IsDefined (length u.descs) c.bytes) behind_number 0 (starts_from 0 c.starts (descriptors_of u.defined))
+  pub definitions : AllFrom (IsDefined (length u.descs) c.bytes) behind_number 0 (definitions_of c u.defined)
   pub body : FitsBodyFacts (body_of u c need)
   pub entry : c.entry < length c.bytes
   pub statements : AllFrom (IsBegun c.bytes) behind_number 0 places
@@ -105,7 +105,7 @@ pub record Tells (u : SourceUnit) (l : Layout) (c : MadeCode) (need : ℕ) (plac
   pub presets : payloads 5 records ≡ map preset_bytes l.words
   pub code : payloads 6 records ≡ c.bytes ∷ []
   pub relocations : payloads 7 records ≡ map relocation_bytes c.relocs
-  pub definitions : payloads 8 records ≡ map definition_bytes (starts_from 0 c.starts (descriptors_of u.defined))
+  pub definitions : payloads 8 records ≡ map definition_bytes (definitions_of c u.defined)
   pub body : payloads 9 records ≡ body_facts_bytes (body_of u c need) ∷ []
   pub statements : payloads 10 records ≡ map statement_bytes places
 

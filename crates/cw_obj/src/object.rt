@@ -3,7 +3,7 @@ ghost use Rattle.std.specs.Prelude.{◌≡◌, ℕ, ◌++◌, ◌∷◌, [], ◌
 ghost use Rattle.cw_view.specs.Fields.{text_bytes};
 ghost use Rattle.cw_view.specs.Payloads.{definition_bytes, statement_bytes, body_facts_bytes};
 ghost use Rattle.cw_view.specs.ObjectFormat.{framed, header, PresetWord, Relocation, Statement};
-ghost use Rattle.cw_obj.specs.ReferenceObject.{records_bytes, definitions_from, descriptors_of, front_records, back_records, object_records, object_bytes};
+ghost use Rattle.cw_obj.specs.ReferenceObject.{records_bytes, definition_place, definition_of, definition_records, front_records, back_records, object_records, object_bytes};
 
 use crate::descriptor::put_descriptors;
 use crate::fields::{
@@ -52,33 +52,45 @@ fn put_relocations(out: &mut Vec<u8>, relocations: &[Reloc]) -> Result<(), NoMem
     Ok(())
 }
 
-fn start_at(starts: &[u32], mark: usize) -> u32
-    ensures { result ≡ slice_index starts.now mark }
+fn place_at(places: &[u32], number: usize) -> u32
+    ensures { result ≡ slice_index places.now number }
 {
-    match starts.get(mark) {
-        Some(start) => *start,
+    match places.get(number) {
+        Some(place) => *place,
         None => 0,
     }
 }
 
-fn put_definition(out: &mut Vec<u8>, descriptor: u16, start: u32) -> Result<(), NoMemory>
-    ensures { OnOk result (out.new.items ≡ out.old.items ++ framed 8 (definition_bytes (descriptor, start))) }
+// Where the code of what defines a descriptor begins.
+fn definition_place(code: &Code, definition: Def) -> u32
+    ensures { result ≡ definition_place code.now definition }
 {
-    put_head(out, 8, 6)?;
-    put_word(out, descriptor)?;
-    put_long(out, start)
+    match definition {
+        Def::Proc(number) => place_at(code.procedures.as_slice(), number as usize),
+        Def::Label(number) => place_at(code.labels.as_slice(), number as usize),
+        Def::Switch(number) => place_at(code.switches.as_slice(), number as usize),
+    }
 }
 
-// The first marks are those of the definitions.
-fn put_definitions(
-    out: &mut Vec<u8>,
-    starts: &[u32],
-    defined: &[(u16, Def)],
-) -> Result<(), NoMemory>
-    ensures { OnOk result (out.new.items ≡ out.old.items ++ records_bytes (definitions_from 0 starts.now (descriptors_of defined.now))) }
+fn definition_of(code: &Code, definition: (u16, Def)) -> (u16, u32)
+    ensures { result ≡ definition_of code.now definition }
 {
-    for (mark, (descriptor, _)) in defined.iter().enumerate() {
-        put_definition(out, *descriptor, start_at(starts, mark))?;
+    (definition.0, definition_place(code, definition.1))
+}
+
+fn put_definition(out: &mut Vec<u8>, definition: (u16, u32)) -> Result<(), NoMemory>
+    ensures { OnOk result (out.new.items ≡ out.old.items ++ framed 8 (definition_bytes definition)) }
+{
+    put_head(out, 8, 6)?;
+    put_word(out, definition.0)?;
+    put_long(out, definition.1)
+}
+
+fn put_definitions(out: &mut Vec<u8>, code: &Code, defined: &[(u16, Def)]) -> Result<(), NoMemory>
+    ensures { OnOk result (out.new.items ≡ out.old.items ++ records_bytes (definition_records code.now defined.now)) }
+{
+    for definition in defined {
+        put_definition(out, definition_of(code, *definition))?;
     }
     Ok(())
 }
@@ -133,7 +145,7 @@ fn put_back(
 {
     put_record(out, 6, code.bytes.as_slice())?;
     put_relocations(out, code.relocs.as_slice())?;
-    put_definitions(out, code.starts.as_slice(), unit.defined.as_slice())?;
+    put_definitions(out, code, unit.defined.as_slice())?;
     put_body_facts(
         out,
         &Body {

@@ -1,0 +1,7 @@
+use Rattle.std.proofs.Common.{◌≡◌, ◌++◌, map, drop}
+use Rattle.cw_link.specs.Contents.{contents_of}
+use Rattle.cw_link.specs.LinkedImage.{faces_of}
+use Rattle.cw_link.proofs.contents.faces_of.Given as goal
+
+abbrev pub invariant-loop-view : goal.invariant-loop-view
+invariant-loop-view l = l.faces ++ faces_of (map contents_of (drop l.view-index l.views)) ≡ faces_of (map contents_of l.views)
