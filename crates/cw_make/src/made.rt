@@ -1,0 +1,109 @@
+//! The unit of a named text.
+ghost use Rattle.std.specs.Prelude.{◌≡◌, IfOk};
+ghost use Rattle.cw_items.specs.Things.{text_things};
+ghost use Rattle.cw_number.specs.Listed.{listed_of};
+ghost use Rattle.cw_make_items.specs.Descriptors.{descs_of};
+ghost use Rattle.cw_make_items.specs.Items.{addresses_of, items_of};
+ghost use Rattle.cw_preset.specs.Held.{held_of};
+ghost use Rattle.cw_make.specs.Made.{is_bounds, lists_bounds, unit_with, unit_of};
+
+use crate::definitions::defined_of;
+use crate::labels::labels_of;
+use crate::procedures::procs_of;
+use crate::switches::switches_of;
+use cw_facts::fact::{Declaration, Kind};
+use cw_items::text::text_things;
+use cw_make_items::descriptors::descs_of;
+use cw_make_items::items::{addresses_of, items_of};
+use cw_make_stmt::statements::make_block;
+use cw_number::listed::listed_of;
+use cw_number::numbered::Numbered;
+use cw_number::numbers::numbers_of;
+use cw_preset::held::held_of;
+use cw_scope::resolve::Named;
+use cw_table::table::{Row, Table};
+use cw_unit::descriptor::Desc;
+use cw_unit::unit::{Item, Unit};
+use cw_word::{List, NoMemory};
+use std::alloc::Global;
+
+fn is_bounds(kind: &Kind) -> bool
+    ensures { result ≡ is_bounds kind.now }
+{
+    match kind {
+        Kind::Bounds => true,
+        _ => false,
+    }
+}
+
+fn lists_bounds(declarations: &[Row<Declaration>]) -> bool
+    ensures { result ≡ lists_bounds declarations.now }
+{
+    for row in declarations {
+        if is_bounds(&row.item.kind) {
+            return true;
+        }
+    }
+    false
+}
+
+// The lists that go by what is stored.
+#[derive(Drop)]
+struct Storage {
+    descs: List<Desc>,
+    items: List<Item>,
+}
+
+fn storage_of(alloc: Global, named: &Named, numbers: &Table<Numbered>) -> Result<Storage, NoMemory>
+    ensures descs { IfOk result (λ s. s.descs ≡ descs_of numbers.now (listed_of named.now.raw.now) (text_things named.now named.now.raw.now) named.now.raw.now.comms) }
+    ensures items { IfOk result (λ s. s.items ≡ items_of named.now.declarations numbers.now (listed_of named.now.raw.now) (addresses_of named.now.raw.now.comms) (held_of named.now.raw.now) (text_things named.now named.now.raw.now)) }
+{
+    let lists = named.raw.comms.as_slice();
+    let things = text_things(alloc, named, named.raw)?;
+    let listed = listed_of(alloc, named.raw)?;
+    let addresses = addresses_of(alloc, lists)?;
+    let held = held_of(alloc, named.raw)?;
+    let descs = descs_of(alloc, numbers, &listed, things.as_slice(), lists)?;
+    let items = items_of(
+        alloc,
+        &named.declarations,
+        numbers,
+        &listed,
+        &addresses,
+        &held,
+        things.as_slice(),
+    )?;
+    Ok(Storage { descs, items })
+}
+
+fn unit_with(alloc: Global, named: &Named, numbers: &Table<Numbered>) -> Result<Unit, NoMemory>
+    ensures { IfOk result (λ u. u ≡ unit_with named.now numbers.now named.now.raw.now) }
+{
+    let raw = named.raw;
+    let Storage { descs, items } = storage_of(alloc, named, numbers)?;
+    let procs = procs_of(alloc, named, numbers)?;
+    let labels = labels_of(alloc, numbers, raw)?;
+    let switches = switches_of(alloc, named, numbers)?;
+    let defined = defined_of(alloc, named, numbers)?;
+    let body = make_block(alloc, named, numbers, &raw.block)?;
+    Ok(Unit {
+        name: raw.name,
+        tokens: raw.tokens,
+        bounds: lists_bounds(named.declarations.rows()),
+        descs,
+        items,
+        procs,
+        labels,
+        switches,
+        defined,
+        body,
+    })
+}
+
+/// The unit of a named text.
+pub fn unit_of_named(alloc: Global, named: &Named) -> Result<Unit, NoMemory>
+    ensures { IfOk result (λ u. u ≡ unit_of named.now) }
+{
+    let numbers = numbers_of(alloc, named)?;
+    unit_with(alloc, named, &numbers)
+}

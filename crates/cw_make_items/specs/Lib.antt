@@ -1,0 +1,4 @@
+pub mod Lookup
+pub mod Types
+pub mod Descriptors
+pub mod Items

@@ -1,0 +1,6 @@
+use Rattle.std.proofs.Common.{◌≡◌, ◌++◌, map, drop}
+use Rattle.cw_make_stmt.specs.Made.{felem_of}
+use Rattle.cw_make_stmt.proofs.parts.felems_of.Given as goal
+
+abbrev pub invariant-loop-element : goal.invariant-loop-element
+invariant-loop-element l = l.all ++ map (felem_of l.named l.numbers) (drop l.element-index l.elements) ≡ map (felem_of l.named l.numbers) l.elements

@@ -1,0 +1,5 @@
+//! The trees of a unit for the statements of a text.
+#![tactic(auto)]
+
+mod parts;
+pub mod statements;

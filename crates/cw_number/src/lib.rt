@@ -1,0 +1,6 @@
+//! The numbers that the things of a text have in its unit.
+#![tactic(auto)]
+
+pub mod listed;
+pub mod numbered;
+pub mod numbers;
