@@ -41,13 +41,3 @@ shows_as o meant e go =
       output = ap (λ x. x.output) e;
       end = subst (TellsEnd o.end) same (tells o.end (λ stuck. go (sym same ∙ stuck)));
     }
-
--- each stop has its number
-pub stop_back : (stop : StopKind) (segment line : ℕ) → end_of (run.Stopped (stop_number stop) segment line) ≡ Stopped stop segment line
-stop_back Overflow segment line = refl
-stop_back ZeroDivisor segment line = refl
-stop_back SwitchRange segment line = refl
-stop_back AddressRange segment line = refl
-stop_back FramesFull segment line = refl
-stop_back DepthReached segment line = refl
-stop_back IndexRange segment line = refl

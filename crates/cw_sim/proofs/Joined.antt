@@ -1,9 +1,5 @@
 -- The two halves, one on the other, and the bound in steps.
-use Rattle.std.proofs.Common.{◌≡◌, ◌≢◌, ℕ, zero, suc, ◌+◌, ◌*◌, ◌≤◌, false, List, Option, Some, None, option_map, refl, sym, ap, ◌∙◌, subst, inl, inr, ⊎_elim, arith}
-use Rattle.std.specs.Prelude.{slice_get}
-use Rattle.std.proofs.lemmas.Option.{none-some, same_Some, slice_get-map}
-use Rattle.cw_order.specs.declared.order.Order.{Order}
-use Rattle.cw_order.specs.declared.order.Order.TheVariants as order
+use Rattle.std.proofs.Common.{◌≡◌, ◌≢◌, ℕ, zero, suc, ◌+◌, ◌*◌, ◌≤◌, false, List, refl, sym, ap, ◌∙◌, subst, inl, inr, ⊎_elim, arith}
 use Rattle.cw_track.specs.Machine.{state_after, shown_after}
 use Rattle.cw_track.specs.Tracking.{Tracks, TracksAfter, KeepsPace}
 use Rattle.cw_track.proofs.Composition.{tracks_through}
@@ -13,27 +9,21 @@ use Rattle.cw_i86.specs.MachineRun as run
 use Rattle.cw_unit.specs.declared.unit.Unit.{Unit as SourceUnit}
 use Rattle.cw_unit.specs.declared.layout.Limits.{Limits}
 use Rattle.cw_unit.specs.declared.layout.Map.{Map}
-use Rattle.cw_unit.specs.Storage.{layout_of}
 use Rattle.cw_unit.specs.Program.{Program, program_at}
 use Rattle.cw_unit.specs.InitialMemory.{initial_memory}
 use Rattle.cw_unit.specs.Configuration.{Configuration}
 use Rattle.cw_unit.specs.Step.{steps}
-use Rattle.cw_unit.specs.Stop.{stop_number, Stopped, Stuck}
+use Rattle.cw_unit.specs.Stop.{Stuck}
 use Rattle.cw_unit.specs.Behaviour.{shown, is_running, initial_configuration, observed as meant}
-use Rattle.cw_order.specs.declared.order.Orders.{Orders}
-use Rattle.cw_order.specs.NamesAgree.{NamesAgree}
-use Rattle.cw_order.specs.OrderProgram.{Tables, OrderProgram, order_at}
+use Rattle.cw_order.specs.OrderProgram.{OrderProgram}
 use Rattle.cw_order.specs.OrderMachine.{order_machine}
-use Rattle.cw_gen.specs.MadeOrders.{IsMade}
-use Rattle.cw_gen.specs.UnitTables.{tables_of}
-use Rattle.cw_gen.specs.Following.{meaning, orders_for, orders_program, first_order}
-use Rattle.cw_follow.specs.Showing.{end_of, shown_as}
-use Rattle.cw_follow.specs.Placing.{Codable, NeverStuck, startup_cost}
+use Rattle.cw_gen_unit.specs.ReferenceUnits.{meaning, orders_program, first_order}
+use Rattle.cw_follow.specs.Showing.{shown_as}
+use Rattle.cw_follow.specs.Placing.{NeverStuck, startup_cost}
 use Rattle.cw_run86.specs.Processor.{Processor, processor_machine, processor_start, processor_after, processor_step, observed}
-use Rattle.cw_sim.specs.Preservation.{TellsEnd, ShowsAs, Preserves, Completes, IsLoaded}
+use Rattle.cw_sim.specs.Preservation.{ShowsAs, Preserves, Completes, IsLoaded}
 use Rattle.cw_sim.proofs.Given.{Given}
-use Rattle.cw_sim.proofs.Ends.{shows_as, stop_back}
-use Rattle.cw_sim.proofs.Stops.{overflow_alone as only}
+use Rattle.cw_sim.proofs.Ends.{shows_as}
 
 -- the machines go the steps of the definitions
 steps_are : (p : Program) (n : ℕ) (c : Configuration) → state_after (meaning p) n c ≡ steps p n c
@@ -55,51 +45,16 @@ module _ (given : Given) (us : List SourceUnit) (m : Map) (limits : Limits) (inp
   means n = ap shown (steps_are p n (initial_configuration p input))
 
   not_stuck : (n : ℕ) → (shown_after (meaning p) n (initial_configuration p input)).end ≢ Stuck
-  not_stuck n e = loaded.never_stuck n (ap (λ x. x.end) (sym (means n)) ∙ e)
+  not_stuck n e = given.sound p input n loaded.well_formed (ap (λ x. x.end) (sym (means n)) ∙ e)
 
   upper : Tracks is_running (meaning p) (initial_configuration p input) (order_machine q) (first_order us m limits loaded.room input)
-  upper = given.upper us m limits loaded.room input loaded.built loaded.suits loaded.bytes
+  upper = given.upper us m limits loaded.room input loaded.well_formed loaded.built loaded.suits loaded.bytes
 
   orders_never_stuck : NeverStuck q (initial_memory us m limits.area) input
   orders_never_stuck k e = let a = upper.shows_only k in not_stuck a.0 (ap (λ x. x.end) (sym a.1) ∙ e)
 
-  orders_made : (g place : ℕ) (o : Order) → order_at q g place ≡ Some o → IsMade o
-  orders_made g place o = given.made us m limits loaded.room g place o loaded.built
-
-  -- the tables and the orders of the same unit, which agree
-  names_in : (v : Option SourceUnit) (t : Tables) (o : Orders) → option_map (tables_of us) v ≡ Some t → option_map orders_for v ≡ Some o → NamesAgree t o
-  names_in None t o e h = absurd (none-some t e)
-  names_in (Some u) t o e h =
-      subst (λ x. NamesAgree x o) (same_Some (tables_of us u) t e) (subst (λ x. NamesAgree (tables_of us u) x) (same_Some (orders_for u) o h) (given.names us u (layout_of u)))
-
-  orders_in : (v : Option SourceUnit) (t : Tables) → option_map (tables_of us) v ≡ Some t → (o : Orders) × (option_map orders_for v ≡ Some o)
-  orders_in None t e = absurd (none-some t e)
-  orders_in (Some u) t e = (orders_for u, refl)
-
-  tables_at : (g : ℕ) (t : Tables) → slice_get q.tables g ≡ Some t → option_map (tables_of us) (slice_get us g) ≡ Some t
-  tables_at g t e = sym (slice_get-map (tables_of us) us g) ∙ e
-
-  paired : (g : ℕ) (t : Tables) → slice_get q.tables g ≡ Some t → (o : Orders) × (slice_get q.units g ≡ Some o)
-  paired g t e = let found = orders_in (slice_get us g) t (tables_at g t e) in (found.0, slice_get-map orders_for us g ∙ found.1)
-
-  codable : Codable q
-  codable = record {
-    codes = λ g place o. given.codes us m limits loaded.room g place o loaded.built;
-    constants = given.constants us m limits loaded.room loaded.built;
-    lines = given.lines us m limits loaded.room loaded.built;
-    tables = λ g t o e h. names_in (slice_get us g) t o (tables_at g t e) (sym (slice_get-map orders_for us g) ∙ h);
-    paired = paired;
-    switches = λ g n o gs. given.switches us m limits loaded.room g n o gs loaded.built;
-    callable = given.callable us m limits loaded.room loaded.built loaded.frames;
-    entries = given.entries us m limits loaded.room;
-    marks = λ g mark place e. elim (given.marks us m limits loaded.room g mark place e) [ inl first ↦ inl first | inr is ↦ inr (order.Mark, is, λ x. x) ];
-    frames = loaded.frames;
-    depth = loaded.depth;
-    room = loaded.within;
-  }
-
   lower : TracksAfter is_running startup_cost (order_machine q) (first_order us m limits loaded.room input) (processor_machine shown_as) (processor_start s input)
-  lower = given.lower q loaded.image loaded.words (initial_memory us m limits.area) input s loaded.is_image codable loaded.begins orders_never_stuck loaded.starts loaded.bytes
+  lower = given.lower q loaded.image loaded.words (initial_memory us m limits.area) input s loaded.is_image loaded.codable loaded.begins orders_never_stuck loaded.starts loaded.bytes
 
   whole : TracksAfter is_running 20 (meaning p) (initial_configuration p input) (processor_machine shown_as) (processor_start s input)
   whole = tracks_through is_running (meaning p) (order_machine q) (processor_machine shown_as) 0 20 20 _ _ _ refl upper lower
@@ -112,7 +67,7 @@ module _ (given : Given) (us : List SourceUnit) (m : Map) (limits : Limits) (inp
   shown_then k = ap (λ x. shown_as (observed x)) (instructions_are k (processor_start s input))
 
   shows_then : (k n : ℕ) → shown_after (processor_machine shown_as) k (processor_start s input) ≡ shown_after (meaning p) n (initial_configuration p input) → ShowsAs (observed (processor_after k (processor_start s input))) (meant p input n)
-  shows_then k n e = shows_as _ _ (sym (shown_then k) ∙ (e ∙ means n)) (loaded.never_stuck n)
+  shows_then k n e = shows_as _ _ (sym (shown_then k) ∙ (e ∙ means n)) (given.sound p input n loaded.well_formed)
 
   pub preserves : (k : ℕ) (o : run.Observed) → run.Shows s input k o → Preserves p input k o
   preserves k o shows =
@@ -131,14 +86,3 @@ module _ (given : Given) (us : List SourceUnit) (m : Map) (limits : Limits) (inp
   completes n =
       let a = pace.shows_all n in
       record { k = a.0; shown = observed (processor_after a.0 (processor_start s input)); shows_at = given.runs s input a.0 loaded.bytes; shows = shows_then a.0 n a.1; pace = a.2 }
-
-  pub overflow_alone : (k : ℕ) (o : run.Observed) (kind segment line : ℕ) → run.Shows s input k o → o.end ≡ run.Stopped kind segment line → kind ≡ 1
-  overflow_alone k o kind segment line shows e =
-      let a = lower.shows_only k in
-      let h = (preserves k o shows).shows.end in
-      let t = subst (λ x. TellsEnd x (meant p input (preserves k o shows).steps).end) e h in
-      let same : observed (processor_after k (processor_start s input)) ≡ o = given.once s input k _ _ (given.runs s input k loaded.bytes) shows in
-      let first : (shown_as o).end ≡ Stopped t.0 segment line = ap end_of e ∙ ap (λ n. end_of (run.Stopped n segment line)) t.1 ∙ stop_back t.0 segment line in
-      let second : (shown_after (order_machine q) a.0 (first_order us m limits loaded.room input)).end ≡ Stopped t.0 segment line =
-      ap (λ x. x.end) (sym a.1 ∙ shown_then k ∙ ap shown_as same) ∙ first in
-      t.1 ∙ ap stop_number (only q orders_made a.0 (initial_memory us m limits.area) input t.0 segment line second)

@@ -1,5 +1,5 @@
 -- Semantic preservation: what the image of a program shows is what its source means.
-use Rattle.std.specs.Prelude.{◌≡◌, ◌≢◌, ◌⊎◌, ℕ, ◌+◌, ◌*◌, ◌<◌, ◌≤◌, false, List, All}
+use Rattle.std.specs.Prelude.{◌≡◌, ◌⊎◌, ℕ, ◌+◌, ◌*◌, ◌<◌, ◌≤◌, false, List, All}
 use Rattle.cw_track.specs.Tracking.{step_ratio}
 use Rattle.cw_i86.specs.State.{State}
 use Rattle.cw_i86.specs.MachineRun as run
@@ -8,11 +8,12 @@ use Rattle.cw_unit.specs.declared.layout.Limits.{Limits}
 use Rattle.cw_unit.specs.declared.layout.Map.{Map}
 use Rattle.cw_unit.specs.Program.{Program, program_at}
 use Rattle.cw_unit.specs.InitialMemory.{initial_memory}
-use Rattle.cw_unit.specs.Stop.{StopKind, stop_number, End, Running, Ended, Stopped, Stuck}
+use Rattle.cw_unit.specs.Stop.{StopKind, stop_number, End, Running, Ended, Stopped}
 use Rattle.cw_unit.specs.Behaviour.{Observation, is_running, observed}
-use Rattle.cw_gen.specs.Built.{AllBuilt}
-use Rattle.cw_gen.specs.Following.{orders_program, Suits}
-use Rattle.cw_follow.specs.Placing.{IsImage, BeginsWith}
+use Rattle.cw_safety.specs.WellFormed.{WellFormed}
+use Rattle.cw_gen_unit.specs.BuiltUnits.{AllBuilt, Suits}
+use Rattle.cw_gen_unit.specs.ReferenceUnits.{orders_program}
+use Rattle.cw_follow.specs.Placing.{IsImage, Codable, BeginsWith}
 
 -- ---- what is promised
 
@@ -46,15 +47,14 @@ pub record Completes (p : Program) (input : List ℕ) (steps : ℕ) (s : State) 
 
 -- ---- of which programs
 
--- Units with a storage map and limits, which never get stuck, and a state of the 8086 that begins with their image and its words.
+-- Well-formed units whose orders all have code, with a storage map, limits and room that suit them, and a state of the 8086 that begins
+-- with their image and their first words.
 pub record IsLoaded (us : List SourceUnit) (m : Map) (limits : Limits) (input : List ℕ) (s : State) : Type 0 where
   pub room : ℕ
-  pub within : room ≤ 32000
-  pub frames : limits.frames ≤ limits.area
-  pub depth : limits.depth < 65536
+  pub well_formed : WellFormed (program_at us m limits)
   pub built : AllBuilt us
-  pub suits : Suits us m limits room input
-  pub never_stuck : (steps : ℕ) → (observed (program_at us m limits) input steps).end ≢ Stuck
+  pub suits : Suits us m limits room
+  pub codable : Codable (orders_program us m limits room)
   pub image : List ℕ
   pub words : List ℕ
   pub is_image : IsImage (orders_program us m limits room) image

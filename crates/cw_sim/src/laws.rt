@@ -1,32 +1,30 @@
 //! The joined law.
-ghost use Rattle.std.specs.Prelude.{◌≡◌, ℕ, List};
+ghost use Rattle.std.specs.Prelude.{ℕ, List};
 ghost use Rattle.cw_i86.specs.State.{State};
-ghost use Rattle.cw_i86.specs.MachineRun.{Observed, Shows, Stopped};
+ghost use Rattle.cw_i86.specs.MachineRun.{Observed, Shows};
 ghost use Rattle.cw_unit.specs.declared.unit.Unit.{Unit as SourceUnit};
 ghost use Rattle.cw_unit.specs.declared.layout.Limits.{Limits};
 ghost use Rattle.cw_unit.specs.declared.layout.Map.{Map};
 ghost use Rattle.cw_unit.specs.Program.{program_at};
 ghost use Rattle.cw_sim.specs.Preservation.{IsLoaded, Preserves, Completes};
 
+use cw_carry_run::laws::orders_follow_meaning;
 use cw_cpu86::laws::one_observation;
 use cw_follow::laws::code_follows_orders;
-use cw_gen::laws::{names_agree, order_words, orders_follow_meaning};
 use cw_run86::laws::shows_the_run;
+use cw_safety::never_stuck;
 
 /// Semantic preservation. Begun with the image of a program, the 8086 shows after each number of instructions what the source
 /// means after some number of its steps, and all that the source means, within 256 instructions a step. So it never meets bad
-/// code or a division that faults. As yet it stops with Overflow alone.
+/// code or a division that faults.
 pub fn preservation()
     ensures preserves { (us : List SourceUnit) (m : Map) (limits : Limits) (input : List ℕ) (s : State) (k : ℕ) (shown : Observed) →
         IsLoaded us m limits input s → Shows s input k shown → Preserves (program_at us m limits) input k shown }
     ensures completes { (us : List SourceUnit) (m : Map) (limits : Limits) (input : List ℕ) (s : State) (steps : ℕ) →
         IsLoaded us m limits input s → Completes (program_at us m limits) input steps s }
-    ensures overflow_alone { (us : List SourceUnit) (m : Map) (limits : Limits) (input : List ℕ) (s : State) (k : ℕ) (shown : Observed) (kind segment line : ℕ) →
-        IsLoaded us m limits input s → Shows s input k shown → shown.end ≡ Stopped kind segment line → kind ≡ 1 }
 {
     one_observation();
-    names_agree();
-    order_words();
+    never_stuck();
     orders_follow_meaning();
     shows_the_run();
     code_follows_orders();

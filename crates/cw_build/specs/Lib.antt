@@ -1,0 +1,5 @@
+pub mod Compiled
+pub mod Images
+pub mod Linking
+pub mod FirstWords
+pub mod Building

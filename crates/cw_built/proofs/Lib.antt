@@ -1,0 +1,13 @@
+pub mod Truth
+pub mod Names
+pub mod OrderCodes
+pub mod Layouts
+pub mod Maps
+pub mod Programs
+pub mod Units
+pub mod Calls
+pub mod Controls
+pub mod WholeStatements
+pub mod ItemNames
+pub mod Levels
+pub mod Choices

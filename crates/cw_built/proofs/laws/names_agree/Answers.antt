@@ -1,0 +1,5 @@
+use Rattle.cw_built.proofs.Names.{agree}
+use Rattle.cw_built.proofs.laws.names_agree.Goals as goal
+
+pub returns : goal.returns
+returns c = agree

@@ -1,0 +1,89 @@
+-- The test for orders whose code does what they say: what templates need of them.
+use Rattle.std.specs.Prelude.{ℕ, ◌+◌, nat_eq, nat_lt, nat_le, pos, negsuc, List, length, Bool, true, false, ◌&&◌, ◌||◌, not, Option, Some, None, slice_get}
+use Rattle.std.specs.List.{list_all}
+use Rattle.cw_word.specs.FixedPoint.{fits_word}
+use Rattle.cw_unit.specs.declared.unit.Goal.{Goal}
+use Rattle.cw_order.specs.declared.order.Order.{Order}
+use Rattle.cw_order.specs.declared.order.Order.TheVariants as order
+use Rattle.cw_order.specs.declared.order.Orders.{Orders}
+
+-- ---- one order
+
+-- t bits from bit b lie in a word
+abbrev pub is_part : (t b : ℕ) → Bool
+is_part t b = nat_le 1 t && nat_le (t + b) 16
+
+-- the numbers of an order are those that its code can hold, and its line is a word
+abbrev pub has_code : Order → Bool
+has_code (order.Line n) = nat_lt n 65536
+has_code (order.Rescale from to) = nat_le from 15 && nat_le to 15
+has_code (order.Mul (pos n)) = nat_le n 15
+has_code (order.Mul (negsuc n)) = nat_lt n 30
+has_code (order.Div (pos n)) = nat_le n 16
+has_code (order.Div (negsuc n)) = nat_lt n 15
+has_code (order.Take t b) = is_part t b
+has_code (order.LoadPart t b is_signed) = is_part t b
+has_code (order.StorePart t b) = is_part t b
+has_code (order.IndexLess lower) = fits_word lower
+has_code (order.IndexTimes n) = nat_le n 32768
+has_code (order.IndexPlus n) = nat_lt n 32768
+has_code (order.IndexRow lower n) = fits_word lower && nat_le n 32768
+has_code (order.InBounds lower upper) = fits_word lower && fits_word upper
+has_code (order.FrameHome n) = nat_lt n 65536
+has_code (order.Enter size) = nat_lt size 65536
+has_code (order.BindFrame k offset) = nat_lt k 256 && nat_lt offset 32768
+has_code (order.Bind k family offset) = nat_lt k 256
+has_code (order.Return n answers) = nat_lt n 256
+has_code (order.CallSpecial k) = nat_lt k 256
+has_code (order.SpecialOut k) = nat_lt k 256
+has_code (order.GoSpecial k) = nat_lt k 256
+has_code (order.GoSwitchSpecial k) = nat_lt k 256
+has_code (order.LoopWay marks) = nat_lt (length marks) 32768
+has_code _ = true
+
+-- whether it can stand behind others in a block
+abbrev pub ends_block : Order → Bool
+ends_block order.Load = true
+ends_block order.Store = true
+ends_block order.Add = true
+ends_block order.Sub = true
+ends_block (order.JumpIf c m) = true
+ends_block _ = false
+
+abbrev pub is_enter : Order → Bool
+is_enter (order.Enter size) = true
+is_enter _ = false
+
+-- ---- marks
+
+-- whether there is an order, and it begins a block
+abbrev pub begins_block : Option Order → Bool
+begins_block None = false
+begins_block (Some o) = not (ends_block o)
+
+-- a mark stands at the first order or at one that begins a block
+abbrev pub is_mark : List Order → (place : ℕ) → Bool
+is_mark os place = nat_eq place 0 || begins_block (slice_get os place)
+
+abbrev pub enters : Option Order → Bool
+enters None = false
+enters (Some o) = is_enter o
+
+-- whether there is a mark of this number, and it stands at the entry of a procedure
+abbrev pub enters_at : List Order → (place : Option ℕ) → Bool
+enters_at os None = false
+enters_at os (Some place) = enters (slice_get os place)
+
+abbrev pub is_entry : List Order → (marks : List ℕ) → (mark : ℕ) → Bool
+is_entry os marks m = enters_at os (slice_get marks m)
+
+-- ---- all orders
+
+-- the index of a goal is a word with a sign
+abbrev pub has_few : List Goal → Bool
+has_few gs = nat_lt (length gs) 32768
+
+-- each order has code, marks and entries stand where they may, and no switch has too many goals
+abbrev pub have_code : Orders → Bool
+have_code o =
+    nat_eq o.entry 0 && (list_all has_code o.list && (list_all (is_mark o.list) o.marks && (list_all has_few o.switches && list_all (is_entry o.list o.marks) o.procedures)))

@@ -1,0 +1,5 @@
+pub mod Stored
+pub mod Built
+pub mod Coded
+pub mod Arguments
+pub mod Named
