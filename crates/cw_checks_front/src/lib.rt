@@ -2,8 +2,6 @@
 #![tactic(auto)]
 
 #[cfg(test)]
-mod forms;
-#[cfg(test)]
 mod lexer;
 #[cfg(test)]
 mod macros;

@@ -2,7 +2,7 @@
 ghost use Rattle.std.specs.Prelude.{◌≡◌, length, IfOk};
 
 use cw_io::{MemFile, MemSink, MemSource, MemStore};
-use cw_top::{coral66, coral66_within};
+use cw_top::coral66;
 use cw_word::List;
 use std::alloc::{AllocError, Global};
 use std::test::Fail;
@@ -51,13 +51,7 @@ struct Outcome {
     say: MemSink,
 }
 
-fn call(
-    alloc: Global,
-    line: &str,
-    text: &[u8],
-    fails: &Fails<'_>,
-    steps: u64,
-) -> Result<Outcome, AllocError> {
+fn call(alloc: Global, line: &str, text: &[u8], fails: &Fails<'_>) -> Result<Outcome, AllocError> {
     let file = MemFile {
         name: list(alloc, b"a")?,
         bytes: list(alloc, text)?,
@@ -75,26 +69,14 @@ fn call(
         return Err(AllocError);
     };
     let words = words_of(alloc, line)?;
-    let status = if steps == RUN_STEPS {
-        coral66(
-            alloc,
-            words.as_slice(),
-            &mut files,
-            &mut input,
-            &mut out,
-            &mut say,
-        )
-    } else {
-        coral66_within(
-            alloc,
-            words.as_slice(),
-            &mut files,
-            &mut input,
-            &mut out,
-            &mut say,
-            steps,
-        )
-    };
+    let status = coral66(
+        alloc,
+        words.as_slice(),
+        &mut files,
+        &mut input,
+        &mut out,
+        &mut say,
+    );
     Ok(Outcome {
         code: status.code(),
         out,
@@ -111,17 +93,19 @@ fn shown(alloc: Global, call: &Outcome) -> Result<String, AllocError> {
 }
 
 fn told(alloc: Global, line: &str, text: &[u8], fails: &Fails<'_>) -> Result<String, AllocError> {
-    shown(alloc, &call(alloc, line, text, fails, RUN_STEPS)?)
+    shown(alloc, &call(alloc, line, text, fails)?)
 }
 
 /// The same of `go a` where nothing fails, within so many instructions.
 pub fn within(alloc: Global, text: &[u8], steps: u64) -> Result<String, AllocError> {
-    shown(alloc, &call(alloc, "go a", text, &NONE, steps)?)
+    let line = format!(in alloc; "go --steps {steps} a")?;
+    shown(alloc, &call(alloc, line.as_str(), text, &NONE)?)
 }
 
 /// The bytes that are written, as numbers, and the closing line.
 pub fn bytes_and_end(alloc: Global, text: &[u8], steps: u64) -> Result<String, AllocError> {
-    let call = call(alloc, "go a", text, &NONE, steps)?;
+    let line = format!(in alloc; "go --steps {steps} a")?;
+    let call = call(alloc, line.as_str(), text, &NONE)?;
     let mut shown = String::new(alloc);
     let mut between = "";
     for byte in call.out.held() {
@@ -145,8 +129,6 @@ fn blanks(alloc: Global, count: usize) -> Result<Vec<u8>, AllocError> {
 const MAP: &str = "0|C|00000 00001 A.X WORD\n12288 04096 FRAMES\n";
 
 const EMPTY: &str = "0||12288 04096 FRAMES\n";
-
-const NOT_BUILT: &str = "2||a: NotBuilt\n";
 
 const USAGE: &str =
     "1||usage: coral66 [--data N] [--frames N] [--depth N] [--steps N] ACTION WORD...\n";
@@ -185,23 +167,41 @@ fn texts(rt: HostRuntime) -> Result<(), Fail> {
             "LIBRARY (PROCEDURE WRITEBYTE(VALUE INTEGER)); SEGMENT P BEGIN INTEGER X; X := -2+70; WRITEBYTE(X); WRITEBYTE(+X-1+2) END FINISH",
             "0|DE|00000 00001 P.X WORD\n12288 04096 FRAMES\n",
         ),
-        ("", NOT_BUILT),
-        ("SEGMENT A BEGIN WRITEBYTE(1) END FINISH", NOT_BUILT),
-        ("SEGMENT A BEGIN INTEGER X, X; END FINISH", NOT_BUILT),
-        ("SEGMENT A BEGIN INTEGER X; X := - -1 END FINISH", NOT_BUILT),
-        ("SEGMENT A BEGIN INTEGER X; X := 2 - END FINISH", NOT_BUILT),
+        ("", "2||a:1: S1 Syntax 1\n"),
+        (
+            "SEGMENT A BEGIN WRITEBYTE(1) END FINISH",
+            "2||a:1: N1 Undeclared WRITEBYTE\n",
+        ),
+        (
+            "SEGMENT A BEGIN INTEGER X, X; END FINISH",
+            "2||a:1: N2 Twice X\n",
+        ),
+        (
+            "SEGMENT A BEGIN INTEGER X; X := - -1 END FINISH",
+            "2||a:1: S1 Syntax 10\n",
+        ),
+        (
+            "SEGMENT A BEGIN INTEGER X; X := 2 - END FINISH",
+            "2||a:1: S1 Syntax 11\n",
+        ),
         (
             "SEGMENT A BEGIN INTEGER X; X := 32768 END FINISH",
-            NOT_BUILT,
+            "2||a:1: Y8 NumberRange\n",
         ),
-        ("SEGMENT A BEGIN INTEGER X; Y := 1 END FINISH", NOT_BUILT),
-        ("SEGMENT A BEGIN INTEGER X END FINISH", NOT_BUILT),
+        (
+            "SEGMENT A BEGIN INTEGER X;\nY := 1 END FINISH",
+            "2||a:2: N1 Undeclared Y\n",
+        ),
+        (
+            "SEGMENT A BEGIN INTEGER X END FINISH",
+            "2||a:1: S1 Syntax 6\n",
+        ),
         (
             "SEGMENT A BEGIN COMMENT NONE; END FINISH",
             "0||12288 04096 FRAMES\n",
         ),
-        ("SEGMENT A BEGIN END A FINISH", NOT_BUILT),
-        ("SEGMENT A BEGIN END FINISH;", NOT_BUILT),
+        ("SEGMENT A BEGIN END A FINISH", EMPTY),
+        ("SEGMENT A BEGIN END FINISH;", "2||a:1: S1 Syntax 6\n"),
         ("SEGMENT A\nBEGIN ?", "2||a:2: L1 BadChar\n"),
     ];
     let alloc = rt.alloc();
@@ -223,6 +223,18 @@ fn words_and_files(rt: HostRuntime) -> Result<(), Fail> {
         ("list a", USAGE),
         ("go none", "6||no file: none\n"),
         ("go a", MAP),
+        (
+            "--data 8000 go --frames 1000 a",
+            "0|C|00000 00001 A.X WORD\n07000 01000 FRAMES\n",
+        ),
+        (
+            "--steps 10 go a",
+            "5||00000 00001 A.X WORD\n12288 04096 FRAMES\nunfinished: 10\n",
+        ),
+        ("--depth 4096 go a", "3||link: P3 ControlTooBig 49228\n"),
+        ("--data 8000 --frames 8001 go a", USAGE),
+        ("--depth 0 go a", USAGE),
+        ("--steps 1 --steps 2 go a", USAGE),
     ];
     for (line, wanted) in rows {
         assert_eq!(rt;
@@ -231,7 +243,10 @@ fn words_and_files(rt: HostRuntime) -> Result<(), Fail> {
         );
     }
     let longest = blanks(alloc, 1_048_576)?;
-    assert_eq!(rt; told(alloc, "go a", &longest, &NONE)?.as_str(), NOT_BUILT);
+    assert_eq!(rt;
+        told(alloc, "go a", &longest, &NONE)?.as_str(),
+        "2||a:1: S1 Syntax 1\n"
+    );
     let longer = blanks(alloc, 1_048_577)?;
     assert_eq!(rt;
         told(alloc, "go a", &longer, &NONE)?.as_str(),
@@ -266,11 +281,11 @@ fn faults_outside(rt: HostRuntime) -> Result<(), Fail> {
     let fails = Fails {
         store: &[],
         out: &[],
-        say: &[11],
+        say: &[1],
     };
     assert_eq!(rt;
         told(alloc, "go a", FIRST.as_bytes(), &fails)?.as_str(),
-        "7||00000 00001 A.X WORD\nfault: say\n"
+        "7||fault: say\n"
     );
     // A program that fills a piece writes it, and the end of the run writes the rest.
     let long =
@@ -282,7 +297,7 @@ fn faults_outside(rt: HostRuntime) -> Result<(), Fail> {
             out: &calls,
             say: &[],
         };
-        let outcome = call(alloc, "go a", long, &fails, RUN_STEPS)?;
+        let outcome = call(alloc, "go a", long, &fails)?;
         assert_eq!(rt; outcome.code, 7);
         assert_eq!(rt; outcome.out.held().len(), written);
     }

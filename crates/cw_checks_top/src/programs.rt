@@ -46,6 +46,26 @@ integer a; a := 1; if A = 1 then writebyte(a)?1?
 DEFINE A \"1\"; DEFINE A \"2\"; WRITEBYTE(A)?2?
 DEFINE TWICE(X) \"X; X\"; TWICE(TWICE(WRITEBYTE(5)))?5 5 5 5?
 DEFINE DOWN(X) \"X := X - 1\"; INTEGER N; N := 9; DOWN(N); WRITEBYTE(N)?8?
+FIXED(13,5) A, B; A := 2.5; B := A * A; WRITEBYTE(BITS[16,0] B)?200?
+FIXED(16,2) Q; INTEGER X; Q := -0.25; X := Q; WRITEBYTE(X)?255?
+INTEGER X, Y; Y := OCTAL(100000); X := -7/2; WRITEBYTE(X); X := Y/1; WRITEBYTE(X/256)?253 128?
+INTEGER X, Y; Y := OCTAL(100000); X := Y/(-1)??stopped: Overflow A 1
+INTEGER X, Y; X := 1/(Y-Y)??stopped: ZeroDivisor A 1
+INTEGER ARRAY A[0:3]; OVERLAY A[2] WITH TABLE T[1,2][S(5,0)0,0; U UNSIGNED(5,0)0,5]; U[0] := 9; S[0] := 31; WRITEBYTE(S[0]); WRITEBYTE(U[0]); WRITEBYTE(A[2])?255 9 63?
+INTEGER ARRAY B[0:3]; INTEGER ARRAY C[0:9]; C[6] := 77; WRITEBYTE(B[10])?77?
+INTEGER ARRAY B[0:3]; INTEGER ARRAY C[0:9]; C[6] := 77; WRITEBYTE(B[32767])??stopped: Address A 1
+INTEGER A, B; [LOCATION(A)+1] := 7; WRITEBYTE(B)?7?
+INTEGER I; SWITCH S := L, M; I := 2; GOTO S[I]; L: WRITEBYTE(76); M: WRITEBYTE(77)?77?
+INTEGER I; SWITCH S := L, M; I := 3; GOTO S[I]; L: WRITEBYTE(76); M: WRITEBYTE(77)??stopped: Switch A 1
+INTEGER I; FOR I := 3 STEP 1 UNTIL 2 DO WRITEBYTE(I); FOR I := 3 STEP -1 UNTIL 1 DO WRITEBYTE(I); FOR I := 5, I+1 WHILE I < 8 DO WRITEBYTE(I)?3 2 1 5 6 7?
+INTEGER RECURSIVE F(VALUE INTEGER N); IF N < 2 THEN ANSWER 1 ELSE ANSWER N * F(N-1); WRITEBYTE(F(7)/256); WRITEBYTE(F(7))?19 176?
+INTEGER RECURSIVE F(VALUE INTEGER N); IF N < 2 THEN ANSWER 1 ELSE ANSWER N * F(N-1); WRITEBYTE(F(8))??stopped: Overflow A 1
+RECURSIVE C(VALUE INTEGER N); IF N > 0 THEN C(N-1); C(300)??stopped: Depth A 1
+RECURSIVE G(VALUE INTEGER N); BEGIN INTEGER ARRAY A[0:99]; IF N > 0 THEN G(N-1) END; G(50)??stopped: Frames A 1
+DEFINE T \"S := \"\"AB\"\"\"; INTEGER S; T; WRITEBYTE([S+2])?66?
+INTEGER ARRAY A[0:4] := 1,,(3,4); WRITEBYTE(A[0]); WRITEBYTE(A[1]); WRITEBYTE(A[3])?1 0 4?
+INTEGER X; X := (1); WRITEBYTE(X)?1?
+BEGIN INTEGER X; X := 2.5; WRITEBYTE(X) END?2?
 DEFINE UNLESS(C) \"IF C THEN ELSE\"; UNLESS(1 = 2) WRITEBYTE(6)?6?";
 
 fn text_of(alloc: Global, body: &str) -> Result<String, AllocError> {
@@ -70,7 +90,7 @@ fn programs(rt: HostRuntime) -> Result<(), Fail> {
             count = count.wrapping_add(1);
         }
     }
-    assert_eq!(rt; count, 41);
+    assert_eq!(rt; count, 61);
     Ok(())
 }
 
@@ -162,7 +182,7 @@ fn limits(rt: HostRuntime) -> Result<(), Fail> {
     );
     assert_eq!(rt;
         within(alloc, &levels(65)?, RUN_STEPS)?.as_str(),
-        "2||a: NotBuilt\n"
+        "2||a:1: S2 NestTooDeep 67\n"
     );
     Ok(())
 }
@@ -176,15 +196,16 @@ DEFINE R \"R\"; R?:1: M3 TooDeep
 DELETE R;?:1: M5 NoSuchMacro
 DEFINE K(X) \"WRITEBYTE(X)\"; K?:1: M2 BadCall
 DEFINE B \"DELETE B\"; WRITEBYTE(1)?:1: M1 BadDefine
-SEGMENT A BEGIN L: L: END FINISH?: NotBuilt
-SEGMENT A BEGIN GOTO L END FINISH?: NotBuilt
-SEGMENT A BEGIN INTEGER X; X: X := 1 END FINISH?: NotBuilt
-SEGMENT A BEGIN WRITEBYTE: END FINISH?: NotBuilt
-SEGMENT A BEGIN IF 1 = 1 THEN IF 1 = 1 THEN END FINISH?: NotBuilt
-SEGMENT A BEGIN IF 1 THEN END FINISH?: NotBuilt
-SEGMENT A BEGIN BEGIN INTEGER X; END END FINISH?: NotBuilt
-SEGMENT A BEGIN INTEGER X; X := (1) END FINISH?: NotBuilt
-SEGMENT A BEGIN INTEGER X; X := 1.5 END FINISH?: NotBuilt";
+SEGMENT A BEGIN L: L: END FINISH?:1: N2 Twice L
+SEGMENT A BEGIN GOTO L END FINISH?:1: N1 Undeclared L
+SEGMENT A BEGIN INTEGER X; X: X := 1 END FINISH?:1: N2 Twice X
+SEGMENT A BEGIN INTEGER X; X[1] := 1 END FINISH?:1: N3 WrongKind X
+SEGMENT A BEGIN IF 1 = 1 THEN IF 1 = 1 THEN END FINISH?:1: S1 Syntax 9
+SEGMENT A BEGIN IF 1 THEN END FINISH?:1: S1 Syntax 6
+SEGMENT A BEGIN INTEGER A; IF A<-1 THEN A := 0 END FINISH?:1: S1 Syntax 9
+SEGMENT A BEGIN FLOATING X; X := 1 END FINISH?:1: S3 LeftOut FLOATING
+SEGMENT A BEGIN INTEGER I; FIXED(16,2) X; X := I/0.1 END FINISH?:1: Y2 ScaleRange
+SEGMENT A BEGIN PROCEDURE P(VALUE INTEGER X);; P END FINISH?:1: Y1 WrongArgs";
 
 #[test]
 fn refusals(rt: HostRuntime) -> Result<(), Fail> {
@@ -202,7 +223,7 @@ fn refusals(rt: HostRuntime) -> Result<(), Fail> {
             count = count.wrapping_add(1);
         }
     }
-    assert_eq!(rt; count, 18);
+    assert_eq!(rt; count, 19);
     Ok(())
 }
 

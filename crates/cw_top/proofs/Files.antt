@@ -2,24 +2,25 @@
 use Rattle.std.proofs.Common.{◌≡◌, ℕ, zero, suc, ◌≤◌, List, [], ◌∷◌, length, Some, None, refl, subst, slice_get, arith}
 use Rattle.cw_io.specs.File.{Told, Is, IsAbsent, IsLonger}
 use Rattle.cw_unit.specs.declared.unit.Unit.{Unit as SourceUnit}
-use Rattle.cw_top.specs.Texts.{text_limit, IsUnitOf, IsRefused, HaveTexts, HaveUnits, Compile, TellTexts}
+use Rattle.cw_compile.specs.Texts.{text_limit}
+use Rattle.cw_top.specs.Texts.{HasUnit, IsRefused, HaveTexts, HaveUnits, Compile, TellTexts}
 use Rattle.cw_top.specs.Correct.{IsRefusedAt, IsAbsentAt, IsLongerAt}
-use Rattle.cw_top.specs.declared.status.Refused.{Refused as Refusal}
+use Rattle.cw_say.specs.declared.status.Refused.{Refused as Refusing}
 
 -- the file has this text, which has this unit
-pub record HasUnit (file : Told) (u : SourceUnit) : Type 0 where
+pub record IsCompiled (file : Told) (u : SourceUnit) : Type 0 where
   pub text : List ℕ
   pub is : Is file text
   pub within : length text ≤ text_limit
-  pub unit : IsUnitOf text u
+  pub unit : HasUnit text u
 
-pub only_unit : (file : Told) (texts : List (List ℕ)) (us : List SourceUnit) → HaveTexts (file ∷ []) texts → HaveUnits texts us → length us ≡ 1 → (u : SourceUnit) × (us ≡ u ∷ []) × HasUnit file u
+pub only_unit : (file : Told) (texts : List (List ℕ)) (us : List SourceUnit) → HaveTexts (file ∷ []) texts → HaveUnits texts us → length us ≡ 1 → (u : SourceUnit) × (us ≡ u ∷ []) × IsCompiled file u
 only_unit file texts [] have units one = absurd (omega (arith, one))
 only_unit file [] (u ∷ us) have units one = absurd units
 only_unit file (text ∷ texts) (u ∷ []) have units one = (u, refl, record { text = text; is = have.0; within = have.1; unit = units.0 })
 only_unit file (text ∷ texts) (u ∷ v ∷ us) have units one = absurd (omega (arith, one))
 
-pub compiled : (file : Told) (us : List SourceUnit) → Compile (file ∷ []) us → (u : SourceUnit) × (us ≡ u ∷ []) × HasUnit file u
+pub compiled : (file : Told) (us : List SourceUnit) → Compile (file ∷ []) us → (u : SourceUnit) × (us ≡ u ∷ []) × IsCompiled file u
 compiled file us x = only_unit file x.texts us x.have_texts x.have_units x.all
 
 pub tells : (file : Told) (texts : List (List ℕ)) → TellTexts (file ∷ []) texts → (text : List ℕ) × (file ≡ Some (Some text))
@@ -43,7 +44,7 @@ no_file : (n : ℕ) → slice_get no_files n ≡ None
 no_file zero = refl
 no_file (suc n) = refl
 
-pub refused_at : (file : Told) (texts : List (List ℕ)) (number : ℕ) (fault : Refusal) → HaveTexts (file ∷ []) texts → IsRefusedAt (slice_get texts number) fault → (text : List ℕ) × (number ≡ 0) × Is file text × (length text ≤ text_limit) × IsRefused text fault
+pub refused_at : (file : Told) (texts : List (List ℕ)) (number : ℕ) (fault : Refusing) → HaveTexts (file ∷ []) texts → IsRefusedAt (slice_get texts number) fault → (text : List ℕ) × (number ≡ 0) × Is file text × (length text ≤ text_limit) × IsRefused text fault
 refused_at file [] number fault have refused = absurd (subst (λ o. IsRefusedAt o fault) (no_text number) refused)
 refused_at file (text ∷ []) zero fault have refused = (text, refl, have.0, have.1, refused)
 refused_at file (text ∷ []) (suc n) fault have refused = absurd (subst (λ o. IsRefusedAt o fault) (no_text n) refused)

@@ -1,11 +1,7 @@
-pub mod Said
-pub mod Lines
-pub mod Singles
-pub mod Built
-pub mod Texts
-pub mod Loaded
+pub mod Links
 pub mod Meant
-pub mod Sizes
 pub mod Files
+pub mod Built
+pub mod Faults
 pub mod Promised
 pub mod Statuses

@@ -1,6 +1,7 @@
 -- A call that goes so, and is closed so, keeps its promise.
-use Rattle.std.proofs.Common.{◌≡◌, ◌≢◌, ℕ, ◌+◌, ◌<◌, ◌≤◌, Bool, false, List, [], ◌∷◌, length, take, Option, Some, None, refl, sym, ap, ◌∙◌, subst, inl, inr, arith, append-nil}
-use Rattle.std.proofs.lemmas.List.Elements.{All-nil}
+use Rattle.std.proofs.Common.{◌≡◌, ◌≢◌, ℕ, ◌+◌, ◌<◌, ◌≤◌, Bool, false, List, [], ◌∷◌, length, take, sum, map, Option, Some, None, refl, sym, ap, ◌∙◌, subst, inl, inr, arith, append-nil}
+use Rattle.std.specs.Prelude.{All, IsTrue}
+use Rattle.std.proofs.lemmas.List.Elements.{All-nil, All-cons}
 use Rattle.cw_io.specs.Bytes.{before_told, after_told}
 use Rattle.cw_io.specs.Count.{Rose}
 use Rattle.cw_io.specs.File.{Told, Is, IsAbsent, IsLonger}
@@ -13,29 +14,34 @@ use Rattle.cw_ports.specs.declared.running.ImageEnd.{ImageEnd}
 use Rattle.cw_ports.specs.declared.running.ImageEnd.TheVariants as ends
 use Rattle.cw_unit.specs.declared.unit.Unit.{Unit as SourceUnit}
 use Rattle.cw_unit.specs.Allocation.{storage_map}
-use Rattle.cw_unit.specs.ValidStorage.{ValidStorageMap}
+use Rattle.cw_unit.specs.ValidStorage.{IsStorable, FitsArea, ValidStorageMap}
 use Rattle.cw_unit.specs.Program.{program_of}
 use Rattle.cw_unit.specs.Stop.{Running as SourceRunning}
 use Rattle.cw_unit.specs.Behaviour.{observed}
-use Rattle.cw_lex.specs.declared.token.Form.TheVariants.{Source}
-use Rattle.cw_lex.specs.Lexical.{Lexeme, first_place, Tokenizes}
-use Rattle.cw_top.specs.Said.{Says}
-use Rattle.cw_top.specs.Closing.{closing_line, file_name}
-use Rattle.cw_top.specs.Texts.{text_limit, ExpandsTo, IsUnitOf, IsRefused, HaveTexts, HaveUnits, Compile, TellTexts}
-use Rattle.cw_top.specs.Images.{map_text, image_of, need_of, Links}
-use Rattle.cw_top.specs.Calls.{IsCommand, Call, default_limits, limits, told_files}
+use Rattle.cw_place.specs.Placement.{IsLimits}
+use Rattle.cw_compile.specs.declared.fault.Refusal.{Refusal}
+use Rattle.cw_compile.specs.Texts.{text_limit, IsUnitOf}
+use Rattle.cw_build.specs.Compiled.{is_compiled}
+use Rattle.cw_build.specs.Images.{map_text, image_of, first_words}
+use Rattle.cw_build.specs.Linking.{Links, IsLinkFault}
+use Rattle.cw_build.specs.declared.built.LinkFault.{LinkFault}
+use Rattle.cw_build.specs.declared.built.LinkFault.TheVariants.{AbsoluteOutside, DataTooBig, ControlTooBig, PresetClash, CodeTooBig}
+use Rattle.cw_say.specs.Said.{Says}
+use Rattle.cw_say.specs.Closing.{closing_line}
+use Rattle.cw_top.specs.Texts.{HasUnit, IsRefused, HaveTexts, HaveUnits, Compile, TellTexts}
+use Rattle.cw_top.specs.Calls.{IsCommand, Call, names, limits, told_files}
 use Rattle.cw_top.specs.Meaning.{PreservesMeaning, CompletesRuns}
-use Rattle.cw_top.specs.Correct.{Comes, IsFirstPart, ListsFirst, first_name, HaveManyItems, Tells, Ran, Cut, RunsImage, IsUntouched, Leaves, ReadsInput, Correct, IsCorrect}
-use Rattle.cw_top.specs.Going.{Streams, streams_at, image_side, status_of, Lists, StopsBefore, UnitGoes, ExpandedGoes, ItemsGo, TextGoes, FileGoes, counts_at, Goes, Closes}
-use Rattle.cw_top.specs.declared.status.Status.{Status}
-use Rattle.cw_top.specs.declared.status.Status.TheVariants.{Ended, Usage, Refused, Unlinked, Stopped, Unfinished, NoFile, Outside, NoMemory, TooLong, BadCode, Divided}
-use Rattle.cw_top.specs.declared.status.Refused.{Refused as Refusal}
-use Rattle.cw_top.specs.declared.status.Refused.TheVariants.{Lex, Macro, NotBuilt}
-use Rattle.cw_top.specs.declared.status.LinkFault.TheVariants.{DataTooBig, CodeTooBig}
-use Rattle.cw_top.specs.declared.status.Which.TheVariants.{Store, Input, Out, Say}
-use Rattle.cw_top.specs.declared.status.Long.TheVariants.{File}
-use Rattle.cw_top.specs.declared.status.Long.TheVariants as long
+use Rattle.cw_top.specs.Correct.{Comes, IsFirstPart, ListsFirst, first_name, HasCause, Tells, Ran, Cut, RunsImage, IsUntouched, Leaves, ReadsInput, Correct, IsCorrect}
+use Rattle.cw_top.specs.Going.{Streams, streams_at, image_side, status_of, Lists, StopsBefore, UnitsGo, UnitGoes, TextGoes, FileGoes, counts_at, Goes, Closes}
+use Rattle.cw_say.specs.declared.status.Status.{Status}
+use Rattle.cw_say.specs.declared.status.Status.TheVariants.{Ended, Usage, Refused, Unlinked, Stopped, Unfinished, NoFile, Outside, NoMemory, TooLong, BadCode, Divided}
+use Rattle.cw_say.specs.declared.status.Refused.{Refused as Refusing}
+use Rattle.cw_say.specs.declared.status.Refused.TheVariants.{Faulty, NotBuilt}
+use Rattle.cw_say.specs.declared.status.Which.TheVariants.{Store, Input, Out, Say}
+use Rattle.cw_say.specs.declared.status.Long.TheVariants.{File}
+use Rattle.cw_say.specs.declared.status.Long.TheVariants as long
 use Rattle.cw_top.proofs.Files.{compiled, tells, text_is}
+use Rattle.cw_top.proofs.Links.{links_not_faulty}
 use Rattle.cw_top.proofs.Meant as meant
 use Rattle.cw_top.proofs.Meant.{Given}
 
@@ -62,21 +68,20 @@ untaken left left' same = (0, ([], sym same ∙ sym (before_nothing left'), refl
 
 module _ (given : Given) (c : Call) (b : Streams) (segment : Option (List ℕ)) where
   abbrev file : Told
-  file = c.before.files (file_name c.words 0)
+  file = c.before.files c.name
 
   abbrev a : Streams
   a = streams_at c.before.left c.before.input_faults c.before.out c.before.out_faults c.before.say c.before.say_faults
 
-  valid : (us : List SourceUnit) → Compile (told_files c) us → need_of us (limits c) ≤ (limits c).area → ValidStorageMap us (limits c) (storage_map us)
-  valid us x room =
+  valid : (us : List SourceUnit) → Compile (told_files c) us → FitsArea us (limits c) → ValidStorageMap us (limits c) (storage_map us)
+  valid us x fits =
       let k = compiled file us x in
-      let u = k.0 in
-      let own = given.loading.items k.2.unit.expanded u k.2.unit.unit_is in
-      let end : (storage_map (u ∷ [])).end ≡ length u.items = ap (λ m. m.end) (given.loading.storage u own) in
-      let P : List SourceUnit → Type 0 = λ vs. need_of vs default_limits ≤ 16384 in
-      let here = subst P k.1 room in
-      let Q : List SourceUnit → Type 0 = λ vs. ValidStorageMap vs default_limits (storage_map vs) in
-      subst Q (sym k.1) (given.valid u default_limits own (omega (arith, here, end)))
+      let Q : List SourceUnit → Type 0 = λ vs. FitsArea vs (limits c) in
+      let V : List SourceUnit → Type 0 = λ vs. ValidStorageMap vs (limits c) (storage_map vs) in
+      subst V (sym k.1) (given.storage (k.0 ∷ []) (limits c) (only_one k.0 (meant.storable given k.0 k.2.unit.compiled)) (subst Q k.1 fits))
+    where
+      only_one : (u : SourceUnit) → IsStorable u → All IsStorable (u ∷ [])
+      only_one u h = All-cons IsStorable u [] h (All-nil IsStorable)
 
   make : (input : List ℕ) (status : Status) → Closes c b segment status → (texts : List (List ℕ)) (us : List SourceUnit) (n : ℕ) (shown : run.Observed) → HaveTexts (told_files c) texts → HaveUnits texts us
       → Comes c texts us status → ListsFirst c us status → RunsImage c input us n shown status → ReadsInput c input us n shown status
@@ -112,13 +117,13 @@ module _ (given : Given) (c : Call) (b : Streams) (segment : Option (List ℕ)) 
       subst P (ap (λ x. x.say) same ∙ sym (after_nothing c.before.say)) says
 
   lists_nothing : (us : List SourceUnit) (status : Status) → b ≡ a → IsFirstPart (map_text us (limits c)) c.before.say_faults b.say_faults status []
-      → Says b.say c.after.say b.say_faults c.after.say_faults (closing_line c.words (first_name us) status) → ListsFirst c us status
+      → Says b.say c.after.say b.say_faults c.after.say_faults (closing_line (names c) (first_name us) status) → ListsFirst c us status
   lists_nothing us status same is says = record {
     first = [];
     middle = b.say_faults;
     is_first = is;
     later = omega (arith, ap (λ x. x.say_faults) same);
-    closing = says_after (closing_line c.words (first_name us) status) same says;
+    closing = says_after (closing_line (names c) (first_name us) status) same says;
   }
 
   writes_nothing : (status : Status) → b ≡ a → Closes c b segment status → c.after.out ≡ c.before.out
@@ -135,9 +140,9 @@ module _ (given : Given) (c : Call) (b : Streams) (segment : Option (List ℕ)) 
       make input Usage closes [] [] 0 nothing tt tt none (lists_nothing [] Usage same refl closes.says) (writes_nothing Usage same closes) (untouched Usage same closes) (takes_nothing Usage same closes) (λ bytes. tt)
       (λ texts us m command told compile links quiet bytes short soon ends. absurd (none command))
 
-  no_memory : (input : List ℕ) → IsCommand c.words → b ≡ a → Closes c b segment NoMemory → Correct c input NoMemory
-  no_memory input command same closes =
-      make input NoMemory closes [] [] 0 nothing tt tt command (lists_nothing [] NoMemory same refl closes.says) (writes_nothing NoMemory same closes) (untouched NoMemory same closes) (takes_nothing NoMemory same closes) (λ bytes. tt)
+  no_memory : (input : List ℕ) → b ≡ a → Closes c b segment NoMemory → Correct c input NoMemory
+  no_memory input same closes =
+      make input NoMemory closes [] [] 0 nothing tt tt tt (lists_nothing [] NoMemory same refl closes.says) (writes_nothing NoMemory same closes) (untouched NoMemory same closes) (takes_nothing NoMemory same closes) (λ bytes. tt)
       (λ texts us m command told compile links quiet bytes short soon ends. tt)
 
   no_file : (input : List ℕ) → IsCommand c.words → b ≡ a → IsAbsent file → Rose c.before.absences c.after.absences → Closes c b segment (NoFile 0) → Correct c input (NoFile 0)
@@ -151,12 +156,12 @@ module _ (given : Given) (c : Call) (b : Streams) (segment : Option (List ℕ)) 
       (λ texts us m command told compile links quiet bytes short soon ends. absurd (quiet.store rose))
 
   -- the unit of the text that is told
-  told_unit : (texts : List (List ℕ)) (us : List SourceUnit) (text : List ℕ) → TellTexts (told_files c) texts → Compile (told_files c) us → Is file text → (u : SourceUnit) × (us ≡ u ∷ []) × IsUnitOf text u × (length text ≤ text_limit)
+  told_unit : (texts : List (List ℕ)) (us : List SourceUnit) (text : List ℕ) → TellTexts (told_files c) texts → Compile (told_files c) us → Is file text → (u : SourceUnit) × (us ≡ u ∷ []) × HasUnit text u × (length text ≤ text_limit)
   told_unit texts us text told compile is =
       let t = tells file texts told in
       let k = compiled file us compile in
       let same : k.2.text ≡ text = text_is file t.0 k.2.text t.1 k.2.is ∙ sym (text_is file t.0 text t.1 is) in
-      (k.0, k.1, subst (λ x. IsUnitOf x k.0) same k.2.unit, subst (λ x. length x ≤ text_limit) same k.2.within)
+      (k.0, k.1, subst (λ x. HasUnit x k.0) same k.2.unit, subst (λ x. length x ≤ text_limit) same k.2.within)
 
   too_long : (input : List ℕ) → IsCommand c.words → b ≡ a → IsLonger file text_limit → Closes c b segment (TooLong (File 0)) → Correct c input (TooLong (File 0))
   too_long input command same longer closes =
@@ -168,7 +173,7 @@ module _ (given : Given) (c : Call) (b : Streams) (segment : Option (List ℕ)) 
       let short : length k.2.text ≡ length t.0 = ap length (text_is file t.0 k.2.text t.1 k.2.is) in
       absurd (omega (arith, long, k.2.within, short)))
 
-  refused : (input : List ℕ) (text : List ℕ) (fault : Refusal) → IsCommand c.words → Is file text → length text ≤ text_limit → b ≡ a → IsRefused text fault → Closes c b segment (Refused 0 fault) → Correct c input (Refused 0 fault)
+  refused : (input : List ℕ) (text : List ℕ) (fault : Refusing) → IsCommand c.words → Is file text → length text ≤ text_limit → b ≡ a → IsRefused text fault → Closes c b segment (Refused 0 fault) → Correct c input (Refused 0 fault)
   refused input text fault command is within same fails closes =
       make input (Refused 0 fault) closes (text ∷ []) [] 0 nothing (is, within, tt) tt (command, refl, fails) (lists_nothing [] (Refused 0 fault) same refl closes.says) (writes_nothing (Refused 0 fault) same closes) (untouched (Refused 0 fault) same closes) (takes_nothing (Refused 0 fault) same closes) (λ bytes. tt)
       (λ texts us m command told compile links quiet bytes short soon ends.
@@ -177,48 +182,49 @@ module _ (given : Given) (c : Call) (b : Streams) (segment : Option (List ℕ)) 
 
   -- ---- where a unit was made
 
-  module _ (text : List ℕ) (is : Is file text) (within : length text ≤ text_limit) (u : SourceUnit) (of_text : IsUnitOf text u) (command : IsCommand c.words) where
+  module _ (text : List ℕ) (is : Is file text) (within : length text ≤ text_limit) (u : SourceUnit) (of_text : HasUnit text u) (command : IsCommand c.words) (limits_fit : IsLimits (limits c)) where
     units_are : (texts : List (List ℕ)) (us : List SourceUnit) → TellTexts (told_files c) texts → Compile (told_files c) us → us ≡ u ∷ []
     units_are texts us told compile =
         let k = told_unit texts us text told compile is in
         k.1 ∙ ap (λ v. v ∷ []) (meant.one_unit given.texts text k.0 u k.2 of_text)
 
-    data_too_big : (input : List ℕ) (need : ℕ) → b ≡ a → need ≡ need_of (u ∷ []) default_limits → default_limits.area < need → Closes c b segment (Unlinked (DataTooBig need)) → Correct c input (Unlinked (DataTooBig need))
-    data_too_big input need same need_is more closes =
-        let s = Unlinked (DataTooBig need) in
-        make input s closes (text ∷ []) (u ∷ []) 0 nothing (is, within, tt) (of_text, tt) (command, refl, need_is, more) (lists_nothing (u ∷ []) s same refl closes.says) (writes_nothing s same closes) (untouched s same closes) (takes_nothing s same closes) (λ bytes. tt)
-        (λ texts us m command told compile links quiet bytes short soon ends.
-        let room : need_of (u ∷ []) default_limits ≤ 16384 = subst (λ vs. need_of vs default_limits ≤ 16384) (units_are texts us told compile) links.words in
-        absurd (omega (arith, room, more, need_is)))
+    -- the tokens of the one text, where its code is too big
+    cause : (fault : LinkFault) → IsLinkFault (u ∷ []) (limits c) fault → HasCause (text ∷ []) fault
+    cause (CodeTooBig bytes) x =
+        let expanded = of_text.is_unit.has.names.tree.expanded in
+        let expands = of_text.is_unit.has.names.tree.expands in
+        let count : u.tokens ≡ length expanded = given.texts.tokens text u expanded of_text.is_unit expands in
+        (expanded ∷ [], (expands, tt), omega (arith, given.sizes u (limits c) of_text.compiled, x.2, count))
+    cause (AbsoluteOutside segment address) x = tt
+    cause (DataTooBig need) x = tt
+    cause (ControlTooBig need) x = tt
+    cause (PresetClash address first second) x = tt
 
-    code_too_big : (input : List ℕ) (size : ℕ) → b ≡ a → need_of (u ∷ []) default_limits ≤ default_limits.area → size ≡ length (image_of (u ∷ []) default_limits) → 65536 < size
-        → Closes c b segment (Unlinked (CodeTooBig size)) → Correct c input (Unlinked (CodeTooBig size))
-    code_too_big input size same room size_is more closes =
-        let s = Unlinked (CodeTooBig size) in
-        let few = given.sizes of_text.expanded u of_text.unit_is in
-        let many : HaveManyItems (text ∷ []) = (of_text.expanded ∷ [], (of_text.has, tt), omega (arith, few, more, size_is)) in
-        make input s closes (text ∷ []) (u ∷ []) 0 nothing (is, within, tt) (of_text, tt) (command, refl, room, size_is, more, many) (lists_nothing (u ∷ []) s same refl closes.says) (writes_nothing s same closes) (untouched s same closes) (takes_nothing s same closes) (λ bytes. tt)
+    unlinked : (input : List ℕ) (fault : LinkFault) → b ≡ a → IsLinkFault (u ∷ []) (limits c) fault → Closes c b segment (Unlinked fault) → Correct c input (Unlinked fault)
+    unlinked input fault same faulty closes =
+        let s = Unlinked fault in
+        make input s closes (text ∷ []) (u ∷ []) 0 nothing (is, within, tt) (of_text, tt) (command, refl, faulty, cause fault faulty) (lists_nothing (u ∷ []) s same refl closes.says) (writes_nothing s same closes) (untouched s same closes) (takes_nothing s same closes) (λ bytes. tt)
         (λ texts us m command told compile links quiet bytes short soon ends.
-        let fits : length (image_of (u ∷ []) default_limits) ≤ 65536 = subst (λ vs. length (image_of vs default_limits) ≤ 65536) (units_are texts us told compile) links.code in
-        absurd (omega (arith, fits, more, size_is)))
+        let L : List SourceUnit → Type 0 = λ vs. Links vs (limits c) in
+        absurd (links_not_faulty (u ∷ []) (limits c) fault (subst L (units_are texts us told compile) links) faulty))
 
-    say_failed : (input : List ℕ) → segment ≡ Some u.name → StopsBefore u a b (Outside Say) → Closes c b segment (Outside Say) → Correct c input (Outside Say)
+    say_failed : (input : List ℕ) → segment ≡ Some u.name → StopsBefore (u ∷ []) (limits c) a b (Outside Say) → Closes c b segment (Outside Say) → Correct c input (Outside Say)
     say_failed input named (links, part) closes =
-        let P : Option (List ℕ) → Type 0 = λ told. Says told c.after.say b.say_faults c.after.say_faults (closing_line c.words (Some u.name) (Outside Say)) in
+        let P : Option (List ℕ) → Type 0 = λ told. Says told c.after.say b.say_faults c.after.say_faults (closing_line (names c) (Some u.name) (Outside Say)) in
         make input (Outside Say) closes (text ∷ []) (u ∷ []) 0 nothing (is, within, tt) (of_text, tt) (command, refl, links)
-        (record { first = take part.count (map_text (u ∷ []) default_limits); middle = b.say_faults; is_first = (part.count, part.proper, refl, part.rose); later = part.later; closing = subst P part.said closes.says })
+        (record { first = take part.count (map_text (u ∷ []) (limits c)); middle = b.say_faults; is_first = (part.count, part.proper, refl, part.rose); later = part.later; closing = subst P part.said closes.says })
         (closes.out ∙ part.out) (record { input = closes.left ∙ part.left; faults = closes.input_faults ∙ part.input_faults })
         (λ other. untaken c.before.left c.after.left (closes.left ∙ part.left)) (λ bytes. tt)
         (λ texts us m command told compile links quiet bytes short soon ends. absurd (quiet.say (omega (arith, part.rose, closes.says.later))))
 
     -- the whole map was said
-    lists_whole : (status : Status) → Lists u a b → segment ≡ Some u.name → IsFirstPart (map_text (u ∷ []) default_limits) c.before.say_faults b.say_faults status (map_text (u ∷ []) default_limits)
+    lists_whole : (status : Status) → Lists (u ∷ []) (limits c) a b → segment ≡ Some u.name → IsFirstPart (map_text (u ∷ []) (limits c)) c.before.say_faults b.say_faults status (map_text (u ∷ []) (limits c))
         → Closes c b segment status → ListsFirst c (u ∷ []) status
     lists_whole status lists named is_first closes =
-        let P : Option (List ℕ) → Type 0 = λ told. Says told c.after.say b.say_faults c.after.say_faults (closing_line c.words (Some u.name) status) in
-        let Q : Option (List ℕ) → Type 0 = λ name. Says b.say c.after.say b.say_faults c.after.say_faults (closing_line c.words name status) in
+        let P : Option (List ℕ) → Type 0 = λ told. Says told c.after.say b.say_faults c.after.say_faults (closing_line (names c) (Some u.name) status) in
+        let Q : Option (List ℕ) → Type 0 = λ name. Says b.say c.after.say b.say_faults c.after.say_faults (closing_line (names c) name status) in
         record {
-          first = map_text (u ∷ []) default_limits;
+          first = map_text (u ∷ []) (limits c);
           middle = b.say_faults;
           is_first = is_first;
           later = omega (arith, lists.same);
@@ -226,8 +232,8 @@ module _ (given : Given) (c : Call) (b : Streams) (segment : Option (List ℕ)) 
         }
 
     module _ (same_faults : c.after.store_faults ≡ c.before.store_faults) (same_absences : c.after.absences ≡ c.before.absences) (named : segment ≡ Some u.name) where
-      ran : (status : Status) (input : List ℕ) (o : run.Observed) (s : State) → run.IsStart (image_of (u ∷ []) default_limits) [] s → run.Shows s input c.steps o → Tells c.steps status o.end → b.out ≡ after_told a.out o.output
-          → b.input_faults ≡ a.input_faults → b.out_faults ≡ a.out_faults → Lists u a b → Closes c b segment status → Ran c input (u ∷ []) c.steps o status
+      ran : (status : Status) (input : List ℕ) (o : run.Observed) (s : State) → run.IsStart (image_of (u ∷ []) (limits c)) (first_words (u ∷ []) (limits c)) s → run.Shows s input c.steps o → Tells c.steps status o.end → b.out ≡ after_told a.out o.output
+          → b.input_faults ≡ a.input_faults → b.out_faults ≡ a.out_faults → Lists (u ∷ []) (limits c) a b → Closes c b segment status → Ran c input (u ∷ []) c.steps o status
       ran status input o s start shows told output quiet_input quiet lists closes = record {
         all = refl;
         shows = record { start = s; is_start = start; shows = shows };
@@ -240,7 +246,7 @@ module _ (given : Given) (c : Call) (b : Streams) (segment : Option (List ℕ)) 
         no_say_fault = λ e. closes.ended e ∙ lists.same;
       }
 
-      leaves : (input : List ℕ) (n : ℕ) (o : run.Observed) (s : State) (is_asking : Bool) → run.IsStart (image_of (u ∷ []) default_limits) [] s → ports.Ran s input n a.left b.left is_asking o → c.after.left ≡ b.left
+      leaves : (input : List ℕ) (n : ℕ) (o : run.Observed) (s : State) (is_asking : Bool) → run.IsStart (image_of (u ∷ []) (limits c)) (first_words (u ∷ []) (limits c)) s → ports.Ran s input n a.left b.left is_asking o → c.after.left ≡ b.left
           → Leaves c input (u ∷ []) n o is_asking
       leaves input n o s is_asking start ran same = record {
         image = record { start = s; is_start = start; shows = ran.shows };
@@ -250,7 +256,7 @@ module _ (given : Given) (c : Call) (b : Streams) (segment : Option (List ℕ)) 
       took : ports.TakenWithin a.left b.left → c.after.left ≡ b.left → ports.TakenWithin c.before.left c.after.left
       took taken same = subst (λ l. ports.TakenWithin c.before.left l) (sym same) taken
 
-      module _ (s : State) (links : Links (u ∷ []) default_limits) (lists : Lists u a b) (start : run.IsStart (image_of (u ∷ []) default_limits) [] s) (input : List ℕ) where
+      module _ (s : State) (links : Links (u ∷ []) (limits c)) (lists : Lists (u ∷ []) (limits c) a b) (start : run.IsStart (image_of (u ∷ []) (limits c)) (first_words (u ∷ []) (limits c)) s) (input : List ℕ) where
         cut : (n : ℕ) (o : run.Observed) → n < c.steps → run.Shows s input n o → o.end ≡ run.Running → c.after.out ≡ after_told c.before.out o.output → Cut c input (u ∷ []) n o
         cut n o few shows running output = record { within = few; shows = record { start = s; is_start = start; shows = shows }; running = running; output = output }
 
@@ -258,41 +264,41 @@ module _ (given : Given) (c : Call) (b : Streams) (segment : Option (List ℕ)) 
         run_goes ends.Ended (o, x, told, output, taken, quiet_input, quiet_out) closes =
             make input Ended closes (text ∷ []) (u ∷ []) c.steps o (is, within, tt) (of_text, tt) (command, refl, links) (lists_whole Ended lists named refl closes)
             (ran Ended input o s start x.shows told output quiet_input quiet_out lists closes) (leaves input c.steps o s false start x closes.left) (λ other. took taken closes.left)
-            (λ bytes. meant.preserves given of_text.expanded u of_text.unit_is links input bytes s start c.steps o x.shows)
+            (λ bytes. meant.preserves given u (limits c) of_text.compiled limits_fit links input bytes s start c.steps o x.shows)
             (λ texts us m command told compile links quiet bytes short soon ends. tt)
         run_goes (ends.Stopped kind number line) (o, x, told, output, taken, quiet_input, quiet_out) closes =
             make input (Stopped kind number line) closes (text ∷ []) (u ∷ []) c.steps o (is, within, tt) (of_text, tt) (command, refl, links) (lists_whole (Stopped kind number line) lists named refl closes)
             (ran (Stopped kind number line) input o s start x.shows told output quiet_input quiet_out lists closes) (leaves input c.steps o s false start x closes.left) (λ other. took taken closes.left)
-            (λ bytes. (meant.preserves given of_text.expanded u of_text.unit_is links input bytes s start c.steps o x.shows, meant.overflows given of_text.expanded u of_text.unit_is links input bytes s start c.steps kind number line o x.shows told))
+            (λ bytes. meant.preserves given u (limits c) of_text.compiled limits_fit links input bytes s start c.steps o x.shows)
             (λ texts us m command told compile links quiet bytes short soon ends. tt)
         run_goes ends.Unfinished (o, x, told, output, taken, quiet_input, quiet_out) closes =
             make input (Unfinished c.steps) closes (text ∷ []) (u ∷ []) c.steps o (is, within, tt) (of_text, tt) (command, refl, links) (lists_whole (Unfinished c.steps) lists named refl closes)
             (ran (Unfinished c.steps) input o s start x.shows (told, refl) output quiet_input quiet_out lists closes) (leaves input c.steps o s false start x closes.left) (λ other. took taken closes.left)
-            (λ bytes. meant.preserves given of_text.expanded u of_text.unit_is links input bytes s start c.steps o x.shows)
+            (λ bytes. meant.preserves given u (limits c) of_text.compiled limits_fit links input bytes s start c.steps o x.shows)
             (λ texts us m command tell compile links_too quiet bytes short soon over.
-            absurd (meant.never_running given of_text.expanded u of_text.unit_is links input bytes s start c.steps m soon
-            (subst (λ vs. (observed (program_of vs default_limits) input m).end ≢ SourceRunning) (units_are texts us tell compile) over) o x.shows told))
+            absurd (meant.never_running given u (limits c) of_text.compiled limits_fit links input bytes s start c.steps m soon
+            (subst (λ vs. (observed (program_of vs (limits c)) input m).end ≢ SourceRunning) (units_are texts us tell compile) over) o x.shows told))
         run_goes (ends.BadCode offset) (o, x, told, output, taken, quiet_input, quiet_out) closes =
             make input (BadCode offset) closes (text ∷ []) (u ∷ []) c.steps o (is, within, tt) (of_text, tt) (command, refl, links) (lists_whole (BadCode offset) lists named refl closes)
             (ran (BadCode offset) input o s start x.shows told output quiet_input quiet_out lists closes) (leaves input c.steps o s false start x closes.left) (λ other. took taken closes.left)
-            (λ bytes. meant.never_bad given of_text.expanded u of_text.unit_is links input bytes s start c.steps offset o x.shows told)
-            (λ texts us m command tell compile links_too quiet bytes short soon over. meant.never_bad given of_text.expanded u of_text.unit_is links input bytes s start c.steps offset o x.shows told)
+            (λ bytes. meant.never_bad given u (limits c) of_text.compiled limits_fit links input bytes s start c.steps offset o x.shows told)
+            (λ texts us m command tell compile links_too quiet bytes short soon over. meant.never_bad given u (limits c) of_text.compiled limits_fit links input bytes s start c.steps offset o x.shows told)
         run_goes (ends.Divided offset) (o, x, told, output, taken, quiet_input, quiet_out) closes =
             make input (Divided offset) closes (text ∷ []) (u ∷ []) c.steps o (is, within, tt) (of_text, tt) (command, refl, links) (lists_whole (Divided offset) lists named refl closes)
             (ran (Divided offset) input o s start x.shows told output quiet_input quiet_out lists closes) (leaves input c.steps o s false start x closes.left) (λ other. took taken closes.left)
-            (λ bytes. meant.never_divided given of_text.expanded u of_text.unit_is links input bytes s start c.steps offset o x.shows told)
-            (λ texts us m command tell compile links_too quiet bytes short soon over. meant.never_divided given of_text.expanded u of_text.unit_is links input bytes s start c.steps offset o x.shows told)
+            (λ bytes. meant.never_divided given u (limits c) of_text.compiled limits_fit links input bytes s start c.steps offset o x.shows told)
+            (λ texts us m command tell compile links_too quiet bytes short soon over. meant.never_divided given u (limits c) of_text.compiled limits_fit links input bytes s start c.steps offset o x.shows told)
         run_goes ends.InputFault (x, taken, rose) closes =
             let risen : Rose c.before.input_faults c.after.input_faults = subst (λ k. Rose c.before.input_faults k) (sym closes.input_faults) rose in
             make input (Outside Input) closes (text ∷ []) (u ∷ []) x.n x.shown (is, within, tt) (of_text, tt) (command, refl, links, risen) (lists_whole (Outside Input) lists named refl closes)
             (cut x.n x.shown x.within x.ran.shows x.running (closes.out ∙ x.output)) (x.is_asking, leaves input x.n x.shown s x.is_asking start x.ran closes.left) (λ other. took taken closes.left)
-            (λ bytes. meant.preserves given of_text.expanded u of_text.unit_is links input bytes s start x.n x.shown x.ran.shows)
+            (λ bytes. meant.preserves given u (limits c) of_text.compiled limits_fit links input bytes s start x.n x.shown x.ran.shows)
             (λ texts us m command tell compile links_too quiet bytes short soon over. absurd (quiet.input risen))
         run_goes ends.TooLong (x, taken, long_input) closes =
             let over_limit : ports.Taken c.before.left c.after.left (input_limit + 1) = subst (λ l. ports.Taken c.before.left l (input_limit + 1)) (sym closes.left) taken in
             make input (TooLong long.Input) closes (text ∷ []) (u ∷ []) x.n x.shown (is, within, tt) (of_text, tt) (command, refl, links, over_limit) (lists_whole (TooLong long.Input) lists named refl closes)
             (cut x.n x.shown x.within x.ran.shows x.running (closes.out ∙ x.output), long_input) (x.is_asking, leaves input x.n x.shown s x.is_asking start x.ran closes.left) (λ other. absurd (other refl))
-            (λ bytes. meant.preserves given of_text.expanded u of_text.unit_is links input bytes s start x.n x.shown x.ran.shows)
+            (λ bytes. meant.preserves given u (limits c) of_text.compiled limits_fit links input bytes s start x.n x.shown x.ran.shows)
             (λ texts us m command tell compile links_too quiet bytes short soon over. absurd (omega (arith, short, long_input)))
         run_goes ends.OutFault (n, few, is_asking, o, x, (count, output), taken, quiet_input, rose) closes =
             let risen : Rose c.before.out_faults c.after.out_faults = subst (λ k. Rose c.before.out_faults k) (sym closes.out_faults) rose in
@@ -305,13 +311,12 @@ module _ (given : Given) (c : Call) (b : Streams) (segment : Option (List ℕ)) 
               no_input_fault = closes.input_faults ∙ quiet_input;
             })
             (is_asking, leaves input n o s is_asking start x closes.left) (λ other. took taken closes.left)
-            (λ bytes. meant.preserves given of_text.expanded u of_text.unit_is links input bytes s start n o x.shows)
+            (λ bytes. meant.preserves given u (limits c) of_text.compiled limits_fit links input bytes s start n o x.shows)
             (λ texts us m command tell compile links_too quiet bytes short soon over. absurd (quiet.out risen))
 
-      stops : (status : Status) (input : List ℕ) → StopsBefore u a b status → Closes c b segment status → Correct c input status
-      stops NoMemory input x closes = no_memory input command x closes
-      stops (Unlinked (DataTooBig need)) input x closes = data_too_big input need x.0 x.1 x.2 closes
-      stops (Unlinked (CodeTooBig size)) input x closes = code_too_big input size x.0 x.1 x.2 x.3 closes
+      stops : (status : Status) (input : List ℕ) → StopsBefore (u ∷ []) (limits c) a b status → Closes c b segment status → Correct c input status
+      stops NoMemory input x closes = no_memory input x closes
+      stops (Unlinked fault) input x closes = unlinked input fault x.0 x.1 closes
       stops (Outside Say) input x closes = say_failed input named x closes
       stops Ended input x closes = absurd x
       stops Usage input x closes = absurd x
@@ -326,7 +331,7 @@ module _ (given : Given) (c : Call) (b : Streams) (segment : Option (List ℕ)) 
       stops (BadCode offset) input x closes = absurd x
       stops (Divided offset) input x closes = absurd x
 
-      unit_goes : (status : Status) → UnitGoes u c.steps a b status → Closes c b segment status → IsCorrect c status
+      unit_goes : (status : Status) → UnitsGo (u ∷ []) (limits c) c.steps a b status → Closes c b segment status → IsCorrect c status
       unit_goes status (inl x) closes = any status (λ input. stops status input x closes)
       unit_goes status (inr g) closes =
           let (input, is_input, shows) = g.tells in
@@ -340,35 +345,31 @@ module _ (given : Given) (c : Call) (b : Streams) (segment : Option (List ℕ)) 
   by : (s status : Status) → status ≡ s → ((input : List ℕ) → Closes c b segment s → Correct c input s) → Keeps status
   by s status e f closes = any status (λ input. subst (Correct c input) (sym e) (f input (subst (Closes c b segment) e closes)))
 
-  quits : (status : Status) → IsCommand c.words → (status ≡ NoMemory) × (b ≡ a) → Keeps status
-  quits status command (e, same) = by NoMemory status e (λ input. no_memory input command same)
+  quits : (status : Status) → (status ≡ NoMemory) × (b ≡ a) → Keeps status
+  quits status (e, same) = by NoMemory status e (λ input. no_memory input same)
 
-  module _ (text : List ℕ) (is : Is file text) (within : length text ≤ text_limit) (command : IsCommand c.words) (same_faults : c.after.store_faults ≡ c.before.store_faults) (same_absences : c.after.absences ≡ c.before.absences) (status : Status) where
-    expanded_goes : (ex : List Lexeme) → ExpandsTo text ex → ExpandedGoes ex c.steps a b status segment → Keeps status
-    expanded_goes ex has (inl q) = quits status command q
-    expanded_goes ex has (inr (inl (e, same, none))) = by (Refused 0 NotBuilt) status e (λ input. refused input text NotBuilt command is within same (ex, has, none))
-    expanded_goes ex has (inr (inr (u, unit_is, named, goes))) = unit_goes text is within u (record { expanded = ex; has = has; unit_is = unit_is }) command same_faults same_absences named status goes
+  module _ (text : List ℕ) (is : Is file text) (within : length text ≤ text_limit) (command : IsCommand c.words) (limits_fit : IsLimits (limits c)) (same_faults : c.after.store_faults ≡ c.before.store_faults) (same_absences : c.after.absences ≡ c.before.absences) (status : Status) where
+    one_unit_goes : (u : SourceUnit) → IsUnitOf text u → segment ≡ Some u.name → UnitGoes u (limits c) c.steps a b status → Keeps status
+    one_unit_goes u of_text named (inl q) = quits status q
+    one_unit_goes u of_text named (inr (inl (e, same, not_built))) = by (Refused 0 NotBuilt) status e (λ input. refused input text NotBuilt command is within same (u, of_text, not_built))
+    one_unit_goes u of_text named (inr (inr (compiles, goes))) = unit_goes text is within u (record { is_unit = of_text; compiled = compiles }) command limits_fit same_faults same_absences named status goes
 
-    items_go : (items : List Lexeme) → Tokenizes Source first_place text items → ItemsGo items c.steps a b status segment → Keeps status
-    items_go items tokenizes (inl q) = quits status command q
-    items_go items tokenizes (inr (inl (fault, e, same, fails))) = by (Refused 0 (Macro fault)) status e (λ input. refused input text (Macro fault) command is within same (items, tokenizes, fails))
-    items_go items tokenizes (inr (inr (ex, expands, goes))) = expanded_goes ex (record { items = items; tokenizes = tokenizes; expands = expands }) goes
+    text_goes : TextGoes text (limits c) c.steps a b status segment → Keeps status
+    text_goes (inl q) = quits status q
+    text_goes (inr (inl (refusal, e, same, faulty))) = by (Refused 0 (Faulty refusal)) status e (λ input. refused input text (Faulty refusal) command is within same faulty)
+    text_goes (inr (inr (u, of_text, named, goes))) = one_unit_goes u of_text named goes
 
-    text_goes : TextGoes text c.steps a b status segment → Keeps status
-    text_goes (inl q) = quits status command q
-    text_goes (inr (inl (fault, e, same, fails))) = by (Refused 0 (Lex fault)) status e (λ input. refused input text (Lex fault) command is within same fails)
-    text_goes (inr (inr (items, tokenizes, goes))) = items_go items tokenizes goes
-
-  file_goes : (status : Status) → IsCommand c.words → FileGoes file (counts_at c.before.store_faults c.before.absences) (counts_at c.after.store_faults c.after.absences) c.steps a b status segment → Keeps status
-  file_goes status command (inl q) = quits status command q
-  file_goes status command (inr (inl (e, same, absent, rose))) = by (NoFile 0) status e (λ input. no_file input command same absent rose)
-  file_goes status command (inr (inr (inl (e, same, rose)))) = by (Outside Store) status e (λ input. store_failed input command same rose)
-  file_goes status command (inr (inr (inr (inl (e, same, longer))))) = by (TooLong (File 0)) status e (λ input. too_long input command same longer)
-  file_goes status command (inr (inr (inr (inr (text, is, within, faults, absences, goes))))) = text_goes text is within command faults absences status goes
+  file_goes : (status : Status) → IsCommand c.words → IsLimits (limits c) → FileGoes file (counts_at c.before.store_faults c.before.absences) (counts_at c.after.store_faults c.after.absences) (limits c) c.steps a b status segment → Keeps status
+  file_goes status command limits_fit (inl q) = quits status q
+  file_goes status command limits_fit (inr (inl (e, same, absent, rose))) = by (NoFile 0) status e (λ input. no_file input command same absent rose)
+  file_goes status command limits_fit (inr (inr (inl (e, same, rose)))) = by (Outside Store) status e (λ input. store_failed input command same rose)
+  file_goes status command limits_fit (inr (inr (inr (inl (e, same, longer))))) = by (TooLong (File 0)) status e (λ input. too_long input command same longer)
+  file_goes status command limits_fit (inr (inr (inr (inr (text, is, within, faults, absences, goes))))) = text_goes text is within command limits_fit faults absences status goes
 
   command_goes : (status : Status) → Goes c b segment status → Keeps status
   command_goes status (inl (none, e, same)) = by Usage status e (λ input. usage input none same)
-  command_goes status (inr (command, goes)) = file_goes status command goes
+  command_goes status (inr (inl q)) = quits status q
+  command_goes status (inr (inr (command, limits_fit, goes))) = file_goes status command limits_fit goes
 
   pub keeps : (status : Status) → Goes c b segment status → Closes c b segment status → IsCorrect c status
   keeps status goes closes = command_goes status goes closes

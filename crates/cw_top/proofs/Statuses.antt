@@ -6,19 +6,22 @@ use Rattle.cw_i86.specs.MachineRun as run
 use Rattle.cw_ports.specs.Pieces.{input_limit}
 use Rattle.cw_ports.specs.Running.{Taken, TakenWithin}
 use Rattle.cw_unit.specs.declared.unit.Unit.{Unit as SourceUnit}
-use Rattle.cw_top.specs.Closing.{file_name}
-use Rattle.cw_top.specs.Texts.{text_limit, IsUnitOf, IsRefused}
-use Rattle.cw_top.specs.Images.{image_of, need_of, Links, ImageShows}
-use Rattle.cw_top.specs.Calls.{IsCommand, Call, default_limits, told_files, NoFault}
+use Rattle.cw_compile.specs.Texts.{text_limit}
+use Rattle.cw_build.specs.Images.{image_of, first_words}
+use Rattle.cw_build.specs.Linking.{Links, IsLinkFault}
+use Rattle.cw_build.specs.declared.built.LinkFault.{LinkFault}
+use Rattle.cw_top.specs.Texts.{HasUnit, IsRefused}
+use Rattle.cw_top.specs.Images.{ImageShows}
+use Rattle.cw_top.specs.Calls.{IsCommand, Call, limits, told_files, NoFault}
 use Rattle.cw_top.specs.Correct.{Tells, Ran, Correct, HasOneStatus}
-use Rattle.cw_top.specs.declared.status.Status.{Status}
-use Rattle.cw_top.specs.declared.status.Status.TheVariants.{Ended, Usage, Refused, Unlinked, Stopped, Unfinished, NoFile, Outside, NoMemory, TooLong, BadCode, Divided}
-use Rattle.cw_top.specs.declared.status.Refused.{Refused as Refusal}
-use Rattle.cw_top.specs.declared.status.LinkFault.TheVariants.{DataTooBig, CodeTooBig}
-use Rattle.cw_top.specs.declared.status.Which.TheVariants.{Store, Input, Out, Say}
-use Rattle.cw_top.specs.declared.status.Long.TheVariants.{File}
-use Rattle.cw_top.specs.declared.status.Long.TheVariants as long
+use Rattle.cw_say.specs.declared.status.Status.{Status}
+use Rattle.cw_say.specs.declared.status.Status.TheVariants.{Ended, Usage, Refused, Unlinked, Stopped, Unfinished, NoFile, Outside, NoMemory, TooLong, BadCode, Divided}
+use Rattle.cw_say.specs.declared.status.Refused.{Refused as Refusing}
+use Rattle.cw_say.specs.declared.status.Which.TheVariants.{Store, Input, Out, Say}
+use Rattle.cw_say.specs.declared.status.Long.TheVariants.{File}
+use Rattle.cw_say.specs.declared.status.Long.TheVariants as long
 use Rattle.cw_top.proofs.Files.{only_unit, refused_at, absent_at, longer_at}
+use Rattle.cw_top.proofs.Links.{links_not_faulty, one_fault}
 use Rattle.cw_top.proofs.Meant as meant
 use Rattle.cw_top.proofs.Meant.{OneOfText}
 
@@ -47,21 +50,20 @@ taken_once left (Some rest) told m n is (xs, same, count) (ys, also, other) =
 
 module _ (texts : OneOfText) (runs : OneRun) (c : Call) (input : List ℕ) where
   abbrev file : Told
-  file = c.before.files (file_name c.words 0)
+  file = c.before.files c.name
 
   -- what comes of a unit
   abbrev OfUnit : SourceUnit → Status → Type 0
   OfUnit u s =
-      ((default_limits.area < need_of (u ∷ []) default_limits) × (s ≡ Unlinked (DataTooBig (need_of (u ∷ []) default_limits))))
-      ⊎ ((need_of (u ∷ []) default_limits ≤ default_limits.area) × (65536 < length (image_of (u ∷ []) default_limits)) × (s ≡ Unlinked (CodeTooBig (length (image_of (u ∷ []) default_limits)))))
-      ⊎ (Links (u ∷ []) default_limits × ((o : run.Observed) × ImageShows (u ∷ []) default_limits input c.steps o × Tells c.steps s o.end) × TakenWithin c.before.left c.after.left)
-      ⊎ (Links (u ∷ []) default_limits × (s ≡ TooLong long.Input) × Taken c.before.left c.after.left (input_limit + 1))
+      ((fault : LinkFault) × IsLinkFault (u ∷ []) (limits c) fault × (s ≡ Unlinked fault))
+      ⊎ (Links (u ∷ []) (limits c) × ((o : run.Observed) × ImageShows (u ∷ []) (limits c) input c.steps o × Tells c.steps s o.end) × TakenWithin c.before.left c.after.left)
+      ⊎ (Links (u ∷ []) (limits c) × (s ≡ TooLong long.Input) × Taken c.before.left c.after.left (input_limit + 1))
 
   abbrev OfText : List ℕ → Status → Type 0
   OfText text s =
       ((text_limit < length text) × (s ≡ TooLong (File 0)))
-      ⊎ ((length text ≤ text_limit) × ((fault : Refusal) × IsRefused text fault × (s ≡ Refused 0 fault)))
-      ⊎ ((length text ≤ text_limit) × ((u : SourceUnit) × IsUnitOf text u × OfUnit u s))
+      ⊎ ((length text ≤ text_limit) × ((fault : Refusing) × IsRefused text fault × (s ≡ Refused 0 fault)))
+      ⊎ ((length text ≤ text_limit) × ((u : SourceUnit) × HasUnit text u × OfUnit u s))
 
   abbrev OfCall : Status → Type 0
   OfCall s =
@@ -100,10 +102,10 @@ module _ (texts : OneOfText) (runs : OneRun) (c : Call) (input : List ℕ) where
         let k = only_unit file x.texts x.units x.have_texts x.have_units one in
         inr (inr (command, (k.2.text, text_of_file k.2.text k.2.is, inr (inr (k.2.within, (k.0, k.2.unit, f k.0 k.1))))))
 
-    of_run : (s : Status) (x : Correct c input s) → IsCommand c.words → length x.units ≡ 1 → Links x.units default_limits → Ran c input x.units x.instructions x.shown s → OfCall s
+    of_run : (s : Status) (x : Correct c input s) → IsCommand c.words → length x.units ≡ 1 → Links x.units (limits c) → Ran c input x.units x.instructions x.shown s → OfCall s
     of_run s x command one links ran = of_unit s x command one (λ u e.
         let within : TakenWithin c.before.left c.after.left = x.within_limit (not_too_long c.steps s x.shown.end ran.tells) in
-        inr (inr (inl (subst (λ us. Links us default_limits) e links, (x.shown, subst (λ us. ImageShows us default_limits input c.steps x.shown) e (subst (λ n. ImageShows x.units default_limits input n x.shown) ran.all ran.shows), ran.tells), within))))
+        inr (inl (subst (λ us. Links us (limits c)) e links, (x.shown, subst (λ us. ImageShows us (limits c) input c.steps x.shown) e (subst (λ n. ImageShows x.units (limits c) input n x.shown) ran.all ran.shows), ran.tells), within)))
 
     pub of_call : (s : Status) → s ≢ NoMemory → Correct c input s → OfCall s
     of_call Usage other x = inl (x.comes, refl)
@@ -111,16 +113,9 @@ module _ (texts : OneOfText) (runs : OneRun) (c : Call) (input : List ℕ) where
         let (command, is, refused) = x.comes in
         let (text, zero_is, has, within, fails) = refused_at file x.texts number fault x.have_texts refused in
         inr (inr (command, (text, text_of_file text has, inr (inl (within, (fault, fails, ap (λ n. Refused n fault) zero_is))))))
-    of_call (Unlinked (DataTooBig need)) other x =
-        let (command, one, is, more) = x.comes in
-        of_unit (Unlinked (DataTooBig need)) x command one (λ u e.
-        let same : need ≡ need_of (u ∷ []) default_limits = is ∙ ap (λ us. need_of us default_limits) e in
-        inl (subst (λ n. 16384 < n) same more, ap (λ n. Unlinked (DataTooBig n)) same))
-    of_call (Unlinked (CodeTooBig size)) other x =
-        let (command, one, room, is, more, many) = x.comes in
-        of_unit (Unlinked (CodeTooBig size)) x command one (λ u e.
-        let same : size ≡ length (image_of (u ∷ []) default_limits) = is ∙ ap (λ us. length (image_of us default_limits)) e in
-        inr (inl (subst (λ us. need_of us default_limits ≤ 16384) e room, subst (λ n. 65536 < n) same more, ap (λ n. Unlinked (CodeTooBig n)) same)))
+    of_call (Unlinked fault) other x =
+        let (command, one, faulty, cause) = x.comes in
+        of_unit (Unlinked fault) x command one (λ u e. inl (fault, subst (λ us. IsLinkFault us (limits c) fault) e faulty, refl))
     of_call (NoFile number) other x =
         let (command, is, none, rose) = x.comes in
         let (zero_is, gone) = absent_at file number none in
@@ -132,7 +127,7 @@ module _ (texts : OneOfText) (runs : OneRun) (c : Call) (input : List ℕ) where
         inr (inr (command, (text, told_is, inl (more, ap (λ n. TooLong (File n)) zero_is))))
     of_call (TooLong long.Input) other x =
         let (command, one, links, taken) = x.comes in
-        of_unit (TooLong long.Input) x command one (λ u e. inr (inr (inr (subst (λ us. Links us default_limits) e links, refl, taken))))
+        of_unit (TooLong long.Input) x command one (λ u e. inr (inr (subst (λ us. Links us (limits c)) e links, refl, taken)))
     of_call (Outside Input) other x = absurd (quiet.input x.comes.3)
     of_call (Outside Store) other x = absurd (quiet.store x.comes.1)
     of_call (Outside Out) other x = absurd (quiet.out x.comes.3)
@@ -180,29 +175,22 @@ module _ (texts : OneOfText) (runs : OneRun) (c : Call) (input : List ℕ) where
       omega (arith, within, same)
 
   one_of_unit : (u : SourceUnit) (s t : Status) → Telling s t → OfUnit u s → OfUnit u t → s ≡ t
-  one_of_unit u s t telling (inl (m, e)) (inl (n, f)) = e ∙ sym f
-  one_of_unit u s t telling (inl (m, e)) (inr (inl (room, n, f))) = absurd (omega (arith, m, room))
-  one_of_unit u s t telling (inl (m, e)) (inr (inr (inl (links, ran, within)))) = absurd (omega (arith, m, links.words))
-  one_of_unit u s t telling (inl (m, e)) (inr (inr (inr (links, f, taken)))) = absurd (omega (arith, m, links.words))
-  one_of_unit u s t telling (inr (inl (room, m, e))) (inl (n, f)) = absurd (omega (arith, n, room))
-  one_of_unit u s t telling (inr (inl (room, m, e))) (inr (inl (also, n, f))) = e ∙ sym f
-  one_of_unit u s t telling (inr (inl (room, m, e))) (inr (inr (inl (links, ran, within)))) = absurd (omega (arith, m, links.code))
-  one_of_unit u s t telling (inr (inl (room, m, e))) (inr (inr (inr (links, f, taken)))) = absurd (omega (arith, m, links.code))
-  one_of_unit u s t telling (inr (inr (inl (links, ran, within)))) (inl (n, f)) = absurd (omega (arith, n, links.words))
-  one_of_unit u s t telling (inr (inr (inl (links, ran, within)))) (inr (inl (room, n, f))) = absurd (omega (arith, n, links.code))
-  one_of_unit u s t telling (inr (inr (inl (links, (o, x, tells), within)))) (inr (inr (inl (also, (q, y, told), too)))) =
-      let start : x.start ≡ y.start = runs.starts (image_of (u ∷ []) default_limits) [] x.start y.start x.is_start y.is_start in
+  one_of_unit u s t telling (inl (p, x, e)) (inl (q, y, f)) = e ∙ ap Unlinked (one_fault (u ∷ []) (limits c) p q x y) ∙ sym f
+  one_of_unit u s t telling (inl (p, x, e)) (inr (inl (links, ran, within))) = absurd (links_not_faulty (u ∷ []) (limits c) p links x)
+  one_of_unit u s t telling (inl (p, x, e)) (inr (inr (links, f, taken))) = absurd (links_not_faulty (u ∷ []) (limits c) p links x)
+  one_of_unit u s t telling (inr (inl (links, ran, within))) (inl (q, y, f)) = absurd (links_not_faulty (u ∷ []) (limits c) q links y)
+  one_of_unit u s t telling (inr (inl (links, (o, x, tells), within))) (inr (inl (also, (q, y, told), too))) =
+      let start : x.start ≡ y.start = runs.starts (image_of (u ∷ []) (limits c)) (first_words (u ∷ []) (limits c)) x.start y.start x.is_start y.is_start in
       let same : o ≡ q = runs.once y.start input c.steps o q (subst (λ z. run.Shows z input c.steps o) start x.shows) y.shows in
       tells_one s o.end tells ∙ ap (λ z. told_by z.end) same ∙ sym (tells_one t q.end told)
-  one_of_unit u s t telling (inr (inr (inl (links, ran, within)))) (inr (inr (inr (also, f, taken)))) =
+  one_of_unit u s t telling (inr (inl (links, ran, within))) (inr (inr (also, f, taken))) =
       let told = telling (inr f) in
       absurd (too_many told.0 told.1 within taken)
-  one_of_unit u s t telling (inr (inr (inr (links, e, taken)))) (inl (n, f)) = absurd (omega (arith, n, links.words))
-  one_of_unit u s t telling (inr (inr (inr (links, e, taken)))) (inr (inl (room, n, f))) = absurd (omega (arith, n, links.code))
-  one_of_unit u s t telling (inr (inr (inr (links, e, taken)))) (inr (inr (inl (also, ran, within)))) =
+  one_of_unit u s t telling (inr (inr (links, e, taken))) (inl (q, y, f)) = absurd (links_not_faulty (u ∷ []) (limits c) q links y)
+  one_of_unit u s t telling (inr (inr (links, e, taken))) (inr (inl (also, ran, within))) =
       let told = telling (inl e) in
       absurd (too_many told.0 told.1 within taken)
-  one_of_unit u s t telling (inr (inr (inr (links, e, taken)))) (inr (inr (inr (also, f, too)))) = e ∙ sym f
+  one_of_unit u s t telling (inr (inr (links, e, taken))) (inr (inr (also, f, too))) = e ∙ sym f
 
   one_of_text : (text : List ℕ) (s t : Status) → Telling s t → OfText text s → OfText text t → s ≡ t
   one_of_text text s t telling (inl (m, e)) (inl (n, f)) = e ∙ sym f

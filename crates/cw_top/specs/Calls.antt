@@ -1,23 +1,34 @@
 -- A call of the command: its words, and what is outside before and after it.
-use Rattle.std.specs.Prelude.{◌≡◌, ℕ, List, [], ◌∷◌, length, map, Option, slice_index_or, codes}
+use Rattle.std.specs.Prelude.{◌≡◌, ℕ, List, [], ◌∷◌, length, map, Option, None, Some, slice_index_or}
 use Rattle.cw_io.specs.Count.{Rose}
 use Rattle.cw_io.specs.File.{Told}
 use Rattle.cw_unit.specs.declared.layout.Limits.{Limits}
-use Rattle.cw_top.specs.Closing.{file_name}
+use Rattle.cw_words.specs.Parts.{Parts, parts_of}
+use Rattle.cw_words.specs.declared.action.Action.TheVariants.{Go}
 
 -- ---- the words
 
--- the words are the command: `go` and a file
-abbrev pub IsCommand : List (List ℕ) → Type 0
-IsCommand words = (length words ≡ 2) × (slice_index_or words 0 [] ≡ codes "go")
+-- The words ask for what is built so far: `go` of one file.
+pub record IsCommand (words : List (List ℕ)) : Type 0 where
+  pub parts : Parts
+  pub mean : parts_of words ≡ Some parts
+  pub go : parts.action ≡ Go
+  pub one : length parts.names ≡ 1
 
--- the instructions of a run, where nothing else is said
-abbrev pub run_steps : ℕ
-run_steps = 200000000
+-- the name of the file that words name
+abbrev pub name_in : Option Parts → List ℕ
+name_in None = []
+name_in (Some parts) = slice_index_or parts.names 0 []
 
 -- the words of data, those of the frame area at their end, and the calls that may be active
-abbrev pub default_limits : Limits
-default_limits = record { area = 16384; frames = 4096; depth = 256 }
+abbrev pub limits_in : Option Parts → Limits
+limits_in None = record { area = 0; frames = 0; depth = 0 }
+limits_in (Some parts) = record { area = parts.area; frames = parts.frames; depth = parts.depth }
+
+-- the most instructions of a run
+abbrev pub steps_in : Option Parts → ℕ
+steps_in None = 0
+steps_in (Some parts) = parts.steps
 
 -- ---- what is outside
 
@@ -39,22 +50,27 @@ surroundings_of files store_faults absences left input_faults out out_faults say
 
 -- ---- the call
 
--- the words, the most instructions of the run, and what is outside
+-- the words, the file, the limits and the most instructions of the run, and what is outside
 pub record Call : Type 0 where
   pub words : List (List ℕ)
+  pub name : List ℕ
+  pub limits : Limits
   pub steps : ℕ
   pub before : Surroundings
   pub after : Surroundings
 
-abbrev pub call_of : (words : List (List ℕ)) → (steps : ℕ) → (before after : Surroundings) → Call
-call_of words steps before after = record { words = words; steps = steps; before = before; after = after }
+-- file, limits and instructions are those that the words tell, or that they have where the words do not tell them
+abbrev pub call_of : (words : List (List ℕ)) → (before after : Surroundings) → Call
+call_of words before after =
+    let parts = parts_of words in
+    record { words = words; name = name_in parts; limits = limits_in parts; steps = steps_in parts; before = before; after = after }
 
--- the names of the files, in order, and the limits: so far those of one file, and the default ones
+-- the names of the files, in order: so far that of one file
 abbrev pub names : Call → List (List ℕ)
-names c = file_name c.words 0 ∷ []
+names c = c.name ∷ []
 
 abbrev pub limits : Call → Limits
-limits c = default_limits
+limits c = c.limits
 
 -- what the store tells of the files
 abbrev pub told_files : Call → List Told

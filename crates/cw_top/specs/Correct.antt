@@ -9,22 +9,26 @@ use Rattle.cw_ports.specs.Pieces.{input_limit}
 use Rattle.cw_ports.specs.Running.{IsInput, Taken, TakenWithin}
 use Rattle.cw_unit.specs.declared.unit.Unit.{Unit as SourceUnit}
 use Rattle.cw_unit.specs.Allocation.{storage_map}
-use Rattle.cw_unit.specs.ValidStorage.{ValidStorageMap}
+use Rattle.cw_unit.specs.ValidStorage.{FitsArea, ValidStorageMap}
 use Rattle.cw_unit.specs.Program.{program_of}
 use Rattle.cw_lex.specs.Lexical.{Lexeme}
-use Rattle.cw_top.specs.Said.{Says}
-use Rattle.cw_top.specs.Closing.{closing_line}
-use Rattle.cw_top.specs.Texts.{text_limit, IsRefused, HaveTexts, HaveUnits, ExpandTo, Compile}
-use Rattle.cw_top.specs.Images.{map_text, image_of, need_of, Links, ImageShows, ImageReads}
+use Rattle.cw_say.specs.Said.{Says}
+use Rattle.cw_say.specs.Closing.{closing_line}
+use Rattle.cw_compile.specs.Texts.{text_limit}
+use Rattle.cw_build.specs.Images.{map_text}
+use Rattle.cw_build.specs.Linking.{Links, IsLinkFault}
+use Rattle.cw_top.specs.Texts.{IsRefused, HaveTexts, HaveUnits, ExpandTo, Compile}
+use Rattle.cw_top.specs.Images.{ImageShows, ImageReads}
 use Rattle.cw_top.specs.Calls.{IsCommand, Call, names, limits, told_files, NoFault}
 use Rattle.cw_top.specs.Meaning.{PreservesMeaning, CompletesRuns}
-use Rattle.cw_top.specs.declared.status.Status.{Status}
-use Rattle.cw_top.specs.declared.status.Status.TheVariants.{Ended, Usage, Refused, Unlinked, Stopped, Unfinished, NoFile, Outside, NoMemory, TooLong, BadCode, Divided}
-use Rattle.cw_top.specs.declared.status.Refused.{Refused as Refusal}
-use Rattle.cw_top.specs.declared.status.LinkFault.TheVariants.{DataTooBig, CodeTooBig}
-use Rattle.cw_top.specs.declared.status.Which.TheVariants.{Store, Input, Out, Say}
-use Rattle.cw_top.specs.declared.status.Long.TheVariants.{File}
-use Rattle.cw_top.specs.declared.status.Long.TheVariants as long
+use Rattle.cw_say.specs.declared.status.Status.{Status}
+use Rattle.cw_say.specs.declared.status.Status.TheVariants.{Ended, Usage, Refused, Unlinked, Stopped, Unfinished, NoFile, Outside, NoMemory, TooLong, BadCode, Divided}
+use Rattle.cw_say.specs.declared.status.Refused.{Refused as Refusing}
+use Rattle.cw_build.specs.declared.built.LinkFault.{LinkFault}
+use Rattle.cw_build.specs.declared.built.LinkFault.TheVariants.{CodeTooBig}
+use Rattle.cw_say.specs.declared.status.Which.TheVariants.{Store, Input, Out, Say}
+use Rattle.cw_say.specs.declared.status.Long.TheVariants.{File}
+use Rattle.cw_say.specs.declared.status.Long.TheVariants as long
 
 -- ---- when each status comes
 
@@ -32,7 +36,7 @@ use Rattle.cw_top.specs.declared.status.Long.TheVariants as long
 abbrev pub AllCompiled : Call → List SourceUnit → Type 0
 AllCompiled c us = length us ≡ length (names c)
 
-abbrev pub IsRefusedAt : Option (List ℕ) → Refusal → Type 0
+abbrev pub IsRefusedAt : Option (List ℕ) → Refusing → Type 0
 IsRefusedAt None fault = ⊥
 IsRefusedAt (Some text) fault = IsRefused text fault
 
@@ -48,19 +52,22 @@ IsLongerAt (Some file) most = IsLonger file most
 abbrev pub HaveManyItems : List (List ℕ) → Type 0
 HaveManyItems texts = (expanded : List (List Lexeme)) × ExpandTo texts expanded × (65536 < 32 * sum (map length expanded) + 4096)
 
+-- and no other code is too big
+abbrev pub HasCause : List (List ℕ) → LinkFault → Type 0
+HasCause texts (CodeTooBig bytes) = HaveManyItems texts
+HasCause texts fault = Unit {0}
+
 -- When each status comes, for texts of the first files and the units of the first of these. Files are taken in order, from number 0, and each is
 -- read and compiled before the next is read: so the file that is refused, or was not read, is the one behind those that have a unit.
 abbrev pub Comes : Call → (texts : List (List ℕ)) → (us : List SourceUnit) → Status → Type 0
 Comes c texts us Usage = IsCommand c.words → ⊥
 Comes c texts us (Refused number fault) = IsCommand c.words × (number ≡ length us) × IsRefusedAt (slice_get texts number) fault
-Comes c texts us (Unlinked (DataTooBig need)) = IsCommand c.words × AllCompiled c us × (need ≡ need_of us (limits c)) × ((limits c).area < need)
-Comes c texts us (Unlinked (CodeTooBig bytes)) =
-    IsCommand c.words × AllCompiled c us × (need_of us (limits c) ≤ (limits c).area) × (bytes ≡ length (image_of us (limits c))) × (65536 < bytes) × HaveManyItems texts
+Comes c texts us (Unlinked fault) = IsCommand c.words × AllCompiled c us × IsLinkFault us (limits c) fault × HasCause texts fault
 Comes c texts us (NoFile number) = IsCommand c.words × (number ≡ length us) × IsAbsentAt (slice_get (told_files c) number) × Rose c.before.absences c.after.absences
 Comes c texts us (Outside Store) = IsCommand c.words × Rose c.before.store_faults c.after.store_faults
 Comes c texts us (Outside Input) = IsCommand c.words × AllCompiled c us × Links us (limits c) × Rose c.before.input_faults c.after.input_faults
 Comes c texts us (Outside Out) = IsCommand c.words × AllCompiled c us × Links us (limits c) × Rose c.before.out_faults c.after.out_faults
-Comes c texts us NoMemory = IsCommand c.words
+Comes c texts us NoMemory = Unit {0}
 Comes c texts us (TooLong (File number)) = IsCommand c.words × (number ≡ length us) × IsLongerAt (slice_get (told_files c) number) text_limit
 Comes c texts us (TooLong long.Input) = IsCommand c.words × AllCompiled c us × Links us (limits c) × Taken c.before.left c.after.left (input_limit + 1)
 Comes c texts us status = IsCommand c.words × AllCompiled c us × Links us (limits c)
@@ -90,7 +97,7 @@ pub record ListsFirst (c : Call) (us : List SourceUnit) (status : Status) : Type
   pub middle : ℕ
   pub is_first : IsFirstPart (map_text us (limits c)) c.before.say_faults middle status first
   pub later : c.before.say_faults ≤ middle
-  pub closing : Says (after_told c.before.say first) c.after.say middle c.after.say_faults (closing_line c.words (first_name us) status)
+  pub closing : Says (after_told c.before.say first) c.after.say middle c.after.say_faults (closing_line (names c) (first_name us) status)
 
 -- ---- what is run
 
@@ -182,7 +189,7 @@ pub record Correct (c : Call) (input : List ℕ) (status : Status) : Type 0 wher
   pub read_ahead : ReadsInput c input units instructions shown status
   pub within_limit : status ≢ TooLong long.Input → TakenWithin c.before.left c.after.left
   pub preserves : AreBytes input → PreservesMeaning (program_of units (limits c)) input instructions shown status
-  pub valid_storage : (us : List SourceUnit) → Compile (told_files c) us → need_of us (limits c) ≤ (limits c).area → ValidStorageMap us (limits c) (storage_map us)
+  pub valid_storage : (us : List SourceUnit) → Compile (told_files c) us → FitsArea us (limits c) → ValidStorageMap us (limits c) (storage_map us)
   pub completes : CompletesRuns c input status
   pub stays : AllStay c.before.files c.after.files
 

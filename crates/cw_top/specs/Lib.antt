@@ -1,7 +1,3 @@
-pub mod Said
-pub mod Closing
-pub mod Listing
-pub mod ReferenceImage
 pub mod Texts
 pub mod Images
 pub mod Calls

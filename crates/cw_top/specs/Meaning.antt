@@ -10,19 +10,18 @@ use Rattle.cw_sim.specs.Preservation.{Preserves}
 use Rattle.cw_cpu86.specs.Ports.{AreBytes}
 use Rattle.cw_ports.specs.Pieces.{input_limit}
 use Rattle.cw_top.specs.Texts.{Compile, TellTexts}
-use Rattle.cw_top.specs.Images.{Links}
+use Rattle.cw_build.specs.Linking.{Links}
 use Rattle.cw_top.specs.Calls.{IsCommand, Call, limits, told_files, NoFault}
-use Rattle.cw_top.specs.declared.status.Status.{Status}
-use Rattle.cw_top.specs.declared.status.Status.TheVariants.{Ended, Stopped, Unfinished, Outside, NoMemory, TooLong, BadCode, Divided}
-use Rattle.cw_top.specs.declared.status.Which.TheVariants.{Input, Out}
-use Rattle.cw_top.specs.declared.status.Long.TheVariants as long
+use Rattle.cw_say.specs.declared.status.Status.{Status}
+use Rattle.cw_say.specs.declared.status.Status.TheVariants.{Ended, Stopped, Unfinished, Outside, NoMemory, TooLong, BadCode, Divided}
+use Rattle.cw_say.specs.declared.status.Which.TheVariants.{Input, Out}
+use Rattle.cw_say.specs.declared.status.Long.TheVariants as long
 
 -- What the image shows after so many instructions is what the source means after some number of its steps, with at most 256 instructions for
--- each and one more. For Ended and Stopped their number is the limit of the run. No run meets bad code or a division that faults, and as yet
--- Overflow is the one stop.
+-- each and one more. For Ended and Stopped their number is the limit of the run. No run meets bad code or a division that faults.
 abbrev pub PreservesMeaning : Program → (input : List ℕ) → (instructions : ℕ) → run.Observed → Status → Type 0
 PreservesMeaning p input n shown Ended = Preserves p input n shown
-PreservesMeaning p input n shown (Stopped kind segment line) = Preserves p input n shown × (kind ≡ 1)
+PreservesMeaning p input n shown (Stopped kind segment line) = Preserves p input n shown
 PreservesMeaning p input n shown (Unfinished ran) = Preserves p input n shown
 PreservesMeaning p input n shown (Outside Out) = Preserves p input n shown
 PreservesMeaning p input n shown (Outside Input) = Preserves p input n shown

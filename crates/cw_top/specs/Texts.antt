@@ -1,37 +1,24 @@
 -- The texts of files, what each is refused for, and the units that they are compiled to.
-use Rattle.std.specs.Prelude.{◌≡◌, ℕ, ◌≤◌, List, [], ◌∷◌, length, map, None, Some}
+use Rattle.std.specs.Prelude.{◌≡◌, ℕ, ◌≤◌, List, [], ◌∷◌, length, map, None, Some, IsTrue, IsFalse}
 use Rattle.cw_io.specs.File.{Told, Is}
 use Rattle.cw_unit.specs.declared.unit.Unit.{Unit as SourceUnit}
-use Rattle.cw_lex.specs.declared.token.Form.TheVariants.{Source}
-use Rattle.cw_lex.specs.Lexical.{Lexeme, first_place, Tokenizes, IsFirstFault}
-use Rattle.cw_macro.specs.Expansion.{Expands, FailsToExpand}
-use Rattle.cw_form.specs.Grammar.{unit_of}
-use Rattle.cw_top.specs.declared.status.Refused.{Refused as Refusal}
-use Rattle.cw_top.specs.declared.status.Refused.TheVariants.{Lex, Macro, NotBuilt}
-
--- the most bytes of a source text
-abbrev pub text_limit : ℕ
-text_limit = 1048576
+use Rattle.cw_lex.specs.Lexical.{Lexeme}
+use Rattle.cw_compile.specs.Texts.{text_limit, ExpandsTo, IsUnitOf, IsRefused as IsFaulty}
+use Rattle.cw_build.specs.Compiled.{is_compiled}
+use Rattle.cw_say.specs.declared.status.Refused.{Refused as Refusing}
+use Rattle.cw_say.specs.declared.status.Refused.TheVariants.{Faulty, NotBuilt}
 
 -- ---- a text
 
--- the text has items, which expand to these
-pub record ExpandsTo (text : List ℕ) (expanded : List Lexeme) : Type 0 where
-  pub items : List Lexeme
-  pub tokenizes : Tokenizes Source first_place text items
-  pub expands : Expands items expanded
+-- the text has this unit, which is one that can be compiled so far
+pub record HasUnit (text : List ℕ) (unit : SourceUnit) : Type 0 where
+  pub is_unit : IsUnitOf text unit
+  pub compiled : IsTrue (is_compiled unit)
 
--- and these are those of the unit
-pub record IsUnitOf (text : List ℕ) (unit : SourceUnit) : Type 0 where
-  pub expanded : List Lexeme
-  pub has : ExpandsTo text expanded
-  pub unit_is : unit_of expanded ≡ Some unit
-
--- why a text has no unit: its first fault, that of the expansion of its items, or that the expanded items are not of the form that is compiled so far
-abbrev pub IsRefused : (text : List ℕ) → Refusal → Type 0
-IsRefused text (Lex fault) = IsFirstFault Source first_place text fault
-IsRefused text (Macro fault) = (items : List Lexeme) × Tokenizes Source first_place text items × FailsToExpand items fault
-IsRefused text NotBuilt = (expanded : List Lexeme) × ExpandsTo text expanded × (unit_of expanded ≡ None)
+-- why a text is not compiled: its first fault, or that its unit cannot be compiled so far
+abbrev pub IsRefused : (text : List ℕ) → Refusing → Type 0
+IsRefused text (Faulty refusal) = IsFaulty text refusal
+IsRefused text NotBuilt = (unit : SourceUnit) × IsUnitOf text unit × IsFalse (is_compiled unit)
 
 -- ---- texts in order
 
@@ -45,7 +32,7 @@ HaveTexts (file ∷ files) (text ∷ texts) = Is file text × (length text ≤ t
 abbrev pub HaveUnits : (texts : List (List ℕ)) → List SourceUnit → Type 0
 HaveUnits texts [] = Unit {0}
 HaveUnits [] (unit ∷ units) = ⊥
-HaveUnits (text ∷ texts) (unit ∷ units) = IsUnitOf text unit × HaveUnits texts units
+HaveUnits (text ∷ texts) (unit ∷ units) = HasUnit text unit × HaveUnits texts units
 
 -- each of the texts expands to these items
 abbrev pub ExpandTo : (texts : List (List ℕ)) → List (List Lexeme) → Type 0

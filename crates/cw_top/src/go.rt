@@ -1,38 +1,30 @@
 // The action `go`: reads and compiles a file, writes the storage map, and runs the image.
-ghost use Rattle.std.specs.Prelude.{◌≡◌, ◌<◌, ◌≤◌, Some, None, [], ◌∷◌, length, map, string_bytes};
-ghost use Rattle.std.specs.List.{All};
-ghost use Rattle.cw_unit.specs.OwnSingles.{IsOwnSingle};
-ghost use Rattle.cw_gen.specs.Built.{AllBuilt};
+ghost use Rattle.std.specs.Prelude.{◌≡◌, ◌<◌, ◌≤◌, Some, None, [], ◌∷◌, length, IsTrue, List as Sequence};
 ghost use Rattle.cw_io.specs.File.{AllStay};
-ghost use Rattle.cw_lex.specs.Lexical.{view};
-ghost use Rattle.cw_macro.specs.Premises.{AreOfText};
-ghost use Rattle.cw_top.specs.Closing.{file_name};
-ghost use Rattle.cw_unit.specs.Storage.{layout_of};
 ghost use Rattle.cw_i86.specs.MachineRun.{IsStart};
-ghost use Rattle.cw_top.specs.Calls.{default_limits};
-ghost use Rattle.cw_top.specs.Images.{addresses_of, need_of, image_of, Links};
-ghost use Rattle.cw_top.specs.Going.{status_of, streams_at, counts_at, UnitGoes, ExpandedGoes, ItemsGo, TextGoes, CommandGoes};
+ghost use Rattle.cw_unit.specs.declared.unit.Unit.{Unit as SourceUnit};
+ghost use Rattle.cw_unit.specs.declared.layout.Limits.{Limits as RunLimits};
+ghost use Rattle.cw_place.specs.Placement.{IsLimits};
+ghost use Rattle.cw_compile.specs.Texts.{text_limit};
+ghost use Rattle.cw_build.specs.Images.{map_text, image_of, first_words};
+ghost use Rattle.cw_build.specs.Linking.{Links};
+ghost use Rattle.cw_build.specs.Building.{AreBuilt};
+ghost use Rattle.cw_top.specs.Going.{status_of, faulty_status, unbuilt_status, streams_at, counts_at, UnitsGo, UnitGoes, TextGoes, FileGoes};
 
-use crate::building::{Built, build, default_limits, need_of};
-use crate::command::file_of;
-use crate::listing::write_listing;
-use crate::status::{LinkFault, Long, Refused, Status, Which};
+use cw_build::{BuildFault, Built, build};
+use cw_compile::{UnitFault, unit};
 use cw_cpu86::Cpu;
-use cw_form::laws::own_singles;
-use cw_form::read_unit;
 use cw_io::{FileFault, Sink, Source, Store, read_file};
-use cw_lex::{LexFault, Token, lex};
-use cw_macro::{MacroFault, expand};
+use cw_list::map_text;
 use cw_ports::{ImageEnd, run_image};
+use cw_say::{Long, Refused, Status, Which, write_piece};
+use cw_unit::layout::Limits;
 use cw_unit::unit::Unit;
 use cw_word::Name;
 use std::alloc::Global;
 
 /// The most bytes of a source text.
 const TEXT_LIMIT: usize = 1_048_576;
-
-/// The most bytes of code that the processor can reach.
-const CODE_LIMIT: usize = 65_536;
 
 /// What a run came to, and the name of the segment that was compiled.
 #[derive(Drop)]
@@ -78,148 +70,115 @@ fn status_of(end: ImageEnd, steps: u64) -> Status
     }
 }
 
-// Writes the storage map of a unit, and runs its image, which is loaded.
+// That of a text without a unit.
+fn faulty_status(fault: UnitFault) -> Status
+    ensures { result ≡ faulty_status fault }
+{
+    match fault {
+        UnitFault::Refused(refusal) => Status::Refused {
+            file: 0,
+            fault: Refused::Faulty(refusal),
+        },
+        UnitFault::NoMemory => Status::NoMemory,
+    }
+}
+
+// That of a unit that is not built.
+fn unbuilt_status(fault: &BuildFault) -> Status
+    ensures { result ≡ unbuilt_status fault.now }
+{
+    match fault {
+        BuildFault::NotBuilt => Status::Refused {
+            file: 0,
+            fault: Refused::NotBuilt,
+        },
+        BuildFault::Link(fault) => Status::Unlinked(*fault),
+        BuildFault::NoMemory => Status::NoMemory,
+    }
+}
+
+// Writes the storage map, and runs the image, which is loaded.
 fn show_and_run<I: Source, O: Sink, S: Sink>(
     cpu: &mut Cpu,
-    unit: &Unit,
-    built: &Built,
+    map: &[u8],
     steps: u64,
     input: &mut I,
     out: &mut O,
     say: &mut S,
 ) -> Status
-    requires layout { built.now.layout ≡ layout_of unit.now }
-    requires addresses { built.now.addresses ≡ addresses_of unit.now }
-    requires links { Links (unit.now ∷ []) default_limits }
-    requires start { IsStart (image_of (unit.now ∷ []) default_limits) [] cpu.old }
-    ensures { UnitGoes unit.now steps (streams_at (I.left input.old) (I.faults input.old) (O.held out.old) (O.faults out.old) (S.held say.old) (S.faults say.old)) (streams_at (I.left input.new) (I.faults input.new) (O.held out.new) (O.faults out.new) (S.held say.new) (S.faults say.new)) result }
+    ensures { (us : Sequence SourceUnit) (limits : RunLimits) → map.now ≡ map_text us limits → Links us limits → IsStart (image_of us limits) (first_words us limits) cpu.old → UnitsGo us limits steps (streams_at (I.left input.old) (I.faults input.old) (O.held out.old) (O.faults out.old) (S.held say.old) (S.faults say.old)) (streams_at (I.left input.new) (I.faults input.new) (O.held out.new) (O.faults out.new) (S.held say.new) (S.faults say.new)) result }
 {
-    let limits = default_limits();
-    let addresses = built.addresses.as_slice();
-    match write_listing(say, unit, &built.layout, addresses, &limits) {
+    match write_piece(say, map) {
         Ok(()) => status_of(run_image(cpu, input, out, steps), steps),
         Err(_) => Status::Outside(Which::Say),
     }
 }
 
-// Loads the image of a unit, writes its storage map and runs it.
+// Loads what was built, writes its storage map and runs it.
 fn load_and_run<I: Source, O: Sink, S: Sink>(
     alloc: Global,
-    unit: &Unit,
+    map: &[u8],
     built: &Built,
     steps: u64,
     input: &mut I,
     out: &mut O,
     say: &mut S,
 ) -> Status
-    requires layout { built.now.layout ≡ layout_of unit.now }
-    requires addresses { built.now.addresses ≡ addresses_of unit.now }
-    requires code { built.now.code.items ≡ image_of (unit.now ∷ []) default_limits }
     requires some { 0 < length built.now.code.items }
-    requires links { Links (unit.now ∷ []) default_limits }
-    ensures { UnitGoes unit.now steps (streams_at (I.left input.old) (I.faults input.old) (O.held out.old) (O.faults out.old) (S.held say.old) (S.faults say.old)) (streams_at (I.left input.new) (I.faults input.new) (O.held out.new) (O.faults out.new) (S.held say.new) (S.faults say.new)) result }
+    requires code { length built.now.code.items ≤ 65536 }
+    requires words { length built.now.words.items ≤ 32768 }
+    ensures { (us : Sequence SourceUnit) (limits : RunLimits) → map.now ≡ map_text us limits → AreBuilt us limits built.now → UnitsGo us limits steps (streams_at (I.left input.old) (I.faults input.old) (O.held out.old) (O.faults out.old) (S.held say.old) (S.faults say.old)) (streams_at (I.left input.new) (I.faults input.new) (O.held out.new) (O.faults out.new) (S.held say.new) (S.faults say.new)) result }
 {
-    let Ok(mut cpu) = Cpu::start(alloc, built.code.as_slice(), &[]) else {
-        return Status::NoMemory;
-    };
-    show_and_run(&mut cpu, unit, built, steps, input, out, say)
+    let code = built.code.as_slice();
+    let words = built.words.as_slice();
+    match Cpu::start(alloc, code, words) {
+        Ok(mut cpu) => show_and_run(&mut cpu, map, steps, input, out, say),
+        Err(_) => Status::NoMemory,
+    }
 }
 
-// Builds a unit that has room for its words, links it and runs its image.
-fn build_and_run<I: Source, O: Sink, S: Sink>(
+// Runs a unit that was built.
+fn run_built<I: Source, O: Sink, S: Sink>(
     alloc: Global,
-    unit: &Unit,
+    unit: Unit,
+    built: &Built,
+    limits: &Limits,
     steps: u64,
     input: &mut I,
     out: &mut O,
     say: &mut S,
 ) -> Status
-    requires own { All IsOwnSingle unit.now.items }
-    requires few { length unit.now.items ≤ 65535 }
-    requires no_procedures { unit.now.procs ≡ [] }
-    requires built { AllBuilt (unit.now ∷ []) }
-    requires words { need_of (unit.now ∷ []) default_limits ≤ default_limits.area }
-    ensures { UnitGoes unit.now steps (streams_at (I.left input.old) (I.faults input.old) (O.held out.old) (O.faults out.old) (S.held say.old) (S.faults say.old)) (streams_at (I.left input.new) (I.faults input.new) (O.held out.new) (O.faults out.new) (S.held say.new) (S.faults say.new)) result }
+    requires built { AreBuilt (unit ∷ []) limits.now built.now }
+    requires limits { IsLimits limits.now }
+    ensures { UnitsGo (unit ∷ []) limits.now steps (streams_at (I.left input.old) (I.faults input.old) (O.held out.old) (O.faults out.old) (S.held say.old) (S.faults say.old)) (streams_at (I.left input.new) (I.faults input.new) (O.held out.new) (O.faults out.new) (S.held say.new) (S.faults say.new)) result }
 {
-    let Ok(built) = build(alloc, unit) else {
-        return Status::NoMemory;
-    };
-    let bytes = built.code.as_slice().len();
-    if bytes > CODE_LIMIT {
-        return Status::Unlinked(LinkFault::CodeTooBig {
-            bytes: bytes as u64,
-        });
+    let units = [unit];
+    let layouts = built.layouts.as_slice();
+    match map_text(alloc, &units, layouts, &built.map, limits) {
+        Ok(map) => {
+            let text = map.as_slice();
+            load_and_run(alloc, text, built, steps, input, out, say)
+        }
+        Err(_) => Status::NoMemory,
     }
-    load_and_run(alloc, unit, &built, steps, input, out, say)
 }
 
-// Links a unit and runs its image.
+// Builds a unit, links it and runs it.
 fn run_unit<I: Source, O: Sink, S: Sink>(
     alloc: Global,
-    unit: &Unit,
+    unit: Unit,
+    limits: &Limits,
     steps: u64,
     input: &mut I,
     out: &mut O,
     say: &mut S,
 ) -> Status
-    requires own { All IsOwnSingle unit.now.items }
-    requires few { length unit.now.items ≤ 65535 }
-    requires no_procedures { unit.now.procs ≡ [] }
-    requires built { AllBuilt (unit.now ∷ []) }
-    ensures { UnitGoes unit.now steps (streams_at (I.left input.old) (I.faults input.old) (O.held out.old) (O.faults out.old) (S.held say.old) (S.faults say.old)) (streams_at (I.left input.new) (I.faults input.new) (O.held out.new) (O.faults out.new) (S.held say.new) (S.faults say.new)) result }
+    requires { IsLimits limits.now }
+    ensures { UnitGoes unit limits.now steps (streams_at (I.left input.old) (I.faults input.old) (O.held out.old) (O.faults out.old) (S.held say.old) (S.faults say.old)) (streams_at (I.left input.new) (I.faults input.new) (O.held out.new) (O.faults out.new) (S.held say.new) (S.faults say.new)) result }
 {
-    let need = need_of(unit);
-    if need > u64::from(default_limits().area) {
-        return Status::Unlinked(LinkFault::DataTooBig { need });
-    }
-    build_and_run(alloc, unit, steps, input, out, say)
-}
-
-// Compiles expanded items and runs them.
-fn run_expanded<I: Source, O: Sink, S: Sink>(
-    alloc: Global,
-    items: &[Token<'_>],
-    steps: u64,
-    input: &mut I,
-    out: &mut O,
-    say: &mut S,
-) -> Answer
-    ensures { ExpandedGoes (map view items.now) steps (streams_at (I.left input.old) (I.faults input.old) (O.held out.old) (O.faults out.old) (S.held say.old) (S.faults say.old)) (streams_at (I.left input.new) (I.faults input.new) (O.held out.new) (O.faults out.new) (S.held say.new) (S.faults say.new)) result.status result.segment }
-{
-    own_singles();
-    cw_form::laws::built();
-    match read_unit(alloc, items) {
-        Ok(Some(unit)) => Answer {
-            status: run_unit(alloc, &unit, steps, input, out, say),
-            segment: Some(unit.name),
-        },
-        Ok(None) => Answer::of(Status::Refused {
-            file: 0,
-            fault: Refused::NotBuilt,
-        }),
-        Err(_) => Answer::of(Status::NoMemory),
-    }
-}
-
-// Expands the items of a text, compiles and runs them.
-fn run_items<I: Source, O: Sink, S: Sink>(
-    alloc: Global,
-    items: &[Token<'_>],
-    steps: u64,
-    input: &mut I,
-    out: &mut O,
-    say: &mut S,
-) -> Answer
-    requires { AreOfText (map view items.now) }
-    ensures { ItemsGo (map view items.now) steps (streams_at (I.left input.old) (I.faults input.old) (O.held out.old) (O.faults out.old) (S.held say.old) (S.faults say.old)) (streams_at (I.left input.new) (I.faults input.new) (O.held out.new) (O.faults out.new) (S.held say.new) (S.faults say.new)) result.status result.segment }
-{
-    match expand(alloc, items) {
-        Ok(expanded) => run_expanded(alloc, expanded.as_slice(), steps, input, out, say),
-        Err(MacroFault::NoMemory) => Answer::of(Status::NoMemory),
-        Err(fault) => Answer::of(Status::Refused {
-            file: 0,
-            fault: Refused::Macro(fault),
-        }),
+    match build(alloc, &unit, limits) {
+        Ok(built) => run_built(alloc, unit, &built, limits, steps, input, out, say),
+        Err(fault) => unbuilt_status(&fault),
     }
 }
 
@@ -227,42 +186,43 @@ fn run_items<I: Source, O: Sink, S: Sink>(
 fn run_text<I: Source, O: Sink, S: Sink>(
     alloc: Global,
     text: &[u8],
+    limits: &Limits,
     steps: u64,
     input: &mut I,
     out: &mut O,
     say: &mut S,
 ) -> Answer
-    requires within { length text.now ≤ 1048576 }
-    ensures { TextGoes text.now steps (streams_at (I.left input.old) (I.faults input.old) (O.held out.old) (O.faults out.old) (S.held say.old) (S.faults say.old)) (streams_at (I.left input.new) (I.faults input.new) (O.held out.new) (O.faults out.new) (S.held say.new) (S.faults say.new)) result.status result.segment }
+    requires within { length text.now ≤ text_limit }
+    requires limits { IsLimits limits.now }
+    ensures { TextGoes text.now limits.now steps (streams_at (I.left input.old) (I.faults input.old) (O.held out.old) (O.faults out.old) (S.held say.old) (S.faults say.old)) (streams_at (I.left input.new) (I.faults input.new) (O.held out.new) (O.faults out.new) (S.held say.new) (S.faults say.new)) result.status result.segment }
 {
-    match lex(alloc, text) {
-        Ok(items) => run_items(alloc, items.as_slice(), steps, input, out, say),
-        Err(LexFault::NoMemory) => Answer::of(Status::NoMemory),
-        Err(fault) => Answer::of(Status::Refused {
-            file: 0,
-            fault: Refused::Lex(fault),
-        }),
+    match unit(alloc, text) {
+        Ok(unit) => {
+            let segment = Some(unit.name);
+            let status = run_unit(alloc, unit, limits, steps, input, out, say);
+            Answer { status, segment }
+        }
+        Err(fault) => Answer::of(faulty_status(fault)),
     }
 }
 
-/// The action `go`, but for the closing line.
+/// The action `go` on a file, but for the closing line.
 pub(crate) fn go<F: Store, I: Source, O: Sink, S: Sink>(
     alloc: Global,
-    words: &[String],
+    name: &str,
     files: &mut F,
+    limits: &Limits,
     steps: u64,
     input: &mut I,
     out: &mut O,
     say: &mut S,
 ) -> Answer
-    ensures goes { CommandGoes (map string_bytes words.now) (F.file files.old (file_name (map string_bytes words.now) 0)) (counts_at (F.faults files.old) (F.absences files.old)) (counts_at (F.faults files.new) (F.absences files.new)) steps (streams_at (I.left input.old) (I.faults input.old) (O.held out.old) (O.faults out.old) (S.held say.old) (S.faults say.old)) (streams_at (I.left input.new) (I.faults input.new) (O.held out.new) (O.faults out.new) (S.held say.new) (S.faults say.new)) result.status result.segment }
+    requires { IsLimits limits.now }
+    ensures goes { FileGoes (F.file files.old name.now) (counts_at (F.faults files.old) (F.absences files.old)) (counts_at (F.faults files.new) (F.absences files.new)) limits.now steps (streams_at (I.left input.old) (I.faults input.old) (O.held out.old) (O.faults out.old) (S.held say.old) (S.faults say.old)) (streams_at (I.left input.new) (I.faults input.new) (O.held out.new) (O.faults out.new) (S.held say.new) (S.faults say.new)) result.status result.segment }
     ensures files_stay { AllStay (F.file files.old) (F.file files.new) }
 {
-    let Some(name) = file_of(words) else {
-        return Answer::of(Status::Usage);
-    };
     match read_file(alloc, files, name, TEXT_LIMIT) {
-        Ok(text) => run_text(alloc, text.as_slice(), steps, input, out, say),
+        Ok(text) => run_text(alloc, text.as_slice(), limits, steps, input, out, say),
         Err(FileFault::Missing) => Answer::of(Status::NoFile { file: 0 }),
         Err(FileFault::Failed) => Answer::of(Status::Outside(Which::Store)),
         Err(FileFault::TooLong) => Answer::of(Status::TooLong(Long::File(0))),

@@ -1,5 +1,9 @@
-use Rattle.std.proofs.Common.{refl, ap, inl, arith}
+use Rattle.std.proofs.Common.{inr}
+use Rattle.cw_top.proofs.Faults.{unbuilt_goes}
 use Rattle.cw_top.proofs.go.run_unit.Goals as goal
 
-pub returns-then-need-from : goal.returns-then-need-from
-returns-then-need-from g c = inl (refl, c.need_of-need.ensures, omega (arith, c.if-need-from.true, c.from.ensures, ap (λ l. l.area) c.default_limits.ensures))
+pub returns-in-Ok : goal.returns-in-Ok
+returns-in-Ok g c = inr (inr (c.in-Ok.ensures.0, c.run_built.ensures))
+
+pub returns-in-Err : goal.returns-in-Err
+returns-in-Err g c = unbuilt_goes _ _ _ _ _ c.in-Err.fault c.unbuilt_status.ensures c.in-Err.ensures

@@ -1,29 +1,25 @@
 use Rattle.std.proofs.Common.{refl, ap, ◌∙◌, subst, inl, inr}
 use Rattle.std.specs.Prelude.{ℕ, List, ◌<◌, length, take}
 use Rattle.cw_io.specs.Bytes.{after_told}
-use Rattle.cw_top.proofs.Built.{map_is}
 use Rattle.cw_top.proofs.go.show_and_run.Goals as goal
 
 pub returns-in-Ok : goal.returns-in-Ok
-returns-in-Ok g c =
-    let map = map_is c.args.unit.now c.args.built.now.layout c.as_slice-addresses.result.now c.default_limits-limits.result c.requires.layout (c.as_slice-addresses.ensures ∙ c.requires.addresses) c.default_limits-limits.ensures in
-    inr (record {
-      links = c.requires.links;
-      lists = record { said = c.in-Ok.ensures.ok ∙ ap (λ x. after_told (g.S.Sink.held c.args.say.now) x) map; same = c.in-Ok.ensures.ok_faults };
-      start = c.args.cpu.now;
-      is_start = c.requires.start;
-      end = c.run_image.result;
-      is = c.status_of.ensures;
-      tells = c.run_image.ensures;
-    })
+returns-in-Ok g c = λ us limits map links start. inr (record {
+  links = links;
+  lists = record { said = c.in-Ok.ensures.ok ∙ ap (λ x. after_told (g.S.Sink.held c.args.say.now) x) map; same = c.in-Ok.ensures.ok_faults };
+  start = c.args.cpu.now;
+  is_start = start;
+  end = c.run_image.result;
+  is = c.status_of.ensures;
+  tells = c.run_image.ensures;
+})
 
 pub returns-in-Err : goal.returns-in-Err
-returns-in-Err g c =
+returns-in-Err g c = λ us limits map links start.
     let cut = c.in-Err.ensures.cut in
-    let map = map_is c.args.unit.now c.args.built.now.layout c.as_slice-addresses.result.now c.default_limits-limits.result c.requires.layout (c.as_slice-addresses.ensures ∙ c.requires.addresses) c.default_limits-limits.ensures in
     let P : List ℕ → Type 0 = λ text. cut.0 < length text in
     inl (
-      c.requires.links,
+      links,
       record {
         count = cut.0;
         proper = subst P map cut.1;

@@ -4,5 +4,5 @@ use Rattle.cw_top.proofs.laws.one_status.Goals as goal
 pub returns : goal.returns
 returns c =
     one_status
-    (record { one_list = c.lexical_structure.ensures.one_list; one_fault = c.lexical_structure.ensures.one_fault; not_both = c.lexical_structure.ensures.not_both; one_outcome = c.macro_expansion.ensures })
+    (record { one_unit = c.one_outcome.ensures.one_unit; one_refusal = c.one_outcome.ensures.one_refusal; not_both = c.one_outcome.ensures.not_both; tokens = c.one_outcome.ensures.tokens })
     (record { starts = c.one_start.ensures; once = c.one_observation.ensures })

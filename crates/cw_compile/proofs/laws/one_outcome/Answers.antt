@@ -1,0 +1,18 @@
+use Rattle.cw_compile.proofs.Outcomes.{Given, has_one_unit, has_one_refusal, has_not_both, has_few_tokens, counts_tokens}
+use Rattle.cw_compile.proofs.laws.one_outcome.Goals as goal
+
+pub returns : goal.returns
+returns c =
+    let given : Given = record {
+      one_list = c.lexical_structure.ensures.one_list;
+      one_fault = c.lexical_structure.ensures.one_fault;
+      not_both = c.lexical_structure.ensures.not_both;
+      one_outcome = c.macro_expansion.ensures;
+    } in
+    record {
+      one_unit = has_one_unit given;
+      one_refusal = has_one_refusal given;
+      not_both = has_not_both given;
+      few = has_few_tokens;
+      tokens = counts_tokens given;
+    }

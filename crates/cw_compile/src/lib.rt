@@ -1,0 +1,10 @@
+//! From a text to its unit, or the first fault of the first pass that refuses it.
+#![tactic(auto)]
+
+pub mod fault;
+pub mod laws;
+mod making;
+mod tree;
+
+pub use fault::{Refusal, UnitFault};
+pub use making::{canonical, unit};

@@ -1,6 +1,0 @@
-pub mod ReferenceOrders
-pub mod Built
-pub mod UnitTables
-pub mod Output
-pub mod Following
-pub mod MadeOrders

@@ -1,0 +1,166 @@
+-- The number of each status, and the line that closes what is told of a run.
+use Rattle.std.specs.Prelude.{ℕ, ◌==◌, List, [], ◌++◌, Option, None, Some, slice_index_or, codes, decimal, if◌then◌else◌}
+use Rattle.cw_say.specs.declared.status.Status.{Status}
+use Rattle.cw_say.specs.declared.status.Status.TheVariants.{Ended, Usage, Refused, Unlinked, Stopped, Unfinished, NoFile, Outside, NoMemory, TooLong, BadCode, Divided}
+use Rattle.cw_say.specs.declared.status.Refused.{Refused as Refusing}
+use Rattle.cw_say.specs.declared.status.Refused.TheVariants.{Faulty, NotBuilt}
+use Rattle.cw_build.specs.declared.built.LinkFault.{LinkFault}
+use Rattle.cw_build.specs.declared.built.LinkFault.TheVariants.{AbsoluteOutside, DataTooBig, ControlTooBig, PresetClash, CodeTooBig}
+use Rattle.cw_compile.specs.declared.fault.Refusal.{Refusal}
+use Rattle.cw_compile.specs.declared.fault.Refusal.TheVariants.{Lex, Macro, Parse, Scope, Typing}
+use Rattle.cw_lex.specs.declared.token.LexFault.{LexFault}
+use Rattle.cw_lex.specs.declared.token.LexFault.TheVariants as lexical
+use Rattle.cw_macro.specs.declared.fault.MacroFault.{MacroFault}
+use Rattle.cw_macro.specs.declared.fault.MacroFault.TheVariants as expansion
+use Rattle.cw_lex.specs.declared.token.Word.{Word}
+use Rattle.cw_lex.specs.declared.token.Word.TheVariants as words
+use Rattle.cw_grammar.specs.declared.fault.ParseFault.{ParseFault}
+use Rattle.cw_grammar.specs.declared.fault.ParseFault.TheVariants as parsing
+use Rattle.cw_scope.specs.declared.resolve.ScopeFault.{ScopeFault}
+use Rattle.cw_scope.specs.declared.resolve.ScopeFault.TheVariants as naming
+use Rattle.cw_type.specs.declared.check.TypeFault.{TypeFault}
+use Rattle.cw_type.specs.declared.check.TypeFault.TheVariants as typing
+use Rattle.cw_say.specs.declared.status.Which.{Which}
+use Rattle.cw_say.specs.declared.status.Which.TheVariants.{Store, Input, Out, Say}
+use Rattle.cw_say.specs.declared.status.Long.{Long}
+use Rattle.cw_say.specs.declared.status.Long.TheVariants.{File}
+use Rattle.cw_say.specs.declared.status.Long.TheVariants as long
+
+abbrev pub status_code : Status → ℕ
+status_code Ended = 0
+status_code Usage = 1
+status_code (Refused file fault) = 2
+status_code (Unlinked fault) = 3
+status_code (Stopped kind segment line) = 4
+status_code (Unfinished steps) = 5
+status_code (NoFile file) = 6
+status_code (Outside which) = 7
+status_code NoMemory = 8
+status_code (TooLong long) = 10
+status_code (BadCode offset) = 11
+status_code (Divided offset) = 12
+
+-- the file with this number
+abbrev pub file_name : (names : List (List ℕ)) → ℕ → List ℕ
+file_name names file = slice_index_or names file []
+
+abbrev pub which_name : Which → List ℕ
+which_name Store = codes "store"
+which_name Input = codes "input"
+which_name Out = codes "out"
+which_name Say = codes "say"
+
+-- the names of the stops
+abbrev pub stop_name : ℕ → Option (List ℕ)
+stop_name kind =
+    if kind == 1 then Some (codes "Overflow")
+    else if kind == 2 then Some (codes "ZeroDivisor")
+    else if kind == 3 then Some (codes "Switch")
+    else if kind == 4 then Some (codes "Address")
+    else if kind == 5 then Some (codes "Frames")
+    else if kind == 6 then Some (codes "Depth")
+    else if kind == 7 then Some (codes "Bounds")
+    else None
+
+abbrev pub name_or_number : Option (List ℕ) → ℕ → List ℕ
+name_or_number None number = decimal number
+name_or_number (Some name) number = name
+
+-- the name of a segment by its number, where there is one segment
+abbrev pub segment_name : Option (List ℕ) → ℕ → Option (List ℕ)
+segment_name segment number = if number == 1 then segment else None
+
+-- a fault with its line: its code and its name
+abbrev pub fault_line : ℕ → List ℕ → List ℕ
+fault_line line name = codes ":" ++ decimal line ++ codes ": " ++ name ++ codes "\n"
+
+abbrev pub lexical_line : LexFault → List ℕ
+lexical_line (lexical.BadChar line) = fault_line line (codes "L1 BadChar")
+lexical_line (lexical.OpenString line) = fault_line line (codes "L2 OpenString")
+lexical_line (lexical.BadNumber line) = fault_line line (codes "L3 BadNumber")
+lexical_line (lexical.LongName line) = fault_line line (codes "L4 LongName")
+lexical_line (lexical.OpenComment line) = fault_line line (codes "L5 OpenComment")
+lexical_line lexical.NoMemory = fault_line 0 (codes "NoMemory")
+
+abbrev pub expansion_line : MacroFault → List ℕ
+expansion_line (expansion.BadDefine line) = fault_line line (codes "M1 BadDefine")
+expansion_line (expansion.BadCall line) = fault_line line (codes "M2 BadCall")
+expansion_line (expansion.TooDeep line) = fault_line line (codes "M3 TooDeep")
+expansion_line (expansion.TooLong line) = fault_line line (codes "M4 TooLong")
+expansion_line (expansion.NoSuchMacro line) = fault_line line (codes "M5 NoSuchMacro")
+expansion_line expansion.NoMemory = fault_line 0 (codes "NoMemory")
+
+-- the same, with the name, the word or the number of the token
+abbrev pub named_line : ℕ → List ℕ → List ℕ → List ℕ
+named_line line name what = codes ":" ++ (decimal line ++ (codes ": " ++ (name ++ (codes " " ++ (what ++ codes "\n")))))
+
+-- the words of what this profile leaves out; there is no such fault at another
+abbrev pub left_out : Word → List ℕ
+left_out words.Floating = codes "FLOATING"
+left_out words.Code = codes "CODE"
+left_out words.External = codes "EXTERNAL"
+left_out _ = []
+
+abbrev pub syntax_line : ParseFault → List ℕ
+syntax_line (parsing.Syntax token line) = named_line line (codes "S1 Syntax") (decimal token)
+syntax_line (parsing.NestTooDeep token line) = named_line line (codes "S2 NestTooDeep") (decimal token)
+syntax_line (parsing.LeftOut word line) = named_line line (codes "S3 LeftOut") (left_out word)
+syntax_line parsing.NoMemory = fault_line 0 (codes "NoMemory")
+
+abbrev pub scope_line : ScopeFault → List ℕ
+scope_line (naming.Undeclared name line) = named_line line (codes "N1 Undeclared") name
+scope_line (naming.Twice name line) = named_line line (codes "N2 Twice") name
+scope_line (naming.WrongKind name line) = named_line line (codes "N3 WrongKind") name
+scope_line (naming.SpecDiffers name line) = named_line line (codes "N4 SpecDiffers") name
+scope_line naming.NoMemory = fault_line 0 (codes "NoMemory")
+
+abbrev pub type_line : TypeFault → List ℕ
+type_line (typing.WrongArgs line) = fault_line line (codes "Y1 WrongArgs")
+type_line (typing.ScaleRange line) = fault_line line (codes "Y2 ScaleRange")
+type_line (typing.FieldRange line) = fault_line line (codes "Y3 FieldRange")
+type_line (typing.BadBounds line) = fault_line line (codes "Y4 BadBounds")
+type_line (typing.BadOverlay line) = fault_line line (codes "Y5 BadOverlay")
+type_line (typing.BadPreset line) = fault_line line (codes "Y6 BadPreset")
+type_line (typing.TooMany line) = fault_line line (codes "Y7 TooMany")
+type_line (typing.NumberRange line) = fault_line line (codes "Y8 NumberRange")
+type_line typing.NoMemory = fault_line 0 (codes "NoMemory")
+
+abbrev pub faulty_line : Refusal → List ℕ
+faulty_line (Lex fault) = lexical_line fault
+faulty_line (Macro fault) = expansion_line fault
+faulty_line (Parse fault) = syntax_line fault
+faulty_line (Scope fault) = scope_line fault
+faulty_line (Typing fault) = type_line fault
+
+-- behind the name of the file
+abbrev pub refusal_line : Refusing → List ℕ
+refusal_line (Faulty refusal) = faulty_line refusal
+refusal_line NotBuilt = codes ": NotBuilt\n"
+
+abbrev pub link_line : LinkFault → List ℕ
+link_line (AbsoluteOutside segment address) = codes "link: P2 AbsoluteOutside " ++ decimal segment ++ codes " " ++ decimal address ++ codes "\n"
+link_line (DataTooBig need) = codes "link: P1 DataTooBig " ++ decimal need ++ codes "\n"
+link_line (ControlTooBig need) = codes "link: P3 ControlTooBig " ++ decimal need ++ codes "\n"
+link_line (PresetClash address first second) =
+    codes "link: K4 PresetClash " ++ (decimal address ++ (codes " " ++ (decimal first ++ (codes " " ++ (decimal second ++ codes "\n")))))
+link_line (CodeTooBig bytes) = codes "link: P4 CodeTooBig " ++ decimal bytes ++ codes "\n"
+
+abbrev pub long_name : List (List ℕ) → Long → List ℕ
+long_name names (File file) = file_name names file
+long_name names long.Input = codes "input"
+
+-- The last line, for the names of the files and that of the one segment, where a text was compiled.
+abbrev pub closing_line : List (List ℕ) → Option (List ℕ) → Status → List ℕ
+closing_line names segment Ended = []
+closing_line names segment Usage = codes "usage: coral66 [--data N] [--frames N] [--depth N] [--steps N] ACTION WORD...\n"
+closing_line names segment (Refused file fault) = file_name names file ++ refusal_line fault
+closing_line names segment (Unlinked fault) = link_line fault
+closing_line names segment (Stopped kind number line) =
+    codes "stopped: " ++ name_or_number (stop_name kind) kind ++ codes " " ++ name_or_number (segment_name segment number) number ++ codes " " ++ decimal line ++ codes "\n"
+closing_line names segment (Unfinished steps) = codes "unfinished: " ++ decimal steps ++ codes "\n"
+closing_line names segment (NoFile file) = codes "no file: " ++ file_name names file ++ codes "\n"
+closing_line names segment (Outside which) = codes "fault: " ++ which_name which ++ codes "\n"
+closing_line names segment NoMemory = codes "no memory\n"
+closing_line names segment (TooLong long) = codes "too long: " ++ long_name names long ++ codes "\n"
+closing_line names segment (BadCode offset) = codes "bad code: " ++ decimal offset ++ codes "\n"
+closing_line names segment (Divided offset) = codes "divided: " ++ decimal offset ++ codes "\n"

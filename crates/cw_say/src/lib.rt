@@ -1,0 +1,11 @@
+//! Statuses of the command, writing to a sink that may fail, and the closing line.
+#![tactic(auto)]
+
+mod faults;
+mod last;
+mod saying;
+mod status;
+
+pub use last::write_last;
+pub use saying::write_piece;
+pub use status::{LinkFault, Long, Refused, Status, Which};

@@ -1,4 +1,0 @@
-use Rattle.cw_top.proofs.last.write_too_long.Goals as goal
-
-pub returns-in-Input : goal.returns-in-Input
-returns-in-Input g c = rw c.in-Input.is c.write_name-in-Input.ensures
