@@ -1,0 +1,4 @@
+pub mod ObjectContents
+pub mod Fits
+pub mod IsWritable
+pub mod ObjectImages
