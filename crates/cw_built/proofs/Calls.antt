@@ -1,10 +1,10 @@
--- Calls and arguments of a unit that shares nothing with other segments.
-use Rattle.std.proofs.Common.{◌≡◌, ℕ, List, [], ◌∷◌, map, Bool, true, false, ◌&&◌, not, Option, Some, None, slice_get, length, nat_eq, refl, sym, ap, ◌∙◌, arith}
+-- Calls and arguments of a unit.
+use Rattle.std.proofs.Common.{◌≡◌, ℕ, List, [], ◌∷◌, map, Bool, true, false, ◌&&◌, not, IsTrue, Option, Some, None, slice_get, length, nat_eq, refl, sym, ap, ◌∙◌, arith}
 use Rattle.cw_unit.specs.declared.unit.Unit.{Unit as SourceUnit}
 use Rattle.cw_unit.specs.declared.unit.Proc.{Proc}
 use Rattle.cw_unit.specs.declared.unit.Target.{Target}
 use Rattle.cw_unit.specs.declared.unit.Target.TheVariants as target
-use Rattle.cw_unit.specs.Program.{name_of, definition_in, found_in, definition_of}
+use Rattle.cw_unit.specs.Program.{definition_of}
 use Rattle.cw_unit.specs.Step.{procedure_of_def}
 use Rattle.cw_safety.specs.Kinds.{Kind, WordKind, LabelKind, SwitchKind, ProcedureKind, Taken, parameter_kinds, same_kind, same_kinds, suits_one, suits}
 use Rattle.cw_safety.specs.WellFormed.{kind_and, kinds_of, is_call, takes_arguments, procedure_of_place, parameter_takes, argument_step, condition_step, expression_step, spot_step, reference_step, is_expression, kind_of}
@@ -14,8 +14,11 @@ use Rattle.cw_unit.specs.declared.unit.Expr.TheVariants as expr
 use Rattle.cw_unit.specs.declared.unit.Arg.TheOpen as layer
 use Rattle.cw_unit.specs.declared.unit.Arg.TheFolds.{fold-roll-Expr}
 use Rattle.cw_built.proofs.Truth.{unequal}
+use Rattle.cw_built.proofs.Saying.{kinds-as-said, means-alone}
+use Rattle.cw_built.proofs.Carried.{kinds_taken, by-kinds-taken}
+use Rattle.cw_built.specs.Listed.{are_named, kinds_said, body_at}
 use Rattle.cw_built.specs.Built.{alone}
-use Rattle.cw_built.specs.Arguments.{at_work, control_of, all_fit, all_suit, fit_procedure, suit_control, is_call_of}
+use Rattle.cw_built.specs.Arguments.{at_work, control_of, all_fit, all_suit, fit_procedure, fit_kinds, suit_control, is_call_of}
 
 abbrev taken : Option (List Kind) → List Kind → Bool
 taken None ks = false
@@ -61,14 +64,9 @@ suit-all (None ∷ ms) (t ∷ ts) = refl
 suit-all (Some m ∷ ms) [] = suited-none m (kinds_of ms)
 suit-all (Some m ∷ ms) (t ∷ ts) = suited-one m t (kinds_of ms) ts ∙ ap (λ b. suits_one m t && b) (suit-all ms ts)
 
--- ---- nothing is defined in common
-
-pub none-defined : (u : SourceUnit) (d : ℕ) → u.defined ≡ [] → definition_of (alone u) 0 d ≡ None
-none-defined u d none = ap (λ ds. found_in 0 (definition_in u (name_of u d) ds) None) none
-
 -- ---- calls
 
-module _ (u : SourceUnit) (who : Option ℕ) (none : u.defined ≡ []) where
+module _ (u : SourceUnit) (who : Option ℕ) (named : IsTrue (are_named u.descs)) where
   abbrev asked : (wanted : Bool) → Target → Option (List Kind) → Bool
   asked wanted t o = is_call (alone u) 0 (at_work who) wanted t o
 
@@ -82,9 +80,17 @@ module _ (u : SourceUnit) (who : Option ℕ) (none : u.defined ≡ []) where
   own-fits None ms = refl
   own-fits (Some x) ms = fit-all ms (parameter_kinds x)
 
-  common : (wanted : Bool) (d : ℕ) (o : Option (List Kind)) → asked wanted (target.Common d) o ≡ false
+  common : (wanted : Bool) (d : ℕ) (o : Option (List Kind)) → asked wanted (target.Common d) o ≡ elim o [ None ↦ false | Some ks ↦ kinds_taken (kinds_said (body_at u d)) ks ]
   common wanted d None = refl
-  common wanted d (Some ks) = ap (λ f. takes_arguments (procedure_of_place (alone u) (procedure_of_def f)) ks) (none-defined u d none)
+  common wanted d (Some ks) =
+      by-kinds-taken (procedure_of_place (alone u) (procedure_of_def (definition_of (alone u) 0 d))) ks
+      ∙ ap (λ v. kinds_taken v ks) (kinds-as-said (alone u) (definition_of (alone u) 0 d) (body_at u d) (means-alone u d named))
+
+  common-fits : (v : Option (List Kind)) (ms : List (Option Kind)) (o : Option (List Kind)) → kinds_of ms ≡ o → elim o [ None ↦ false | Some ks ↦ kinds_taken v ks ] ≡ fit_kinds ms v
+  common-fits None ms None e = refl
+  common-fits None ms (Some ks) e = refl
+  common-fits (Some ms') ms None e = ap (λ o. taken o ms') (sym e) ∙ fit-all ms ms'
+  common-fits (Some ms') ms (Some ks) e = ap (λ o. taken o ms') (sym e) ∙ fit-all ms ms'
 
   parameter-suits : (k : Option Kind) (ms : List (Option Kind)) (o : Option (List Kind)) → kinds_of ms ≡ o → elim o [ None ↦ false | Some ks ↦ parameter_takes k ks ] ≡ suit_control ms k
   parameter-suits None ms None e = refl
@@ -112,7 +118,7 @@ module _ (u : SourceUnit) (who : Option ℕ) (none : u.defined ≡ []) where
 
   pub calls : (wanted : Bool) (t : Target) (ms : List (Option Kind)) → is_call (alone u) 0 (at_work who) wanted t (kinds_of ms) ≡ is_call_of u who wanted t ms
   calls wanted (target.Own n) ms = own wanted n (slice_get u.procs n) (kinds_of ms) refl ∙ own-fits (slice_get u.procs n) ms
-  calls wanted (target.Common d) ms = common wanted d (kinds_of ms)
+  calls wanted (target.Common d) ms = common wanted d (kinds_of ms) ∙ common-fits (kinds_said (body_at u d)) ms (kinds_of ms) refl
   calls wanted (target.Special k f) ms = special wanted k f (kinds_of ms) ∙ parameter-suits (control_of u who k) ms (kinds_of ms) refl
   calls wanted target.Read ms = reading wanted (kinds_of ms) ∙ fit-all ms []
   calls wanted target.Write ms = writing wanted (kinds_of ms) ∙ ap (λ b. not wanted && b) (fit-all ms (WordKind ∷ []))
@@ -126,9 +132,9 @@ fit-none f (x ∷ xs) = unequal (length (x ∷ xs)) 0 (nat_eq (length (x ∷ xs)
 pub reads : {X : Type 0} (u : SourceUnit) (who : Option ℕ) (wanted r : Bool) (t : Target) (f : X → Option Kind) (xs : List X) → t ≡ target.Read → r ≡ nat_eq (length xs) 0 → r ≡ is_call_of u who wanted t (map f xs)
 reads u who wanted r t f xs is e = e ∙ fit-none f xs ∙ ap (λ x. is_call_of u who wanted x (map f xs)) (sym is)
 
-pub asks : (u : SourceUnit) (who : Option ℕ) (none : u.defined ≡ []) (e : Expr) (t : Target) (args : List Arg) (r : Bool) → e ≡ expr.Call t args → r ≡ is_call_of u who true t (map (kind_of (alone u) 0 (at_work who)) args) → r ≡ is_expression (alone u) 0 (at_work who) e
-asks u who none e t args r is h =
+pub asks : (u : SourceUnit) (who : Option ℕ) (named : IsTrue (are_named u.descs)) (e : Expr) (t : Target) (args : List Arg) (r : Bool) → e ≡ expr.Call t args → r ≡ is_call_of u who true t (map (kind_of (alone u) 0 (at_work who)) args) → r ≡ is_expression (alone u) 0 (at_work who) e
+asks u who named e t args r is h =
     let p = alone u in
     let o = at_work who in
-    h ∙ sym (calls u who none true t (map (kind_of p 0 o) args))
+    h ∙ sym (calls u who named true t (map (kind_of p 0 o) args))
     ∙ sym (ap (is_expression p 0 o) (is ∙ sym (expr.rolls-Call t args)) ∙ fold-roll-Expr (Option Kind) Bool Bool Bool Bool (argument_step p 0 o) condition_step (expression_step p 0 o) spot_step reference_step (layer.Call t args))

@@ -1,8 +1,15 @@
+pub mod SameKinds
+pub mod Judged
+pub mod Parts
+pub mod SpecifiedKinds
+pub mod Apart
+pub mod Saying
+pub mod Carried
+pub mod Agreeing
 pub mod Truth
-pub mod Names
+pub mod NamesAgreeing
 pub mod OrderCodes
 pub mod Layouts
-pub mod Maps
 pub mod Programs
 pub mod Units
 pub mod Calls

@@ -1,11 +1,12 @@
--- What the arguments of a call are, one after another, where the unit shares nothing with other segments.
-use Rattle.std.specs.Prelude.{ℕ, List, [], ◌∷◌, Bool, true, false, ◌&&◌, not, Option, Some, None, slice_get}
+-- What the arguments of a call are, one after another, as far as the unit alone tells.
+use Rattle.std.specs.Prelude.{ℕ, List, [], ◌∷◌, Bool, true, false, ◌&&◌, not, map, Option, Some, None, slice_get}
 use Rattle.cw_unit.specs.declared.unit.Unit.{Unit as SourceUnit}
 use Rattle.cw_unit.specs.declared.unit.Proc.{Proc}
 use Rattle.cw_unit.specs.declared.unit.Target.{Target}
 use Rattle.cw_unit.specs.declared.unit.Target.TheVariants as target
-use Rattle.cw_safety.specs.Kinds.{Kind, WordKind, LabelKind, SwitchKind, ProcedureKind, Taken, parameter_kinds, procedure_kind, same_kind, suits_one}
+use Rattle.cw_safety.specs.Kinds.{Kind, WordKind, LabelKind, SwitchKind, ProcedureKind, Taken, taken_of, parameter_kinds, procedure_kind, same_kind, suits_one}
 use Rattle.cw_safety.specs.WellFormed.{controls_of}
+use Rattle.cw_built.specs.Listed.{kinds_said, body_at}
 use Rattle.cw_built.specs.Built.{alone}
 use Rattle.cw_built.specs.declared.arguments.Argument.{Argument}
 use Rattle.cw_built.specs.declared.arguments.Argument.TheVariants as argument
@@ -19,12 +20,22 @@ at_work (Some q) = Some (0, q)
 abbrev pub control_of : SourceUnit → (who : Option ℕ) → (control : ℕ) → Option Kind
 control_of u who k = slice_get (controls_of (alone u) (at_work who)) k
 
+-- a procedure with parameters of these kinds
+abbrev pub procedure_of : Option (List Kind) → Option Kind
+procedure_of None = None
+procedure_of (Some ks) = Some (ProcedureKind (map taken_of ks))
+
+-- the procedure that a descriptor specifies
+abbrev pub common_kind : SourceUnit → (descriptor : ℕ) → Option Kind
+common_kind u d = procedure_of (kinds_said (body_at u d))
+
 -- the kind of an argument
 abbrev pub kind_of_argument : SourceUnit → (who : Option ℕ) → Argument → Option Kind
 kind_of_argument u who argument.Word = Some WordKind
 kind_of_argument u who argument.Label = Some LabelKind
 kind_of_argument u who argument.Switch = Some SwitchKind
 kind_of_argument u who (argument.Procedure q) = procedure_kind (slice_get u.procs q)
+kind_of_argument u who (argument.Common d) = common_kind u d
 kind_of_argument u who (argument.Control k) = control_of u who k
 kind_of_argument u who argument.Wrong = None
 
@@ -57,6 +68,10 @@ abbrev pub fit_procedure : List (Option Kind) → Option Proc → Bool
 fit_procedure ms None = false
 fit_procedure ms (Some q) = all_fit ms (parameter_kinds q)
 
+abbrev pub fit_kinds : List (Option Kind) → Option (List Kind) → Bool
+fit_kinds ms None = false
+fit_kinds ms (Some ks) = all_fit ms ks
+
 abbrev pub suit_control : List (Option Kind) → Option Kind → Bool
 suit_control ms (Some (ProcedureKind ts)) = all_suit ms ts
 suit_control ms _ = false
@@ -64,7 +79,7 @@ suit_control ms _ = false
 -- whether a call is one of what there is, with arguments as it takes them
 abbrev pub is_call_of : SourceUnit → (who : Option ℕ) → (wanted : Bool) → Target → List (Option Kind) → Bool
 is_call_of u who wanted (target.Own q) ms = fit_procedure ms (slice_get u.procs q)
-is_call_of u who wanted (target.Common d) ms = false
+is_call_of u who wanted (target.Common d) ms = fit_kinds ms (kinds_said (body_at u d))
 is_call_of u who wanted (target.Special k f) ms = suit_control ms (control_of u who k)
 is_call_of u who wanted target.Read ms = all_fit ms []
 is_call_of u who wanted target.Write ms = not wanted && all_fit ms (WordKind ∷ [])

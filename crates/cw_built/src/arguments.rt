@@ -3,9 +3,11 @@ ghost use Rattle.std.specs.Prelude.{◌≡◌, map, option_map, slice_get};
 ghost use Rattle.cw_unit.specs.declared.descriptor.Spec.{out-Spec};
 ghost use Rattle.cw_gen_expr.specs.ReferenceEntries.{parameters_of};
 ghost use Rattle.cw_safety.specs.Kinds.{WordKind, LabelKind, SwitchKind, ProcedureKind, kind_of_param, control_kinds, taken_of, taken_by, same_kind, same_taken, all_same_taken, suits_one};
-ghost use Rattle.cw_built.specs.Arguments.{control_of, kind_of_argument, fits, suits_argument};
+ghost use Rattle.cw_safety.specs.WellFormed.{is_label, is_switch};
+ghost use Rattle.cw_built.specs.Listed.{kind_specified, kinds_specified, kinds_said, body_at};
+ghost use Rattle.cw_built.specs.Arguments.{control_of, common_kind, kind_of_argument, fits, suits_argument};
 
-use cw_unit::descriptor::SpecParam;
+use cw_unit::descriptor::{DescBody, SpecParam};
 use cw_unit::unit::{Param, Unit};
 
 /// An argument that is well formed, or a wrong one.
@@ -17,13 +19,15 @@ pub enum Argument {
     Switch,
     /// A procedure of the unit's own.
     Procedure(u16),
+    /// The procedure of a descriptor, with parameters as it specifies them.
+    Common(u16),
     /// A control parameter of the procedure at work.
     Control(u8),
     Wrong,
 }
 
 /// Whether a parameter takes a word.
-fn takes_word(param: &Param) -> bool
+pub(crate) fn takes_word(param: &Param) -> bool
     ensures value { result ≡ same_kind WordKind (kind_of_param param.now) }
     ensures other { result ≡ same_kind (kind_of_param param.now) WordKind }
 {
@@ -75,7 +79,7 @@ fn takes_same(param: &Param, other: &SpecParam) -> bool
     }
 }
 
-fn take_same(params: &[Param], others: &[SpecParam]) -> bool
+pub(crate) fn take_same(params: &[Param], others: &[SpecParam]) -> bool
     ensures { result ≡ all_same_taken (map taken_of (map kind_of_param params.now)) (map taken_by others.now) }
 {
     match params {
@@ -106,7 +110,7 @@ fn is_same(param: &SpecParam, other: &SpecParam) -> bool
     }
 }
 
-fn are_same(params: &[SpecParam], others: &[SpecParam]) -> bool
+pub(crate) fn are_same(params: &[SpecParam], others: &[SpecParam]) -> bool
     ensures { result ≡ all_same_taken (map taken_by params.now) (map taken_by others.now) }
 {
     match params {
@@ -156,6 +160,40 @@ fn parameter_suits(control: &Param, other: &SpecParam) -> bool
     }
 }
 
+/// The parameters that a descriptor specifies, where it is that of a procedure.
+pub(crate) fn specified(unit: &Unit, descriptor: u16) -> Option<&[SpecParam]>
+    ensures { option_map (λ params. kinds_specified params.now) result ≡ kinds_said (body_at unit.now descriptor) }
+{
+    match unit.descs.as_slice().get(descriptor as usize) {
+        Some(found) => match &found.body {
+            DescBody::Proc(spec) => Some(spec.params.as_slice()),
+            _ => None,
+        },
+        None => None,
+    }
+}
+
+/// Whether a procedure of these specified parameters is as a parameter takes it.
+pub(crate) fn specified_fits(params: &[SpecParam], param: &Param) -> bool
+    ensures { result ≡ same_kind (ProcedureKind (map taken_by params.now)) (kind_of_param param.now) }
+{
+    match param {
+        Param::Proc(_, spec) => are_same(params, spec.params.as_slice()),
+        _ => false,
+    }
+}
+
+/// The same of a descriptor's procedure.
+#[tactic(auto, using(crate::proofs::SpecifiedKinds::specified_kinds))]
+fn common_fits(unit: &Unit, descriptor: u16, param: &Param) -> bool
+    ensures { result ≡ fits (common_kind unit.now descriptor) (kind_of_param param.now) }
+{
+    match specified(unit, descriptor) {
+        Some(params) => specified_fits(params, param),
+        None => false,
+    }
+}
+
 /// Whether an argument is as a parameter takes it.
 pub(crate) fn argument_fits(
     unit: &Unit,
@@ -173,6 +211,7 @@ pub(crate) fn argument_fits(
             Some(found) => procedure_fits(found.params.as_slice(), param),
             None => false,
         },
+        Argument::Common(descriptor) => common_fits(unit, descriptor, param),
         Argument::Control(control) => control_fits(unit, who, control, param),
         Argument::Wrong => false,
     }
@@ -206,7 +245,7 @@ pub(crate) fn argument_suits(
         Argument::Label => matches!(other, SpecParam::Label),
         Argument::Switch => matches!(other, SpecParam::Switch),
         Argument::Control(control) => control_suits(unit, who, control, other),
-        Argument::Procedure(_) | Argument::Wrong => false,
+        Argument::Procedure(_) | Argument::Common(_) | Argument::Wrong => false,
     }
 }
 
@@ -239,5 +278,27 @@ fn control_is_word(unit: &Unit, who: Option<u64>, control: u8) -> bool
     match params.get(place_of_control(params, control)) {
         Some(found) => takes_word(found),
         None => false,
+    }
+}
+
+/// Whether a control parameter is a label.
+pub(crate) fn is_label(unit: &Unit, who: Option<u64>, control: u8) -> bool
+    ensures { result ≡ is_label (control_of unit.now who control) }
+{
+    let params = parameters(unit, who);
+    match params.get(place_of_control(params, control)) {
+        Some(Param::Label(_)) => true,
+        _ => false,
+    }
+}
+
+/// Whether a control parameter is a switch.
+pub(crate) fn is_switch(unit: &Unit, who: Option<u64>, control: u8) -> bool
+    ensures { result ≡ is_switch (control_of unit.now who control) }
+{
+    let params = parameters(unit, who);
+    match params.get(place_of_control(params, control)) {
+        Some(Param::Switch(_)) => true,
+        _ => false,
     }
 }

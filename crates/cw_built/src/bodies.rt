@@ -1,5 +1,5 @@
 //! The test for bodies whose orders do what they mean.
-ghost use Rattle.std.specs.Prelude.{◌≡◌, ◌≤◌, [], Some, None, map};
+ghost use Rattle.std.specs.Prelude.{◌≡◌, ◌≤◌, Some, None, length, map};
 ghost use Rattle.cw_unit.specs.ValidStorage.{IsStorable};
 ghost use Rattle.cw_gen_expr.specs.NamedItems.{has_words};
 ghost use Rattle.cw_gen_unit.specs.BuiltStatements.{is_jump, is_element, are_elements, all_within, is_statement};
@@ -8,7 +8,7 @@ use crate::values::{are_arguments, has_words, is_condition, is_expression, is_re
 use cw_unit::unit::{Dest, Felem, Stmt, Unit};
 
 fn is_jump(unit: &Unit, who: Option<u64>, answer: u8, to: &Dest) -> bool
-    requires none { unit.now.descs ≡ [] }
+    requires few { length unit.now.items ≤ 65535 }
     requires stored { IsStorable unit.now }
     ensures { result ≡ is_jump unit.now (has_words unit.now who) who answer to.now }
 {
@@ -22,7 +22,7 @@ fn is_jump(unit: &Unit, who: Option<u64>, answer: u8, to: &Dest) -> bool
 }
 
 fn is_element(unit: &Unit, who: Option<u64>, answer: u8, scale: u8, element: &Felem) -> bool
-    requires none { unit.now.descs ≡ [] }
+    requires few { length unit.now.items ≤ 65535 }
     requires stored { IsStorable unit.now }
     ensures { result ≡ is_element unit.now (has_words unit.now who) who answer scale element.now }
 {
@@ -41,7 +41,7 @@ fn is_element(unit: &Unit, who: Option<u64>, answer: u8, scale: u8, element: &Fe
 }
 
 fn are_elements(unit: &Unit, who: Option<u64>, answer: u8, scale: u8, elements: &[Felem]) -> bool
-    requires none { unit.now.descs ≡ [] }
+    requires few { length unit.now.items ≤ 65535 }
     requires stored { IsStorable unit.now }
     ensures { result ≡ are_elements unit.now (has_words unit.now who) who answer scale elements.now }
 {
@@ -57,7 +57,7 @@ fn are_elements(unit: &Unit, who: Option<u64>, answer: u8, scale: u8, elements: 
 #[cycle(statement)]
 #[tactic(auto, using(crate::proofs::Levels::levels))]
 pub(crate) fn is_statement(unit: &Unit, who: Option<u64>, answer: u8, s: &Stmt, levels: u8) -> bool
-    requires none { unit.now.descs ≡ [] }
+    requires few { length unit.now.items ≤ 65535 }
     requires stored { IsStorable unit.now }
     ensures { result ≡ is_statement unit.now (has_words unit.now who) who answer s.now levels }
 {
@@ -98,7 +98,7 @@ pub(crate) fn is_statement(unit: &Unit, who: Option<u64>, answer: u8, s: &Stmt, 
 
 #[cycle(statement)]
 fn are_statements(unit: &Unit, who: Option<u64>, answer: u8, members: &[Stmt], levels: u8) -> bool
-    requires none { unit.now.descs ≡ [] }
+    requires few { length unit.now.items ≤ 65535 }
     requires stored { IsStorable unit.now }
     ensures { result ≡ all_within unit.now (has_words unit.now who) who answer levels (map (is_statement unit.now (has_words unit.now who) who answer) members.now) }
 {

@@ -1,14 +1,17 @@
 //! The test for well-formed expressions.
-ghost use Rattle.std.specs.Prelude.{◌≡◌, ◌∷◌, [], map};
+ghost use Rattle.std.specs.Prelude.{◌≡◌, ◌∷◌, [], map, IsTrue};
 ghost use Rattle.cw_safety.specs.Kinds.{WordKind, kind_of_param, taken_by};
 ghost use Rattle.cw_safety.specs.WellFormed.{is_expression, is_condition, is_spot, is_reference, kind_of};
+ghost use Rattle.cw_built.specs.Listed.{are_named, kinds_specified, kinds_said, body_at};
 ghost use Rattle.cw_built.specs.Built.{alone};
-ghost use Rattle.cw_built.specs.Arguments.{at_work, argument_if, control_of, kind_of_argument, all_fit, all_suit, suit_control, is_call_of};
+ghost use Rattle.cw_built.specs.Arguments.{at_work, argument_if, control_of, kind_of_argument, all_fit, all_suit, fit_kinds, suit_control, is_call_of};
 
 use crate::arguments::{
     Argument, argument_fits, argument_is_word, argument_suits, parameters, place_of_control,
+    specified,
 };
-use crate::labels::{reaches_goal, reaches_switch};
+use crate::labels::{reaches_goal, reaches_switch, says_switch};
+use crate::specified::argument_meets;
 use cw_unit::descriptor::SpecParam;
 use cw_unit::unit::{Arg, Cond, Expr, Param, Ref, Spot, Target, Unit};
 
@@ -21,7 +24,7 @@ fn argument_if(is_formed: bool, argument: Argument) -> Argument
 /// Whether an expression is well formed.
 #[cycle(tree)]
 pub(crate) fn is_expression(unit: &Unit, who: Option<u64>, e: &Expr) -> bool
-    requires { unit.now.defined ≡ [] }
+    requires { IsTrue (are_named unit.now.descs) }
     ensures { result ≡ is_expression (alone unit.now) 0 (at_work who) e.now }
 {
     match e {
@@ -50,7 +53,7 @@ pub(crate) fn is_expression(unit: &Unit, who: Option<u64>, e: &Expr) -> bool
 /// Whether a condition is well formed.
 #[cycle(tree)]
 pub(crate) fn is_condition(unit: &Unit, who: Option<u64>, c: &Cond) -> bool
-    requires { unit.now.defined ≡ [] }
+    requires { IsTrue (are_named unit.now.descs) }
     ensures { result ≡ is_condition (alone unit.now) 0 (at_work who) c.now }
 {
     match c {
@@ -64,7 +67,7 @@ pub(crate) fn is_condition(unit: &Unit, who: Option<u64>, c: &Cond) -> bool
 /// Whether a reference is well formed.
 #[cycle(tree)]
 pub(crate) fn is_reference(unit: &Unit, who: Option<u64>, r: &Ref) -> bool
-    requires { unit.now.defined ≡ [] }
+    requires { IsTrue (are_named unit.now.descs) }
     ensures { result ≡ is_reference (alone unit.now) 0 (at_work who) r.now }
 {
     is_spot(unit, who, &r.at)
@@ -72,7 +75,7 @@ pub(crate) fn is_reference(unit: &Unit, who: Option<u64>, r: &Ref) -> bool
 
 #[cycle(tree)]
 fn is_spot(unit: &Unit, who: Option<u64>, s: &Spot) -> bool
-    requires { unit.now.defined ≡ [] }
+    requires { IsTrue (are_named unit.now.descs) }
     ensures { result ≡ is_spot (alone unit.now) 0 (at_work who) s.now }
 {
     match s {
@@ -91,7 +94,7 @@ fn is_spot(unit: &Unit, who: Option<u64>, s: &Spot) -> bool
 /// What an argument is.
 #[cycle(tree)]
 fn argument(unit: &Unit, who: Option<u64>, a: &Arg) -> Argument
-    requires { unit.now.defined ≡ [] }
+    requires { IsTrue (are_named unit.now.descs) }
     ensures { kind_of_argument unit.now who result ≡ kind_of (alone unit.now) 0 (at_work who) a.now }
 {
     match a {
@@ -100,8 +103,11 @@ fn argument(unit: &Unit, who: Option<u64>, a: &Arg) -> Argument
         Arg::Array(..) | Arg::Same(_) | Arg::Base(_) => Argument::Word,
         Arg::Goal(goal) => argument_if(reaches_goal(unit, who, *goal), Argument::Label),
         Arg::Switch(switch) => { argument_if(reaches_switch(unit, who, *switch), Argument::Switch) }
-        Arg::CommonSwitch(_) | Arg::CommonProc(_) => Argument::Wrong,
+        Arg::CommonSwitch(descriptor) => {
+            argument_if(says_switch(unit, *descriptor), Argument::Switch)
+        }
         Arg::Proc(procedure) => Argument::Procedure(*procedure),
+        Arg::CommonProc(descriptor) => Argument::Common(*descriptor),
         Arg::Special(control) => Argument::Control(*control),
     }
 }
@@ -109,7 +115,7 @@ fn argument(unit: &Unit, who: Option<u64>, a: &Arg) -> Argument
 /// Whether arguments are as parameters take them.
 #[cycle(tree)]
 fn arguments_fit(unit: &Unit, who: Option<u64>, arguments: &[Arg], params: &[Param]) -> bool
-    requires { unit.now.defined ≡ [] }
+    requires { IsTrue (are_named unit.now.descs) }
     ensures { result ≡ all_fit (map (kind_of (alone unit.now) 0 (at_work who)) arguments.now) (map kind_of_param params.now) }
 {
     let mut rest = params;
@@ -131,7 +137,7 @@ fn arguments_fit(unit: &Unit, who: Option<u64>, arguments: &[Arg], params: &[Par
 /// Whether arguments are as the parameters of a procedure parameter take them.
 #[cycle(tree)]
 fn arguments_suit(unit: &Unit, who: Option<u64>, arguments: &[Arg], params: &[SpecParam]) -> bool
-    requires { unit.now.defined ≡ [] }
+    requires { IsTrue (are_named unit.now.descs) }
     ensures { result ≡ all_suit (map (kind_of (alone unit.now) 0 (at_work who)) arguments.now) (map taken_by params.now) }
 {
     let mut rest = params;
@@ -150,10 +156,44 @@ fn arguments_suit(unit: &Unit, who: Option<u64>, arguments: &[Arg], params: &[Sp
     rest.is_empty()
 }
 
+/// Whether arguments are as specified parameters take them.
+#[cycle(tree)]
+fn arguments_meet(unit: &Unit, who: Option<u64>, arguments: &[Arg], params: &[SpecParam]) -> bool
+    requires { IsTrue (are_named unit.now.descs) }
+    ensures { result ≡ all_fit (map (kind_of (alone unit.now) 0 (at_work who)) arguments.now) (kinds_specified params.now) }
+{
+    let mut rest = params;
+    for one in arguments {
+        let found = argument(unit, who, one);
+        match rest {
+            [] => return false,
+            [param, others @ ..] => {
+                if !argument_meets(unit, who, found, param) {
+                    return false;
+                }
+                rest = others;
+            }
+        }
+    }
+    rest.is_empty()
+}
+
+/// Whether a descriptor specifies a procedure that takes these arguments.
+#[cycle(tree)]
+fn common_takes(unit: &Unit, who: Option<u64>, descriptor: u16, arguments: &[Arg]) -> bool
+    requires { IsTrue (are_named unit.now.descs) }
+    ensures { result ≡ fit_kinds (map (kind_of (alone unit.now) 0 (at_work who)) arguments.now) (kinds_said (body_at unit.now descriptor)) }
+{
+    match specified(unit, descriptor) {
+        Some(params) => arguments_meet(unit, who, arguments, params),
+        None => false,
+    }
+}
+
 /// Whether there is one argument, a word.
 #[cycle(tree)]
 fn is_one_word(unit: &Unit, who: Option<u64>, arguments: &[Arg]) -> bool
-    requires { unit.now.defined ≡ [] }
+    requires { IsTrue (are_named unit.now.descs) }
     ensures { result ≡ all_fit (map (kind_of (alone unit.now) 0 (at_work who)) arguments.now) (WordKind ∷ []) }
 {
     match arguments {
@@ -167,7 +207,7 @@ fn is_one_word(unit: &Unit, who: Option<u64>, arguments: &[Arg]) -> bool
 /// Whether a control parameter is a procedure that takes these arguments.
 #[cycle(tree)]
 fn control_takes(unit: &Unit, who: Option<u64>, control: u8, arguments: &[Arg]) -> bool
-    requires { unit.now.defined ≡ [] }
+    requires { IsTrue (are_named unit.now.descs) }
     ensures { result ≡ suit_control (map (kind_of (alone unit.now) 0 (at_work who)) arguments.now) (control_of unit.now who control) }
 {
     let params = parameters(unit, who);
@@ -188,7 +228,7 @@ pub(crate) fn is_call(
     target: &Target,
     arguments: &[Arg],
 ) -> bool
-    requires { unit.now.defined ≡ [] }
+    requires { IsTrue (are_named unit.now.descs) }
     ensures { result ≡ is_call_of unit.now who wanted target.now (map (kind_of (alone unit.now) 0 (at_work who)) arguments.now) }
 {
     match target {
@@ -196,7 +236,7 @@ pub(crate) fn is_call(
             Some(found) => arguments_fit(unit, who, arguments, found.params.as_slice()),
             None => false,
         },
-        Target::Common(_) => false,
+        Target::Common(descriptor) => common_takes(unit, who, *descriptor, arguments),
         Target::Special(control, _) => control_takes(unit, who, *control, arguments),
         Target::Read => arguments.is_empty(),
         Target::Write => !wanted && is_one_word(unit, who, arguments),

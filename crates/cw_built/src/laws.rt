@@ -1,12 +1,14 @@
 //! What the tests tell: laws that need only the definitions.
-ghost use Rattle.std.specs.Prelude.{◌≡◌, ◌⊎◌, ℕ, ◌<◌, ◌≤◌, List, [], ◌∷◌, length, false, All, IsTrue, Some, slice_get};
+ghost use Rattle.std.specs.Prelude.{◌≡◌, ◌≢◌, ◌⊎◌, ℕ, ◌<◌, ◌≤◌, List, [], length, false, All, IsTrue, Some, slice_get};
 ghost use Rattle.cw_unit.specs.declared.unit.Unit.{Unit as SourceUnit};
+ghost use Rattle.cw_unit.specs.declared.unit.Def.{Def};
 ghost use Rattle.cw_unit.specs.declared.unit.Goal.{Goal};
 ghost use Rattle.cw_unit.specs.declared.layout.Limits.{Limits};
 ghost use Rattle.cw_unit.specs.declared.layout.Map.{Map};
 ghost use Rattle.cw_unit.specs.HasLayout.{HasLayout};
 ghost use Rattle.cw_unit.specs.Program.{program_at};
-ghost use Rattle.cw_safety.specs.WellFormed.{is_well_formed};
+ghost use Rattle.cw_safety.specs.WellFormed.{WellFormed};
+ghost use Rattle.cw_comm.specs.Clashes.{Agree};
 ghost use Rattle.cw_order.specs.declared.order.Orders.{Orders};
 ghost use Rattle.cw_order.specs.declared.order.Order.{Order};
 ghost use Rattle.cw_order.specs.HasCode.{HasCode};
@@ -16,15 +18,18 @@ ghost use Rattle.cw_order.specs.Activations.{Callable};
 ghost use Rattle.cw_order.specs.OrderProgram.{Tables, order_at, place_of};
 ghost use Rattle.cw_gen_expr.specs.UnitTables.{tables_of};
 ghost use Rattle.cw_gen_unit.specs.ReferenceUnits.{unit_orders, orders_program};
+ghost use Rattle.cw_gen_unit.specs.BuiltUnits.{are_built};
 ghost use Rattle.cw_built.specs.Built.{is_built};
+ghost use Rattle.cw_built.specs.Shared.{faces_of, Defines};
 ghost use Rattle.cw_built.specs.Coded.{have_code, ends_block};
 
-/// A unit that passes the test is well formed alone at every storage map and limits, has a layout, and shares nothing with other segments.
+/// Units that pass the test and agree are well formed together at every storage map and limits. Each of them has a layout, and what it defines in
+/// common with others is there.
 pub fn built_units()
-    ensures well_formed { (u : SourceUnit) (m : Map) (limits : Limits) → IsTrue (is_built u) → IsTrue (is_well_formed (program_at (u ∷ []) m limits)) }
+    ensures well_formed { (us : List SourceUnit) (m : Map) (limits : Limits) → us ≢ [] → All (λ u. IsTrue (is_built u)) us → Agree (faces_of us) → WellFormed (program_at us m limits) }
+    ensures built { (us : List SourceUnit) → All (λ u. IsTrue (is_built u)) us → IsTrue (are_built us) }
     ensures layout { (u : SourceUnit) → IsTrue (is_built u) → HasLayout u }
-    ensures lists_nothing { (u : SourceUnit) → IsTrue (is_built u) → u.descs ≡ [] }
-    ensures defines_nothing { (u : SourceUnit) → IsTrue (is_built u) → u.defined ≡ [] }
+    ensures defined { (u : SourceUnit) (k d : ℕ) (def : Def) → IsTrue (is_built u) → slice_get u.defined k ≡ Some (d, def) → Defines u d def }
 {}
 
 /// Orders that pass the test have code.
@@ -32,15 +37,15 @@ pub fn coded()
     ensures { (orders : Orders) → IsTrue (have_code orders) → All HasCode orders.list }
 {}
 
-/// What code needs of the program of the orders of such a unit, where they pass the test: each order has code, lines are words, switches
+/// What code needs of the program of the orders of such units, where they pass the test: each order has code, lines are words, switches
 /// have few goals, a mark stands at the first order or at one that begins a block, and calls are in order.
 pub fn programs()
-    ensures codes { (u : SourceUnit) (m : Map) (limits : Limits) (room g place : ℕ) (o : Order) → IsTrue (have_code (unit_orders u)) → order_at (orders_program (u ∷ []) m limits room) g place ≡ Some o → HasCode o }
-    ensures lines { (u : SourceUnit) (m : Map) (limits : Limits) (room : ℕ) → IsTrue (have_code (unit_orders u)) → LinesFit (orders_program (u ∷ []) m limits room) }
-    ensures tables { (u : SourceUnit) (m : Map) (limits : Limits) (room g : ℕ) (t : Tables) (o : Orders) → slice_get (orders_program (u ∷ []) m limits room).tables g ≡ Some t → slice_get (orders_program (u ∷ []) m limits room).units g ≡ Some o → NamesAgree t o }
-    ensures switches { (u : SourceUnit) (m : Map) (limits : Limits) (room g n : ℕ) (o : Orders) (gs : List Goal) → IsTrue (have_code (unit_orders u)) → slice_get (orders_program (u ∷ []) m limits room).units g ≡ Some o → slice_get o.switches n ≡ Some gs → length gs < 32768 }
-    ensures marks { (u : SourceUnit) (m : Map) (limits : Limits) (room g mark place : ℕ) → IsTrue (have_code (unit_orders u)) → place_of (orders_program (u ∷ []) m limits room) g mark ≡ Some place → (place ≡ 0) ⊎ ((o : Order) × (order_at (orders_program (u ∷ []) m limits room) g place ≡ Some o) × (ends_block o ≡ false)) }
-    ensures callable { (u : SourceUnit) (m : Map) (limits : Limits) (room : ℕ) → IsTrue (is_built u) → IsTrue (have_code (unit_orders u)) → limits.frames ≤ limits.area → Callable (orders_program (u ∷ []) m limits room) }
+    ensures codes { (us : List SourceUnit) (m : Map) (limits : Limits) (room g place : ℕ) (o : Order) → All (λ u. IsTrue (have_code (unit_orders u))) us → order_at (orders_program us m limits room) g place ≡ Some o → HasCode o }
+    ensures lines { (us : List SourceUnit) (m : Map) (limits : Limits) (room : ℕ) → All (λ u. IsTrue (have_code (unit_orders u))) us → LinesFit (orders_program us m limits room) }
+    ensures tables { (us : List SourceUnit) (m : Map) (limits : Limits) (room g : ℕ) (t : Tables) (o : Orders) → slice_get (orders_program us m limits room).tables g ≡ Some t → slice_get (orders_program us m limits room).units g ≡ Some o → NamesAgree t o }
+    ensures switches { (us : List SourceUnit) (m : Map) (limits : Limits) (room g n : ℕ) (o : Orders) (gs : List Goal) → All (λ u. IsTrue (have_code (unit_orders u))) us → slice_get (orders_program us m limits room).units g ≡ Some o → slice_get o.switches n ≡ Some gs → length gs < 32768 }
+    ensures marks { (us : List SourceUnit) (m : Map) (limits : Limits) (room g mark place : ℕ) → All (λ u. IsTrue (have_code (unit_orders u))) us → place_of (orders_program us m limits room) g mark ≡ Some place → (place ≡ 0) ⊎ ((o : Order) × (order_at (orders_program us m limits room) g place ≡ Some o) × (ends_block o ≡ false)) }
+    ensures callable { (us : List SourceUnit) (m : Map) (limits : Limits) (room : ℕ) → All (λ u. IsTrue (is_built u)) us → All (λ u. IsTrue (have_code (unit_orders u))) us → limits.frames ≤ limits.area → Callable (orders_program us m limits room) }
 {}
 
 /// The lists of a unit's orders tell the same of its labels, procedures and switches as its tables.

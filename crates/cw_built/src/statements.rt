@@ -1,16 +1,17 @@
 //! The test for well-formed statements.
-ghost use Rattle.std.specs.Prelude.{◌≡◌, [], Some, None};
-ghost use Rattle.cw_safety.specs.WellFormed.{is_element, are_elements, is_goal, is_label, is_switch, is_statement, are_procedures as spec_are_procedures, is_well_formed};
-ghost use Rattle.cw_built.specs.Built.{alone};
-ghost use Rattle.cw_built.specs.Arguments.{at_work, control_of};
+ghost use Rattle.std.specs.Prelude.{◌≡◌, IsTrue, Some, None};
+ghost use Rattle.cw_safety.specs.WellFormed.{is_element, are_elements, is_goal, is_statement, are_procedures as spec_are_procedures};
+ghost use Rattle.cw_built.specs.Listed.{are_named};
+ghost use Rattle.cw_built.specs.Built.{alone, is_formed};
+ghost use Rattle.cw_built.specs.Arguments.{at_work};
 
-use crate::arguments::{parameters, place_of_control};
+use crate::arguments::{is_label, is_switch};
 use crate::formed::{is_call, is_condition, is_expression, is_reference};
-use crate::labels::{reaches_goal, reaches_switch};
-use cw_unit::unit::{Dest, Felem, Param, Stmt, Unit};
+use crate::labels::{reaches_goal, reaches_switch, says_switch};
+use cw_unit::unit::{Dest, Felem, Stmt, Unit};
 
 fn is_element(unit: &Unit, who: Option<u64>, element: &Felem) -> bool
-    requires { unit.now.defined ≡ [] }
+    requires { IsTrue (are_named unit.now.descs) }
     ensures { result ≡ is_element (alone unit.now) 0 (at_work who) element.now }
 {
     match element {
@@ -25,7 +26,7 @@ fn is_element(unit: &Unit, who: Option<u64>, element: &Felem) -> bool
 }
 
 fn are_elements(unit: &Unit, who: Option<u64>, elements: &[Felem]) -> bool
-    requires { unit.now.defined ≡ [] }
+    requires { IsTrue (are_named unit.now.descs) }
     ensures { result ≡ are_elements (alone unit.now) 0 (at_work who) elements.now }
 {
     for element in elements {
@@ -36,31 +37,10 @@ fn are_elements(unit: &Unit, who: Option<u64>, elements: &[Felem]) -> bool
     true
 }
 
-/// Whether a control parameter is a label.
-fn is_label(unit: &Unit, who: Option<u64>, control: u8) -> bool
-    ensures { result ≡ is_label (control_of unit.now who control) }
-{
-    let params = parameters(unit, who);
-    match params.get(place_of_control(params, control)) {
-        Some(Param::Label(_)) => true,
-        _ => false,
-    }
-}
-
-/// Whether a control parameter is a switch.
-fn is_switch(unit: &Unit, who: Option<u64>, control: u8) -> bool
-    ensures { result ≡ is_switch (control_of unit.now who control) }
-{
-    let params = parameters(unit, who);
-    match params.get(place_of_control(params, control)) {
-        Some(Param::Switch(_)) => true,
-        _ => false,
-    }
-}
-
 /// Whether a jump goes to a label that its body reaches.
+#[tactic(auto, using(crate::proofs::Judged::judged))]
 fn is_jump(unit: &Unit, who: Option<u64>, to: &Dest) -> bool
-    requires { unit.now.defined ≡ [] }
+    requires { IsTrue (are_named unit.now.descs) }
     ensures { result ≡ is_goal (alone unit.now) 0 (at_work who) to.now }
 {
     match to {
@@ -69,7 +49,9 @@ fn is_jump(unit: &Unit, who: Option<u64>, to: &Dest) -> bool
         Dest::Switch(switch, e) => {
             is_expression(unit, who, e) && reaches_switch(unit, who, *switch)
         }
-        Dest::CommonSwitch(_, _) => false,
+        Dest::CommonSwitch(descriptor, e) => {
+            is_expression(unit, who, e) && says_switch(unit, *descriptor)
+        }
         Dest::SpecialSwitch(control, e) => {
             is_expression(unit, who, e) && is_switch(unit, who, *control)
         }
@@ -78,7 +60,7 @@ fn is_jump(unit: &Unit, who: Option<u64>, to: &Dest) -> bool
 
 /// Whether a statement is well formed.
 fn is_statement(unit: &Unit, who: Option<u64>, s: &Stmt) -> bool
-    requires { unit.now.defined ≡ [] }
+    requires { IsTrue (are_named unit.now.descs) }
     ensures { result ≡ is_statement (alone unit.now) 0 (at_work who) s.now }
 {
     match s {
@@ -113,7 +95,7 @@ fn is_statement(unit: &Unit, who: Option<u64>, s: &Stmt) -> bool
 }
 
 fn are_procedures(unit: &Unit) -> bool
-    requires { unit.now.defined ≡ [] }
+    requires { IsTrue (are_named unit.now.descs) }
     ensures { result ≡ spec_are_procedures (alone unit.now) 0 0 unit.now.procs }
 {
     let procedures = unit.procs.as_slice();
@@ -127,11 +109,10 @@ fn are_procedures(unit: &Unit) -> bool
     true
 }
 
-/// Whether a unit that shares nothing with others is well formed. Time grows with its trees, and for each jump with the body that sets
-/// its label.
-pub(crate) fn is_well_formed(unit: &Unit) -> bool
-    requires { unit.now.defined ≡ [] }
-    ensures { result ≡ is_well_formed (alone unit.now) }
+/// Whether the bodies of a unit are well formed. Time grows with its trees, and for each jump with the body that sets its label.
+pub(crate) fn is_formed(unit: &Unit) -> bool
+    requires { IsTrue (are_named unit.now.descs) }
+    ensures { result ≡ is_formed unit.now }
 {
     is_statement(unit, None, &unit.body) && are_procedures(unit)
 }

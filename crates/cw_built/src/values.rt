@@ -1,5 +1,5 @@
 //! The test for expressions whose orders do what they mean.
-ghost use Rattle.std.specs.Prelude.{◌≡◌, ◌≤◌, [], map, slice_get};
+ghost use Rattle.std.specs.Prelude.{◌≡◌, ◌≤◌, length, map, slice_get};
 ghost use Rattle.cw_unit.specs.Scales.{best_scale_within, operand_scale};
 ghost use Rattle.cw_unit.specs.ValidStorage.{IsStorable};
 ghost use Rattle.cw_gen_expr.specs.NamedItems.{has_words};
@@ -40,7 +40,7 @@ fn is_long(unit: &Unit, item: u32, words: u32) -> bool
 
 /// Whether an item has so many words, and a body may name it.
 pub(crate) fn has_words(unit: &Unit, who: Option<u64>, item: u32, words: u32) -> bool
-    requires none { unit.now.descs ≡ [] }
+    requires few { length unit.now.items ≤ 65535 }
     requires stored { IsStorable unit.now }
     ensures { result ≡ has_words unit.now who item words }
 {
@@ -95,7 +95,7 @@ fn natural(unit: &Unit, who: Option<u64>, e: &Expr) -> u8
 #[cycle(values)]
 #[tactic(auto, using(crate::proofs::Levels::levels))]
 fn value_at(unit: &Unit, who: Option<u64>, e: &Expr, scale: u8, levels: u8) -> bool
-    requires none { unit.now.descs ≡ [] }
+    requires few { length unit.now.items ≤ 65535 }
     requires stored { IsStorable unit.now }
     requires scaled { scale ≤ 15 }
     ensures { result ≡ (built_value unit.now (has_words unit.now who) e.now).at scale levels }
@@ -148,7 +148,7 @@ fn value_at(unit: &Unit, who: Option<u64>, e: &Expr, scale: u8, levels: u8) -> b
 /// Whether a condition is built.
 #[cycle(values)]
 pub(crate) fn is_condition(unit: &Unit, who: Option<u64>, c: &Cond) -> bool
-    requires none { unit.now.descs ≡ [] }
+    requires few { length unit.now.items ≤ 65535 }
     requires stored { IsStorable unit.now }
     ensures { result ≡ is_condition unit.now (has_words unit.now who) c.now }
 {
@@ -166,7 +166,7 @@ pub(crate) fn is_condition(unit: &Unit, who: Option<u64>, c: &Cond) -> bool
 /// Whether a reference is built.
 #[cycle(values)]
 pub(crate) fn is_reference(unit: &Unit, who: Option<u64>, r: &Ref) -> bool
-    requires none { unit.now.descs ≡ [] }
+    requires few { length unit.now.items ≤ 65535 }
     requires stored { IsStorable unit.now }
     ensures { result ≡ (built_reference unit.now (has_words unit.now who) r.now).good }
 {
@@ -175,7 +175,7 @@ pub(crate) fn is_reference(unit: &Unit, who: Option<u64>, r: &Ref) -> bool
 
 #[cycle(values)]
 fn is_spot(unit: &Unit, who: Option<u64>, s: &Spot) -> bool
-    requires none { unit.now.descs ≡ [] }
+    requires few { length unit.now.items ≤ 65535 }
     requires stored { IsStorable unit.now }
     ensures { result ≡ is_spot unit.now (has_words unit.now who) s.now }
 {
@@ -197,7 +197,7 @@ fn is_spot(unit: &Unit, who: Option<u64>, s: &Spot) -> bool
 
 #[cycle(values)]
 fn is_argument(unit: &Unit, who: Option<u64>, a: &Arg) -> bool
-    requires none { unit.now.descs ≡ [] }
+    requires few { length unit.now.items ≤ 65535 }
     requires stored { IsStorable unit.now }
     ensures { result ≡ is_argument unit.now (has_words unit.now who) a.now }
 {
@@ -213,7 +213,7 @@ fn is_argument(unit: &Unit, who: Option<u64>, a: &Arg) -> bool
 /// Whether arguments are built.
 #[cycle(values)]
 pub(crate) fn are_arguments(unit: &Unit, who: Option<u64>, arguments: &[Arg]) -> bool
-    requires none { unit.now.descs ≡ [] }
+    requires few { length unit.now.items ≤ 65535 }
     requires stored { IsStorable unit.now }
     ensures { result ≡ all_built (map (is_argument unit.now (has_words unit.now who)) arguments.now) }
 {
@@ -227,7 +227,7 @@ pub(crate) fn are_arguments(unit: &Unit, who: Option<u64>, arguments: &[Arg]) ->
 
 /// Whether an expression is built at a scale of at most 15, behind which so many choices may end.
 pub(crate) fn is_expression(unit: &Unit, who: Option<u64>, e: &Expr, scale: u8, levels: u8) -> bool
-    requires none { unit.now.descs ≡ [] }
+    requires few { length unit.now.items ≤ 65535 }
     requires stored { IsStorable unit.now }
     ensures { result ≡ is_expression unit.now (has_words unit.now who) e.now scale levels }
 {

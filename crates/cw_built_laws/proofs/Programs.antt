@@ -1,5 +1,5 @@
--- The program of the orders of one unit is one that code can carry out.
-use Rattle.std.proofs.Common.{◌≡◌, ◌⊎◌, inl, inr, ℕ, ◌<◌, ◌≤◌, [], ◌∷◌, false, IsTrue, Some}
+-- The program of the orders of units is one that code can carry out.
+use Rattle.std.proofs.Common.{◌≡◌, ◌⊎◌, inl, inr, ℕ, ◌<◌, ◌≤◌, List, All, false, IsTrue, Some}
 use Rattle.cw_unit.specs.declared.unit.Unit.{Unit as SourceUnit}
 use Rattle.cw_unit.specs.declared.layout.Limits.{Limits}
 use Rattle.cw_unit.specs.declared.layout.Map.{Map}
@@ -12,7 +12,6 @@ use Rattle.cw_follow.specs.Placing.{EndsBlock, Codable}
 use Rattle.cw_built.specs.Built.{is_built}
 use Rattle.cw_built.specs.Coded.{ends_block, have_code}
 use Rattle.cw_built.proofs.Programs.{codes, lines, tables, paired, switches, entries, marks, callable}
-use Rattle.cw_built.proofs.Units.{defines-nothing}
 
 begins-block : (o : Order) → ends_block o ≡ false → EndsBlock o → ⊥
 begins-block order.Load e t = absurd (cc)
@@ -22,23 +21,23 @@ begins-block order.Sub e t = absurd (cc)
 begins-block (order.JumpIf c m) e t = absurd (cc)
 begins-block _ e t = t
 
-module _ (u : SourceUnit) (m : Map) (limits : Limits) (room : ℕ) (h : IsTrue (have_code (unit_orders u))) where
-  marked : (g mark place : ℕ) → (place ≡ 0) ⊎ ((o : Order) × (order_at (orders_program (u ∷ []) m limits room) g place ≡ Some o) × (ends_block o ≡ false))
-      → (place ≡ 0) ⊎ ((o : Order) × (order_at (orders_program (u ∷ []) m limits room) g place ≡ Some o) × (EndsBlock o → ⊥))
+module _ (us : List SourceUnit) (m : Map) (limits : Limits) (room : ℕ) (h : All (λ u. IsTrue (have_code (unit_orders u))) us) where
+  marked : (g mark place : ℕ) → (place ≡ 0) ⊎ ((o : Order) × (order_at (orders_program us m limits room) g place ≡ Some o) × (ends_block o ≡ false))
+      → (place ≡ 0) ⊎ ((o : Order) × (order_at (orders_program us m limits room) g place ≡ Some o) × (EndsBlock o → ⊥))
   marked g mark place (inl e) = inl e
   marked g mark place (inr b) = inr (b.0, b.1, begins-block b.0 b.2)
 
-  pub codable : IsTrue (is_built u) → ConstantsFit (orders_program (u ∷ []) m limits room) → limits.frames ≤ limits.area → limits.depth < 65536 → room ≤ 32000 → Codable (orders_program (u ∷ []) m limits room)
-  codable built constants frames depth few = record {
-    codes = codes u m limits room h;
+  pub codable : All (λ u. IsTrue (is_built u)) us → ConstantsFit (orders_program us m limits room) → limits.frames ≤ limits.area → limits.depth < 65536 → room ≤ 32000 → Codable (orders_program us m limits room)
+  codable passed constants frames depth few = record {
+    codes = codes us m limits room h;
     constants = constants;
-    lines = lines u m limits room h;
-    tables = tables u m limits room;
-    paired = paired u m limits room;
-    switches = switches u m limits room h;
-    callable = callable u m limits room h (defines-nothing u built) frames;
-    entries = entries u m limits room h;
-    marks = λ g mark place e. marked g mark place (marks u m limits room h g mark place e);
+    lines = lines us m limits room h;
+    tables = tables us m limits room;
+    paired = paired us m limits room;
+    switches = switches us m limits room h;
+    callable = callable us m limits room h passed frames;
+    entries = entries us m limits room;
+    marks = λ g mark place e. marked g mark place (marks us m limits room h g mark place e);
     frames = frames;
     depth = depth;
     room = few;

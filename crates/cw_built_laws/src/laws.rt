@@ -1,6 +1,7 @@
 //! What the tests for units and their orders tell.
-ghost use Rattle.std.specs.Prelude.{◌≡◌, ℕ, ◌<◌, ◌≤◌, List, [], ◌∷◌, All, IsTrue};
+ghost use Rattle.std.specs.Prelude.{◌≡◌, ◌≢◌, ℕ, ◌<◌, ◌≤◌, List, [], All, IsTrue, Some, slice_get};
 ghost use Rattle.cw_unit.specs.declared.unit.Unit.{Unit as SourceUnit};
+ghost use Rattle.cw_unit.specs.declared.unit.Def.{Def};
 ghost use Rattle.cw_unit.specs.declared.layout.Limits.{Limits};
 ghost use Rattle.cw_unit.specs.declared.layout.Map.{Map};
 ghost use Rattle.cw_unit.specs.HasLayout.{HasLayout};
@@ -11,21 +12,21 @@ ghost use Rattle.cw_order.specs.HasCode.{HasCode};
 ghost use Rattle.cw_gen_unit.specs.BuiltUnits.{AllBuilt};
 ghost use Rattle.cw_gen_unit.specs.ReferenceUnits.{unit_orders, orders_program};
 ghost use Rattle.cw_follow.specs.Placing.{Codable};
+ghost use Rattle.cw_comm.specs.Clashes.{Agree};
+ghost use Rattle.cw_built.specs.Shared.{faces_of, Defines};
 ghost use Rattle.cw_built.specs.Built.{is_built};
 ghost use Rattle.cw_built.specs.Coded.{have_code};
 
 use cw_carry_run::laws::{order_words, tested};
 
-/// A unit that passes the test is well formed alone at every storage map and limits, has orders that do what it means, and a layout; it
-/// shares nothing with other segments.
+/// Units that pass the test and agree are well formed together at every storage map and limits, and have orders that do what they mean. Each of them
+/// has a layout, and what it defines in common with others is there.
 pub fn built_units()
-    ensures well_formed { (u : SourceUnit) (m : Map) (limits : Limits) → IsTrue (is_built u) → WellFormed (program_at (u ∷ []) m limits) }
-    ensures built { (u : SourceUnit) → IsTrue (is_built u) → AllBuilt (u ∷ []) }
+    ensures well_formed { (us : List SourceUnit) (m : Map) (limits : Limits) → us ≢ [] → All (λ u. IsTrue (is_built u)) us → Agree (faces_of us) → WellFormed (program_at us m limits) }
+    ensures built { (us : List SourceUnit) → All (λ u. IsTrue (is_built u)) us → AllBuilt us }
     ensures layout { (u : SourceUnit) → IsTrue (is_built u) → HasLayout u }
-    ensures lists_nothing { (u : SourceUnit) → IsTrue (is_built u) → u.descs ≡ [] }
-    ensures defines_nothing { (u : SourceUnit) → IsTrue (is_built u) → u.defined ≡ [] }
+    ensures defined { (u : SourceUnit) (k d : ℕ) (def : Def) → IsTrue (is_built u) → slice_get u.defined k ≡ Some (d, def) → Defines u d def }
 {
-    cw_safety::tested();
     tested();
 }
 
@@ -36,10 +37,10 @@ pub fn coded()
     cw_built::laws::coded();
 }
 
-/// The program of the orders of such a unit, which pass the test too, is one that code can carry out, at every storage map and at limits
+/// The program of the orders of such units, which pass the test too, is one that code can carry out, at every storage map and at limits
 /// and room as a run has them.
 pub fn codable()
-    ensures { (u : SourceUnit) (m : Map) (limits : Limits) (room : ℕ) → IsTrue (is_built u) → IsTrue (have_code (unit_orders u)) → limits.frames ≤ limits.area → limits.depth < 65536 → room ≤ 32000 → Codable (orders_program (u ∷ []) m limits room) }
+    ensures { (us : List SourceUnit) (m : Map) (limits : Limits) (room : ℕ) → All (λ u. IsTrue (is_built u)) us → All (λ u. IsTrue (have_code (unit_orders u))) us → Agree (faces_of us) → limits.frames ≤ limits.area → limits.depth < 65536 → room ≤ 32000 → Codable (orders_program us m limits room) }
 {
     order_words();
 }
