@@ -1,36 +1,47 @@
--- The image of a unit that can be compiled is not long.
-use Rattle.std.proofs.Common.{◌≡◌, ℕ, ◌+◌, ◌*◌, ◌%◌, ◌/◌, ◌≤◌, List, [], ◌∷◌, ◌++◌, length, set, refl, ◌∙◌, arith, length-append}
-use Rattle.std.specs.Prelude.{IsTrue, ◌&&◌}
+-- The image of units that can be compiled is not long.
+use Rattle.std.proofs.Common.{◌≡◌, ℕ, ◌+◌, ◌*◌, ◌≤◌, List, [], ◌∷◌, map, length, refl, sym, ap, ◌∙◌, arith}
+use Rattle.std.specs.Prelude.{All, IsTrue, sum}
 use Rattle.std.proofs.lemmas.Bool.{and_parts}
 use Rattle.std.proofs.lemmas.Bool.Decides.{nat_tests}
-use Rattle.std.proofs.lemmas.List.{length-set}
+use Rattle.std.proofs.lemmas.List.Elements.{All-head, All-tail}
+use Rattle.std.proofs.lemmas.List.Sums.{sum_by-cons}
 use Rattle.cw_unit.specs.declared.unit.Unit.{Unit as SourceUnit}
 use Rattle.cw_unit.specs.declared.layout.Limits.{Limits}
-use Rattle.cw_unit.specs.declared.layout.Reloc.{Reloc}
-use Rattle.cw_gen_unit.specs.ReferenceUnits.{unit_orders}
 use Rattle.cw_tmpl.specs.Library.{library_bytes}
-use Rattle.cw_tmpl.specs.Pieces.{Filling, word_of, fill}
-use Rattle.cw_tmpl.specs.ReferenceCode.{orders_code}
-use Rattle.cw_link.specs.Relocation.{linked_word}
-use Rattle.cw_build.specs.Compiled.{is_short, is_compiled}
-use Rattle.cw_build.specs.Images.{code_start, links_at, addresses_of, image_of}
+use Rattle.cw_gen_unit.specs.ReferenceUnits.{unit_orders}
+use Rattle.cw_link.specs.Contents.{Contents}
+use Rattle.cw_link.specs.LinkedImage.{code_end, linked_size, linked_code}
+use Rattle.cw_built.specs.Built.{is_built}
+use Rattle.cw_built.specs.Coded.{have_code}
+use Rattle.cw_build.specs.Compiled.{code_of, is_short, is_compiled, contents_of_units}
+use Rattle.cw_build.specs.Linking.{image_of}
 
-filling_stays : (value : Filling) (base : ℕ) (rs : List Reloc) (code : List ℕ) → length (fill value base rs code) ≡ length code
-filling_stays value base [] code = refl
-filling_stays value base (r ∷ rs) code =
-    let place = base + r.place in
-    let w = word_of value (place + 2) r in
-    let low = set code place (w % 256) in
-    filling_stays value base rs (set low (place + 1) (w / 256 % 256)) ∙ length-set low (place + 1) (w / 256 % 256) ∙ length-set code place (w % 256)
+abbrev IsCompiled : SourceUnit → Type 0
+IsCompiled u = IsTrue (is_compiled u)
 
-short : (u : SourceUnit) → IsTrue (is_compiled u) → length (orders_code (unit_orders u)).bytes ≤ 32 * u.tokens
+short : (u : SourceUnit) → IsCompiled u → length (code_of u).bytes ≤ 32 * u.tokens
 unfolding is_compiled
 short u e =
-    let test : IsTrue (is_short u) = (and_parts _ _ (and_parts _ _ (and_parts _ _ e).1).0).1 in
+    let test : IsTrue (is_short u) = (and_parts (is_short u) _ (and_parts (have_code (unit_orders u)) _ (and_parts (is_built u) _ e).1).1).0 in
     grind (arith, nat_tests, test)
 
-pub image_size : (u : SourceUnit) (limits : Limits) → length library_bytes ≤ 4096 → IsTrue (is_compiled u) → length (image_of (u ∷ []) limits) ≤ 32 * u.tokens + 4096
+one-more : (e s n t k w : ℕ) → w ≡ t + k → n ≤ 32 * t → e ≤ s + n + 32 * k → e ≤ s + 32 * w
+one-more e s n t k w all here rest = omega (arith, all, here, rest)
+
+ends : (us : List SourceUnit) (start : ℕ) → All IsCompiled us → code_end start (contents_of_units us) ≤ start + 32 * sum (map (λ (u : SourceUnit). u.tokens) us)
+ends [] start h = omega arith
+ends (u ∷ us) start h =
+    let tokens : List ℕ = map (λ (v : SourceUnit). v.tokens) us in
+    one-more (code_end start (contents_of_units (u ∷ us))) start (length (code_of u).bytes) u.tokens (sum tokens) (sum (map (λ (v : SourceUnit). v.tokens) (u ∷ us)))
+    (sum_by-cons (λ n. n) u.tokens tokens) (short u (All-head IsCompiled u us h)) (ends us (start + length (code_of u).bytes) (All-tail IsCompiled u us h))
+
+pub size : (us : List SourceUnit) → length library_bytes ≤ 4096 → All IsCompiled us → linked_size (contents_of_units us) ≤ 32 * sum (map (λ (u : SourceUnit). u.tokens) us) + 4096
+size us library h = by-start (length library_bytes) library (ends us (length library_bytes) h)
+  where
+    by-start : (start : ℕ) → start ≤ 4096 → code_end start (contents_of_units us) ≤ start + 32 * sum (map (λ (u : SourceUnit). u.tokens) us)
+        → code_end start (contents_of_units us) ≤ 32 * sum (map (λ (u : SourceUnit). u.tokens) us) + 4096
+    by-start start few e = omega (arith, few, e)
+
+pub code : (us : List SourceUnit) (limits : Limits) → ((cs : List Contents) (l : Limits) → length (linked_code cs l) ≡ linked_size cs) → length (image_of us limits).code ≡ linked_size (contents_of_units us)
 unfolding image_of
-image_size u limits library e =
-    let code = orders_code (unit_orders u) in
-    omega (arith, filling_stays (linked_word (links_at (addresses_of u)) limits) code_start code.relocs (library_bytes ++ code.bytes), length-append library_bytes code.bytes, library, short u e)
+code us limits law = law (contents_of_units us) limits

@@ -1,28 +1,41 @@
--- Which units can be compiled so far.
-use Rattle.std.specs.Prelude.{Bool, ◌&&◌, ◌*◌, nat_le, nat_lt, List, length}
-use Rattle.std.specs.List.{list_all}
+-- Which units can be compiled, and their objects.
+use Rattle.std.specs.Prelude.{ℕ, Bool, ◌&&◌, ◌*◌, nat_le, nat_lt, List, length, map}
 use Rattle.cw_unit.specs.declared.unit.Unit.{Unit as SourceUnit}
-use Rattle.cw_unit.specs.declared.layout.Preset.{Preset}
 use Rattle.cw_unit.specs.Storage.{layout_of}
 use Rattle.cw_unit.specs.StackBound.{unit_need}
 use Rattle.cw_gen_unit.specs.ReferenceUnits.{unit_orders}
+use Rattle.cw_tmpl.specs.declared.assembling.Code.{Code}
 use Rattle.cw_tmpl.specs.ReferenceCode.{orders_code}
 use Rattle.cw_built.specs.Built.{is_built}
 use Rattle.cw_built.specs.Coded.{have_code}
+use Rattle.cw_link.specs.Contents.{Contents}
+use Rattle.cw_object.specs.IsWritable.{is_writable}
+use Rattle.cw_object.specs.ObjectContents.{object_with, contents_with}
+
+-- the code of a unit
+abbrev pub code_of : SourceUnit → Code
+code_of u = orders_code (unit_orders u)
+
+-- ---- the test
 
 -- whether its code has at most 32 bytes for each token of its text
 abbrev pub is_short : SourceUnit → Bool
-is_short u = nat_le (length (orders_code (unit_orders u)).bytes) (32 * u.tokens)
+is_short u = nat_le (length (code_of u).bytes) (32 * u.tokens)
 
--- whether its orders all have code, and it is short
-abbrev pub has_short_code : SourceUnit → Bool
-has_short_code u = have_code (unit_orders u) && is_short u
-
--- whether what is preset are words
-abbrev pub are_words : List Preset → Bool
-are_words ps = list_all (λ p. nat_lt p.word 65536) ps
-
--- Whether a unit is one that the compiler builds, whose orders all have code, which is short, whose presets are words, and whose records
--- on the control stack have at most 65,535 words.
+-- Whether a unit is one that the compiler builds, whose orders all have code, which is short, whose records on the control stack
+-- have at most 65,535 words, and whose object can be written.
 unfoldable pub is_compiled : SourceUnit → Bool
-is_compiled u = is_built u && (has_short_code u && (are_words (layout_of u).words && nat_lt (unit_need u) 65536))
+is_compiled u = is_built u && (have_code (unit_orders u) && (is_short u && (nat_lt (unit_need u) 65536 && is_writable u (layout_of u) (code_of u) (unit_need u))))
+
+-- ---- objects
+
+-- the bytes of the object of a unit
+unfoldable pub object_of : SourceUnit → List ℕ
+object_of u = object_with u (layout_of u) (code_of u) (unit_need u)
+
+-- what the linker takes from it
+abbrev pub contents_of_unit : SourceUnit → Contents
+contents_of_unit u = contents_with u (layout_of u) (code_of u) (unit_need u)
+
+abbrev pub contents_of_units : List SourceUnit → List Contents
+contents_of_units us = map contents_of_unit us

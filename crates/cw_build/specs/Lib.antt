@@ -1,5 +1,4 @@
 pub mod Compiled
-pub mod Images
+pub mod Passes
 pub mod Linking
-pub mod FirstWords
 pub mod Building

@@ -1,42 +1,26 @@
-//! The linked code of a unit alone.
-ghost use Rattle.std.specs.Prelude.{◌≡◌, ◌<◌, length, IfOk};
-ghost use Rattle.cw_build.specs.Images.{linked_code};
+//! From the objects of units to their image.
+ghost use Rattle.std.specs.Prelude.{◌≡◌, ◌≤◌, length, map, All, IsTrue, List as Sequence};
+ghost use Rattle.cw_unit.specs.declared.unit.Unit.{Unit as SourceUnit};
+ghost use Rattle.cw_place.specs.Placement.{IsLimits};
+ghost use Rattle.cw_build.specs.Compiled.{is_compiled, object_of};
+ghost use Rattle.cw_build.specs.Building.{AnswersLinking};
 
-use cw_link::{Links, fill};
-use cw_tmpl::{Code, base_code, base_entry};
+use cw_link::{LinkFault, Linked};
+use cw_object::laws::object_of_unit;
+use cw_object::link_objects;
 use cw_unit::layout::Limits;
-use cw_word::NoMemory;
+use cw_word::List;
 use std::alloc::Global;
 
-/// The library, then the code, whose families stand at these addresses, with its relocated words filled.
-pub(crate) fn link(
-    alloc: Global,
-    code: &Code,
-    addresses: &[u16],
-    limits: &Limits,
-) -> Result<Vec<u8>, NoMemory>
-    ensures code { IfOk result (λ image. image.items ≡ linked_code code.now addresses.now limits.now) }
-    ensures some { IfOk result (λ image. 0 < length image.items) }
+/// Links the objects of units that can be compiled, 200 at most: their image and storage map, or the first reason why they have none.
+pub fn link_units(alloc: Global, objects: &[List<u8>], limits: &Limits) -> Result<Linked, LinkFault>
+    ghost us: { Sequence SourceUnit }
+    requires objects { objects.now ≡ map object_of us }
+    requires compiled { All (λ u. IsTrue (is_compiled u)) us }
+    requires few { length us ≤ 200 }
+    requires limits { IsLimits limits.now }
+    ensures { AnswersLinking us limits.now result }
 {
-    let start = base_code();
-    let end = match base_entry(0) {
-        Some(place) => place,
-        None => 0,
-    };
-    let mut image = Vec::new(alloc);
-    if image.extend_from_slice(start).is_err() {
-        return Err(NoMemory);
-    }
-    if image.extend_from_slice(code.bytes.as_slice()).is_err() {
-        return Err(NoMemory);
-    }
-    let links = Links {
-        homes: addresses,
-        definitions: &[],
-        start: start.len() as u32,
-        number: 1,
-        next: end,
-    };
-    fill(&mut image, code.relocs.as_slice(), &links, limits);
-    Ok(image)
+    object_of_unit();
+    link_objects(alloc, objects, limits)
 }

@@ -1,4 +1,4 @@
-//! A processor that is loaded with the image of a unit shows what its source means.
+//! A processor that is started with the image of units is loaded with them.
 #![tactic(auto)]
 
 pub mod laws;

@@ -1,4 +1,5 @@
-use Rattle.cw_build_laws.proofs.Loaded.{Given, loaded}
+use Rattle.cw_build_laws.proofs.Given.{Given}
+use Rattle.cw_build_laws.proofs.Loaded.{loaded}
 use Rattle.cw_build_laws.proofs.laws.loaded.Goals as goal
 
 pub returns : goal.returns
@@ -7,10 +8,14 @@ returns c =
       well_formed = c.built_units.ensures.well_formed;
       built = c.built_units.ensures.built;
       layout = c.built_units.ensures.layout;
-      lists_nothing = c.built_units.ensures.lists_nothing;
-      defines_nothing = c.built_units.ensures.defines_nothing;
+      defined = c.built_units.ensures.defined;
       codable = c.codable.ensures;
+      writable = c.writable.ensures;
       valid = c.valid_maps.ensures;
-      filling = c.filling.ensures.gives;
+      names = c.agreed_segments.ensures.names;
+      gives = c.filling.ensures.gives;
+      long = c.filling.ensures.long;
+      size = c.linked_units.ensures.code;
+      map_is = c.linked_units.ensures.map;
     } in
-    λ u limits input s is in_limits links bytes start. loaded given u limits input is in_limits links s bytes start
+    λ us limits input s some most compiled in_limits links bytes start. loaded given us limits input some most compiled in_limits links s bytes start
