@@ -1,11 +1,18 @@
 -- The number of each status, and the line that closes what is told of a run.
-use Rattle.std.specs.Prelude.{ℕ, ◌==◌, List, [], ◌++◌, Option, None, Some, slice_index_or, codes, decimal, if◌then◌else◌}
+use Rattle.std.specs.Prelude.{ℕ, ◌-◌, ◌==◌, List, [], ◌++◌, Option, None, Some, slice_get, slice_index_or, codes, decimal, if◌then◌else◌}
 use Rattle.cw_say.specs.declared.status.Status.{Status}
-use Rattle.cw_say.specs.declared.status.Status.TheVariants.{Ended, Usage, Refused, Unlinked, Stopped, Unfinished, NoFile, Outside, NoMemory, TooLong, BadCode, Divided}
+use Rattle.cw_say.specs.declared.status.Status.TheVariants.{Ended, Usage, Refused, Unlinked, Stopped, Unfinished, NoFile, Outside, NoMemory, BadFile, TooLong, BadCode, Divided}
 use Rattle.cw_say.specs.declared.status.Refused.{Refused as Refusing}
 use Rattle.cw_say.specs.declared.status.Refused.TheVariants.{Faulty, NotBuilt}
-use Rattle.cw_build.specs.declared.built.LinkFault.{LinkFault}
-use Rattle.cw_build.specs.declared.built.LinkFault.TheVariants.{AbsoluteOutside, DataTooBig, ControlTooBig, PresetClash, CodeTooBig}
+use Rattle.cw_link.specs.declared.fault.LinkFault.{LinkFault}
+use Rattle.cw_link.specs.declared.fault.LinkFault.TheVariants.{SegmentTwice, Differs, DefinedTwice, Undefined, AbsoluteOutside, DataTooBig, ControlTooBig, PresetClash, CodeTooBig}
+use Rattle.cw_link.specs.declared.fault.LinkFault.TheVariants as linking
+use Rattle.cw_view.specs.declared.fault.ObjFault.{ObjFault}
+use Rattle.cw_view.specs.declared.fault.ObjFault.TheVariants as objects
+use Rattle.cw_image.specs.declared.fault.ImageFault.{ImageFault}
+use Rattle.cw_image.specs.declared.fault.ImageFault.TheVariants as images
+use Rattle.cw_say.specs.declared.status.Bad.{Bad}
+use Rattle.cw_say.specs.declared.status.Bad.TheVariants as bad
 use Rattle.cw_compile.specs.declared.fault.Refusal.{Refusal}
 use Rattle.cw_compile.specs.declared.fault.Refusal.TheVariants.{Lex, Macro, Parse, Scope, Typing}
 use Rattle.cw_lex.specs.declared.token.LexFault.{LexFault}
@@ -36,6 +43,7 @@ status_code (Unfinished steps) = 5
 status_code (NoFile file) = 6
 status_code (Outside which) = 7
 status_code NoMemory = 8
+status_code (BadFile file fault) = 9
 status_code (TooLong long) = 10
 status_code (BadCode offset) = 11
 status_code (Divided offset) = 12
@@ -66,9 +74,9 @@ abbrev pub name_or_number : Option (List ℕ) → ℕ → List ℕ
 name_or_number None number = decimal number
 name_or_number (Some name) number = name
 
--- the name of a segment by its number, where there is one segment
-abbrev pub segment_name : Option (List ℕ) → ℕ → Option (List ℕ)
-segment_name segment number = if number == 1 then segment else None
+-- the name of a segment by its number, counted from 1
+abbrev pub segment_name : (segments : List (List ℕ)) → ℕ → Option (List ℕ)
+segment_name segments number = if number == 0 then None else slice_get segments (number - 1)
 
 -- a fault with its line: its code and its name
 abbrev pub fault_line : ℕ → List ℕ → List ℕ
@@ -137,7 +145,16 @@ abbrev pub refusal_line : Refusing → List ℕ
 refusal_line (Faulty refusal) = faulty_line refusal
 refusal_line NotBuilt = codes ": NotBuilt\n"
 
+-- a name, and the numbers of two segments
+abbrev pub clash_line : (text name : List ℕ) → (first second : ℕ) → List ℕ
+clash_line text name first second = text ++ (name ++ (codes " " ++ (decimal first ++ (codes " " ++ (decimal second ++ codes "\n")))))
+
 abbrev pub link_line : LinkFault → List ℕ
+link_line (SegmentTwice name) = codes "link: K5 SegmentTwice " ++ name ++ codes "\n"
+link_line (Differs name first second) = clash_line (codes "link: K1 Differs ") name first second
+link_line (DefinedTwice name first second) = clash_line (codes "link: K3 DefinedTwice ") name first second
+link_line (Undefined name) = codes "link: K2 Undefined " ++ name ++ codes "\n"
+link_line linking.NoMemory = codes "link: NoMemory\n"
 link_line (AbsoluteOutside segment address) = codes "link: P2 AbsoluteOutside " ++ decimal segment ++ codes " " ++ decimal address ++ codes "\n"
 link_line (DataTooBig need) = codes "link: P1 DataTooBig " ++ decimal need ++ codes "\n"
 link_line (ControlTooBig need) = codes "link: P3 ControlTooBig " ++ decimal need ++ codes "\n"
@@ -145,22 +162,51 @@ link_line (PresetClash address first second) =
     codes "link: K4 PresetClash " ++ (decimal address ++ (codes " " ++ (decimal first ++ (codes " " ++ (decimal second ++ codes "\n")))))
 link_line (CodeTooBig bytes) = codes "link: P4 CodeTooBig " ++ decimal bytes ++ codes "\n"
 
+-- ---- bytes that are no object, or no image
+
+-- behind the name of the file: what is wrong, and where, if that has a place
+abbrev pub bad_line : (text : List ℕ) → List ℕ
+bad_line text = codes ": " ++ text ++ codes "\n"
+
+abbrev pub bad_place : (text : List ℕ) → (place : ℕ) → List ℕ
+bad_place text place = codes ": " ++ (text ++ (codes " " ++ (decimal place ++ codes "\n")))
+
+abbrev pub object_line : ObjFault → List ℕ
+object_line objects.NotObject = bad_line (codes "O1 NotObject")
+object_line objects.BadVersion = bad_line (codes "O2 BadVersion")
+object_line (objects.Truncated place) = bad_place (codes "O3 Truncated") place
+object_line (objects.BadRecord place) = bad_place (codes "O4 BadRecord") place
+object_line (objects.Trailing place) = bad_place (codes "O5 Trailing") place
+
+abbrev pub image_line : ImageFault → List ℕ
+image_line images.NotImage = bad_line (codes "I1 NotImage")
+image_line images.BadVersion = bad_line (codes "I2 BadVersion")
+image_line (images.Truncated place) = bad_place (codes "I3 Truncated") place
+image_line (images.BadField place) = bad_place (codes "I4 BadField") place
+image_line (images.Trailing place) = bad_place (codes "I5 Trailing") place
+image_line images.NoMemory = bad_line (codes "NoMemory")
+
+abbrev pub bad_file_line : Bad → List ℕ
+bad_file_line (bad.Object fault) = object_line fault
+bad_file_line (bad.Image fault) = image_line fault
+
 abbrev pub long_name : List (List ℕ) → Long → List ℕ
 long_name names (File file) = file_name names file
 long_name names long.Input = codes "input"
 
--- The last line, for the names of the files and that of the one segment, where a text was compiled.
-abbrev pub closing_line : List (List ℕ) → Option (List ℕ) → Status → List ℕ
-closing_line names segment Ended = []
-closing_line names segment Usage = codes "usage: coral66 [--data N] [--frames N] [--depth N] [--steps N] ACTION WORD...\n"
-closing_line names segment (Refused file fault) = file_name names file ++ refusal_line fault
-closing_line names segment (Unlinked fault) = link_line fault
-closing_line names segment (Stopped kind number line) =
-    codes "stopped: " ++ name_or_number (stop_name kind) kind ++ codes " " ++ name_or_number (segment_name segment number) number ++ codes " " ++ decimal line ++ codes "\n"
-closing_line names segment (Unfinished steps) = codes "unfinished: " ++ decimal steps ++ codes "\n"
-closing_line names segment (NoFile file) = codes "no file: " ++ file_name names file ++ codes "\n"
-closing_line names segment (Outside which) = codes "fault: " ++ which_name which ++ codes "\n"
-closing_line names segment NoMemory = codes "no memory\n"
-closing_line names segment (TooLong long) = codes "too long: " ++ long_name names long ++ codes "\n"
-closing_line names segment (BadCode offset) = codes "bad code: " ++ decimal offset ++ codes "\n"
-closing_line names segment (Divided offset) = codes "divided: " ++ decimal offset ++ codes "\n"
+-- The last line, for the names of the files and those of the segments.
+abbrev pub closing_line : (names segments : List (List ℕ)) → Status → List ℕ
+closing_line names segments Ended = []
+closing_line names segments Usage = codes "usage: coral66 [--data N] [--frames N] [--depth N] [--steps N] ACTION WORD...\n"
+closing_line names segments (Refused file fault) = file_name names file ++ refusal_line fault
+closing_line names segments (Unlinked fault) = link_line fault
+closing_line names segments (Stopped kind number line) =
+    codes "stopped: " ++ name_or_number (stop_name kind) kind ++ codes " " ++ name_or_number (segment_name segments number) number ++ codes " " ++ decimal line ++ codes "\n"
+closing_line names segments (Unfinished steps) = codes "unfinished: " ++ decimal steps ++ codes "\n"
+closing_line names segments (NoFile file) = codes "no file: " ++ file_name names file ++ codes "\n"
+closing_line names segments (Outside which) = codes "fault: " ++ which_name which ++ codes "\n"
+closing_line names segments NoMemory = codes "no memory\n"
+closing_line names segments (BadFile file fault) = file_name names file ++ bad_file_line fault
+closing_line names segments (TooLong long) = codes "too long: " ++ long_name names long ++ codes "\n"
+closing_line names segments (BadCode offset) = codes "bad code: " ++ decimal offset ++ codes "\n"
+closing_line names segments (Divided offset) = codes "divided: " ++ decimal offset ++ codes "\n"

@@ -1,4 +1,5 @@
 // Writing to a sink that may take a part or fail.
+ghost use Rattle.std.specs.Prelude.{◌++◌, decimal, codes};
 ghost use Rattle.cw_say.specs.Said.{joined, Writes};
 
 use cw_io::{Failed, Sink};
@@ -25,4 +26,20 @@ pub(crate) fn write_line<S: Sink>(sink: &mut S, pieces: &[&[u8]]) -> Result<(), 
         }
     }
     Ok(())
+}
+
+// Writes a text, a number and the end of the line.
+pub(crate) fn write_number<S: Sink>(say: &mut S, text: &[u8], number: u64) -> Result<(), Failed>
+    ensures { Writes (S.held say.old) (S.held say.new) (S.faults say.old) (S.faults say.new) (text.now ++ decimal number ++ codes "\n") result }
+{
+    let mut buffer = itoa::Buffer::new();
+    let digits = buffer.format(number);
+    write_line(say, &[text, digits.as_bytes(), b"\n"])
+}
+
+// Writes a text, the name of a file and the end of the line.
+pub(crate) fn write_name<S: Sink>(say: &mut S, text: &[u8], name: &[u8]) -> Result<(), Failed>
+    ensures { Writes (S.held say.old) (S.held say.new) (S.faults say.old) (S.faults say.new) (text.now ++ name.now ++ codes "\n") result }
+{
+    write_line(say, &[text, name, b"\n"])
 }

@@ -1,6 +1,8 @@
 //! What a call of the command comes to.
-pub use cw_build::LinkFault;
 use cw_compile::Refusal;
+use cw_image::ImageFault;
+pub use cw_link::LinkFault;
+use cw_view::ObjFault;
 
 /// What a call of the command came to.
 #[derive(Drop)]
@@ -11,7 +13,7 @@ pub enum Status {
     Usage,
     /// The text of this file does not compile.
     Refused { file: u16, fault: Refused },
-    /// What was compiled does not link.
+    /// What was compiled does not link; never for want of memory.
     Unlinked(LinkFault),
     /// The program stopped, for the cause of this kind, at a line of a segment, counted from 1.
     Stopped { kind: u8, segment: u8, line: u16 },
@@ -23,6 +25,8 @@ pub enum Status {
     Outside(Which),
     /// There is no memory for what was asked.
     NoMemory,
+    /// The bytes of this file are not what the action takes.
+    BadFile { file: u16, fault: Bad },
     /// Something has more bytes than its limit.
     TooLong(Long),
     /// No instruction begins where the machine stands.
@@ -38,6 +42,15 @@ pub enum Refused {
     Faulty(Refusal),
     /// Its unit is none that can be compiled so far.
     NotBuilt,
+}
+
+/// The first thing that is wrong with bytes; never want of memory.
+#[derive(Clone, Copy, Debug)]
+pub enum Bad {
+    /// They are no object.
+    Object(ObjFault),
+    /// They are no image.
+    Image(ImageFault),
 }
 
 /// What failed outside.
@@ -74,6 +87,7 @@ impl Status {
             Status::NoFile { .. } => 6,
             Status::Outside(_) => 7,
             Status::NoMemory => 8,
+            Status::BadFile { .. } => 9,
             Status::TooLong(_) => 10,
             Status::BadCode { .. } => 11,
             Status::Divided { .. } => 12,

@@ -7,7 +7,7 @@ use Rattle.clap.specs.ValueTests.{is_unsigned_in}
 use Rattle.cw_words.specs.Command.{faults_of, rows_in}
 use Rattle.cw_words.specs.declared.request.Command.{Command}
 use Rattle.cw_words.specs.declared.action.Action.{Action}
-use Rattle.cw_words.specs.declared.action.Action.TheVariants.{Go, Compile, Link, Exec, List as Show, Map, Big}
+use Rattle.cw_words.specs.declared.action.Action.TheVariants.{Go, Compile, Link, Exec, List as Show, Map, Migrate, Big}
 
 -- the action of a name
 unfoldable pub action_named : Text → Option Action
@@ -18,7 +18,8 @@ action_named name =
     else (if bytes_eq name (codes "exec") then Some Exec
     else (if bytes_eq name (codes "list") then Some Show
     else (if bytes_eq name (codes "map") then Some Map
-    else (if bytes_eq name (codes "big") then Some Big else None))))))
+    else (if bytes_eq name (codes "migrate") then Some Migrate
+    else (if bytes_eq name (codes "big") then Some Big else None)))))))
 
 -- the number of a text, where it has one in the range
 unfoldable pub number_in : ℕ → ℕ → Text → Option ℕ

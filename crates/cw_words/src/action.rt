@@ -11,6 +11,7 @@ pub enum Action {
     Exec,
     List,
     Map,
+    Migrate,
     Big,
 }
 
@@ -26,6 +27,7 @@ pub(crate) fn action_of(name: &str) -> Option<Action>
         "exec" => Some(Action::Exec),
         "list" => Some(Action::List),
         "map" => Some(Action::Map),
+        "migrate" => Some(Action::Migrate),
         "big" => Some(Action::Big),
         _ => None,
     }

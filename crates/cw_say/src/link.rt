@@ -1,0 +1,109 @@
+// The lines that tell why segments do not link.
+ghost use Rattle.std.specs.Prelude.{◌++◌, decimal, codes};
+ghost use Rattle.cw_say.specs.Said.{Writes};
+ghost use Rattle.cw_say.specs.Closing.{clash_line, link_line};
+
+use crate::saying::{write_line, write_name, write_number, write_piece};
+use crate::status::LinkFault;
+use cw_io::{Failed, Sink};
+use cw_word::Name;
+
+// Writes a text, two numbers and the end of the line.
+fn write_outside<S: Sink>(say: &mut S, text: &[u8], segment: u8, address: u16) -> Result<(), Failed>
+    ensures { Writes (S.held say.old) (S.held say.new) (S.faults say.old) (S.faults say.new) (text.now ++ decimal segment ++ codes " " ++ decimal address ++ codes "\n") result }
+{
+    let mut segment_buffer = itoa::Buffer::new();
+    let mut address_buffer = itoa::Buffer::new();
+    let segment_digits = segment_buffer.format(segment).as_bytes();
+    let address_digits = address_buffer.format(address).as_bytes();
+    write_line(say, &[text, segment_digits, b" ", address_digits, b"\n"])
+}
+
+// Writes a text, three numbers and the end of the line.
+fn write_clash<S: Sink>(
+    say: &mut S,
+    text: &[u8],
+    address: u32,
+    first: u8,
+    second: u8,
+) -> Result<(), Failed>
+    ensures { Writes (S.held say.old) (S.held say.new) (S.faults say.old) (S.faults say.new) (text.now ++ (decimal address ++ (codes " " ++ (decimal first ++ (codes " " ++ (decimal second ++ codes "\n")))))) result }
+{
+    let mut buffer = itoa::Buffer::new();
+    let digits = buffer.format(address).as_bytes();
+    write_segments(say, text, digits, first, second)
+}
+
+fn write_segments<S: Sink>(
+    say: &mut S,
+    text: &[u8],
+    address: &[u8],
+    first: u8,
+    second: u8,
+) -> Result<(), Failed>
+    ensures { Writes (S.held say.old) (S.held say.new) (S.faults say.old) (S.faults say.new) (text.now ++ (address.now ++ (codes " " ++ (decimal first ++ (codes " " ++ (decimal second ++ codes "\n")))))) result }
+{
+    let mut first_buffer = itoa::Buffer::new();
+    let mut second_buffer = itoa::Buffer::new();
+    let first_digits = first_buffer.format(first).as_bytes();
+    let second_digits = second_buffer.format(second).as_bytes();
+    write_three(say, text, address, first_digits, second_digits)
+}
+
+fn write_three<S: Sink>(
+    say: &mut S,
+    text: &[u8],
+    first: &[u8],
+    second: &[u8],
+    third: &[u8],
+) -> Result<(), Failed>
+    ensures { Writes (S.held say.old) (S.held say.new) (S.faults say.old) (S.faults say.new) (text.now ++ (first.now ++ (codes " " ++ (second.now ++ (codes " " ++ (third.now ++ codes "\n")))))) result }
+{
+    write_line(say, &[text, first, b" ", second, b" ", third, b"\n"])
+}
+
+// Writes a text, a name, the numbers of two segments and the end of the line.
+fn write_named_clash<S: Sink>(
+    say: &mut S,
+    text: &[u8],
+    name: &Name,
+    first: u8,
+    second: u8,
+) -> Result<(), Failed>
+    ensures { Writes (S.held say.old) (S.held say.new) (S.faults say.old) (S.faults say.new) (clash_line text.now name.now first second) result }
+{
+    write_segments(say, text, name.bytes(), first, second)
+}
+
+pub(crate) fn write_unlinked<S: Sink>(say: &mut S, fault: &LinkFault) -> Result<(), Failed>
+    ensures { Writes (S.held say.old) (S.held say.new) (S.faults say.old) (S.faults say.new) (link_line fault.now) result }
+{
+    match fault {
+        LinkFault::SegmentTwice { name } => {
+            write_name(say, b"link: K5 SegmentTwice ", name.bytes())
+        }
+        LinkFault::Differs {
+            name,
+            first,
+            second,
+        } => write_named_clash(say, b"link: K1 Differs ", name, *first, *second),
+        LinkFault::DefinedTwice {
+            name,
+            first,
+            second,
+        } => write_named_clash(say, b"link: K3 DefinedTwice ", name, *first, *second),
+        LinkFault::Undefined { name } => write_name(say, b"link: K2 Undefined ", name.bytes()),
+        LinkFault::NoMemory => write_piece(say, b"link: NoMemory\n"),
+        LinkFault::AbsoluteOutside { segment, address } => {
+            write_outside(say, b"link: P2 AbsoluteOutside ", *segment, *address)
+        }
+        LinkFault::DataTooBig { need } => write_number(say, b"link: P1 DataTooBig ", *need),
+        LinkFault::ControlTooBig { need } => write_number(say, b"link: P3 ControlTooBig ", *need),
+        LinkFault::PresetClash {
+            address,
+            first,
+            second,
+        } => write_clash(say, b"link: K4 PresetClash ", *address, *first, *second),
+        LinkFault::CodeTooBig { bytes } => write_number(say, b"link: P4 CodeTooBig ", *bytes),
+    }
+}
