@@ -1,0 +1,15 @@
+use Rattle.std.proofs.Common.{◌≡◌, map, length}
+use Rattle.cw_io.specs.File.{AllStay}
+use Rattle.cw_files.specs.Texts.{HasObject, object_limit}
+use Rattle.cw_files.specs.Reading.{counts_at, SameCounts}
+use Rattle.cw_files.specs.Taking.{Takes}
+use Rattle.cw_files.proofs.objects.read_objects.Given as goal
+
+abbrev pub invariant-loop-name : goal.invariant-loop-name
+invariant-loop-name g l = record {
+  number : l.number ≡ l.name-index;
+  so_far : length l.objects ≡ l.name-index;
+  takes : Takes object_limit HasObject (map (λ name. g.F.Store.file l.fn.files name.now) l.names) l.objects;
+  same : SameCounts (counts_at (g.F.Store.faults l.fn.files) (g.F.Store.absences l.fn.files)) (counts_at (g.F.Store.faults l.files) (g.F.Store.absences l.files));
+  stay : AllStay (g.F.Store.file l.fn.files) (g.F.Store.file l.files);
+}
