@@ -1,0 +1,10 @@
+pub mod Calls
+pub mod Files
+pub mod Saying
+pub mod Closing
+pub mod Running
+pub mod Meaning
+pub mod Going
+pub mod Executing
+pub mod Results
+pub mod Correct

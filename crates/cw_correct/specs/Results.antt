@@ -1,0 +1,175 @@
+-- What the actions promise that run nothing: `map` and `list` write their result to `out`, `compile`, `link` and `migrate` write it to a file.
+use Rattle.std.specs.Prelude.{◌≡◌, ◌⊎◌, ℕ, ◌<◌, List, [], ◌∷◌, ◌++◌, length, map, take, codes, slice_index_or}
+use Rattle.cw_io.specs.Bytes.{after_told}
+use Rattle.cw_io.specs.Count.{Rose}
+use Rattle.cw_io.specs.File.{as_file, OthersStay, AllStay}
+use Rattle.cw_unit.specs.declared.unit.Unit.{Unit as SourceUnit}
+use Rattle.cw_unit.specs.declared.layout.Limits.{Limits}
+use Rattle.cw_compile.specs.Texts.{text_limit, IsCanonicalOf}
+use Rattle.cw_link.specs.Contents.{Contents}
+use Rattle.cw_link.specs.LinkedImage.{linked_image}
+use Rattle.cw_link.specs.declared.fault.LinkFault.{LinkFault}
+use Rattle.cw_image.specs.ImageFormat.{image_bytes}
+use Rattle.cw_object.specs.ObjectContents.{contents_in}
+use Rattle.cw_obj.specs.Migration.{IsMigrated}
+use Rattle.cw_build.specs.Compiled.{object_of}
+use Rattle.cw_build.specs.Linking.{AreLinked, IsFault, Links, IsLinkFault, map_text}
+use Rattle.cw_files.specs.Texts.{HasUnit, HasObject, object_limit}
+use Rattle.cw_files.specs.Reading.{HaveBytes, HaveValues, AllTaken, StopsTexts, StopsObjects}
+use Rattle.cw_correct.specs.Calls.{Call, told_files, NoFault, SameCounts, IsUntouched, IsUnwritten}
+use Rattle.cw_correct.specs.Files.{counts_before, counts_after, AllAccepted}
+use Rattle.cw_correct.specs.Saying.{SaysLast}
+use Rattle.cw_correct.specs.Going.{HasCause}
+use Rattle.cw_correct.specs.Meaning.{TellBytes}
+use Rattle.cw_say.specs.declared.status.Refused.TheVariants.{Faulty, NotBuilt}
+use Rattle.cw_say.specs.declared.status.Status.{Status}
+use Rattle.cw_say.specs.declared.status.Status.TheVariants.{Ended, Refused, Unlinked, NoFile, Outside, NoMemory, BadFile, TooLong}
+use Rattle.cw_say.specs.declared.status.Which.TheVariants.{Store, Out}
+use Rattle.cw_say.specs.declared.status.Long.TheVariants.{File}
+
+-- ---- where a result goes
+
+-- What becomes of a result that is written to `out`: all of it, or a proper part where the count of `out` rose, or none.
+abbrev pub WritesOut : Call → (result : List ℕ) → Status → Type 0
+WritesOut c result Ended = (c.after.out ≡ after_told c.before.out result) × SameCounts c.before c.after
+WritesOut c result (Outside Out) = (count : ℕ) × (count < length result) × (c.after.out ≡ after_told c.before.out (take count result)) × Rose c.before.out_faults c.after.out_faults
+WritesOut c result status = IsUnwritten c.before c.after
+
+-- What becomes of a result that is written to a file: the file is the result and all others stay; or the writing failed, and it may be anything; or all stay.
+abbrev pub WritesFile : Call → (name result : List ℕ) → (all : Type 0) → Status → Type 0
+WritesFile c name result all Ended =
+    (c.after.files name ≡ as_file (c.before.files name) result) × OthersStay c.before.files c.after.files name × SameCounts c.before c.after
+WritesFile c name result all (Outside Store) = AllStay c.before.files c.after.files ⊎ (all × OthersStay c.before.files c.after.files name × Rose c.before.store_faults c.after.store_faults)
+WritesFile c name result all status = AllStay c.before.files c.after.files
+
+-- the result was written, or memory was wanted
+abbrev pub IsDone : Status → Type 0
+IsDone Ended = Unit {0}
+IsDone NoMemory = Unit {0}
+IsDone status = ⊥
+
+-- the name of the first file
+abbrev pub first_name : Call → List ℕ
+first_name c = slice_index_or c.names 0 []
+
+-- ---- map
+
+abbrev pub MapComes : Call → (texts : List (List ℕ)) → (us : List SourceUnit) → Status → Type 0
+MapComes c texts us Ended = AllAccepted c us × Links us c.limits
+MapComes c texts us (Outside Out) = AllAccepted c us × Links us c.limits
+MapComes c texts us (Unlinked fault) = AllAccepted c us × IsLinkFault us c.limits fault × HasCause texts fault
+MapComes c texts us status = StopsTexts (told_files c) texts (length us) (counts_before c) (counts_after c) status
+
+-- the storage map that `go` writes to `say`
+pub record MapsRight (c : Call) (status : Status) : Type 0 where
+  pub texts : List (List ℕ)
+  pub units : List SourceUnit
+  pub have_texts : HaveBytes text_limit (told_files c) texts
+  pub have_units : HaveValues HasUnit texts units
+  pub comes : MapComes c texts units status
+  pub says : SaysLast c.before c.after c.names [] status
+  pub writes : WritesOut c (map_text units c.limits) status
+  pub untouched : IsUntouched c.before c.after
+  pub stays : AllStay c.before.files c.after.files
+  pub completes : (told : List (List ℕ)) (us : List SourceUnit) → TellBytes (told_files c) told → AllTaken text_limit HasUnit (told_files c) us → Links us c.limits → NoFault c.before c.after → IsDone status
+
+-- ---- list
+
+-- a text is shown that has a unit, whether that can be compiled or not
+abbrev pub ShowComes : Call → (texts shown : List (List ℕ)) → Status → Type 0
+ShowComes c texts shown Ended = AllAccepted c shown
+ShowComes c texts shown (Outside Out) = AllAccepted c shown
+ShowComes c texts shown (Refused number NotBuilt) = ⊥
+ShowComes c texts shown status = StopsTexts (told_files c) texts (length shown) (counts_before c) (counts_after c) status
+
+abbrev pub first_shown : (shown : List (List ℕ)) → List ℕ
+first_shown [] = []
+first_shown (text ∷ texts) = text
+
+-- the canonical text of the file's tree
+pub record ShowsRight (c : Call) (status : Status) : Type 0 where
+  pub texts : List (List ℕ)
+  pub shown : List (List ℕ)
+  pub have_texts : HaveBytes text_limit (told_files c) texts
+  pub have_shown : HaveValues IsCanonicalOf texts shown
+  pub comes : ShowComes c texts shown status
+  pub says : SaysLast c.before c.after c.names [] status
+  pub writes : WritesOut c (first_shown shown) status
+  pub untouched : IsUntouched c.before c.after
+  pub stays : AllStay c.before.files c.after.files
+  pub completes : (told canonical : List (List ℕ)) → TellBytes (told_files c) told → AllTaken text_limit IsCanonicalOf (told_files c) canonical → NoFault c.before c.after → IsDone status
+
+-- ---- compile
+
+abbrev pub CompileComes : Call → (texts : List (List ℕ)) → (us : List SourceUnit) → Status → Type 0
+CompileComes c texts us Ended = AllAccepted c us
+CompileComes c texts us (Outside Store) = Rose c.before.store_faults c.after.store_faults
+CompileComes c texts us status = StopsTexts (told_files c) texts (length us) (counts_before c) (counts_after c) status
+
+abbrev pub first_object : List SourceUnit → List ℕ
+first_object [] = []
+first_object (u ∷ us) = object_of u
+
+-- the object of the file's unit, in the file of its name with `.SEG` added
+pub record CompilesRight (c : Call) (status : Status) : Type 0 where
+  pub texts : List (List ℕ)
+  pub units : List SourceUnit
+  pub have_texts : HaveBytes text_limit (told_files c) texts
+  pub have_units : HaveValues HasUnit texts units
+  pub comes : CompileComes c texts units status
+  pub says : SaysLast c.before c.after c.names [] status
+  pub writes : WritesFile c (first_name c ++ codes ".SEG") (first_object units) (AllAccepted c units) status
+  pub untouched : IsUntouched c.before c.after
+  pub unwritten : IsUnwritten c.before c.after
+  pub completes : (told : List (List ℕ)) (us : List SourceUnit) → TellBytes (told_files c) told → AllTaken text_limit HasUnit (told_files c) us → NoFault c.before c.after → IsDone status
+
+-- ---- link
+
+abbrev pub all_contents : (objects : List (List ℕ)) → List Contents
+all_contents objects = map contents_in objects
+
+abbrev pub LinkComes : Call → (texts objects : List (List ℕ)) → Status → Type 0
+LinkComes c texts objects Ended = AllAccepted c objects × AreLinked (all_contents objects) c.limits
+LinkComes c texts objects (Outside Store) = Rose c.before.store_faults c.after.store_faults
+LinkComes c texts objects (Unlinked fault) = AllAccepted c objects × IsFault (all_contents objects) c.limits fault
+LinkComes c texts objects status = StopsObjects (told_files c) texts (length objects) (counts_before c) (counts_after c) status
+
+-- the image of the files' objects, in the file `A.IMG`
+pub record LinksRight (c : Call) (status : Status) : Type 0 where
+  pub texts : List (List ℕ)
+  pub objects : List (List ℕ)
+  pub have_bytes : HaveBytes object_limit (told_files c) texts
+  pub have_objects : HaveValues HasObject texts objects
+  pub comes : LinkComes c texts objects status
+  pub says : SaysLast c.before c.after c.names [] status
+  pub writes : WritesFile c (codes "A.IMG") (image_bytes (linked_image (all_contents objects) c.limits)) (AllAccepted c objects × AreLinked (all_contents objects) c.limits) status
+  pub untouched : IsUntouched c.before c.after
+  pub unwritten : IsUnwritten c.before c.after
+  pub completes : (told objects : List (List ℕ)) → TellBytes (told_files c) told → AllTaken object_limit HasObject (told_files c) objects → AreLinked (all_contents objects) c.limits → NoFault c.before c.after → IsDone status
+
+-- ---- migrate
+
+abbrev pub MigrateComes : Call → (texts objects : List (List ℕ)) → Status → Type 0
+MigrateComes c texts objects Ended = AllAccepted c objects
+MigrateComes c texts objects (Outside Store) = Rose c.before.store_faults c.after.store_faults
+MigrateComes c texts objects status = StopsObjects (told_files c) texts (length objects) (counts_before c) (counts_after c) status
+
+-- the object is of version 2 and has the records of the file's
+abbrev pub MigratesTo : (objects : List (List ℕ)) → (result : List ℕ) → Status → Type 0
+MigratesTo (object ∷ objects) result Ended = IsMigrated object result
+MigratesTo objects result status = Unit {0}
+
+-- the file's object in version 2, in the file of its name with `.SG2` added
+pub record MigratesRight (c : Call) (status : Status) : Type 0 where
+  pub texts : List (List ℕ)
+  pub objects : List (List ℕ)
+  pub result : List ℕ
+  pub have_bytes : HaveBytes object_limit (told_files c) texts
+  pub have_objects : HaveValues HasObject texts objects
+  pub comes : MigrateComes c texts objects status
+  pub says : SaysLast c.before c.after c.names [] status
+  pub migrates : MigratesTo objects result status
+  pub writes : WritesFile c (first_name c ++ codes ".SG2") result (AllAccepted c objects) status
+  pub untouched : IsUntouched c.before c.after
+  pub unwritten : IsUnwritten c.before c.after
+  pub completes : (told objects : List (List ℕ)) → TellBytes (told_files c) told → AllTaken object_limit HasObject (told_files c) objects → NoFault c.before c.after → IsDone status

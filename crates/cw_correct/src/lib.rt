@@ -1,0 +1,2 @@
+//! What the command promises of a call: definitions alone.
+#![tactic(auto)]
