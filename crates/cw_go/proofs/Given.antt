@@ -1,0 +1,57 @@
+-- The laws that the promise of `go` stands on.
+use Rattle.std.proofs.Common.{◌≡◌, ◌≢◌, ℕ, ◌+◌, ◌*◌, ◌<◌, ◌≤◌, List, [], length, map}
+use Rattle.std.specs.Prelude.{All, IsTrue, sum}
+use Rattle.cw_i86.specs.State.{State}
+use Rattle.cw_i86.specs.MachineRun as run
+use Rattle.cw_unit.specs.declared.unit.Unit.{Unit as SourceUnit}
+use Rattle.cw_unit.specs.declared.layout.Limits.{Limits}
+use Rattle.cw_unit.specs.declared.layout.Map.{Map}
+use Rattle.cw_unit.specs.Allocation.{storage_map}
+use Rattle.cw_unit.specs.HasLayout.{HasLayout}
+use Rattle.cw_unit.specs.ValidStorage.{IsStorable, FitsArea, ValidStorageMap}
+use Rattle.cw_unit.specs.Program.{program_at}
+use Rattle.cw_built.specs.Built.{is_built}
+use Rattle.cw_sim.specs.Preservation.{IsLoaded, Preserves, Completes}
+use Rattle.cw_place.specs.Placement.{IsLimits}
+use Rattle.cw_compile.specs.Outcomes.{HasOneUnit, HasOneRefusal, HasNotBoth, CountsTokens}
+use Rattle.cw_link.specs.LinkedImage.{linked_size}
+use Rattle.cw_build.specs.Compiled.{is_compiled, contents_of_units}
+use Rattle.cw_build.specs.Linking.{Links, image_of}
+
+abbrev pub IsCompiled : SourceUnit → Type 0
+IsCompiled u = IsTrue (is_compiled u)
+
+-- on texts
+pub record OneOfText : Type 0 where
+  pub one_unit : HasOneUnit
+  pub one_refusal : HasOneRefusal
+  pub not_both : HasNotBoth
+  pub tokens : CountsTokens
+
+-- on storage
+pub record OnStorage : Type 0 where
+  pub layout : (u : SourceUnit) → IsTrue (is_built u) → HasLayout u
+  pub storage : (us : List SourceUnit) (limits : Limits) → All IsStorable us → FitsArea us limits → ValidStorageMap us limits (storage_map us)
+
+-- on runs
+pub record OnRuns : Type 0 where
+  pub loaded : (us : List SourceUnit) (limits : Limits) (input : List ℕ) (s : State) → us ≢ [] → length us ≤ 200 → All IsCompiled us → IsLimits limits → Links us limits → All (λ b. b < 256) input
+      → run.IsStart (image_of us limits).code (image_of us limits).words s → IsLoaded us (storage_map us) limits input s
+  pub preserves : (us : List SourceUnit) (m : Map) (limits : Limits) (input : List ℕ) (s : State) (k : ℕ) (shown : run.Observed) → IsLoaded us m limits input s → run.Shows s input k shown → Preserves (program_at us m limits) input k shown
+  pub completes : (us : List SourceUnit) (m : Map) (limits : Limits) (input : List ℕ) (s : State) (steps : ℕ) → IsLoaded us m limits input s → Completes (program_at us m limits) input steps s
+  pub once : (s : State) (input : List ℕ) (n : ℕ) (a b : run.Observed) → run.Shows s input n a → run.Shows s input n b → a ≡ b
+
+-- on sizes
+abbrev pub HasSizes : Type 0
+HasSizes = (us : List SourceUnit) (limits : Limits) → All IsCompiled us → linked_size (contents_of_units us) ≤ 32 * sum (map (λ u. u.tokens) us) + 4096
+
+pub record Given : Type 0 where
+  pub texts : OneOfText
+  pub storages : OnStorage
+  pub runs : OnRuns
+  pub sizes : HasSizes
+
+-- the state that begins with an image is one, and so is what shows of its run
+pub record OneRun : Type 0 where
+  pub starts : (code words : List ℕ) (s t : State) → run.IsStart code words s → run.IsStart code words t → s ≡ t
+  pub once : (s : State) (input : List ℕ) (n : ℕ) (a b : run.Observed) → run.Shows s input n a → run.Shows s input n b → a ≡ b

@@ -1,0 +1,9 @@
+pub mod Files
+pub mod Links
+pub mod Unlinked
+pub mod Library
+pub mod Meant
+pub mod Given
+pub mod Called
+pub mod Promised
+pub mod OneStatus

@@ -1,0 +1,138 @@
+-- What a run of the image of texts shows is what the texts mean, and no more than one thing comes of a text.
+use Rattle.std.proofs.Common.{◌≡◌, ◌≢◌, ℕ, ◌+◌, ◌*◌, ◌<◌, ◌≤◌, Bool, true, false, ◌&&◌, List, [], ◌∷◌, length, map, refl, sym, ap, ap₂, ◌∙◌, subst, inr, ⊎_elim, arith}
+use Rattle.std.specs.Prelude.{All, IsTrue, IsFalse, sum}
+use Rattle.std.proofs.lemmas.List.Elements.{All-nil, All-cons}
+use Rattle.std.proofs.lemmas.List.Sums.{sum_by-cons}
+use Rattle.cw_i86.specs.State.{State}
+use Rattle.cw_i86.specs.MachineRun as run
+use Rattle.cw_unit.specs.declared.unit.Unit.{Unit as SourceUnit}
+use Rattle.cw_unit.specs.declared.layout.Limits.{Limits}
+use Rattle.cw_unit.specs.Allocation.{storage_map}
+use Rattle.cw_unit.specs.ValidStorage.{IsStorable, FitsArea, ValidStorageMap}
+use Rattle.cw_built.specs.Built.{is_built}
+use Rattle.cw_track.specs.Tracking.{step_ratio}
+use Rattle.cw_unit.specs.Program.{program_of}
+use Rattle.cw_unit.specs.Stop.{End, Running}
+use Rattle.cw_unit.specs.Behaviour.{observed}
+use Rattle.cw_sim.specs.Preservation.{TellsEnd, IsLoaded, Preserves}
+use Rattle.cw_place.specs.Placement.{IsLimits}
+use Rattle.cw_lex.specs.Lexical.{Lexeme}
+use Rattle.cw_compile.specs.Texts.{IsUnitOf}
+use Rattle.cw_compile.specs.Outcomes.{CountsTokens}
+use Rattle.cw_build.specs.Compiled.{is_compiled}
+use Rattle.cw_build.specs.Linking.{Links, image_of}
+use Rattle.cw_files.specs.Texts.{HasUnit, IsRefused}
+use Rattle.cw_files.specs.Reading.{HaveValues}
+use Rattle.cw_correct.specs.Going.{ExpandTo}
+use Rattle.cw_say.specs.declared.status.Refused.{Refused as Refusing}
+use Rattle.cw_say.specs.declared.status.Refused.TheVariants.{Faulty, NotBuilt}
+use Rattle.cw_go.proofs.Given.{IsCompiled, OneOfText, OnStorage, OnRuns}
+
+-- ---- units of texts
+
+pub all_compiled : (texts : List (List ℕ)) (us : List SourceUnit) → HaveValues HasUnit texts us → All IsCompiled us
+all_compiled texts [] have = All-nil IsCompiled
+all_compiled [] (u ∷ us) have = absurd have
+all_compiled (t ∷ ts) (u ∷ us) have = All-cons IsCompiled u us have.0.compiled (all_compiled ts us have.1)
+
+first_of : (a b : Bool) → IsTrue (a && b) → IsTrue a
+first_of true b h = refl
+first_of false b h = h
+
+-- a unit that can be compiled is built
+built_of : (u : SourceUnit) → IsTrue (is_compiled u) → IsTrue (is_built u)
+unfolding is_compiled
+built_of u h = first_of (is_built u) _ h
+
+all_storable : OnStorage → (texts : List (List ℕ)) (us : List SourceUnit) → HaveValues HasUnit texts us → All IsStorable us
+all_storable given texts [] have = All-nil IsStorable
+all_storable given [] (u ∷ us) have = absurd have
+all_storable given (t ∷ ts) (u ∷ us) have = All-cons IsStorable u us (given.layout u (built_of u have.0.compiled)).storable (all_storable given ts us have.1)
+
+pub valid : OnStorage → (limits : Limits) (texts : List (List ℕ)) (us : List SourceUnit) → HaveValues HasUnit texts us → FitsArea us limits → ValidStorageMap us limits (storage_map us)
+valid given limits texts us have fits = given.storage us limits (all_storable given texts us have) fits
+
+-- the tokens of the units are the items to which the texts expand
+pub record Expanded (texts : List (List ℕ)) (us : List SourceUnit) : Type 0 where
+  pub items : List (List Lexeme)
+  pub expand : ExpandTo texts items
+  pub count : sum (map (λ (u : SourceUnit). u.tokens) us) ≡ sum (map (λ (xs : List Lexeme). length xs) items)
+
+pub expanded : CountsTokens → (texts : List (List ℕ)) (us : List SourceUnit) → HaveValues HasUnit texts us → length texts ≤ length us → Expanded texts us
+expanded counts [] [] have few = record { items = []; expand = tt; count = refl }
+expanded counts [] (u ∷ us) have few = absurd have
+expanded counts (t ∷ ts) [] have few = absurd (omega (arith, few))
+expanded counts (t ∷ ts) (u ∷ us) have few =
+    let tree = have.0.is_unit.has.names.tree in
+    let more = expanded counts ts us have.1 (omega (arith, few)) in
+    let first : u.tokens ≡ length tree.expanded = counts t u tree.expanded have.0.is_unit tree.expands in
+    let tokens = map (λ (v : SourceUnit). v.tokens) us in
+    let lengths = map (λ (xs : List Lexeme). length xs) more.items in
+    record {
+      items = tree.expanded ∷ more.items;
+      expand = (tree.expands, more.expand);
+      count = sum_by-cons (λ n. n) u.tokens tokens ∙ ap₂ (λ m n. m + n) first more.count ∙ sym (sum_by-cons (λ n. n) (length tree.expanded) lengths);
+    }
+
+-- ---- runs
+
+-- a run that is over shows the same ever after
+over_stays : (s : State) (input : List ℕ) (k n : ℕ) (o : run.Observed) → k ≤ n → o.end ≢ run.Running → run.Shows s input k o → run.Shows s input n o
+over_stays s input k n o le over shows = record {
+  events = shows.events;
+  fits = shows.fits;
+  output = shows.output;
+  end = ⊎_elim
+      (λ (work : run.IsAtWork s k shows.events o.end). absurd (over work.2))
+      (λ (is : run.IsOver s k shows.events o.end). inr (is.0, is.1, omega (arith, is.2, le), is.3, is.4))
+      shows.end;
+}
+
+-- the 8086 is not running where the meaning is not
+is_over : (e : run.End) (meant : End) → TellsEnd e meant → meant ≢ Running → e ≢ run.Running
+is_over e meant tells over running = over (subst (λ x. TellsEnd x meant) running tells)
+
+module _ (given : OnRuns) (us : List SourceUnit) (limits : Limits) (some : us ≢ []) (most : length us ≤ 200) (all : All IsCompiled us) (within : IsLimits limits) (links : Links us limits) (input : List ℕ) (bytes : All (λ b. b < 256) input)
+    (s : State) (start : run.IsStart (image_of us limits).code (image_of us limits).words s) where
+  loaded : IsLoaded us (storage_map us) limits input s
+  loaded = given.loaded us limits input s some most all within links bytes start
+
+  pub preserves : (k : ℕ) (o : run.Observed) → run.Shows s input k o → Preserves (program_of us limits) input k o
+  preserves k o shows = given.preserves us (storage_map us) limits input s k o loaded shows
+
+  pub never_bad : (k offset : ℕ) (o : run.Observed) → run.Shows s input k o → o.end ≡ run.Bad offset → ⊥
+  never_bad k offset o shows e = subst (λ x. TellsEnd x (observed (program_of us limits) input (preserves k o shows).steps).end) e (preserves k o shows).shows.end
+
+  pub never_divided : (k offset : ℕ) (o : run.Observed) → run.Shows s input k o → o.end ≡ run.Divided offset → ⊥
+  never_divided k offset o shows e = subst (λ x. TellsEnd x (observed (program_of us limits) input (preserves k o shows).steps).end) e (preserves k o shows).shows.end
+
+  -- where the meaning is over in time, so is the run
+  pub never_running : (steps m : ℕ) → step_ratio * (m + 1) ≤ steps → (observed (program_of us limits) input m).end ≢ Running → (o : run.Observed) → run.Shows s input steps o → o.end ≡ run.Running → ⊥
+  never_running steps m soon ends o shows running =
+      let c = given.completes us (storage_map us) limits input s m loaded in
+      let over : c.shown.end ≢ run.Running = is_over c.shown.end (observed (program_of us limits) input m).end c.shows.end ends in
+      let early : c.k ≤ steps = omega (arith, c.pace, soon) in
+      let same : c.shown ≡ o = given.once s input steps c.shown o (over_stays s input c.k steps c.shown early over c.shows_at) shows in
+      over (ap (λ x. x.end) same ∙ running)
+
+-- ---- texts
+
+opposite : (b : Bool) → IsTrue b → IsFalse b → ⊥
+opposite b holds fails = absurd (cc (holds, fails))
+
+module _ (given : OneOfText) (text : List ℕ) where
+  pub one_unit : (u v : SourceUnit) → HasUnit text u → HasUnit text v → u ≡ v
+  one_unit u v x y = given.one_unit text u v x.is_unit y.is_unit
+
+  unit_not_refused : (u v : SourceUnit) → HasUnit text u → IsUnitOf text v → IsFalse (is_compiled v) → ⊥
+  unit_not_refused u v x y fails = opposite (is_compiled u) x.compiled (subst (λ w. IsFalse (is_compiled w)) (given.one_unit text v u y x.is_unit) fails)
+
+  pub not_refused : (u : SourceUnit) (fault : Refusing) → HasUnit text u → IsRefused text fault → ⊥
+  not_refused u (Faulty refusal) x y = given.not_both text u refusal x.is_unit y
+  not_refused u NotBuilt x (v, is, fails) = unit_not_refused u v x is fails
+
+  pub one_refusal : (f g : Refusing) → IsRefused text f → IsRefused text g → f ≡ g
+  one_refusal (Faulty f) (Faulty g) x y = ap Faulty (given.one_refusal text f g x y)
+  one_refusal (Faulty f) NotBuilt x (v, is, fails) = absurd (given.not_both text v f is x)
+  one_refusal NotBuilt (Faulty g) (v, is, fails) y = absurd (given.not_both text v g is y)
+  one_refusal NotBuilt NotBuilt x y = refl

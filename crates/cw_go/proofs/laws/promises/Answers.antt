@@ -1,0 +1,19 @@
+use Rattle.std.proofs.Common.{[], refl}
+use Rattle.cw_say.specs.declared.status.Status.TheVariants.{NoMemory}
+use Rattle.cw_go.proofs.Given.{Given}
+use Rattle.cw_go.proofs.Promised.{reading, keeps}
+use Rattle.cw_go.proofs.laws.promises.Goals as goal
+
+pub returns : goal.returns
+returns c =
+    let given : Given = record {
+      texts = record { one_unit = c.one_outcome.ensures.one_unit; one_refusal = c.one_outcome.ensures.one_refusal; not_both = c.one_outcome.ensures.not_both; tokens = c.one_outcome.ensures.tokens };
+      storages = record { layout = c.built_units.ensures.layout; storage = c.storage_maps.ensures };
+      runs = record { loaded = c.loaded.ensures; preserves = c.preservation.ensures.preserves; completes = c.preservation.ensures.completes; once = c.one_observation.ensures };
+      sizes = c.linked_units.ensures.size;
+    } in
+    record {
+      keeps = λ limits steps names segments before between after status within some most stays goes closes. keeps given limits steps names before between after segments stays status within some most goes closes;
+      idle = λ limits steps names before after closes.
+          reading given limits steps names before before after [] (λ name. refl) NoMemory (record { stopped = record { texts = []; values = []; have_bytes = tt; have_values = tt; stops = tt }; same = refl }) closes;
+    }

@@ -1,0 +1,41 @@
+//! What a call of `go` promises, from how it goes; and that no two statuses come of one call.
+ghost use Rattle.cw_go.specs.Laws.{KeepsPromise, IsRightIdle, HasOneStatus};
+
+use cw_build::laws::linked_units;
+use cw_build_laws::laws::loaded;
+use cw_built_laws::laws::built_units;
+use cw_compile::laws::one_outcome;
+use cw_cpu86::laws::{one_observation, one_start};
+use cw_sim::laws::preservation;
+use cw_unit::laws::storage_maps;
+
+/// A call that goes so up to its closing line, and is closed so, keeps its promise. So does one that did nothing else, for want of memory.
+pub(crate) fn promises()
+    ensures keeps { KeepsPromise }
+    ensures idle { IsRightIdle }
+{
+    one_outcome();
+    loaded();
+    linked_units();
+    built_units();
+    storage_maps();
+    preservation();
+    one_observation();
+}
+
+/// A call that did nothing but for its closing line, for want of memory, keeps its promise.
+pub fn idle()
+    ensures { IsRightIdle }
+{
+    promises();
+}
+
+/// Two statuses never come of one call of `go`, where the store tells its files, no count rose, and memory was found; and where one is
+/// TooLong(Input), the source its input.
+pub fn one_status_of_go()
+    ensures { HasOneStatus }
+{
+    one_outcome();
+    one_start();
+    one_observation();
+}

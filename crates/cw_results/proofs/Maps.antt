@@ -1,0 +1,156 @@
+-- A call of `map` keeps its promise.
+use Rattle.std.proofs.Common.{◌≡◌, ◌⊎◌, ℕ, suc, ◌+◌, ◌*◌, ◌<◌, ◌≤◌, List, [], ◌∷◌, map, sum, length, Option, Some, None, refl, sym, ap, ap₂, ◌∙◌, subst, inl, inr, arith}
+use Rattle.std.specs.Prelude.{All, IsTrue}
+use Rattle.std.proofs.lemmas.List.{length-map}
+use Rattle.std.proofs.lemmas.List.Sums.{sum-map, sum_by-cons}
+use Rattle.std.proofs.lemmas.List.Elements.{All-nil, All-cons}
+use Rattle.cw_io.specs.Count.{Rose}
+use Rattle.cw_io.specs.File.{Told, AllStay}
+use Rattle.cw_lex.specs.Lexical.{Lexeme}
+use Rattle.cw_unit.specs.declared.unit.Unit.{Unit as SourceUnit}
+use Rattle.cw_unit.specs.declared.layout.Limits.{Limits}
+use Rattle.cw_compile.specs.Texts.{text_limit}
+use Rattle.cw_link.specs.LinkedImage.{linked_size}
+use Rattle.cw_link.specs.declared.fault.LinkFault.{LinkFault}
+use Rattle.cw_link.specs.declared.fault.LinkFault.TheVariants.{SegmentTwice, Differs, DefinedTwice, Undefined, AbsoluteOutside, DataTooBig, ControlTooBig, PresetClash, CodeTooBig, NoMemory as NoMemoryToLink}
+use Rattle.cw_build.specs.Compiled.{is_compiled, contents_of_units}
+use Rattle.cw_build.specs.Linking.{Links, IsLinkFault, map_text}
+use Rattle.cw_files.specs.Texts.{HasUnit}
+use Rattle.cw_files.specs.Reading.{HaveBytes, HaveValues, AllTaken, Stopped, StopsTexts, SameCounts}
+use Rattle.cw_correct.specs.Calls.{Call, told_files, NoFault, IsUntouched, IsUnwritten}
+use Rattle.cw_correct.specs.Files.{counts_before, counts_after, AllAccepted}
+use Rattle.cw_correct.specs.Going.{ExpandTo, HasCause}
+use Rattle.cw_correct.specs.Meaning.{TellBytes}
+use Rattle.cw_correct.specs.Results.{WritesOut, IsDone, MapComes, MapsRight}
+use Rattle.cw_results.specs.Closed.{out_at}
+use Rattle.cw_results.specs.Results.{MapsUnits}
+use Rattle.cw_say.specs.declared.status.Status.{Status}
+use Rattle.cw_say.specs.declared.status.Status.TheVariants.{Ended, Unlinked, Outside, NoMemory}
+use Rattle.cw_say.specs.declared.status.Which.TheVariants.{Out as ToOut}
+use Rattle.cw_results.proofs.Cases.{stops_texts, gives_out, maps_units, map_comes}
+use Rattle.cw_results.proofs.Keeping.{Closed, says_last, unwritten, writes_out}
+use Rattle.cw_results.proofs.Links.{links_not_faulty, one_fault}
+use Rattle.cw_results.proofs.Readings.{Found, all_told, tells}
+use Rattle.cw_results.proofs.Texts.{OneOfText}
+use Rattle.cw_results.proofs.Units.{UnitRuns, all_run, all_taken, same_units, stop_runs, stop_done}
+
+-- ---- code that is too big
+
+abbrev pub HasSizes : Type 0
+HasSizes = (us : List SourceUnit) (limits : Limits) → All (λ u. IsTrue (is_compiled u)) us → linked_size (contents_of_units us) ≤ 32 * sum (map (λ u. u.tokens) us) + 4096
+
+pub compiled : (texts : List (List ℕ)) (us : List SourceUnit) → HaveValues HasUnit texts us → All (λ u. IsTrue (is_compiled u)) us
+compiled texts [] values = All-nil (λ u. IsTrue (is_compiled u))
+compiled [] (u ∷ us) values = absurd values
+compiled (text ∷ texts) (u ∷ us) values = All-cons (λ u. IsTrue (is_compiled u)) u us values.0.compiled (compiled texts us values.1)
+
+same_length : (files : List Told) (texts : List (List ℕ)) (us : List SourceUnit) → HaveBytes text_limit files texts → HaveValues HasUnit texts us → length us ≡ length files → length us ≡ length texts
+same_length [] [] [] have values all = refl
+same_length (file ∷ files) [] [] have values all = refl
+same_length files [] (u ∷ us) have values all = absurd values
+same_length [] (text ∷ texts) us have values all = absurd have
+same_length (file ∷ files) (text ∷ texts) [] have values all = absurd (omega (arith, all))
+same_length (file ∷ files) (text ∷ texts) (u ∷ us) have values all = ap suc (same_length files texts us have.2 values.1 (omega (arith, all)))
+
+summed : {X : Type 0} (f : X → ℕ) (x : X) (xs : List X) → sum (map f (x ∷ xs)) ≡ f x + sum (map f xs)
+summed f x xs = sum-map f (x ∷ xs) ∙ sum_by-cons f x xs ∙ ap (λ n. f x + n) (sym (sum-map f xs))
+
+module _ (given : OneOfText) (sizes : HasSizes) where
+  -- the texts expand to as many items as the units have tokens
+  expands : (texts : List (List ℕ)) (us : List SourceUnit) → HaveValues HasUnit texts us → length us ≡ length texts → (expanded : List (List Lexeme)) × ExpandTo texts expanded × (sum (map length expanded) ≡ sum (map (λ u. u.tokens) us))
+  expands [] [] values all = ([], tt, refl)
+  expands [] (u ∷ us) values all = absurd values
+  expands (text ∷ texts) [] values all = absurd (omega (arith, all))
+  expands (text ∷ texts) (u ∷ us) values all =
+      let (more, x, count) = expands texts us values.1 (omega (arith, all)) in
+      let tree = values.0.is_unit.has.names.tree in
+      let here : u.tokens ≡ length tree.expanded = given.tokens text u tree.expanded values.0.is_unit tree.expands in
+      (tree.expanded ∷ more, (tree.expands, x), summed length tree.expanded more ∙ ap₂ (λ m n. m + n) (sym here) count ∙ sym (summed (λ (v : SourceUnit). v.tokens) u us))
+
+  cause : (limits : Limits) (texts : List (List ℕ)) (us : List SourceUnit) → HaveValues HasUnit texts us → length us ≡ length texts → (fault : LinkFault) → IsLinkFault us limits fault → HasCause texts fault
+  cause limits texts us values all (CodeTooBig bytes) x =
+      let (expanded, expand, count) = expands texts us values all in
+      (expanded, expand, omega (arith, sizes us limits (compiled texts us values), x.first.1, count))
+  cause limits texts us values all (SegmentTwice name) x = tt
+  cause limits texts us values all (Differs name first second) x = tt
+  cause limits texts us values all (DefinedTwice name first second) x = tt
+  cause limits texts us values all (Undefined name) x = tt
+  cause limits texts us values all (AbsoluteOutside segment address) x = tt
+  cause limits texts us values all (DataTooBig need) x = tt
+  cause limits texts us values all (ControlTooBig need) x = tt
+  cause limits texts us values all (PresetClash address first second) x = tt
+  cause limits texts us values all NoMemoryToLink x = tt
+
+  module _ (c : Call) (untouched : IsUntouched c.before c.after) (stay : AllStay c.before.files c.after.files) (s : Status) (closed : Closed c s) where
+    make : (texts : List (List ℕ)) (us : List SourceUnit) → HaveBytes text_limit (told_files c) texts → HaveValues HasUnit texts us → MapComes c texts us s → WritesOut c (map_text us c.limits) s → MapsRight c s
+    make texts us have values comes writes = record {
+      texts = texts;
+      units = us;
+      have_texts = have;
+      have_units = values;
+      comes = comes;
+      says = says_last c.before c.after c.names s (λ e. subst (λ t. MapComes c texts us t) e comes) closed;
+      writes = writes;
+      untouched = untouched;
+      stays = stay;
+      completes = λ told ws tell taken links quiet.
+          map_comes (λ t. WritesOut c (map_text us c.limits) t → IsDone t) c texts us (λ x w. tt) (λ x w. absurd (quiet.out w.3))
+          (λ fault x w.
+          let tell_all = tell ∙ tells told in
+          let same : ws ≡ us = same_units given c (map Some told) tell_all ws us (all_taken given c (map Some told) tell_all ws taken) (all_run given c (map Some told) tell_all texts us have values x.0) in
+          absurd (links_not_faulty (contents_of_units us) c.limits fault (subst (λ vs. Links vs c.limits) same links) x.1))
+          (λ t x w. stop_done given c (map Some told) (tell ∙ tells told) texts us have values quiet ws taken t x) s comes writes;
+    }
+
+    pub stopped : IsUnwritten c.before c.after → Stopped text_limit HasUnit (λ texts taken. StopsTexts (told_files c) texts taken (counts_before c) (counts_after c) s) (told_files c) → MapsRight c s
+    stopped none x =
+        make x.texts x.values x.have_bytes x.have_values
+        (stops_texts (λ t. MapComes c x.texts x.values t) (told_files c) x.texts (length x.values) (counts_before c) (counts_after c) (λ number fault y. y) (λ number y. y) (λ y. y) (λ number y. y) tt s x.stops)
+        (stops_texts (λ t. WritesOut c (map_text x.values c.limits) t) (told_files c) x.texts (length x.values) (counts_before c) (counts_after c) (λ number fault y. none) (λ number y. none) (λ y. none) (λ number y. none) none s x.stops)
+
+    pub written : (us : List SourceUnit) → AllTaken text_limit HasUnit (told_files c) us → SameCounts (counts_before c) (counts_after c)
+        → MapsUnits us c.limits (out_at c.before.out c.before.out_faults) (out_at c.after.out c.after.out_faults) s → MapsRight c s
+    written us x same maps =
+        let all : AllAccepted c us = x.all ∙ length-map c.names c.before.files in
+        let old = out_at c.before.out c.before.out_faults in
+        let new = out_at c.after.out c.after.out_faults in
+        make x.texts us x.have_bytes x.have_values
+        (maps_units (λ t. MapComes c x.texts us t) us c.limits old new
+        (λ fault y. (all, y.0, cause c.limits x.texts us x.have_values (same_length (told_files c) x.texts us x.have_bytes x.have_values x.all) fault y.0))
+        (λ y. tt)
+        (λ t links gives. gives_out (λ t. MapComes c x.texts us t) (map_text us c.limits) old new (λ y. (all, links)) (λ y. (all, links)) (λ y. tt) t gives)
+        s maps)
+        (maps_units (λ t. Closed c t → WritesOut c (map_text us c.limits) t) us c.limits old new
+        (λ fault y end. unwritten c y.1)
+        (λ y end. unwritten c y)
+        (λ t links gives end. writes_out c untouched (map_text us c.limits) t same end gives)
+        s maps closed)
+
+-- ---- one status
+
+module _ (given : OneOfText) (c : Call) where
+  abbrev pub After : List SourceUnit → Status → Type 0
+  After us s = ((s ≡ Ended) × Links us c.limits) ⊎ ((fault : LinkFault) × IsLinkFault us c.limits fault × (s ≡ Unlinked fault))
+
+  pub one_after : (us vs : List SourceUnit) (s t : Status) → us ≡ vs → After us s → After vs t → s ≡ t
+  one_after us vs s t same (inl (e, links)) (inl (f, also)) = e ∙ sym f
+  one_after us vs s t same (inl (e, links)) (inr (g, y, f)) = absurd (links_not_faulty (contents_of_units vs) c.limits g (subst (λ ws. Links ws c.limits) same links) y)
+  one_after us vs s t same (inr (g, x, e)) (inl (f, links)) = absurd (links_not_faulty (contents_of_units vs) c.limits g links (subst (λ ws. IsLinkFault ws c.limits g) same x))
+  one_after us vs s t same (inr (g, x, e)) (inr (h, y, f)) = e ∙ ap Unlinked (one_fault (contents_of_units vs) c.limits g h (subst (λ ws. IsLinkFault ws c.limits g) same x) y) ∙ sym f
+
+  pub fate : (s : Status) → MapsRight c s → (found : List Found) → told_files c ≡ all_told found → NoFault c.before c.after
+      → (s ≡ NoMemory) ⊎ ((us : List SourceUnit) × UnitRuns found us (Some s)) ⊎ ((us : List SourceUnit) × UnitRuns found us None × After us s)
+  fate s x found told quiet =
+      map_comes (λ t. WritesOut c (map_text x.units c.limits) t → (t ≡ NoMemory) ⊎ ((us : List SourceUnit) × UnitRuns found us (Some t)) ⊎ ((us : List SourceUnit) × UnitRuns found us None × After us t)) c x.texts x.units
+      (λ y w. inr (inr (x.units, run y.0, inl (refl, y.1))))
+      (λ y w. absurd (quiet.out w.3))
+      (λ fault y w. inr (inr (x.units, run y.0, inr (fault, y.1, refl))))
+      (λ t stops w. more t (stop_runs given c found told x.texts x.units x.have_texts x.have_units quiet t stops))
+      s x.comes x.writes
+    where
+      run : AllAccepted c x.units → UnitRuns found x.units None
+      run all = all_run given c found told x.texts x.units x.have_texts x.have_units all
+
+      more : (t : Status) → (t ≡ NoMemory) ⊎ UnitRuns found x.units (Some t) → (t ≡ NoMemory) ⊎ ((us : List SourceUnit) × UnitRuns found us (Some t)) ⊎ ((us : List SourceUnit) × UnitRuns found us None × After us t)
+      more t (inl e) = inl e
+      more t (inr run) = inr (inl (x.units, run))

@@ -1,0 +1,53 @@
+-- What comes of what was read, by the status: the result, where it is written to; or why there is none.
+use Rattle.std.specs.Prelude.{◌≡◌, ℕ, List, ◌++◌, map, codes}
+use Rattle.cw_io.specs.File.{AllStay}
+use Rattle.cw_unit.specs.declared.unit.Unit.{Unit as SourceUnit}
+use Rattle.cw_unit.specs.declared.layout.Limits.{Limits}
+use Rattle.cw_compile.specs.Texts.{IsCanonicalOf, IsRefused}
+use Rattle.cw_compile.specs.declared.fault.UnitFault.{UnitFault}
+use Rattle.cw_compile.specs.declared.fault.UnitFault.TheVariants as units
+use Rattle.cw_link.specs.LinkedImage.{linked_image}
+use Rattle.cw_link.specs.declared.fault.LinkFault.{LinkFault}
+use Rattle.cw_link.specs.declared.fault.LinkFault.TheVariants as linking
+use Rattle.cw_image.specs.ImageFormat.{image_bytes}
+use Rattle.cw_object.specs.ObjectContents.{contents_in}
+use Rattle.cw_obj.specs.Migration.{IsMigrated}
+use Rattle.cw_build.specs.Linking.{AreLinked, IsFault, Links, IsLinkFault, map_text}
+use Rattle.cw_results.specs.Closed.{Files, Out}
+use Rattle.cw_results.specs.Written.{GivesOut, GivesFile}
+use Rattle.cw_say.specs.declared.status.Status.{Status}
+use Rattle.cw_say.specs.declared.status.Status.TheVariants.{Refused, Unlinked, NoMemory}
+use Rattle.cw_say.specs.declared.status.Refused.TheVariants.{Faulty}
+
+-- the status of what does not link
+abbrev pub unlinked_status : LinkFault → Status
+unlinked_status linking.NoMemory = NoMemory
+unlinked_status fault = Unlinked fault
+
+-- and of a text that has no unit
+abbrev pub faulty_status : UnitFault → Status
+faulty_status (units.Refused refusal) = Refused 0 (Faulty refusal)
+faulty_status units.NoMemory = NoMemory
+
+-- units, whose storage map is written
+abbrev pub MapsUnits : List SourceUnit → Limits → (out out' : Out) → Status → Type 0
+MapsUnits us limits out out' NoMemory = out' ≡ out
+MapsUnits us limits out out' (Unlinked fault) = IsLinkFault us limits fault × (out' ≡ out)
+MapsUnits us limits out out' status = Links us limits × GivesOut (map_text us limits) out out' status
+
+-- a text, whose canonical text is written
+abbrev pub ShowsText : (text : List ℕ) → (out out' : Out) → Status → Type 0
+ShowsText text out out' NoMemory = out' ≡ out
+ShowsText text out out' (Refused number (Faulty refusal)) = (number ≡ 0) × IsRefused text refusal × (out' ≡ out)
+ShowsText text out out' status = (shown : List ℕ) × IsCanonicalOf text shown × GivesOut shown out out' status
+
+-- objects, whose image is written
+abbrev pub LinksObjects : (objects : List (List ℕ)) → Limits → (files files' : Files) → Status → Type 0
+LinksObjects objects limits files files' NoMemory = AllStay files.told files'.told
+LinksObjects objects limits files files' (Unlinked fault) = IsFault (map contents_in objects) limits fault × AllStay files.told files'.told
+LinksObjects objects limits files files' status = AreLinked (map contents_in objects) limits × GivesFile (codes "A.IMG") (image_bytes (linked_image (map contents_in objects) limits)) files files' status
+
+-- an object, which is written in version 2
+abbrev pub MigratesObject : (name object : List ℕ) → (files files' : Files) → Status → Type 0
+MigratesObject name object files files' NoMemory = AllStay files.told files'.told
+MigratesObject name object files files' status = (result : List ℕ) × IsMigrated object result × GivesFile (name ++ codes ".SG2") result files files' status

@@ -1,0 +1,29 @@
+//! Laws of what the actions promise that run nothing.
+ghost use Rattle.cw_correct.specs.Results.{MapsRight, ShowsRight, CompilesRight, LinksRight, MigratesRight};
+ghost use Rattle.cw_results.specs.Idle.{AllowsIdle};
+ghost use Rattle.cw_results.specs.OneStatus.{AllowsOneStatus};
+
+use cw_compile::laws::one_outcome;
+use cw_view::laws::object_format;
+
+#[tactic(auto, using(crate::proofs::Idle::laws))]
+/// Where memory is wanted, a call may do nothing but say so.
+pub fn idle()
+    ensures map { AllowsIdle MapsRight }
+    ensures list { AllowsIdle ShowsRight }
+    ensures compile { AllowsIdle CompilesRight }
+    ensures link { AllowsIdle LinksRight }
+    ensures migrate { AllowsIdle MigratesRight }
+{}
+
+/// Two statuses never come of one call, where the store tells its files, which are bytes, no count rose, and memory was found.
+pub fn one_status_of_results()
+    ensures map { AllowsOneStatus MapsRight }
+    ensures list { AllowsOneStatus ShowsRight }
+    ensures compile { AllowsOneStatus CompilesRight }
+    ensures link { AllowsOneStatus LinksRight }
+    ensures migrate { AllowsOneStatus MigratesRight }
+{
+    one_outcome();
+    object_format();
+}
