@@ -159,6 +159,24 @@ mod tests {
     }
 
     #[test]
+    fn a_file_is_written_anew(rt: HostRuntime) -> io::Result<()> {
+        let mut files = Files::new(&rt);
+        let mut buf = [0u8; 8];
+        assert!(&rt; files.write_all("written.tmp", b"abcdef").is_ok());
+        assert!(&rt; files.write_all("written.tmp", b"xyz").is_ok());
+        let read = files.read_part("written.tmp", 0, &mut buf);
+        assert!(&rt; matches!(read, Ok(3)));
+        assert_eq!(&rt; buf, *b"xyz\0\0\0\0\0");
+        assert!(&rt;
+            files
+                .write_all("no such folder/written.tmp", b"xyz")
+                .is_err()
+        );
+        assert_eq!(&rt; (files.faults, files.absences), (1, 0));
+        fs::remove_file(&rt, "written.tmp")
+    }
+
+    #[test]
     fn reading_gives_the_bytes_and_counts_faults(rt: HostRuntime) {
         let mut buf = [0u8; 4];
         let mut reading = Reading::new(b"abcdef".as_slice());

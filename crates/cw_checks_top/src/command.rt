@@ -10,7 +10,8 @@ use std::test::Fail;
 const FIRST: &str =
     "LIBRARY (PROCEDURE WRITEBYTE(VALUE INTEGER)); SEGMENT A BEGIN INTEGER X; X := 1+2; WRITEBYTE(X+64) END FINISH";
 
-fn list(alloc: Global, bytes: &[u8]) -> Result<List<u8>, AllocError> {
+/// Bytes as a list.
+pub fn list(alloc: Global, bytes: &[u8]) -> Result<List<u8>, AllocError> {
     Ok(List::of(bytes.to_vec(alloc)?))
 }
 
@@ -18,7 +19,8 @@ fn calls(alloc: Global, calls: &[u64]) -> Result<List<u64>, AllocError> {
     Ok(List::of(calls.to_vec(alloc)?))
 }
 
-fn words_of(alloc: Global, line: &str) -> Result<Vec<String>, AllocError> {
+/// The words of a line, between which stands one blank.
+pub fn words_of(alloc: Global, line: &str) -> Result<Vec<String>, AllocError> {
     let mut words = vec![in alloc]?;
     for word in line.split(' ') {
         words.push(String::from_str(alloc, word)?)?;
@@ -219,8 +221,8 @@ fn words_and_files(rt: HostRuntime) -> Result<(), Fail> {
     let alloc = rt.alloc();
     let rows = [
         ("go", USAGE),
-        ("go a b", USAGE),
-        ("list a", USAGE),
+        ("list a b", USAGE),
+        ("big 1", USAGE),
         ("go none", "6||no file: none\n"),
         ("go a", MAP),
         (

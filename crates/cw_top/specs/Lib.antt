@@ -1,6 +1,1 @@
-pub mod Texts
-pub mod Images
-pub mod Calls
-pub mod Meaning
-pub mod Correct
-pub mod Going
+pub mod Quits

@@ -1,62 +1,57 @@
-// What the words of the command ask for. So far that is `go` of one file.
-ghost use Rattle.std.specs.Prelude.{◌≡◌, map, string_bytes, IfOk, IfSome, IsSome, IsNone, IsErrOf, length, slice_index_or, []};
-ghost use Rattle.cw_place.specs.Placement.{IsLimits};
-ghost use Rattle.cw_words.specs.Parts.{InRange, parts_of, command_parts};
-ghost use Rattle.cw_words.specs.declared.action.Action.TheVariants.{Go};
-ghost use Rattle.cw_top.specs.Calls.{IsCommand, name_in, limits_in, steps_in};
+// What a command asks for, done.
+ghost use Rattle.std.specs.Prelude.{◌≡◌, []};
+ghost use Rattle.cw_words.specs.Parts.{InRange, command_parts};
+ghost use Rattle.cw_correct.specs.Calls.{surroundings_of, unless_big};
+ghost use Rattle.cw_correct.specs.Correct.{IsCorrectRequest};
+ghost use Rattle.cw_say.specs.Said.{Says};
+ghost use Rattle.cw_say.specs.Closing.{closing_line};
 
+use cw_exec::exec;
+use cw_go::go;
+use cw_io::{Sink, Source, Store};
+use cw_results::{compile, link, map_files, migrate, show};
+use cw_say::{Status, write_last};
 use cw_unit::layout::Limits;
-use cw_words::{Action, Command, WordsFault, read_words};
+use cw_words::{Action, Command};
 use std::alloc::Global;
 
-/// The file of `go`, and the limits and the instructions of its run.
-#[derive(Clone, Copy)]
-pub(crate) struct Request<'a> {
-    pub(crate) name: &'a str,
-    pub(crate) limits: Limits,
-    pub(crate) steps: u64,
-}
-
-// The one name of `go`, where a command is that.
-fn name_of<'a>(command: &Command<'a>) -> Option<&'a str>
-    ensures go { IsSome result → (command.now.action ≡ Go) × (length command.now.names.items ≡ 1) }
-    ensures name { IfSome result (λ name. name.now ≡ slice_index_or (map (λ text. text.now) command.now.names.items) 0 []) }
-    ensures none { IsNone result → command.now.action ≡ Go → length command.now.names.items ≡ 1 → ⊥ }
+/// Writes the line of a call that did nothing, which is answered by its status.
+pub(crate) fn quit<S: Sink>(say: &mut S, status: Status) -> Status
+    ensures same { result ≡ status }
+    ensures line { Says (S.held say.old) (S.held say.new) (S.faults say.old) (S.faults say.new) (closing_line [] [] status) }
+    ensures ended { status ≡ Status.Ended → S.faults say.new ≡ S.faults say.old }
 {
-    match command.action {
-        Action::Go => match command.names.as_slice() {
-            [name] => Some(*name),
-            _ => None,
-        },
-        _ => None,
-    }
+    let _ = write_last(say, &[], &[], &status);
+    status
 }
 
-/// What the words ask for, where that is built; else Usage.
-pub(crate) fn read_request<'a>(
+/// Does what the command asks for, and closes with the line of the status.
+pub(crate) fn perform<F: Store, I: Source, O: Sink, S: Sink>(
     alloc: Global,
-    words: &'a [String],
-) -> Result<Request<'a>, WordsFault>
-    ensures command { IfOk result (λ request. IsCommand (map string_bytes words.entry.now)) }
-    ensures name { IfOk result (λ request. request.name.now ≡ name_in (parts_of (map string_bytes words.entry.now))) }
-    ensures limits { IfOk result (λ request. request.limits ≡ limits_in (parts_of (map string_bytes words.entry.now))) }
-    ensures fit { IfOk result (λ request. IsLimits request.limits) }
-    ensures steps { IfOk result (λ request. request.steps ≡ steps_in (parts_of (map string_bytes words.entry.now))) }
-    ensures usage { IsErrOf result WordsFault.Usage → IsCommand (map string_bytes words.entry.now) → ⊥ }
+    command: &Command<'_>,
+    files: &mut F,
+    input: &mut I,
+    out: &mut O,
+    say: &mut S,
+) -> Status
+    requires { InRange command.now }
+    ensures { IsCorrectRequest (unless_big command.now.action (command_parts command.now)) (surroundings_of (F.file files.old) (F.faults files.old) (F.absences files.old) (I.left input.old) (I.faults input.old) (O.held out.old) (O.faults out.old) (S.held say.old) (S.faults say.old)) (surroundings_of (F.file files.new) (F.faults files.new) (F.absences files.new) (I.left input.new) (I.faults input.new) (O.held out.new) (O.faults out.new) (S.held say.new) (S.faults say.new)) result }
 {
-    match read_words(alloc, words) {
-        Ok(command) => match name_of(&command) {
-            Some(name) => Ok(Request {
-                name,
-                limits: Limits {
-                    area: command.area,
-                    frames: command.frames,
-                    depth: command.depth,
-                },
-                steps: command.steps,
-            }),
-            None => Err(WordsFault::Usage),
-        },
-        Err(fault) => Err(fault),
+    let limits = Limits {
+        area: command.area,
+        frames: command.frames,
+        depth: command.depth,
+    };
+    let steps = command.steps;
+    let names = command.names.as_slice();
+    match command.action {
+        Action::Go => go(alloc, names, &limits, steps, files, input, out, say),
+        Action::Compile => compile(alloc, names, &limits, steps, files, say),
+        Action::Link => link(alloc, names, &limits, steps, files, say),
+        Action::Exec => exec(alloc, names, &limits, steps, files, input, out, say),
+        Action::List => show(alloc, names, &limits, steps, files, out, say),
+        Action::Map => map_files(alloc, names, &limits, steps, files, out, say),
+        Action::Migrate => migrate(alloc, names, &limits, steps, files, say),
+        Action::Big => quit(say, Status::Usage),
     }
 }

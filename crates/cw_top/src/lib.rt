@@ -2,9 +2,8 @@
 #![tactic(auto)]
 
 mod command;
-mod go;
 pub mod laws;
 mod top;
 
-pub use cw_say::{LinkFault, Long, Refused, Status, Which};
+pub use cw_say::{Bad, LinkFault, Long, Refused, Status, Which};
 pub use top::coral66;

@@ -1,8 +1,15 @@
-use Rattle.cw_top.proofs.Statuses.{one_status}
+use Rattle.cw_top.proofs.OneStatus.{one_status}
 use Rattle.cw_top.proofs.laws.one_status.Goals as goal
 
 pub returns : goal.returns
 returns c =
     one_status
-    (record { one_unit = c.one_outcome.ensures.one_unit; one_refusal = c.one_outcome.ensures.one_refusal; not_both = c.one_outcome.ensures.not_both; tokens = c.one_outcome.ensures.tokens })
-    (record { starts = c.one_start.ensures; once = c.one_observation.ensures })
+    (record {
+      go = c.one_status_of_go.ensures;
+      exec = c.one_status_of_exec.ensures;
+      map = c.one_status_of_results.ensures.map;
+      list = c.one_status_of_results.ensures.list;
+      compile = c.one_status_of_results.ensures.compile;
+      link = c.one_status_of_results.ensures.link;
+      migrate = c.one_status_of_results.ensures.migrate;
+    })

@@ -1,0 +1,131 @@
+//! The actions on several files, over a store in memory that takes files.
+use crate::command::{list, words_of};
+use cw_io::{MemFile, MemSink, MemSource, MemStore};
+use cw_top::coral66;
+use cw_word::List;
+use std::alloc::{AllocError, Global};
+use std::test::Fail;
+
+const FIRST: &str =
+    "COMMON (INTEGER X; PROCEDURE P(VALUE INTEGER)); LIBRARY (INTEGER PROCEDURE READBYTE; PROCEDURE WRITEBYTE(VALUE INTEGER)); SEGMENT A BEGIN X := 66; P(READBYTE); WRITEBYTE(X) END FINISH";
+
+const SECOND: &str =
+    "COMMON (INTEGER X; PROCEDURE P(VALUE INTEGER)); LIBRARY (PROCEDURE WRITEBYTE(VALUE INTEGER)); SEGMENT B BEGIN PROCEDURE P(VALUE INTEGER N); BEGIN WRITEBYTE(N); X := X + 1 END; END FINISH";
+
+// An image of one word of data whose program halts at once, and the same without its last byte and with another instruction.
+const HALTING: [u8; 22] = [
+    0x43, 0x36, 0x36, 0x49, 1, 0, 0x10, 0, 1, 0, 1, 0, 1, 1, 0x41, 0, 0, 1, 0, 0, 0, 0xF4,
+];
+
+const CUT: [u8; 21] = [
+    0x43, 0x36, 0x36, 0x49, 1, 0, 0x10, 0, 1, 0, 1, 0, 1, 1, 0x41, 0, 0, 1, 0, 0, 0,
+];
+
+const NO_CODE: [u8; 22] = [
+    0x43, 0x36, 0x36, 0x49, 1, 0, 0x10, 0, 1, 0, 1, 0, 1, 1, 0x41, 0, 0, 1, 0, 0, 0, 0x0F,
+];
+
+fn file(alloc: Global, name: &[u8], bytes: &[u8]) -> Result<MemFile, AllocError> {
+    Ok(MemFile {
+        name: list(alloc, name)?,
+        bytes: list(alloc, bytes)?,
+    })
+}
+
+// Texts and images, each under the name that the tables give it.
+fn store(alloc: Global) -> Result<MemStore, AllocError> {
+    let texts = [
+        ("a", FIRST),
+        ("b", SECOND),
+        ("e", "SEGMENT E BEGIN END FINISH"),
+        (
+            "t1",
+            "COMMON (FIXED(16,4) T); SEGMENT A BEGIN T := 1 END FINISH",
+        ),
+        (
+            "t2",
+            "COMMON (INTEGER T); SEGMENT B BEGIN T := 1 END FINISH",
+        ),
+        ("r", "COMMON (PROCEDURE R); SEGMENT A BEGIN R END FINISH"),
+    ];
+    let mut files = Vec::new(alloc);
+    for (name, text) in texts {
+        files.push(file(alloc, name.as_bytes(), text.as_bytes())?)?;
+    }
+    files.push(file(alloc, b"halting", &HALTING)?)?;
+    files.push(file(alloc, b"A.IMX", &CUT)?)?;
+    files.push(file(alloc, b"none", &NO_CODE)?)?;
+    let no_call = List::of(Vec::new(alloc));
+    match MemStore::new(alloc, List::of(files), 16, 65_536, 4096, no_call) {
+        Ok(store) => Ok(store),
+        Err(_) => Err(AllocError),
+    }
+}
+
+// What a call shows, over the input 65: its status, what it writes and what it says.
+fn shown(alloc: Global, files: &mut MemStore, line: &str) -> Result<String, AllocError> {
+    let mut input = MemSource::new(list(alloc, b"A")?, 4096, List::of(Vec::new(alloc)));
+    let Ok(mut out) = MemSink::new(alloc, 4096, 1, List::of(Vec::new(alloc))) else {
+        return Err(AllocError);
+    };
+    let Ok(mut say) = MemSink::new(alloc, 4096, 4096, List::of(Vec::new(alloc))) else {
+        return Err(AllocError);
+    };
+    let words = words_of(alloc, line)?;
+    let status = coral66(
+        alloc,
+        words.as_slice(),
+        files,
+        &mut input,
+        &mut out,
+        &mut say,
+    );
+    let code = status.code();
+    let held = String::from_utf8_lossy(alloc, out.held())?;
+    let said = String::from_utf8_lossy(alloc, say.held())?;
+    format!(in alloc; "{code}|{held}|{said}")
+}
+
+#[test]
+fn actions(rt: HostRuntime) -> Result<(), Fail> {
+    let rows = [
+        ("list e", "0|SEGMENT E BEGIN\nEND FINISH\n|"),
+        ("map e", "0|12288 04096 FRAMES\n|"),
+        (
+            "go a b",
+            "0|AC|00000 00001 COMMON.X WORD\n00001 00001 B.P.N WORD\n12288 04096 FRAMES\n",
+        ),
+        (
+            "map a b",
+            "0|00000 00001 COMMON.X WORD\n00001 00001 B.P.N WORD\n12288 04096 FRAMES\n|",
+        ),
+        ("link a.SEG b.SEG", "6||no file: a.SEG\n"),
+        ("compile a", "0||"),
+        ("compile b", "0||"),
+        ("link a.SEG b.SEG", "0||"),
+        ("exec A.IMG", "0|AC|"),
+        ("migrate a.SEG", "0||"),
+        ("link a.SEG.SG2 b.SEG", "0||"),
+        ("exec A.IMG", "0|AC|"),
+        ("exec halting", "0||"),
+        ("exec none", "11||bad code: 0\n"),
+        ("exec A.IMX", "9||A.IMX: I3 Truncated 21\n"),
+        ("exec a", "9||a: I1 NotImage\n"),
+        ("link b.SEG a", "9||a: O1 NotObject\n"),
+        ("go t1 t2", "3||link: K1 Differs T 1 2\n"),
+        ("go r", "3||link: K2 Undefined R\n"),
+        ("go e e", "3||link: K5 SegmentTwice E\n"),
+        ("link a.SEG a.SEG", "3||link: K5 SegmentTwice A\n"),
+        ("go e missing", "6||no file: missing\n"),
+        (
+            "big 1",
+            "1||usage: coral66 [--data N] [--frames N] [--depth N] [--steps N] ACTION WORD...\n",
+        ),
+    ];
+    let alloc = rt.alloc();
+    let mut files = store(alloc)?;
+    for (line, wanted) in rows {
+        assert_eq!(rt; shown(alloc, &mut files, line)?.as_str(), wanted);
+    }
+    Ok(())
+}

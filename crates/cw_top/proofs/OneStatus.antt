@@ -1,0 +1,39 @@
+-- Two statuses never come of one call, by its action.
+use Rattle.std.proofs.Common.{◌≡◌, ◌≢◌, ◌⊎◌, ℕ, List, map, Option, Some, refl, subst}
+use Rattle.std.specs.Prelude.{All}
+use Rattle.cw_words.specs.declared.action.Action.{Action}
+use Rattle.cw_words.specs.declared.action.Action.TheVariants.{Go, Compile, Link, Exec, List as Show, Map, Migrate, Big}
+use Rattle.cw_correct.specs.Calls.{Call, told_files, NoFault}
+use Rattle.cw_correct.specs.Correct.{CorrectAs, TellsBytes, HasOneStatus}
+use Rattle.cw_correct.specs.Results.{MapsRight, ShowsRight, CompilesRight, LinksRight, MigratesRight}
+use Rattle.cw_say.specs.declared.status.Status.{Status}
+use Rattle.cw_say.specs.declared.status.Status.TheVariants.{NoMemory, TooLong}
+use Rattle.cw_say.specs.declared.status.Long.TheVariants as long
+use Rattle.cw_go.specs.Laws as going
+use Rattle.cw_exec.specs.Laws as executing
+use Rattle.cw_results.specs.OneStatus.{AllowsOneStatus}
+
+-- the same of each action
+pub record OneEach : Type 0 where
+  pub go : going.HasOneStatus
+  pub exec : executing.HasOneStatus
+  pub map : AllowsOneStatus MapsRight
+  pub list : AllowsOneStatus ShowsRight
+  pub compile : AllowsOneStatus CompilesRight
+  pub link : AllowsOneStatus LinksRight
+  pub migrate : AllowsOneStatus MigratesRight
+
+module _ (each : OneEach) (c : Call) (input : List ℕ) (a b : Status) (found : List (Option (List ℕ))) (told : told_files c ≡ map Some found) (bytes : All TellsBytes found) (quiet : NoFault c.before c.after) (other : a ≢ NoMemory)
+    (also : b ≢ NoMemory) (telling : (a ≡ TooLong long.Input) ⊎ (b ≡ TooLong long.Input) → (left : List ℕ) × (c.before.left ≡ Some left)) where
+  pub one_of : (action : Action) → CorrectAs action c input a → CorrectAs action c input b → a ≡ b
+  one_of Go x y = each.go c input a b found told quiet other also telling x y
+  one_of Exec x y = each.exec c input a b found told quiet other also telling x y
+  one_of Map x y = each.map c a b found told bytes quiet other also x y
+  one_of Show x y = each.list c a b found told bytes quiet other also x y
+  one_of Compile x y = each.compile c a b found told bytes quiet other also x y
+  one_of Link x y = each.link c a b found told bytes quiet other also x y
+  one_of Migrate x y = each.migrate c a b found told bytes quiet other also x y
+  one_of Big x y = absurd x
+
+pub one_status : OneEach → HasOneStatus
+one_status each c input a b found told bytes quiet other also telling x y = one_of each c input a b found told bytes quiet other also telling c.action x y

@@ -1,0 +1,96 @@
+-- A call that did nothing but write its closing line keeps its promise.
+use Rattle.std.proofs.Common.{◌≡◌, ◌⊎◌, ℕ, List, [], Option, Some, None, refl, sym, ap, ◌∙◌, subst, inl, inr, arith, append-nil}
+use Rattle.cw_io.specs.Bytes.{after_told}
+use Rattle.cw_words.specs.Parts.{Parts}
+use Rattle.cw_words.specs.declared.action.Action.{Action}
+use Rattle.cw_words.specs.declared.action.Action.TheVariants.{Go, Compile, Link, Exec, List as Show, Map, Migrate, Big}
+use Rattle.cw_say.specs.Said.{Says}
+use Rattle.cw_say.specs.Closing.{closing_line}
+use Rattle.cw_correct.specs.Calls.{Surroundings, Call, limits_of, call_as, unless_big}
+use Rattle.cw_correct.specs.Closing.{Closes}
+use Rattle.cw_correct.specs.Saying.{IsFirstPart, SaysLast}
+use Rattle.cw_correct.specs.Correct.{DoesNothing, IsCorrectRequest}
+use Rattle.cw_correct.specs.Results.{MapsRight, ShowsRight, CompilesRight, LinksRight, MigratesRight}
+use Rattle.cw_say.specs.declared.status.Status.{Status}
+use Rattle.cw_say.specs.declared.status.Status.TheVariants.{Usage, NoMemory}
+use Rattle.cw_go.specs.Laws as going
+use Rattle.cw_exec.specs.Laws as executing
+use Rattle.cw_results.specs.Idle.{IsIdle, AllowsIdle}
+use Rattle.cw_top.specs.Quits.{MayQuit}
+use Rattle.cw_top.proofs.Asked.{over_any, asked}
+
+after_nothing : (told : Option (List ℕ)) → after_told told [] ≡ told
+after_nothing None = refl
+after_nothing (Some held) = ap Some (append-nil held)
+
+-- the promises of all actions for want of memory
+pub record Idles : Type 0 where
+  pub go : going.IsRightIdle
+  pub exec : executing.IsRightIdle
+  pub map : AllowsIdle MapsRight
+  pub list : AllowsIdle ShowsRight
+  pub compile : AllowsIdle CompilesRight
+  pub link : AllowsIdle LinksRight
+  pub migrate : AllowsIdle MigratesRight
+
+module _ (before after : Surroundings) where
+  says_last : (names : List (List ℕ)) (status : Status) → IsFirstPart [] before.say_faults before.say_faults status [] → Says before.say after.say before.say_faults after.say_faults (closing_line names [] status) → SaysLast before after names [] status
+  says_last names status is says = record {
+    first = [];
+    middle = before.say_faults;
+    is_first = is;
+    later = omega arith;
+    closing = subst (λ told. Says told after.say before.say_faults after.say_faults (closing_line names [] status)) (sym (after_nothing before.say)) says;
+  }
+
+  does_nothing : (status : Status) → (status ≡ Usage) ⊎ (status ≡ NoMemory) → IsFirstPart [] before.say_faults before.say_faults status [] → Closes before after [] [] status → DoesNothing before after status
+  does_nothing status comes is closes = record {
+    comes = comes;
+    says = says_last [] status is closes.says;
+    untouched = record { input = closes.left; faults = closes.input_faults };
+    unwritten = record { out = closes.out; faults = closes.out_faults };
+    stays = λ name. ap (λ files. files name) closes.files;
+  }
+
+  pub usage : Closes before after [] [] Usage → DoesNothing before after Usage
+  usage closes = does_nothing Usage (inl refl) refl closes
+
+  -- the names of the files are of no account where memory was wanted
+  named : (names : List (List ℕ)) → Closes before after [] [] NoMemory → Closes before after names [] NoMemory
+  named names closes = record {
+    says = closes.says;
+    ended = closes.ended;
+    files = closes.files;
+    store_faults = closes.store_faults;
+    absences = closes.absences;
+    left = closes.left;
+    input_faults = closes.input_faults;
+    out = closes.out;
+    out_faults = closes.out_faults;
+  }
+
+  module _ (idles : Idles) (parts : Parts) (closes : Closes before after [] [] NoMemory) where
+    abbrev call : Action → Call
+    call action = call_as action (limits_of parts) parts.steps parts.names before after
+
+    abbrev is_idle : (action : Action) → IsIdle (call action)
+    is_idle action = record {
+      says = says_last parts.names NoMemory refl closes.says;
+      untouched = record { input = closes.left; faults = closes.input_faults };
+      unwritten = record { out = closes.out; faults = closes.out_faults };
+      stays = λ name. ap (λ files. files name) closes.files;
+    }
+
+    of_action : (action : Action) → parts.action ≡ action → IsCorrectRequest (unless_big parts.action parts) before after NoMemory
+    of_action Go is = asked Go parts before after NoMemory is refl (idles.go (limits_of parts) parts.steps parts.names before after (named parts.names closes))
+    of_action Exec is = asked Exec parts before after NoMemory is refl (over_any (call Exec) NoMemory (λ input. idles.exec (call Exec) input (named parts.names closes)))
+    of_action Map is = asked Map parts before after NoMemory is refl (over_any (call Map) NoMemory (λ input. idles.map (call Map) (is_idle Map)))
+    of_action Show is = asked Show parts before after NoMemory is refl (over_any (call Show) NoMemory (λ input. idles.list (call Show) (is_idle Show)))
+    of_action Compile is = asked Compile parts before after NoMemory is refl (over_any (call Compile) NoMemory (λ input. idles.compile (call Compile) (is_idle Compile)))
+    of_action Link is = asked Link parts before after NoMemory is refl (over_any (call Link) NoMemory (λ input. idles.link (call Link) (is_idle Link)))
+    of_action Migrate is = asked Migrate parts before after NoMemory is refl (over_any (call Migrate) NoMemory (λ input. idles.migrate (call Migrate) (is_idle Migrate)))
+    of_action Big is = subst (λ action. IsCorrectRequest (unless_big action parts) before after NoMemory) (sym is) (does_nothing NoMemory (inr refl) refl closes)
+
+pub may_quit : Idles → MayQuit
+may_quit idles None before after closes = does_nothing before after NoMemory (inr refl) refl closes
+may_quit idles (Some parts) before after closes = of_action before after idles parts closes parts.action refl

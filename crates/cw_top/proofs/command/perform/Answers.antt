@@ -1,0 +1,24 @@
+use Rattle.std.proofs.Common.{refl, ap, ◌∙◌}
+use Rattle.cw_words.specs.Parts.{command_parts}
+use Rattle.cw_correct.specs.Calls.{surroundings_of, unless_big}
+use Rattle.cw_top.proofs.Asked.{asked_map, asked_list, asked_compile, asked_link, asked_migrate}
+use Rattle.cw_top.proofs.Called.{big}
+use Rattle.cw_top.proofs.command.perform.Goals as goal
+
+pub returns-in-Compile : goal.returns-in-Compile
+returns-in-Compile g c = asked_compile (command_parts c.args.command.now) _ _ _ c.in-Compile.is (rw c.as_slice-names.ensures.value at (c.compile.ensures (g.I.Source.left c.args.input.now) (g.I.Source.faults c.args.input.now) (g.O.Sink.held c.args.out.now) (g.O.Sink.faults c.args.out.now)))
+
+pub returns-in-Link : goal.returns-in-Link
+returns-in-Link g c = asked_link (command_parts c.args.command.now) _ _ _ c.in-Link.is (rw c.as_slice-names.ensures.value at (c.link.ensures (g.I.Source.left c.args.input.now) (g.I.Source.faults c.args.input.now) (g.O.Sink.held c.args.out.now) (g.O.Sink.faults c.args.out.now)))
+
+pub returns-in-List : goal.returns-in-List
+returns-in-List g c = asked_list (command_parts c.args.command.now) _ _ _ c.in-List.is (rw c.as_slice-names.ensures.value at (c.show.ensures (g.I.Source.left c.args.input.now) (g.I.Source.faults c.args.input.now)))
+
+pub returns-in-Map : goal.returns-in-Map
+returns-in-Map g c = asked_map (command_parts c.args.command.now) _ _ _ c.in-Map.is (rw c.as_slice-names.ensures.value at (c.map_files.ensures (g.I.Source.left c.args.input.now) (g.I.Source.faults c.args.input.now)))
+
+pub returns-in-Migrate : goal.returns-in-Migrate
+returns-in-Migrate g c = asked_migrate (command_parts c.args.command.now) _ _ _ c.in-Migrate.is (rw c.as_slice-names.ensures.value at (c.migrate.ensures (g.I.Source.left c.args.input.now) (g.I.Source.faults c.args.input.now) (g.O.Sink.held c.args.out.now) (g.O.Sink.faults c.args.out.now)))
+
+pub returns-in-Big : goal.returns-in-Big
+returns-in-Big g c = big (surroundings_of (g.F.Store.file c.args.files.now) (g.F.Store.faults c.args.files.now) (g.F.Store.absences c.args.files.now) (g.I.Source.left c.args.input.now) (g.I.Source.faults c.args.input.now) (g.O.Sink.held c.args.out.now) (g.O.Sink.faults c.args.out.now) (g.S.Sink.held c.args.say.now) (g.S.Sink.faults c.args.say.now)) _ _ (command_parts c.args.command.now) (ap (λ action. unless_big action (command_parts c.args.command.now)) c.in-Big.is) c.quit.ensures.line c.quit.ensures.ended _ c.quit.ensures.same

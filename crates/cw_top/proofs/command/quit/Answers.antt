@@ -1,0 +1,5 @@
+use Rattle.cw_say.proofs.Said.{says}
+use Rattle.cw_top.proofs.command.quit.Goals as goal
+
+pub returns-clause-line : goal.returns-clause-line
+returns-clause-line g c = says _ _ _ _ _ _ c.write_last.ensures.line

@@ -1,0 +1,15 @@
+use Rattle.cw_top.proofs.Quits.{may_quit}
+use Rattle.cw_top.proofs.laws.quits.Goals as goal
+
+pub returns : goal.returns
+returns c =
+    may_quit
+    (record {
+      go = c.idle.ensures;
+      exec = c.idle-2.ensures;
+      map = c.idle-3.ensures.map;
+      list = c.idle-3.ensures.list;
+      compile = c.idle-3.ensures.compile;
+      link = c.idle-3.ensures.link;
+      migrate = c.idle-3.ensures.migrate;
+    })
