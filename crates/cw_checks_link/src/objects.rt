@@ -13,7 +13,7 @@ const LIMITS: Limits = Limits {
 };
 
 // Segment AA: common TOTAL of 1 word, label GO from elsewhere, an own family of 5 words whose word 2 is 7.
-const CALLER: [u8; 155] = [
+pub(crate) const CALLER: [u8; 155] = [
     67, 54, 54, 79, 2, 0, 1, 3, 0, 0, 0, 2, 65, 65, 2, 11, 0, 0, 0, 5, 84, 79, 84, 65, 76, 0, 0, 0,
     16, 0, 2, 6, 0, 0, 0, 2, 71, 79, 3, 0, 0, 3, 7, 0, 0, 0, 1, 0, 0, 5, 0, 0, 0, 3, 7, 0, 0, 0, 0,
     0, 0, 1, 0, 0, 0, 5, 6, 0, 0, 0, 0, 0, 2, 0, 7, 0, 6, 12, 0, 0, 0, 1, 2, 0, 0, 3, 0, 0, 4, 5,
@@ -23,7 +23,7 @@ const CALLER: [u8; 155] = [
 ];
 
 // Segment BB: defines GO at place 5; common TOTAL of 3 words; an absolute family of 2 words at 2, whose first is 513.
-const OWNER: [u8; 148] = [
+pub(crate) const OWNER: [u8; 148] = [
     67, 54, 54, 79, 2, 0, 1, 3, 0, 0, 0, 2, 66, 66, 2, 6, 0, 0, 0, 2, 71, 79, 3, 0, 0, 2, 11, 0, 0,
     0, 5, 84, 79, 84, 65, 76, 0, 0, 0, 16, 0, 3, 7, 0, 0, 0, 0, 1, 0, 3, 0, 0, 0, 3, 7, 0, 0, 0, 2,
     2, 0, 2, 0, 0, 0, 5, 6, 0, 0, 0, 1, 0, 0, 0, 1, 2, 6, 8, 0, 0, 0, 9, 8, 7, 0, 0, 6, 0, 0, 7, 9,
@@ -77,7 +77,7 @@ const LARGE: [u8; 52] = [
     1, 0, 0, 0, 1, 9, 10, 0, 0, 0, 0, 0, 0, 0, 8, 0, 1, 0, 0, 0, 255, 0, 0, 0, 0,
 ];
 
-fn link_two(alloc: Global, first: &[u8], second: &[u8]) -> Result<Linked, LinkFault> {
+pub(crate) fn link_two(alloc: Global, first: &[u8], second: &[u8]) -> Result<Linked, LinkFault> {
     match (View::open(first), View::open(second)) {
         (Ok(a), Ok(b)) => link(alloc, &[a, b], &LIMITS),
         _ => Err(LinkFault::NoMemory),

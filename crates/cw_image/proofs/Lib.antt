@@ -1,3 +1,2 @@
 pub mod Repeating
-pub mod Appending
 pub mod Spelling

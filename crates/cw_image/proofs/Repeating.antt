@@ -4,8 +4,8 @@ use Rattle.std.proofs.lemmas.List.{append-nil}
 use Rattle.cw_image.specs.declared.fault.ImageFault.{ImageFault}
 use Rattle.cw_image.specs.declared.fault.ImageFault.TheVariants.{NotImage, BadVersion, Truncated, BadField, Trailing, NoMemory}
 use Rattle.cw_image.specs.ImageFormat.{◌>>=◌, ended, repeated, Fails, field, checked, between, name_field}
-use Rattle.cw_view.specs.Fields.{byte_in, text_in}
-use Rattle.cw_view.specs.Reading.{is_name, named}
+use Rattle.cw_fields.specs.Fields.{byte_in, text_in}
+use Rattle.cw_fields.specs.Names.{is_name, named}
 
 -- what was read before, and what is still read
 abbrev pub with_front : {A : Type 0} → List A → Result (List A × List ℕ) ImageFault → Result (List A × List ℕ) ImageFault
@@ -17,10 +17,10 @@ osome x = Some x
 abbrev onone : {A : Type 0} → Option A
 onone = None
 
-abbrev ok : {A : Type 0} → A → Result A ImageFault
+abbrev pub ok : {A : Type 0} → A → Result A ImageFault
 ok x = Ok x
 
-abbrev bad : {A : Type 0} → ImageFault → Result A ImageFault
+abbrev pub bad : {A : Type 0} → ImageFault → Result A ImageFault
 bad f = Err f
 
 ns : {A : Type 0} {x : A} → osome x ≡ onone → ⊥
@@ -62,7 +62,7 @@ is_done {A} step front count i bytes total le so_far =
     let one : with_front front (repeated step (count - i) bytes) ≡ Ok (front, bytes) = rw k (ap (λ (ns : List A). ok (ns, bytes)) (append-nil front)) in
     sym so_far ∙ one
 
-bind_ok : {A B : Type 0} (r : Result A ImageFault) (f : A → Result B ImageFault) (y : B) → (r >>= f) ≡ Ok y → (x : A) × (r ≡ Ok x) × (f x ≡ Ok y)
+pub bind_ok : {A B : Type 0} (r : Result A ImageFault) (f : A → Result B ImageFault) (y : B) → (r >>= f) ≡ Ok y → (x : A) × (r ≡ Ok x) × (f x ≡ Ok y)
 bind_ok (Ok x) f y e = (x, refl, e)
 bind_ok (Err d) f y e = absurd cc
 

@@ -7,32 +7,23 @@ use Rattle.std.proofs.lemmas.List.{take-append-drop, drop-drop, take_at, drop_at
 use Rattle.std.proofs.lemmas.Slice.Eq.{bytes_eq-Decides}
 use Rattle.byteorder.specs.Endian.{little_number, little_bytes}
 use Rattle.cw_word.specs.Name.{IsName}
-use Rattle.cw_view.specs.Fields.{Reader, each, text_bytes, byte_in, text_in}
-use Rattle.cw_view.specs.Payloads.{IsWord, word_bytes, long_bytes}
-use Rattle.cw_view.specs.Reading.{is_name, word_in, long_in}
-use Rattle.cw_view.proofs.Formats.{IsBytes, IsBytes-drop, Reads, reads_byte, reads_text, two_back}
-use Rattle.cw_view.proofs.Forms.{reads_word, reads_long}
-use Rattle.cw_view.proofs.Names.{name-Decides}
+use Rattle.cw_fields.specs.Fields.{Reader, each, text_bytes, byte_in, text_in, IsWord, word_bytes, long_bytes, word_in, long_in, bytes_in}
+use Rattle.cw_fields.specs.Names.{is_name}
+use Rattle.cw_fields.specs.Spelling.{IsBytes, Reads}
+use Rattle.cw_fields.proofs.Formats.{IsBytes-drop, reads_byte, reads_bytes, reads_text, two_back}
+use Rattle.cw_fields.proofs.Spelled.{reads_word, reads_long}
+use Rattle.cw_fields.proofs.Names.{name-Decides}
 use Rattle.cw_image.specs.declared.image.Image.{Image}
 use Rattle.cw_image.specs.declared.fault.ImageFault.{ImageFault}
 use Rattle.cw_image.specs.declared.fault.ImageFault.TheVariants.{NotImage, BadVersion, Truncated, BadField}
-use Rattle.cw_image.specs.ImageFormat.{HasOneSpelling, ◌>>=◌, mark, image_bytes, ends_nonzero, IsImage, field, checked, between, bytes_in, name_field, repeated, word_item, ended, limits_in, names_in, words_in, code_in, fields_in, image_in}
+use Rattle.cw_image.proofs.Repeating.{ok, bad, bind_ok}
+use Rattle.cw_image.specs.ImageFormat.{HasOneSpelling, ◌>>=◌, mark, image_bytes, ends_nonzero, IsImage, field, checked, between, name_field, repeated, word_item, ended, limits_in, names_in, words_in, code_in, fields_in, image_in}
 
 abbrev Read : Type 0 → Type 0
 Read A = Result (A × List ℕ) ImageFault
 
-abbrev ok : {A : Type 0} → A → Result A ImageFault
-ok x = Ok x
-
-abbrev bad : {A : Type 0} → ImageFault → Result A ImageFault
-bad f = Err f
-
 ok_is : {A : Type 0} (x y : A) → ok x ≡ ok y → x ≡ y
 ok_is x y e = cc
-
-bind_ok : {A B : Type 0} (r : Result A ImageFault) (f : A → Result B ImageFault) (y : B) → (r >>= f) ≡ Ok y → (x : A) × (r ≡ Ok x) × (f x ≡ Ok y)
-bind_ok (Ok x) f y e = (x, refl, e)
-bind_ok (Err d) f y e = absurd cc
 
 -- ---- the two laws of a field
 
@@ -115,21 +106,6 @@ reads_many {A} s P step l n = record {
 
 word_between : (len low high : ℕ) → ReadsField word_bytes (λ n. IsWord n × (between low high n ≡ true)) (field len word_in (between low high))
 word_between len low high = reads_field len word_bytes IsWord word_in (between low high) reads_word
-
-guard : {A : Type 0} (b : Bool) (x y : A) → cond b None (Some x) ≡ Some y → (b ≡ false) × (x ≡ y)
-guard true x y e = absurd cc
-guard false x y e = (refl, cc)
-
-reads_bytes : (n : ℕ) → Reads (λ (b : List ℕ). b) (λ b. length b ≡ n) (bytes_in n)
-reads_bytes n = record {
-  takes = λ bytes x fits e.
-      let g = guard (ltb (length bytes) n) (take n bytes, drop n bytes) x e in
-      let long : n ≤ length bytes = ltb-false _ _ g.0 in
-      subst (λ (y : List ℕ × List ℕ). (bytes ≡ y.0 ++ y.1) × IsBytes y.1 × (length y.0 ≡ n)) g.1 (sym (take-append-drop n bytes), IsBytes-drop n bytes fits, omega (arith, length-take n bytes, long));
-  again = λ b rest h.
-      let long : ltb (length (b ++ rest)) n ≡ false = le-ltb _ _ (omega (arith, length-append b rest, h)) in
-      rw (long, take_at b rest n h, drop_at b rest n h) refl;
-}
 
 both : (a b : Bool) → a ≡ true → b ≡ true → (a && b) ≡ true
 both true b h k = k

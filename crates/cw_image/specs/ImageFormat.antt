@@ -4,9 +4,8 @@ use Rattle.std.specs.List.{AllByRecursion}
 use Rattle.std.specs.Str.{bytes_eq}
 use Rattle.byteorder.specs.Endian.{little_number}
 use Rattle.cw_word.specs.Name.{IsName}
-use Rattle.cw_view.specs.Fields.{Reader, each, text_bytes, byte_in, text_in}
-use Rattle.cw_view.specs.Payloads.{IsWord, word_bytes, long_bytes}
-use Rattle.cw_view.specs.Reading.{is_name, word_in, long_in}
+use Rattle.cw_fields.specs.Fields.{Reader, each, text_bytes, byte_in, bytes_in, text_in, IsWord, word_bytes, long_bytes, word_in, long_in}
+use Rattle.cw_fields.specs.Names.{is_name}
 use Rattle.cw_image.specs.declared.image.Image.{Image}
 use Rattle.cw_image.specs.declared.fault.ImageFault.{ImageFault}
 use Rattle.cw_image.specs.declared.fault.ImageFault.TheVariants.{NotImage, BadVersion, Truncated, BadField, Trailing, NoMemory}
@@ -86,9 +85,6 @@ word_item len follow rest = field len word_in (λ w. nat_lt 0 follow || not (w =
 
 abbrev pub words_fields : (len n : ℕ) → List ℕ → Result (List ℕ × List ℕ) ImageFault
 words_fields len n rest = repeated (word_item len) n rest
-
-abbrev pub bytes_in : (n : ℕ) → Reader (List ℕ)
-bytes_in n rest = if nat_lt (length rest) n then None else Some (take n rest, drop n rest)
 
 abbrev pub ended : (len : ℕ) → {A : Type 0} → A → List ℕ → Result A ImageFault
 ended len x [] = Ok x

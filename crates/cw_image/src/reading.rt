@@ -1,14 +1,14 @@
 //! Images as they are read.
 ghost use Rattle.std.specs.Prelude.{◌≡◌, ◌-◌, ◌||◌, ◌==◌, true, nat_lt, not, length, IfOk};
-ghost use Rattle.cw_view.specs.Fields.{byte_in, text_in};
-ghost use Rattle.cw_view.specs.Reading.{word_in, long_in, is_name};
+ghost use Rattle.cw_fields.specs.Fields.{byte_in, text_in, word_in, long_in, bytes_in};
+ghost use Rattle.cw_fields.specs.Names.{is_name};
 ghost use Rattle.cw_image.specs.declared.fault.ImageFault.TheVariants as faults;
-ghost use Rattle.cw_image.specs.ImageFormat.{Gives, field, between, bytes_in, name_field, word_item, names_fields, words_fields, limits_in, names_in, words_in, code_in, fields_in, image_in};
+ghost use Rattle.cw_image.specs.ImageFormat.{Gives, field, between, name_field, word_item, names_fields, words_fields, limits_in, names_in, words_in, code_in, fields_in, image_in};
 
 use crate::fault::ImageFault;
 use crate::image::Image;
 use byteorder::{ByteOrder, LittleEndian};
-use cw_view::fields::{byte_in, long_in, named, text_in, word_in};
+use cw_fields::{byte_in, bytes_in, is_name, long_in, named, text_in, word_in};
 use cw_word::{List, Name, NoMemory};
 use std::alloc::Global;
 
@@ -80,7 +80,7 @@ fn name_field(len: usize, rest: &[u8]) -> Result<(&[u8], &[u8]), ImageFault>
     match text_in(rest) {
         None => Err(ImageFault::Truncated { at: len as u64 }),
         Some((text, after)) => {
-            if named(text).is_some() {
+            if is_name(text) {
                 Ok((text, after))
             } else {
                 Err(bad_field(len, rest))
@@ -146,11 +146,10 @@ fn words_fields(
 fn code_field(len: usize, size: u32, rest: &[u8]) -> Result<(&[u8], &[u8]), ImageFault>
     ensures { Gives (λ x. (x.0.now, x.1.now)) result (field len (bytes_in size) (λ _. true) rest.now) }
 {
-    let size = size as usize;
-    if rest.len() < size {
-        return Err(ImageFault::Truncated { at: len as u64 });
+    match bytes_in(size as usize, rest) {
+        None => Err(ImageFault::Truncated { at: len as u64 }),
+        Some((code, after)) => Ok((code, after)),
     }
-    Ok(rest.split_at(size))
 }
 
 fn copied(alloc: Global, bytes: &[u8]) -> Result<List<u8>, NoMemory>

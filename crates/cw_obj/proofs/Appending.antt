@@ -7,7 +7,6 @@ use Rattle.cw_unit.specs.declared.layout.Layout.{Layout}
 use Rattle.cw_tmpl.specs.declared.assembling.Code.{Code as MadeCode}
 use Rattle.cw_view.specs.ObjectFormat.{Record, StoredItem, Definition, record_bytes}
 use Rattle.cw_obj.specs.ReferenceObject.{records_bytes, entry_of, items_from, definition_of, definition_records}
-use Rattle.cw_view.specs.Fields.{each}
 
 pub put_next : {A : Type 0} (k : A → Record) (xs : List A) (i : ℕ) (d : A) (out next total : List ℕ) → i < length xs → next ≡ out ++ record_bytes (k (get_or xs i d))
     → out ++ records_bytes (map k (drop i xs)) ≡ total → next ++ records_bytes (map k (drop (i + 1) xs)) ≡ total
@@ -19,18 +18,6 @@ put_next k xs i d out next total lt put h =
 pub put_listed : {A : Type 0} (k : A → Record) (xs : List A) (i : ℕ) (x : A) (out next total : List ℕ) → i < length xs → x ≡ get_or xs i x → next ≡ out ++ record_bytes (k x)
     → out ++ records_bytes (map k (drop i xs)) ≡ total → next ++ records_bytes (map k (drop (i + 1) xs)) ≡ total
 put_listed k xs i x out next total lt is put h = put_next k xs i x out next total lt (put ∙ ap (λ y. out ++ record_bytes (k y)) is) h
-
--- Spellings written one after another.
-pub put_each_at : {A : Type 0} (spell : A → List ℕ) (xs : List A) (i : ℕ) (d : A) (out next total : List ℕ) → i < length xs → next ≡ out ++ spell (get_or xs i d)
-    → out ++ each spell (drop i xs) ≡ total → next ++ each spell (drop (i + 1) xs) ≡ total
-put_each_at spell xs i d out next total lt put h =
-    ap (λ y. y ++ each spell (drop (i + 1) xs)) put ∙ append_assoc out (spell (get_or xs i d)) (each spell (drop (i + 1) xs))
-    ∙ ap (λ n. out ++ (spell (get_or xs i d) ++ each spell (drop n xs))) (add-one i)
-    ∙ ap (λ ys. out ++ each spell ys) (sym (drop-cons xs i d lt)) ∙ h
-
-pub put_each : {A : Type 0} (spell : A → List ℕ) (xs : List A) (i : ℕ) (x : A) (out next total : List ℕ) → i < length xs → x ≡ get_or xs i x → next ≡ out ++ spell x
-    → out ++ each spell (drop i xs) ≡ total → next ++ each spell (drop (i + 1) xs) ≡ total
-put_each spell xs i x out next total lt is put h = put_each_at spell xs i x out next total lt (put ∙ ap (λ y. out ++ spell y) is) h
 
 -- Items, which are numbered, and definitions.
 pub put_item_next : (u : SourceUnit) (l : Layout) (is : List Item) (i : ℕ) (x : Item) (out next total : List ℕ) → i < length is → x ≡ get_or is i x → next ≡ out ++ record_bytes (StoredItem (entry_of u (get_or l.homes i (0, 0)) x))

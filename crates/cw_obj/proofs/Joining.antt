@@ -4,7 +4,7 @@ use Rattle.cw_unit.specs.declared.unit.Unit.{Unit as SourceUnit}
 use Rattle.cw_unit.specs.declared.layout.Layout.{Layout}
 use Rattle.cw_tmpl.specs.declared.assembling.Code.{Code as MadeCode}
 use Rattle.cw_view.specs.ObjectFormat.{Record, SegmentName, Descriptor, StorageFamily, PresetWord, Code, Relocation, BodyFacts, Statement, End, record_bytes}
-use Rattle.cw_view.specs.Fields.{text_bytes}
+use Rattle.cw_fields.specs.Fields.{text_bytes}
 use Rattle.cw_obj.specs.ReferenceObject.{records_bytes, items_from, definition_records, front_records, back_records}
 
 pub records_append : (rs ts : List Record) → records_bytes (rs ++ ts) ≡ records_bytes rs ++ records_bytes ts

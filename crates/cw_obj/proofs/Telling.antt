@@ -5,7 +5,7 @@ use Rattle.cw_unit.specs.declared.unit.Unit.{Unit as SourceUnit}
 use Rattle.cw_unit.specs.declared.layout.Layout.{Layout}
 use Rattle.cw_tmpl.specs.declared.assembling.Code.{Code as MadeCode}
 use Rattle.cw_view.specs.Payloads.{descriptor_bytes, family_bytes, item_bytes, preset_bytes, relocation_bytes, definition_bytes, statement_bytes, body_facts_bytes}
-use Rattle.cw_view.specs.Fields.{text_bytes}
+use Rattle.cw_fields.specs.Fields.{text_bytes}
 use Rattle.cw_view.specs.ObjectFormat.{Record, SegmentName, Descriptor, StorageFamily, StoredItem, PresetWord, Code, Relocation, Definition, BodyFacts, Statement, End, payload_if, payloads}
 use Rattle.cw_obj.specs.ReferenceObject.{entries_from, definitions_of, body_of, front_records, back_records, object_records}
 use Rattle.cw_obj.specs.Writable.{onto, TellsUnits}

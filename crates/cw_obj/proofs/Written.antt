@@ -5,8 +5,9 @@ use Rattle.std.proofs.lemmas.Bool.{lt-ltb, le-ltb, le-leb, eqb-true, ne_eqb}
 use Rattle.std.proofs.lemmas.List.{append-nil, length-append}
 use Rattle.cw_unit.specs.declared.descriptor.Desc.{Desc}
 use Rattle.cw_unit.specs.declared.layout.Family.{Family}
-use Rattle.cw_view.specs.Fields.{text_bytes}
-use Rattle.cw_view.specs.Payloads.{IsLong, ItemEntry, IsNameOrEmpty}
+use Rattle.cw_fields.specs.Fields.{text_bytes, IsLong}
+use Rattle.cw_fields.specs.Names.{IsNameOrEmpty}
+use Rattle.cw_view.specs.Payloads.{ItemEntry}
 use Rattle.cw_view.specs.ObjectFormat.{Record, SegmentName, Descriptor, StorageFamily, StoredItem, PresetWord, Code, Relocation, Definition, BodyFacts, Statement, End, record_bytes, front_bytes, last_kind, last_number, descriptor_count, families_of, code_of, can_follow, rises, has_base, is_placed, has_words, has_preset, is_blank, has_index, IsNext, IsFront}
 use Rattle.cw_obj.specs.ReferenceObject.{records_bytes, entries_from, definitions_of, body_of, front_records, back_records, object_records}
 use Rattle.cw_obj.specs.Writable.{AllFrom, by_one, the_same, IsListed, IsKept, IsEntry, IsSet, tables, IsFilled, behind_word, IsDefined, behind_number, IsBegun, onto, WritesObjects}

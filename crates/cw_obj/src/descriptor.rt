@@ -1,11 +1,12 @@
 //! Descriptors at the end of bytes.
 ghost use Rattle.std.specs.Prelude.{◌≡◌, ◌++◌, ◌∷◌, [], OnOk, IfOk, length, map};
-ghost use Rattle.cw_view.specs.Fields.{each, signed_bytes, optional_bytes};
-ghost use Rattle.cw_view.specs.Payloads.{scale_bytes, plain_parameter_bytes, parameter_bytes, spec_bytes, bound_bytes, element_bytes, body_number, body_bytes, overlay_bytes, descriptor_bytes, word_bytes};
+ghost use Rattle.cw_fields.specs.Fields.{each, signed_bytes, optional_bytes, word_bytes};
+ghost use Rattle.cw_view.specs.Payloads.{scale_bytes, plain_parameter_bytes, parameter_bytes, spec_bytes, bound_bytes, element_bytes, body_number, body_bytes, overlay_bytes, descriptor_bytes};
 ghost use Rattle.cw_view.specs.ObjectFormat.{Descriptor};
 ghost use Rattle.cw_obj.specs.ReferenceObject.{records_bytes};
 
-use crate::fields::{put_byte, put_bytes, put_record, put_text, put_word};
+use crate::records::put_record;
+use cw_fields::{put_byte, put_count, put_short_count, put_signed, put_text, put_word};
 use cw_unit::descriptor::{Desc, DescBody, ElemDesc, Scale, Spec, SpecParam};
 use cw_word::NoMemory;
 use std::alloc::Global;
@@ -26,26 +27,6 @@ fn put_answer(out: &mut Vec<u8>, answer: Option<Scale>) -> Result<(), NoMemory>
             put_byte(out, 1)?;
             put_scale(out, scale)
         }
-    }
-}
-
-/// How many there are, in a byte. No checked unit has more.
-fn put_short_count(out: &mut Vec<u8>, count: usize) -> Result<(), NoMemory>
-    ensures { OnOk result (out.new.items ≡ out.old.items ++ count ∷ []) }
-{
-    match u8::try_from(count) {
-        Ok(byte) => put_byte(out, byte),
-        Err(_) => Err(NoMemory),
-    }
-}
-
-/// How many there are, in two bytes. No checked unit has more.
-fn put_count(out: &mut Vec<u8>, count: usize) -> Result<(), NoMemory>
-    ensures { OnOk result (out.new.items ≡ out.old.items ++ word_bytes count) }
-{
-    match u16::try_from(count) {
-        Ok(word) => put_word(out, word),
-        Err(_) => Err(NoMemory),
     }
 }
 
@@ -127,12 +108,6 @@ fn put_spec(out: &mut Vec<u8>, spec: &Spec) -> Result<(), NoMemory>
     put_answer(out, spec.answer)?;
     put_short_count(out, spec.params.as_slice().len())?;
     put_parameters(out, spec.params.as_slice())
-}
-
-fn put_signed(out: &mut Vec<u8>, number: i16) -> Result<(), NoMemory>
-    ensures { OnOk result (out.new.items ≡ out.old.items ++ signed_bytes number) }
-{
-    put_bytes(out, &number.to_le_bytes())
 }
 
 fn put_bound(out: &mut Vec<u8>, bound: (i16, i16)) -> Result<(), NoMemory>

@@ -4,7 +4,8 @@ ghost use Rattle.cw_view.specs.Payloads.{item_bytes, item_kind_number};
 ghost use Rattle.cw_view.specs.ObjectFormat.{framed};
 ghost use Rattle.cw_obj.specs.ReferenceObject.{records_bytes, name_or_none, owner_name, is_common, entry_of, items_from, place_bytes};
 
-use crate::fields::{put_byte, put_head, put_long, put_text, put_word};
+use crate::records::put_head;
+use cw_fields::{put_byte, put_long, put_text, put_word};
 use cw_unit::layout::Layout;
 use cw_unit::unit::{Home, Item, ItemKind, Unit};
 use cw_word::{Name, NoMemory};

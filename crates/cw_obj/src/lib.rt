@@ -2,11 +2,11 @@
 #![tactic(auto)]
 
 mod descriptor;
-mod fields;
 mod item;
 pub mod laws;
 mod migrating;
 mod object;
+mod records;
 
 pub use migrating::{MigrateFault, migrate};
 pub use object::write_object;

@@ -4,7 +4,7 @@ ghost use Rattle.cw_view.specs.ObjectFormat.{header};
 ghost use Rattle.cw_obj.specs.declared.migrating.MigrateFault.TheVariants as faults;
 ghost use Rattle.cw_obj.specs.Migration.{IsMigrated, FailsToMigrate};
 
-use crate::fields::put_bytes;
+use cw_fields::put_bytes;
 use cw_view::{ObjFault, View};
 use cw_word::NoMemory;
 use std::alloc::Global;

@@ -1,16 +1,14 @@
 //! The object of a unit.
 ghost use Rattle.std.specs.Prelude.{◌≡◌, ℕ, ◌++◌, ◌∷◌, [], ◌<◌, OnOk, IfOk, length, slice_index, map};
-ghost use Rattle.cw_view.specs.Fields.{text_bytes};
+ghost use Rattle.cw_fields.specs.Fields.{text_bytes};
 ghost use Rattle.cw_view.specs.Payloads.{definition_bytes, statement_bytes, body_facts_bytes};
 ghost use Rattle.cw_view.specs.ObjectFormat.{framed, header, PresetWord, Relocation, Statement};
 ghost use Rattle.cw_obj.specs.ReferenceObject.{records_bytes, definition_place, definition_of, definition_records, front_records, back_records, object_records, object_bytes};
 
 use crate::descriptor::put_descriptors;
-use crate::fields::{
-    put_bytes, put_families, put_head, put_long, put_preset, put_record, put_relocation, put_text,
-    put_word,
-};
 use crate::item::put_items;
+use crate::records::{put_families, put_head, put_preset, put_record, put_relocation};
+use cw_fields::{put_bytes, put_long, put_text, put_word};
 use cw_tmpl::Code;
 use cw_unit::layout::{Body, Layout, Preset, Reloc};
 use cw_unit::unit::{Def, Unit};

@@ -17,10 +17,11 @@ use Rattle.cw_unit.specs.declared.layout.Family.{Family}
 use Rattle.cw_unit.specs.declared.layout.Preset.{Preset}
 use Rattle.cw_unit.specs.declared.layout.Reloc.{Reloc}
 use Rattle.cw_unit.specs.declared.layout.Body.{Body}
-use Rattle.cw_view.specs.Payloads.{IsLong, FitsScale, FitsPlainLayer, FitsPlainParameter, FitsSpec, FitsLayer, FitsParameter, FitsBounds, FitsElement, FitsBody, FitsOverlay, FitsDescriptor, sort_operand, FitsFamily, ItemEntry, IsNameOrEmpty, FitsItem, FitsPreset, FitsRelocation, FitsDefinition, FitsBodyFacts, FitsStatement}
-use Rattle.cw_view.specs.Reading.{is_name, is_empty}
-use Rattle.cw_view.proofs.Names.{name-Decides}
-use Rattle.cw_object.specs.Fits.{is_byte, is_word, is_long, fits_scale, fits_answer, fits_plain_layer, fits_plain_parameter, fits_spec, fits_layer, fits_parameter, fits_bounds, fits_element, is_few, fits_body, fits_overlay, fits_descriptor, fits_family, is_name_or_empty, fits_item, fits_preset, fits_relocation, fits_definition, fits_body_facts, fits_statement}
+use Rattle.cw_fields.specs.Fields.{IsLong}
+use Rattle.cw_fields.specs.Names.{IsNameOrEmpty, is_name, is_empty, is_name_or_empty}
+use Rattle.cw_view.specs.Payloads.{FitsScale, FitsPlainLayer, FitsPlainParameter, FitsSpec, FitsLayer, FitsParameter, FitsBounds, FitsElement, FitsBody, FitsOverlay, FitsDescriptor, sort_operand, FitsFamily, ItemEntry, FitsItem, FitsPreset, FitsRelocation, FitsDefinition, FitsBodyFacts, FitsStatement}
+use Rattle.cw_fields.proofs.Names.{name-Decides}
+use Rattle.cw_object.specs.Fits.{is_byte, is_word, is_long, fits_scale, fits_answer, fits_plain_layer, fits_plain_parameter, fits_spec, fits_layer, fits_parameter, fits_bounds, fits_element, is_few, fits_body, fits_overlay, fits_descriptor, fits_family, fits_item, fits_preset, fits_relocation, fits_definition, fits_body_facts, fits_statement}
 
 no : {A : Type 0} → IsTrue false → A
 no h = absurd (cc)

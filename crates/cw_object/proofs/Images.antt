@@ -9,11 +9,13 @@ use Rattle.cw_unit.specs.declared.layout.Limits.{Limits}
 use Rattle.cw_unit.specs.declared.layout.Preset.{Preset}
 use Rattle.cw_tmpl.specs.Mnemonics.{bytes_of_all}
 use Rattle.cw_tmpl.specs.Library.{past, joined, routines, library_bytes}
-use Rattle.cw_view.specs.Fields.{Reader, whole, text_bytes}
-use Rattle.cw_view.specs.Payloads.{IsWord, preset_bytes, FitsPreset}
-use Rattle.cw_view.specs.Reading.{name_in, preset_in}
+use Rattle.cw_fields.specs.Fields.{Reader, whole, text_bytes, IsWord}
+use Rattle.cw_view.specs.Payloads.{preset_bytes, FitsPreset}
+use Rattle.cw_fields.specs.Names.{name_in}
+use Rattle.cw_view.specs.Reading.{preset_in}
 use Rattle.cw_view.specs.ObjectFormat.{Record, SegmentName, Descriptor, StorageFamily, StoredItem, PresetWord, Code, Relocation, Definition, BodyFacts, Statement, End, FitsRecord, IsFront, IsObject, payloads, payload_if}
-use Rattle.cw_view.proofs.Forms.{reads_name, reads_preset}
+use Rattle.cw_fields.proofs.Spelled.{reads_name}
+use Rattle.cw_view.proofs.Forms.{reads_preset}
 use Rattle.cw_view.proofs.Whole.{begins}
 use Rattle.cw_image.specs.ImageFormat.{ends_nonzero, IsImage}
 use Rattle.cw_link.specs.Contents.{Contents, kept, values_in}

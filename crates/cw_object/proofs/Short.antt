@@ -11,8 +11,8 @@ use Rattle.cw_unit.specs.declared.descriptor.ElemDesc.{ElemDesc}
 use Rattle.cw_unit.specs.declared.descriptor.Spec.{Spec, out-Spec}
 use Rattle.cw_unit.specs.declared.descriptor.SpecParam.{SpecParam, SpecParam-F, out-SpecParam}
 use Rattle.cw_unit.specs.declared.descriptor.SpecParam.TheOpen as takes
-use Rattle.cw_view.specs.Fields.{each, optional_bytes, text_bytes}
-use Rattle.cw_view.specs.Payloads.{IsLong, scale_bytes, word_bytes, plain_layer_bytes, plain_parameter_bytes, FitsPlainParameter, spec_bytes, FitsSpec, layer_bytes, FitsLayer, parameter_bytes, FitsParameter, bound_bytes, FitsBounds, element_bytes, FitsElement, body_number, body_bytes, FitsBody, overlay_bytes, descriptor_bytes, FitsDescriptor}
+use Rattle.cw_fields.specs.Fields.{each, optional_bytes, text_bytes, IsLong, word_bytes}
+use Rattle.cw_view.specs.Payloads.{scale_bytes, plain_layer_bytes, plain_parameter_bytes, FitsPlainParameter, spec_bytes, FitsSpec, layer_bytes, FitsLayer, parameter_bytes, FitsParameter, bound_bytes, FitsBounds, element_bytes, FitsElement, body_number, body_bytes, FitsBody, overlay_bytes, descriptor_bytes, FitsDescriptor}
 
 each-short : {X : Type 0} (spell : X → List ℕ) (F : X → Type 0) (k : ℕ) → ((x : X) → F x → length (spell x) ≤ k) → (xs : List X) → AllByRecursion F xs → length (each spell xs) ≤ length xs * k
 each-short spell F k one [] h = omega arith

@@ -10,14 +10,17 @@ use Rattle.cw_unit.specs.declared.layout.Layout.{Layout}
 use Rattle.cw_unit.specs.declared.layout.Body.{Body}
 use Rattle.cw_tmpl.specs.declared.assembling.Code.{Code as MadeCode}
 use Rattle.cw_view.specs.declared.view.View.{View}
-use Rattle.cw_view.specs.Fields.{Reader, whole, text_bytes}
+use Rattle.cw_fields.specs.Fields.{Reader, whole, text_bytes}
 use Rattle.cw_view.specs.Payloads.{descriptor_bytes, FitsDescriptor, family_bytes, FitsFamily, preset_bytes, FitsPreset, relocation_bytes, FitsRelocation, definition_bytes, FitsDefinition, body_facts_bytes, FitsBodyFacts}
-use Rattle.cw_view.specs.Reading.{name_in, descriptor_in, family_in, preset_in, relocation_in, definition_in, body_facts_in}
+use Rattle.cw_fields.specs.Names.{name_in}
+use Rattle.cw_view.specs.Reading.{descriptor_in, family_in, preset_in, relocation_in, definition_in, body_facts_in}
 use Rattle.cw_view.specs.ObjectFormat.{Record, SegmentName, Descriptor, StorageFamily, StoredItem, PresetWord, Code, Relocation, Definition, BodyFacts, Statement, End, kind_of, last_kind, can_follow, code_of, code_or, IsFront, IsObjectOf, IsObject, payloads, payload_if}
 use Rattle.cw_view.specs.Splitting.{payloads_in}
 use Rattle.cw_view.specs.Fronts.{AnswersOpen}
-use Rattle.cw_view.proofs.Formats.{Reads, whole_again}
-use Rattle.cw_view.proofs.Forms.{reads_name, reads_family, reads_preset, reads_relocation, reads_definition, reads_body_facts}
+use Rattle.cw_fields.specs.Spelling.{Reads}
+use Rattle.cw_fields.proofs.Formats.{whole_again}
+use Rattle.cw_fields.proofs.Spelled.{reads_name}
+use Rattle.cw_view.proofs.Forms.{reads_family, reads_preset, reads_relocation, reads_definition, reads_body_facts}
 use Rattle.cw_view.proofs.Descriptors.{reads_descriptor}
 use Rattle.cw_view.proofs.Splits.{all_payloads}
 use Rattle.cw_view.proofs.Whole.{begins}

@@ -11,9 +11,9 @@ use Rattle.cw_unit.specs.declared.layout.Preset.{Preset}
 use Rattle.cw_unit.specs.declared.layout.Reloc.{Reloc}
 use Rattle.cw_tmpl.specs.declared.assembling.Code.{Code}
 use Rattle.cw_view.specs.Payloads.{ItemEntry}
-use Rattle.cw_view.specs.Reading.{is_name}
+use Rattle.cw_fields.specs.Names.{is_name}
 use Rattle.cw_view.specs.ObjectFormat.{has_base, is_placed, is_named, has_words, has_preset, is_blank, has_index}
-use Rattle.cw_view.proofs.Names.{name-Decides}
+use Rattle.cw_fields.proofs.Names.{name-Decides}
 use Rattle.cw_obj.specs.ReferenceObject.{entries_from, definition_of, definitions_of, body_of}
 use Rattle.cw_obj.specs.Writable.{AllFrom, by_one, the_same, IsListed, IsKept, IsEntry, IsSet, tables, IsFilled, behind_word, IsDefined, behind_number, IsBegun, IsWritable}
 use Rattle.cw_object.specs.Fits.{is_long, fits_descriptor, fits_family, fits_item, fits_preset, fits_relocation, fits_definition, fits_body_facts, fits_statement}

@@ -15,7 +15,7 @@ use Rattle.cw_unit.specs.declared.layout.Preset.{Preset}
 use Rattle.cw_unit.specs.declared.layout.Reloc.{Reloc}
 use Rattle.cw_unit.specs.declared.layout.Body.{Body}
 use Rattle.cw_view.specs.Payloads.{ItemEntry, sort_operand}
-use Rattle.cw_view.specs.Reading.{is_name, is_empty}
+use Rattle.cw_fields.specs.Names.{is_name, is_empty, is_name_or_empty}
 
 -- numbers of one, two and four bytes
 abbrev pub is_byte : ℕ → Bool
@@ -89,9 +89,6 @@ fits_descriptor d = is_name d.name && (fits_overlay d.over && fits_body d.body)
 
 abbrev pub fits_family : Family → Bool
 fits_family f = is_word (sort_operand f.sort) && is_long f.extent
-
-abbrev pub is_name_or_empty : List ℕ → Bool
-is_name_or_empty text = is_empty text || is_name text
 
 -- an item has a name or a line
 abbrev pub fits_item : ItemEntry → Bool

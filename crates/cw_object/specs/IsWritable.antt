@@ -11,7 +11,7 @@ use Rattle.cw_unit.specs.declared.layout.Preset.{Preset}
 use Rattle.cw_unit.specs.declared.layout.Reloc.{Reloc}
 use Rattle.cw_tmpl.specs.declared.assembling.Code.{Code}
 use Rattle.cw_view.specs.Payloads.{ItemEntry}
-use Rattle.cw_view.specs.Reading.{is_name}
+use Rattle.cw_fields.specs.Names.{is_name}
 use Rattle.cw_view.specs.ObjectFormat.{has_base, is_placed, is_named, has_words, has_preset, is_blank, has_index}
 use Rattle.cw_obj.specs.ReferenceObject.{entries_from, definition_of, body_of}
 use Rattle.cw_obj.specs.Writable.{tables}

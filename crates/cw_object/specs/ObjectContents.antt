@@ -5,7 +5,8 @@ use Rattle.cw_unit.specs.declared.layout.Layout.{Layout}
 use Rattle.cw_view.specs.ObjectFormat.{IsObject}
 use Rattle.cw_object.specs.IsWritable.{is_writable}
 use Rattle.cw_tmpl.specs.declared.assembling.Code.{Code}
-use Rattle.cw_view.specs.Reading.{name_in, descriptor_in, family_in, preset_in, relocation_in, definition_in, body_facts_in}
+use Rattle.cw_fields.specs.Names.{name_in}
+use Rattle.cw_view.specs.Reading.{descriptor_in, family_in, preset_in, relocation_in, definition_in, body_facts_in}
 use Rattle.cw_view.specs.Splitting.{payloads_in}
 use Rattle.cw_link.specs.Contents.{Contents, values_in, first_body}
 use Rattle.cw_obj.specs.ReferenceObject.{definitions_of, body_of, object_records, object_bytes}

@@ -7,7 +7,8 @@ ghost use Rattle.cw_word.specs.FixedPoint.{fits_word};
 ghost use Rattle.cw_object.specs.IsWritable.{is_listed, are_listed};
 ghost use Rattle.cw_unit.specs.declared.descriptor.DescBody.TheVariants.{Array, Table};
 
-use crate::fields::{is_byte, is_name, is_word};
+use crate::fields::{is_byte, is_word};
+use cw_fields::is_name;
 use cw_unit::descriptor::{Desc, DescBody, ElemDesc, Scale, Spec, SpecParam};
 
 fn fits_scale(scale: Scale) -> bool

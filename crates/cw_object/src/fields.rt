@@ -1,9 +1,6 @@
-//! Whether values fit the fields of an object.
+//! Whether numbers fit the fields of an object.
 ghost use Rattle.std.specs.Prelude.{◌≡◌};
-ghost use Rattle.cw_view.specs.Reading.{is_name};
-ghost use Rattle.cw_object.specs.Fits.{is_byte, is_word, is_long, is_name_or_empty};
-
-use cw_view::fields::named;
+ghost use Rattle.cw_object.specs.Fits.{is_byte, is_word, is_long};
 
 /// A byte is one.
 pub(crate) fn is_byte(n: u8) -> bool
@@ -24,18 +21,4 @@ pub(crate) fn is_long(n: u32) -> bool
     ensures { result ≡ is_long n }
 {
     u64::from(n) < 4_294_967_296
-}
-
-/// Whether these bytes are those of a name.
-pub(crate) fn is_name(text: &[u8]) -> bool
-    ensures { result ≡ is_name text.now }
-{
-    named(text).is_some()
-}
-
-/// Whether these bytes are those of a name, or there are none.
-pub(crate) fn is_name_or_empty(text: &[u8]) -> bool
-    ensures { result ≡ is_name_or_empty text.now }
-{
-    text.is_empty() || is_name(text)
 }

@@ -7,7 +7,8 @@ ghost use Rattle.cw_obj.specs.ReferenceObject.{name_or_none, owner_name, is_comm
 ghost use Rattle.cw_object.specs.Fits.{fits_family, fits_item, fits_preset};
 ghost use Rattle.cw_object.specs.IsWritable.{is_kept, is_entry, are_entries, is_set};
 
-use crate::fields::{is_long, is_name_or_empty, is_word};
+use crate::fields::{is_long, is_word};
+use cw_fields::is_name_or_empty;
 use cw_unit::layout::{Family, ItemView, Layout, Preset, Sort};
 use cw_unit::unit::{Home, Item, ItemKind, Unit};
 use cw_word::Name;

@@ -5,8 +5,8 @@ ghost use Rattle.cw_object.specs.ObjectContents.{TellsObject};
 
 use crate::code::{are_begun, are_defined, are_filled, is_coded};
 use crate::descriptors::are_listed;
-use crate::fields::is_name;
 use crate::storage::{are_entries, are_kept, are_set};
+use cw_fields::is_name;
 use cw_obj::write_object;
 use cw_tmpl::Code;
 use cw_unit::layout::Layout;

@@ -2,7 +2,6 @@ pub mod Cases
 pub mod Keeping
 pub mod Texts
 pub mod Links
-pub mod Opened
 pub mod Readings
 pub mod Fates
 pub mod Units

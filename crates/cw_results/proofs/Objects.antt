@@ -4,6 +4,7 @@ use Rattle.std.proofs.lemmas.List.{length-map}
 use Rattle.cw_io.specs.File.{Told}
 use Rattle.cw_view.specs.declared.fault.ObjFault.{ObjFault}
 use Rattle.cw_view.specs.ObjectFormat.{IsFirstObjectFault}
+use Rattle.cw_view.proofs.NoFault.{not_both}
 use Rattle.cw_files.specs.Texts.{HasObject, object_limit}
 use Rattle.cw_files.specs.Reading.{HaveBytes, HaveValues, AllTaken, IsLongerAt, IsBadAt, StopsObjects}
 use Rattle.cw_correct.specs.Calls.{Call, told_files, NoFault}
@@ -14,7 +15,6 @@ use Rattle.cw_say.specs.declared.status.Status.{Status}
 use Rattle.cw_say.specs.declared.status.Status.TheVariants.{BadFile, NoMemory, TooLong}
 use Rattle.cw_say.specs.declared.status.Long.TheVariants.{File}
 use Rattle.cw_results.proofs.Cases.{stops_objects}
-use Rattle.cw_results.proofs.Opened.{not_both}
 use Rattle.cw_results.proofs.Readings.{Found, all_told, RefusesAt, Runs, of_stop, of_all, taken_runs, from_zero, never, same_values}
 
 abbrev pub bad_status : ℕ → ObjFault → Status

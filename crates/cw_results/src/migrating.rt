@@ -19,7 +19,7 @@ use cw_unit::layout::Limits;
 use std::alloc::Global;
 
 // Writes an object in version 2 beside the file of this name.
-#[tactic(auto, using(crate::proofs::Opened::not_both))]
+#[tactic(auto, using(cw_view::proofs::NoFault::not_both))]
 fn migrate_object<F: Store>(alloc: Global, files: &mut F, name: &str, object: &[u8]) -> Status
     requires { IsObject object.now }
     ensures { MigratesObject name.now object.now (files_at (F.file files.old) (F.faults files.old) (F.absences files.old)) (files_at (F.file files.new) (F.faults files.new) (F.absences files.new)) result }

@@ -1,6 +1,6 @@
 -- So many fields, passed over one after another.
 use Rattle.std.proofs.Common.{◌≡◌, ◌<◌, ◌≤◌, ◌+◌, ◌-◌, ℕ, suc, List, ◌∷◌, Option, Some, None, refl, sym, ◌∙◌, ap, arith}
-use Rattle.cw_view.specs.Fields.{Reader, ◌>>=◌, counted, rest_of}
+use Rattle.cw_fields.specs.Fields.{Reader, ◌>>=◌, counted, rest_of}
 
 kept_rest : {A B : Type 0} (read : Option (A × List ℕ)) (f : A → B) → rest_of (read >>= λ xs. Some (f xs.0, xs.1)) ≡ rest_of read
 kept_rest None f = refl

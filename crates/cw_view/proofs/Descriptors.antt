@@ -14,11 +14,13 @@ use Rattle.cw_unit.specs.declared.descriptor.Spec.{Spec, out-Spec}
 use Rattle.cw_unit.specs.declared.descriptor.SpecParam.{SpecParam, SpecParam-F, out-SpecParam}
 use Rattle.cw_unit.specs.declared.descriptor.SpecParam.TheOpen as layer
 use Rattle.cw_unit.specs.declared.descriptor.SpecParam.TheViews.{roll-SpecParam, roll-out-SpecParam, out-roll-SpecParam}
-use Rattle.cw_view.specs.Fields.{Reader, ◌>>=◌, followed, both, meaning, each, byte_in, text_bytes, optional_in, optional_bytes}
-use Rattle.cw_view.specs.Payloads.{IsByte, IsWord, word_bytes, scale_bytes, FitsScale, plain_layer_bytes, FitsPlainLayer, plain_parameter_bytes, FitsPlainParameter, spec_bytes, FitsSpec, layer_bytes, FitsLayer, parameter_bytes, FitsParameter, bound_bytes, FitsBounds, element_bytes, FitsElement, body_number, body_bytes, FitsBody, overlay_bytes, FitsOverlay, descriptor_bytes, FitsDescriptor}
-use Rattle.cw_view.specs.Reading.{word_in, name_in, scale_of, scale_in, plain_parameter_of, plain_parameter_in, parameters_in, spec_of, spec_in, parameter_of, parameter_in, bounds_in, few_dimensions, dimensions_in, element_of, element_in, elements_in, body_in, overlay_in, listed_in, descriptor_of, descriptor_in}
-use Rattle.cw_view.proofs.Formats.{IsBytes, Reads, some_is, bind_some, reads_both, reads_followed, reads_meaning, reads_listed, reads_byte, reads_optional}
-use Rattle.cw_view.proofs.Forms.{some, no_none, tested, test_cases, reads_word, reads_signed, reads_name, reads_flag}
+use Rattle.cw_fields.specs.Fields.{Reader, ◌>>=◌, followed, both, meaning, each, byte_in, text_bytes, optional_in, optional_bytes, IsByte, IsWord, word_bytes, word_in}
+use Rattle.cw_view.specs.Payloads.{scale_bytes, FitsScale, plain_layer_bytes, FitsPlainLayer, plain_parameter_bytes, FitsPlainParameter, spec_bytes, FitsSpec, layer_bytes, FitsLayer, parameter_bytes, FitsParameter, bound_bytes, FitsBounds, element_bytes, FitsElement, body_number, body_bytes, FitsBody, overlay_bytes, FitsOverlay, descriptor_bytes, FitsDescriptor}
+use Rattle.cw_fields.specs.Names.{name_in}
+use Rattle.cw_view.specs.Reading.{scale_of, scale_in, plain_parameter_of, plain_parameter_in, parameters_in, spec_of, spec_in, parameter_of, parameter_in, bounds_in, few_dimensions, dimensions_in, element_of, element_in, elements_in, body_in, overlay_in, listed_in, descriptor_of, descriptor_in}
+use Rattle.cw_fields.specs.Spelling.{IsBytes, Reads}
+use Rattle.cw_fields.proofs.Formats.{some_is, bind_some, reads_both, reads_followed, reads_meaning, reads_listed, reads_byte, reads_optional}
+use Rattle.cw_fields.proofs.Spelled.{some, no_none, tested, test_cases, reads_word, reads_signed, reads_name, reads_flag}
 
 reads_scale : Reads scale_bytes FitsScale scale_in
 unfolding scale_in

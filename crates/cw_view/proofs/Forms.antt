@@ -1,11 +1,7 @@
 -- Each payload's format: what is read is spelled so, and what is spelled so is read.
-use Rattle.std.proofs.Common.{◌≡◌, ℕ, ◌^◌, ◌<◌, Bool, true, false, cond, eqb, leb, Fits, ◌||◌, List, [], ◌∷◌, ◌++◌, length, Option, Some, None, refl, sym, ap, subst, ◌∙◌, arith, inl, inr, ◌⊎◌, ℤ}
-use Rattle.std.specs.Prelude.{FitsSigned}
-use Rattle.std.specs.Int.{w16, cast_signed, cast_unsigned, from_bool}
-use Rattle.std.proofs.lemmas.Int.{of_z-to_z, to_z-of_z}
-use Rattle.std.proofs.Math.Facts.{Fits-of_z, sfits_to_z}
+use Rattle.std.proofs.Common.{◌≡◌, ℕ, ◌<◌, Bool, true, cond, eqb, leb, ◌||◌, List, [], ◌∷◌, ◌++◌, Some, None, refl, sym, ap, subst, ◌∙◌, arith, inl, inr, ◌⊎◌}
+use Rattle.std.specs.Int.{from_bool}
 use Rattle.std.proofs.lemmas.Bool.{eqb-true, leb-true, le-leb}
-use Rattle.cw_word.specs.Name.{IsName}
 use Rattle.cw_unit.specs.declared.unit.ItemKind.{ItemKind}
 use Rattle.cw_unit.specs.declared.unit.ItemKind.TheVariants.{Single, Array, Table, Text, Loop}
 use Rattle.cw_unit.specs.declared.layout.Family.{Family}
@@ -14,100 +10,13 @@ use Rattle.cw_unit.specs.declared.layout.Sort.TheVariants as sorts
 use Rattle.cw_unit.specs.declared.layout.Preset.{Preset}
 use Rattle.cw_unit.specs.declared.layout.Reloc.{Reloc}
 use Rattle.cw_unit.specs.declared.layout.Body.{Body}
-use Rattle.cw_view.specs.Fields.{◌>>=◌, both, byte_in, signed_in, signed_bytes, text_in, text_bytes, flag_of, flag_in}
-use Rattle.cw_view.specs.Payloads.{IsByte, IsWord, IsLong, word_bytes, long_bytes, sort_number, sort_operand, family_bytes, FitsFamily, ItemEntry, item_kind_number, item_bytes, IsNameOrEmpty, FitsItem, preset_bytes, FitsPreset, relocation_bytes, FitsRelocation, definition_bytes, FitsDefinition, body_facts_bytes, FitsBodyFacts, statement_bytes, FitsStatement}
-use Rattle.cw_view.specs.Reading.{word_in, long_in, is_name, is_empty, named, named_or_empty, name_in, name_or_empty_in, sort_of, family_of, family_in, item_kind_of, item_kind_in, ItemPlace, item_place_in, item_of, item_in, preset_of, preset_in, relocation_of, relocation_in, definition_in, body_facts_of, body_facts_in, statement_of, statement_in}
-use Rattle.cw_view.proofs.Formats.{Reads, some_is, bind_some, reads_both, reads_meaning, reads_byte, reads_number, spells_two, spells_four, reads_text}
-use Rattle.cw_view.proofs.Names.{name-Decides}
-
-abbrev pub some : {A : Type 0} → A → Option A
-some x = Some x
-
--- ---- numbers
-
-pub reads_word : Reads word_bytes IsWord word_in
-reads_word = reads_number 2 65536 spells_two
-
-pub reads_long : Reads long_bytes IsLong long_in
-reads_long = reads_number 4 (2 ^ 32) spells_four
-
-signed_back : (n : ℕ) → n < 65536 → cast_unsigned w16 (cast_signed w16 n) ≡ n
-signed_back n h = of_z-to_z w16 n h
-
-signed_again : (z : ℤ) → FitsSigned w16 z → (cast_unsigned w16 z < 65536) × (cast_signed w16 (cast_unsigned w16 z) ≡ z)
-signed_again z h = ((Fits-of_z h).fits, to_z-of_z w16 z h)
-
-signed_fits : (n : ℕ) → n < 65536 → FitsSigned w16 (cast_signed w16 n)
-signed_fits n h = let f : Fits w16 n = record { fits = h } in sfits_to_z f
-
-pub reads_signed : Reads signed_bytes (FitsSigned w16) signed_in
-unfolding signed_in
-reads_signed =
-    reads_meaning word_bytes IsWord word_in (FitsSigned w16) (λ n. Some (cast_signed w16 n)) (cast_unsigned w16) reads_word
-    (λ n z h e. let same : cast_signed w16 n ≡ z = some_is _ _ e in (sym (signed_back n h) ∙ ap (cast_unsigned w16) same, subst (FitsSigned w16) same (signed_fits n h)))
-    (λ z h. let b = signed_again z h in (b.0, ap some b.1))
-
--- ---- tests
-
--- what a test lets through
-pub tested : {A : Type 0} (b : Bool) (x y : A) → cond b (Some x) None ≡ Some y → (b ≡ true) × (x ≡ y)
-tested true x y e = (refl, some_is x y e)
-tested false x y e = absurd cc
-
-pub test_cases : (b : Bool) → (b ≡ true) ⊎ (b ≡ false)
-test_cases true = inl refl
-test_cases false = inr refl
-
-abbrev pub nothing : {A : Type 0} → Option A
-nothing = None
-
-pub no_none : {A : Type 0} (x : A) → nothing {A = A} ≡ some x → ⊥
-no_none x e = cc
-
--- the first of two that a number chooses
-chosen : {A : Type 0} (n k : ℕ) (a : A) (more : Option A) (y : A) → cond (eqb n k) (Some a) more ≡ Some y → ((n ≡ k) × (a ≡ y)) ⊎ (more ≡ Some y)
-chosen n k a more y e = elim (test_cases (eqb n k)) [ inl h ↦ inl (eqb-true n k h, some_is a y (ap (λ b. cond b (some a) more) (sym h) ∙ e)) | inr h ↦ inr (ap (λ b. cond b (some a) more) (sym h) ∙ e) ]
-
-pub reads_name : Reads text_bytes IsName name_in
-unfolding name_in
-reads_name =
-    reads_meaning text_bytes (λ text. length text < 256) text_in IsName named (λ x. x) reads_text
-    (λ x y h e. let t = tested (is_name x) x y e in (t.1, subst IsName t.1 ((name-Decides x).0 t.0)))
-    (λ y h. (omega (arith, h.short), ap (λ b. cond b (some y) None) ((name-Decides y).1 h)))
-
-empty_or : (x : List ℕ) → (is_empty x || is_name x) ≡ true → IsNameOrEmpty x
-empty_or [] e = inl refl
-empty_or (b ∷ bs) e = inr ((name-Decides (b ∷ bs)).0 e)
-
-is_empty_or : (x : List ℕ) → IsNameOrEmpty x → (is_empty x || is_name x) ≡ true
-is_empty_or [] h = refl
-is_empty_or (b ∷ bs) (inl e) = absurd cc
-is_empty_or (b ∷ bs) (inr n) = (name-Decides (b ∷ bs)).1 n
-
-empty_short : (x : List ℕ) → IsNameOrEmpty x → length x < 256
-empty_short x (inl e) = omega (arith, ap length e)
-empty_short x (inr n) = omega (arith, n.short)
-
-pub reads_name_or_empty : Reads text_bytes IsNameOrEmpty name_or_empty_in
-unfolding name_or_empty_in
-reads_name_or_empty =
-    reads_meaning text_bytes (λ text. length text < 256) text_in IsNameOrEmpty named_or_empty (λ x. x) reads_text
-    (λ x y h e. let t = tested (is_empty x || is_name x) x y e in (t.1, subst IsNameOrEmpty t.1 (empty_or x t.0)))
-    (λ y h. (empty_short y h, ap (λ b. cond b (some y) None) (is_empty_or y h)))
-
-flag_onto : (x : ℕ) (y : Bool) → flag_of x ≡ Some y → x ≡ from_bool y
-flag_onto x y e = elim (chosen x 0 false (cond (eqb x 1) (some true) None) y e) [
-  | inl h ↦ h.0 ∙ ap from_bool h.1
-  | inr more ↦ elim (chosen x 1 true None y more) [ inl h ↦ h.0 ∙ ap from_bool h.1 | inr other ↦ absurd (no_none y other) ]
-]
-
-flag_back : (y : Bool) → (from_bool y < 256) × (flag_of (from_bool y) ≡ Some y)
-flag_back true = (omega arith, refl)
-flag_back false = (omega arith, refl)
-
-pub reads_flag : Reads (λ (b : Bool). from_bool b ∷ []) (λ (b : Bool). Unit {0}) flag_in
-unfolding flag_in
-reads_flag = reads_meaning (λ (b : ℕ). b ∷ []) IsByte byte_in (λ (b : Bool). Unit {0}) flag_of from_bool reads_byte (λ x y h e. (flag_onto x y e, tt)) (λ y h. flag_back y)
+use Rattle.cw_fields.specs.Fields.{◌>>=◌, both, byte_in, text_bytes, IsByte, IsWord, IsLong, word_bytes, long_bytes, word_in, long_in}
+use Rattle.cw_fields.specs.Names.{IsNameOrEmpty, is_empty, name_or_empty_in}
+use Rattle.cw_view.specs.Payloads.{sort_number, sort_operand, family_bytes, FitsFamily, ItemEntry, item_kind_number, item_bytes, FitsItem, preset_bytes, FitsPreset, relocation_bytes, FitsRelocation, definition_bytes, FitsDefinition, body_facts_bytes, FitsBodyFacts, statement_bytes, FitsStatement}
+use Rattle.cw_view.specs.Reading.{sort_of, family_of, family_in, item_kind_of, item_kind_in, ItemPlace, item_place_in, item_of, item_in, preset_of, preset_in, relocation_of, relocation_in, definition_in, body_facts_of, body_facts_in, statement_of, statement_in}
+use Rattle.cw_fields.specs.Spelling.{Reads}
+use Rattle.cw_fields.proofs.Formats.{some_is, bind_some, reads_both, reads_meaning, reads_byte}
+use Rattle.cw_fields.proofs.Spelled.{some, tested, test_cases, no_none, chosen, reads_word, reads_long, reads_name_or_empty, reads_flag}
 
 kind_onto : (x : ℕ) (y : ItemKind) → item_kind_of x ≡ Some y → x ≡ item_kind_number y
 kind_onto x y e = elim (chosen x 0 Single (cond (eqb x 1) (some Array) (cond (eqb x 2) (some Table) (cond (eqb x 3) (some Text) (cond (eqb x 4) (some Loop) None)))) y e) [

@@ -3,12 +3,11 @@ use Rattle.std.proofs.Common.{◌≡◌, ℕ, suc, ◌-◌, ◌+◌, ◌≤◌, 
 use Rattle.std.proofs.lemmas.List.{append-nil}
 use Rattle.cw_view.specs.declared.fault.DescFault.{DescFault}
 use Rattle.cw_view.specs.declared.fault.DescFault.TheVariants.{NotDesc, NoMemory}
-use Rattle.cw_view.specs.Fields.{Reader, ◌>>=◌, counted}
+use Rattle.cw_fields.specs.Fields.{Reader, ◌>>=◌, counted, text_in}
 use Rattle.cw_view.specs.Views.{BuiltOr}
-use Rattle.cw_view.specs.Fields.{text_in}
-use Rattle.cw_view.specs.Reading.{is_name, named, name_in}
-use Rattle.cw_view.proofs.Forms.{some, nothing, tested}
-use Rattle.cw_view.proofs.Formats.{some_is}
+use Rattle.cw_fields.specs.Names.{is_name, named, name_in}
+use Rattle.cw_fields.proofs.Spelled.{some, nothing, tested}
+use Rattle.cw_fields.proofs.Formats.{some_is, bind_some}
 
 -- what was read before, and what is still read
 abbrev pub with_front : {A : Type 0} → List A → Option (List A × List ℕ) → Option (List A × List ℕ)
@@ -42,10 +41,6 @@ is_done {A} read front count i bytes total le so_far =
     let one : with_front front (counted (count - i) read bytes) ≡ Some (front, bytes) = rw k (ap (λ (ns : List A). some (ns, bytes)) (append-nil front)) in
     sym so_far ∙ one
 
-bound : {A B : Type 0} (o : Option A) (f : A → Option B) (y : B) → (o >>= f) ≡ Some y → (x : A) × (o ≡ Some x) × (f x ≡ Some y)
-bound None f y e = absurd cc
-bound (Some x) f y e = (x, refl, e)
-
 only_first : {A B : Type 0} (x y : A) (a b : B) → some {A = A × B} (x, a) ≡ some {A = A × B} (y, b) → x ≡ y
 only_first {A} {B} x y a b e = ap (λ (p : A × B). p.0) (some_is (x, a) (y, b) e)
 
@@ -59,8 +54,8 @@ named_again x y e = let t = tested (is_name x) x y e in ap named (sym t.1) ∙ e
 pub is_named : (bytes text rest : List ℕ) → name_in bytes ≡ Some (text, rest) → named text ≡ None → ⊥
 unfolding name_in
 is_named bytes text rest e none =
-    let first = bound (text_in bytes) (λ x. named x.0 >>= λ y. Some (y, x.1)) (text, rest) e in
-    let second = bound (named first.0.0) (λ y. Some (y, first.0.1)) (text, rest) first.2 in
+    let first = bind_some (text_in bytes) (λ x. named x.0 >>= λ y. Some (y, x.1)) (text, rest) e in
+    let second = bind_some (named first.0.0) (λ y. Some (y, first.0.1)) (text, rest) first.2 in
     let same : second.0 ≡ text = only_first second.0 text first.0.1 rest second.2 in
     none_some text (named text) (ap named (sym same) ∙ named_again first.0.0 second.0 second.1 ∙ ap some same) none
 

@@ -1,6 +1,4 @@
-pub mod Names
 pub mod Counting
-pub mod Formats
 pub mod Forms
 pub mod Descriptors
 pub mod Recorded
@@ -8,5 +6,6 @@ pub mod Opening
 pub mod Reaching
 pub mod Whole
 pub mod Splits
+pub mod NoFault
 pub mod Unique
 pub mod Gathering

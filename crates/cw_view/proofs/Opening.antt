@@ -8,7 +8,8 @@ use Rattle.byteorder.specs.Endian.{little_number, little_bytes}
 use Rattle.cw_view.specs.declared.fault.ObjFault.TheVariants.{BadVersion, Truncated, BadRecord}
 use Rattle.cw_view.specs.ObjectFormat.{Record, last_kind, can_follow, is_complete, FailsBehind, no_end, out_of_order, cut, IsFirstObjectFault, other_version, header, mark}
 use Rattle.cw_view.specs.Fronts.{HasRecord}
-use Rattle.cw_view.proofs.Formats.{IsBytes, IsBytes-drop, two_back, four_back}
+use Rattle.cw_fields.specs.Spelling.{IsBytes}
+use Rattle.cw_fields.proofs.Formats.{IsBytes-drop, two_back, four_back}
 
 -- the rest of a slice from a place
 pub tail_is : (bytes : List ℕ) (k : ℕ) → take (length bytes - k) (drop k bytes) ≡ drop k bytes

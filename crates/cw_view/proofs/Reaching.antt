@@ -7,15 +7,16 @@ use Rattle.std.proofs.lemmas.List.{length-append, length-take, length-drop, appe
 use Rattle.std.proofs.lemmas.Option.{slice_get_past}
 use Rattle.cw_unit.specs.declared.layout.Family.{Family}
 use Rattle.cw_view.specs.declared.front.Front.{Front}
-use Rattle.cw_view.specs.Fields.{whole}
+use Rattle.cw_fields.specs.Fields.{whole}
 use Rattle.cw_view.specs.Payloads.{family_bytes}
 use Rattle.cw_view.specs.Reading.{family_in}
 use Rattle.cw_view.specs.ObjectFormat.{Record, SegmentName, Descriptor, StorageFamily, StoredItem, PresetWord, Code, Relocation, Definition, BodyFacts, Statement, End, kind_of, payload_of, number_of, framed, record_bytes, Facts, last_kind, descriptor_count, one_descriptor, families_of, one_family, code_of, code_or, facts_of, can_follow, is_allowed, next_record, record_in, IsVersion, front_bytes, FailsBehind, not_allowed, IsFirstObjectFault, behind}
 use Rattle.cw_view.specs.declared.fault.ObjFault.{ObjFault}
 use Rattle.cw_view.specs.declared.fault.ObjFault.TheVariants.{BadRecord}
 use Rattle.cw_view.specs.Fronts.{family_record, facts_at, numbered, front_with, HasRecord, Reaches}
-use Rattle.cw_view.proofs.Formats.{IsBytes, some_is, bind_some}
-use Rattle.cw_view.proofs.Forms.{some, test_cases}
+use Rattle.cw_fields.specs.Spelling.{IsBytes}
+use Rattle.cw_fields.proofs.Formats.{some_is, bind_some}
+use Rattle.cw_fields.proofs.Spelled.{some, test_cases}
 use Rattle.cw_view.proofs.Recorded.{next_takes, none_next}
 
 abbrev pub FamilyAt : Type 0

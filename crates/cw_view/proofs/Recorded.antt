@@ -1,12 +1,15 @@
 -- A record that is read is the one whose payload stands there.
 use Rattle.std.proofs.Common.{◌≡◌, ℕ, true, cond, List, [], ◌∷◌, Some, None, refl, sym, ap, subst, ◌∙◌, inl, inr}
 use Rattle.cw_word.specs.Name.{IsName}
-use Rattle.cw_view.specs.Fields.{Reader, ◌>>=◌, whole, text_bytes}
+use Rattle.cw_fields.specs.Fields.{Reader, ◌>>=◌, whole, text_bytes}
 use Rattle.cw_view.specs.Payloads.{descriptor_bytes, FitsDescriptor, family_bytes, FitsFamily, item_bytes, FitsItem, preset_bytes, FitsPreset, relocation_bytes, FitsRelocation, definition_bytes, FitsDefinition, body_facts_bytes, FitsBodyFacts, statement_bytes, FitsStatement}
-use Rattle.cw_view.specs.Reading.{is_empty, name_in, descriptor_in, family_in, item_in, preset_in, relocation_in, definition_in, body_facts_in, statement_in}
+use Rattle.cw_fields.specs.Names.{is_empty, name_in}
+use Rattle.cw_view.specs.Reading.{descriptor_in, family_in, item_in, preset_in, relocation_in, definition_in, body_facts_in, statement_in}
 use Rattle.cw_view.specs.ObjectFormat.{Record, SegmentName, Descriptor, StorageFamily, StoredItem, PresetWord, Code, Relocation, Definition, BodyFacts, Statement, End, kind_of, payload_of, FitsRecord, Facts, is_allowed, record_in, next_record}
-use Rattle.cw_view.proofs.Formats.{IsBytes, Reads, some_is, bind_some, whole_takes, whole_again}
-use Rattle.cw_view.proofs.Forms.{some, no_none, tested, reads_name, reads_family, reads_item, reads_preset, reads_relocation, reads_definition, reads_body_facts, reads_statement}
+use Rattle.cw_fields.specs.Spelling.{IsBytes, Reads}
+use Rattle.cw_fields.proofs.Formats.{some_is, bind_some, whole_takes, whole_again}
+use Rattle.cw_fields.proofs.Spelled.{some, no_none, tested, reads_name}
+use Rattle.cw_view.proofs.Forms.{reads_family, reads_item, reads_preset, reads_relocation, reads_definition, reads_body_facts, reads_statement}
 use Rattle.cw_view.proofs.Descriptors.{either, reads_descriptor}
 
 pub record TakesRecord (kind : ℕ) (payload : List ℕ) (r : Record) : Type 0 where

@@ -4,10 +4,10 @@ use Rattle.std.proofs.lemmas.Bool.{leb-true, le-leb, ne_eqb}
 use Rattle.std.proofs.lemmas.List.{length-append, length-drop, drop_at, take_at, append-nil, drop-drop}
 use Rattle.byteorder.specs.Endian.{little_number}
 use Rattle.byteorder.specs.Numbers.{little_number-reads_back}
-use Rattle.cw_view.specs.Payloads.{long_bytes}
+use Rattle.cw_fields.specs.Fields.{long_bytes}
 use Rattle.cw_view.specs.ObjectFormat.{Record, kind_of, payload_of, record_bytes, framed, is_complete, front_bytes, header, IsFront, payloads, payload_if}
 use Rattle.cw_view.specs.Splitting.{first_record, size_in, with_payload, payloads_within, payloads_in}
-use Rattle.cw_view.proofs.Forms.{some, tested}
+use Rattle.cw_fields.proofs.Spelled.{some, tested}
 
 -- what is not complete is no record, and what follows a record is shorter
 ff : false ≡ true → ⊥

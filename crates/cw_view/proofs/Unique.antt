@@ -1,5 +1,5 @@
 -- Bytes have one reading: a computed one, with which every object and every fault agrees.
-use Rattle.std.proofs.Common.{◌≡◌, ℕ, zero, suc, ◌+◌, ◌<◌, ◌≢◌, true, false, cond, ◌||◌, leb, eqb, eq-eqb, get_or, All, List, [], ◌∷◌, ◌++◌, length, take, drop, Option, Some, None, Result, Ok, Err, refl, sym, ap, subst, ◌∙◌, append_assoc, arith, inl, inr}
+use Rattle.std.proofs.Common.{◌≡◌, ℕ, zero, suc, ◌+◌, ◌<◌, ◌≢◌, true, false, cond, ◌||◌, leb, eqb, eq-eqb, All, List, [], ◌∷◌, ◌++◌, length, take, drop, Option, Some, None, Result, Ok, Err, refl, sym, ap, subst, ◌∙◌, append_assoc, arith, inl, inr}
 use Rattle.std.specs.Str.{bytes_eq}
 use Rattle.std.proofs.lemmas.Slice.Eq.{bytes_eq-Decides}
 use Rattle.std.proofs.lemmas.Bool.{le-leb, lt-leb, ne_eqb, cases_lt, false_from_ne_true as false_of}
@@ -9,14 +9,15 @@ use Rattle.byteorder.specs.Endian.{little_number}
 use Rattle.byteorder.specs.Numbers.{little_number-reads_back}
 use Rattle.cw_view.specs.declared.fault.ObjFault.{ObjFault}
 use Rattle.cw_view.specs.declared.fault.ObjFault.TheVariants.{NotObject, BadVersion, Truncated, BadRecord, Trailing}
-use Rattle.cw_view.specs.ObjectFormat.{Record, kind_of, payload_of, record_bytes, framed, FitsRecord, last_kind, facts_of, can_follow, is_allowed, next_record, is_complete, mark, IsVersion, header, front_bytes, IsNext, IsFront, IsObjectOf, FailsBehind, no_end, out_of_order, cut, not_allowed, trailing, IsFirstObjectFault, not_object, no_version, other_version, behind}
-use Rattle.cw_view.specs.Splitting.{first_record, size_in}
+use Rattle.cw_view.specs.ObjectFormat.{Record, kind_of, payload_of, record_bytes, framed, FitsRecord, last_kind, facts_of, can_follow, is_allowed, next_record, mark, IsVersion, header, front_bytes, IsNext, IsFront, IsObjectOf, FailsBehind, no_end, out_of_order, cut, not_allowed, trailing, IsFirstObjectFault, not_object, no_version, other_version, behind}
+use Rattle.cw_view.specs.Splitting.{first_record}
 use Rattle.cw_view.specs.Uniqueness.{HasOneObject, HasOneFault, HasNotBoth}
-use Rattle.cw_view.proofs.Forms.{some}
 use Rattle.cw_view.proofs.Recorded.{next_again, next_takes}
-use Rattle.cw_view.proofs.Formats.{IsBytes, IsBytes-drop, IsBytes-take}
-use Rattle.cw_view.specs.Payloads.{long_bytes}
+use Rattle.cw_fields.specs.Spelling.{IsBytes}
+use Rattle.cw_fields.proofs.Formats.{IsBytes-drop, IsBytes-take}
+use Rattle.cw_fields.specs.Fields.{long_bytes}
 use Rattle.cw_view.proofs.Splits.{in_front, tail_bytes, front_is}
+use Rattle.cw_view.proofs.NoFault.{no_record, version_small, not_both}
 
 abbrev found : List Record → Result (List Record) ObjFault
 found rs = Ok rs
@@ -80,10 +81,6 @@ along n v len (r ∷ before) rest f =
     ∙ ap (scan (suc n + length before) v len []) (append_assoc (tail_bytes before) (record_bytes r) rest)
     ∙ along (suc n) v len before (record_bytes r ++ rest) f.0 ∙ step n v len before r rest f.1
 
-no_record : (rest : List ℕ) → is_complete rest ≡ false → first_record rest ≡ None
-unfolding first_record
-no_record rest h = ap (λ b. cond b (some (get_or rest 0 0, (take (size_in rest) (drop 5 rest), drop (5 + size_in rest) rest))) None) h
-
 none_allowed : (v : ℕ) (before : List Record) (kind : ℕ) (payload : List ℕ) → IsBytes payload
     → ((r : Record) → kind_of r ≡ kind → payload_of r ≡ payload → FitsRecord r → is_allowed (facts_of before) r ≡ true → ⊥)
     → (o : Option Record) → next_record (facts_of before) kind payload ≡ o → next_record (facts_of before) kind payload ≡ None
@@ -146,10 +143,6 @@ version_test : (v : ℕ) → IsVersion v → (eqb v 1 || eqb v 2) ≡ true
 version_test v (inl e) = ap (λ n. eqb n 1 || eqb n 2) e
 version_test v (inr e) = ap (λ n. eqb n 1 || eqb n 2) e
 
-version_small : (v : ℕ) → IsVersion v → v < 65536
-version_small v (inl e) = omega (arith, e)
-version_small v (inr e) = omega (arith, e)
-
 no_version_test : (v : ℕ) → (IsVersion v → ⊥) → (eqb v 1 || eqb v 2) ≡ false
 no_version_test v h =
     ap (λ b. b || eqb v 2) (ne_eqb v 1 (λ e. h (inl e))) ∙ ne_eqb v 2 (λ e. h (inr e))
@@ -195,9 +188,6 @@ same_records rs ss e = cc
 same_faults : (f g : ObjFault) → fails f ≡ fails g → f ≡ g
 same_faults f g e = cc
 
-not_both : (rs : List Record) (f : ObjFault) → found rs ≡ fails f → ⊥
-not_both rs f e = cc
-
 bytes_of : (bytes : List ℕ) → All (λ b. b < 256) bytes → IsBytes bytes
 bytes_of bytes h i = elim (cases_lt i (length bytes)) [ inl lt ↦ h i 0 lt | inr le ↦ rw (get_or_past bytes i 0 le) (omega arith) ]
 
@@ -213,6 +203,6 @@ pub one_fault : HasOneFault
 one_fault bytes f g fits p q = same_faults f g (same_outcome bytes (Err f) (Err g) (fault_agrees bytes f (bytes_of bytes fits) p) (fault_agrees bytes g (bytes_of bytes fits) q))
 
 pub neither_both : HasNotBoth
-neither_both bytes v records f fits o p = not_both records f (same_outcome bytes (Ok records) (Err f) (object_agrees bytes v records o) (fault_agrees bytes f (bytes_of bytes fits) p))
+neither_both bytes v records f o p = not_both bytes v records o f p
 
 pub ruleset laws = (one_object, one_fault, neither_both)

@@ -6,14 +6,13 @@ use Rattle.std.proofs.lemmas.List.{length-drop, append-nil, nil_from_length}
 use Rattle.cw_word.specs.Name.{IsName}
 use Rattle.cw_view.specs.declared.front.Front.{Front}
 use Rattle.cw_view.specs.declared.fault.ObjFault.TheVariants.{Trailing}
-use Rattle.cw_view.specs.Fields.{◌>>=◌, text_bytes, text_in}
-use Rattle.cw_view.specs.Payloads.{long_bytes}
-use Rattle.cw_view.specs.Reading.{named}
+use Rattle.cw_fields.specs.Fields.{◌>>=◌, text_bytes, text_in, long_bytes}
+use Rattle.cw_fields.specs.Names.{named}
 use Rattle.cw_view.specs.ObjectFormat
 use Rattle.cw_view.specs.ObjectFormat.{Record, SegmentName, Descriptor, StorageFamily, StoredItem, PresetWord, Code, Relocation, Definition, BodyFacts, Statement, End, kind_of, payload_of, record_bytes, last_kind, code_of, facts_of, can_follow, IsNext, IsFront, IsVersion, IsObjectOf, IsFirstObjectFault, FailsBehind, trailing, front_bytes, header, payload_if, payloads}
 use Rattle.cw_view.specs.Fronts.{Reaches, first_name, facts_at}
-use Rattle.cw_view.proofs.Formats.{reads_text}
-use Rattle.cw_view.proofs.Names.{name-Decides}
+use Rattle.cw_fields.proofs.Formats.{reads_text}
+use Rattle.cw_fields.proofs.Names.{name-Decides}
 use Rattle.cw_view.proofs.Opening.{cell}
 use Rattle.cw_view.proofs.Reaching.{last_is, fails_behind}
 

@@ -2,8 +2,9 @@
 use Rattle.std.specs.Prelude.{◌≡◌, ◌≤◌, ◌<◌, ◌^◌, ℕ, ◌+◌, ◌*◌, ◌==◌, nat_lt, true, if◌then◌else◌, List, ◌++◌, length, take, drop, Option, Some, None, Result, Ok, Err}
 use Rattle.cw_unit.specs.declared.layout.Family.{Family}
 use Rattle.cw_view.specs.declared.front.Front.{Front}
-use Rattle.cw_view.specs.Fields.{◌>>=◌, whole, text_in}
-use Rattle.cw_view.specs.Reading.{named, family_in}
+use Rattle.cw_fields.specs.Fields.{◌>>=◌, whole, text_in}
+use Rattle.cw_fields.specs.Names.{named}
+use Rattle.cw_view.specs.Reading.{family_in}
 use Rattle.cw_view.specs.declared.view.View.{View}
 use Rattle.cw_view.specs.declared.fault.ObjFault.{ObjFault}
 use Rattle.cw_view.specs.ObjectFormat.{Record, Facts, number_of, can_follow, framed, last_kind, families_of, facts_of, header, front_bytes, IsVersion, IsFront, IsObjectOf, IsFirstObjectFault, FailsBehind, IsViewOf, payloads}

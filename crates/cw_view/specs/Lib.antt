@@ -1,4 +1,3 @@
-pub mod Fields
 pub mod Payloads
 pub mod Reading
 pub mod Views

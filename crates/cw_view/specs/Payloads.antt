@@ -2,7 +2,6 @@
 use Rattle.std.specs.Prelude.{◌≡◌, ℕ, ◌<◌, ◌≤◌, ◌^◌, ◌⊎◌, Bool, List, [], ◌∷◌, ◌++◌, length, IfSome, ℤ, FitsSigned}
 use Rattle.std.specs.List.{AllByRecursion}
 use Rattle.std.specs.Int.{w16, from_bool}
-use Rattle.byteorder.specs.Endian.{little_bytes}
 use Rattle.cw_word.specs.Name.{IsName}
 use Rattle.cw_unit.specs.declared.descriptor.Scale.{Scale}
 use Rattle.cw_unit.specs.declared.descriptor.Desc.{Desc}
@@ -20,23 +19,8 @@ use Rattle.cw_unit.specs.declared.layout.Sort.TheVariants as sorts
 use Rattle.cw_unit.specs.declared.layout.Preset.{Preset}
 use Rattle.cw_unit.specs.declared.layout.Reloc.{Reloc}
 use Rattle.cw_unit.specs.declared.layout.Body.{Body}
-use Rattle.cw_view.specs.Fields.{each, text_bytes, signed_bytes, optional_bytes}
-
-abbrev pub word_bytes : ℕ → List ℕ
-word_bytes n = little_bytes 2 n
-
-abbrev pub long_bytes : ℕ → List ℕ
-long_bytes n = little_bytes 4 n
-
--- numbers of one, two and four bytes
-abbrev pub IsByte : ℕ → Type 0
-IsByte n = n < 256
-
-abbrev pub IsWord : ℕ → Type 0
-IsWord n = n < 65536
-
-abbrev pub IsLong : ℕ → Type 0
-IsLong n = n < 2 ^ 32
+use Rattle.cw_fields.specs.Fields.{IsByte, IsWord, IsLong, each, word_bytes, long_bytes, text_bytes, signed_bytes, optional_bytes}
+use Rattle.cw_fields.specs.Names.{IsNameOrEmpty}
 
 -- ---- descriptors
 
@@ -194,9 +178,6 @@ item_bytes i =
     ++ (text_bytes i.name
     ++ (word_bytes i.line
     ++ (item_kind_number i.kind ∷ from_bool i.common ∷ word_bytes i.family ++ (word_bytes i.offset ++ long_bytes i.words))))
-
-abbrev pub IsNameOrEmpty : List ℕ → Type 0
-IsNameOrEmpty text = (text ≡ []) ⊎ IsName text
 
 pub record FitsItem (i : ItemEntry) : Type 0 where
   pub owner : IsNameOrEmpty i.owner

@@ -1,6 +1,5 @@
 -- The same payloads, as they are read.
 use Rattle.std.specs.Prelude.{ℕ, ◌==◌, ◌||◌, ◌&&◌, nat_le, Bool, true, false, if◌then◌else◌, List, [], ◌∷◌, length, Option, Some, None, ℤ}
-use Rattle.std.specs.List.{list_all}
 use Rattle.cw_unit.specs.declared.descriptor.Scale.{Scale}
 use Rattle.cw_unit.specs.declared.descriptor.Desc.{Desc}
 use Rattle.cw_unit.specs.declared.descriptor.DescBody.{DescBody}
@@ -17,45 +16,9 @@ use Rattle.cw_unit.specs.declared.layout.Sort.TheVariants as sorts
 use Rattle.cw_unit.specs.declared.layout.Preset.{Preset}
 use Rattle.cw_unit.specs.declared.layout.Reloc.{Reloc}
 use Rattle.cw_unit.specs.declared.layout.Body.{Body}
-use Rattle.cw_view.specs.Fields.{Reader, ◌>>=◌, followed, both, meaning, counted, byte_in, number_in, signed_in, text_in, optional_in, flag_in}
+use Rattle.cw_fields.specs.Fields.{Reader, ◌>>=◌, followed, both, meaning, counted, byte_in, word_in, long_in, signed_in, optional_in, flag_in}
+use Rattle.cw_fields.specs.Names.{is_empty, name_in, name_or_empty_in}
 use Rattle.cw_view.specs.Payloads.{ItemEntry}
-
-abbrev pub word_in : Reader ℕ
-word_in bytes = number_in 2 bytes
-
-abbrev pub long_in : Reader ℕ
-long_in bytes = number_in 4 bytes
-
--- ---- names
-
-abbrev pub is_letter : ℕ → Bool
-is_letter b = nat_le 65 b && nat_le b 90
-
-abbrev pub is_digit : ℕ → Bool
-is_digit b = nat_le 48 b && nat_le b 57
-
-abbrev pub starts_with_letter : List ℕ → Bool
-starts_with_letter [] = false
-starts_with_letter (first ∷ rest) = is_letter first
-
-unfoldable pub is_name : List ℕ → Bool
-is_name bytes = starts_with_letter bytes && list_all (λ b. is_letter b || is_digit b) bytes && nat_le (length bytes) 31
-
-abbrev pub is_empty : {A : Type 0} → List A → Bool
-is_empty [] = true
-is_empty (x ∷ xs) = false
-
-abbrev pub named : List ℕ → Option (List ℕ)
-named text = if is_name text then Some text else None
-
-abbrev pub named_or_empty : List ℕ → Option (List ℕ)
-named_or_empty text = if is_empty text || is_name text then Some text else None
-
-unfoldable pub name_in : Reader (List ℕ)
-name_in bytes = meaning named text_in bytes
-
-unfoldable pub name_or_empty_in : Reader (List ℕ)
-name_or_empty_in bytes = meaning named_or_empty text_in bytes
 
 -- ---- descriptors
 

@@ -10,4 +10,4 @@ abbrev pub HasOneFault : Type 0
 HasOneFault = (bytes : List ℕ) (f g : ObjFault) → All (λ b. b < 256) bytes → IsFirstObjectFault bytes f → IsFirstObjectFault bytes g → f ≡ g
 
 abbrev pub HasNotBoth : Type 0
-HasNotBoth = (bytes : List ℕ) (v : ℕ) (records : List Record) (f : ObjFault) → All (λ b. b < 256) bytes → IsObjectOf bytes v records → IsFirstObjectFault bytes f → ⊥
+HasNotBoth = (bytes : List ℕ) (v : ℕ) (records : List Record) (f : ObjFault) → IsObjectOf bytes v records → IsFirstObjectFault bytes f → ⊥

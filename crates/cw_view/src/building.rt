@@ -1,12 +1,13 @@
 //! Descriptors as they are read.
 ghost use Rattle.std.specs.Prelude.{◌≡◌};
-ghost use Rattle.cw_view.specs.Fields.{Gives, counted, optional_in, whole};
-ghost use Rattle.cw_view.specs.Reading.{scale_in, plain_parameter_in, parameter_in, spec_in, bounds_in, dimensions_in, element_in, body_in, listed_in, name_in, descriptor_in};
+ghost use Rattle.cw_fields.specs.Fields.{Gives, counted, optional_in, whole};
+ghost use Rattle.cw_fields.specs.Names.{name_in};
+ghost use Rattle.cw_view.specs.Reading.{scale_in, plain_parameter_in, parameter_in, spec_in, bounds_in, dimensions_in, element_in, body_in, listed_in, descriptor_in};
 ghost use Rattle.cw_view.specs.Views.{proc_of, Builds};
 
 use crate::descriptor::overlay_in;
 use crate::fault::DescFault;
-use crate::fields::{byte_in, flag_in, name_in, named, signed_in, word_in};
+use cw_fields::{byte_in, flag_in, name_in, named, signed_in, word_in};
 use cw_unit::descriptor::{Desc, DescBody, ElemDesc, Scale, Spec, SpecParam};
 use cw_word::List;
 use std::alloc::Global;
@@ -53,7 +54,7 @@ pub(crate) fn proc_of(spec: Spec) -> SpecParam
     SpecParam::Proc(spec)
 }
 
-#[tactic(auto, unfolding(crate::specs::Fields::flag_in))]
+#[tactic(auto, unfolding(cw_fields::specs::Fields::flag_in))]
 fn answer_in(bytes: &[u8]) -> Option<(Option<Scale>, &[u8])>
     ensures { Gives (λ x. (x.0, x.1.now)) result (optional_in scale_in bytes.now) }
 {

@@ -1,10 +1,10 @@
 //! The payloads of descriptors, passed over without memory.
 ghost use Rattle.std.specs.Prelude.{◌≡◌};
-ghost use Rattle.cw_view.specs.Fields.{Gives, GivesRest, skipped, whole, counted, optional_in};
+ghost use Rattle.cw_fields.specs.Fields.{Gives, GivesRest, skipped, whole, counted, optional_in};
 ghost use Rattle.cw_view.specs.Reading.{scale_in, plain_parameter_of, plain_parameter_in, parameters_in, spec_in, parameter_of, parameter_in, bounds_in, dimensions_in, element_in, elements_in, body_in, overlay_in, descriptor_in};
 ghost use Rattle.cw_view.specs.Views.{base_of};
 
-use crate::fields::{byte_in, flag_in, name_in, signed_in, word_in};
+use cw_fields::{byte_in, flag_in, name_in, signed_in, word_in};
 
 #[tactic(auto, unfolding(crate::specs::Reading::scale_in))]
 fn after_scale(bytes: &[u8]) -> Option<&[u8]>
@@ -15,7 +15,7 @@ fn after_scale(bytes: &[u8]) -> Option<&[u8]>
     Some(rest)
 }
 
-#[tactic(auto, unfolding(crate::specs::Fields::flag_in))]
+#[tactic(auto, unfolding(cw_fields::specs::Fields::flag_in))]
 fn after_optional_scale(bytes: &[u8]) -> Option<&[u8]>
     ensures { GivesRest (λ r. r.now) result (optional_in scale_in bytes.now) }
 {
@@ -178,7 +178,7 @@ fn after_body(number: u8, bytes: &[u8]) -> Option<&[u8]>
     }
 }
 
-#[tactic(auto, unfolding(crate::specs::Fields::flag_in))]
+#[tactic(auto, unfolding(cw_fields::specs::Fields::flag_in))]
 pub(crate) fn overlay_in(bytes: &[u8]) -> Option<(Option<(u16, u16)>, &[u8])>
     ensures { Gives (λ x. (x.0, x.1.now)) result (optional_in overlay_in bytes.now) }
 {

@@ -1,17 +1,17 @@
 //! What the records of an object tell to the one after them, and which may come next.
 ghost use Rattle.std.specs.Prelude.{◌≡◌, ◌≤◌, ◌<◌, ◌+◌, ◌*◌, ◌&&◌, ◌||◌, ◌^◌, length, is_some};
-ghost use Rattle.cw_view.specs.Fields.{Gives, whole};
-ghost use Rattle.cw_view.specs.Reading.{name_in};
+ghost use Rattle.cw_fields.specs.Fields.{Gives, whole};
+ghost use Rattle.cw_fields.specs.Names.{name_in};
 ghost use Rattle.cw_view.specs.Views.{entry_of};
 ghost use Rattle.cw_view.specs.ObjectFormat.{can_follow, has_base, is_placed, is_named, has_words, has_preset, is_blank, has_index, rises, is_allowed, next_record};
 ghost use Rattle.cw_view.specs.Fronts.{facts_at, no_front, numbered, front_with};
 ghost use Rattle.cw_view.specs.ObjectFormat.{Relocation, Definition, Statement};
 
 use crate::descriptor::descriptor_base;
-use crate::fields::name_in;
 use crate::payload::{
     read_body, read_definition, read_family, read_item, read_preset, read_reloc, read_statement,
 };
+use cw_fields::name_in;
 use cw_unit::layout::{Family, ItemView, Reloc, Sort};
 use cw_unit::unit::ItemKind;
 

@@ -4,7 +4,6 @@
 mod building;
 mod descriptor;
 mod fault;
-pub mod fields;
 mod front;
 pub mod laws;
 mod payload;

@@ -1,6 +1,6 @@
 //! The records of a kind, one after another.
 ghost use Rattle.std.specs.Prelude.{◌≡◌};
-ghost use Rattle.cw_view.specs.Fields.{Gives};
+ghost use Rattle.cw_fields.specs.Fields.{Gives};
 ghost use Rattle.cw_view.specs.Splitting.{first_record};
 
 use crate::front::HEAD;

@@ -1,15 +1,15 @@
 //! A view of an object: its records as slices of its bytes.
 ghost use Rattle.std.specs.Prelude.{◌≡◌, ◌≤◌, ◌≢◌, ◌++◌, length, drop};
-ghost use Rattle.cw_view.specs.Fields.{Gives};
+ghost use Rattle.cw_fields.specs.Fields.{Gives};
 ghost use Rattle.cw_view.specs.ObjectFormat.{IsVersion, header};
 ghost use Rattle.cw_view.specs.Splitting.{payloads_in, payloads_left};
 ghost use Rattle.cw_view.specs.Fronts.{AnswersVersion, AnswersRecord, AnswersRecords, AnswersOpen, first_name};
 
 use crate::fault::ObjFault;
-use crate::fields::{named, text_in};
 use crate::front::{END, Front, HEAD, can_follow};
 use crate::records::Records;
 use byteorder::{ByteOrder, LittleEndian};
+use cw_fields::{named, text_in};
 use cw_word::Name;
 
 /// How an object begins.

@@ -1,5 +1,5 @@
-use Rattle.cw_view.specs.Fields.{text_bytes}
-use Rattle.cw_image.proofs.Appending.{put_each}
+use Rattle.cw_fields.specs.Fields.{text_bytes}
+use Rattle.cw_fields.proofs.Appending.{put_each}
 use Rattle.cw_image.proofs.writing.put_names.Goals as goal
 
 pub loop-name-preserved : goal.loop-name-preserved

@@ -1,6 +1,5 @@
 use Rattle.std.proofs.Common.{◌≡◌, ◌++◌, drop}
-use Rattle.cw_view.specs.Fields.{each}
-use Rattle.cw_view.specs.Fields.{text_bytes}
+use Rattle.cw_fields.specs.Fields.{each, text_bytes}
 use Rattle.cw_image.proofs.writing.put_names.Given as goal
 
 abbrev pub invariant-loop-name : goal.invariant-loop-name

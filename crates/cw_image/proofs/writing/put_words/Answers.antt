@@ -1,5 +1,5 @@
-use Rattle.cw_view.specs.Payloads.{word_bytes}
-use Rattle.cw_image.proofs.Appending.{put_each_at}
+use Rattle.cw_fields.specs.Fields.{word_bytes}
+use Rattle.cw_fields.proofs.Appending.{put_each_at}
 use Rattle.cw_image.proofs.writing.put_words.Goals as goal
 
 pub loop-word-preserved : goal.loop-word-preserved

@@ -1,6 +1,5 @@
 use Rattle.std.proofs.Common.{◌≡◌, ◌++◌, drop}
-use Rattle.cw_view.specs.Fields.{each}
-use Rattle.cw_view.specs.Payloads.{word_bytes}
+use Rattle.cw_fields.specs.Fields.{each, word_bytes}
 use Rattle.cw_image.proofs.writing.put_words.Given as goal
 
 abbrev pub invariant-loop-word : goal.invariant-loop-word

@@ -1,5 +1,5 @@
 use Rattle.cw_view.specs.Payloads.{bound_bytes}
-use Rattle.cw_obj.proofs.Appending.{put_each_at}
+use Rattle.cw_fields.proofs.Appending.{put_each_at}
 use Rattle.cw_obj.proofs.descriptor.put_bounds.Goals as goal
 
 pub loop-bound-preserved : goal.loop-bound-preserved

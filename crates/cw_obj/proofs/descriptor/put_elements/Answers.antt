@@ -1,5 +1,5 @@
 use Rattle.cw_view.specs.Payloads.{element_bytes}
-use Rattle.cw_obj.proofs.Appending.{put_each}
+use Rattle.cw_fields.proofs.Appending.{put_each}
 use Rattle.cw_obj.proofs.descriptor.put_elements.Goals as goal
 
 pub loop-element-preserved : goal.loop-element-preserved

@@ -1,5 +1,5 @@
 use Rattle.std.proofs.Common.{◌≡◌, ◌++◌, drop}
-use Rattle.cw_view.specs.Fields.{each}
+use Rattle.cw_fields.specs.Fields.{each}
 use Rattle.cw_view.specs.Payloads.{element_bytes}
 use Rattle.cw_obj.proofs.descriptor.put_elements.Given as goal
 

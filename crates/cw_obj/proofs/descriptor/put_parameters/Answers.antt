@@ -1,5 +1,5 @@
 use Rattle.cw_view.specs.Payloads.{parameter_bytes}
-use Rattle.cw_obj.proofs.Appending.{put_each}
+use Rattle.cw_fields.proofs.Appending.{put_each}
 use Rattle.cw_obj.proofs.descriptor.put_parameters.Goals as goal
 
 pub loop-parameter-preserved : goal.loop-parameter-preserved

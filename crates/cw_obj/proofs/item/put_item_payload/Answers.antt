@@ -1,4 +1,4 @@
-use Rattle.cw_view.specs.Payloads.{word_bytes}
+use Rattle.cw_fields.specs.Fields.{word_bytes}
 use Rattle.cw_obj.specs.ReferenceObject.{owner_name, name_or_none, place_bytes}
 use Rattle.cw_obj.proofs.Joining.{item_joined}
 use Rattle.cw_obj.proofs.item.put_item_payload.Goals as goal

@@ -1,5 +1,5 @@
 use Rattle.std.proofs.Common.{◌≡◌, ◌-◌}
-use Rattle.cw_view.specs.Fields.{counted}
+use Rattle.cw_fields.specs.Fields.{counted}
 use Rattle.cw_view.specs.Reading.{bounds_in}
 use Rattle.cw_view.proofs.Gathering.{with_front}
 use Rattle.cw_view.proofs.building.counted_bounds.Given as goal

@@ -1,5 +1,5 @@
 use Rattle.std.proofs.Common.{◌≡◌, ◌-◌}
-use Rattle.cw_view.specs.Fields.{counted, rest_of}
+use Rattle.cw_fields.specs.Fields.{counted, rest_of}
 use Rattle.cw_view.specs.Reading.{plain_parameter_in}
 use Rattle.cw_view.proofs.descriptor.after_plain_parameters.Given as goal
 

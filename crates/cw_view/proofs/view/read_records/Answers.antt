@@ -2,7 +2,7 @@ use Rattle.std.proofs.Common.{◌+◌, ap, subst, ◌∙◌, sym, arith}
 use Rattle.cw_view.specs.Fronts.{numbered, facts_at}
 use Rattle.cw_view.specs.ObjectFormat.{next_record, IsFirstObjectFault}
 use Rattle.std.proofs.lemmas.Result.{err_from_is_err_and}
-use Rattle.cw_view.proofs.Formats.{IsBytes-take, IsBytes-drop}
+use Rattle.cw_fields.proofs.Formats.{IsBytes-take, IsBytes-drop}
 use Rattle.cw_view.proofs.Opening.{part_is}
 use Rattle.cw_view.proofs.Reaching.{reaches_on, fails_behind, fails_record}
 use Rattle.cw_view.proofs.view.read_records.Goals as goal

@@ -1,9 +1,9 @@
 use Rattle.std.proofs.Common.{◌≡◌, sym, ◌∙◌, ap, List, [], ◌∷◌, ℕ, refl, drop}
-use Rattle.cw_view.specs.Fields.{text_bytes}
+use Rattle.cw_fields.specs.Fields.{text_bytes}
 use Rattle.cw_view.specs.Splitting.{payloads_in}
 use Rattle.cw_view.proofs.Splits.{all_payloads}
-use Rattle.cw_view.proofs.Forms.{no_none}
-use Rattle.cw_view.proofs.Formats.{some_is}
+use Rattle.cw_fields.proofs.Spelled.{no_none}
+use Rattle.cw_fields.proofs.Formats.{some_is}
 use Rattle.cw_view.proofs.Whole.{begins_in, long_enough, name_there, whole_object, fails_trailing, code_there}
 use Rattle.cw_view.proofs.view.View.open.Goals as goal
 

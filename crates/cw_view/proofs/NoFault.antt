@@ -7,7 +7,8 @@ use Rattle.byteorder.specs.Numbers.{little_number-reads_back}
 use Rattle.cw_view.specs.declared.fault.ObjFault.{ObjFault}
 use Rattle.cw_view.specs.ObjectFormat.{Record, kind_of, payload_of, record_bytes, framed, FitsRecord, last_kind, facts_of, can_follow, is_allowed, next_record, is_complete, mark, IsVersion, header, front_bytes, IsNext, IsFront, IsObjectOf, FailsBehind, no_end, out_of_order, cut, not_allowed, trailing, IsFirstObjectFault, not_object, no_version, other_version, behind}
 use Rattle.cw_view.specs.Splitting.{first_record, size_in}
-use Rattle.cw_view.proofs.Forms.{some}
+use Rattle.cw_fields.proofs.Formats.{some_is}
+use Rattle.cw_fields.proofs.Spelled.{some}
 use Rattle.cw_view.proofs.Recorded.{next_again}
 use Rattle.cw_view.proofs.Splits.{in_front}
 
@@ -17,13 +18,10 @@ Cut = ℕ × (List ℕ × List ℕ)
 some_none : (x : Cut) → Some x ≡ None → ⊥
 some_none x e = absurd (cc)
 
-some_is : {A : Type 0} (x y : A) → Some x ≡ Some y → x ≡ y
-some_is x y e = cc
-
 true_false : (b : Bool) → b ≡ true → b ≡ false → ⊥
 true_false b e f = absurd (cc (e, f))
 
-no_record : (rest : List ℕ) → is_complete rest ≡ false → first_record rest ≡ None
+pub no_record : (rest : List ℕ) → is_complete rest ≡ false → first_record rest ≡ None
 unfolding first_record
 no_record rest h = ap (λ b. cond b (some (get_or rest 0 0, (take (size_in rest) (drop 5 rest), drop (5 + size_in rest) rest))) None) h
 
@@ -106,7 +104,7 @@ no_fault v place len before (r ∷ rs) (b ∷ bs) rest f x y ended e fails =
 
 -- ---- the whole
 
-version_small : (v : ℕ) → IsVersion v → v < 65536
+pub version_small : (v : ℕ) → IsVersion v → v < 65536
 version_small v (inl e) = omega (arith, e)
 version_small v (inr e) = omega (arith, e)
 

@@ -6,10 +6,8 @@ use Rattle.std.proofs.lemmas.Bool.{cases_lt, ltb-false, le-ltb, ne_eqb}
 use Rattle.std.proofs.lemmas.List.{take_at, drop_at, take-append-drop, length-append, length-take, get_or-drop, get_or-take, get_or_past, append-nil}
 use Rattle.byteorder.specs.Endian.{little_number, little_bytes}
 use Rattle.byteorder.specs.Numbers.{little_number-reads_back, little_from-lt}
-use Rattle.cw_view.specs.Fields.{Reader, ◌>>=◌, followed, both, meaning, counted, each, ended, whole, byte_in, number_in, text_in, text_bytes, optional_of, optional_in, optional_bytes}
-
-abbrev pub IsBytes : List ℕ → Type 0
-IsBytes bytes = (i : ℕ) → get_or bytes i 0 < 256
+use Rattle.cw_fields.specs.Fields.{Reader, ◌>>=◌, followed, both, meaning, counted, each, ended, whole, byte_in, bytes_in, number_in, text_in, text_bytes, optional_of, optional_in, optional_bytes}
+use Rattle.cw_fields.specs.Spelling.{IsBytes, Reads}
 
 pub IsBytes-drop : (n : ℕ) (bytes : List ℕ) → IsBytes bytes → IsBytes (drop n bytes)
 IsBytes-drop n bytes h i = rw get_or-drop (h (n + i))
@@ -43,11 +41,7 @@ guard_some : {A : Type 0} (b : Bool) (x y : A) → cond b None (Some x) ≡ Some
 guard_some true x y e = absurd cc
 guard_some false x y e = (refl, cc)
 
--- ---- the two laws of a format
-
-pub record Reads {A : Type 0} (spell : A → List ℕ) (Fits : A → Type 0) (read : Reader A) : Type 0 where
-  pub takes : (bytes : List ℕ) (x : A × List ℕ) → IsBytes bytes → read bytes ≡ Some x → (bytes ≡ spell x.0 ++ x.1) × IsBytes x.1 × Fits x.0
-  pub again : (x : A) (rest : List ℕ) → Fits x → read (spell x ++ rest) ≡ Some (x, rest)
+-- ---- ways to make a format
 
 pub reads_followed : {A B : Type 0} (sa : A → List ℕ) (Fa : A → Type 0) (ra : Reader A) (sb : A → B → List ℕ) (Fb : A → B → Type 0) (rb : A → Reader B)
     → Reads sa Fa ra → ((x : A) → Fa x → Reads (sb x) (Fb x) (rb x))
@@ -196,24 +190,26 @@ reads_number n limit w = record {
       rw (long, drop_at (little_bytes n k) rest n len, w.again k rest h) refl;
 }
 
+pub reads_bytes : (n : ℕ) → Reads (λ (b : List ℕ). b) (λ b. length b ≡ n) (bytes_in n)
+reads_bytes n = record {
+  takes = λ bytes x fits e.
+      let g = guard_some (ltb (length bytes) n) (take n bytes, drop n bytes) x e in
+      let long : n ≤ length bytes = ltb-false _ _ g.0 in
+      subst (λ (y : List ℕ × List ℕ). (bytes ≡ y.0 ++ y.1) × IsBytes y.1 × (length y.0 ≡ n)) g.1 (sym (take-append-drop n bytes), IsBytes-drop n bytes fits, omega (arith, length-take n bytes, long));
+  again = λ b rest h.
+      let long : ltb (length (b ++ rest)) n ≡ false = le-ltb _ _ (omega (arith, length-append b rest, h)) in
+      rw (long, take_at b rest n h, drop_at b rest n h) refl;
+}
+
 pub reads_text : Reads text_bytes (λ (text : List ℕ). length text < 256) text_in
 unfolding text_in
 reads_text = record {
   takes = λ bytes x fits e.
-      let first = bind_some (byte_in bytes) (λ n. cond (ltb (length n.1) n.0) None (Some (take n.0 n.1, drop n.0 n.1))) x e in
+      let first = bind_some (byte_in bytes) (λ n. bytes_in n.0 n.1) x e in
       let t = byte_takes bytes first.0 fits first.1 in
-      let n = first.0.0 in
-      let rest = first.0.1 in
-      let made : List ℕ × List ℕ = (take n rest, drop n rest) in
-      let g = guard_some (ltb (length rest) n) made x first.2 in
-      let long : n ≤ length rest = ltb-false _ _ g.0 in
-      let len : n ≡ length (take n rest) = omega (arith, length-take n rest) in
-      let whole : bytes ≡ n ∷ (take n rest ++ drop n rest) = t.0 ∙ ap (λ y. n ∷ y) (sym (take-append-drop n rest)) in
-      subst (λ (y : List ℕ × List ℕ). (bytes ≡ text_bytes y.0 ++ y.1) × IsBytes y.1 × (length y.0 < 256)) g.1
-      (whole ∙ ap (λ k. k ∷ (take n rest ++ drop n rest)) len, IsBytes-drop n rest t.1, omega (arith, t.2));
-  again = λ text rest h.
-      let long : ltb (length (text ++ rest)) (length text) ≡ false = le-ltb _ _ (omega (arith, length-append text rest)) in
-      rw (long, take_at text rest (length text) refl, drop_at text rest (length text) refl) refl;
+      let u = (reads_bytes first.0.0).takes first.0.1 x t.1 first.2 in
+      (t.0 ∙ ap (λ y. first.0.0 ∷ y) u.0 ∙ ap (λ n. n ∷ (x.0 ++ x.1)) (sym u.2), u.1, omega (arith, t.2, u.2));
+  again = λ text rest h. (reads_bytes (length text)).again text rest refl;
 }
 
 no_some : {A : Type 0} {P : Type 0} (x : A) → none {A = A} ≡ some x → P

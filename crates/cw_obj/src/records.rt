@@ -1,44 +1,20 @@
-//! Fields at the end of bytes.
-ghost use Rattle.std.specs.Prelude.{◌≡◌, ◌++◌, ◌∷◌, ◌<◌, [], map, length, OnOk};
-ghost use Rattle.cw_view.specs.Fields.{text_bytes};
-ghost use Rattle.cw_view.specs.Payloads.{word_bytes, long_bytes, family_bytes, preset_bytes, relocation_bytes, sort_number, sort_operand};
+//! Records at the end of bytes.
+ghost use Rattle.std.specs.Prelude.{◌≡◌, ◌++◌, ◌∷◌, map, OnOk};
+ghost use Rattle.cw_fields.specs.Fields.{long_bytes};
+ghost use Rattle.cw_view.specs.Payloads.{family_bytes, preset_bytes, relocation_bytes, sort_number, sort_operand};
 ghost use Rattle.cw_view.specs.ObjectFormat.{framed, StorageFamily};
 ghost use Rattle.cw_obj.specs.ReferenceObject.{records_bytes};
 
+use cw_fields::{put_byte, put_bytes, put_long, put_word};
 use cw_unit::layout::{Family, Preset, Reloc, Sort};
 use cw_word::NoMemory;
 
-pub(crate) fn put_bytes(out: &mut Vec<u8>, bytes: &[u8]) -> Result<(), NoMemory>
-    ensures { OnOk result (out.new.items ≡ out.old.items ++ bytes.now) }
+/// What stands before a payload.
+pub(crate) fn put_head(out: &mut Vec<u8>, kind: u8, size: u32) -> Result<(), NoMemory>
+    ensures { OnOk result (out.new.items ≡ out.old.items ++ kind ∷ long_bytes size) }
 {
-    out.extend_from_slice(bytes).map_err(|_| NoMemory)
-}
-
-pub(crate) fn put_byte(out: &mut Vec<u8>, byte: u8) -> Result<(), NoMemory>
-    ensures { OnOk result (out.new.items ≡ out.old.items ++ byte ∷ []) }
-{
-    out.push(byte).map_err(|_| NoMemory)
-}
-
-pub(crate) fn put_word(out: &mut Vec<u8>, word: u16) -> Result<(), NoMemory>
-    ensures { OnOk result (out.new.items ≡ out.old.items ++ word_bytes word) }
-{
-    put_bytes(out, &word.to_le_bytes())
-}
-
-pub(crate) fn put_long(out: &mut Vec<u8>, long: u32) -> Result<(), NoMemory>
-    ensures { OnOk result (out.new.items ≡ out.old.items ++ long_bytes long) }
-{
-    put_bytes(out, &long.to_le_bytes())
-}
-
-/// A name, or nothing.
-pub(crate) fn put_text(out: &mut Vec<u8>, text: &[u8]) -> Result<(), NoMemory>
-    requires { length text.now < 256 }
-    ensures { OnOk result (out.new.items ≡ out.old.items ++ text_bytes text.now) }
-{
-    put_byte(out, text.len() as u8)?;
-    put_bytes(out, text)
+    put_byte(out, kind)?;
+    put_long(out, size)
 }
 
 /// A record with this payload.
@@ -75,14 +51,6 @@ fn sort_operand(sort: Sort) -> u16
         Sort::Absolute(address) => address,
         Sort::Frame(offset) => offset,
     }
-}
-
-/// What stands before a payload.
-pub(crate) fn put_head(out: &mut Vec<u8>, kind: u8, size: u32) -> Result<(), NoMemory>
-    ensures { OnOk result (out.new.items ≡ out.old.items ++ kind ∷ long_bytes size) }
-{
-    put_byte(out, kind)?;
-    put_long(out, size)
 }
 
 fn put_family_payload(out: &mut Vec<u8>, family: &Family) -> Result<(), NoMemory>

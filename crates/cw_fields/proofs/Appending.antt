@@ -1,6 +1,6 @@
 -- Spellings written one after another.
 use Rattle.std.proofs.Common.{◌≡◌, ℕ, ◌+◌, ◌<◌, List, ◌++◌, length, drop, get_or, sym, ap, ◌∙◌, append_assoc, add-one, drop-cons}
-use Rattle.cw_view.specs.Fields.{each}
+use Rattle.cw_fields.specs.Fields.{each}
 
 pub put_each_at : {A : Type 0} (spell : A → List ℕ) (xs : List A) (i : ℕ) (d : A) (out next total : List ℕ) → i < length xs → next ≡ out ++ spell (get_or xs i d)
     → out ++ each spell (drop i xs) ≡ total → next ++ each spell (drop (i + 1) xs) ≡ total

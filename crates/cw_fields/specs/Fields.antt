@@ -1,7 +1,7 @@
 -- Fields of a format. A field has one spelling. Reading takes a field from the front of bytes and gives what follows it, or nothing where the
 -- bytes do not begin with one.
-use Rattle.std.specs.Prelude.{◌≡◌, ℕ, zero, suc, ◌==◌, nat_lt, Bool, true, false, if◌then◌else◌, List, [], ◌∷◌, ◌++◌, length, take, drop, Option, Some, None, option_and_then, ℤ}
-use Rattle.std.specs.Int.{w16, cast_unsigned, cast_signed}
+use Rattle.std.specs.Prelude.{◌≡◌, ◌<◌, ◌^◌, ℕ, zero, suc, ◌==◌, nat_lt, Bool, true, false, if◌then◌else◌, List, [], ◌∷◌, ◌++◌, length, take, drop, Option, Some, None, option_and_then, ℤ}
+use Rattle.std.specs.Int.{w16, cast_unsigned, cast_signed, from_bool}
 use Rattle.byteorder.specs.Endian.{little_number, little_bytes}
 
 abbrev pub Reader : Type 0 → Type 0
@@ -43,13 +43,32 @@ whole a bytes = a bytes >>= ended
 
 -- ---- the fields
 
+abbrev pub byte_bytes : ℕ → List ℕ
+byte_bytes b = b ∷ []
+
+abbrev pub IsByte : ℕ → Type 0
+IsByte n = n < 256
+
 abbrev pub byte_in : Reader ℕ
 byte_in [] = None
 byte_in (b ∷ bs) = Some (b, bs)
 
+-- n bytes
+abbrev pub bytes_in : (n : ℕ) → Reader (List ℕ)
+bytes_in n bytes = if nat_lt (length bytes) n then None else Some (take n bytes, drop n bytes)
+
 -- a number of n bytes, the lowest first
 unfoldable pub number_in : (n : ℕ) → Reader ℕ
 number_in n bytes = if nat_lt (length bytes) n then None else Some (little_number n bytes, drop n bytes)
+
+abbrev pub word_bytes : ℕ → List ℕ
+word_bytes n = little_bytes 2 n
+
+abbrev pub IsWord : ℕ → Type 0
+IsWord n = n < 65536
+
+abbrev pub word_in : Reader ℕ
+word_in bytes = number_in 2 bytes
 
 abbrev pub signed_bytes : ℤ → List ℕ
 signed_bytes z = little_bytes 2 (cast_unsigned w16 z)
@@ -57,12 +76,21 @@ signed_bytes z = little_bytes 2 (cast_unsigned w16 z)
 unfoldable pub signed_in : Reader ℤ
 signed_in bytes = number_in 2 bytes >>= λ n. Some (cast_signed w16 n.0, n.1)
 
+abbrev pub long_bytes : ℕ → List ℕ
+long_bytes n = little_bytes 4 n
+
+abbrev pub IsLong : ℕ → Type 0
+IsLong n = n < 2 ^ 32
+
+abbrev pub long_in : Reader ℕ
+long_in bytes = number_in 4 bytes
+
 -- a length byte, and so many bytes
 abbrev pub text_bytes : List ℕ → List ℕ
 text_bytes text = length text ∷ text
 
 unfoldable pub text_in : Reader (List ℕ)
-text_in bytes = byte_in bytes >>= λ n. if nat_lt (length n.1) n.0 then None else Some (take n.0 n.1, drop n.0 n.1)
+text_in bytes = byte_in bytes >>= λ n. bytes_in n.0 n.1
 
 -- a value where there is one, behind a byte that tells whether
 abbrev pub optional_bytes : {A : Type 0} → (A → List ℕ) → Option A → List ℕ
@@ -77,6 +105,10 @@ optional_of a flag bytes =
 
 abbrev pub optional_in : {A : Type 0} → Reader A → Reader (Option A)
 optional_in a bytes = byte_in bytes >>= λ flag. optional_of a flag.0 flag.1
+
+-- no or yes
+abbrev pub flag_bytes : Bool → List ℕ
+flag_bytes b = from_bool b ∷ []
 
 abbrev pub flag_of : ℕ → Option Bool
 flag_of byte = if byte == 0 then Some false else if byte == 1 then Some true else None

@@ -4,7 +4,7 @@ use Rattle.std.proofs.lemmas.Bool.Decides.{Decides-and, Decides-or, Decides-like
 use Rattle.std.specs.Option.{SomeIff}
 use Rattle.std.specs.List.{list_all}
 use Rattle.cw_word.specs.Name.{IsName, IsLetter, IsDigit, StartsWithLetter}
-use Rattle.cw_view.specs.Reading.{is_name, is_letter, is_digit, starts_with_letter, named}
+use Rattle.cw_fields.specs.Names.{is_name, is_letter, is_digit, starts_with_letter, named}
 
 Decides-leb : (a b : ℕ) → Decides (leb a b) (a ≤ b)
 Decides-leb a b = search rules

@@ -1,0 +1,4 @@
+pub mod Names
+pub mod Formats
+pub mod Spelled
+pub mod Appending
