@@ -1,6 +1,8 @@
 -- What reading says of a whole list.
-use Rattle.std.proofs.Common.{◌≡◌, ℕ, zero, suc, ◌≢◌, ◌-◌, ◌≤◌, List, [], ◌∷◌, length, Result, Ok, Err, refl, sym, ap, ◌∙◌, arith}
+use Rattle.std.proofs.Common.{◌≡◌, ℕ, zero, suc, ◌≢◌, ◌-◌, ◌≤◌, List, [], ◌∷◌, length, map, Result, Ok, Err, refl, sym, ap, ◌∙◌, arith}
+use Rattle.std.proofs.lemmas.List.{length-map}
 use Rattle.cw_lex.specs.declared.token.Token as token
+use Rattle.cw_lex.specs.Lexical.{view}
 use Rattle.cw_tree.specs.declared.segment.Raw.{Raw}
 use Rattle.cw_grammar.specs.Tokens.{Item, items, behind}
 use Rattle.cw_grammar.specs.Grammar.{Sort, a_raw, Value, Grammar, predictive}
@@ -14,6 +16,8 @@ use Rattle.cw_grammar.specs.declared.fault.ParseFault.{ParseFault}
 use Rattle.cw_grammar.proofs.Table.{text_predictive}
 use Rattle.cw_grammar.proofs.Whole.{left_at, derived_whole, same_tree, no_fault, text_is_front, reads_text}
 use Rattle.cw_grammar.proofs.Longest.{read_longest, read_no_text, read_deep}
+use Rattle.cw_derived.specs.Proper.{IsProper}
+use Rattle.cw_derived.proofs.Derived.{proper}
 use Rattle.cw_parse.specs.Texts.{IsNoWhole, IsTextFault, no_memory, no_text, too_deep}
 
 pub behind_all : (ts : List token.Token) → behind ts 0 ≡ items ts
@@ -89,3 +93,6 @@ deep_is ts k h = too_deep k (deep_there (items ts) k (at_start ts (Err (deep_at 
 -- The places that the faults tell are within the list.
 pub left_few : (ts : List token.Token) (o : Read Raw) → reads 64 text (behind ts 0) ≡ o → left o ≤ length ts
 left_few ts o h = omega (arith, left_at 64 a_raw text (behind ts 0) o h, left_within ts 0)
+
+pub tree_proper : (ts : List token.Token) (x : Raw) (at : ℕ) → length ts ≤ 65535 → length (behind ts at) ≡ 0 → reads 64 text (behind ts 0) ≡ Ok (x, behind ts at) → IsProper 64 x
+tree_proper ts x at few z h = proper 64 (map view ts) x (let n = length-map ts view in omega (arith, n, few)) (tree_found ts x at z h)

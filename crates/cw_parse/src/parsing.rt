@@ -8,6 +8,7 @@ ghost use Rattle.cw_lex.specs.declared.token.Symbol.TheVariants.{Semicolon};
 ghost use Rattle.cw_grammar.specs.Statements.{text, comm};
 ghost use Rattle.cw_grammar.specs.Derives.{Derives};
 ghost use Rattle.cw_grammar.specs.Reading.{Gives, read};
+ghost use Rattle.cw_derived.specs.Proper.{IsProper};
 ghost use Rattle.cw_parse.specs.Texts.{IsTextFault, IsTreeOrMemory};
 
 use crate::statement::read_block_rest;
@@ -67,6 +68,8 @@ pub fn parse(alloc: Global, tokens: &[Token]) -> Result<Raw, ParseFault>
     requires few { length tokens.now ≤ 65535 }
     // The tokens are a text, with at most 64 levels inside one another, and this is its tree.
     ensures tree { IfOk result (λ x. Derives 64 a_raw text (items tokens.now) x) }
+    // The tree is in normal form, and its positions rise strictly in order of the text.
+    ensures proper { IfOk result (λ x. IsProper 64 x) }
     // Each such text is read, unless memory runs out.
     ensures all { (x : Tree) → Derives 64 a_raw text (items tokens.now) x → IsTreeOrMemory x result }
     // Else the first fault stands behind the longest front of a text, or where a level too many opens.

@@ -4,7 +4,7 @@ use Rattle.cw_grammar.specs.Tokens.{behind}
 use Rattle.cw_grammar.specs.Reading.{syntax_at, deep_at}
 use Rattle.cw_grammar.proofs.Behind.{left_within}
 use Rattle.cw_parse.specs.Texts.{no_memory}
-use Rattle.cw_parse.proofs.Texts.{tree_found, tree_same, left_no_tree, left_fault, fault_no_tree, syntax_is, deep_is, left_few}
+use Rattle.cw_parse.proofs.Texts.{tree_found, tree_proper, tree_same, left_no_tree, left_fault, fault_no_tree, syntax_is, deep_is, left_few}
 use Rattle.cw_parse.proofs.parsing.parse.Goals as goal
 
 pub overflow_sub-tokens : goal.overflow_sub-tokens
@@ -18,6 +18,9 @@ overflow_sub-tokens-in-Err-Deep c = left_few c.args.tokens.now (Err (deep_at c.i
 
 pub returns-then-left-eq0-clause-tree : goal.returns-then-left-eq0-clause-tree
 returns-then-left-eq0-clause-tree c = tree_found c.args.tokens.now c.in-Ok.raw c.in-Ok.at (sym c.left-left.ensures ∙ c.if-left-eq0.true) c.in-Ok.ensures
+
+pub returns-then-left-eq0-clause-proper : goal.returns-then-left-eq0-clause-proper
+returns-then-left-eq0-clause-proper c = tree_proper c.args.tokens.now c.in-Ok.raw c.in-Ok.at (omega arith) (sym c.left-left.ensures ∙ c.if-left-eq0.true) c.in-Ok.ensures
 
 pub returns-then-left-eq0-clause-all : goal.returns-then-left-eq0-clause-all
 returns-then-left-eq0-clause-all c x d = tree_same c.args.tokens.now c.in-Ok.raw x c.in-Ok.at c.in-Ok.ensures d

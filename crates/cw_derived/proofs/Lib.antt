@@ -1,0 +1,11 @@
+pub mod Withins
+pub mod Levels
+pub mod Built
+pub mod Leaves
+pub mod Held
+pub mod Operands
+pub mod Expressions
+pub mod Data
+pub mod Specifications
+pub mod Statements
+pub mod Derived
