@@ -1,0 +1,9 @@
+//! Checks of orders and their code: programs on the interpreter of orders, and on the processor beside it.
+#![tactic(auto)]
+
+#[cfg(test)]
+mod orders;
+#[cfg(test)]
+mod processor;
+#[cfg(test)]
+mod texts;
