@@ -1,5 +1,8 @@
-//! Storage of units, laid out, placed and listed by the definitions.
+//! Storage of units, laid out, placed and listed by the definitions; and the faults of placing.
 #![tactic(auto)]
+
+#[cfg(test)]
+mod faults;
 
 ghost use Rattle.std.specs.Prelude.{◌≡◌, map};
 ghost use Rattle.cw_checks_storage.specs.Units.{result_of, wanted_of};

@@ -8,11 +8,11 @@ use Rattle.cw_unit.specs.declared.layout.Family.{Family}
 use Rattle.cw_unit.specs.declared.layout.Sort.{Sort}
 use Rattle.cw_unit.specs.declared.layout.Sort.TheVariants as sorts
 use Rattle.cw_view.specs.declared.view.View.{View}
-use Rattle.cw_view.specs.Fields.{Reader, whole}
+use Rattle.cw_fields.specs.Fields.{Reader, whole}
 use Rattle.cw_view.specs.Payloads.{descriptor_bytes, FitsDescriptor, family_bytes, FitsFamily}
 use Rattle.cw_view.specs.Reading.{descriptor_in, family_in}
 use Rattle.cw_view.specs.ObjectFormat.{Record, SegmentName, Descriptor, StorageFamily, StoredItem, PresetWord, Code, Relocation, Definition, BodyFacts, Statement, End, FitsRecord, IsFront, payloads, payload_if, one_family, families_of, one_descriptor, descriptor_count, is_placed, is_allowed, facts_of}
-use Rattle.cw_view.proofs.Formats.{whole_again}
+use Rattle.cw_fields.proofs.Formats.{whole_again}
 use Rattle.cw_view.proofs.Forms.{reads_family}
 use Rattle.cw_view.proofs.Descriptors.{reads_descriptor}
 use Rattle.cw_comm.specs.declared.face.Face.{Face}

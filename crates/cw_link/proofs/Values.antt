@@ -1,6 +1,6 @@
 -- One payload more is read.
 use Rattle.std.proofs.Common.{◌≡◌, ℕ, List, [], ◌∷◌, ◌++◌, map, Some, None, append_assoc, append-nil, sym, ap, ◌∙◌}
-use Rattle.cw_view.specs.Fields.{Reader, whole}
+use Rattle.cw_fields.specs.Fields.{Reader, whole}
 use Rattle.cw_link.specs.Contents.{kept, values_in}
 
 module _ {A B : Type 0} (read : Reader A) (f : A → B) (left new : List (List ℕ)) (payload : List ℕ) (done all : List B) where

@@ -6,7 +6,7 @@ use Rattle.cw_unit.specs.declared.layout.Preset.{Preset}
 use Rattle.cw_unit.specs.declared.layout.Reloc.{Reloc}
 use Rattle.cw_unit.specs.declared.layout.Body.{Body}
 use Rattle.cw_view.specs.declared.view.View.{View}
-use Rattle.cw_view.specs.Fields.{Reader, whole}
+use Rattle.cw_fields.specs.Fields.{Reader, whole}
 use Rattle.cw_view.specs.Reading.{descriptor_in, family_in, preset_in, relocation_in, definition_in, body_facts_in}
 use Rattle.cw_view.specs.Splitting.{payloads_in}
 
