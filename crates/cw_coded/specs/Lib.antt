@@ -1,0 +1,2 @@
+pub mod RangedExpressions
+pub mod RangedUnits

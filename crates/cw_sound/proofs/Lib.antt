@@ -1,0 +1,9 @@
+mod Own
+mod Declared
+mod Answering
+mod Bodies
+mod Numbering
+mod Counting
+mod Procedures
+mod Parameters
+mod Building

@@ -1,0 +1,5 @@
+pub mod Derived
+pub mod Bodies
+pub mod Bases
+pub mod Items
+pub mod Free

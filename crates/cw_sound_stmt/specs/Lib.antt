@@ -1,0 +1,5 @@
+pub mod Levels
+pub mod Regular
+pub mod Answers
+pub mod Bodies
+pub mod Counted

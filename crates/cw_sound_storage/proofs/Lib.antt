@@ -1,0 +1,7 @@
+mod SortsOf
+mod Origins
+mod OwnFaults
+mod SameKinds
+mod OwnNumbers
+mod Meeting
+mod Passing

@@ -1,0 +1,10 @@
+mod Many
+mod Trees
+mod Tall
+mod Core
+mod Spread
+mod Said
+mod Leaves
+mod Texts
+mod Rising
+mod Standing

@@ -1,0 +1,4 @@
+//! Each tree of the grammar has what the laws of texts ask for.
+#![tactic(auto)]
+
+pub mod laws;

@@ -1,0 +1,2 @@
+//! What the names that a text uses stand for in its unit: definitions alone.
+#![tactic(auto)]
