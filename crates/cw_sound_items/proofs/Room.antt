@@ -19,7 +19,7 @@ use Rattle.cw_sound_items.proofs.Numbering.{tokens_of_things, found-here, found-
 
 -- ---- counts
 
-count-same : (cs : Counts) (k v : ℕ) → count_in (with_count cs k v) k ≡ v
+pub count-same : (cs : Counts) (k v : ℕ) → count_in (with_count cs k v) k ≡ v
 count-same [] k v = ap (λ b. amount_or_none (cond b (Some v) None)) (eq-eqb k k refl)
 count-same (e ∷ cs) k v = of-test (nat_eq k e.0) refl (count-same cs k v)
   where
@@ -30,7 +30,7 @@ count-same (e ∷ cs) k v = of-test (nat_eq k e.0) refl (count-same cs k v)
 differ : (a b : ℕ) → (a ≡ b → ⊥) → nat_eq a b ≡ false
 differ a b h = grind (arith, nat_tests)
 
-count-other : (cs : Counts) (k v q : ℕ) → (q ≡ k → ⊥) → count_in (with_count cs k v) q ≡ count_in cs q
+pub count-other : (cs : Counts) (k v q : ℕ) → (q ≡ k → ⊥) → count_in (with_count cs k v) q ≡ count_in cs q
 count-other [] k v q h = ap (λ b. amount_or_none (cond b (Some v) None)) (differ q k h)
 count-other (e ∷ cs) k v q h = of-test (nat_eq k e.0) refl (nat_eq q e.0) refl (count-other cs k v q h)
   where
@@ -54,7 +54,7 @@ capped-within n h = of-test (nat_le n 32768) refl h
     of-test true t e = (grind (arith, nat_tests), refl)
     of-test false t e = absurd cc
 
-room-within : (k : Known) (f : Option ℕ) (n : ℕ) → nat_le (area_with k f n) 32768 ≡ true → (area k f + n ≤ 32768) × (area_with k f n ≡ area k f + n)
+pub room-within : (k : Known) (f : Option ℕ) (n : ℕ) → nat_le (area_with k f n) 32768 ≡ true → (area k f + n ≤ 32768) × (area_with k f n ≡ area k f + n)
 room-within k None n h = capped-within (k.rest + n) h
 room-within k (Some f) n h = capped-within (count_in k.frames f + n) h
 
@@ -76,7 +76,7 @@ sites-of : (k : Known) (sites : List (Row Site)) (extents : Counts) (f : Option 
 sites-of k sites extents None w = refl
 sites-of k sites extents (Some f) w = refl
 
-extents-of : (k : Known) (sites : List (Row Site)) (extents : Counts) (f : Option ℕ) (w : ℕ) → (with_area k sites extents f w).extents ≡ extents
+pub extents-of : (k : Known) (sites : List (Row Site)) (extents : Counts) (f : Option ℕ) (w : ℕ) → (with_area k sites extents f w).extents ≡ extents
 extents-of k sites extents None w = refl
 extents-of k sites extents (Some f) w = refl
 
@@ -93,7 +93,7 @@ data Sited (k : Known) (t : Thing) : Type 0 where
   own : (root : (site_of k.sites t).root ≡ t.at.token) → Sited k t
   on : (r : Row Site) (there : In r k.sites) (root : (site_of k.sites t).root ≡ r.item.root) (frame : (site_of k.sites t).frame ≡ r.item.frame) → Sited k t
 
-row-found : (rs : List (Row Site)) (token : ℕ) (s : Site) → item_at rs token ≡ Some s → (r : Row Site) × In r rs × (r.item ≡ s)
+pub row-found : (rs : List (Row Site)) (token : ℕ) (s : Site) → item_at rs token ≡ Some s → (r : Row Site) × In r rs × (r.item ≡ s)
 row-found [] token s e = absurd (none-some s e)
 row-found (r ∷ rs) token s e = of-test (nat_eq token r.token) refl (row-found rs token s)
   where
@@ -233,7 +233,7 @@ keeps-things : (k : Known) (ts : List Thing) → Keeps (things_judged k ts)
 keeps-things k [] = keeps-fine
 keeps-things k (t ∷ ts) = keeps-both (keeps-unless (has_room k t (site_of k.sites t)) rule.TooMany t.at) (keeps-things (with_thing k t) ts)
 
-room-of : (k : Known) (t : Thing) (ts : List Thing) → things_judged k (t ∷ ts) None ≡ None → (has_room k t (site_of k.sites t) ≡ true) × (things_judged (with_thing k t) ts None ≡ None)
+pub room-of : (k : Known) (t : Thing) (ts : List Thing) → things_judged k (t ∷ ts) None ≡ None → (has_room k t (site_of k.sites t) ≡ true) × (things_judged (with_thing k t) ts None ≡ None)
 room-of k t ts free =
     let parts = parts-free (thing_judged k t) (things_judged (with_thing k t) ts) (keeps-things (with_thing k t) ts) free in
     (holds (has_room k t (site_of k.sites t)) rule.TooMany t.at parts.0, parts.1)

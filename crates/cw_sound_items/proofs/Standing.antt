@@ -94,7 +94,7 @@ module _ (named : Named) (rising : HasRisingTokens named.raw.now) (bases : Bases
   things-stored : Stores (λ x. Unit {0}) (numbers_of named) None (text_facts named.raw.now) (things_of named)
   things-stored = text-stores (λ x. Unit {0}) (numbers_of named) named named.raw.now
 
-  things-rise : IsRising 1 (tokens_of_things (things_of named))
+  pub things-rise : IsRising 1 (tokens_of_things (things_of named))
   things-rise = rising-within 1 things-stored.tokens rising
 
   number-of : (i : ℕ) (t : Thing) → slice_get (things_of named) i ≡ Some t → item_at (numbers_of named) t.at.token ≡ Some (numbered.Item i)
@@ -104,7 +104,7 @@ module _ (named : Named) (rising : HasRisingTokens named.raw.now) (bases : Bases
       let at : 0 + i ≡ i = omega arith in
       numbered-from 1 0 (things_of named) _ i t things-rise (omega (arith, few, same)) e ∙ ap (λ n. Some (numbered.Item n)) at
 
-  made : Made (unit_of named) named.declarations (numbers_of named) (listed_of named.raw.now) (addresses_of named.raw.now.comms) (held_of named.raw.now) (things_of named)
+  pub made : Made (unit_of named) named.declarations (numbers_of named) (listed_of named.raw.now) (addresses_of named.raw.now.comms) (held_of named.raw.now) (things_of named)
   made =
       let many = as-many (numbers_of named) (listed_of named.raw.now) (things_of named) named.raw.now.comms in
       let few = few-descriptors named.raw.now (numbers_of named) (listed_of named.raw.now) (things_of named) rising in

@@ -355,7 +355,7 @@ module _ (u : SourceUnit) (declarations : List (Row Declaration)) (numbers : Num
           of-test true t h = refl
           of-test false t h = absurd (omega (arith, h))
 
-      abbrev WithinSite : ℕ → Thing → Type 0
+      abbrev pub WithinSite : ℕ → Thing → Type 0
       WithinSite i t = family_offset u i ≤ (site_at nothing_known things i t).place
 
       offset-next : (bound i : ℕ) (t : Thing) → i < suc bound → slice_get things i ≡ Some t → Stands i t → ((j : ℕ) (s : Thing) → j < bound → slice_get things j ≡ Some s → WithinSite j s) → WithinSite i t
@@ -368,9 +368,28 @@ module _ (u : SourceUnit) (declarations : List (Row Declaration)) (numbers : Num
           let whole = uncapped ((site_at nothing_known things j s).place + b.word) limit in
           omega (arith, z, h, p, whole, least)
 
-      offset-within : (bound i : ℕ) (t : Thing) → i < bound → slice_get things i ≡ Some t → WithinSite i t
+      pub offset-within : (bound i : ℕ) (t : Thing) → i < bound → slice_get things i ≡ Some t → WithinSite i t
       offset-within zero i t l e = absurd (omega (arith, l))
       offset-within (suc bound) i t l e = offset-next bound i t l e (thing-stands i t e) (λ j s k f. offset-within bound j s k f)
+
+      -- the root of a family is that of the sites in it, where nothing is said to be its base
+      abbrev pub RootSited : ℕ → Thing → Type 0
+      RootSited i t = (r : Thing) → slice_get things (root_of u i) ≡ Some r → r.base ≡ None → (site_at nothing_known things i t).root ≡ r.at.token
+
+      site-root-next : (bound i : ℕ) (t : Thing) → i < suc bound → slice_get things i ≡ Some t → Stands i t → ((j : ℕ) (s : Thing) → j < bound → slice_get things j ≡ Some s → RootSited j s) → RootSited i t
+      site-root-next bound i t l e (alone none named) rest r f n =
+          let same : t ≡ r = same_Some t r (sym e ∙ ap (slice_get things) (sym (root_alone u i none).0) ∙ f) in
+          let base : t.base ≡ None = ap (λ (x : Thing). x.base) same ∙ n in
+          ap (λ x. (site_by (all_known nothing_known (take i things)).sites x t).root) base ∙ ap (λ (x : Thing). x.at.token) same
+      site-root-next bound i t l e (over j w s b on before there seen base token least) rest r f n =
+          let sites = (all_known nothing_known (take i things)).sites in
+          let found : item_at sites b.token ≡ Some (site_at nothing_known things j s) = ap (item_at sites) (sym token) ∙ site-found first nothing_known things rising (λ q k. absurd k) i j s before there in
+          ap (λ x. (site_by sites x t).root) base ∙ ap (λ x. (site_on x b t).root) found
+          ∙ rest j s (omega (arith, before, l)) there r (ap (slice_get things) (sym (base_family u storable i (j, w) on).0) ∙ f) n
+
+      pub site-root : (bound i : ℕ) (t : Thing) → i < bound → slice_get things i ≡ Some t → RootSited i t
+      site-root zero i t l e = absurd (omega (arith, l))
+      site-root (suc bound) i t l e = site-root-next bound i t l e (thing-stands i t e) (λ j s k f. site-root bound j s k f)
 
       pub reaches : (i : ℕ) (t : Thing) → slice_get things i ≡ Some t → family_offset u i + t.words ≤ 32768
       reaches i t e =

@@ -5,3 +5,10 @@ mod SameKinds
 mod OwnNumbers
 mod Meeting
 mod Passing
+mod Owners
+mod OwnersOfTrees
+mod FramesOwned
+mod FrameTotals
+mod ProcedureNumbers
+mod Extents
+mod FramesFit

@@ -11,6 +11,7 @@ ghost use Rattle.cw_built.specs.Stored.{is_stored};
 ghost use Rattle.cw_built.specs.Built.{are_met};
 ghost use Rattle.cw_sound_names.specs.Placed.{Placed};
 ghost use Rattle.cw_sound_names.specs.Standing.{ItemsStand};
+ghost use Rattle.cw_sound_items.specs.Derived.{HasRisingTokens, HasPlainProcedures};
 ghost use Rattle.cw_sound_items.specs.Items.{StorageStands};
 ghost use Rattle.cw_sound_storage.specs.Frames.{FramesOwned, FramesFit};
 
@@ -26,3 +27,28 @@ pub fn definitions_met()
 pub fn storage_passes()
     ensures { (u : SourceUnit) → StorageStands u → FramesOwned u → FramesFit u → IsTrue (is_stored u) }
 {}
+
+/// Each item of a frame belongs to a procedure of the unit.
+pub fn frames_owned()
+    ensures { (named : Named) → Resolves named.raw.now (results.Ok named) → first_type_fault named ≡ None → Placed named.raw.now → HasRisingTokens named.raw.now → HasPlainProcedures named.raw.now → ItemsStand named (numbers_of named) (unit_of named) → FramesOwned (unit_of named) }
+{
+    cw_sound_names::laws::counts();
+}
+
+/// A frame has no more words than an area may have.
+pub fn frames_fit()
+    ensures { (named : Named) → Resolves named.raw.now (results.Ok named) → first_type_fault named ≡ None → Placed named.raw.now → HasRisingTokens named.raw.now → HasPlainProcedures named.raw.now → ItemsStand named (numbers_of named) (unit_of named) → FramesFit (unit_of named) }
+{
+    cw_sound_names::laws::counts();
+    cw_sound_items::laws::bases_stand();
+}
+
+/// The unit of a text passes the test of its storage.
+pub fn stored()
+    ensures { (named : Named) → Resolves named.raw.now (results.Ok named) → first_type_fault named ≡ None → Placed named.raw.now → HasRisingTokens named.raw.now → HasPlainProcedures named.raw.now → ItemsStand named (numbers_of named) (unit_of named) → IsTrue (is_stored (unit_of named)) }
+{
+    cw_sound_items::laws::unit_storable();
+    storage_passes();
+    frames_owned();
+    frames_fit();
+}
