@@ -22,7 +22,8 @@ pub fn expression_of(
 ) -> Result<Expr, NoMemory>
     ensures { IfOk result (λ t. t ≡ expression_of named.now numbers.now e.now) }
 {
-    make_expression(alloc, named, numbers, e, false)
+    let tree = make_expression(alloc, named, numbers, e, false)?;
+    Ok(tree.into_inner())
 }
 
 /// The tree of a condition.
@@ -34,7 +35,8 @@ pub fn condition_of(
 ) -> Result<Cond, NoMemory>
     ensures { IfOk result (λ t. t ≡ condition_of named.now numbers.now c.now) }
 {
-    make_condition(alloc, named, numbers, c)
+    let tree = make_condition(alloc, named, numbers, c)?;
+    Ok(tree.into_inner())
 }
 
 /// The place that a reference names.

@@ -24,7 +24,7 @@ use cw_tree::expression::{
 use cw_tree::leaf::{RawName, RawSign};
 use cw_tree::segment::{RawIps, RawPs};
 use cw_unit::unit::{Arg, Cond, Expr, LogicOp, Ref, Spot, Target};
-use cw_word::{List, NoMemory, Num};
+use cw_word::{Boxed, List, NoMemory};
 use std::alloc::Global;
 
 // ---- names
@@ -66,7 +66,11 @@ pub(crate) fn is_alone(sign: &Option<RawSign>, others: usize) -> bool
     sign.is_none() && others == 0
 }
 
-fn signed_term(alloc: Global, sign: &Option<RawSign>, e: Expr) -> Result<Expr, NoMemory>
+fn signed_term(
+    alloc: Global,
+    sign: &Option<RawSign>,
+    e: Boxed<Expr>,
+) -> Result<Boxed<Expr>, NoMemory>
     ensures { IfOk result (λ t. t ≡ signed_term sign.now e) }
 {
     if is_negative(sign) {
@@ -76,7 +80,7 @@ fn signed_term(alloc: Global, sign: &Option<RawSign>, e: Expr) -> Result<Expr, N
     }
 }
 
-fn bits_around(alloc: Global, all: &[RawBits], e: Expr) -> Result<Expr, NoMemory>
+fn bits_around(alloc: Global, all: &[RawBits], e: Boxed<Expr>) -> Result<Boxed<Expr>, NoMemory>
     ensures { IfOk result (λ t. t ≡ bits_around all.now e) }
 {
     match all {
@@ -100,7 +104,7 @@ pub(crate) fn make_expression(
     numbers: &Table<Numbered>,
     e: &RawExpr,
     operand: bool,
-) -> Result<Expr, NoMemory>
+) -> Result<Boxed<Expr>, NoMemory>
     ensures { IfOk result (λ t. t ≡ (expression_made named.now numbers.now e.now).made operand) }
 {
     match e {
@@ -121,11 +125,11 @@ pub(crate) fn make_condition(
     named: &Named,
     numbers: &Table<Numbered>,
     c: &RawCond,
-) -> Result<Cond, NoMemory>
+) -> Result<Boxed<Cond>, NoMemory>
     ensures { IfOk result (λ t. t ≡ condition_made named.now numbers.now c.now) }
 {
     match c.operands.as_slice() {
-        [] => Ok(no_condition()),
+        [] => Boxed::new(alloc, no_condition()),
         [first, others @ ..] => {
             let mut so_far = make_conjunction(alloc, named, numbers, first)?;
             for operand in others {
@@ -143,11 +147,11 @@ fn make_conjunction(
     named: &Named,
     numbers: &Table<Numbered>,
     c: &RawCand,
-) -> Result<Cond, NoMemory>
+) -> Result<Boxed<Cond>, NoMemory>
     ensures { IfOk result (λ t. t ≡ conjunction_made named.now numbers.now c.now) }
 {
     match c.operands.as_slice() {
-        [] => Ok(no_condition()),
+        [] => Boxed::new(alloc, no_condition()),
         [first, others @ ..] => {
             let mut so_far = make_comparison(alloc, named, numbers, first)?;
             for operand in others {
@@ -165,12 +169,13 @@ fn make_comparison(
     named: &Named,
     numbers: &Table<Numbered>,
     c: &RawCmp,
-) -> Result<Cond, NoMemory>
+) -> Result<Boxed<Cond>, NoMemory>
     ensures { IfOk result (λ t. t ≡ comparison_made named.now numbers.now c.now) }
 {
     let left = make_sum(alloc, named, numbers, c.left.get(), false)?;
     let right = make_sum(alloc, named, numbers, c.right.get(), false)?;
-    Ok(comparison(comparator(c.operator.op), left, right))
+    let op = comparator(c.operator.op);
+    Boxed::new(alloc, comparison(op, left.into_inner(), right.into_inner()))
 }
 
 #[cycle(made)]
@@ -180,11 +185,11 @@ fn make_sum(
     numbers: &Table<Numbered>,
     e: &RawSum,
     operand: bool,
-) -> Result<Expr, NoMemory>
+) -> Result<Boxed<Expr>, NoMemory>
     ensures { IfOk result (λ t. t ≡ (sum_made named.now numbers.now e.now).made operand) }
 {
     match e.operands.as_slice() {
-        [] => Ok(nothing()),
+        [] => Boxed::new(alloc, nothing()),
         [first, others @ ..] => {
             if is_alone(&e.sign, others.len()) {
                 return make_term(alloc, named, numbers, first, operand);
@@ -194,7 +199,7 @@ fn make_sum(
             let mut signs = e.operators.as_slice();
             for other in others {
                 match signs {
-                    [] => return Ok(whole_part_if(operand, so_far)),
+                    [] => return whole_part_if(alloc, operand, so_far),
                     [sign, more @ ..] => {
                         let next = make_term(alloc, named, numbers, other, false)?;
                         so_far = added(alloc, sign.op, so_far, next)?;
@@ -202,7 +207,8 @@ fn make_sum(
                     }
                 }
             }
-            Ok(whole_part_if(operand, so_far))
+            let whole = whole_part_if(alloc, operand, so_far)?;
+            Ok(whole)
         }
     }
 }
@@ -214,11 +220,11 @@ fn make_term(
     numbers: &Table<Numbered>,
     e: &RawTerm,
     operand: bool,
-) -> Result<Expr, NoMemory>
+) -> Result<Boxed<Expr>, NoMemory>
     ensures { IfOk result (λ t. t ≡ (term_made named.now numbers.now e.now).made operand) }
 {
     match e.operands.as_slice() {
-        [] => Ok(nothing()),
+        [] => Boxed::new(alloc, nothing()),
         [first, others @ ..] => {
             let inside = operand_for(others.len() == 0, operand);
             let mut so_far = make_differ(alloc, named, numbers, first, inside)?;
@@ -245,11 +251,11 @@ fn make_differ(
     numbers: &Table<Numbered>,
     e: &RawDiffer,
     operand: bool,
-) -> Result<Expr, NoMemory>
+) -> Result<Boxed<Expr>, NoMemory>
     ensures { IfOk result (λ t. t ≡ (differ_made named.now numbers.now e.now).made operand) }
 {
     match e.operands.as_slice() {
-        [] => Ok(nothing()),
+        [] => Boxed::new(alloc, nothing()),
         [first, others @ ..] => {
             let inside = operand_for(others.len() == 0, operand);
             let mut so_far = make_union(alloc, named, numbers, first, inside)?;
@@ -269,11 +275,11 @@ fn make_union(
     numbers: &Table<Numbered>,
     e: &RawUnion,
     operand: bool,
-) -> Result<Expr, NoMemory>
+) -> Result<Boxed<Expr>, NoMemory>
     ensures { IfOk result (λ t. t ≡ (union_made named.now numbers.now e.now).made operand) }
 {
     match e.operands.as_slice() {
-        [] => Ok(nothing()),
+        [] => Boxed::new(alloc, nothing()),
         [first, others @ ..] => {
             let inside = operand_for(others.len() == 0, operand);
             let mut so_far = make_mask(alloc, named, numbers, first, inside)?;
@@ -293,11 +299,11 @@ fn make_mask(
     numbers: &Table<Numbered>,
     e: &RawMask,
     operand: bool,
-) -> Result<Expr, NoMemory>
+) -> Result<Boxed<Expr>, NoMemory>
     ensures { IfOk result (λ t. t ≡ (mask_made named.now numbers.now e.now).made operand) }
 {
     match e.operands.as_slice() {
-        [] => Ok(nothing()),
+        [] => Boxed::new(alloc, nothing()),
         [first, others @ ..] => {
             let inside = operand_for(others.len() == 0, operand);
             let mut so_far = make_prim(alloc, named, numbers, first, inside)?;
@@ -317,7 +323,7 @@ fn make_prim(
     numbers: &Table<Numbered>,
     e: &RawPrim,
     operand: bool,
-) -> Result<Expr, NoMemory>
+) -> Result<Boxed<Expr>, NoMemory>
     ensures { IfOk result (λ t. t ≡ (prim_made named.now numbers.now e.now).made operand) }
 {
     let all = e.bits.as_slice();
@@ -333,17 +339,19 @@ fn make_primary(
     numbers: &Table<Numbered>,
     e: &RawPrimary,
     operand: bool,
-) -> Result<Expr, NoMemory>
+) -> Result<Boxed<Expr>, NoMemory>
     ensures { IfOk result (λ t. t ≡ (primary_made named.now numbers.now e.now).made operand) }
 {
     match e {
-        RawPrimary::Number(n) => Ok(Expr::Num(n.number)),
+        RawPrimary::Number(n) => Boxed::new(alloc, Expr::Num(n.number)),
         RawPrimary::Octal(n) => {
             let word = word(&octal_word(&n.number.number));
-            Ok(Expr::Const(word.cast_signed()))
+            Boxed::new(alloc, Expr::Const(word.cast_signed()))
         }
-        RawPrimary::Literal(c) => Ok(Expr::Const(u16::from(c.byte).cast_signed())),
-        RawPrimary::Text(at, _) => Ok(Expr::Text(item_here(numbers, at.token))),
+        RawPrimary::Literal(c) => {
+            Boxed::new(alloc, Expr::Const(u16::from(c.byte).cast_signed()))
+        }
+        RawPrimary::Text(at, _) => Boxed::new(alloc, Expr::Text(item_here(numbers, at.token))),
         RawPrimary::Location(_, r) => {
             let place = make_reference(alloc, named, numbers, r.get())?;
             locate(alloc, place)
@@ -354,13 +362,13 @@ fn make_primary(
         }
         RawPrimary::Bracket(_, e) => {
             let inner = make_expression(alloc, named, numbers, e.get(), false)?;
-            Ok(whole_part_if(operand, inner))
+            whole_part_if(alloc, operand, inner)
         }
         RawPrimary::Ref(r) => make_value(alloc, named, numbers, r.get()),
         RawPrimary::Call(name, arguments) => {
             let params = params_of(named, name);
             let arguments = make_arguments(alloc, named, numbers, params, arguments.as_slice())?;
-            Ok(call(target(named, numbers, name), arguments))
+            Boxed::new(alloc, call(target(named, numbers, name), arguments))
         }
     }
 }
@@ -380,19 +388,21 @@ pub(crate) fn make_reference(
         RawRef::One(name, index) => {
             let index = make_expression(alloc, named, numbers, index.get(), false)?;
             let item = item_in(&number_of(named, numbers, name));
-            let at = indexed_spot(named, numbers, &kind_of(named, name), item, index);
+            let kind = kind_of(named, name);
+            let at = indexed_spot(named, numbers, &kind, item, index.into_inner());
             Ok(reference_at(named, name, at))
         }
         RawRef::Two(name, first, second) => {
             let first = make_expression(alloc, named, numbers, first.get(), false)?;
             let second = make_expression(alloc, named, numbers, second.get(), false)?;
             let item = item_in(&number_of(named, numbers, name));
-            let at = twice_indexed_spot(&kind_of(named, name), item, first, second);
+            let kind = kind_of(named, name);
+            let at = twice_indexed_spot(&kind, item, first, second);
             Ok(reference_at(named, name, at))
         }
         RawRef::Bare(_, address) => {
             let address = make_expression(alloc, named, numbers, address.get(), false)?;
-            Ok(reference(Spot::Bare(address), 0, None))
+            Ok(reference(Spot::Bare(address.into_inner()), 0, None))
         }
     }
 }
@@ -404,12 +414,12 @@ fn make_value(
     named: &Named,
     numbers: &Table<Numbered>,
     r: &RawRef,
-) -> Result<Expr, NoMemory>
+) -> Result<Boxed<Expr>, NoMemory>
     ensures { IfOk result (λ t. t ≡ (reference_made named.now numbers.now r.now).value) }
 {
     match r {
         RawRef::Name(name) if is_called(&kind_of(named, name)) => {
-            Ok(call(target(named, numbers, name), List::new(alloc)))
+            Boxed::new(alloc, call(target(named, numbers, name), List::new(alloc)))
         }
         _ => {
             let place = make_reference(alloc, named, numbers, r)?;
@@ -456,11 +466,11 @@ fn make_argument(
     match param {
         RawPs::Plain(RawIps::Value(_, scale)) => {
             let value = make_expression(alloc, named, numbers, e, false)?;
-            Ok(Arg::Value(value, fraction_of(scale)))
+            Ok(Arg::Value(value.into_inner(), fraction_of(scale)))
         }
         RawPs::Plain(RawIps::Location(_, scale)) => {
             let value = make_expression(alloc, named, numbers, e, false)?;
-            Ok(place_argument(value, fraction_of(scale)))
+            Ok(place_argument(value.into_inner(), fraction_of(scale)))
         }
         _ => Ok(expression_handed(named, numbers, e)),
     }

@@ -13,10 +13,11 @@ pub(crate) fn nothing() -> Expr
     Expr::Num(Num::new(0, 0, 0))
 }
 
-pub(crate) fn read(alloc: Global, r: Ref) -> Result<Expr, NoMemory>
+pub(crate) fn read(alloc: Global, r: Ref) -> Result<Boxed<Expr>, NoMemory>
     ensures { IfOk result (λ e. e ≡ read r) }
 {
-    Ok(Expr::Read(Boxed::new(alloc, r)?))
+    let place = Boxed::new(alloc, r)?;
+    Boxed::new(alloc, Expr::Read(place))
 }
 
 pub(crate) fn call(target: Target, arguments: List<Arg>) -> Expr
@@ -25,67 +26,81 @@ pub(crate) fn call(target: Target, arguments: List<Arg>) -> Expr
     Expr::Call(target, arguments)
 }
 
-pub(crate) fn force(alloc: Global, f: u8, e: Expr) -> Result<Expr, NoMemory>
+pub(crate) fn force(alloc: Global, f: u8, e: Boxed<Expr>) -> Result<Boxed<Expr>, NoMemory>
     ensures { IfOk result (λ t. t ≡ force f e) }
 {
-    Ok(Expr::Force(f, Boxed::new(alloc, e)?))
+    Boxed::new(alloc, Expr::Force(f, e))
 }
 
-pub(crate) fn locate(alloc: Global, r: Ref) -> Result<Expr, NoMemory>
+pub(crate) fn locate(alloc: Global, r: Ref) -> Result<Boxed<Expr>, NoMemory>
     ensures { IfOk result (λ e. e ≡ locate r) }
 {
-    Ok(Expr::Locate(Boxed::new(alloc, r)?))
+    let place = Boxed::new(alloc, r)?;
+    Boxed::new(alloc, Expr::Locate(place))
 }
 
-pub(crate) fn bits(alloc: Global, t: u8, b: u8, e: Expr) -> Result<Expr, NoMemory>
+pub(crate) fn bits(alloc: Global, t: u8, b: u8, e: Boxed<Expr>) -> Result<Boxed<Expr>, NoMemory>
     ensures { IfOk result (λ x. x ≡ bits t b e) }
 {
-    Ok(Expr::Bits(t, b, Boxed::new(alloc, e)?))
+    Boxed::new(alloc, Expr::Bits(t, b, e))
 }
 
-pub(crate) fn logic(alloc: Global, op: LogicOp, a: Expr, b: Expr) -> Result<Expr, NoMemory>
+pub(crate) fn logic(
+    alloc: Global,
+    op: LogicOp,
+    a: Boxed<Expr>,
+    b: Boxed<Expr>,
+) -> Result<Boxed<Expr>, NoMemory>
     ensures { IfOk result (λ e. e ≡ logic op a b) }
 {
-    let first = Boxed::new(alloc, a)?;
-    Ok(Expr::Logic(op, first, Boxed::new(alloc, b)?))
+    Boxed::new(alloc, Expr::Logic(op, a, b))
 }
 
-pub(crate) fn minus(alloc: Global, e: Expr) -> Result<Expr, NoMemory>
+pub(crate) fn minus(alloc: Global, e: Boxed<Expr>) -> Result<Boxed<Expr>, NoMemory>
     ensures { IfOk result (λ t. t ≡ minus e) }
 {
-    Ok(Expr::Minus(Boxed::new(alloc, e)?))
+    Boxed::new(alloc, Expr::Minus(e))
 }
 
 /// Two operands with `+` or `-` between them.
-pub(crate) fn added(alloc: Global, op: AddOp, a: Expr, b: Expr) -> Result<Expr, NoMemory>
+pub(crate) fn added(
+    alloc: Global,
+    op: AddOp,
+    a: Boxed<Expr>,
+    b: Boxed<Expr>,
+) -> Result<Boxed<Expr>, NoMemory>
     ensures { IfOk result (λ e. e ≡ added op a b) }
 {
-    let first = Boxed::new(alloc, a)?;
-    let second = Boxed::new(alloc, b)?;
     match op {
-        AddOp::Plus => Ok(Expr::Sum(first, second)),
-        AddOp::Minus => Ok(Expr::Less(first, second)),
+        AddOp::Plus => Boxed::new(alloc, Expr::Sum(a, b)),
+        AddOp::Minus => Boxed::new(alloc, Expr::Less(a, b)),
     }
 }
 
 /// Two operands with `*` or `/` between them.
-pub(crate) fn multiplied(alloc: Global, op: MulOp, a: Expr, b: Expr) -> Result<Expr, NoMemory>
+pub(crate) fn multiplied(
+    alloc: Global,
+    op: MulOp,
+    a: Boxed<Expr>,
+    b: Boxed<Expr>,
+) -> Result<Boxed<Expr>, NoMemory>
     ensures { IfOk result (λ e. e ≡ multiplied op a b) }
 {
-    let first = Boxed::new(alloc, a)?;
-    let second = Boxed::new(alloc, b)?;
     match op {
-        MulOp::Times => Ok(Expr::Times(first, second)),
-        MulOp::Divide => Ok(Expr::Over(first, second)),
+        MulOp::Times => Boxed::new(alloc, Expr::Times(a, b)),
+        MulOp::Divide => Boxed::new(alloc, Expr::Over(a, b)),
     }
 }
 
-pub(crate) fn choice(alloc: Global, test: Cond, a: Expr, b: Expr) -> Result<Expr, NoMemory>
+pub(crate) fn choice(
+    alloc: Global,
+    test: Boxed<Cond>,
+    a: Boxed<Expr>,
+    b: Boxed<Expr>,
+) -> Result<Boxed<Expr>, NoMemory>
     ensures { IfOk result (λ e. e ≡ choice test a b) }
 {
-    let test = Boxed::new(alloc, test)?;
-    let first = Boxed::new(alloc, a)?;
-    Ok(Expr::Choice(test, first, Boxed::new(alloc, b)?))
+    Boxed::new(alloc, Expr::Choice(test, a, b))
 }
 
 // ---- conditions
@@ -116,18 +131,16 @@ pub(crate) fn no_condition() -> Cond
     comparison(CompareOp::Equal, nothing(), nothing())
 }
 
-pub(crate) fn both(alloc: Global, c: Cond, d: Cond) -> Result<Cond, NoMemory>
+pub(crate) fn both(alloc: Global, c: Boxed<Cond>, d: Boxed<Cond>) -> Result<Boxed<Cond>, NoMemory>
     ensures { IfOk result (λ x. x ≡ both c d) }
 {
-    let first = Boxed::new(alloc, c)?;
-    Ok(Cond::And(first, Boxed::new(alloc, d)?))
+    Boxed::new(alloc, Cond::And(c, d))
 }
 
-pub(crate) fn either(alloc: Global, c: Cond, d: Cond) -> Result<Cond, NoMemory>
+pub(crate) fn either(alloc: Global, c: Boxed<Cond>, d: Boxed<Cond>) -> Result<Boxed<Cond>, NoMemory>
     ensures { IfOk result (λ x. x ≡ either c d) }
 {
-    let first = Boxed::new(alloc, c)?;
-    Ok(Cond::Or(first, Boxed::new(alloc, d)?))
+    Boxed::new(alloc, Cond::Or(c, d))
 }
 
 // ---- references and arguments
@@ -159,8 +172,16 @@ fn whole_part(e: Expr) -> Expr
     }
 }
 
-pub(crate) fn whole_part_if(operand: bool, e: Expr) -> Expr
-    ensures { result ≡ whole_part_if operand e }
+pub(crate) fn whole_part_if(
+    alloc: Global,
+    operand: bool,
+    e: Boxed<Expr>,
+) -> Result<Boxed<Expr>, NoMemory>
+    ensures { IfOk result (λ t. t ≡ whole_part_if operand e) }
 {
-    if operand { whole_part(e) } else { e }
+    if operand {
+        Boxed::new(alloc, whole_part(e.into_inner()))
+    } else {
+        Ok(e)
+    }
 }

@@ -17,6 +17,7 @@ use cw_tree::leaf::{RawName, RawSint, RawSize, RawType};
 use cw_tree::segment::RawPs;
 use cw_unit::descriptor::Scale;
 use cw_unit::unit::{Arg, Expr, Field, Goal, Spot, Target};
+use cw_word::Boxed;
 use std::alloc::Global;
 
 // ---- numbers
@@ -267,11 +268,17 @@ fn row_length(range: &RawRange) -> u16
     word(&Some(range_span(range)))
 }
 
-fn double_spot(range: &RawRange, second: &Option<RawRange>, item: u32, e: Expr, other: Expr) -> Spot
+fn double_spot(
+    range: &RawRange,
+    second: &Option<RawRange>,
+    item: u32,
+    e: Boxed<Expr>,
+    other: Boxed<Expr>,
+) -> Spot
     ensures { result ≡ double_spot range.now second.now item e other }
 {
     match second {
-        None => Spot::Bare(e),
+        None => Spot::Bare(e.into_inner()),
         Some(across) => Spot::Two(
             item,
             bound(&range.lower),
@@ -279,20 +286,25 @@ fn double_spot(range: &RawRange, second: &Option<RawRange>, item: u32, e: Expr, 
             bound(&across.lower),
             bound(&across.upper),
             row_length(across),
-            e,
-            other,
+            e.into_inner(),
+            other.into_inner(),
         ),
     }
 }
 
-pub(crate) fn twice_indexed_spot(kind: &Option<Kind>, item: u32, e: Expr, other: Expr) -> Spot
+pub(crate) fn twice_indexed_spot(
+    kind: &Option<Kind>,
+    item: u32,
+    e: Boxed<Expr>,
+    other: Boxed<Expr>,
+) -> Spot
     ensures { result ≡ twice_indexed_spot kind.now item e other }
 {
     match kind {
         Some(Kind::Array(_, bounds)) => {
             double_spot(&bounds.first, &bounds.second, item, e, other)
         }
-        _ => Spot::Bare(e),
+        _ => Spot::Bare(e.into_inner()),
     }
 }
 

@@ -1,5 +1,6 @@
 //! Lines, jumps, labels and the elements of a FOR.
 ghost use Rattle.std.specs.Prelude.{◌≡◌, map, IfOk};
+ghost use Rattle.cw_make_expr.specs.Made.{expression_of, condition_of, reference_of};
 ghost use Rattle.cw_make_expr.specs.Parts.{label_in};
 ghost use Rattle.cw_make_stmt.specs.Made.{line_of, ref_position, goal_of, switch_of, labels_of, mark, marked, row, conditional, repetition, felem_of, put, put_bits, assignment_of, bits_assignment_of, assignment, bits_assignment, jump, switch_jump, answer, call_statement};
 
@@ -9,7 +10,7 @@ use cw_make_expr::parts::{number_of, small};
 use cw_number::numbered::Numbered;
 use cw_scope::resolve::Named;
 use cw_table::table::Table;
-use cw_tree::expression::{RawBits, RawExpr, RawRef};
+use cw_tree::expression::{RawBits, RawCond, RawExpr, RawRef};
 use cw_tree::leaf::{Position, RawName};
 use cw_tree::statement::RawFelem;
 use cw_unit::unit::{Cond, Dest, Expr, Felem, Goal, Ref, Stmt};
@@ -83,10 +84,10 @@ fn labels_of(
     Ok(all)
 }
 
-fn mark(alloc: Global, labels: List<u32>, s: Stmt) -> Result<Stmt, NoMemory>
+fn mark(alloc: Global, labels: List<u32>, s: Boxed<Stmt>) -> Result<Boxed<Stmt>, NoMemory>
     ensures { IfOk result (λ t. t ≡ mark labels s) }
 {
-    Ok(Stmt::Mark(labels, Boxed::new(alloc, s)?))
+    Boxed::new(alloc, Stmt::Mark(labels, s))
 }
 
 /// A statement behind its labels, if it has any.
@@ -94,8 +95,8 @@ pub(crate) fn marked(
     alloc: Global,
     numbers: &Table<Numbered>,
     names: &[RawName],
-    s: Stmt,
-) -> Result<Stmt, NoMemory>
+    s: Boxed<Stmt>,
+) -> Result<Boxed<Stmt>, NoMemory>
     ensures { IfOk result (λ t. t ≡ marked numbers.now names.now s) }
 {
     if names.len() == 0 {
@@ -116,27 +117,62 @@ pub(crate) fn row(statements: List<Stmt>) -> Stmt
 pub(crate) fn conditional(
     alloc: Global,
     line: u16,
-    test: Cond,
-    first: Stmt,
-    second: Stmt,
-) -> Result<Stmt, NoMemory>
+    test: Boxed<Cond>,
+    first: Boxed<Stmt>,
+    second: Boxed<Stmt>,
+) -> Result<Boxed<Stmt>, NoMemory>
     ensures { IfOk result (λ s. s ≡ conditional line test first second) }
 {
-    let first = Boxed::new(alloc, first)?;
-    Ok(Stmt::If(line, test, first, Boxed::new(alloc, second)?))
+    Boxed::new(alloc, Stmt::If(line, test.into_inner(), first, second))
 }
 
 pub(crate) fn repetition(
     alloc: Global,
     line: u16,
     item: u32,
-    variable: Ref,
+    variable: Boxed<Ref>,
     elements: List<Felem>,
-    body: Stmt,
-) -> Result<Stmt, NoMemory>
+    body: Boxed<Stmt>,
+) -> Result<Boxed<Stmt>, NoMemory>
     ensures { IfOk result (λ s. s ≡ repetition line item variable elements body) }
 {
-    Ok(Stmt::For(line, item, variable, elements, Boxed::new(alloc, body)?))
+    let variable = variable.into_inner();
+    Boxed::new(alloc, Stmt::For(line, item, variable, elements, body))
+}
+
+// ---- trees of expressions, in boxes until a statement takes them
+
+fn boxed_expression(
+    alloc: Global,
+    named: &Named,
+    numbers: &Table<Numbered>,
+    e: &RawExpr,
+) -> Result<Boxed<Expr>, NoMemory>
+    ensures { IfOk result (λ t. t ≡ expression_of named.now numbers.now e.now) }
+{
+    Boxed::new(alloc, expression_of(alloc, named, numbers, e)?)
+}
+
+pub(crate) fn boxed_condition(
+    alloc: Global,
+    named: &Named,
+    numbers: &Table<Numbered>,
+    c: &RawCond,
+) -> Result<Boxed<Cond>, NoMemory>
+    ensures { IfOk result (λ t. t ≡ condition_of named.now numbers.now c.now) }
+{
+    Boxed::new(alloc, condition_of(alloc, named, numbers, c)?)
+}
+
+pub(crate) fn boxed_reference(
+    alloc: Global,
+    named: &Named,
+    numbers: &Table<Numbered>,
+    r: &RawRef,
+) -> Result<Boxed<Ref>, NoMemory>
+    ensures { IfOk result (λ t. t ≡ reference_of named.now numbers.now r.now) }
+{
+    Boxed::new(alloc, reference_of(alloc, named, numbers, r)?)
 }
 
 // ---- the elements of a FOR
@@ -155,15 +191,15 @@ fn felem_of(
             Ok(Felem::One(value))
         }
         RawFelem::While(e, test) => {
-            let value = expression_of(alloc, named, numbers, e.get())?;
+            let value = boxed_expression(alloc, named, numbers, e.get())?;
             let test = condition_of(alloc, named, numbers, test.get())?;
-            Ok(Felem::While(value, test))
+            Ok(Felem::While(value.into_inner(), test))
         }
         RawFelem::Step(first, step, last) => {
-            let first = expression_of(alloc, named, numbers, first.get())?;
-            let step = expression_of(alloc, named, numbers, step.get())?;
+            let first = boxed_expression(alloc, named, numbers, first.get())?;
+            let step = boxed_expression(alloc, named, numbers, step.get())?;
             let last = expression_of(alloc, named, numbers, last.get())?;
-            Ok(Felem::Step(first, step, last))
+            Ok(Felem::Step(first.into_inner(), step.into_inner(), last))
         }
     }
 }
@@ -189,11 +225,11 @@ pub(crate) fn call_statement(
     numbers: &Table<Numbered>,
     name: &RawName,
     arguments: &[RawExpr],
-) -> Result<Stmt, NoMemory>
+) -> Result<Boxed<Stmt>, NoMemory>
     ensures { IfOk result (λ s. s ≡ call_statement named.now numbers.now name.now arguments.now) }
 {
     let (target, arguments) = call_of(alloc, named, numbers, name, arguments)?;
-    Ok(Stmt::Call(line_of(&name.at), target, arguments))
+    Boxed::new(alloc, Stmt::Call(line_of(&name.at), target, arguments))
 }
 
 fn reference_line(r: &RawRef) -> u16
@@ -219,12 +255,12 @@ fn assignment_of(
     named: &Named,
     numbers: &Table<Numbered>,
     r: &RawRef,
-    value: Expr,
-) -> Result<Stmt, NoMemory>
+    value: Boxed<Expr>,
+) -> Result<Boxed<Stmt>, NoMemory>
     ensures { IfOk result (λ s. s ≡ assignment_of named.now numbers.now r.now value) }
 {
     let place = reference_of(alloc, named, numbers, r)?;
-    Ok(put(reference_line(r), place, value))
+    Boxed::new(alloc, put(reference_line(r), place, value.into_inner()))
 }
 
 fn bits_assignment_of(
@@ -233,14 +269,15 @@ fn bits_assignment_of(
     numbers: &Table<Numbered>,
     bits: &RawBits,
     r: &RawRef,
-    value: Expr,
-) -> Result<Stmt, NoMemory>
+    value: Boxed<Expr>,
+) -> Result<Boxed<Stmt>, NoMemory>
     ensures { IfOk result (λ s. s ≡ bits_assignment_of named.now numbers.now bits.now r.now value) }
 {
-    let place = reference_of(alloc, named, numbers, r)?;
     let t = small(&place_amount(&bits.size.first));
     let b = small(&place_amount(&bits.size.second));
-    Ok(put_bits(line_of(&bits.at), t, b, place, value))
+    let line = line_of(&bits.at);
+    let place = reference_of(alloc, named, numbers, r)?;
+    Boxed::new(alloc, put_bits(line, t, b, place, value.into_inner()))
 }
 
 pub(crate) fn assignment(
@@ -249,10 +286,10 @@ pub(crate) fn assignment(
     numbers: &Table<Numbered>,
     r: &RawRef,
     e: &RawExpr,
-) -> Result<Stmt, NoMemory>
+) -> Result<Boxed<Stmt>, NoMemory>
     ensures { IfOk result (λ s. s ≡ assignment named.now numbers.now r.now e.now) }
 {
-    let value = expression_of(alloc, named, numbers, e)?;
+    let value = boxed_expression(alloc, named, numbers, e)?;
     assignment_of(alloc, named, numbers, r, value)
 }
 
@@ -263,10 +300,10 @@ pub(crate) fn bits_assignment(
     bits: &RawBits,
     r: &RawRef,
     e: &RawExpr,
-) -> Result<Stmt, NoMemory>
+) -> Result<Boxed<Stmt>, NoMemory>
     ensures { IfOk result (λ s. s ≡ bits_assignment named.now numbers.now bits.now r.now e.now) }
 {
-    let value = expression_of(alloc, named, numbers, e)?;
+    let value = boxed_expression(alloc, named, numbers, e)?;
     bits_assignment_of(alloc, named, numbers, bits, r, value)
 }
 
@@ -283,12 +320,12 @@ pub(crate) fn switch_jump(
     at: &Position,
     name: &RawName,
     index: &RawExpr,
-) -> Result<Stmt, NoMemory>
+) -> Result<Boxed<Stmt>, NoMemory>
     ensures { IfOk result (λ s. s ≡ switch_jump named.now numbers.now at.now name.now index.now) }
 {
+    let number = number_of(named, numbers, name);
     let index = expression_of(alloc, named, numbers, index)?;
-    let to = switch_of(&number_of(named, numbers, name), index);
-    Ok(Stmt::Go(line_of(at), to))
+    Boxed::new(alloc, Stmt::Go(line_of(at), switch_of(&number, index)))
 }
 
 pub(crate) fn answer(
@@ -297,9 +334,9 @@ pub(crate) fn answer(
     numbers: &Table<Numbered>,
     at: &Position,
     e: &RawExpr,
-) -> Result<Stmt, NoMemory>
+) -> Result<Boxed<Stmt>, NoMemory>
     ensures { IfOk result (λ s. s ≡ answer named.now numbers.now at.now e.now) }
 {
     let value = expression_of(alloc, named, numbers, e)?;
-    Ok(Stmt::Answer(line_of(at), value))
+    Boxed::new(alloc, Stmt::Answer(line_of(at), value))
 }

@@ -3,27 +3,38 @@ ghost use Rattle.std.specs.Prelude.{◌≡◌, IfOk};
 ghost use Rattle.cw_make_stmt.specs.Made.{statement_of, form_of, simple_of, block_of};
 
 use crate::parts::{
-    answer, assignment, bits_assignment, call_statement, conditional, felems_of, jump, line_of,
-    marked, repetition, row, switch_jump,
+    answer, assignment, bits_assignment, boxed_condition, boxed_reference, call_statement,
+    conditional, felems_of, jump, line_of, marked, repetition, row, switch_jump,
 };
-use cw_make_expr::calls::{condition_of, reference_of};
 use cw_make_expr::parts::item_here;
 use cw_number::numbered::Numbered;
 use cw_scope::resolve::Named;
 use cw_table::table::Table;
 use cw_tree::statement::{RawBlock, RawForm, RawSimple, RawStmt};
 use cw_unit::unit::Stmt;
-use cw_word::{List, NoMemory};
+use cw_word::{Boxed, List, NoMemory};
 use std::alloc::Global;
 
 /// The tree of a statement.
-#[cycle(made)]
 pub fn statement_of(
     alloc: Global,
     named: &Named,
     numbers: &Table<Numbered>,
     s: &RawStmt,
 ) -> Result<Stmt, NoMemory>
+    ensures { IfOk result (λ t. t ≡ statement_of named.now numbers.now s.now) }
+{
+    let tree = make_statement(alloc, named, numbers, s)?;
+    Ok(tree.into_inner())
+}
+
+#[cycle(made)]
+fn make_statement(
+    alloc: Global,
+    named: &Named,
+    numbers: &Table<Numbered>,
+    s: &RawStmt,
+) -> Result<Boxed<Stmt>, NoMemory>
     ensures { IfOk result (λ t. t ≡ statement_of named.now numbers.now s.now) }
 {
     let form = make_form(alloc, named, numbers, s.form.get())?;
@@ -36,7 +47,7 @@ fn make_form(
     named: &Named,
     numbers: &Table<Numbered>,
     form: &RawForm,
-) -> Result<Stmt, NoMemory>
+) -> Result<Boxed<Stmt>, NoMemory>
     ensures { IfOk result (λ t. t ≡ form_of named.now numbers.now form.now) }
 {
     match form {
@@ -48,13 +59,16 @@ fn make_form(
             first,
             second,
         } => {
-            let test = condition_of(alloc, named, numbers, test.get())?;
+            let test = boxed_condition(alloc, named, numbers, test.get())?;
             let arm = make_simple(alloc, named, numbers, first.get())?;
             let arm = marked(alloc, numbers, labels.as_slice(), arm)?;
             match second {
-                None => conditional(alloc, line_of(at), test, arm, row(List::new(alloc))),
+                None => {
+                    let other = Boxed::new(alloc, row(List::new(alloc)))?;
+                    conditional(alloc, line_of(at), test, arm, other)
+                }
                 Some(s) => {
-                    let other = statement_of(alloc, named, numbers, s.get())?;
+                    let other = make_statement(alloc, named, numbers, s.get())?;
                     conditional(alloc, line_of(at), test, arm, other)
                 }
             }
@@ -66,9 +80,9 @@ fn make_form(
             body,
         } => {
             let item = item_here(numbers, at.token);
-            let variable = reference_of(alloc, named, numbers, variable.get())?;
+            let variable = boxed_reference(alloc, named, numbers, variable.get())?;
             let elements = felems_of(alloc, named, numbers, elems.as_slice())?;
-            let body = statement_of(alloc, named, numbers, body.get())?;
+            let body = make_statement(alloc, named, numbers, body.get())?;
             repetition(alloc, line_of(at), item, variable, elements, body)
         }
     }
@@ -80,16 +94,16 @@ fn make_simple(
     named: &Named,
     numbers: &Table<Numbered>,
     s: &RawSimple,
-) -> Result<Stmt, NoMemory>
+) -> Result<Boxed<Stmt>, NoMemory>
     ensures { IfOk result (λ t. t ≡ simple_of named.now numbers.now s.now) }
 {
     match s {
-        RawSimple::Empty => Ok(row(List::new(alloc))),
+        RawSimple::Empty => Boxed::new(alloc, row(List::new(alloc))),
         RawSimple::Assign(r, e) => assignment(alloc, named, numbers, r.get(), e.get()),
         RawSimple::AssignBits(bits, r, e) => {
             bits_assignment(alloc, named, numbers, bits, r.get(), e.get())
         }
-        RawSimple::Goto(at, name) => Ok(jump(named, numbers, at, name)),
+        RawSimple::Goto(at, name) => Boxed::new(alloc, jump(named, numbers, at, name)),
         RawSimple::GotoSwitch(at, name, index) => {
             switch_jump(alloc, named, numbers, at, name, index.get())
         }
@@ -97,7 +111,10 @@ fn make_simple(
             call_statement(alloc, named, numbers, name, arguments.as_slice())
         }
         RawSimple::Answer(at, e) => answer(alloc, named, numbers, at, e.get()),
-        RawSimple::Block(block) => make_block(alloc, named, numbers, block.get()),
+        RawSimple::Block(block) => {
+            let statements = make_block(alloc, named, numbers, block.get())?;
+            Boxed::new(alloc, statements)
+        }
     }
 }
 
@@ -113,7 +130,8 @@ pub fn make_block(
 {
     let mut all = List::new(alloc);
     for statement in block.stmts.as_slice() {
-        all.push(statement_of(alloc, named, numbers, statement)?)?;
+        let next = make_statement(alloc, named, numbers, statement)?;
+        all.push(next.into_inner())?;
     }
     Ok(row(all))
 }
