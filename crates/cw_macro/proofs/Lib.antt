@@ -7,3 +7,4 @@ pub mod Next
 pub mod Runs
 pub mod Unique
 pub mod Pieces
+pub mod Given

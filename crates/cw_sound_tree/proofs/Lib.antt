@@ -1,6 +1,6 @@
 mod Many
 mod Trees
-mod Tall
+pub mod Tall
 mod Core
 mod Spread
 mod Said

@@ -1,18 +1,19 @@
 -- A tree needs as many levels as its tokens open inside one another, at most.
-use Rattle.std.proofs.Common.{ℕ, suc, ◌≤◌, max, Bool, false, List, map, arith}
+use Rattle.std.proofs.Common.{ℕ, suc, ◌≤◌, max, Bool, true, false, List, map, arith}
 use Rattle.std.proofs.Math.Nat.{max-le}
 use Rattle.cw_lex.specs.Lexical.{Lexeme}
 use Rattle.cw_tree.specs.declared.segment.Raw.{Raw}
 use Rattle.cw_tree.specs.declared.expression.RawExpr.{RawExpr}
 use Rattle.cw_tree.specs.declared.statement.RawFelem.{RawFelem}
-use Rattle.cw_grammar.specs.Tokens.{numbered}
-use Rattle.cw_grammar.specs.Grammar.{a_raw}
+use Rattle.cw_tree.specs.declared.statement.RawStmt.{RawStmt}
+use Rattle.cw_grammar.specs.Tokens.{Item, numbered}
+use Rattle.cw_grammar.specs.Grammar.{a_stmt, a_raw, labelled, again}
 use Rattle.cw_grammar.specs.Statements.{text}
 use Rattle.cw_grammar.specs.Derives.{Derives}
 use Rattle.cw_derived.specs.NormalForm as normal
 use Rattle.cw_derived.specs.NormalForm.{IsNormal}
 use Rattle.cw_derived.proofs.Statements.{text_normal}
-use Rattle.cw_derived.proofs.Derived.{derived_normal}
+use Rattle.cw_derived.proofs.Derived.{stmt_again, derived_normal}
 use Rattle.cw_sound_expr.specs.Levels as levels
 use Rattle.cw_sound_expr.specs.Levels.{largest}
 use Rattle.cw_sound_stmt.specs.Levels as statement_levels
@@ -142,3 +143,7 @@ raw_within (normal.is_raw f tokens h e k) = holds ℕ steps Within ℕ ℕ state
 
 pub within_levels : (n : ℕ) (ts : List Lexeme) (raw : Raw) → Derives n a_raw text (numbered 1 ts) raw → block_levels raw.block ≤ n
 within_levels n ts raw d = raw_within (derived_normal false text_normal d).normal
+
+-- so does the body of a procedure
+pub body_within : {n : ℕ} {u : List Item} {x : RawStmt} → Derives n a_stmt (again (labelled true)) u x → statement_levels.statement_levels x ≤ n
+body_within d = holds ℕ steps Within ℕ ℕ statement_steps StatementWithin StatementWithin expressions statements (derived_normal true (stmt_again true) d).normal

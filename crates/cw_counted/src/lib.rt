@@ -1,0 +1,4 @@
+//! What a text's tree says of the number of its tokens.
+#![tactic(auto)]
+
+pub mod laws;

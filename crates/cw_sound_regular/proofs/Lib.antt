@@ -1,0 +1,9 @@
+mod Fits
+mod Lists
+mod Bracketed
+mod Operands
+mod Smalls
+mod Good
+mod Expressions
+mod Statements
+mod Texts

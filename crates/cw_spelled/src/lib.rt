@@ -1,0 +1,4 @@
+//! What each token of a text is, also behind the expansion of its macros.
+#![tactic(auto)]
+
+pub mod laws;

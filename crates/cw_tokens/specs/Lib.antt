@@ -1,0 +1,3 @@
+pub mod LeastTokens
+pub mod TreeTokens
+pub mod SetLabels

@@ -1,0 +1,3 @@
+//! The least number of tokens that a text with such a unit has, and the labels that its bodies set: what the size of its code is held to.
+//! Definitions alone.
+#![tactic(auto)]
