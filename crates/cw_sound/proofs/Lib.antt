@@ -1,4 +1,4 @@
-mod Own
+pub mod Own
 mod Declared
 mod Answering
 mod Bodies

@@ -84,10 +84,10 @@ spec_few k s e =
 
 -- ---- what stands at an address
 
-keeps_address : (n : RawName) (a : RawInt) → Keeps (address_judged n a)
+pub keeps_address : (n : RawName) (a : RawInt) → Keeps (address_judged n a)
 keeps_address n a = keeps_both (int_judged a) (unless (is_address (place_amount a)) rule.BadBounds n.at) (keeps_int a) (keeps_unless (is_address (place_amount a)) rule.BadBounds n.at)
 
-keeps_bounds : (n : RawName) (b : RawBounds) → Keeps (bounds_judged n b)
+pub keeps_bounds : (n : RawName) (b : RawBounds) → Keeps (bounds_judged n b)
 keeps_bounds n b =
     keeps_both (range_judged b.first) (both (second_judged b.second) (unless (good_bounds b.first b.second) rule.BadBounds n.at)) (keeps_range b.first)
     (keeps_both (second_judged b.second) (unless (good_bounds b.first b.second) rule.BadBounds n.at) (keeps_second b.second) (keeps_unless (good_bounds b.first b.second) rule.BadBounds n.at))
@@ -97,7 +97,7 @@ keeps_aitem (aitem.Single t n a) = keeps_both (type_judged t) (address_judged n 
 keeps_aitem (aitem.Array t n b a) = keeps_both (type_judged t) (both (bounds_judged n b) (address_judged n a)) (keeps_type t) (keeps_both (bounds_judged n b) (address_judged n a) (keeps_bounds n b) (keeps_address n a))
 keeps_aitem (aitem.Table t a) = keeps_both (table_judged t) (address_judged t.name a) (keeps_table t) (keeps_address t.name a)
 
-keeps_aitems : (is : List RawAitem) → Keeps (aitems_judged is)
+pub keeps_aitems : (is : List RawAitem) → Keeps (aitems_judged is)
 keeps_aitems [] = keeps_fine
 keeps_aitems (i ∷ is) = keeps_both (aitem_judged i) (aitems_judged is) (keeps_aitem i) (keeps_aitems is)
 
@@ -135,7 +135,7 @@ module _ (named : Named) (sites : List (Row Site)) (absolute : List (Row ℕ)) w
   keeps_citem (citem.Switch at ns) = keeps_fine
   keeps_citem (citem.Spec s) = keeps_spec s
 
-  keeps_citems : (is : List RawCitem) → Keeps (citems_judged named sites absolute is)
+  pub keeps_citems : (is : List RawCitem) → Keeps (citems_judged named sites absolute is)
   keeps_citems [] = keeps_fine
   keeps_citems (i ∷ is) = keeps_both (citem_judged named sites absolute i) (citems_judged named sites absolute is) (keeps_citem i) (keeps_citems is)
 

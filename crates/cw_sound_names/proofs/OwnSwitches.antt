@@ -157,7 +157,7 @@ module _ (named : Named) (numbers : Numbers) (u : SourceUnit) (placed : Placed n
   abbrev here_switches : List Switch
   here_switches = block_switches named numbers named.raw.now.block None
 
-  zipped : Zip (SwitchOf named numbers u) (switches_in (block_mentions numbers named.raw.now)) here_switches
+  pub zipped : Zip (SwitchOf named numbers u) (switches_in (block_mentions numbers named.raw.now)) here_switches
   zipped = in_switches named numbers u (block_parts named numbers named.raw.now.block true) None all_reached
 
   -- ---- the switch of a declaration

@@ -115,79 +115,79 @@ module _ (named : Named) (numbers : Numbers) where
   abbrev pub facts_decl : (x : RawDecl-F RawDecl RawForm RawSimple RawBlock RawProc RawStmt) → declaration_facts (roll-RawDecl x) ≡ said.declaration_step (map-RawDecl RawDecl RawForm RawSimple RawBlock RawProc RawStmt (List Fact) (List Fact) (List Fact) BlockFacts (List Fact) (List Fact) declaration_facts form_facts simple_facts block_facts procedure_facts statement_facts x)
   facts_decl x = fold-roll-RawDecl (List Fact) (List Fact) (List Fact) BlockFacts (List Fact) (List Fact) said.declaration_step said.form_step said.simple_step said.block_step said.procedure_step said.statement_step x
 
-  abbrev switches_decl : (x : RawDecl-F RawDecl RawForm RawSimple RawBlock RawProc RawStmt) → declaration_switches named numbers (roll-RawDecl x) ≡ switched.declaration_step named numbers (map-RawDecl RawDecl RawForm RawSimple RawBlock RawProc RawStmt Switches Switches Switches Switches Switches Switches (declaration_switches named numbers) (form_switches named numbers) (simple_switches named numbers) (block_switches named numbers) (procedure_switches named numbers) (statement_switches named numbers) x)
+  abbrev pub switches_decl : (x : RawDecl-F RawDecl RawForm RawSimple RawBlock RawProc RawStmt) → declaration_switches named numbers (roll-RawDecl x) ≡ switched.declaration_step named numbers (map-RawDecl RawDecl RawForm RawSimple RawBlock RawProc RawStmt Switches Switches Switches Switches Switches Switches (declaration_switches named numbers) (form_switches named numbers) (simple_switches named numbers) (block_switches named numbers) (procedure_switches named numbers) (statement_switches named numbers) x)
   switches_decl x = fold-roll-RawDecl Switches Switches Switches Switches Switches Switches (switched.declaration_step named numbers) (switched.form_step named numbers) (switched.simple_step named numbers) (switched.block_step named numbers) (switched.procedure_step named numbers) (switched.statement_step named numbers) x
 
   abbrev pub facts_form : (x : RawForm-F RawDecl RawForm RawSimple RawBlock RawProc RawStmt) → form_facts (roll-RawForm x) ≡ said.form_step (map-RawForm RawDecl RawForm RawSimple RawBlock RawProc RawStmt (List Fact) (List Fact) (List Fact) BlockFacts (List Fact) (List Fact) declaration_facts form_facts simple_facts block_facts procedure_facts statement_facts x)
   facts_form x = fold-roll-RawForm (List Fact) (List Fact) (List Fact) BlockFacts (List Fact) (List Fact) said.declaration_step said.form_step said.simple_step said.block_step said.procedure_step said.statement_step x
 
-  abbrev switches_form : (x : RawForm-F RawDecl RawForm RawSimple RawBlock RawProc RawStmt) → form_switches named numbers (roll-RawForm x) ≡ switched.form_step named numbers (map-RawForm RawDecl RawForm RawSimple RawBlock RawProc RawStmt Switches Switches Switches Switches Switches Switches (declaration_switches named numbers) (form_switches named numbers) (simple_switches named numbers) (block_switches named numbers) (procedure_switches named numbers) (statement_switches named numbers) x)
+  abbrev pub switches_form : (x : RawForm-F RawDecl RawForm RawSimple RawBlock RawProc RawStmt) → form_switches named numbers (roll-RawForm x) ≡ switched.form_step named numbers (map-RawForm RawDecl RawForm RawSimple RawBlock RawProc RawStmt Switches Switches Switches Switches Switches Switches (declaration_switches named numbers) (form_switches named numbers) (simple_switches named numbers) (block_switches named numbers) (procedure_switches named numbers) (statement_switches named numbers) x)
   switches_form x = fold-roll-RawForm Switches Switches Switches Switches Switches Switches (switched.declaration_step named numbers) (switched.form_step named numbers) (switched.simple_step named numbers) (switched.block_step named numbers) (switched.procedure_step named numbers) (switched.statement_step named numbers) x
 
   abbrev pub facts_simple : (x : RawSimple-F RawDecl RawForm RawSimple RawBlock RawProc RawStmt) → simple_facts (roll-RawSimple x) ≡ said.simple_step (map-RawSimple RawDecl RawForm RawSimple RawBlock RawProc RawStmt (List Fact) (List Fact) (List Fact) BlockFacts (List Fact) (List Fact) declaration_facts form_facts simple_facts block_facts procedure_facts statement_facts x)
   facts_simple x = fold-roll-RawSimple (List Fact) (List Fact) (List Fact) BlockFacts (List Fact) (List Fact) said.declaration_step said.form_step said.simple_step said.block_step said.procedure_step said.statement_step x
 
-  abbrev switches_simple : (x : RawSimple-F RawDecl RawForm RawSimple RawBlock RawProc RawStmt) → simple_switches named numbers (roll-RawSimple x) ≡ switched.simple_step named numbers (map-RawSimple RawDecl RawForm RawSimple RawBlock RawProc RawStmt Switches Switches Switches Switches Switches Switches (declaration_switches named numbers) (form_switches named numbers) (simple_switches named numbers) (block_switches named numbers) (procedure_switches named numbers) (statement_switches named numbers) x)
+  abbrev pub switches_simple : (x : RawSimple-F RawDecl RawForm RawSimple RawBlock RawProc RawStmt) → simple_switches named numbers (roll-RawSimple x) ≡ switched.simple_step named numbers (map-RawSimple RawDecl RawForm RawSimple RawBlock RawProc RawStmt Switches Switches Switches Switches Switches Switches (declaration_switches named numbers) (form_switches named numbers) (simple_switches named numbers) (block_switches named numbers) (procedure_switches named numbers) (statement_switches named numbers) x)
   switches_simple x = fold-roll-RawSimple Switches Switches Switches Switches Switches Switches (switched.declaration_step named numbers) (switched.form_step named numbers) (switched.simple_step named numbers) (switched.block_step named numbers) (switched.procedure_step named numbers) (switched.statement_step named numbers) x
 
   abbrev pub facts_block : (x : RawBlock-F RawDecl RawForm RawSimple RawBlock RawProc RawStmt) → block_facts (roll-RawBlock x) ≡ said.block_step (map-RawBlock RawDecl RawForm RawSimple RawBlock RawProc RawStmt (List Fact) (List Fact) (List Fact) BlockFacts (List Fact) (List Fact) declaration_facts form_facts simple_facts block_facts procedure_facts statement_facts x)
   facts_block x = fold-roll-RawBlock (List Fact) (List Fact) (List Fact) BlockFacts (List Fact) (List Fact) said.declaration_step said.form_step said.simple_step said.block_step said.procedure_step said.statement_step x
 
-  abbrev switches_block : (x : RawBlock-F RawDecl RawForm RawSimple RawBlock RawProc RawStmt) → block_switches named numbers (roll-RawBlock x) ≡ switched.block_step named numbers (map-RawBlock RawDecl RawForm RawSimple RawBlock RawProc RawStmt Switches Switches Switches Switches Switches Switches (declaration_switches named numbers) (form_switches named numbers) (simple_switches named numbers) (block_switches named numbers) (procedure_switches named numbers) (statement_switches named numbers) x)
+  abbrev pub switches_block : (x : RawBlock-F RawDecl RawForm RawSimple RawBlock RawProc RawStmt) → block_switches named numbers (roll-RawBlock x) ≡ switched.block_step named numbers (map-RawBlock RawDecl RawForm RawSimple RawBlock RawProc RawStmt Switches Switches Switches Switches Switches Switches (declaration_switches named numbers) (form_switches named numbers) (simple_switches named numbers) (block_switches named numbers) (procedure_switches named numbers) (statement_switches named numbers) x)
   switches_block x = fold-roll-RawBlock Switches Switches Switches Switches Switches Switches (switched.declaration_step named numbers) (switched.form_step named numbers) (switched.simple_step named numbers) (switched.block_step named numbers) (switched.procedure_step named numbers) (switched.statement_step named numbers) x
 
   abbrev pub facts_proc : (x : RawProc-F RawDecl RawForm RawSimple RawBlock RawProc RawStmt) → procedure_facts (roll-RawProc x) ≡ said.procedure_step (map-RawProc RawDecl RawForm RawSimple RawBlock RawProc RawStmt (List Fact) (List Fact) (List Fact) BlockFacts (List Fact) (List Fact) declaration_facts form_facts simple_facts block_facts procedure_facts statement_facts x)
   facts_proc x = fold-roll-RawProc (List Fact) (List Fact) (List Fact) BlockFacts (List Fact) (List Fact) said.declaration_step said.form_step said.simple_step said.block_step said.procedure_step said.statement_step x
 
-  abbrev switches_proc : (x : RawProc-F RawDecl RawForm RawSimple RawBlock RawProc RawStmt) → procedure_switches named numbers (roll-RawProc x) ≡ switched.procedure_step named numbers (map-RawProc RawDecl RawForm RawSimple RawBlock RawProc RawStmt Switches Switches Switches Switches Switches Switches (declaration_switches named numbers) (form_switches named numbers) (simple_switches named numbers) (block_switches named numbers) (procedure_switches named numbers) (statement_switches named numbers) x)
+  abbrev pub switches_proc : (x : RawProc-F RawDecl RawForm RawSimple RawBlock RawProc RawStmt) → procedure_switches named numbers (roll-RawProc x) ≡ switched.procedure_step named numbers (map-RawProc RawDecl RawForm RawSimple RawBlock RawProc RawStmt Switches Switches Switches Switches Switches Switches (declaration_switches named numbers) (form_switches named numbers) (simple_switches named numbers) (block_switches named numbers) (procedure_switches named numbers) (statement_switches named numbers) x)
   switches_proc x = fold-roll-RawProc Switches Switches Switches Switches Switches Switches (switched.declaration_step named numbers) (switched.form_step named numbers) (switched.simple_step named numbers) (switched.block_step named numbers) (switched.procedure_step named numbers) (switched.statement_step named numbers) x
 
   abbrev pub facts_stmt : (x : RawStmt-F RawDecl RawForm RawSimple RawBlock RawProc RawStmt) → statement_facts (roll-RawStmt x) ≡ said.statement_step (map-RawStmt RawDecl RawForm RawSimple RawBlock RawProc RawStmt (List Fact) (List Fact) (List Fact) BlockFacts (List Fact) (List Fact) declaration_facts form_facts simple_facts block_facts procedure_facts statement_facts x)
   facts_stmt x = fold-roll-RawStmt (List Fact) (List Fact) (List Fact) BlockFacts (List Fact) (List Fact) said.declaration_step said.form_step said.simple_step said.block_step said.procedure_step said.statement_step x
 
-  abbrev switches_stmt : (x : RawStmt-F RawDecl RawForm RawSimple RawBlock RawProc RawStmt) → statement_switches named numbers (roll-RawStmt x) ≡ switched.statement_step named numbers (map-RawStmt RawDecl RawForm RawSimple RawBlock RawProc RawStmt Switches Switches Switches Switches Switches Switches (declaration_switches named numbers) (form_switches named numbers) (simple_switches named numbers) (block_switches named numbers) (procedure_switches named numbers) (statement_switches named numbers) x)
+  abbrev pub switches_stmt : (x : RawStmt-F RawDecl RawForm RawSimple RawBlock RawProc RawStmt) → statement_switches named numbers (roll-RawStmt x) ≡ switched.statement_step named numbers (map-RawStmt RawDecl RawForm RawSimple RawBlock RawProc RawStmt Switches Switches Switches Switches Switches Switches (declaration_switches named numbers) (form_switches named numbers) (simple_switches named numbers) (block_switches named numbers) (procedure_switches named numbers) (statement_switches named numbers) x)
   switches_stmt x = fold-roll-RawStmt Switches Switches Switches Switches Switches Switches (switched.declaration_step named numbers) (switched.form_step named numbers) (switched.simple_step named numbers) (switched.block_step named numbers) (switched.procedure_step named numbers) (switched.statement_step named numbers) x
 
   -- declarations give no statement
-  abbrev decl_tree : RawDecl → Stmt
+  abbrev pub decl_tree : RawDecl → Stmt
   decl_tree = fold-RawDecl Stmt Stmt Stmt Stmt Stmt Stmt (tree.declaration_step named numbers) (tree.form_step named numbers) (tree.simple_step named numbers) (tree.block_step named numbers) (tree.procedure_step named numbers) (tree.statement_step named numbers)
 
-  abbrev proc_tree : RawProc → Stmt
+  abbrev pub proc_tree : RawProc → Stmt
   proc_tree = fold-RawProc Stmt Stmt Stmt Stmt Stmt Stmt (tree.declaration_step named numbers) (tree.form_step named numbers) (tree.simple_step named numbers) (tree.block_step named numbers) (tree.procedure_step named numbers) (tree.statement_step named numbers)
 
-  abbrev tree_form : (x : RawForm-F RawDecl RawForm RawSimple RawBlock RawProc RawStmt) → form_of named numbers (roll-RawForm x) ≡ tree.form_step named numbers (map-RawForm RawDecl RawForm RawSimple RawBlock RawProc RawStmt Stmt Stmt Stmt Stmt Stmt Stmt decl_tree (form_of named numbers) (simple_of named numbers) (block_of named numbers) proc_tree (statement_of named numbers) x)
+  abbrev pub tree_form : (x : RawForm-F RawDecl RawForm RawSimple RawBlock RawProc RawStmt) → form_of named numbers (roll-RawForm x) ≡ tree.form_step named numbers (map-RawForm RawDecl RawForm RawSimple RawBlock RawProc RawStmt Stmt Stmt Stmt Stmt Stmt Stmt decl_tree (form_of named numbers) (simple_of named numbers) (block_of named numbers) proc_tree (statement_of named numbers) x)
   tree_form x = fold-roll-RawForm Stmt Stmt Stmt Stmt Stmt Stmt (tree.declaration_step named numbers) (tree.form_step named numbers) (tree.simple_step named numbers) (tree.block_step named numbers) (tree.procedure_step named numbers) (tree.statement_step named numbers) x
 
-  abbrev tree_simple : (x : RawSimple-F RawDecl RawForm RawSimple RawBlock RawProc RawStmt) → simple_of named numbers (roll-RawSimple x) ≡ tree.simple_step named numbers (map-RawSimple RawDecl RawForm RawSimple RawBlock RawProc RawStmt Stmt Stmt Stmt Stmt Stmt Stmt decl_tree (form_of named numbers) (simple_of named numbers) (block_of named numbers) proc_tree (statement_of named numbers) x)
+  abbrev pub tree_simple : (x : RawSimple-F RawDecl RawForm RawSimple RawBlock RawProc RawStmt) → simple_of named numbers (roll-RawSimple x) ≡ tree.simple_step named numbers (map-RawSimple RawDecl RawForm RawSimple RawBlock RawProc RawStmt Stmt Stmt Stmt Stmt Stmt Stmt decl_tree (form_of named numbers) (simple_of named numbers) (block_of named numbers) proc_tree (statement_of named numbers) x)
   tree_simple x = fold-roll-RawSimple Stmt Stmt Stmt Stmt Stmt Stmt (tree.declaration_step named numbers) (tree.form_step named numbers) (tree.simple_step named numbers) (tree.block_step named numbers) (tree.procedure_step named numbers) (tree.statement_step named numbers) x
 
-  abbrev tree_block : (x : RawBlock-F RawDecl RawForm RawSimple RawBlock RawProc RawStmt) → block_of named numbers (roll-RawBlock x) ≡ tree.block_step named numbers (map-RawBlock RawDecl RawForm RawSimple RawBlock RawProc RawStmt Stmt Stmt Stmt Stmt Stmt Stmt decl_tree (form_of named numbers) (simple_of named numbers) (block_of named numbers) proc_tree (statement_of named numbers) x)
+  abbrev pub tree_block : (x : RawBlock-F RawDecl RawForm RawSimple RawBlock RawProc RawStmt) → block_of named numbers (roll-RawBlock x) ≡ tree.block_step named numbers (map-RawBlock RawDecl RawForm RawSimple RawBlock RawProc RawStmt Stmt Stmt Stmt Stmt Stmt Stmt decl_tree (form_of named numbers) (simple_of named numbers) (block_of named numbers) proc_tree (statement_of named numbers) x)
   tree_block x = fold-roll-RawBlock Stmt Stmt Stmt Stmt Stmt Stmt (tree.declaration_step named numbers) (tree.form_step named numbers) (tree.simple_step named numbers) (tree.block_step named numbers) (tree.procedure_step named numbers) (tree.statement_step named numbers) x
 
-  abbrev tree_stmt : (x : RawStmt-F RawDecl RawForm RawSimple RawBlock RawProc RawStmt) → statement_of named numbers (roll-RawStmt x) ≡ tree.statement_step named numbers (map-RawStmt RawDecl RawForm RawSimple RawBlock RawProc RawStmt Stmt Stmt Stmt Stmt Stmt Stmt decl_tree (form_of named numbers) (simple_of named numbers) (block_of named numbers) proc_tree (statement_of named numbers) x)
+  abbrev pub tree_stmt : (x : RawStmt-F RawDecl RawForm RawSimple RawBlock RawProc RawStmt) → statement_of named numbers (roll-RawStmt x) ≡ tree.statement_step named numbers (map-RawStmt RawDecl RawForm RawSimple RawBlock RawProc RawStmt Stmt Stmt Stmt Stmt Stmt Stmt decl_tree (form_of named numbers) (simple_of named numbers) (block_of named numbers) proc_tree (statement_of named numbers) x)
   tree_stmt x = fold-roll-RawStmt Stmt Stmt Stmt Stmt Stmt Stmt (tree.declaration_step named numbers) (tree.form_step named numbers) (tree.simple_step named numbers) (tree.block_step named numbers) (tree.procedure_step named numbers) (tree.statement_step named numbers) x
 
-  procs_decl : (x : RawDecl-F RawDecl RawForm RawSimple RawBlock RawProc RawStmt) → declaration_procs named numbers (roll-RawDecl x) ≡ made.declaration_step named numbers (map-RawDecl RawDecl RawForm RawSimple RawBlock RawProc RawStmt (RawDecl × Procs) (RawForm × Procs) (RawSimple × Procs) (RawBlock × Procs) (RawProc × Procs) (RawStmt × Procs) (λ x. (x, declaration_procs named numbers x)) (λ x. (x, form_procs named numbers x)) (λ x. (x, simple_procs named numbers x)) (λ x. (x, block_procs named numbers x)) (λ x. (x, procedure_procs named numbers x)) (λ x. (x, statement_procs named numbers x)) x)
+  pub procs_decl : (x : RawDecl-F RawDecl RawForm RawSimple RawBlock RawProc RawStmt) → declaration_procs named numbers (roll-RawDecl x) ≡ made.declaration_step named numbers (map-RawDecl RawDecl RawForm RawSimple RawBlock RawProc RawStmt (RawDecl × Procs) (RawForm × Procs) (RawSimple × Procs) (RawBlock × Procs) (RawProc × Procs) (RawStmt × Procs) (λ x. (x, declaration_procs named numbers x)) (λ x. (x, form_procs named numbers x)) (λ x. (x, simple_procs named numbers x)) (λ x. (x, block_procs named numbers x)) (λ x. (x, procedure_procs named numbers x)) (λ x. (x, statement_procs named numbers x)) x)
   unfolding declaration_procs form_procs simple_procs block_procs procedure_procs statement_procs
   procs_decl x = para-roll-RawDecl Procs Procs Procs Procs Procs Procs (made.declaration_step named numbers) (made.form_step named numbers) (made.simple_step named numbers) (made.block_step named numbers) (made.procedure_step named numbers) (made.statement_step named numbers) x
 
-  procs_form : (x : RawForm-F RawDecl RawForm RawSimple RawBlock RawProc RawStmt) → form_procs named numbers (roll-RawForm x) ≡ made.form_step named numbers (map-RawForm RawDecl RawForm RawSimple RawBlock RawProc RawStmt (RawDecl × Procs) (RawForm × Procs) (RawSimple × Procs) (RawBlock × Procs) (RawProc × Procs) (RawStmt × Procs) (λ x. (x, declaration_procs named numbers x)) (λ x. (x, form_procs named numbers x)) (λ x. (x, simple_procs named numbers x)) (λ x. (x, block_procs named numbers x)) (λ x. (x, procedure_procs named numbers x)) (λ x. (x, statement_procs named numbers x)) x)
+  pub procs_form : (x : RawForm-F RawDecl RawForm RawSimple RawBlock RawProc RawStmt) → form_procs named numbers (roll-RawForm x) ≡ made.form_step named numbers (map-RawForm RawDecl RawForm RawSimple RawBlock RawProc RawStmt (RawDecl × Procs) (RawForm × Procs) (RawSimple × Procs) (RawBlock × Procs) (RawProc × Procs) (RawStmt × Procs) (λ x. (x, declaration_procs named numbers x)) (λ x. (x, form_procs named numbers x)) (λ x. (x, simple_procs named numbers x)) (λ x. (x, block_procs named numbers x)) (λ x. (x, procedure_procs named numbers x)) (λ x. (x, statement_procs named numbers x)) x)
   unfolding declaration_procs form_procs simple_procs block_procs procedure_procs statement_procs
   procs_form x = para-roll-RawForm Procs Procs Procs Procs Procs Procs (made.declaration_step named numbers) (made.form_step named numbers) (made.simple_step named numbers) (made.block_step named numbers) (made.procedure_step named numbers) (made.statement_step named numbers) x
 
-  procs_simple : (x : RawSimple-F RawDecl RawForm RawSimple RawBlock RawProc RawStmt) → simple_procs named numbers (roll-RawSimple x) ≡ made.simple_step named numbers (map-RawSimple RawDecl RawForm RawSimple RawBlock RawProc RawStmt (RawDecl × Procs) (RawForm × Procs) (RawSimple × Procs) (RawBlock × Procs) (RawProc × Procs) (RawStmt × Procs) (λ x. (x, declaration_procs named numbers x)) (λ x. (x, form_procs named numbers x)) (λ x. (x, simple_procs named numbers x)) (λ x. (x, block_procs named numbers x)) (λ x. (x, procedure_procs named numbers x)) (λ x. (x, statement_procs named numbers x)) x)
+  pub procs_simple : (x : RawSimple-F RawDecl RawForm RawSimple RawBlock RawProc RawStmt) → simple_procs named numbers (roll-RawSimple x) ≡ made.simple_step named numbers (map-RawSimple RawDecl RawForm RawSimple RawBlock RawProc RawStmt (RawDecl × Procs) (RawForm × Procs) (RawSimple × Procs) (RawBlock × Procs) (RawProc × Procs) (RawStmt × Procs) (λ x. (x, declaration_procs named numbers x)) (λ x. (x, form_procs named numbers x)) (λ x. (x, simple_procs named numbers x)) (λ x. (x, block_procs named numbers x)) (λ x. (x, procedure_procs named numbers x)) (λ x. (x, statement_procs named numbers x)) x)
   unfolding declaration_procs form_procs simple_procs block_procs procedure_procs statement_procs
   procs_simple x = para-roll-RawSimple Procs Procs Procs Procs Procs Procs (made.declaration_step named numbers) (made.form_step named numbers) (made.simple_step named numbers) (made.block_step named numbers) (made.procedure_step named numbers) (made.statement_step named numbers) x
 
-  procs_block : (x : RawBlock-F RawDecl RawForm RawSimple RawBlock RawProc RawStmt) → block_procs named numbers (roll-RawBlock x) ≡ made.block_step named numbers (map-RawBlock RawDecl RawForm RawSimple RawBlock RawProc RawStmt (RawDecl × Procs) (RawForm × Procs) (RawSimple × Procs) (RawBlock × Procs) (RawProc × Procs) (RawStmt × Procs) (λ x. (x, declaration_procs named numbers x)) (λ x. (x, form_procs named numbers x)) (λ x. (x, simple_procs named numbers x)) (λ x. (x, block_procs named numbers x)) (λ x. (x, procedure_procs named numbers x)) (λ x. (x, statement_procs named numbers x)) x)
+  pub procs_block : (x : RawBlock-F RawDecl RawForm RawSimple RawBlock RawProc RawStmt) → block_procs named numbers (roll-RawBlock x) ≡ made.block_step named numbers (map-RawBlock RawDecl RawForm RawSimple RawBlock RawProc RawStmt (RawDecl × Procs) (RawForm × Procs) (RawSimple × Procs) (RawBlock × Procs) (RawProc × Procs) (RawStmt × Procs) (λ x. (x, declaration_procs named numbers x)) (λ x. (x, form_procs named numbers x)) (λ x. (x, simple_procs named numbers x)) (λ x. (x, block_procs named numbers x)) (λ x. (x, procedure_procs named numbers x)) (λ x. (x, statement_procs named numbers x)) x)
   unfolding declaration_procs form_procs simple_procs block_procs procedure_procs statement_procs
   procs_block x = para-roll-RawBlock Procs Procs Procs Procs Procs Procs (made.declaration_step named numbers) (made.form_step named numbers) (made.simple_step named numbers) (made.block_step named numbers) (made.procedure_step named numbers) (made.statement_step named numbers) x
 
-  procs_proc : (x : RawProc-F RawDecl RawForm RawSimple RawBlock RawProc RawStmt) → procedure_procs named numbers (roll-RawProc x) ≡ made.procedure_step named numbers (map-RawProc RawDecl RawForm RawSimple RawBlock RawProc RawStmt (RawDecl × Procs) (RawForm × Procs) (RawSimple × Procs) (RawBlock × Procs) (RawProc × Procs) (RawStmt × Procs) (λ x. (x, declaration_procs named numbers x)) (λ x. (x, form_procs named numbers x)) (λ x. (x, simple_procs named numbers x)) (λ x. (x, block_procs named numbers x)) (λ x. (x, procedure_procs named numbers x)) (λ x. (x, statement_procs named numbers x)) x)
+  pub procs_proc : (x : RawProc-F RawDecl RawForm RawSimple RawBlock RawProc RawStmt) → procedure_procs named numbers (roll-RawProc x) ≡ made.procedure_step named numbers (map-RawProc RawDecl RawForm RawSimple RawBlock RawProc RawStmt (RawDecl × Procs) (RawForm × Procs) (RawSimple × Procs) (RawBlock × Procs) (RawProc × Procs) (RawStmt × Procs) (λ x. (x, declaration_procs named numbers x)) (λ x. (x, form_procs named numbers x)) (λ x. (x, simple_procs named numbers x)) (λ x. (x, block_procs named numbers x)) (λ x. (x, procedure_procs named numbers x)) (λ x. (x, statement_procs named numbers x)) x)
   unfolding declaration_procs form_procs simple_procs block_procs procedure_procs statement_procs
   procs_proc x = para-roll-RawProc Procs Procs Procs Procs Procs Procs (made.declaration_step named numbers) (made.form_step named numbers) (made.simple_step named numbers) (made.block_step named numbers) (made.procedure_step named numbers) (made.statement_step named numbers) x
 
-  procs_stmt : (x : RawStmt-F RawDecl RawForm RawSimple RawBlock RawProc RawStmt) → statement_procs named numbers (roll-RawStmt x) ≡ made.statement_step named numbers (map-RawStmt RawDecl RawForm RawSimple RawBlock RawProc RawStmt (RawDecl × Procs) (RawForm × Procs) (RawSimple × Procs) (RawBlock × Procs) (RawProc × Procs) (RawStmt × Procs) (λ x. (x, declaration_procs named numbers x)) (λ x. (x, form_procs named numbers x)) (λ x. (x, simple_procs named numbers x)) (λ x. (x, block_procs named numbers x)) (λ x. (x, procedure_procs named numbers x)) (λ x. (x, statement_procs named numbers x)) x)
+  pub procs_stmt : (x : RawStmt-F RawDecl RawForm RawSimple RawBlock RawProc RawStmt) → statement_procs named numbers (roll-RawStmt x) ≡ made.statement_step named numbers (map-RawStmt RawDecl RawForm RawSimple RawBlock RawProc RawStmt (RawDecl × Procs) (RawForm × Procs) (RawSimple × Procs) (RawBlock × Procs) (RawProc × Procs) (RawStmt × Procs) (λ x. (x, declaration_procs named numbers x)) (λ x. (x, form_procs named numbers x)) (λ x. (x, simple_procs named numbers x)) (λ x. (x, block_procs named numbers x)) (λ x. (x, procedure_procs named numbers x)) (λ x. (x, statement_procs named numbers x)) x)
   unfolding declaration_procs form_procs simple_procs block_procs procedure_procs statement_procs
   procs_stmt x = para-roll-RawStmt Procs Procs Procs Procs Procs Procs (made.declaration_step named numbers) (made.form_step named numbers) (made.simple_step named numbers) (made.block_step named numbers) (made.procedure_step named numbers) (made.statement_step named numbers) x
 
@@ -256,7 +256,7 @@ module _ (named : Named) (numbers : Numbers) where
       plain_both numbers (expression_uses a reading.Value) (expression_uses b reading.Value ++ expression_uses c reading.Value) (expression_plain numbers a reading.Value)
       (plain_both numbers (expression_uses b reading.Value) (expression_uses c reading.Value) (expression_plain numbers b reading.Value) (expression_plain numbers c reading.Value))
 
-  felems_plain : (es : List RawFelem) → Plain numbers (felems_facts es)
+  pub felems_plain : (es : List RawFelem) → Plain numbers (felems_facts es)
   felems_plain [] = plain_nothing numbers
   felems_plain (e ∷ es) = plain_both numbers (felem_facts e) (felems_facts es) (felem_plain e) (felems_plain es)
 

@@ -89,7 +89,7 @@ keeps_within : (low high : ℕ) (negative : Bool) (n : RawInt) → Keeps (within
 keeps_within low high negative n =
     keeps_both (int_judged n) (unless (in_range low high negative (place_amount n)) rule.ScaleRange (int_position n)) (keeps_int n) (keeps_unless (in_range low high negative (place_amount n)) rule.ScaleRange (int_position n))
 
-keeps_scale : (f : RawSint) → Keeps (scale_judged f)
+pub keeps_scale : (f : RawSint) → Keeps (scale_judged f)
 keeps_scale f = keeps_within 0 15 (is_negative f.sign) f.value
 
 pub keeps_type : (t : RawType) → Keeps (type_judged t)
@@ -112,7 +112,7 @@ pub keeps_second : (o : Option RawRange) → Keeps (second_judged o)
 keeps_second None = keeps_fine
 keeps_second (Some r) = keeps_range r
 
-keeps_each_wrong : (b : Bool) (ns : List RawName) → Keeps (each_wrong_unless b ns)
+pub keeps_each_wrong : (b : Bool) (ns : List RawName) → Keeps (each_wrong_unless b ns)
 keeps_each_wrong b [] = keeps_fine
 keeps_each_wrong b (n ∷ ns) = keeps_both (unless b rule.BadBounds n.at) (each_wrong_unless b ns) (keeps_unless b rule.BadBounds n.at) (keeps_each_wrong b ns)
 
@@ -121,7 +121,7 @@ keeps_group g =
     keeps_both (range_judged g.bounds.first) (both (second_judged g.bounds.second) (each_wrong_unless (good_bounds g.bounds.first g.bounds.second) g.names)) (keeps_range g.bounds.first)
     (keeps_both (second_judged g.bounds.second) (each_wrong_unless (good_bounds g.bounds.first g.bounds.second) g.names) (keeps_second g.bounds.second) (keeps_each_wrong (good_bounds g.bounds.first g.bounds.second) g.names))
 
-keeps_groups : (gs : List RawGroup) → Keeps (groups_judged gs)
+pub keeps_groups : (gs : List RawGroup) → Keeps (groups_judged gs)
 keeps_groups [] = keeps_fine
 keeps_groups (g ∷ gs) = keeps_both (group_judged g) (groups_judged gs) (keeps_group g) (keeps_groups gs)
 
@@ -141,7 +141,7 @@ keeps_element width (elem.Part n unsigned t f w b) =
     (keeps_both (scale_judged f) (both (int_judged w) (both (int_judged b) last)) (keeps_scale f)
     (keeps_both (int_judged w) (both (int_judged b) last) (keeps_int w) (keeps_both (int_judged b) last (keeps_int b) (keeps_unless test rule.FieldRange n.at))))
 
-keeps_elements : (width : Option ℕ) (es : List RawElem) → Keeps (elements_judged width es)
+pub keeps_elements : (width : Option ℕ) (es : List RawElem) → Keeps (elements_judged width es)
 keeps_elements width [] = keeps_fine
 keeps_elements width (e ∷ es) = keeps_both (element_judged width e) (elements_judged width es) (keeps_element width e) (keeps_elements width es)
 
@@ -230,7 +230,7 @@ keeps_one_kind : (inside behind : Option RawPresets) → Keeps (one_kind inside 
 keeps_one_kind inside None = keeps_fine
 keeps_one_kind inside (Some p) = keeps_unless (is_none inside) rule.BadPreset p.at
 
-keeps_presets : (sites : List (Row Site)) (d : RawData) → Keeps (presets_judged sites d)
+pub keeps_presets : (sites : List (Row Site)) (d : RawData) → Keeps (presets_judged sites d)
 keeps_presets sites (items.Singles t ns p) =
     keeps_both (singles_preset (fraction_of t) ns (places_of p)) (frame_judged (names_framed sites ns) p) (keeps_with_rest (fraction_of t) (places_of p) (behind_each 1 ns (places_of p))) (keeps_frame (names_framed sites ns) p)
 keeps_presets sites (items.Arrays t gs p) =

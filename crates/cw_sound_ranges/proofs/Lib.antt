@@ -1,6 +1,6 @@
 pub mod Parts
 mod Nodes
-mod Operands
+pub mod Operands
 mod Places
 mod Calls
 pub mod Arguments
@@ -10,4 +10,4 @@ mod References
 mod Conditions
 mod Layers
 pub mod Trees
-mod Whole
+pub mod Whole

@@ -49,10 +49,10 @@ factor_keeps s asked f1 f2 = division_keeps (is_division s.op) s asked f1 f2
 
 -- ---- BITS
 
-within_is : (n limit : ℕ) → n ≤ limit → within limit (Some n) ≡ n
+pub within_is : (n limit : ℕ) → n ≤ limit → within limit (Some n) ≡ n
 within_is n limit h = ap (λ b. if b then n else 0) (le_true n limit h)
 
-part_of : (o p : Option ℕ) → IsTrue (is_some o) → IsTrue (is_some p) → IsTrue (is_field o p) → IsTrue (is_part (within 255 o) (within 255 p))
+pub part_of : (o p : Option ℕ) → IsTrue (is_some o) → IsTrue (is_some p) → IsTrue (is_field o p) → IsTrue (is_part (within 255 o) (within 255 p))
 part_of None p h k f = no h
 part_of (Some t) None h k f = no k
 part_of (Some t) (Some b) h k f =
@@ -61,7 +61,7 @@ part_of (Some t) (Some b) h k f =
     let all : t + b ≤ 16 = le_of (t + b) 16 y.1 in
     subst₂ (λ (m n : ℕ). IsTrue (is_part m n)) (sym (within_is t 255 (omega (arith, all)))) (sym (within_is b 255 (omega (arith, all)))) (both_true (nat_le 1 t) (nat_le (t + b) 16) x.0 y.1)
 
-bits_are_part : (b : RawBits) → NoFault (bits_judged b) → IsTrue (is_part (within 255 (place_amount b.size.first)) (within 255 (place_amount b.size.second)))
+pub bits_are_part : (b : RawBits) → NoFault (bits_judged b) → IsTrue (is_part (within 255 (place_amount b.size.first)) (within 255 (place_amount b.size.second)))
 bits_are_part b free =
     let fits : Bool = is_field (place_amount b.size.first) (place_amount b.size.second) in
     let field : Judgement = unless fits rule.FieldRange b.at in

@@ -2,6 +2,7 @@ pub mod Declarations
 pub mod Keeping
 pub mod Parts
 pub mod Nodes
+pub mod Induction
 pub mod Trees
 pub mod InBodies
 pub mod SameBodies

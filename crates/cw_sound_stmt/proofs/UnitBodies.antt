@@ -35,16 +35,16 @@ use Rattle.cw_sound_stmt.proofs.InBodies.{bodies_are_right}
 use Rattle.cw_sound_stmt.proofs.SameBodies.{bodies_are_same}
 
 module _ (named : Named) (numbers : Numbers) (u : SourceUnit) where
-  abbrev made : Body → Stmt
+  abbrev pub made : Body → Stmt
   made x = statement_of named numbers x.statement
 
   -- procedures from a number on, each with its body
-  abbrev Paired : ℕ → List Proc → Bodies → Type 0
+  abbrev pub Paired : ℕ → List Proc → Bodies → Type 0
   Paired n [] [] = Unit {0}
   Paired n (q ∷ qs) (x ∷ xs) = (q.body ≡ made x) × (proc_within numbers (Some x.token) None ≡ Some n) × Paired (suc n) qs xs
   Paired n _ _ = ⊥
 
-  paired : (n : ℕ) (qs : List Proc) (xs : Bodies) → map (λ (q : Proc). q.body) qs ≡ map made xs → Counted numbers n xs → Paired n qs xs
+  pub paired : (n : ℕ) (qs : List Proc) (xs : Bodies) → map (λ (q : Proc). q.body) qs ≡ map made xs → Counted numbers n xs → Paired n qs xs
   paired n [] [] e c = tt
   paired n [] (x ∷ xs) e c = absurd (cc)
   paired n (q ∷ qs) [] e c = absurd (cc)

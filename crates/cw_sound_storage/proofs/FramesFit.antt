@@ -1,5 +1,5 @@
 -- Each frame of a text's unit has room: its families are those of the things of one procedure.
-use Rattle.std.proofs.Common.{◌≡◌, ◌⊎◌, inl, inr, ℕ, suc, ◌+◌, ◌<◌, ◌≤◌, List, [], ◌∷◌, Bool, true, false, ◌&&◌, cond, Option, Some, None, is_some, slice_get, refl, sym, ap, subst, ◌∙◌, arith, eqb-true}
+use Rattle.std.proofs.Common.{◌≡◌, ◌⊎◌, inl, inr, ℕ, suc, ◌+◌, ◌≤◌, List, [], ◌∷◌, Bool, true, false, ◌&&◌, cond, Option, Some, None, is_some, slice_get, refl, sym, ap, subst, ◌∙◌, arith, eqb-true}
 use Rattle.std.proofs.lemmas.Option.{none-some, same_Some}
 use Rattle.cw_items.specs.declared.thing.Owner.{Owner}
 use Rattle.cw_items.specs.declared.thing.Base.{Base}
@@ -194,7 +194,7 @@ module _ (named : Named) (rising : HasRisingTokens named.raw.now) (bases : Bases
           one_token named (numbers_of named) x.owner.token first.owner.token (counted i t x.owner e x.owned) (counted p.0 p.1 first.owner p.2 first.owned) (x.number ∙ sym first.number) in
           root_only (things_of named) rise free i t first.owner.token e x.baseless (x.frame ∙ ap Some same)))
 
-      pub fits : frame_size (unit_of named) q < 65536
+      pub fits : frame_size (unit_of named) q ≤ 32768
       fits =
           let most = total_within (first_pick (things_of named)) in
           let sum : frame_size (unit_of named) q ≤ total known.extents (picks (things_of named)) =

@@ -53,7 +53,8 @@ module _ (u : SourceUnit) (stands : StorageStands u) (owned : FramesOwned u) (fi
   frames_true : (q : ℕ) (ps : List Proc) → q + length ps ≤ length u.procs → IsTrue (are_frames u q ps)
   frames_true q [] few = refl
   frames_true q (p ∷ ps) few =
-      and_true (nat_lt (frame_size u q) 65536) (are_frames u (suc q) ps) (lt_true (frame_size u q) 65536 (fit q (omega (arith, few)))) (frames_true (suc q) ps (omega (arith, few)))
+      let most = fit q (omega (arith, few)) in
+      and_true (nat_lt (frame_size u q) 65536) (are_frames u (suc q) ps) (lt_true (frame_size u q) 65536 (omega (arith, most))) (frames_true (suc q) ps (omega (arith, few)))
 
   pub passes : IsTrue (is_stored u)
   passes =

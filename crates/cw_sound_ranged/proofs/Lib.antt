@@ -1,0 +1,8 @@
+mod Parts
+mod Nodes
+mod Trees
+mod Procedures
+mod Sizes
+mod Facts
+mod Declarations
+mod Declared
