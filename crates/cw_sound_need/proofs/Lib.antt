@@ -1,0 +1,7 @@
+mod Nodes
+mod Rules
+mod Calls
+mod Layers
+mod Trees
+mod Texts
+mod Units
