@@ -1,0 +1,201 @@
+-- The bytes of the orders of expressions and statements, whatever their numbers.
+use Rattle.std.proofs.Common.{ℕ, zero, suc, ◌+◌, ◌-◌, ◌*◌, ◌^◌, ◌≤◌, ◌==◌, nat_le, nat_lt, if◌then◌else◌, ℤ, pos, negsuc, List, [], ◌∷◌, ◌++◌, length, Bool, true, false, Option, Some, None, slice_get, slice_index_or, arith}
+use Rattle.cw_order.specs.declared.order.Order.{Order}
+use Rattle.cw_order.specs.declared.order.Order.TheVariants as order
+use Rattle.cw_unit.specs.declared.layout.Layout.{Layout}
+use Rattle.cw_unit.specs.declared.layout.Family.{Family}
+use Rattle.cw_unit.specs.declared.layout.Sort.{Sort}
+use Rattle.cw_unit.specs.declared.layout.Sort.TheVariants as sort
+use Rattle.cw_unit.specs.declared.unit.Unit.{Unit as SourceUnit}
+use Rattle.cw_unit.specs.declared.unit.Field.{Field}
+use Rattle.cw_unit.specs.declared.unit.Label.{Label}
+use Rattle.cw_unit.specs.declared.unit.LogicOp.{LogicOp}
+use Rattle.cw_unit.specs.declared.unit.LogicOp.TheVariants as logic
+use Rattle.cw_unit.specs.declared.unit.Param.{Param}
+use Rattle.cw_unit.specs.declared.unit.Param.TheVariants as param
+use Rattle.cw_unit.specs.declared.unit.Target.{Target}
+use Rattle.cw_unit.specs.declared.unit.Target.TheVariants as target
+use Rattle.cw_unit.specs.declared.unit.Goal.{Goal}
+use Rattle.cw_unit.specs.declared.unit.Goal.TheVariants as goal
+use Rattle.cw_gen_expr.specs.ReferenceExpressions.{Scope, argument_words, placed_by, placed_in, item_order, table_orders, bounds_orders, load_orders, store_orders, rescale_orders, logic_order, call_order, label_order}
+use Rattle.cw_gen_expr.specs.ReferenceEntries.{bound_by, bound_in, bound_order, parameter_orders, bind_orders}
+use Rattle.cw_gen_expr.specs.UnitTables.{label_mark}
+use Rattle.cw_gen_unit.specs.ReferenceStatements.{after_statement_call, from_procedure, own_order, goal_order, number_orders, set_orders, variable_orders, bump_orders}
+use Rattle.cw_tmpl.specs.Templates.{times_size, listed_size, listed_sizes}
+use Rattle.cw_size.proofs.Short.{sizes-append}
+
+-- ---- items
+
+pub item-short : (y : Layout) (i n : ℕ) → listed_size (item_order y i n) ≤ 7
+item-short y i n = at_family (slice_get y.families (slice_index_or y.homes i (0, 0)).0) (slice_index_or y.homes i (0, 0)).0 ((slice_index_or y.homes i (0, 0)).1 + n)
+  where
+    at_sort : (k : Sort) (f o : ℕ) → listed_size (placed_by k f o) ≤ 7
+    at_sort (sort.Frame base) f o = omega arith
+    at_sort (sort.Common d) f o = omega arith
+    at_sort sort.Own f o = omega arith
+    at_sort (sort.Absolute a) f o = omega arith
+
+    at_family : (x : Option Family) (f o : ℕ) → listed_size (placed_in x f o) ≤ 7
+    at_family None f o = omega arith
+    at_family (Some x) f o = at_sort x.sort f o
+
+-- behind the address of an item
+pub item-first : (y : Layout) (i n : ℕ) (os : List Order) (most : ℕ) → listed_sizes os ≤ most → listed_sizes (item_order y i n ∷ os) ≤ 7 + most
+item-first y i n os most h = let e = item-short y i n in let z : listed_size (item_order y i n) + listed_sizes os ≤ 7 + most = omega (arith, e, h) in z
+
+pub table-short : (y : Layout) (t : Bool) (i : ℕ) → listed_sizes (table_orders y t i) ≤ 13
+table-short y true i = item-first y i 0 (order.Load ∷ []) 6 (let z : 6 + 0 ≤ 6 = omega arith in z)
+table-short y false i = item-first y i 0 [] 6 (let z : 0 ≤ 6 = omega arith in z)
+
+-- ---- parts, bounds and scales
+
+pub bounds-short : (c : Bool) (l h : ℤ) → listed_sizes (bounds_orders c l h) ≤ 20
+bounds-short true l h = omega arith
+bounds-short false l h = omega arith
+
+pub load-short : (o : Option Field) → listed_sizes (load_orders o) ≤ 16
+load-short None = omega arith
+load-short (Some s) = omega arith
+
+pub store-short : (o : Option Field) → listed_sizes (store_orders o) ≤ 27
+store-short None = omega arith
+store-short (Some s) = omega arith
+
+pub times-short : (n : ℕ) → times_size n ≤ 12
+times-short n = picked (n == 32768)
+  where
+    picked : (b : Bool) → (if b then 12 else 10) ≤ 12
+    picked true = omega arith
+    picked false = omega arith
+
+one-rescale : (from to : ℕ) → listed_size (order.Rescale from to) ≤ 12
+one-rescale from to = picked (nat_le from to) (times_size (2 ^ (to - from))) (times-short (2 ^ (to - from)))
+  where
+    picked : (b : Bool) (n : ℕ) → n ≤ 12 → (if b then n else 5) ≤ 12
+    picked true n h = h
+    picked false n h = omega arith
+
+pub rescale-short : (from to : ℕ) → listed_sizes (rescale_orders from to) ≤ 12
+rescale-short from to = picked (from == to)
+  where
+    picked : (b : Bool) → listed_sizes (if b then [] else (order.Rescale from to ∷ [])) ≤ 12
+    picked true = omega arith
+    picked false = let h = one-rescale from to in let z : listed_size (order.Rescale from to) + 0 ≤ 12 = omega (arith, h) in z
+
+pub logic-short : (op : LogicOp) → listed_size (logic_order op) ≤ 3
+logic-short logic.Mask = omega arith
+logic-short logic.Union = omega arith
+logic-short logic.Differ = omega arith
+
+pub product-short : (z : ℤ) → listed_size (order.Mul z) ≤ 20
+product-short (pos zero) = omega arith
+product-short (pos (suc n)) = let h = times-short (2 ^ suc n) in let z : times_size (2 ^ suc n) + 8 ≤ 20 = omega (arith, h) in z
+product-short (negsuc n) = picked (nat_lt n 15)
+  where
+    picked : (b : Bool) → (if b then 9 else 10) ≤ 20
+    picked true = omega arith
+    picked false = omega arith
+
+-- ---- calls and jumps
+
+pub call-short : (s : Scope) (t : Target) → listed_size (call_order s t) ≤ 19
+call-short s (target.Own q) = omega arith
+call-short s (target.Common d) = omega arith
+call-short s (target.Special k f) = omega arith
+call-short s target.Read = omega arith
+call-short s target.Write = omega arith
+
+pub after-short : (t : Target) → listed_sizes (after_statement_call t) ≤ 1
+after-short (target.Own q) = omega arith
+after-short (target.Common d) = omega arith
+after-short (target.Special k f) = omega arith
+after-short target.Read = omega arith
+after-short target.Write = omega arith
+
+pub label-short : (s : Scope) (g : Goal) → listed_size (label_order s g) ≤ 5
+label-short s (goal.Own l) = omega arith
+label-short s (goal.Common d) = omega arith
+
+from-short : (x : Option Label) (m : ℕ) → listed_size (from_procedure x m) ≤ 15
+from-short None m = omega arith
+from-short (Some x) m = by_owner x.proc
+  where
+    by_owner : (o : Option ℕ) → listed_size (elim o [ None ↦ order.GoMain m | Some q ↦ order.Jump m ]) ≤ 15
+    by_owner None = omega arith
+    by_owner (Some q) = omega arith
+
+own-short : (who : Option ℕ) (x : Option Label) (m : ℕ) → listed_size (own_order who x m) ≤ 15
+own-short None x m = omega arith
+own-short (Some q) x m = from-short x m
+
+pub goal-short : (u : SourceUnit) (who : Option ℕ) (g : Goal) → listed_size (goal_order u who g) ≤ 15
+goal-short u who (goal.Own l) = own-short who (slice_get u.labels l) (label_mark u l)
+goal-short u who (goal.Common d) = omega arith
+
+-- ---- FOR
+
+pub number-short : (y : Layout) (item i : ℕ) → listed_sizes (number_orders y item i) ≤ 19
+number-short y item i = let e = item-short y item 3 in let z : 4 + (listed_size (item_order y item 3) + (8 + 0)) ≤ 19 = omega (arith, e) in z
+
+pub set-short : (y : Layout) (item : ℕ) → listed_sizes (set_orders y item) ≤ 31
+set-short y item = let e = item-short y item 0 in let z : listed_size (item_order y item 0) + (6 + (10 + (8 + 0))) ≤ 31 = omega (arith, e) in z
+
+pub variable-short : (y : Layout) (item : ℕ) → listed_sizes (variable_orders y item) ≤ 29
+variable-short y item = let e = item-short y item 0 in let z : listed_size (item_order y item 0) + (6 + (10 + (6 + 0))) ≤ 29 = omega (arith, e) in z
+
+pub bump-short : (y : Layout) (item : ℕ) → listed_sizes (bump_orders y item) ≤ 71
+bump-short y item =
+    let os : List Order = item_order y item 1 ∷ order.Load ∷ order.Add ∷ item_order y item 0 ∷ order.Load ∷ order.Store ∷ [] in
+    let a = item-short y item 0 in
+    let b = item-short y item 1 in
+    let v = variable-short y item in
+    let all = sizes-append (variable_orders y item) os in
+    let rest : listed_size (item_order y item 1) + (6 + (8 + (listed_size (item_order y item 0) + (6 + (8 + 0))))) ≤ 42 = omega (arith, a, b) in
+    let z : listed_sizes (variable_orders y item ++ os) ≤ 71 = omega (arith, all, v, rest) in
+    z
+
+pub turn-short : (y : Layout) (item body mark : ℕ) → listed_sizes (variable_orders y item ++ item_order y item 0 ∷ order.Exhausted mark ∷ order.Jump body ∷ []) ≤ 68
+turn-short y item body mark =
+    let os : List Order = item_order y item 0 ∷ order.Exhausted mark ∷ order.Jump body ∷ [] in
+    let a = item-short y item 0 in
+    let v = variable-short y item in
+    let all = sizes-append (variable_orders y item) os in
+    let rest : listed_size (item_order y item 0) + (29 + (3 + 0)) ≤ 39 = omega (arith, a) in
+    let z : listed_sizes (variable_orders y item ++ os) ≤ 68 = omega (arith, all, v, rest) in
+    z
+
+-- ---- parameters
+
+bound-short : (y : Layout) (k i : ℕ) → listed_size (bound_order y k i) ≤ 13
+bound-short y k i = at_family (slice_get y.families (slice_index_or y.homes i (0, 0)).0) (slice_index_or y.homes i (0, 0)).0 (slice_index_or y.homes i (0, 0)).1
+  where
+    at_sort : (x : Sort) (f o : ℕ) → listed_size (bound_by k x f o) ≤ 13
+    at_sort (sort.Frame base) f o = omega arith
+    at_sort (sort.Common d) f o = omega arith
+    at_sort sort.Own f o = omega arith
+    at_sort (sort.Absolute a) f o = omega arith
+
+    at_family : (x : Option Family) (f o : ℕ) → listed_size (bound_in k x f o) ≤ 13
+    at_family None f o = omega arith
+    at_family (Some x) f o = at_sort x.sort f o
+
+one-bound : (y : Layout) (k i : ℕ) → listed_sizes (bound_order y k i ∷ []) ≤ 13
+one-bound y k i = let e = bound-short y k i in let z : listed_size (bound_order y k i) + 0 ≤ 13 = omega (arith, e) in z
+
+parameter-short : (y : Layout) (q : Param) (k : ℕ) → listed_sizes (parameter_orders y q k) ≤ 13
+parameter-short y (param.Value i s) k = one-bound y k i
+parameter-short y (param.Location i s) k = one-bound y k i
+parameter-short y (param.Array i s) k = one-bound y k i
+parameter-short y (param.Table i n) k = one-bound y k i
+parameter-short y (param.Label j) k = omega arith
+parameter-short y (param.Switch j) k = omega arith
+parameter-short y (param.Proc j s) k = omega arith
+
+pub bind-short : (y : Layout) (qs : List Param) → listed_sizes (bind_orders y qs) ≤ 13 * length qs
+bind-short y [] = omega arith
+bind-short y (q ∷ qs) =
+    let a = parameter-short y q (argument_words qs) in
+    let b = bind-short y qs in
+    let all = sizes-append (parameter_orders y q (argument_words qs)) (bind_orders y qs) in
+    let z : listed_sizes (parameter_orders y q (argument_words qs) ++ bind_orders y qs) ≤ 13 * suc (length qs) = omega (arith, a, b, all) in
+    z

@@ -1,0 +1,46 @@
+-- Pieces whose orders have few bytes, wherever they stand.
+use Rattle.std.proofs.Common.{◌≡◌, ℕ, ◌+◌, ◌≤◌, List, [], ◌∷◌, ◌++◌, length, arith}
+use Rattle.cw_order.specs.declared.order.Order.{Order}
+use Rattle.cw_order.specs.declared.order.Order.TheVariants as order
+use Rattle.cw_gen_expr.specs.Pieces.{Piece, plain, followed_by, with_end, with_labels}
+use Rattle.cw_tmpl.specs.Templates.{listed_sizes}
+
+pub sizes-append : (xs ys : List Order) → listed_sizes (xs ++ ys) ≡ listed_sizes xs + listed_sizes ys
+sizes-append [] ys = omega arith
+sizes-append (x ∷ xs) ys = omega (arith, sizes-append xs ys)
+
+-- the orders have at most so many bytes, even with some to spare
+pub record Short (p : Piece) (spare most : ℕ) : Type 0 where
+  pub at : (place next : ℕ) → listed_sizes (p place next).orders + spare ≤ most
+
+pub plainly : (os : List Order) (most : ℕ) → listed_sizes os ≤ most → Short (plain os) 0 most
+plainly os most h = record { at = λ place next. (let z : listed_sizes os + 0 ≤ most = omega (arith, h) in z) }
+
+pub both_short : {a b : Piece} {k l m n : ℕ} → Short a k m → Short b l n → Short (followed_by a b) (k + l) (m + n)
+both_short {a = a} {b = b} {k = k} {l = l} {m = m} {n = n} h g = record {
+  at = λ place next.
+      (let x = a place next in
+      let y = b (place + length x.orders) (next + length x.marks) in
+      let all = sizes-append x.orders y.orders in
+      let first = h.at place next in
+      let second = g.at (place + length x.orders) (next + length x.marks) in
+      let z : listed_sizes (x.orders ++ y.orders) + (k + l) ≤ m + n = omega (arith, all, first, second) in z);
+}
+
+pub ended_short : {k m : ℕ} (body : ℕ → Piece) → ((mark : ℕ) → Short (body mark) k m) → Short (with_end body) k m
+ended_short {k = k} {m = m} body h = record {
+  at = λ place next.
+      (let x = body next place (next + 1) in
+      let all = sizes-append x.orders (order.Mark ∷ []) in
+      let first = (h next).at place (next + 1) in
+      let z : listed_sizes (x.orders ++ order.Mark ∷ []) + k ≤ m = omega (arith, all, first) in z);
+}
+
+pub labels_short : (ls : List ℕ) → Short (with_labels ls) 0 0
+labels_short ls = record { at = λ place next. (let z : 0 + 0 + 0 ≤ 0 = omega arith in z) }
+
+-- more bytes, or fewer to spare
+pub eased : {p : Piece} {k l m n : ℕ} → Short p k m → m + l ≤ n + k → Short p l n
+eased {p = p} {k = k} {l = l} {m = m} {n = n} h le = record {
+  at = λ place next. (let first = h.at place next in let z : listed_sizes (p place next).orders + l ≤ n = omega (arith, first, le) in z);
+}

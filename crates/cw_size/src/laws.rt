@@ -1,0 +1,31 @@
+//! The code of a unit is short by the tokens that a text of it has at least: each law is a function without a body, whose contract is the law.
+ghost use Rattle.std.specs.Prelude.{ℕ, ◌+◌, ◌*◌, ◌≤◌, Option, length};
+ghost use Rattle.cw_unit.specs.declared.unit.Unit.{Unit as SourceUnit};
+ghost use Rattle.cw_unit.specs.declared.unit.Expr.{Expr};
+ghost use Rattle.cw_unit.specs.declared.unit.Stmt.{Stmt};
+ghost use Rattle.cw_tokens.specs.LeastTokens.{expression_tokens, statement_tokens, least_tokens};
+ghost use Rattle.cw_tmpl.specs.Templates.{listed_sizes};
+ghost use Rattle.cw_tmpl.specs.ReferenceCode.{orders_code, switch_sizes};
+ghost use Rattle.cw_gen_expr.specs.ReferenceExpressions.{Scope, expression_piece};
+ghost use Rattle.cw_gen_unit.specs.ReferenceStatements.{statement_piece};
+ghost use Rattle.cw_gen_unit.specs.ReferenceUnits.{unit_orders};
+ghost use Rattle.cw_tokens.specs.SetLabels.{set_labels, LabelsStand};
+
+use cw_tmpl::laws::sizes;
+
+/// The orders of an expression, at whatever scale, have at most 64 bytes for each of its tokens.
+pub fn short_expressions()
+    ensures { (s : Scope) (e : Expr) (f place next : ℕ) → listed_sizes (expression_piece s e f place next).orders ≤ 64 * expression_tokens e }
+{}
+
+/// The orders of a statement, with the landings of the labels that it sets, have at most 64 bytes for each of its tokens.
+pub fn short_statements()
+    ensures { (s : Scope) (who : Option ℕ) (answer : ℕ) (t : Stmt) (place next : ℕ) → listed_sizes (statement_piece s who answer t place next).orders + 15 * set_labels t ≤ 64 * statement_tokens t }
+{}
+
+/// The code of a unit whose labels stand in its bodies has at most 64 bytes for each token that a text of it has at least.
+pub fn short_code()
+    ensures { (u : SourceUnit) → LabelsStand u → length (orders_code (unit_orders u)).bytes ≤ 64 * least_tokens u }
+{
+    sizes();
+}

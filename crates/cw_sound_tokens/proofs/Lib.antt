@@ -1,0 +1,9 @@
+mod Nodes
+mod Parts
+mod Operands
+mod Primaries
+mod Layers
+mod Expressions
+mod StatementNodes
+mod StatementLayers
+mod Statements
