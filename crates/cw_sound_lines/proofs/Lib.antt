@@ -1,0 +1,6 @@
+mod Counts
+mod Layers
+mod Good
+mod Trees
+mod Rules
+mod Texts
