@@ -1,0 +1,5 @@
+mod Homes
+mod Segment
+mod Descriptors
+mod Texts
+mod Titles
