@@ -1,0 +1,64 @@
+//! Laws of the units of texts: each is a function without a body, whose contract is the law.
+ghost use Rattle.std.specs.Prelude.{ℕ, ◌*◌, ◌≤◌, List, length};
+ghost use Rattle.cw_tree.specs.declared.segment.Raw.{Raw};
+ghost use Rattle.cw_unit.specs.declared.unit.Unit.{Unit as SourceUnit};
+ghost use Rattle.cw_compile.specs.Texts.{HasTree, IsUnitOf};
+ghost use Rattle.cw_sound_text.specs.Compilable.{code_of, IsCompilable};
+ghost use Rattle.cw_sound.specs.TreeFits.{TreeFits};
+
+use cw_coded::laws::coded;
+use cw_compile::laws::one_outcome;
+use cw_counted::laws::tokens_counted;
+use cw_size::laws::short_code;
+use cw_sound::laws::{items_declared, unit_built, unit_formed};
+use cw_sound_items::laws::{descriptors_named, items_stand};
+use cw_sound_labels::laws::labels_set;
+use cw_sound_need::laws::need_fits;
+use cw_sound_ranged::laws::unit_ranged;
+use cw_sound_regular::laws::regular;
+use cw_sound_storage::laws::{definitions_met, stored};
+use cw_sound_tokens::laws::unit_counted;
+use cw_sound_tree::laws::{items_derived, placed, within_levels};
+use cw_spelled::laws::spelled;
+
+/// The tree of a text is as the laws of its unit ask.
+pub fn text_trees()
+    ensures { (text : List ℕ) (raw : Raw) → HasTree text raw → TreeFits raw }
+{
+    one_outcome();
+    spelled();
+    tokens_counted();
+    regular();
+    within_levels();
+    items_derived();
+    placed();
+}
+
+/// Each unit of a text can be compiled.
+pub fn text_units()
+    ensures { (text : List ℕ) (u : SourceUnit) → IsUnitOf text u → IsCompilable u }
+{
+    text_trees();
+    items_derived();
+    items_stand();
+    items_declared();
+    descriptors_named();
+    stored();
+    definitions_met();
+    unit_formed();
+    unit_built();
+    unit_ranged();
+    coded();
+    need_fits();
+}
+
+/// The code of a text's unit has at most 64 bytes for each token of the text.
+pub fn text_sizes()
+    ensures { (text : List ℕ) (u : SourceUnit) → IsUnitOf text u → length (code_of u).bytes ≤ 64 * u.tokens }
+{
+    one_outcome();
+    tokens_counted();
+    unit_counted();
+    labels_set();
+    short_code();
+}
