@@ -1,0 +1,7 @@
+pub mod Back
+pub mod ExpressionLayers
+pub mod Expressions
+pub mod Leaves
+pub mod Reading
+pub mod Simple
+pub mod Stays
