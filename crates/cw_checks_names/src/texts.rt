@@ -1,5 +1,6 @@
 //! Texts with the declaration of each use of a name, or the first fault of their names, by hand from the rules of scope.
 use crate::outcome::outcome;
+use cw_checks_base::rows::text_of;
 use std::alloc::{AllocError, Global};
 use std::test::Fail;
 
@@ -192,37 +193,6 @@ tLIBRARY (PROCEDURE READBYTE);^COMMON (INTEGER X, X); SEGMENT A BEGIN END FINISH
 tCOMMON (INTEGER X, X);^LIBRARY (PROCEDURE READBYTE); SEGMENT A BEGIN END FINISH?Twice X 1
 bDEFINE M "X := 1";^^M?Undeclared X 3
 bINTEGER X;^DEFINE M "X := X";^M?X 3>1|X 3>1|"#;
-
-fn push_text(text: &mut Vec<u8>, given: &[u8]) -> Result<(), AllocError> {
-    for byte in given {
-        text.push(if *byte == b'^' { b'\n' } else { *byte })?;
-    }
-    Ok(())
-}
-
-fn front(form: u8) -> &'static [u8] {
-    match form {
-        b'b' => b"SEGMENT A BEGIN ",
-        b'l' =>
-            b"LIBRARY (INTEGER PROCEDURE READBYTE; PROCEDURE WRITEBYTE(VALUE INTEGER)); SEGMENT A BEGIN ",
-        _ => b"",
-    }
-}
-
-fn back(form: u8) -> &'static [u8] {
-    match form {
-        b'b' | b'l' => b" END FINISH",
-        _ => b"",
-    }
-}
-
-fn text_of(alloc: Global, form: u8, given: &[u8]) -> Result<Vec<u8>, AllocError> {
-    let mut text = Vec::new(alloc);
-    text.extend_from_slice(front(form))?;
-    push_text(&mut text, given)?;
-    text.extend_from_slice(back(form))?;
-    Ok(text)
-}
 
 // Whether what is told of a row comes of it.
 fn holds(alloc: Global, row: &str) -> Result<bool, AllocError> {
