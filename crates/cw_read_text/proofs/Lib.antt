@@ -1,0 +1,10 @@
+mod Spelled
+mod Plain
+mod Tokens
+mod Bracketed
+mod Operands
+mod Good
+mod Expressions
+mod Items
+mod Statements
+mod Texts
