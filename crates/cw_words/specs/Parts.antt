@@ -1,5 +1,5 @@
 -- What the words of the command line mean.
-use Rattle.std.specs.Prelude.{ℕ, ◌≤◌, ◌==◌, ◌&&◌, not, Bool, List, [], map, length, nat_eq, slice_index, slice_index_or, Option, None, Some, codes, if◌then◌else◌, nat_le, option_and_then}
+use Rattle.std.specs.Prelude.{◌≡◌, ℕ, ◌≤◌, ◌==◌, ◌&&◌, not, Bool, List, [], map, length, nat_eq, slice_index, slice_index_or, Option, None, Some, codes, if◌then◌else◌, nat_le, option_and_then}
 use Rattle.std.specs.Str.{bytes_eq}
 use Rattle.std.specs.Str.Parse.{digits_value, without_leading_plus}
 use Rattle.clap.specs.Walk.{Row, Text, first_of, all_of}
@@ -94,10 +94,12 @@ command_parts command = record {
   copies = command.copies;
 }
 
--- the ranges of the numbers of a command, and of how many WORDs it has
+-- the ranges of the numbers of a command, of how many WORDs it has, and of how many texts `big` makes by the first of them
 pub record InRange (command : Command) : Type 0 where
   pub area : (1 ≤ command.area) × (command.area ≤ 32768)
   pub frames : command.frames ≤ command.area
   pub depth : (1 ≤ command.depth) × (command.depth ≤ 4096)
   pub steps : (1 ≤ command.steps) × (command.steps ≤ 1000000000000)
   pub names : (least_names command.action ≤ length command.names.items) × (length command.names.items ≤ most_names command.action)
+  pub copies : copies_of command.action (map (λ name. name.now) command.names.items) ≡ Some command.copies
+  pub made : command.action ≡ Big → (1 ≤ command.copies) × (command.copies ≤ 100)

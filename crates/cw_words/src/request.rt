@@ -68,7 +68,7 @@ fn names_in<'a, 'b>(matches: &'b ArgMatches<'a>) -> Option<&'b [&'a str]>
 #[tactic(auto, unfolding(crate::specs::Parts::copies_in))]
 fn copies_by(text: &str) -> Option<u64>
     ensures copies { result ≡ copies_in text.now }
-    ensures in_range { IfSome result (λ n. n ≤ 100) }
+    ensures in_range { IfSome result (λ n. (1 ≤ n) × (n ≤ 100)) }
 {
     let bytes = text.as_bytes();
     if bytes.len() > 3 {
@@ -85,6 +85,7 @@ fn copies_by(text: &str) -> Option<u64>
 fn copies_for(action: Action, names: &[&str]) -> Option<u64>
     ensures copies { result ≡ copies_of action (map (λ name. name.now) names.now) }
     ensures in_range { IfSome result (λ n. n ≤ 100) }
+    ensures made { IfSome result (λ n. action ≡ Action.Big → 1 ≤ n) }
 {
     match action {
         Action::Big => match names.first() {
