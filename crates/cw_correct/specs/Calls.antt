@@ -1,11 +1,10 @@
 -- A call of the command: its words, and what is outside before and after it.
-use Rattle.std.specs.Prelude.{◌≡◌, ℕ, List, map, Option, None, Some}
+use Rattle.std.specs.Prelude.{◌≡◌, ℕ, List, [], map, Option, slice_index_or}
 use Rattle.cw_io.specs.Count.{Rose}
 use Rattle.cw_io.specs.File.{Told}
 use Rattle.cw_unit.specs.declared.layout.Limits.{Limits}
-use Rattle.cw_words.specs.Parts.{Parts, parts_of}
+use Rattle.cw_words.specs.Parts.{Parts}
 use Rattle.cw_words.specs.declared.action.Action.{Action}
-use Rattle.cw_words.specs.declared.action.Action.TheVariants.{Big}
 
 -- ---- what is outside
 
@@ -46,21 +45,13 @@ call_as action limits steps names before after = record { action = action; limit
 abbrev pub call_of : Parts → (before after : Surroundings) → Call
 call_of parts before after = call_as parts.action (limits_of parts) parts.steps parts.names before after
 
--- What the words ask for, where they are a command that is built: `big` is none so far.
-abbrev pub unless_big : Action → Parts → Option Parts
-unless_big Big parts = None
-unless_big action parts = Some parts
-
-abbrev pub if_built : Option Parts → Option Parts
-if_built None = None
-if_built (Some parts) = unless_big parts.action parts
-
-abbrev pub request_of : (words : List (List ℕ)) → Option Parts
-request_of words = if_built (parts_of words)
-
 -- what the store tells of the files
 abbrev pub told_files : Call → List Told
 told_files c = map c.before.files c.names
+
+-- the name of the first file
+abbrev pub first_name : Call → List ℕ
+first_name c = slice_index_or c.names 0 []
 
 -- no count of faults or absences rose
 pub record NoFault (before after : Surroundings) : Type 0 where

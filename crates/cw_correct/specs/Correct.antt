@@ -3,12 +3,13 @@ use Rattle.std.specs.Prelude.{◌≡◌, ◌≢◌, ◌⊎◌, ℕ, List, [], ma
 use Rattle.cw_io.specs.File.{AllStay}
 use Rattle.cw_cpu86.specs.Ports.{AreBytes}
 use Rattle.cw_ports.specs.Running.{IsInput}
-use Rattle.cw_words.specs.Parts.{Parts}
+use Rattle.cw_words.specs.Parts.{Parts, parts_of, copies_in}
 use Rattle.cw_words.specs.declared.action.Action.{Action}
 use Rattle.cw_words.specs.declared.action.Action.TheVariants.{Go, Compile, Link, Exec, List as Show, Map, Migrate, Big}
-use Rattle.cw_correct.specs.Calls.{Surroundings, Call, call_of, request_of, told_files, NoFault, IsUntouched, IsUnwritten}
+use Rattle.cw_correct.specs.Calls.{Surroundings, Call, call_of, told_files, first_name, NoFault, IsUntouched, IsUnwritten}
 use Rattle.cw_correct.specs.Saying.{SaysLast}
 use Rattle.cw_correct.specs.Going.{GoesRight}
+use Rattle.cw_correct.specs.Making.{MakesRight}
 use Rattle.cw_correct.specs.Executing.{ExecutesRight}
 use Rattle.cw_correct.specs.Results.{MapsRight, ShowsRight, CompilesRight, LinksRight, MigratesRight}
 use Rattle.cw_say.specs.declared.status.Status.{Status}
@@ -35,7 +36,7 @@ CorrectAs Exec c input status = ExecutesRight c input status
 CorrectAs Show c input status = ShowsRight c status
 CorrectAs Map c input status = MapsRight c status
 CorrectAs Migrate c input status = MigratesRight c status
-CorrectAs Big c input status = ⊥
+CorrectAs Big c input status = (copies : ℕ) × (copies_in (first_name c) ≡ Some copies) × MakesRight copies c input status
 
 -- over this input
 abbrev pub Correct : Call → (input : List ℕ) → Status → Type 0
@@ -51,7 +52,7 @@ IsCorrectRequest None before after status = DoesNothing before after status
 IsCorrectRequest (Some parts) before after status = IsCorrectCall (call_of parts before after) status
 
 abbrev pub IsCorrect : (words : List (List ℕ)) → (before after : Surroundings) → Status → Type 0
-IsCorrect words before after status = IsCorrectRequest (request_of words) before after status
+IsCorrect words before after status = IsCorrectRequest (parts_of words) before after status
 
 -- ---- one status
 

@@ -1,4 +1,4 @@
--- What `go` promises: the image of the files' texts runs, and shows what they mean.
+-- What the actions promise that run texts: the image of the texts runs, and shows what they mean.
 use Rattle.std.specs.Prelude.{◌≡◌, ◌≢◌, ℕ, ◌+◌, ◌*◌, ◌<◌, List, [], ◌∷◌, length, map, sum, slice_get}
 use Rattle.cw_io.specs.Count.{Rose}
 use Rattle.cw_io.specs.File.{AllStay}
@@ -68,9 +68,13 @@ GoComes c texts us status = AllAccepted c us × Links us c.limits
 abbrev pub names_of : List SourceUnit → List (List ℕ)
 names_of us = map (λ u. u.name) us
 
--- A call of `go` that answers with this status, over this input: for the texts of its files and their units, and for the instructions that the image ran and what
--- showed of them.
-pub record GoesRight (c : Call) (input : List ℕ) (status : Status) : Type 0 where
+-- what is said of units before their image runs
+abbrev pub Telling : Type 0
+Telling = List SourceUnit → List ℕ
+
+-- A call that runs texts and answers with this status, over this input: for the texts of its files and their units, and for the instructions that the image ran
+-- and what showed of them.
+pub record RunsTexts (telling : Telling) (c : Call) (input : List ℕ) (status : Status) : Type 0 where
   pub texts : List (List ℕ)
   pub units : List SourceUnit
   pub instructions : ℕ
@@ -78,7 +82,7 @@ pub record GoesRight (c : Call) (input : List ℕ) (status : Status) : Type 0 wh
   pub have_texts : HaveBytes text_limit (told_files c) texts
   pub have_units : HaveValues HasUnit texts units
   pub comes : GoComes c texts units status
-  pub listing_first : SaysFirst c.before c.after (map_text units c.limits) c.names (names_of units) status
+  pub telling_first : SaysFirst c.before c.after (telling units) c.names (names_of units) status
   pub runs_image : RunsImage c input (image_of units c.limits) instructions shown status
   pub read_ahead : ReadsInput c input (image_of units c.limits) instructions shown status
   pub within_limit : status ≢ TooLong long.Input → TakenWithin c.before.left c.after.left
@@ -86,3 +90,7 @@ pub record GoesRight (c : Call) (input : List ℕ) (status : Status) : Type 0 wh
   pub valid_storage : (us : List SourceUnit) → AllTaken text_limit HasUnit (told_files c) us → FitsArea us c.limits → ValidStorageMap us c.limits (storage_map us)
   pub completes : CompletesRuns c input status
   pub stays : AllStay c.before.files c.after.files
+
+-- `go` says the storage map of the files' units
+abbrev pub GoesRight : Call → (input : List ℕ) → Status → Type 0
+GoesRight c input status = RunsTexts (λ us. map_text us c.limits) c input status

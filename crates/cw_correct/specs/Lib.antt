@@ -5,6 +5,7 @@ pub mod Closing
 pub mod Running
 pub mod Meaning
 pub mod Going
+pub mod Making
 pub mod Executing
 pub mod Results
 pub mod Correct

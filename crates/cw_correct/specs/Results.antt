@@ -1,5 +1,5 @@
 -- What the actions promise that run nothing: `map` and `list` write their result to `out`, `compile`, `link` and `migrate` write it to a file.
-use Rattle.std.specs.Prelude.{◌≡◌, ◌⊎◌, ℕ, ◌<◌, List, [], ◌∷◌, ◌++◌, length, map, take, codes, slice_index_or}
+use Rattle.std.specs.Prelude.{◌≡◌, ◌⊎◌, ℕ, ◌<◌, List, [], ◌∷◌, ◌++◌, length, map, take, codes}
 use Rattle.cw_io.specs.Bytes.{after_told}
 use Rattle.cw_io.specs.Count.{Rose}
 use Rattle.cw_io.specs.File.{as_file, OthersStay, AllStay}
@@ -16,7 +16,7 @@ use Rattle.cw_build.specs.Compiled.{object_of}
 use Rattle.cw_build.specs.Linking.{AreLinked, IsFault, Links, IsLinkFault, map_text}
 use Rattle.cw_files.specs.Texts.{HasUnit, HasObject, object_limit}
 use Rattle.cw_files.specs.Reading.{HaveBytes, HaveValues, AllTaken, StopsTexts, StopsObjects}
-use Rattle.cw_correct.specs.Calls.{Call, told_files, NoFault, SameCounts, IsUntouched, IsUnwritten}
+use Rattle.cw_correct.specs.Calls.{Call, told_files, first_name, NoFault, SameCounts, IsUntouched, IsUnwritten}
 use Rattle.cw_correct.specs.Files.{counts_before, counts_after, AllAccepted}
 use Rattle.cw_correct.specs.Saying.{SaysLast}
 use Rattle.cw_correct.specs.Going.{HasCause}
@@ -47,10 +47,6 @@ abbrev pub IsDone : Status → Type 0
 IsDone Ended = Unit {0}
 IsDone NoMemory = Unit {0}
 IsDone status = ⊥
-
--- the name of the first file
-abbrev pub first_name : Call → List ℕ
-first_name c = slice_index_or c.names 0 []
 
 -- ---- map
 

@@ -16,9 +16,10 @@ use Rattle.cw_files.specs.Reading.{AllTaken, Stopped, StopsTexts, SameCounts}
 use Rattle.cw_place.specs.Placement.{IsLimits}
 use Rattle.cw_words.specs.declared.action.Action.TheVariants.{Go}
 use Rattle.cw_correct.specs.Calls.{Surroundings, surroundings_of, Call, call_as, told_files}
+use Rattle.cw_correct.specs.Closing.{Closes}
 use Rattle.cw_correct.specs.Correct.{IsCorrectCall}
 use Rattle.cw_correct.specs.Files.{counts_before, counts_after}
-use Rattle.cw_correct.specs.Going.{names_of}
+use Rattle.cw_correct.specs.Going.{Telling, names_of}
 use Rattle.cw_say.specs.Said.{Says}
 use Rattle.cw_say.specs.Closing.{closing_line}
 use Rattle.cw_say.specs.declared.status.Status.{Status}
@@ -56,9 +57,9 @@ runs_as text other image meant steps a b status e f runs =
     let Q : Image → Type 0 = λ i. Runs other i steps a b status in
     subst Q f (subst P e runs)
 
-pub runs_units : (c : Call) (us : List SourceUnit) (image : Image) (segments : List (List ℕ)) (status : Status) → Links us c.limits → image ≡ image_of us c.limits → segments ≡ image.names
-    → Runs (map_text us c.limits) (image_of us c.limits) c.steps (streams_of c.before) (streams_of c.after) status → RunsUnits c us segments status
-runs_units c us image segments status links is e runs =
+pub runs_units : (telling : Telling) (c : Call) (us : List SourceUnit) (image : Image) (segments : List (List ℕ)) (status : Status) → Links us c.limits → image ≡ image_of us c.limits → segments ≡ image.names
+    → Runs (telling us) (image_of us c.limits) c.steps (streams_of c.before) (streams_of c.after) status → RunsUnits telling c us segments status
+runs_units telling c us image segments status links is e runs =
     record { links = links; named = e ∙ ap (λ (i : Image). i.names) is ∙ names_are us c.limits; runs = runs }
 
 -- ---- the closing line
@@ -70,22 +71,27 @@ after_line b say say_faults = surroundings_of b.files b.store_faults b.absences 
 abbrev pub named : List (Bor (List ℕ)) → List (List ℕ)
 named names = map (λ name. name.now) names
 
+-- only `say` changes while the line is written
+pub closes_by : (between : Surroundings) (say : Option (List ℕ)) (say_faults : ℕ) (names segments : List (List ℕ)) (status : Status) → Says between.say say between.say_faults say_faults (closing_line names segments status)
+    → (status ≡ Ended → say_faults ≡ between.say_faults) → Closes between (after_line between say say_faults) names segments status
+closes_by between say say_faults names segments status says ended = record {
+  says = says;
+  ended = ended;
+  files = refl;
+  store_faults = refl;
+  absences = refl;
+  left = refl;
+  input_faults = refl;
+  out = refl;
+  out_faults = refl;
+}
+
 pub closed : KeepsPromise → (limits : Limits) (steps : ℕ) (names : List (Bor (List ℕ))) (segments : List (List ℕ)) (before between : Surroundings) (say : Option (List ℕ)) (say_faults : ℕ) (status result : Status)
-    → result ≡ status → IsLimits limits → 1 ≤ length names → length names ≤ 200 → AllStay before.files between.files → Goes (call_as Go limits steps (named names) before between) segments status
+    → result ≡ status → IsLimits limits → 1 ≤ length names → length names ≤ 200 → AllStay before.files between.files → Goes (λ us. map_text us limits) (call_as Go limits steps (named names) before between) segments status
     → Says between.say say between.say_faults say_faults (closing_line (named names) segments status) → (status ≡ Ended → say_faults ≡ between.say_faults)
     → IsCorrectCall (call_as Go limits steps (named names) before (after_line between say say_faults)) result
 closed keeps limits steps names segments before between say say_faults status result same within some most stays goes says ended =
     let after = after_line between say say_faults in
     subst (IsCorrectCall (call_as Go limits steps (named names) before after)) (sym same)
-    (keeps limits steps (named names) segments before between after status within (omega (arith, length-map names (λ (name : Bor (List ℕ)). name.now), some))
-    (omega (arith, length-map names (λ (name : Bor (List ℕ)). name.now), most)) stays goes (record {
-      says = says;
-      ended = ended;
-      files = refl;
-      store_faults = refl;
-      absences = refl;
-      left = refl;
-      input_faults = refl;
-      out = refl;
-      out_faults = refl;
-    }))
+    (keeps (λ us. map_text us limits) Go limits steps (named names) segments before between after status within (omega (arith, length-map names (λ (name : Bor (List ℕ)). name.now), some))
+    (omega (arith, length-map names (λ (name : Bor (List ℕ)). name.now), most)) stays goes (closes_by between say say_faults (named names) segments status says ended))

@@ -16,7 +16,7 @@ use Rattle.cw_files.specs.Texts.{HasUnit, IsRefused}
 use Rattle.cw_files.specs.Reading.{HaveBytes, HaveValues}
 use Rattle.cw_correct.specs.Calls.{Call, told_files, NoFault}
 use Rattle.cw_correct.specs.Running.{ImageShows, Tells, Ran}
-use Rattle.cw_correct.specs.Going.{GoesRight}
+use Rattle.cw_correct.specs.Going.{RunsTexts}
 use Rattle.cw_say.specs.declared.status.Status.{Status}
 use Rattle.cw_say.specs.declared.status.Status.TheVariants.{Ended, Usage, Refused, Unlinked, Stopped, Unfinished, NoFile, Outside, NoMemory, BadFile, TooLong, BadCode, Divided}
 use Rattle.cw_say.specs.declared.status.Refused.{Refused as Refusing}
@@ -47,7 +47,7 @@ taken_once left (Some rest) told m n is (xs, same, count) (ys, also, other) =
     bytes_of None = []
     bytes_of (Some bytes) = bytes
 
-module _ (texts : OneOfText) (runs : OneRun) (c : Call) (input : List ℕ) (told : files.AreTold (told_files c)) (quiet : NoFault c.before c.after) where
+module _ (texts : OneOfText) (runs : OneRun) (said : List SourceUnit → List ℕ) (c : Call) (input : List ℕ) (told : files.AreTold (told_files c)) (quiet : NoFault c.before c.after) where
   -- the file behind those that were taken is refused, or too long
   abbrev IsRefusedThere : (ts : List (List ℕ)) (n : ℕ) → Status → Type 0
   IsRefusedThere ts n s = (fault : Refusing) × (text : List ℕ) × (slice_get ts n ≡ Some text) × IsRefused text fault × (s ≡ Refused n fault)
@@ -74,30 +74,30 @@ module _ (texts : OneOfText) (runs : OneRun) (c : Call) (input : List ℕ) (told
 
   -- ---- of each status
 
-  stopped : (s : Status) (x : GoesRight c input s) → IsStop x.texts (length x.units) s → OfCall s
+  stopped : (s : Status) (x : RunsTexts said c input s) → IsStop x.texts (length x.units) s → OfCall s
   stopped s x stop = record { ts = x.texts; us = x.units; bytes = x.have_texts; units = x.have_units; what = inl stop }
 
-  of_units : (s : Status) (x : GoesRight c input s) → length x.units ≡ length c.names → OfUnits x.units s → OfCall s
+  of_units : (s : Status) (x : RunsTexts said c input s) → length x.units ≡ length c.names → OfUnits x.units s → OfCall s
   of_units s x all of = record { ts = x.texts; us = x.units; bytes = x.have_texts; units = x.have_units; what = inr (all ∙ sym (length-map c.names c.before.files), of) }
 
-  of_run : (s : Status) (x : GoesRight c input s) → length x.units ≡ length c.names → Links x.units c.limits → Ran c input (image_of x.units c.limits) x.instructions x.shown s → OfCall s
+  of_run : (s : Status) (x : RunsTexts said c input s) → length x.units ≡ length c.names → Links x.units c.limits → Ran c input (image_of x.units c.limits) x.instructions x.shown s → OfCall s
   of_run s x all links ran =
       let within : TakenWithin c.before.left c.after.left = x.within_limit (not_too_long c.steps s x.shown.end ran.tells) in
       of_units s x all (inr (inl (links, (x.shown, subst (λ n. ImageShows (image_of x.units c.limits) input n x.shown) ran.all ran.shows, ran.tells), within)))
 
-  of_refusal : (number : ℕ) (fault : Refusing) (x : GoesRight c input (Refused number fault)) → OfCall (Refused number fault)
+  of_refusal : (number : ℕ) (fault : Refusing) (x : RunsTexts said c input (Refused number fault)) → OfCall (Refused number fault)
   of_refusal number fault x =
       let (text, at, refused) = files.refused_text (slice_get x.texts number) fault x.comes.1 in
       let is : number ≡ length x.units = x.comes.0 in
       stopped (Refused number fault) x (inl (fault, text, ap (slice_get x.texts) (sym is) ∙ at, refused, ap (λ n. Refused n fault) is))
 
-  of_length : (number : ℕ) (x : GoesRight c input (TooLong (File number))) → OfCall (TooLong (File number))
+  of_length : (number : ℕ) (x : RunsTexts said c input (TooLong (File number))) → OfCall (TooLong (File number))
   of_length number x =
       let (file, at, longer) = files.longer_file (slice_get (told_files c) number) text_limit x.comes.1 in
       let is : number ≡ length x.units = x.comes.0 in
       stopped (TooLong (File number)) x (inr (file, ap (slice_get (told_files c)) (sym is) ∙ at, longer, ap (λ n. TooLong (File n)) is))
 
-  of_call : (s : Status) → s ≢ NoMemory → GoesRight c input s → OfCall s
+  of_call : (s : Status) → s ≢ NoMemory → RunsTexts said c input s → OfCall s
   of_call Usage other x = absurd x.comes
   of_call (BadFile number fault) other x = absurd x.comes
   of_call (Refused number fault) other x = of_refusal number fault x
@@ -109,8 +109,8 @@ module _ (texts : OneOfText) (runs : OneRun) (c : Call) (input : List ℕ) (told
   of_call (Outside Store) other x = absurd (quiet.store x.comes)
   of_call (Outside Out) other x = absurd (quiet.out x.comes.2)
   of_call (Outside Say) other x =
-      let (count, proper, is, rose) = x.listing_first.is_first in
-      absurd (quiet.say (omega (arith, rose, x.listing_first.closing.later)))
+      let (count, proper, is, rose) = x.telling_first.is_first in
+      absurd (quiet.say (omega (arith, rose, x.telling_first.closing.later)))
   of_call NoMemory other x = absurd (other refl)
   of_call Ended other x = of_run Ended x x.comes.0 x.comes.1 x.runs_image
   of_call (Stopped kind segment line) other x = of_run (Stopped kind segment line) x x.comes.0 x.comes.1 x.runs_image
@@ -236,9 +236,9 @@ module _ (texts : OneOfText) (runs : OneRun) (c : Call) (input : List ℕ) (told
       by (inr (all, p)) (inl q) = absurd (stop_or_all t s y x q all)
       by (inr (all, p)) (inr (also, q)) = one_of_units y.us s t telling (subst (λ us. OfUnits us s) (same_units s t x y all also) p) q
 
-  pub one_of_two : (s t : Status) → Telling s t → s ≢ NoMemory → t ≢ NoMemory → GoesRight c input s → GoesRight c input t → s ≡ t
+  pub one_of_two : (s t : Status) → Telling s t → s ≢ NoMemory → t ≢ NoMemory → RunsTexts said c input s → RunsTexts said c input t → s ≡ t
   one_of_two s t telling o o' x y = one_of_call s t telling (of_call s o x) (of_call t o' y)
 
 pub one_status : OneOfText → OneRun → HasOneStatus
-one_status texts runs c input s t found told quiet other also telling x y =
-    one_of_two texts runs c input (subst files.AreTold (sym told) (files.all_told found)) quiet s t telling other also x y
+one_status texts runs said c input s t found told quiet other also telling x y =
+    one_of_two texts runs said c input (subst files.AreTold (sym told) (files.all_told found)) quiet s t telling other also x y

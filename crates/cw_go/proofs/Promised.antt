@@ -24,20 +24,19 @@ use Rattle.cw_link.specs.declared.fault.LinkFault.{LinkFault}
 use Rattle.cw_link.specs.declared.fault.LinkFault.TheVariants.{SegmentTwice, Differs, DefinedTwice, Undefined, AbsoluteOutside, DataTooBig, ControlTooBig, PresetClash, CodeTooBig}
 use Rattle.cw_link.specs.declared.fault.LinkFault.TheVariants as linking
 use Rattle.cw_build.specs.Compiled.{contents_of_units}
-use Rattle.cw_build.specs.Linking.{map_text, image_of, Links, IsLinkFault}
+use Rattle.cw_build.specs.Linking.{image_of, Links, IsLinkFault}
 use Rattle.cw_files.specs.Texts.{HasUnit, IsRefused}
 use Rattle.cw_files.specs.Reading.{Counts, counts_at, HaveBytes, HaveValues, AllTaken, StopsTexts}
 use Rattle.cw_say.specs.Said.{Says}
 use Rattle.cw_say.specs.Closing.{closing_line}
-use Rattle.cw_words.specs.declared.action.Action.TheVariants.{Go}
+use Rattle.cw_words.specs.declared.action.Action.{Action}
 use Rattle.cw_correct.specs.Calls.{Surroundings, Call, call_as, told_files, NoFault, IsUntouched}
 use Rattle.cw_correct.specs.Files.{counts_before, counts_after}
 use Rattle.cw_correct.specs.Closing.{Closes}
 use Rattle.cw_correct.specs.Saying.{IsFirstPart, SaysFirst}
 use Rattle.cw_correct.specs.Running.{Tells, Ran, Cut, RunsImage, Leaves, ReadsInput}
 use Rattle.cw_correct.specs.Meaning.{PreservesMeaning, TellsUnits, CompletesRuns}
-use Rattle.cw_correct.specs.Going.{HasCause, GoComes, names_of, GoesRight}
-use Rattle.cw_correct.specs.Correct.{IsCorrectCall}
+use Rattle.cw_correct.specs.Going.{Telling, HasCause, GoComes, names_of, RunsTexts}
 use Rattle.cw_say.specs.declared.status.Status.{Status}
 use Rattle.cw_say.specs.declared.status.Status.TheVariants.{Ended, Usage, Refused, Unlinked, Stopped, Unfinished, NoFile, Outside, NoMemory, BadFile, TooLong, BadCode, Divided}
 use Rattle.cw_say.specs.declared.status.Refused.{Refused as Refusing}
@@ -45,6 +44,7 @@ use Rattle.cw_say.specs.declared.status.Which.TheVariants.{Store, Input, Out, Sa
 use Rattle.cw_say.specs.declared.status.Long.TheVariants.{File}
 use Rattle.cw_say.specs.declared.status.Long.TheVariants as long
 use Rattle.cw_go.specs.Runs.{Streams, status_of, Lists, ListsPart, ListsAndRuns, Runs}
+use Rattle.cw_go.specs.Laws.{IsRight}
 use Rattle.cw_go.specs.Goes.{streams_of, IsUnlinked, StopsReading, StopsLinking, RunsUnits, Takes, Goes}
 use Rattle.cw_go.proofs.Files as files
 use Rattle.cw_go.proofs.Links.{links_not_faulty}
@@ -72,9 +72,9 @@ untaken left left' same = (0, ([], sym same ∙ sym (before_nothing left'), refl
 
 -- ---- a call that is closed
 
-module _ (given : Given) (limits : Limits) (steps : ℕ) (names : List (List ℕ)) (before between after : Surroundings) (segments : List (List ℕ)) (stays : AllStay before.files between.files) where
+module _ (given : Given) (telling : Telling) (action : Action) (limits : Limits) (steps : ℕ) (names : List (List ℕ)) (before between after : Surroundings) (segments : List (List ℕ)) (stays : AllStay before.files between.files) where
   abbrev c : Call
-  c = call_as Go limits steps names before after
+  c = call_as action limits steps names before after
 
   abbrev a : Streams
   a = streams_of before
@@ -85,14 +85,14 @@ module _ (given : Given) (limits : Limits) (steps : ℕ) (names : List (List ℕ
   abbrev ClosesBy : Status → Type 0
   ClosesBy status = Closes between after names segments status
 
-  any : (status : Status) → ((input : List ℕ) → GoesRight c input status) → IsCorrectCall c status
+  any : (status : Status) → ((input : List ℕ) → RunsTexts telling c input status) → IsRight telling c status
   any status right =
       let (input, is_input) = some_input before.left in
       (input, is_input, right input)
 
   make : (input : List ℕ) (status : Status) → ClosesBy status → (texts : List (List ℕ)) (us : List SourceUnit) (n : ℕ) (shown : run.Observed) → HaveBytes text_limit (told_files c) texts → HaveValues HasUnit texts us
-      → GoComes c texts us status → SaysFirst before after (map_text us limits) names (names_of us) status → RunsImage c input (image_of us limits) n shown status → ReadsInput c input (image_of us limits) n shown status
-      → (status ≢ TooLong long.Input → ports.TakenWithin before.left after.left) → (AreBytes input → PreservesMeaning (program_of us limits) input n shown status) → CompletesRuns c input status → GoesRight c input status
+      → GoComes c texts us status → SaysFirst before after (telling us) names (names_of us) status → RunsImage c input (image_of us limits) n shown status → ReadsInput c input (image_of us limits) n shown status
+      → (status ≢ TooLong long.Input → ports.TakenWithin before.left after.left) → (AreBytes input → PreservesMeaning (program_of us limits) input n shown status) → CompletesRuns c input status → RunsTexts telling c input status
   make input status closes texts us n shown have units comes lists runs reads within preserves completes = record {
     texts = texts;
     units = us;
@@ -101,7 +101,7 @@ module _ (given : Given) (limits : Limits) (steps : ℕ) (names : List (List ℕ
     have_texts = have;
     have_units = units;
     comes = comes;
-    listing_first = lists;
+    telling_first = lists;
     runs_image = runs;
     read_ahead = reads;
     within_limit = within;
@@ -113,8 +113,8 @@ module _ (given : Given) (limits : Limits) (steps : ℕ) (names : List (List ℕ
 
   -- ---- where the image did not run
 
-  lists_nothing : (us : List SourceUnit) (status : Status) → b ≡ a → IsFirstPart (map_text us limits) before.say_faults between.say_faults status []
-      → Says between.say after.say between.say_faults after.say_faults (closing_line names (names_of us) status) → SaysFirst before after (map_text us limits) names (names_of us) status
+  lists_nothing : (us : List SourceUnit) (status : Status) → b ≡ a → IsFirstPart (telling us) before.say_faults between.say_faults status []
+      → Says between.say after.say between.say_faults after.say_faults (closing_line names (names_of us) status) → SaysFirst before after (telling us) names (names_of us) status
   lists_nothing us status same is says =
       let P : Option (List ℕ) → Type 0 = λ told. Says told after.say between.say_faults after.say_faults (closing_line names (names_of us) status) in
       let held : between.say ≡ before.say = ap (λ x. x.say) same in
@@ -136,7 +136,7 @@ module _ (given : Given) (limits : Limits) (steps : ℕ) (names : List (List ℕ
   takes_nothing : (status : Status) → b ≡ a → ClosesBy status → status ≢ TooLong long.Input → ports.TakenWithin before.left after.left
   takes_nothing status same closes other = untaken before.left after.left (untouched status same closes).input
 
-  no_memory : (input : List ℕ) → b ≡ a → ClosesBy NoMemory → GoesRight c input NoMemory
+  no_memory : (input : List ℕ) → b ≡ a → ClosesBy NoMemory → RunsTexts telling c input NoMemory
   no_memory input same closes =
       make input NoMemory closes [] [] 0 nothing tt tt tt (lists_nothing [] NoMemory same refl closes.says) (unwritten NoMemory same closes) (untouched NoMemory same closes) (takes_nothing NoMemory same closes)
       (λ bytes. tt) (λ us m tells links quiet bytes short soon ends. tt)
@@ -167,33 +167,33 @@ module _ (given : Given) (limits : Limits) (steps : ℕ) (names : List (List ℕ
 
   -- a status that tells of a file
   module _ (input : List ℕ) (texts : List (List ℕ)) (us : List SourceUnit) (have : HaveBytes text_limit (told_files c) texts) (units : HaveValues HasUnit texts us) (same : b ≡ a) where
-    refused : (number : ℕ) (fault : Refusing) → Stops texts us (Refused number fault) → ClosesBy (Refused number fault) → GoesRight c input (Refused number fault)
+    refused : (number : ℕ) (fault : Refusing) → Stops texts us (Refused number fault) → ClosesBy (Refused number fault) → RunsTexts telling c input (Refused number fault)
     refused number fault stops closes =
         let s = Refused number fault in
         let (text, at, fails) = files.refused_text (slice_get texts number) fault stops.1 in
         make input s closes texts us 0 nothing have units stops (lists_nothing us s same refl closes.says) (unwritten s same closes) (untouched s same closes) (takes_nothing s same closes)
         (λ bytes. tt) (λ vs m tells links quiet bytes short soon ends. absurd (not_refused texts number fault vs have text at fails tells))
 
-    no_file : (number : ℕ) → Stops texts us (NoFile number) → ClosesBy (NoFile number) → GoesRight c input (NoFile number)
+    no_file : (number : ℕ) → Stops texts us (NoFile number) → ClosesBy (NoFile number) → RunsTexts telling c input (NoFile number)
     no_file number stops closes =
         let s = NoFile number in
         make input s closes texts us 0 nothing have units stops (lists_nothing us s same refl closes.says) (unwritten s same closes) (untouched s same closes) (takes_nothing s same closes)
         (λ bytes. tt) (λ vs m tells links quiet bytes short soon ends. absurd (quiet.absences stops.2))
 
-    store_failed : Stops texts us (Outside Store) → ClosesBy (Outside Store) → GoesRight c input (Outside Store)
+    store_failed : Stops texts us (Outside Store) → ClosesBy (Outside Store) → RunsTexts telling c input (Outside Store)
     store_failed stops closes =
         let s = Outside Store in
         make input s closes texts us 0 nothing have units stops (lists_nothing us s same refl closes.says) (unwritten s same closes) (untouched s same closes) (takes_nothing s same closes)
         (λ bytes. tt) (λ vs m tells links quiet bytes short soon ends. absurd (quiet.store stops))
 
-    too_long : (number : ℕ) → Stops texts us (TooLong (File number)) → ClosesBy (TooLong (File number)) → GoesRight c input (TooLong (File number))
+    too_long : (number : ℕ) → Stops texts us (TooLong (File number)) → ClosesBy (TooLong (File number)) → RunsTexts telling c input (TooLong (File number))
     too_long number stops closes =
         let s = TooLong (File number) in
         let (file, at, longer) = files.longer_file (slice_get (told_files c) number) text_limit stops.1 in
         make input s closes texts us 0 nothing have units stops (lists_nothing us s same refl closes.says) (unwritten s same closes) (untouched s same closes) (takes_nothing s same closes)
         (λ bytes. tt) (λ vs m tells links quiet bytes short soon ends. absurd (not_longer number file vs at longer tells))
 
-    stops_at : (status : Status) → Stops texts us status → ClosesBy status → GoesRight c input status
+    stops_at : (status : Status) → Stops texts us status → ClosesBy status → RunsTexts telling c input status
     stops_at NoMemory stops closes = no_memory input same closes
     stops_at (Refused number fault) stops closes = refused number fault stops closes
     stops_at (NoFile number) stops closes = no_file number stops closes
@@ -213,10 +213,10 @@ module _ (given : Given) (limits : Limits) (steps : ℕ) (names : List (List ℕ
     stops_at (Divided offset) stops closes = absurd stops
 
   abbrev d : Call
-  d = call_as Go limits steps names before between
+  d = call_as action limits steps names before between
 
   -- the counts of the store stand while the line is written
-  pub reading : (status : Status) → StopsReading d status → ClosesBy status → IsCorrectCall c status
+  pub reading : (status : Status) → StopsReading d status → ClosesBy status → IsRight telling c status
   reading status x closes =
       let s = x.stopped in
       let counts : counts_after d ≡ counts_after c = sym (ap₂ counts_at closes.store_faults closes.absences) in
@@ -261,14 +261,14 @@ module _ (given : Given) (limits : Limits) (steps : ℕ) (names : List (List ℕ
     cause (PresetClash address first second) x = tt
     cause linking.NoMemory x = tt
 
-    unlinked : (input : List ℕ) (fault : LinkFault) → b ≡ a → IsLinkFault us limits fault → ClosesBy (Unlinked fault) → GoesRight c input (Unlinked fault)
+    unlinked : (input : List ℕ) (fault : LinkFault) → b ≡ a → IsLinkFault us limits fault → ClosesBy (Unlinked fault) → RunsTexts telling c input (Unlinked fault)
     unlinked input fault same faulty closes =
         let s = Unlinked fault in
         let L : List SourceUnit → Type 0 = λ vs. Links vs limits in
         make input s closes taken.texts us 0 nothing taken.have_bytes taken.have_values (all_of, faulty, cause fault faulty) (lists_nothing us s same refl closes.says) (unwritten s same closes) (untouched s same closes) (takes_nothing s same closes)
         (λ bytes. tt) (λ vs m tells links quiet bytes short soon ends. absurd (links_not_faulty (contents_of_units us) limits fault (subst L (units_are vs tells) links) faulty))
 
-    linking_stops : (input : List ℕ) (status : Status) → IsUnlinked us limits status → b ≡ a → ClosesBy status → GoesRight c input status
+    linking_stops : (input : List ℕ) (status : Status) → IsUnlinked us limits status → b ≡ a → ClosesBy status → RunsTexts telling c input status
     linking_stops input NoMemory x same closes = no_memory input same closes
     linking_stops input (Unlinked fault) x same closes = unlinked input fault same x closes
     linking_stops input Ended x same closes = absurd x
@@ -287,9 +287,9 @@ module _ (given : Given) (limits : Limits) (steps : ℕ) (names : List (List ℕ
 
     module _ (links : Links us limits) where
       abbrev listing : List ℕ
-      listing = map_text us limits
+      listing = telling us
 
-      say_failed : (input : List ℕ) → ListsPart listing a b → ClosesBy (Outside Say) → GoesRight c input (Outside Say)
+      say_failed : (input : List ℕ) → ListsPart listing a b → ClosesBy (Outside Say) → RunsTexts telling c input (Outside Say)
       say_failed input part closes =
           let s = Outside Say in
           let P : Option (List ℕ) → Type 0 = λ told. Says told after.say between.say_faults after.say_faults (closing_line names (names_of us) s) in
@@ -346,11 +346,11 @@ module _ (given : Given) (limits : Limits) (steps : ℕ) (names : List (List ℕ
           -- a run that came to its end
           over : (status : Status) → ClosesBy status → (o : run.Observed) → GoComes c taken.texts us status → SaysFirst before after listing names (names_of us) status
               → RunsImage c input (image_of us limits) steps o status → ReadsInput c input (image_of us limits) steps o status → (status ≢ TooLong long.Input → ports.TakenWithin before.left after.left)
-              → (AreBytes input → PreservesMeaning (program_of us limits) input steps o status) → CompletesRuns c input status → GoesRight c input status
+              → (AreBytes input → PreservesMeaning (program_of us limits) input steps o status) → CompletesRuns c input status → RunsTexts telling c input status
           over status closes o comes says runs reads within_limit preserves completes =
               make input status closes taken.texts us steps o taken.have_bytes taken.have_values comes says runs reads within_limit preserves completes
 
-          run_goes : (end : ImageEnd) → ports.RunShows end s input steps a.outside b.outside → ClosesBy (status_of steps end) → GoesRight c input (status_of steps end)
+          run_goes : (end : ImageEnd) → ports.RunShows end s input steps a.outside b.outside → ClosesBy (status_of steps end) → RunsTexts telling c input (status_of steps end)
           run_goes ends.Ended (o, r, told, output, took_all, quiet_input, quiet_out) closes =
               over Ended closes o (all_of, links) (lists_whole Ended refl closes) (ran Ended o r.shows told output quiet_input quiet_out closes) (leaves steps o false r closes.left) (λ other. took took_all closes.left)
               (λ bytes. meant.preserves given.runs us limits some_units most_units compiled within links input bytes s start steps o r.shows)
@@ -407,16 +407,16 @@ module _ (given : Given) (limits : Limits) (steps : ℕ) (names : List (List ℕ
               (λ vs m tells also quiet bytes short soon ends. absurd (quiet.out risen))
 
       -- part by part
-      runs_goes : (status : Status) → segments ≡ names_of us → (between.store_faults ≡ before.store_faults) × (between.absences ≡ before.absences) → Runs listing (image_of us limits) steps a b status → ClosesBy status → IsCorrectCall c status
+      runs_goes : (status : Status) → segments ≡ names_of us → (between.store_faults ≡ before.store_faults) × (between.absences ≡ before.absences) → Runs listing (image_of us limits) steps a b status → ClosesBy status → IsRight telling c status
       runs_goes status named counts (inl (e, same)) closes =
-          any status (λ input. subst (GoesRight c input) (sym e) (no_memory input same (subst ClosesBy e closes)))
+          any status (λ input. subst (RunsTexts telling c input) (sym e) (no_memory input same (subst ClosesBy e closes)))
       runs_goes status named counts (inr (inl (e, part))) closes =
-          any status (λ input. subst (GoesRight c input) (sym e) (say_failed input part (subst ClosesBy e closes)))
+          any status (λ input. subst (RunsTexts telling c input) (sym e) (say_failed input part (subst ClosesBy e closes)))
       runs_goes status named counts (inr (inr r)) closes =
           let (input, is_input, shows) = r.tells in
-          (input, is_input, subst (GoesRight c input) (sym r.is) (run_goes named counts r.lists r.start r.is_start input r.end shows (subst ClosesBy r.is closes)))
+          (input, is_input, subst (RunsTexts telling c input) (sym r.is) (run_goes named counts r.lists r.start r.is_start input r.end shows (subst ClosesBy r.is closes)))
 
-  pub keeps : (status : Status) → IsLimits limits → 1 ≤ length names → length names ≤ 200 → Goes d segments status → ClosesBy status → IsCorrectCall c status
+  pub keeps : (status : Status) → IsLimits limits → 1 ≤ length names → length names ≤ 200 → Goes telling d segments status → ClosesBy status → IsRight telling c status
   keeps status within some most (inl x) closes = reading status x closes
   keeps status within some most (inr (us, takes, inl x)) closes = any status (λ input. linking_stops within some most us takes.all input status x.unlinked x.same closes)
   keeps status within some most (inr (us, takes, inr x)) closes = runs_goes within some most us takes.all x.links status x.named takes.counts x.runs closes

@@ -1,4 +1,4 @@
-//! What a call of `go` promises, from how it goes; and that no two statuses come of one call.
+//! What a call promises that runs texts, from how it goes; and that no two statuses come of one call.
 ghost use Rattle.cw_go.specs.Laws.{KeepsPromise, IsRightIdle, HasOneStatus};
 
 use cw_build::laws::linked_units;
@@ -10,7 +10,7 @@ use cw_sim::laws::preservation;
 use cw_unit::laws::storage_maps;
 
 /// A call that goes so up to its closing line, and is closed so, keeps its promise. So does one that did nothing else, for want of memory.
-pub(crate) fn promises()
+pub fn promises()
     ensures keeps { KeepsPromise }
     ensures idle { IsRightIdle }
 {
@@ -30,9 +30,9 @@ pub fn idle()
     promises();
 }
 
-/// Two statuses never come of one call of `go`, where the store tells its files, no count rose, and memory was found; and where one is
+/// Two statuses never come of one call that runs texts, where the store tells its files, no count rose, and memory was found; and where one is
 /// TooLong(Input), the source its input.
-pub fn one_status_of_go()
+pub fn one_status_of_texts()
     ensures { HasOneStatus }
 {
     one_outcome();

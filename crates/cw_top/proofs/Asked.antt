@@ -1,10 +1,10 @@
 -- What is done for an action is what the words ask for.
-use Rattle.std.proofs.Common.{◌≡◌, ℕ, ◌<◌, List, [], Option, Some, None, refl, sym, ap, ◌∙◌, subst}
+use Rattle.std.proofs.Common.{◌≡◌, ℕ, ◌<◌, List, [], Option, Some, None, sym, subst}
 use Rattle.std.proofs.lemmas.List.Elements.{All-nil}
 use Rattle.cw_ports.specs.Running.{IsInput}
 use Rattle.cw_words.specs.Parts.{Parts}
 use Rattle.cw_words.specs.declared.action.Action.{Action}
-use Rattle.cw_correct.specs.Calls.{Surroundings, Call, limits_of, call_as, call_of, unless_big}
+use Rattle.cw_correct.specs.Calls.{Surroundings, Call, limits_of, call_as, call_of}
 use Rattle.cw_words.specs.declared.action.Action.TheVariants.{Compile, Link, List as Show, Map, Migrate}
 use Rattle.cw_correct.specs.Correct.{Correct, IsCorrectCall, IsCorrectRequest}
 use Rattle.cw_correct.specs.Results.{MapsRight, ShowsRight, CompilesRight, LinksRight, MigratesRight}
@@ -20,25 +20,23 @@ over_any c status right =
     let (input, is_input) = some_input c.before.left in
     (input, is_input, right input)
 
-pub asked : (action : Action) (parts : Parts) (before after : Surroundings) (status : Status) → parts.action ≡ action → unless_big action parts ≡ Some parts
-    → IsCorrectCall (call_as action (limits_of parts) parts.steps parts.names before after) status → IsCorrectRequest (unless_big parts.action parts) before after status
-asked action parts before after status is built right =
-    let Q : Action → Type 0 = λ a. IsCorrectCall (call_as a (limits_of parts) parts.steps parts.names before after) status in
-    let same : unless_big parts.action parts ≡ Some parts = ap (λ a. unless_big a parts) is ∙ built in
-    subst (λ request. IsCorrectRequest request before after status) (sym same) (subst Q (sym is) right)
+pub asked : (action : Action) (parts : Parts) (before after : Surroundings) (status : Status) → parts.action ≡ action
+    → IsCorrectCall (call_as action (limits_of parts) parts.steps parts.names before after) status → IsCorrectRequest (Some parts) before after status
+asked action parts before after status is right =
+    subst (λ a. IsCorrectCall (call_as a (limits_of parts) parts.steps parts.names before after) status) (sym is) right
 
 module _ (parts : Parts) (before after : Surroundings) (status : Status) where
-  pub asked_map : parts.action ≡ Map → MapsRight (call_as Map (limits_of parts) parts.steps parts.names before after) status → IsCorrectRequest (unless_big parts.action parts) before after status
-  asked_map is right = asked Map parts before after status is refl (over_any (call_as Map (limits_of parts) parts.steps parts.names before after) status (λ input. right))
+  pub asked_map : parts.action ≡ Map → MapsRight (call_as Map (limits_of parts) parts.steps parts.names before after) status → IsCorrectRequest (Some parts) before after status
+  asked_map is right = asked Map parts before after status is (over_any (call_as Map (limits_of parts) parts.steps parts.names before after) status (λ input. right))
 
-  pub asked_list : parts.action ≡ Show → ShowsRight (call_as Show (limits_of parts) parts.steps parts.names before after) status → IsCorrectRequest (unless_big parts.action parts) before after status
-  asked_list is right = asked Show parts before after status is refl (over_any (call_as Show (limits_of parts) parts.steps parts.names before after) status (λ input. right))
+  pub asked_list : parts.action ≡ Show → ShowsRight (call_as Show (limits_of parts) parts.steps parts.names before after) status → IsCorrectRequest (Some parts) before after status
+  asked_list is right = asked Show parts before after status is (over_any (call_as Show (limits_of parts) parts.steps parts.names before after) status (λ input. right))
 
-  pub asked_compile : parts.action ≡ Compile → CompilesRight (call_as Compile (limits_of parts) parts.steps parts.names before after) status → IsCorrectRequest (unless_big parts.action parts) before after status
-  asked_compile is right = asked Compile parts before after status is refl (over_any (call_as Compile (limits_of parts) parts.steps parts.names before after) status (λ input. right))
+  pub asked_compile : parts.action ≡ Compile → CompilesRight (call_as Compile (limits_of parts) parts.steps parts.names before after) status → IsCorrectRequest (Some parts) before after status
+  asked_compile is right = asked Compile parts before after status is (over_any (call_as Compile (limits_of parts) parts.steps parts.names before after) status (λ input. right))
 
-  pub asked_link : parts.action ≡ Link → LinksRight (call_as Link (limits_of parts) parts.steps parts.names before after) status → IsCorrectRequest (unless_big parts.action parts) before after status
-  asked_link is right = asked Link parts before after status is refl (over_any (call_as Link (limits_of parts) parts.steps parts.names before after) status (λ input. right))
+  pub asked_link : parts.action ≡ Link → LinksRight (call_as Link (limits_of parts) parts.steps parts.names before after) status → IsCorrectRequest (Some parts) before after status
+  asked_link is right = asked Link parts before after status is (over_any (call_as Link (limits_of parts) parts.steps parts.names before after) status (λ input. right))
 
-  pub asked_migrate : parts.action ≡ Migrate → MigratesRight (call_as Migrate (limits_of parts) parts.steps parts.names before after) status → IsCorrectRequest (unless_big parts.action parts) before after status
-  asked_migrate is right = asked Migrate parts before after status is refl (over_any (call_as Migrate (limits_of parts) parts.steps parts.names before after) status (λ input. right))
+  pub asked_migrate : parts.action ≡ Migrate → MigratesRight (call_as Migrate (limits_of parts) parts.steps parts.names before after) status → IsCorrectRequest (Some parts) before after status
+  asked_migrate is right = asked Migrate parts before after status is (over_any (call_as Migrate (limits_of parts) parts.steps parts.names before after) status (λ input. right))

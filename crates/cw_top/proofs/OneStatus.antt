@@ -1,9 +1,12 @@
 -- Two statuses never come of one call, by its action.
-use Rattle.std.proofs.Common.{◌≡◌, ◌≢◌, ◌⊎◌, ℕ, List, map, Option, Some, refl, subst}
+use Rattle.std.proofs.Common.{◌≡◌, ◌≢◌, ◌⊎◌, ℕ, List, [], ◌∷◌, map, Option, Some, refl, sym, ap, ◌∙◌, subst, arith}
 use Rattle.std.specs.Prelude.{All}
 use Rattle.cw_words.specs.declared.action.Action.{Action}
 use Rattle.cw_words.specs.declared.action.Action.TheVariants.{Go, Compile, Link, Exec, List as Show, Map, Migrate, Big}
+use Rattle.cw_build.specs.Linking.{map_text}
+use Rattle.cw_big.specs.LargeProgram.{large_program}
 use Rattle.cw_correct.specs.Calls.{Call, told_files, NoFault}
+use Rattle.cw_correct.specs.Making.{program_line, in_memory, over_program, MakesRight}
 use Rattle.cw_correct.specs.Correct.{CorrectAs, TellsBytes, HasOneStatus}
 use Rattle.cw_correct.specs.Results.{MapsRight, ShowsRight, CompilesRight, LinksRight, MigratesRight}
 use Rattle.cw_say.specs.declared.status.Status.{Status}
@@ -15,7 +18,7 @@ use Rattle.cw_results.specs.OneStatus.{AllowsOneStatus}
 
 -- the same of each action
 pub record OneEach : Type 0 where
-  pub go : going.HasOneStatus
+  pub texts : going.HasOneStatus
   pub exec : executing.HasOneStatus
   pub map : AllowsOneStatus MapsRight
   pub list : AllowsOneStatus ShowsRight
@@ -25,15 +28,29 @@ pub record OneEach : Type 0 where
 
 module _ (each : OneEach) (c : Call) (input : List ℕ) (a b : Status) (found : List (Option (List ℕ))) (told : told_files c ≡ map Some found) (bytes : All TellsBytes found) (quiet : NoFault c.before c.after) (other : a ≢ NoMemory)
     (also : b ≢ NoMemory) (telling : (a ≡ TooLong long.Input) ⊎ (b ≡ TooLong long.Input) → (left : List ℕ) × (c.before.left ≡ Some left)) where
+  number_of : {m n : ℕ} → ◌≡◌ {A = Option ℕ} (Some m) (Some n) → m ≡ n
+  number_of e = cc e
+
+  map_twice : (texts : List (List ℕ)) → map (λ text. Some (Some text)) texts ≡ map Some (map Some texts)
+  map_twice [] = refl
+  map_twice (t ∷ ts) = ap (λ rest. Some (Some t) ∷ rest) (map_twice ts)
+
+  -- what `big` runs is in no files
+  in_memory_quiet : NoFault (in_memory c.before) (in_memory c.after)
+  in_memory_quiet = record { store = λ r. absurd (omega (arith, r)); absences = λ r. absurd (omega (arith, r)); input = quiet.input; out = quiet.out; say = quiet.say }
+
   pub one_of : (action : Action) → CorrectAs action c input a → CorrectAs action c input b → a ≡ b
-  one_of Go x y = each.go c input a b found told quiet other also telling x y
+  one_of Go x y = each.texts (λ us. map_text us c.limits) c input a b found told quiet other also telling x y
   one_of Exec x y = each.exec c input a b found told quiet other also telling x y
   one_of Map x y = each.map c a b found told bytes quiet other also x y
   one_of Show x y = each.list c a b found told bytes quiet other also x y
   one_of Compile x y = each.compile c a b found told bytes quiet other also x y
   one_of Link x y = each.link c a b found told bytes quiet other also x y
   one_of Migrate x y = each.migrate c a b found told bytes quiet other also x y
-  one_of Big x y = absurd x
+  one_of Big (m, is, x) (n, also_is, y) =
+      let same : n ≡ m = number_of (sym also_is ∙ is) in
+      let again = subst (λ k. MakesRight k c input b) same y in
+      each.texts (program_line m) (over_program m c) input a b (map Some (large_program m)) (map_twice (large_program m)) in_memory_quiet other also telling x.runs again.runs
 
 pub one_status : OneEach → HasOneStatus
 one_status each c input a b found told bytes quiet other also telling x y = one_of each c input a b found told bytes quiet other also telling c.action x y

@@ -1,12 +1,16 @@
 -- A call that did nothing but write its closing line keeps its promise.
 use Rattle.std.proofs.Common.{◌≡◌, ◌⊎◌, ℕ, List, [], Option, Some, None, refl, sym, ap, ◌∙◌, subst, inl, inr, arith, append-nil}
 use Rattle.cw_io.specs.Bytes.{after_told}
-use Rattle.cw_words.specs.Parts.{Parts}
+use Rattle.cw_words.specs.Parts.{Parts, parts_of, copies_of}
+use Rattle.cw_words.specs.Copies.{TellsCopies}
 use Rattle.cw_words.specs.declared.action.Action.{Action}
 use Rattle.cw_words.specs.declared.action.Action.TheVariants.{Go, Compile, Link, Exec, List as Show, Map, Migrate, Big}
 use Rattle.cw_say.specs.Said.{Says}
 use Rattle.cw_say.specs.Closing.{closing_line}
-use Rattle.cw_correct.specs.Calls.{Surroundings, Call, limits_of, call_as, unless_big}
+use Rattle.cw_build.specs.Linking.{map_text}
+use Rattle.cw_big.specs.LargeProgram.{large_program}
+use Rattle.cw_correct.specs.Calls.{Surroundings, Call, limits_of, call_as}
+use Rattle.cw_correct.specs.Making.{program_line, in_memory}
 use Rattle.cw_correct.specs.Closing.{Closes}
 use Rattle.cw_correct.specs.Saying.{IsFirstPart, SaysLast}
 use Rattle.cw_correct.specs.Correct.{DoesNothing, IsCorrectRequest}
@@ -25,7 +29,7 @@ after_nothing (Some held) = ap Some (append-nil held)
 
 -- the promises of all actions for want of memory
 pub record Idles : Type 0 where
-  pub go : going.IsRightIdle
+  pub texts : going.IsRightIdle
   pub exec : executing.IsRightIdle
   pub map : AllowsIdle MapsRight
   pub list : AllowsIdle ShowsRight
@@ -81,16 +85,41 @@ module _ (before after : Surroundings) where
       stays = λ name. ap (λ files. files name) closes.files;
     }
 
-    of_action : (action : Action) → parts.action ≡ action → IsCorrectRequest (unless_big parts.action parts) before after NoMemory
-    of_action Go is = asked Go parts before after NoMemory is refl (idles.go (limits_of parts) parts.steps parts.names before after (named parts.names closes))
-    of_action Exec is = asked Exec parts before after NoMemory is refl (over_any (call Exec) NoMemory (λ input. idles.exec (call Exec) input (named parts.names closes)))
-    of_action Map is = asked Map parts before after NoMemory is refl (over_any (call Map) NoMemory (λ input. idles.map (call Map) (is_idle Map)))
-    of_action Show is = asked Show parts before after NoMemory is refl (over_any (call Show) NoMemory (λ input. idles.list (call Show) (is_idle Show)))
-    of_action Compile is = asked Compile parts before after NoMemory is refl (over_any (call Compile) NoMemory (λ input. idles.compile (call Compile) (is_idle Compile)))
-    of_action Link is = asked Link parts before after NoMemory is refl (over_any (call Link) NoMemory (λ input. idles.link (call Link) (is_idle Link)))
-    of_action Migrate is = asked Migrate parts before after NoMemory is refl (over_any (call Migrate) NoMemory (λ input. idles.migrate (call Migrate) (is_idle Migrate)))
-    of_action Big is = subst (λ action. IsCorrectRequest (unless_big action parts) before after NoMemory) (sym is) (does_nothing NoMemory (inr refl) refl closes)
+    -- nor do those of `big` change
+    in_memory_closes : (texts : List (List ℕ)) → Closes (in_memory before) (in_memory after) texts [] NoMemory
+    in_memory_closes texts = record {
+      says = closes.says;
+      ended = closes.ended;
+      files = refl;
+      store_faults = refl;
+      absences = refl;
+      left = closes.left;
+      input_faults = closes.input_faults;
+      out = closes.out;
+      out_faults = closes.out_faults;
+    }
 
-pub may_quit : Idles → MayQuit
-may_quit idles None before after closes = does_nothing before after NoMemory (inr refl) refl closes
-may_quit idles (Some parts) before after closes = of_action before after idles parts closes parts.action refl
+    of_action : (action : Action) → copies_of action parts.names ≡ Some parts.copies → parts.action ≡ action → IsCorrectRequest (Some parts) before after NoMemory
+    of_action Go told is = asked Go parts before after NoMemory is (idles.texts (λ us. map_text us (limits_of parts)) Go (limits_of parts) parts.steps parts.names before after (named parts.names closes))
+    of_action Exec told is = asked Exec parts before after NoMemory is (over_any (call Exec) NoMemory (λ input. idles.exec (call Exec) input (named parts.names closes)))
+    of_action Map told is = asked Map parts before after NoMemory is (over_any (call Map) NoMemory (λ input. idles.map (call Map) (is_idle Map)))
+    of_action Show told is = asked Show parts before after NoMemory is (over_any (call Show) NoMemory (λ input. idles.list (call Show) (is_idle Show)))
+    of_action Compile told is = asked Compile parts before after NoMemory is (over_any (call Compile) NoMemory (λ input. idles.compile (call Compile) (is_idle Compile)))
+    of_action Link told is = asked Link parts before after NoMemory is (over_any (call Link) NoMemory (λ input. idles.link (call Link) (is_idle Link)))
+    of_action Migrate told is = asked Migrate parts before after NoMemory is (over_any (call Migrate) NoMemory (λ input. idles.migrate (call Migrate) (is_idle Migrate)))
+    of_action Big told is =
+        let (input, is_input, runs) = idles.texts (program_line parts.copies) Big (limits_of parts) parts.steps (large_program parts.copies) (in_memory before) (in_memory after) (in_memory_closes (large_program parts.copies)) in
+        asked Big parts before after NoMemory is (input, is_input, parts.copies, told, record {
+          runs = runs;
+          none_of_files = tt;
+          store_faults = closes.store_faults;
+          absences = closes.absences;
+          stays = λ name. ap (λ files. files name) closes.files;
+        })
+
+pub may_quit : Idles → TellsCopies → MayQuit
+may_quit idles tells words before after closes = by (parts_of words) refl
+  where
+    by : (parts : Option Parts) → parts_of words ≡ parts → IsCorrectRequest parts before after NoMemory
+    by None is = does_nothing before after NoMemory (inr refl) refl closes
+    by (Some parts) is = of_action before after idles parts closes parts.action (tells words parts is) refl

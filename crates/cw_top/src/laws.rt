@@ -5,6 +5,7 @@ ghost use Rattle.cw_top.specs.Quits.{MayQuit};
 use cw_exec::laws as executing;
 use cw_go::laws as going;
 use cw_results::laws as results;
+use cw_words::laws::copies_told;
 
 /// A call that did nothing for want of memory keeps its promise.
 pub(crate) fn quits()
@@ -13,6 +14,7 @@ pub(crate) fn quits()
     going::idle();
     executing::idle();
     results::idle();
+    copies_told();
 }
 
 /// Two statuses never come of one call, where the store tells its files, which are bytes, no count rose, and memory was found; and
@@ -20,7 +22,7 @@ pub(crate) fn quits()
 pub fn one_status()
     ensures { HasOneStatus }
 {
-    going::one_status_of_go();
+    going::one_status_of_texts();
     executing::one_status_of_exec();
     results::one_status_of_results();
 }

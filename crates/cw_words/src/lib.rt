@@ -2,6 +2,7 @@
 #![tactic(auto)]
 
 mod action;
+pub mod laws;
 mod request;
 mod simple;
 

@@ -2,6 +2,7 @@ use Rattle.std.proofs.Common.{List, [], ℕ, map, Bor, refl, inl, inr, arith}
 use Rattle.std.proofs.lemmas.List.{length-map}
 use Rattle.cw_words.specs.declared.action.Action.TheVariants.{Go}
 use Rattle.cw_correct.specs.Calls.{surroundings_of, call_as}
+use Rattle.cw_build.specs.Linking.{map_text}
 use Rattle.cw_go.proofs.Meant.{all_compiled}
 use Rattle.cw_go.proofs.Called.{map_twice, stops_reading, takes, runs_units, named, closed}
 use Rattle.cw_go.proofs.going.go.Goals as goal
@@ -23,7 +24,7 @@ returns-in-Ok-link_segments g c =
     let (all, segments, counts) = c.in-Ok.ensures.taken in
     let us = c.in-Ok.segments.units in
     let linked = c.in-Ok-link_segments.ensures in
-    let runs = runs_units call us c.in-Ok-link_segments.linked.image c.as_slice.result.now _ linked.links linked.image c.as_slice.ensures c.run_segments-status.ensures in
+    let runs = runs_units (λ vs. map_text vs c.args.limits.now) call us c.in-Ok-link_segments.linked.image c.as_slice.result.now _ linked.links linked.image c.as_slice.ensures c.run_segments-status.ensures in
     closed c.promises.ensures.keeps c.args.limits.now c.args.steps names c.as_slice.result.now before between _ _ _ _ c.close.ensures.same c.requires.limits c.requires.some c.requires.few c.read_units.ensures.stay
     (inr (us, takes files call us told all counts, inr runs)) c.close.ensures.line c.close.ensures.ended
 

@@ -13,7 +13,7 @@ returns c =
       sizes = c.linked_units.ensures.size;
     } in
     record {
-      keeps = λ limits steps names segments before between after status within some most stays goes closes. keeps given limits steps names before between after segments stays status within some most goes closes;
-      idle = λ limits steps names before after closes.
-          reading given limits steps names before before after [] (λ name. refl) NoMemory (record { stopped = record { texts = []; values = []; have_bytes = tt; have_values = tt; stops = tt }; same = refl }) closes;
+      keeps = λ telling action limits steps names segments before between after status within some most stays goes closes. keeps given telling action limits steps names before between after segments stays status within some most goes closes;
+      idle = λ telling action limits steps names before after closes.
+          reading given telling action limits steps names before before after [] (λ name. refl) NoMemory (record { stopped = record { texts = []; values = []; have_bytes = tt; have_values = tt; stops = tt }; same = refl }) closes;
     }

@@ -5,7 +5,7 @@ pub returns : goal.returns
 returns c =
     one_status
     (record {
-      go = c.one_status_of_go.ensures;
+      texts = c.one_status_of_texts.ensures;
       exec = c.one_status_of_exec.ensures;
       map = c.one_status_of_results.ensures.map;
       list = c.one_status_of_results.ensures.list;

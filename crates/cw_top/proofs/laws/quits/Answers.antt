@@ -5,7 +5,7 @@ pub returns : goal.returns
 returns c =
     may_quit
     (record {
-      go = c.idle.ensures;
+      texts = c.idle.ensures;
       exec = c.idle-2.ensures;
       map = c.idle-3.ensures.map;
       list = c.idle-3.ensures.list;
@@ -13,3 +13,4 @@ returns c =
       link = c.idle-3.ensures.link;
       migrate = c.idle-3.ensures.migrate;
     })
+    c.copies_told.ensures

@@ -1,5 +1,5 @@
 use Rattle.cw_go.proofs.OneStatus.{one_status}
-use Rattle.cw_go.proofs.laws.one_status_of_go.Goals as goal
+use Rattle.cw_go.proofs.laws.one_status_of_texts.Goals as goal
 
 pub returns : goal.returns
 returns c =

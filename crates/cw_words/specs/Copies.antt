@@ -1,0 +1,8 @@
+-- What words tell that are the command of `big`.
+use Rattle.std.specs.Prelude.{◌≡◌, List, Some}
+use Rattle.clap.specs.Walk.{Text}
+use Rattle.cw_words.specs.Parts.{Parts, parts_of, copies_of}
+
+-- how many texts are made is told by the action and its WORDs
+abbrev pub TellsCopies : Type 0
+TellsCopies = (words : List Text) (parts : Parts) → parts_of words ≡ Some parts → copies_of parts.action parts.names ≡ Some parts.copies
