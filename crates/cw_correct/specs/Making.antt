@@ -1,5 +1,5 @@
 -- What `big` promises: the texts of the large program are made, and run as `go` runs those of files; a line of its own stands in place of the storage map.
-use Rattle.std.specs.Prelude.{◌≡◌, ℕ, ◌++◌, decimal, codes, Some}
+use Rattle.std.specs.Prelude.{◌≡◌, ℕ, List, ◌++◌, decimal, codes, Some}
 use Rattle.cw_io.specs.File.{AllStay}
 use Rattle.cw_unit.specs.Allocation.{storage_map}
 use Rattle.cw_big.specs.LargeProgram.{large_program}
@@ -9,11 +9,13 @@ use Rattle.cw_say.specs.declared.status.Status.{Status}
 use Rattle.cw_say.specs.declared.status.Status.TheVariants.{Usage, Refused, NoFile, Outside, BadFile, TooLong}
 use Rattle.cw_say.specs.declared.status.Which.TheVariants.{Store}
 use Rattle.cw_say.specs.declared.status.Long.TheVariants.{File}
-use Rattle.std.specs.Prelude.{List}
 
 -- how many texts there are, and how many words the families of their items take up to the last end
+abbrev pub line_with : (copies end : ℕ) → List ℕ
+line_with copies end = codes "big " ++ decimal copies ++ codes " words " ++ decimal end ++ codes "\n"
+
 abbrev pub program_line : (copies : ℕ) → Telling
-program_line copies us = codes "big " ++ decimal copies ++ codes " words " ++ decimal (storage_map us).end ++ codes "\n"
+program_line copies us = line_with copies (storage_map us).end
 
 -- in place of the store, one that never fails and tells of each name a file that holds just that name
 abbrev pub in_memory : Surroundings → Surroundings

@@ -26,7 +26,7 @@ pub struct Segment {
 
 impl Segments {
     /// No segments.
-    pub(crate) fn new(alloc: Global) -> Segments
+    pub fn new(alloc: Global) -> Segments
         ensures { AreSegmentsOf [] result }
     {
         Segments {
@@ -37,7 +37,7 @@ impl Segments {
     }
 
     /// Adds a segment behind the others; or the status where there is no memory for it.
-    pub(crate) fn push(&mut self, segment: Segment) -> Result<(), Status>
+    pub fn push(&mut self, segment: Segment) -> Result<(), Status>
         ensures units { OnOk result (self.new.units ≡ self.old.units ++ segment.unit ∷ []) }
         ensures layouts { OnOk result (self.new.layouts ≡ self.old.layouts ++ segment.made.layout ∷ []) }
         ensures objects { OnOk result (self.new.objects ≡ self.old.objects ++ segment.made.object ∷ []) }

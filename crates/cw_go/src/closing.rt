@@ -8,7 +8,7 @@ use cw_say::{Status, write_last};
 use cw_word::Name;
 
 /// Writes the line of the status, which is answered.
-pub(crate) fn close<S: Sink>(
+pub fn close<S: Sink>(
     say: &mut S,
     names: &[&str],
     segments: &[Name],

@@ -1,4 +1,4 @@
-//! The action `go`: the texts of files to the run of their image.
+//! The action `go`: the texts of files to the run of their image; and its parts, for other actions that run texts.
 #![tactic(auto)]
 
 mod closing;
@@ -8,4 +8,7 @@ mod linking;
 mod running;
 mod statuses;
 
+pub use closing::close;
 pub use going::go;
+pub use linking::link_segments;
+pub use running::run_linked;

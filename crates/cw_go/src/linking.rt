@@ -15,7 +15,7 @@ use cw_unit::layout::Limits;
 use std::alloc::Global;
 
 /// Links the objects of the units, or answers with the status where they have no image.
-pub(crate) fn link_segments(
+pub fn link_segments(
     alloc: Global,
     segments: &Segments,
     limits: &Limits,

@@ -1,11 +1,12 @@
 // What a command asks for, done.
-ghost use Rattle.std.specs.Prelude.{◌≡◌, []};
+ghost use Rattle.std.specs.Prelude.{◌≡◌, [], Some};
 ghost use Rattle.cw_words.specs.Parts.{InRange, command_parts};
-ghost use Rattle.cw_correct.specs.Calls.{surroundings_of, unless_big};
+ghost use Rattle.cw_correct.specs.Calls.{surroundings_of};
 ghost use Rattle.cw_correct.specs.Correct.{IsCorrectRequest};
 ghost use Rattle.cw_say.specs.Said.{Says};
 ghost use Rattle.cw_say.specs.Closing.{closing_line};
 
+use cw_big_run::big;
 use cw_exec::exec;
 use cw_go::go;
 use cw_io::{Sink, Source, Store};
@@ -35,7 +36,7 @@ pub(crate) fn perform<F: Store, I: Source, O: Sink, S: Sink>(
     say: &mut S,
 ) -> Status
     requires { InRange command.now }
-    ensures { IsCorrectRequest (unless_big command.now.action (command_parts command.now)) (surroundings_of (F.file files.old) (F.faults files.old) (F.absences files.old) (I.left input.old) (I.faults input.old) (O.held out.old) (O.faults out.old) (S.held say.old) (S.faults say.old)) (surroundings_of (F.file files.new) (F.faults files.new) (F.absences files.new) (I.left input.new) (I.faults input.new) (O.held out.new) (O.faults out.new) (S.held say.new) (S.faults say.new)) result }
+    ensures { IsCorrectRequest (Some (command_parts command.now)) (surroundings_of (F.file files.old) (F.faults files.old) (F.absences files.old) (I.left input.old) (I.faults input.old) (O.held out.old) (O.faults out.old) (S.held say.old) (S.faults say.old)) (surroundings_of (F.file files.new) (F.faults files.new) (F.absences files.new) (I.left input.new) (I.faults input.new) (O.held out.new) (O.faults out.new) (S.held say.new) (S.faults say.new)) result }
 {
     let limits = Limits {
         area: command.area,
@@ -52,6 +53,6 @@ pub(crate) fn perform<F: Store, I: Source, O: Sink, S: Sink>(
         Action::List => show(alloc, names, &limits, steps, files, out, say),
         Action::Map => map_files(alloc, names, &limits, steps, files, out, say),
         Action::Migrate => migrate(alloc, names, &limits, steps, files, say),
-        Action::Big => quit(say, Status::Usage),
+        Action::Big => big(alloc, command.copies, &limits, steps, input, out, say),
     }
 }

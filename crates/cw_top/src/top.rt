@@ -13,8 +13,7 @@ use std::alloc::Global;
 /// Does what the words ask for, and tells of it on `say`: the storage map before the first byte that a program of `go` writes to
 /// `out`, and at last the closing line of the status.
 ///
-/// The words are `ACTION WORD...` with options; all actions but `big` are built. The input is read in pieces, and only where an
-/// image asks for it.
+/// The words are `ACTION WORD...` with options. The input is read in pieces, and only where an image asks for it.
 pub fn coral66<F: Store, I: Source, O: Sink, S: Sink>(
     alloc: Global,
     words: &[String],
