@@ -1,41 +1,27 @@
 -- The image of units that can be compiled is not long.
 use Rattle.std.proofs.Common.{◌≡◌, ℕ, ◌+◌, ◌*◌, ◌≤◌, List, [], ◌∷◌, map, length, refl, sym, ap, ◌∙◌, arith}
-use Rattle.std.specs.Prelude.{All, IsTrue, sum}
-use Rattle.std.proofs.lemmas.Bool.{and_parts}
-use Rattle.std.proofs.lemmas.Bool.Decides.{nat_tests}
+use Rattle.std.specs.Prelude.{All, sum}
 use Rattle.std.proofs.lemmas.List.Elements.{All-head, All-tail}
 use Rattle.std.proofs.lemmas.List.Sums.{sum_by-cons}
 use Rattle.cw_unit.specs.declared.unit.Unit.{Unit as SourceUnit}
 use Rattle.cw_unit.specs.declared.layout.Limits.{Limits}
 use Rattle.cw_tmpl.specs.Library.{library_bytes}
-use Rattle.cw_gen_unit.specs.ReferenceUnits.{unit_orders}
 use Rattle.cw_link.specs.Contents.{Contents}
 use Rattle.cw_link.specs.LinkedImage.{code_end, linked_size, linked_code}
-use Rattle.cw_built.specs.Built.{is_built}
-use Rattle.cw_built.specs.Coded.{have_code}
-use Rattle.cw_build.specs.Compiled.{code_of, is_short, is_compiled, contents_of_units}
+use Rattle.cw_build.specs.Compiled.{IsCompilable, code_of, contents_of_units}
 use Rattle.cw_build.specs.Linking.{image_of}
-
-abbrev IsCompiled : SourceUnit → Type 0
-IsCompiled u = IsTrue (is_compiled u)
-
-short : (u : SourceUnit) → IsCompiled u → length (code_of u).bytes ≤ 32 * u.tokens
-unfolding is_compiled
-short u e =
-    let test : IsTrue (is_short u) = (and_parts (is_short u) _ (and_parts (have_code (unit_orders u)) _ (and_parts (is_built u) _ e).1).1).0 in
-    grind (arith, nat_tests, test)
 
 one-more : (e s n t k w : ℕ) → w ≡ t + k → n ≤ 32 * t → e ≤ s + n + 32 * k → e ≤ s + 32 * w
 one-more e s n t k w all here rest = omega (arith, all, here, rest)
 
-ends : (us : List SourceUnit) (start : ℕ) → All IsCompiled us → code_end start (contents_of_units us) ≤ start + 32 * sum (map (λ (u : SourceUnit). u.tokens) us)
+ends : (us : List SourceUnit) (start : ℕ) → All IsCompilable us → code_end start (contents_of_units us) ≤ start + 32 * sum (map (λ (u : SourceUnit). u.tokens) us)
 ends [] start h = omega arith
 ends (u ∷ us) start h =
     let tokens : List ℕ = map (λ (v : SourceUnit). v.tokens) us in
     one-more (code_end start (contents_of_units (u ∷ us))) start (length (code_of u).bytes) u.tokens (sum tokens) (sum (map (λ (v : SourceUnit). v.tokens) (u ∷ us)))
-    (sum_by-cons (λ n. n) u.tokens tokens) (short u (All-head IsCompiled u us h)) (ends us (start + length (code_of u).bytes) (All-tail IsCompiled u us h))
+    (sum_by-cons (λ n. n) u.tokens tokens) (All-head IsCompilable u us h).short (ends us (start + length (code_of u).bytes) (All-tail IsCompilable u us h))
 
-pub size : (us : List SourceUnit) → length library_bytes ≤ 4096 → All IsCompiled us → linked_size (contents_of_units us) ≤ 32 * sum (map (λ (u : SourceUnit). u.tokens) us) + 4096
+pub size : (us : List SourceUnit) → length library_bytes ≤ 4096 → All IsCompilable us → linked_size (contents_of_units us) ≤ 32 * sum (map (λ (u : SourceUnit). u.tokens) us) + 4096
 size us library h = by-start (length library_bytes) library (ends us (length library_bytes) h)
   where
     by-start : (start : ℕ) → start ≤ 4096 → code_end start (contents_of_units us) ≤ start + 32 * sum (map (λ (u : SourceUnit). u.tokens) us)

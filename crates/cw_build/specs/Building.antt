@@ -1,5 +1,5 @@
 -- What comes of compiling a unit, and of linking units.
-use Rattle.std.specs.Prelude.{◌≡◌, List, Result, Ok, Err, IsTrue, IsFalse}
+use Rattle.std.specs.Prelude.{◌≡◌, List, Result, Ok, Err}
 use Rattle.cw_unit.specs.declared.unit.Unit.{Unit as SourceUnit}
 use Rattle.cw_unit.specs.declared.layout.Limits.{Limits}
 use Rattle.cw_unit.specs.Storage.{layout_of}
@@ -7,25 +7,14 @@ use Rattle.cw_unit.specs.Allocation.{storage_map}
 use Rattle.cw_link.specs.declared.fault.LinkFault.{LinkFault}
 use Rattle.cw_link.specs.declared.fault.LinkFault.TheVariants as faults
 use Rattle.cw_link.specs.declared.linking.Linked.{Linked}
-use Rattle.cw_build.specs.Compiled.{is_compiled, object_of}
+use Rattle.cw_build.specs.Compiled.{object_of}
 use Rattle.cw_build.specs.Linking.{Links, IsLinkFault, image_of}
 use Rattle.cw_build.specs.declared.made.Made.{Made}
-use Rattle.cw_build.specs.declared.made.CompileFault.{CompileFault}
-use Rattle.cw_build.specs.declared.made.CompileFault.TheVariants.{NotBuilt, NoMemory}
 
 -- what a unit is compiled to
 pub record IsMadeOf (u : SourceUnit) (made : Made) : Type 0 where
-  pub compiled : IsTrue (is_compiled u)
   pub layout : made.layout ≡ layout_of u
   pub object : made.object ≡ object_of u
-
-abbrev pub FailsToCompile : SourceUnit → CompileFault → Type 0
-FailsToCompile u NotBuilt = IsFalse (is_compiled u)
-FailsToCompile u NoMemory = Unit {0}
-
-abbrev pub AnswersCompile : SourceUnit → Result Made CompileFault → Type 0
-AnswersCompile u (Ok made) = IsMadeOf u made
-AnswersCompile u (Err fault) = FailsToCompile u fault
 
 -- what units are linked to
 pub record IsLinkedOf (us : List SourceUnit) (limits : Limits) (linked : Linked) : Type 0 where

@@ -1,5 +1,5 @@
--- Which units can be compiled, and their objects.
-use Rattle.std.specs.Prelude.{ℕ, Bool, ◌&&◌, ◌*◌, nat_le, nat_lt, List, length, map}
+-- What units that can be compiled are, and their objects.
+use Rattle.std.specs.Prelude.{ℕ, ◌*◌, ◌<◌, ◌≤◌, List, length, map, IsTrue}
 use Rattle.cw_unit.specs.declared.unit.Unit.{Unit as SourceUnit}
 use Rattle.cw_unit.specs.Storage.{layout_of}
 use Rattle.cw_unit.specs.StackBound.{unit_need}
@@ -16,16 +16,14 @@ use Rattle.cw_object.specs.ObjectContents.{object_with, contents_with}
 abbrev pub code_of : SourceUnit → Code
 code_of u = orders_code (unit_orders u)
 
--- ---- the test
-
--- whether its code has at most 32 bytes for each token of its text
-abbrev pub is_short : SourceUnit → Bool
-is_short u = nat_le (length (code_of u).bytes) (32 * u.tokens)
-
--- Whether a unit is one that the compiler builds, whose orders all have code, which is short, whose records on the control stack
--- have at most 65,535 words, and whose object can be written.
-unfoldable pub is_compiled : SourceUnit → Bool
-is_compiled u = is_built u && (have_code (unit_orders u) && (is_short u && (nat_lt (unit_need u) 65536 && is_writable u (layout_of u) (code_of u) (unit_need u))))
+-- A unit can be compiled: its orders do what it means, all have code, and at most 32 bytes of it for each token of its text; its records on the control
+-- stack have at most 65,535 words, and its object can be written.
+pub record IsCompilable (u : SourceUnit) : Type 0 where
+  pub built : IsTrue (is_built u)
+  pub coded : IsTrue (have_code (unit_orders u))
+  pub short : length (code_of u).bytes ≤ 32 * u.tokens
+  pub need : unit_need u < 65536
+  pub writable : IsTrue (is_writable u (layout_of u) (code_of u) (unit_need u))
 
 -- ---- objects
 

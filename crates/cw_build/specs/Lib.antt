@@ -1,4 +1,3 @@
 pub mod Compiled
-pub mod Passes
 pub mod Linking
 pub mod Building

@@ -8,4 +8,4 @@ pub mod made;
 
 pub use compiling::compile;
 pub use linking::link_units;
-pub use made::{CompileFault, Made};
+pub use made::Made;

@@ -1,8 +1,8 @@
 //! From the objects of units to their image.
-ghost use Rattle.std.specs.Prelude.{◌≡◌, ◌≤◌, length, map, All, IsTrue, List as Sequence};
+ghost use Rattle.std.specs.Prelude.{◌≡◌, ◌≤◌, length, map, All, List as Sequence};
 ghost use Rattle.cw_unit.specs.declared.unit.Unit.{Unit as SourceUnit};
 ghost use Rattle.cw_place.specs.Placement.{IsLimits};
-ghost use Rattle.cw_build.specs.Compiled.{is_compiled, object_of};
+ghost use Rattle.cw_build.specs.Compiled.{IsCompilable, object_of};
 ghost use Rattle.cw_build.specs.Building.{AnswersLinking};
 
 use cw_link::{LinkFault, Linked};
@@ -16,7 +16,7 @@ use std::alloc::Global;
 pub fn link_units(alloc: Global, objects: &[List<u8>], limits: &Limits) -> Result<Linked, LinkFault>
     ghost us: { Sequence SourceUnit }
     requires objects { objects.now ≡ map object_of us }
-    requires compiled { All (λ u. IsTrue (is_compiled u)) us }
+    requires compiled { All IsCompilable us }
     requires few { length us ≤ 200 }
     requires limits { IsLimits limits.now }
     ensures { AnswersLinking us limits.now result }

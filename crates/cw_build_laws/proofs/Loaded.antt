@@ -1,7 +1,6 @@
 -- A processor that is started with the image of units that can be compiled and link.
 use Rattle.std.proofs.Common.{◌≡◌, ◌≢◌, ℕ, zero, suc, ◌+◌, ◌<◌, ◌≤◌, List, [], ◌∷◌, length, map, slice_get, refl, sym, ap, ◌∙◌, subst, arith}
-use Rattle.std.specs.Prelude.{All, IsTrue, nat_lt}
-use Rattle.std.proofs.lemmas.Bool.{and_parts}
+use Rattle.std.specs.Prelude.{All, IsTrue}
 use Rattle.std.proofs.lemmas.List.{length-map}
 use Rattle.std.proofs.lemmas.List.Elements.{All-weaker, All-from_recursion}
 use Rattle.std.specs.List.{AllByRecursion}
@@ -27,12 +26,11 @@ use Rattle.cw_comm.specs.Clashes.{Agree}
 use Rattle.cw_place.specs.Placement.{IsLimits}
 use Rattle.cw_link.specs.LinkedImage.{linked_code, linked_size, linked_image, presets_from}
 use Rattle.cw_obj.specs.Writable.{AllFrom, by_one, the_same, IsListed, IsSet, IsWritable}
-use Rattle.cw_object.specs.IsWritable.{is_writable}
 use Rattle.cw_built.specs.Built.{is_built}
 use Rattle.cw_built.specs.Coded.{have_code}
 use Rattle.cw_built.specs.Shared.{faces_of}
 use Rattle.cw_sim.specs.Preservation.{IsLoaded}
-use Rattle.cw_build.specs.Compiled.{code_of, is_short, is_compiled, contents_of_units}
+use Rattle.cw_build.specs.Compiled.{IsCompilable, code_of, contents_of_units}
 use Rattle.cw_build.specs.Linking.{Links, image_of}
 use Rattle.cw_build_laws.proofs.Given.{Given}
 use Rattle.cw_build_laws.proofs.Faces.{faces-same}
@@ -42,23 +40,7 @@ use Rattle.cw_build_laws.proofs.Definitions.{HasNames, IsTold}
 use Rattle.cw_build_laws.proofs.Filling.{IsCodes, all-filled}
 use Rattle.cw_build_laws.proofs.Codes.{all-fill}
 
--- ---- what the test tells of a unit
-
-abbrev IsCompiled : SourceUnit → Type 0
-IsCompiled u = IsTrue (is_compiled u)
-
-is-built : (u : SourceUnit) → IsCompiled u → IsTrue (is_built u)
-unfolding is_compiled
-is-built u e = (and_parts _ _ e).0
-
-has-code : (u : SourceUnit) → IsCompiled u → IsTrue (have_code (unit_orders u))
-unfolding is_compiled
-has-code u e = (and_parts _ _ (and_parts _ _ e).1).0
-
-can-be-written : (u : SourceUnit) → IsCompiled u → IsTrue (is_writable u (layout_of u) (code_of u) (unit_need u))
-unfolding is_compiled
-can-be-written u e =
-    (and_parts (nat_lt (unit_need u) 65536) _ (and_parts (is_short u) _ (and_parts (have_code (unit_orders u)) _ (and_parts (is_built u) _ e).1).1).1).1
+-- ---- a unit that can be compiled
 
 presets-words : (families : List Family) (n : ℕ) (ps : List Preset) → AllFrom (λ k. IsSet families) the_same n ps → AllByRecursion (λ (p : Preset). p.word < 65536) ps
 presets-words families n [] h = tt
@@ -73,21 +55,21 @@ names-there n [] h = tt
 names-there n (d ∷ ds) h = (a-letter d.name h.0.fits.name.letter_first, names-there (n + 1) ds h.1)
 
 module _ (given : Given) where
-  written : (u : SourceUnit) → IsCompiled u → IsWritable u (layout_of u) (code_of u) (unit_need u) (code_of u).statements
-  written u e = given.writable u (layout_of u) (code_of u) (unit_need u) (can-be-written u e)
+  written : (u : SourceUnit) → IsCompilable u → IsWritable u (layout_of u) (code_of u) (unit_need u) (code_of u).statements
+  written u e = given.writable u (layout_of u) (code_of u) (unit_need u) e.writable
 
-  has-presets : (u : SourceUnit) → IsCompiled u → HasPresets u
+  has-presets : (u : SourceUnit) → IsCompilable u → HasPresets u
   has-presets u e = All-from_recursion (λ (p : Preset). p.word < 65536) (layout_of u).words (presets-words (layout_of u).families 0 (layout_of u).words (written u e).presets)
 
-  is-told : (u : SourceUnit) → IsCompiled u → IsTold u
+  is-told : (u : SourceUnit) → IsCompilable u → IsTold u
   is-told u e = record {
     names = All-from_recursion (λ (d : Desc). 0 < length d.name) u.descs (names-there 0 u.descs (written u e).descriptors);
-    defined = λ k d x is. given.defined u k d x (is-built u e) is;
+    defined = λ k d x is. given.defined u k d x e.built is;
   }
 
 -- ---- units that link
 
-module _ (given : Given) (us : List SourceUnit) (limits : Limits) (input : List ℕ) (some : us ≢ []) (most : length us ≤ 200) (compiled : All IsCompiled us) (in_limits : IsLimits limits) (links : Links us limits) where
+module _ (given : Given) (us : List SourceUnit) (limits : Limits) (input : List ℕ) (some : us ≢ []) (most : length us ≤ 200) (compiled : All IsCompilable us) (in_limits : IsLimits limits) (links : Links us limits) where
   abbrev m : Map
   m = storage_map us
 
@@ -95,13 +77,13 @@ module _ (given : Given) (us : List SourceUnit) (limits : Limits) (input : List 
   orders = orders_program us m limits 32000
 
   built : All (λ u. IsTrue (is_built u)) us
-  built = All-weaker IsCompiled (λ u. IsTrue (is_built u)) is-built us compiled
+  built = All-weaker IsCompilable (λ u. IsTrue (is_built u)) (λ u e. e.built) us compiled
 
   coded : All (λ u. IsTrue (have_code (unit_orders u))) us
-  coded = All-weaker IsCompiled (λ u. IsTrue (have_code (unit_orders u))) has-code us compiled
+  coded = All-weaker IsCompilable (λ u. IsTrue (have_code (unit_orders u))) (λ u e. e.coded) us compiled
 
   told : All IsTold us
-  told = All-weaker IsCompiled IsTold (is-told given) us compiled
+  told = All-weaker IsCompilable IsTold (is-told given) us compiled
 
   agree : Agree (faces_of us)
   agree = subst Agree (faces-same us) links.words.agree
@@ -145,7 +127,7 @@ module _ (given : Given) (us : List SourceUnit) (limits : Limits) (input : List 
     area = in_limits.1;
     long = memory-long (filled_words us m) 0 limits.area;
     few = few us m limits.area;
-    are_words = are-words us m limits.area (All-weaker IsCompiled HasPresets (has-presets given) us compiled);
+    are_words = are-words us m limits.area (All-weaker IsCompilable HasPresets (has-presets given) us compiled);
     same = same us m limits.area;
   })
 

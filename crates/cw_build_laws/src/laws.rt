@@ -1,5 +1,5 @@
 //! Laws of units that can be compiled.
-ghost use Rattle.std.specs.Prelude.{◌≢◌, ◌<◌, ◌≤◌, ℕ, List, [], length, All, IsTrue};
+ghost use Rattle.std.specs.Prelude.{◌≢◌, ◌<◌, ◌≤◌, ℕ, List, [], length, All};
 ghost use Rattle.cw_i86.specs.State.{State};
 ghost use Rattle.cw_i86.specs.MachineRun.{IsStart};
 ghost use Rattle.cw_unit.specs.declared.unit.Unit.{Unit as SourceUnit};
@@ -7,7 +7,7 @@ ghost use Rattle.cw_unit.specs.declared.layout.Limits.{Limits};
 ghost use Rattle.cw_unit.specs.Allocation.{storage_map};
 ghost use Rattle.cw_place.specs.Placement.{IsLimits};
 ghost use Rattle.cw_sim.specs.Preservation.{IsLoaded};
-ghost use Rattle.cw_build.specs.Compiled.{is_compiled};
+ghost use Rattle.cw_build.specs.Compiled.{IsCompilable};
 ghost use Rattle.cw_build.specs.Linking.{Links, image_of};
 
 use cw_build::laws::linked_units;
@@ -19,7 +19,7 @@ use cw_tmpl::laws::filling;
 /// The processor that begins with the image and the first words of units that can be compiled and link, 200 at most, is loaded with them,
 /// at every input of bytes.
 pub fn loaded()
-    ensures { (us : List SourceUnit) (limits : Limits) (input : List ℕ) (s : State) → us ≢ [] → length us ≤ 200 → All (λ u. IsTrue (is_compiled u)) us → IsLimits limits → Links us limits → All (λ b. b < 256) input →
+    ensures { (us : List SourceUnit) (limits : Limits) (input : List ℕ) (s : State) → us ≢ [] → length us ≤ 200 → All IsCompilable us → IsLimits limits → Links us limits → All (λ b. b < 256) input →
         IsStart (image_of us limits).code (image_of us limits).words s → IsLoaded us (storage_map us) limits input s }
 {
     built_units();

@@ -1,4 +1,4 @@
--- An order that passes the test has code.
+-- An order of which `has_code` holds has code.
 use Rattle.std.proofs.Common.{ℕ, ◌+◌, ◌<◌, ◌≤◌, nat_eq, ℤ, pos, negsuc, length, Bool, IsTrue, ◌&&◌, nat_lt, nat_le, All, slice_index_or, arith}
 use Rattle.std.proofs.lemmas.Int.{ints}
 use Rattle.std.proofs.lemmas.Bool.{leb-true, ltb-true}
@@ -85,7 +85,7 @@ coded-order (order.GoCommon d) h = tt
 coded-order (order.GoSwitch n) h = tt
 coded-order (order.GoSwitchCommon d) h = tt
 
--- the parts of the test for all orders of a unit
+-- the parts of `have_code`
 pub record Coded (o : Orders) : Type 0 where
   pub entry : IsTrue (nat_eq o.entry 0)
   pub list : IsTrue (list_all has_code o.list)

@@ -1,15 +1,13 @@
 //! Small texts, with what they write and how they end, by hand from the rules of the language.
 use crate::orders::{ORDER_STEPS, STEPS, bytes_of, told_of_code, told_of_orders};
 use crate::processor::Run;
-use cw_build::compile;
-use cw_compile::unit;
+use cw_files::{Segment as Compiled, compile_text};
 use cw_gen_unit::orders;
 use cw_interpreter::{Machine, Program, Segment};
 use cw_link::{Linked, link};
 use cw_ports::ImageEnd;
 use cw_tmpl::base_code;
 use cw_unit::layout::Limits;
-use cw_unit::unit::Unit;
 use cw_view::View;
 use std::alloc::{AllocError, Global};
 use std::test::Fail;
@@ -137,13 +135,6 @@ fn text_of(alloc: Global, communicators: &str, body: &str) -> Result<Vec<u8>, Al
     Ok(bytes)
 }
 
-fn unit_of(alloc: Global, text: &[u8]) -> Option<Unit> {
-    if text.len() > 1_048_576 {
-        return None;
-    }
-    unit(alloc, text).ok()
-}
-
 fn link_one(alloc: Global, object: &[u8]) -> Option<Linked> {
     match View::open(object) {
         Ok(view) => link(alloc, &[view], &LIMITS).ok(),
@@ -159,10 +150,13 @@ struct Built {
 }
 
 fn compiled(alloc: Global, text: &[u8]) -> Option<Built> {
-    let unit = unit_of(alloc, text)?;
-    let Ok(made) = compile(alloc, &unit) else {
+    if text.len() > 1_048_576 {
+        return None;
+    }
+    let Ok(compiled) = compile_text(alloc, text, 0) else {
         return None;
     };
+    let Compiled { unit, made } = compiled;
     let orders = orders(alloc, &unit, &made.layout).ok()?;
     let linked = link_one(alloc, made.object.as_slice())?;
     let mut arguments = Vec::new(alloc);

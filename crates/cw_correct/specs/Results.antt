@@ -21,7 +21,6 @@ use Rattle.cw_correct.specs.Files.{counts_before, counts_after, AllAccepted}
 use Rattle.cw_correct.specs.Saying.{SaysLast}
 use Rattle.cw_correct.specs.Going.{HasCause}
 use Rattle.cw_correct.specs.Meaning.{TellBytes}
-use Rattle.cw_say.specs.declared.status.Refused.TheVariants.{Faulty, NotBuilt}
 use Rattle.cw_say.specs.declared.status.Status.{Status}
 use Rattle.cw_say.specs.declared.status.Status.TheVariants.{Ended, Refused, Unlinked, NoFile, Outside, NoMemory, BadFile, TooLong}
 use Rattle.cw_say.specs.declared.status.Which.TheVariants.{Store, Out}
@@ -75,11 +74,10 @@ pub record MapsRight (c : Call) (status : Status) : Type 0 where
 
 -- ---- list
 
--- a text is shown that has a unit, whether that can be compiled or not
+-- a text is shown that has a unit
 abbrev pub ShowComes : Call → (texts shown : List (List ℕ)) → Status → Type 0
 ShowComes c texts shown Ended = AllAccepted c shown
 ShowComes c texts shown (Outside Out) = AllAccepted c shown
-ShowComes c texts shown (Refused number NotBuilt) = ⊥
 ShowComes c texts shown status = StopsTexts (told_files c) texts (length shown) (counts_before c) (counts_after c) status
 
 abbrev pub first_shown : (shown : List (List ℕ)) → List ℕ

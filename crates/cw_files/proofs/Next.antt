@@ -1,5 +1,5 @@
 -- A file that was not read stops the call, whatever its kind.
-use Rattle.std.proofs.Common.{◌≡◌, ℕ, ◌≤◌, List, [], ◌∷◌, ◌++◌, length, map, slice_get, Some, Result, Ok, Err, IfOk, IfErr, refl, ap, sym, subst, ◌∙◌}
+use Rattle.std.proofs.Common.{◌≡◌, ℕ, ◌<◌, ◌≤◌, List, [], ◌∷◌, ◌++◌, length, map, slice_get, Some, Result, Ok, Err, IfOk, IfErr, All, refl, ap, sym, subst, ◌∙◌}
 use Rattle.cw_io.specs.File.{Told, Is}
 use Rattle.cw_unit.specs.declared.unit.Unit.{Unit as SourceUnit}
 use Rattle.cw_compile.specs.Texts.{text_limit, IsUnitOf}
@@ -73,10 +73,16 @@ unread_image files texts taken before after (BadFile file (BadImage fault)) unre
 
 -- ---- texts
 
-pub made_unit : (text : List ℕ) (u : SourceUnit) (segment : Segment) → IsUnitOf text u → (segment.unit ≡ u) × IsMadeOf u segment.made
+pub made_unit : (text : List ℕ) (u : SourceUnit) (segment : Segment) → All (λ b. b < 256) text → IsUnitOf text u → (segment.unit ≡ u) × IsMadeOf u segment.made
     → HasUnit text segment.unit × IsMadeOf segment.unit segment.made
-made_unit text u segment is_unit made =
-    subst (λ v. HasUnit text v × IsMadeOf v segment.made) (sym made.0) (record { is_unit = is_unit; compiled = made.1.compiled }, made.1)
+made_unit text u segment bytes is_unit made =
+    subst (λ v. HasUnit text v × IsMadeOf v segment.made) (sym made.0) (record { bytes = bytes; is_unit = is_unit }, made.1)
+
+-- where memory was wanted, the call stops
+pub unit_no_memory : (files : List Told) (texts : List (List ℕ)) (number : ℕ) (before after : Counts) (result : Result Segment Status) → IfErr result (λ status. status ≡ NoMemory)
+    → IfErr result (λ status. StopsTexts files texts number before after status)
+unit_no_memory files texts number before after (Ok segment) none = tt
+unit_no_memory files texts number before after (Err status) none = subst (λ s. StopsTexts files texts number before after s) (sym none) tt
 
 pub unit_taken : (files : List Told) (us : List SourceUnit) (file : Told) (text : List ℕ) (number : ℕ) (before after : Counts) (result : Result Segment Status)
     → Takes text_limit HasUnit files us → length us ≡ number → slice_get files number ≡ Some file → Is file text → length text ≤ text_limit → SameCounts before after

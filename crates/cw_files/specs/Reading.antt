@@ -6,11 +6,11 @@ use Rattle.cw_io.specs.File.{Told, Is, IsAbsent, IsLonger}
 use Rattle.cw_unit.specs.declared.unit.Unit.{Unit as SourceUnit}
 use Rattle.cw_unit.specs.declared.layout.Layout.{Layout}
 use Rattle.cw_list.specs.Rows.{layouts_of}
-use Rattle.cw_compile.specs.Texts.{text_limit}
+use Rattle.cw_compile.specs.declared.fault.Refusal.{Refusal}
+use Rattle.cw_compile.specs.Texts.{text_limit, IsRefused}
 use Rattle.cw_build.specs.Compiled.{object_of}
-use Rattle.cw_files.specs.Texts.{HasUnit, HasObject, HasImage, IsRefused, IsBad, object_limit}
+use Rattle.cw_files.specs.Texts.{HasUnit, HasObject, HasImage, IsBad, object_limit}
 use Rattle.cw_image.specs.declared.image.Image.{Image}
-use Rattle.cw_say.specs.declared.status.Refused.{Refused as Refusing}
 use Rattle.cw_say.specs.declared.status.Bad.{Bad}
 use Rattle.cw_say.specs.declared.status.Bad.TheVariants.{Object, Image as BadImage}
 use Rattle.cw_say.specs.declared.status.Status.{Status}
@@ -51,7 +51,7 @@ abbrev pub IsLongerAt : Option Told → (most : ℕ) → Type 0
 IsLongerAt None most = ⊥
 IsLongerAt (Some file) most = IsLonger file most
 
-abbrev pub IsRefusedAt : Option (List ℕ) → Refusing → Type 0
+abbrev pub IsRefusedAt : Option (List ℕ) → Refusal → Type 0
 IsRefusedAt None fault = ⊥
 IsRefusedAt (Some text) fault = IsRefused text fault
 

@@ -1,6 +1,5 @@
--- What is taken from a file, by its bytes: the unit of a text, what a linker takes from an object, an image, or a canonical text; and why a file is
--- refused.
-use Rattle.std.specs.Prelude.{◌≡◌, ◌≢◌, ℕ, List, Ok, Err, IsTrue, IsFalse}
+-- What is taken from a file, by its bytes: the unit of a text, what a linker takes from an object, or an image; and why a file is refused.
+use Rattle.std.specs.Prelude.{◌≡◌, ◌≢◌, ◌<◌, ℕ, List, All, Ok, Err}
 use Rattle.cw_unit.specs.declared.unit.Unit.{Unit as SourceUnit}
 use Rattle.cw_view.specs.ObjectFormat.{IsObject, IsFirstObjectFault}
 use Rattle.cw_image.specs.ImageFormat.{image_in}
@@ -8,10 +7,7 @@ use Rattle.cw_image.specs.declared.image.Image.{Image}
 use Rattle.cw_image.specs.declared.fault.ImageFault.TheVariants as images
 use Rattle.cw_link.specs.Contents.{Contents}
 use Rattle.cw_object.specs.ObjectContents.{contents_in}
-use Rattle.cw_compile.specs.Texts.{IsUnitOf, IsRefused as IsFaulty}
-use Rattle.cw_build.specs.Compiled.{is_compiled}
-use Rattle.cw_say.specs.declared.status.Refused.{Refused as Refusing}
-use Rattle.cw_say.specs.declared.status.Refused.TheVariants.{Faulty, NotBuilt}
+use Rattle.cw_compile.specs.Texts.{IsUnitOf}
 use Rattle.cw_say.specs.declared.status.Bad.{Bad}
 use Rattle.cw_say.specs.declared.status.Bad.TheVariants.{Object, Image as BadImage}
 
@@ -21,15 +17,10 @@ object_limit = 16777216
 
 -- ---- texts
 
--- the text has this unit, which is one that can be compiled
+-- the text is of bytes, and has this unit
 pub record HasUnit (text : List ℕ) (unit : SourceUnit) : Type 0 where
+  pub bytes : All (λ b. b < 256) text
   pub is_unit : IsUnitOf text unit
-  pub compiled : IsTrue (is_compiled unit)
-
--- why a text is not compiled: its first fault, or that its unit cannot be compiled
-abbrev pub IsRefused : (text : List ℕ) → Refusing → Type 0
-IsRefused text (Faulty refusal) = IsFaulty text refusal
-IsRefused text NotBuilt = (unit : SourceUnit) × IsUnitOf text unit × IsFalse (is_compiled unit)
 
 -- ---- objects and images
 

@@ -3,11 +3,12 @@
 
 mod bytes;
 mod images;
+pub mod laws;
 mod objects;
 pub mod segments;
 mod texts;
 
 pub use images::read_image_file;
 pub use objects::read_objects;
-pub use segments::Segments;
-pub use texts::{read_text, read_units};
+pub use segments::{Segment, Segments};
+pub use texts::{compile_text, read_text, read_units};

@@ -19,9 +19,9 @@ pub struct Segments {
 
 /// The unit of one text, and what it was compiled to.
 #[derive(Drop)]
-pub(crate) struct Segment {
-    pub(crate) unit: Unit,
-    pub(crate) made: Made,
+pub struct Segment {
+    pub unit: Unit,
+    pub made: Made,
 }
 
 impl Segments {

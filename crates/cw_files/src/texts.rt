@@ -2,7 +2,8 @@
 ghost use Rattle.std.specs.Prelude.{◌≡◌, ℕ, ◌≤◌, [], ◌∷◌, length, map, slice_get, Some, IfOk, IfErr, List as Sequence};
 ghost use Rattle.cw_io.specs.File.{Told, Is, AllStay};
 ghost use Rattle.cw_unit.specs.declared.unit.Unit.{Unit as SourceUnit};
-ghost use Rattle.cw_compile.specs.Texts.{text_limit, IsUnitOf};
+ghost use Rattle.cw_compile.specs.Texts.{text_limit};
+ghost use Rattle.cw_build.specs.Compiled.{IsCompilable};
 ghost use Rattle.cw_build.specs.Building.{IsMadeOf};
 ghost use Rattle.cw_files.specs.Texts.{HasUnit};
 ghost use Rattle.cw_files.specs.Reading.{Counts, counts_at, SameCounts, IsUnread, StopsTexts, AnswersUnits};
@@ -10,10 +11,11 @@ ghost use Rattle.cw_files.specs.Taking.{Takes, AnswersUnit};
 
 use crate::bytes::read_bytes;
 use crate::segments::{Segment, Segments};
-use cw_build::{CompileFault, compile};
+use cw_build::compile;
 use cw_compile::{UnitFault, unit};
 use cw_io::Store;
-use cw_say::{Refused, Status};
+use cw_say::Status;
+use cw_sound_text::laws::text_units;
 use cw_unit::unit::Unit;
 use std::alloc::Global;
 
@@ -31,32 +33,30 @@ pub fn read_text<F: Store>(alloc: Global, files: &mut F, name: &str) -> Result<V
     read_bytes(alloc, files, name, 0, TEXT_LIMIT)
 }
 
-// Compiles the unit of the text with this number.
-fn compile_unit(alloc: Global, unit: Unit, number: u16) -> Result<Segment, Status>
+// Compiles a unit that can be compiled.
+fn compile_unit(alloc: Global, unit: Unit) -> Result<Segment, Status>
+    requires { IsCompilable unit }
     ensures made { IfOk result (λ segment. (segment.unit ≡ unit) × IsMadeOf unit segment.made) }
-    ensures stops { (text : Sequence ℕ) (told : Sequence Told) (texts : Sequence (Sequence ℕ)) (before after : Counts) → IsUnitOf text unit → slice_get texts number ≡ Some text → IfErr result (λ status. StopsTexts told texts number before after status) }
+    ensures memory { IfErr result (λ status. status ≡ Status.NoMemory) }
 {
     match compile(alloc, &unit) {
         Ok(made) => Ok(Segment { unit, made }),
-        Err(CompileFault::NotBuilt) => Err(Status::Refused {
-            file: number,
-            fault: Refused::NotBuilt,
-        }),
-        Err(CompileFault::NoMemory) => Err(Status::NoMemory),
+        Err(_) => Err(Status::NoMemory),
     }
 }
 
-// Compiles the text with this number.
-fn compile_text(alloc: Global, text: &[u8], number: u16) -> Result<Segment, Status>
+/// Compiles a text, which has this number among those of the call; or the status where it has no unit.
+pub fn compile_text(alloc: Global, text: &[u8], number: u16) -> Result<Segment, Status>
     requires { length text.now ≤ text_limit }
     ensures made { IfOk result (λ segment. HasUnit text.now segment.unit × IsMadeOf segment.unit segment.made) }
     ensures stops { (told : Sequence Told) (texts : Sequence (Sequence ℕ)) (before after : Counts) → slice_get texts number ≡ Some text.now → IfErr result (λ status. StopsTexts told texts number before after status) }
 {
+    text_units();
     match unit(alloc, text) {
-        Ok(unit) => compile_unit(alloc, unit, number),
-        Err(UnitFault::Refused(refusal)) => Err(Status::Refused {
+        Ok(unit) => compile_unit(alloc, unit),
+        Err(UnitFault::Refused(fault)) => Err(Status::Refused {
             file: number,
-            fault: Refused::Faulty(refusal),
+            fault,
         }),
         Err(UnitFault::NoMemory) => Err(Status::NoMemory),
     }

@@ -2,8 +2,8 @@
 use Rattle.std.proofs.Common.{◌≡◌, ℕ, zero, suc, ◌<◌, ◌≤◌, List, [], ◌∷◌, length, map, Option, Some, None, refl, sym, ap, ap₂, ◌∙◌, subst, slice_get, arith}
 use Rattle.cw_io.specs.File.{Told, as_file, Is, IsLonger}
 use Rattle.cw_files.specs.Reading.{HaveBytes, HaveValues, IsLongerAt, IsRefusedAt}
-use Rattle.cw_files.specs.Texts.{IsRefused}
-use Rattle.cw_say.specs.declared.status.Refused.{Refused as Refusing}
+use Rattle.cw_compile.specs.declared.fault.Refusal.{Refusal}
+use Rattle.cw_compile.specs.Texts.{IsRefused}
 
 -- ---- files that are told
 
@@ -62,7 +62,7 @@ get_within (y ∷ ys) (suc n) x e = omega (arith, get_within ys n x e)
 pub one_at : {A : Type 0} (xs : List A) (n : ℕ) (x y : A) → slice_get xs n ≡ Some x → slice_get xs n ≡ Some y → x ≡ y
 one_at xs n x y e f = some_same x y (sym e ∙ f)
 
-pub refused_text : (o : Option (List ℕ)) (fault : Refusing) → IsRefusedAt o fault → (text : List ℕ) × (o ≡ Some text) × IsRefused text fault
+pub refused_text : (o : Option (List ℕ)) (fault : Refusal) → IsRefusedAt o fault → (text : List ℕ) × (o ≡ Some text) × IsRefused text fault
 refused_text None fault refused = absurd refused
 refused_text (Some text) fault refused = (text, refl, refused)
 

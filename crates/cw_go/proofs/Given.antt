@@ -15,11 +15,10 @@ use Rattle.cw_sim.specs.Preservation.{IsLoaded, Preserves, Completes}
 use Rattle.cw_place.specs.Placement.{IsLimits}
 use Rattle.cw_compile.specs.Outcomes.{HasOneUnit, HasOneRefusal, HasNotBoth, CountsTokens}
 use Rattle.cw_link.specs.LinkedImage.{linked_size}
-use Rattle.cw_build.specs.Compiled.{is_compiled, contents_of_units}
+use Rattle.cw_build.specs.Compiled.{IsCompilable, contents_of_units}
 use Rattle.cw_build.specs.Linking.{Links, image_of}
-
-abbrev pub IsCompiled : SourceUnit → Type 0
-IsCompiled u = IsTrue (is_compiled u)
+use Rattle.cw_files.specs.Texts.{HasUnit}
+use Rattle.cw_files.specs.Reading.{HaveValues}
 
 -- on texts
 pub record OneOfText : Type 0 where
@@ -28,6 +27,10 @@ pub record OneOfText : Type 0 where
   pub not_both : HasNotBoth
   pub tokens : CountsTokens
 
+-- on the units of texts
+abbrev pub AreCompilable : Type 0
+AreCompilable = (texts : List (List ℕ)) (us : List SourceUnit) → HaveValues HasUnit texts us → All IsCompilable us
+
 -- on storage
 pub record OnStorage : Type 0 where
   pub layout : (u : SourceUnit) → IsTrue (is_built u) → HasLayout u
@@ -35,7 +38,7 @@ pub record OnStorage : Type 0 where
 
 -- on runs
 pub record OnRuns : Type 0 where
-  pub loaded : (us : List SourceUnit) (limits : Limits) (input : List ℕ) (s : State) → us ≢ [] → length us ≤ 200 → All IsCompiled us → IsLimits limits → Links us limits → All (λ b. b < 256) input
+  pub loaded : (us : List SourceUnit) (limits : Limits) (input : List ℕ) (s : State) → us ≢ [] → length us ≤ 200 → All IsCompilable us → IsLimits limits → Links us limits → All (λ b. b < 256) input
       → run.IsStart (image_of us limits).code (image_of us limits).words s → IsLoaded us (storage_map us) limits input s
   pub preserves : (us : List SourceUnit) (m : Map) (limits : Limits) (input : List ℕ) (s : State) (k : ℕ) (shown : run.Observed) → IsLoaded us m limits input s → run.Shows s input k shown → Preserves (program_at us m limits) input k shown
   pub completes : (us : List SourceUnit) (m : Map) (limits : Limits) (input : List ℕ) (s : State) (steps : ℕ) → IsLoaded us m limits input s → Completes (program_at us m limits) input steps s
@@ -43,10 +46,11 @@ pub record OnRuns : Type 0 where
 
 -- on sizes
 abbrev pub HasSizes : Type 0
-HasSizes = (us : List SourceUnit) (limits : Limits) → All IsCompiled us → linked_size (contents_of_units us) ≤ 32 * sum (map (λ u. u.tokens) us) + 4096
+HasSizes = (us : List SourceUnit) (limits : Limits) → All IsCompilable us → linked_size (contents_of_units us) ≤ 32 * sum (map (λ u. u.tokens) us) + 4096
 
 pub record Given : Type 0 where
   pub texts : OneOfText
+  pub units : AreCompilable
   pub storages : OnStorage
   pub runs : OnRuns
   pub sizes : HasSizes

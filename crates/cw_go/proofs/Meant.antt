@@ -1,7 +1,7 @@
 -- What a run of the image of texts shows is what the texts mean, and no more than one thing comes of a text.
-use Rattle.std.proofs.Common.{◌≡◌, ◌≢◌, ℕ, ◌+◌, ◌*◌, ◌<◌, ◌≤◌, Bool, true, false, ◌&&◌, List, [], ◌∷◌, length, map, refl, sym, ap, ap₂, ◌∙◌, subst, inr, ⊎_elim, arith}
-use Rattle.std.specs.Prelude.{All, IsTrue, IsFalse, sum}
-use Rattle.std.proofs.lemmas.List.Elements.{All-nil, All-cons}
+use Rattle.std.proofs.Common.{◌≡◌, ◌≢◌, ℕ, ◌+◌, ◌*◌, ◌<◌, ◌≤◌, List, [], ◌∷◌, length, map, refl, sym, ap, ap₂, ◌∙◌, subst, inr, ⊎_elim, arith}
+use Rattle.std.specs.Prelude.{All, sum}
+use Rattle.std.proofs.lemmas.List.Elements.{All-weaker}
 use Rattle.std.proofs.lemmas.List.Sums.{sum_by-cons}
 use Rattle.cw_i86.specs.State.{State}
 use Rattle.cw_i86.specs.MachineRun as run
@@ -9,7 +9,6 @@ use Rattle.cw_unit.specs.declared.unit.Unit.{Unit as SourceUnit}
 use Rattle.cw_unit.specs.declared.layout.Limits.{Limits}
 use Rattle.cw_unit.specs.Allocation.{storage_map}
 use Rattle.cw_unit.specs.ValidStorage.{IsStorable, FitsArea, ValidStorageMap}
-use Rattle.cw_built.specs.Built.{is_built}
 use Rattle.cw_track.specs.Tracking.{step_ratio}
 use Rattle.cw_unit.specs.Program.{program_of}
 use Rattle.cw_unit.specs.Stop.{End, Running}
@@ -17,40 +16,21 @@ use Rattle.cw_unit.specs.Behaviour.{observed}
 use Rattle.cw_sim.specs.Preservation.{TellsEnd, IsLoaded, Preserves}
 use Rattle.cw_place.specs.Placement.{IsLimits}
 use Rattle.cw_lex.specs.Lexical.{Lexeme}
-use Rattle.cw_compile.specs.Texts.{IsUnitOf}
+use Rattle.cw_compile.specs.declared.fault.Refusal.{Refusal}
+use Rattle.cw_compile.specs.Texts.{IsRefused}
 use Rattle.cw_compile.specs.Outcomes.{CountsTokens}
-use Rattle.cw_build.specs.Compiled.{is_compiled}
+use Rattle.cw_build.specs.Compiled.{IsCompilable}
 use Rattle.cw_build.specs.Linking.{Links, image_of}
-use Rattle.cw_files.specs.Texts.{HasUnit, IsRefused}
+use Rattle.cw_files.specs.Texts.{HasUnit}
 use Rattle.cw_files.specs.Reading.{HaveValues}
 use Rattle.cw_correct.specs.Going.{ExpandTo}
-use Rattle.cw_say.specs.declared.status.Refused.{Refused as Refusing}
-use Rattle.cw_say.specs.declared.status.Refused.TheVariants.{Faulty, NotBuilt}
-use Rattle.cw_go.proofs.Given.{IsCompiled, OneOfText, OnStorage, OnRuns}
+use Rattle.cw_go.proofs.Given.{OneOfText, AreCompilable, OnStorage, OnRuns}
 
 -- ---- units of texts
 
-pub all_compiled : (texts : List (List ℕ)) (us : List SourceUnit) → HaveValues HasUnit texts us → All IsCompiled us
-all_compiled texts [] have = All-nil IsCompiled
-all_compiled [] (u ∷ us) have = absurd have
-all_compiled (t ∷ ts) (u ∷ us) have = All-cons IsCompiled u us have.0.compiled (all_compiled ts us have.1)
-
-first_of : (a b : Bool) → IsTrue (a && b) → IsTrue a
-first_of true b h = refl
-first_of false b h = h
-
--- a unit that can be compiled is built
-built_of : (u : SourceUnit) → IsTrue (is_compiled u) → IsTrue (is_built u)
-unfolding is_compiled
-built_of u h = first_of (is_built u) _ h
-
-all_storable : OnStorage → (texts : List (List ℕ)) (us : List SourceUnit) → HaveValues HasUnit texts us → All IsStorable us
-all_storable given texts [] have = All-nil IsStorable
-all_storable given [] (u ∷ us) have = absurd have
-all_storable given (t ∷ ts) (u ∷ us) have = All-cons IsStorable u us (given.layout u (built_of u have.0.compiled)).storable (all_storable given ts us have.1)
-
-pub valid : OnStorage → (limits : Limits) (texts : List (List ℕ)) (us : List SourceUnit) → HaveValues HasUnit texts us → FitsArea us limits → ValidStorageMap us limits (storage_map us)
-valid given limits texts us have fits = given.storage us limits (all_storable given texts us have) fits
+pub valid : AreCompilable → OnStorage → (limits : Limits) (texts : List (List ℕ)) (us : List SourceUnit) → HaveValues HasUnit texts us → FitsArea us limits → ValidStorageMap us limits (storage_map us)
+valid compilable given limits texts us have fits =
+    given.storage us limits (All-weaker IsCompilable IsStorable (λ u x. (given.layout u x.built).storable) us (compilable texts us have)) fits
 
 -- the tokens of the units are the items to which the texts expand
 pub record Expanded (texts : List (List ℕ)) (us : List SourceUnit) : Type 0 where
@@ -92,7 +72,7 @@ over_stays s input k n o le over shows = record {
 is_over : (e : run.End) (meant : End) → TellsEnd e meant → meant ≢ Running → e ≢ run.Running
 is_over e meant tells over running = over (subst (λ x. TellsEnd x meant) running tells)
 
-module _ (given : OnRuns) (us : List SourceUnit) (limits : Limits) (some : us ≢ []) (most : length us ≤ 200) (all : All IsCompiled us) (within : IsLimits limits) (links : Links us limits) (input : List ℕ) (bytes : All (λ b. b < 256) input)
+module _ (given : OnRuns) (us : List SourceUnit) (limits : Limits) (some : us ≢ []) (most : length us ≤ 200) (all : All IsCompilable us) (within : IsLimits limits) (links : Links us limits) (input : List ℕ) (bytes : All (λ b. b < 256) input)
     (s : State) (start : run.IsStart (image_of us limits).code (image_of us limits).words s) where
   loaded : IsLoaded us (storage_map us) limits input s
   loaded = given.loaded us limits input s some most all within links bytes start
@@ -117,22 +97,9 @@ module _ (given : OnRuns) (us : List SourceUnit) (limits : Limits) (some : us �
 
 -- ---- texts
 
-opposite : (b : Bool) → IsTrue b → IsFalse b → ⊥
-opposite b holds fails = absurd (cc (holds, fails))
-
 module _ (given : OneOfText) (text : List ℕ) where
   pub one_unit : (u v : SourceUnit) → HasUnit text u → HasUnit text v → u ≡ v
   one_unit u v x y = given.one_unit text u v x.is_unit y.is_unit
 
-  unit_not_refused : (u v : SourceUnit) → HasUnit text u → IsUnitOf text v → IsFalse (is_compiled v) → ⊥
-  unit_not_refused u v x y fails = opposite (is_compiled u) x.compiled (subst (λ w. IsFalse (is_compiled w)) (given.one_unit text v u y x.is_unit) fails)
-
-  pub not_refused : (u : SourceUnit) (fault : Refusing) → HasUnit text u → IsRefused text fault → ⊥
-  not_refused u (Faulty refusal) x y = given.not_both text u refusal x.is_unit y
-  not_refused u NotBuilt x (v, is, fails) = unit_not_refused u v x is fails
-
-  pub one_refusal : (f g : Refusing) → IsRefused text f → IsRefused text g → f ≡ g
-  one_refusal (Faulty f) (Faulty g) x y = ap Faulty (given.one_refusal text f g x y)
-  one_refusal (Faulty f) NotBuilt x (v, is, fails) = absurd (given.not_both text v f is x)
-  one_refusal NotBuilt (Faulty g) (v, is, fails) y = absurd (given.not_both text v g is y)
-  one_refusal NotBuilt NotBuilt x y = refl
+  pub not_refused : (u : SourceUnit) (fault : Refusal) → HasUnit text u → IsRefused text fault → ⊥
+  not_refused u fault x y = given.not_both text u fault x.is_unit y

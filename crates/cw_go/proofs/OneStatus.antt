@@ -8,18 +8,18 @@ use Rattle.cw_i86.specs.MachineRun as run
 use Rattle.cw_ports.specs.Pieces.{input_limit}
 use Rattle.cw_ports.specs.Running.{Taken, TakenWithin}
 use Rattle.cw_unit.specs.declared.unit.Unit.{Unit as SourceUnit}
-use Rattle.cw_compile.specs.Texts.{text_limit}
+use Rattle.cw_compile.specs.declared.fault.Refusal.{Refusal}
+use Rattle.cw_compile.specs.Texts.{text_limit, IsRefused}
 use Rattle.cw_link.specs.declared.fault.LinkFault.{LinkFault}
 use Rattle.cw_build.specs.Compiled.{contents_of_units}
 use Rattle.cw_build.specs.Linking.{Links, IsLinkFault, image_of}
-use Rattle.cw_files.specs.Texts.{HasUnit, IsRefused}
+use Rattle.cw_files.specs.Texts.{HasUnit}
 use Rattle.cw_files.specs.Reading.{HaveBytes, HaveValues}
 use Rattle.cw_correct.specs.Calls.{Call, told_files, NoFault}
 use Rattle.cw_correct.specs.Running.{ImageShows, Tells, Ran}
 use Rattle.cw_correct.specs.Going.{GoesRight}
 use Rattle.cw_say.specs.declared.status.Status.{Status}
 use Rattle.cw_say.specs.declared.status.Status.TheVariants.{Ended, Usage, Refused, Unlinked, Stopped, Unfinished, NoFile, Outside, NoMemory, BadFile, TooLong, BadCode, Divided}
-use Rattle.cw_say.specs.declared.status.Refused.{Refused as Refusing}
 use Rattle.cw_say.specs.declared.status.Which.TheVariants.{Store, Input, Out, Say}
 use Rattle.cw_say.specs.declared.status.Long.TheVariants.{File}
 use Rattle.cw_say.specs.declared.status.Long.TheVariants as long
@@ -50,7 +50,7 @@ taken_once left (Some rest) told m n is (xs, same, count) (ys, also, other) =
 module _ (texts : OneOfText) (runs : OneRun) (c : Call) (input : List ℕ) (told : files.AreTold (told_files c)) (quiet : NoFault c.before c.after) where
   -- the file behind those that were taken is refused, or too long
   abbrev IsRefusedThere : (ts : List (List ℕ)) (n : ℕ) → Status → Type 0
-  IsRefusedThere ts n s = (fault : Refusing) × (text : List ℕ) × (slice_get ts n ≡ Some text) × IsRefused text fault × (s ≡ Refused n fault)
+  IsRefusedThere ts n s = (fault : Refusal) × (text : List ℕ) × (slice_get ts n ≡ Some text) × IsRefused text fault × (s ≡ Refused n fault)
 
   abbrev IsLongThere : (n : ℕ) → Status → Type 0
   IsLongThere n s = (file : Told) × (slice_get (told_files c) n ≡ Some file) × IsLonger file text_limit × (s ≡ TooLong (File n))
@@ -85,7 +85,7 @@ module _ (texts : OneOfText) (runs : OneRun) (c : Call) (input : List ℕ) (told
       let within : TakenWithin c.before.left c.after.left = x.within_limit (not_too_long c.steps s x.shown.end ran.tells) in
       of_units s x all (inr (inl (links, (x.shown, subst (λ n. ImageShows (image_of x.units c.limits) input n x.shown) ran.all ran.shows, ran.tells), within)))
 
-  of_refusal : (number : ℕ) (fault : Refusing) (x : GoesRight c input (Refused number fault)) → OfCall (Refused number fault)
+  of_refusal : (number : ℕ) (fault : Refusal) (x : GoesRight c input (Refused number fault)) → OfCall (Refused number fault)
   of_refusal number fault x =
       let (text, at, refused) = files.refused_text (slice_get x.texts number) fault x.comes.1 in
       let is : number ≡ length x.units = x.comes.0 in
@@ -151,7 +151,7 @@ module _ (texts : OneOfText) (runs : OneRun) (c : Call) (input : List ℕ) (told
   one_stop : (ts ss : List (List ℕ)) (n : ℕ) (s t : Status) → HaveBytes text_limit (told_files c) ts → HaveBytes text_limit (told_files c) ss → IsStop ts n s → IsStop ss n t → s ≡ t
   one_stop ts ss n s t bytes also (inl (f, text, at, x, e)) (inl (g, other, there, y, e')) =
       let same = same_text n text other (files.file_at text_limit (told_files c) ts n text bytes at) (files.file_at text_limit (told_files c) ss n other also there) in
-      e ∙ ap (λ z. Refused n z) (meant.one_refusal texts other f g (subst (λ z. IsRefused z f) same x) y) ∙ sym e'
+      e ∙ ap (λ z. Refused n z) (texts.one_refusal other f g (subst (λ z. IsRefused z f) same x) y) ∙ sym e'
   one_stop ts ss n s t bytes also (inl x) (inr y) = absurd (refused_not_long ts n s t bytes x y)
   one_stop ts ss n s t bytes also (inr x) (inl y) = absurd (refused_not_long ss n t s also y x)
   one_stop ts ss n s t bytes also (inr (file, at, longer, e)) (inr (other, there, y, e')) = e ∙ sym e'

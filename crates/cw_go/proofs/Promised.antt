@@ -19,13 +19,14 @@ use Rattle.cw_unit.specs.Program.{program_of}
 use Rattle.cw_unit.specs.Stop.{Running as SourceRunning}
 use Rattle.cw_unit.specs.Behaviour.{observed}
 use Rattle.cw_place.specs.Placement.{IsLimits}
-use Rattle.cw_compile.specs.Texts.{text_limit}
+use Rattle.cw_compile.specs.declared.fault.Refusal.{Refusal}
+use Rattle.cw_compile.specs.Texts.{text_limit, IsRefused}
 use Rattle.cw_link.specs.declared.fault.LinkFault.{LinkFault}
 use Rattle.cw_link.specs.declared.fault.LinkFault.TheVariants.{SegmentTwice, Differs, DefinedTwice, Undefined, AbsoluteOutside, DataTooBig, ControlTooBig, PresetClash, CodeTooBig}
 use Rattle.cw_link.specs.declared.fault.LinkFault.TheVariants as linking
-use Rattle.cw_build.specs.Compiled.{contents_of_units}
+use Rattle.cw_build.specs.Compiled.{IsCompilable, contents_of_units}
 use Rattle.cw_build.specs.Linking.{map_text, image_of, Links, IsLinkFault}
-use Rattle.cw_files.specs.Texts.{HasUnit, IsRefused}
+use Rattle.cw_files.specs.Texts.{HasUnit}
 use Rattle.cw_files.specs.Reading.{Counts, counts_at, HaveBytes, HaveValues, AllTaken, StopsTexts}
 use Rattle.cw_say.specs.Said.{Says}
 use Rattle.cw_say.specs.Closing.{closing_line}
@@ -40,7 +41,6 @@ use Rattle.cw_correct.specs.Going.{HasCause, GoComes, names_of, GoesRight}
 use Rattle.cw_correct.specs.Correct.{IsCorrectCall}
 use Rattle.cw_say.specs.declared.status.Status.{Status}
 use Rattle.cw_say.specs.declared.status.Status.TheVariants.{Ended, Usage, Refused, Unlinked, Stopped, Unfinished, NoFile, Outside, NoMemory, BadFile, TooLong, BadCode, Divided}
-use Rattle.cw_say.specs.declared.status.Refused.{Refused as Refusing}
 use Rattle.cw_say.specs.declared.status.Which.TheVariants.{Store, Input, Out, Say}
 use Rattle.cw_say.specs.declared.status.Long.TheVariants.{File}
 use Rattle.cw_say.specs.declared.status.Long.TheVariants as long
@@ -49,7 +49,7 @@ use Rattle.cw_go.specs.Goes.{streams_of, IsUnlinked, StopsReading, StopsLinking,
 use Rattle.cw_go.proofs.Files as files
 use Rattle.cw_go.proofs.Links.{links_not_faulty}
 use Rattle.cw_go.proofs.Meant as meant
-use Rattle.cw_go.proofs.Given.{Given, IsCompiled}
+use Rattle.cw_go.proofs.Given.{Given}
 
 after_nothing : (told : Option (List ℕ)) → after_told told [] ≡ told
 after_nothing None = refl
@@ -106,7 +106,7 @@ module _ (given : Given) (limits : Limits) (steps : ℕ) (names : List (List ℕ
     read_ahead = reads;
     within_limit = within;
     preserves = preserves;
-    valid_storage = λ vs x fits. meant.valid given.storages limits x.texts vs x.have_values fits;
+    valid_storage = λ vs x fits. meant.valid given.units given.storages limits x.texts vs x.have_values fits;
     completes = completes;
     stays = λ name. ap (λ f. f name) closes.files ∙ stays name;
   }
@@ -150,7 +150,7 @@ module _ (given : Given) (limits : Limits) (steps : ℕ) (names : List (List ℕ
   -- ---- where a file stopped the reading
 
   -- no text of a file that is told was refused, where all have units
-  not_refused : (texts : List (List ℕ)) (number : ℕ) (fault : Refusing) (us : List SourceUnit) → HaveBytes text_limit (told_files c) texts → (text : List ℕ) → slice_get texts number ≡ Some text → IsRefused text fault → TellsUnits c us → ⊥
+  not_refused : (texts : List (List ℕ)) (number : ℕ) (fault : Refusal) (us : List SourceUnit) → HaveBytes text_limit (told_files c) texts → (text : List ℕ) → slice_get texts number ≡ Some text → IsRefused text fault → TellsUnits c us → ⊥
   not_refused texts number fault us have text at refused tells =
       let file = files.file_at text_limit (told_files c) texts number text have at in
       let less : number < length (told_files c) = files.get_within (told_files c) number file.file file.at in
@@ -167,7 +167,7 @@ module _ (given : Given) (limits : Limits) (steps : ℕ) (names : List (List ℕ
 
   -- a status that tells of a file
   module _ (input : List ℕ) (texts : List (List ℕ)) (us : List SourceUnit) (have : HaveBytes text_limit (told_files c) texts) (units : HaveValues HasUnit texts us) (same : b ≡ a) where
-    refused : (number : ℕ) (fault : Refusing) → Stops texts us (Refused number fault) → ClosesBy (Refused number fault) → GoesRight c input (Refused number fault)
+    refused : (number : ℕ) (fault : Refusal) → Stops texts us (Refused number fault) → ClosesBy (Refused number fault) → GoesRight c input (Refused number fault)
     refused number fault stops closes =
         let s = Refused number fault in
         let (text, at, fails) = files.refused_text (slice_get texts number) fault stops.1 in
@@ -235,8 +235,8 @@ module _ (given : Given) (limits : Limits) (steps : ℕ) (names : List (List ℕ
     some_units : us ≢ []
     some_units e = absurd (omega (arith, ap length e, all_of, some))
 
-    compiled : All IsCompiled us
-    compiled = meant.all_compiled taken.texts us taken.have_values
+    compiled : All IsCompilable us
+    compiled = given.units taken.texts us taken.have_values
 
     units_are : (vs : List SourceUnit) → TellsUnits c vs → vs ≡ us
     units_are vs tells =

@@ -9,6 +9,7 @@ use crate::closing::close;
 use crate::laws::promises;
 use crate::linking::link_segments;
 use crate::running::run_segments;
+use cw_files::laws::compiled_units;
 use cw_files::read_units;
 use cw_io::{Sink, Source, Store};
 use cw_say::Status;
@@ -32,6 +33,7 @@ pub fn go<F: Store, I: Source, O: Sink, S: Sink>(
     ensures { IsCorrectCall (call_as Go limits.now steps (map (λ name. name.now) names.now) (surroundings_of (F.file files.old) (F.faults files.old) (F.absences files.old) (I.left input.old) (I.faults input.old) (O.held out.old) (O.faults out.old) (S.held say.old) (S.faults say.old)) (surroundings_of (F.file files.new) (F.faults files.new) (F.absences files.new) (I.left input.new) (I.faults input.new) (O.held out.new) (O.faults out.new) (S.held say.new) (S.faults say.new))) result }
 {
     promises();
+    compiled_units();
     match read_units(alloc, files, names) {
         Ok(segments) => match link_segments(alloc, &segments, limits) {
             Ok(linked) => {

@@ -1,8 +1,8 @@
 // From the units of the files to their image.
-ghost use Rattle.std.specs.Prelude.{◌≡◌, ◌≤◌, length, All, IsTrue, List as Sequence};
+ghost use Rattle.std.specs.Prelude.{◌≡◌, ◌≤◌, length, All, List as Sequence};
 ghost use Rattle.cw_unit.specs.declared.unit.Unit.{Unit as SourceUnit};
 ghost use Rattle.cw_place.specs.Placement.{IsLimits};
-ghost use Rattle.cw_build.specs.Compiled.{is_compiled};
+ghost use Rattle.cw_build.specs.Compiled.{IsCompilable};
 ghost use Rattle.cw_files.specs.Reading.{AreSegmentsOf};
 ghost use Rattle.cw_go.specs.Goes.{AnswersLinked};
 
@@ -22,7 +22,7 @@ pub(crate) fn link_segments(
 ) -> Result<Linked, Status>
     ghost us: { Sequence SourceUnit }
     requires segments { AreSegmentsOf us segments.now }
-    requires compiled { All (λ u. IsTrue (is_compiled u)) us }
+    requires compiled { All IsCompilable us }
     requires few { length us ≤ 200 }
     requires limits { IsLimits limits.now }
     ensures { AnswersLinked us limits.now result }

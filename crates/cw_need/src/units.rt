@@ -1,7 +1,7 @@
 //! The words of control stack that the bodies of a unit need.
-ghost use Rattle.std.specs.Prelude.{◌≡◌, ◌≤◌};
+ghost use Rattle.std.specs.Prelude.{◌≡◌, ◌<◌};
 ghost use Rattle.cw_unit.specs.StackBound.{body_need, procedures_need, unit_need};
-ghost use Rattle.cw_need.specs.Told.{told, as_word};
+ghost use Rattle.cw_need.specs.Told.{told};
 
 use crate::statements::body_depth;
 use cw_unit::unit::{Proc, Stmt, Unit};
@@ -28,10 +28,10 @@ fn procedures_need(procedures: &[Proc]) -> u32
     most
 }
 
-/// The words of the largest activation record of a unit's bodies, where a word tells them.
-pub fn unit_need(unit: &Unit) -> Option<u16>
-    ensures { result ≡ as_word (unit_need unit.now) }
+/// The words of the largest activation record of a unit's bodies, where they fit a word.
+pub fn unit_need(unit: &Unit) -> u16
+    requires { unit_need unit.now < 65536 }
+    ensures { result ≡ unit_need unit.now }
 {
-    let need = body_need(0, &unit.body).max(procedures_need(unit.procs.as_slice()));
-    if need < MOST { Some(need as u16) } else { None }
+    body_need(0, &unit.body).max(procedures_need(unit.procs.as_slice())) as u16
 }

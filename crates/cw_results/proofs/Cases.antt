@@ -27,8 +27,6 @@ use Rattle.cw_results.specs.Written.{GivesOut, GivesFile}
 use Rattle.cw_results.specs.Results.{MapsUnits, ShowsText, LinksObjects, MigratesObject}
 use Rattle.cw_say.specs.declared.status.Status.{Status}
 use Rattle.cw_say.specs.declared.status.Status.TheVariants.{Ended, Usage, Refused, Unlinked, Stopped, Unfinished, NoFile, Outside, NoMemory, BadFile, TooLong, BadCode, Divided}
-use Rattle.cw_say.specs.declared.status.Refused.{Refused as Refusing}
-use Rattle.cw_say.specs.declared.status.Refused.TheVariants.{Faulty, NotBuilt}
 use Rattle.cw_say.specs.declared.status.Bad.TheVariants.{Object, Image as BadImage}
 use Rattle.cw_say.specs.declared.status.Which.TheVariants.{Store, Input, Out as ToOut, Say}
 use Rattle.cw_say.specs.declared.status.Long.TheVariants.{File}
@@ -62,7 +60,7 @@ module _ (P : Status → Type 0) where
     unread (Divided offset) x = absurd x
 
   module _ (files : List Told) (texts : List (List ℕ)) (taken : ℕ) (before after : Counts)
-      (refused : (number : ℕ) (fault : Refusing) → (number ≡ taken) × IsRefusedAt (slice_get texts number) fault → P (Refused number fault))
+      (refused : (number : ℕ) (fault : Refusal) → (number ≡ taken) × IsRefusedAt (slice_get texts number) fault → P (Refused number fault))
       (absent : (number : ℕ) → (number ≡ taken) × IsAbsentAt (slice_get files number) × Rose before.absences after.absences → P (NoFile number))
       (failed : Rose before.faults after.faults → P (Outside Store))
       (longer : (number : ℕ) → (number ≡ taken) × IsLongerAt (slice_get files number) text_limit → P (TooLong (File number)))
@@ -184,14 +182,13 @@ module _ (P : Status → Type 0) where
     maps_units (Divided offset) x = gives (Divided offset) x.0 x.1
 
   module _ (text : List ℕ) (out out' : Out)
-      (refused : (number : ℕ) (refusal : Refusal) → (number ≡ 0) × IsRefused text refusal × (out' ≡ out) → P (Refused number (Faulty refusal)))
+      (refused : (number : ℕ) (refusal : Refusal) → (number ≡ 0) × IsRefused text refusal × (out' ≡ out) → P (Refused number refusal))
       (wanted : out' ≡ out → P NoMemory)
       (gives : (s : Status) (shown : List ℕ) → IsCanonicalOf text shown → GivesOut shown out out' s → P s) where
     pub shows_text : (s : Status) → ShowsText text out out' s → P s
     shows_text Ended x = gives Ended x.0 x.1 x.2
     shows_text Usage x = gives Usage x.0 x.1 x.2
-    shows_text (Refused number (Faulty refusal)) x = refused number refusal x
-    shows_text (Refused number NotBuilt) x = gives (Refused number NotBuilt) x.0 x.1 x.2
+    shows_text (Refused number refusal) x = refused number refusal x
     shows_text (Unlinked fault) x = gives (Unlinked fault) x.0 x.1 x.2
     shows_text (Stopped kind segment line) x = gives (Stopped kind segment line) x.0 x.1 x.2
     shows_text (Unfinished steps) x = gives (Unfinished steps) x.0 x.1 x.2
@@ -281,13 +278,12 @@ module _ (P : Status → Type 0) where
   module _ (c : Call) (texts shown : List (List ℕ))
       (ended : AllAccepted c shown → P Ended)
       (cut : AllAccepted c shown → P (Outside ToOut))
-      (refused : (number : ℕ) (refusal : Refusal) → StopsTexts (told_files c) texts (length shown) (counts_before c) (counts_after c) (Refused number (Faulty refusal)) → P (Refused number (Faulty refusal)))
+      (refused : (number : ℕ) (refusal : Refusal) → StopsTexts (told_files c) texts (length shown) (counts_before c) (counts_after c) (Refused number refusal) → P (Refused number refusal))
       (stops : (s : Status) → IsUnread text_limit (told_files c) (length shown) (counts_before c) (counts_after c) s → P s) where
     pub show_comes : (s : Status) → ShowComes c texts shown s → P s
     show_comes Ended x = ended x
     show_comes Usage x = stops Usage x
-    show_comes (Refused number (Faulty refusal)) x = refused number refusal x
-    show_comes (Refused number NotBuilt) x = absurd x
+    show_comes (Refused number refusal) x = refused number refusal x
     show_comes (Unlinked fault) x = stops (Unlinked fault) x
     show_comes (Stopped kind segment line) x = stops (Stopped kind segment line) x
     show_comes (Unfinished steps) x = stops (Unfinished steps) x

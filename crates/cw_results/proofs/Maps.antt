@@ -1,9 +1,7 @@
 -- A call of `map` keeps its promise.
 use Rattle.std.proofs.Common.{◌≡◌, ◌⊎◌, ℕ, suc, ◌+◌, ◌*◌, ◌<◌, ◌≤◌, List, [], ◌∷◌, map, sum, length, Option, Some, None, refl, sym, ap, ap₂, ◌∙◌, subst, inl, inr, arith}
-use Rattle.std.specs.Prelude.{All, IsTrue}
 use Rattle.std.proofs.lemmas.List.{length-map}
 use Rattle.std.proofs.lemmas.List.Sums.{sum-map, sum_by-cons}
-use Rattle.std.proofs.lemmas.List.Elements.{All-nil, All-cons}
 use Rattle.cw_io.specs.Count.{Rose}
 use Rattle.cw_io.specs.File.{Told, AllStay}
 use Rattle.cw_lex.specs.Lexical.{Lexeme}
@@ -13,7 +11,7 @@ use Rattle.cw_compile.specs.Texts.{text_limit}
 use Rattle.cw_link.specs.LinkedImage.{linked_size}
 use Rattle.cw_link.specs.declared.fault.LinkFault.{LinkFault}
 use Rattle.cw_link.specs.declared.fault.LinkFault.TheVariants.{SegmentTwice, Differs, DefinedTwice, Undefined, AbsoluteOutside, DataTooBig, ControlTooBig, PresetClash, CodeTooBig, NoMemory as NoMemoryToLink}
-use Rattle.cw_build.specs.Compiled.{is_compiled, contents_of_units}
+use Rattle.cw_build.specs.Compiled.{contents_of_units}
 use Rattle.cw_build.specs.Linking.{Links, IsLinkFault, map_text}
 use Rattle.cw_files.specs.Texts.{HasUnit}
 use Rattle.cw_files.specs.Reading.{HaveBytes, HaveValues, AllTaken, Stopped, StopsTexts, SameCounts}
@@ -37,12 +35,7 @@ use Rattle.cw_results.proofs.Units.{UnitRuns, all_run, all_taken, same_units, st
 -- ---- code that is too big
 
 abbrev pub HasSizes : Type 0
-HasSizes = (us : List SourceUnit) (limits : Limits) → All (λ u. IsTrue (is_compiled u)) us → linked_size (contents_of_units us) ≤ 32 * sum (map (λ u. u.tokens) us) + 4096
-
-pub compiled : (texts : List (List ℕ)) (us : List SourceUnit) → HaveValues HasUnit texts us → All (λ u. IsTrue (is_compiled u)) us
-compiled texts [] values = All-nil (λ u. IsTrue (is_compiled u))
-compiled [] (u ∷ us) values = absurd values
-compiled (text ∷ texts) (u ∷ us) values = All-cons (λ u. IsTrue (is_compiled u)) u us values.0.compiled (compiled texts us values.1)
+HasSizes = (texts : List (List ℕ)) (us : List SourceUnit) → HaveValues HasUnit texts us → linked_size (contents_of_units us) ≤ 32 * sum (map (λ u. u.tokens) us) + 4096
 
 same_length : (files : List Told) (texts : List (List ℕ)) (us : List SourceUnit) → HaveBytes text_limit files texts → HaveValues HasUnit texts us → length us ≡ length files → length us ≡ length texts
 same_length [] [] [] have values all = refl
@@ -70,7 +63,7 @@ module _ (given : OneOfText) (sizes : HasSizes) where
   cause : (limits : Limits) (texts : List (List ℕ)) (us : List SourceUnit) → HaveValues HasUnit texts us → length us ≡ length texts → (fault : LinkFault) → IsLinkFault us limits fault → HasCause texts fault
   cause limits texts us values all (CodeTooBig bytes) x =
       let (expanded, expand, count) = expands texts us values all in
-      (expanded, expand, omega (arith, sizes us limits (compiled texts us values), x.first.1, count))
+      (expanded, expand, omega (arith, sizes texts us values, x.first.1, count))
   cause limits texts us values all (SegmentTwice name) x = tt
   cause limits texts us values all (Differs name first second) x = tt
   cause limits texts us values all (DefinedTwice name first second) x = tt

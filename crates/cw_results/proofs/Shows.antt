@@ -3,7 +3,7 @@ use Rattle.std.proofs.Common.{◌≡◌, ◌⊎◌, ℕ, ◌≤◌, List, [], �
 use Rattle.std.proofs.lemmas.List.{length-map}
 use Rattle.cw_io.specs.File.{Told, Is, AllStay}
 use Rattle.cw_compile.specs.declared.fault.Refusal.{Refusal}
-use Rattle.cw_compile.specs.Texts.{text_limit, IsCanonicalOf, IsRefused as IsFaulty}
+use Rattle.cw_compile.specs.Texts.{text_limit, IsCanonicalOf, IsRefused}
 use Rattle.cw_files.specs.Reading.{HaveBytes, HaveValues, AllTaken, IsLongerAt, IsRefusedAt, IsUnread, SameCounts}
 use Rattle.cw_correct.specs.Calls.{Call, told_files, NoFault, IsUntouched, IsUnwritten}
 use Rattle.cw_correct.specs.Files.{counts_before, counts_after, AllAccepted}
@@ -13,22 +13,15 @@ use Rattle.cw_results.specs.Closed.{out_at}
 use Rattle.cw_results.specs.Results.{ShowsText}
 use Rattle.cw_say.specs.declared.status.Status.{Status}
 use Rattle.cw_say.specs.declared.status.Status.TheVariants.{Ended, Refused, NoMemory, TooLong}
-use Rattle.cw_say.specs.declared.status.Refused.TheVariants.{Faulty}
 use Rattle.cw_say.specs.declared.status.Long.TheVariants.{File}
 use Rattle.cw_results.proofs.Cases.{unread, gives_out, shows_text, show_comes}
 use Rattle.cw_results.proofs.Keeping.{Closed, says_last, unwritten, writes_out}
 use Rattle.cw_results.proofs.Readings.{Found, all_told, tells, RefusesAt, Runs, of_stop, of_all, taken_runs, from_zero, never}
 use Rattle.cw_results.proofs.Texts.{OneOfText, shown_not_refused}
-
-abbrev pub faulty_status : ℕ → Refusal → Status
-faulty_status number refusal = Refused number (Faulty refusal)
+use Rattle.cw_results.proofs.Units.{refused_at}
 
 abbrev pub ShowRuns : List Found → List (List ℕ) → Option Status → Type 0
-ShowRuns found shown s = Runs text_limit IsCanonicalOf IsFaulty faulty_status 0 found shown s
-
-faulty_at : (o : Option (List ℕ)) (refusal : Refusal) → IsRefusedAt o (Faulty refusal) → RefusesAt IsFaulty o refusal
-faulty_at None refusal x = x
-faulty_at (Some text) refusal x = x
+ShowRuns found shown s = Runs text_limit IsCanonicalOf IsRefused Refused 0 found shown s
 
 module _ (given : OneOfText) (c : Call) where
   abbrev pub After : List (List ℕ) → Status → Type 0
@@ -42,19 +35,19 @@ module _ (given : OneOfText) (c : Call) where
     fate s comes writes found told quiet =
         let have_told : HaveBytes text_limit (all_told found) texts = subst (λ files. HaveBytes text_limit files texts) told have in
         show_comes (λ t. WritesOut c (first_shown shown) t → Fate found t) c texts shown
-        (λ all w. inr (inr (shown, of_all text_limit IsCanonicalOf IsFaulty faulty_status 0 found texts shown have_told values (all ∙ sym (length-map c.names c.before.files) ∙ ap length told), refl)))
+        (λ all w. inr (inr (shown, of_all text_limit IsCanonicalOf IsRefused Refused 0 found texts shown have_told values (all ∙ sym (length-map c.names c.before.files) ∙ ap length told), refl)))
         (λ all w. absurd (quiet.out w.3))
         (λ number refusal x w. inr (inl (
           shown,
-          of_stop text_limit IsCanonicalOf IsFaulty faulty_status 0 found texts shown (faulty_status number refusal) have_told values
-              (inr (refusal, faulty_at (slice_get texts (length shown)) refusal (subst (λ n. IsRefusedAt (slice_get texts n) (Faulty refusal)) x.0 x.1), ap (λ n. faulty_status n refusal) (x.0 ∙ from_zero (length shown)))),
+          of_stop text_limit IsCanonicalOf IsRefused Refused 0 found texts shown (Refused number refusal) have_told values
+              (inr (refusal, refused_at (slice_get texts (length shown)) refusal (subst (λ n. IsRefusedAt (slice_get texts n) refusal) x.0 x.1), ap (λ n. Refused n refusal) (x.0 ∙ from_zero (length shown)))),
         )))
         (λ t x w. unread (λ t. Fate found t) (told_files c) (length shown) (counts_before c) (counts_after c) text_limit
         (λ number y. absurd (quiet.absences y.2))
         (λ y. absurd (quiet.store y))
         (λ number y. inr (inl (
           shown,
-          of_stop text_limit IsCanonicalOf IsFaulty faulty_status 0 found texts shown (TooLong (File number)) have_told values
+          of_stop text_limit IsCanonicalOf IsRefused Refused 0 found texts shown (TooLong (File number)) have_told values
               (inl (subst (λ (files : List Told). IsLongerAt (slice_get files (length shown)) text_limit) told (subst (λ n. IsLongerAt (slice_get (told_files c) n) text_limit) y.0 y.1), ap (λ n. TooLong (File n)) (y.0 ∙ from_zero (length shown)))),
         )))
         (inl refl) t x)
@@ -67,11 +60,11 @@ module _ (given : OneOfText) (c : Call) where
         told_all = tell ∙ tells told
 
         runs : ShowRuns (map Some told) others None
-        runs = taken_runs text_limit IsCanonicalOf IsFaulty faulty_status (map Some told) others (subst (λ files. AllTaken text_limit IsCanonicalOf files others) told_all taken)
+        runs = taken_runs text_limit IsCanonicalOf IsRefused Refused (map Some told) others (subst (λ files. AllTaken text_limit IsCanonicalOf files others) told_all taken)
 
         at : Fate (map Some told) s → IsDone s
         at (inl e) = subst IsDone (sym e) tt
-        at (inr (inl (xs, run))) = absurd (never text_limit IsCanonicalOf IsFaulty faulty_status (λ text x r is refused. shown_not_refused given text x r is refused) 0 (map Some told) others xs s runs run)
+        at (inr (inl (xs, run))) = absurd (never text_limit IsCanonicalOf IsRefused Refused (λ text x r is refused. shown_not_refused given text x r is refused) 0 (map Some told) others xs s runs run)
         at (inr (inr (xs, run, e))) = subst IsDone (sym e) tt
 
   module _ (untouched : IsUntouched c.before c.after) (stay : AllStay c.before.files c.after.files) where
@@ -101,7 +94,7 @@ module _ (given : OneOfText) (c : Call) where
         let old = out_at c.before.out c.before.out_faults in
         let new = out_at c.after.out c.after.out_faults in
         shows_text (λ t. Closed c t → ShowsRight c t) text old new
-        (λ number refusal y end. make (faulty_status number refusal) end (text ∷ []) [] have tt (y.0, subst (λ n. IsRefusedAt (slice_get (text ∷ []) n) (Faulty refusal)) (sym y.0) y.1) (unwritten c y.2))
+        (λ number refusal y end. make (Refused number refusal) end (text ∷ []) [] have tt (y.0, subst (λ n. IsRefusedAt (slice_get (text ∷ []) n) refusal) (sym y.0) y.1) (unwritten c y.2))
         (λ y end. make NoMemory end (text ∷ []) [] have tt tt (unwritten c y))
         (λ t shown is gives end.
         make t end (text ∷ []) (shown ∷ []) have (is, tt)

@@ -3,11 +3,11 @@ use Rattle.std.proofs.Common.{◌≡◌, ◌≢◌, ℕ, List, [], ◌∷◌, Al
 use Rattle.std.proofs.lemmas.List.Elements.{All-head, All-tail}
 use Rattle.cw_cpu86.specs.Ports.{AreBytes}
 use Rattle.cw_unit.specs.declared.unit.Unit.{Unit as SourceUnit}
-use Rattle.cw_compile.specs.Texts.{text_limit, IsCanonicalOf, IsRefused as IsFaulty}
+use Rattle.cw_compile.specs.Texts.{text_limit, IsCanonicalOf, IsRefused}
 use Rattle.cw_view.specs.declared.fault.ObjFault.{ObjFault}
 use Rattle.cw_view.specs.ObjectFormat.{IsFirstObjectFault}
 use Rattle.cw_view.specs.Uniqueness.{HasOneFault}
-use Rattle.cw_files.specs.Texts.{HasUnit, IsRefused, HasObject, object_limit}
+use Rattle.cw_files.specs.Texts.{HasUnit, HasObject, object_limit}
 use Rattle.cw_correct.specs.Correct.{TellsBytes}
 use Rattle.cw_correct.specs.Results.{MapsRight, ShowsRight, CompilesRight, LinksRight, MigratesRight}
 use Rattle.cw_say.specs.declared.status.Status.{Status}
@@ -15,7 +15,7 @@ use Rattle.cw_say.specs.declared.status.Status.TheVariants.{Ended, Refused}
 use Rattle.cw_results.specs.OneStatus.{AllowsOneStatus}
 use Rattle.cw_results.proofs.Fates.{one_fate}
 use Rattle.cw_results.proofs.Readings.{Found, AllFit}
-use Rattle.cw_results.proofs.Texts.{OneOfText, not_refused, one_refusal, shown_not_refused}
+use Rattle.cw_results.proofs.Texts.{OneOfText, not_refused, shown_not_refused}
 use Rattle.cw_results.proofs.Units.{same_units}
 use Rattle.cw_results.proofs.Objects.{bad_status, not_bad, same_objects}
 use Rattle.cw_results.proofs.Maps as maps
@@ -43,19 +43,19 @@ ended s t e f = e ∙ sym f
 module _ (given : OneOfText) where
   pub maps_once : AllowsOneStatus MapsRight
   maps_once c a b found told all quiet m n x y =
-      one_fate text_limit HasUnit IsRefused Refused (maps.After given c) (λ text u fault is refused. not_refused given text u fault is refused) Any (λ text f g fit is also. one_refusal given text f g is also)
+      one_fate text_limit HasUnit IsRefused Refused (maps.After given c) (λ text u fault is refused. not_refused given text u fault is refused) Any (λ text f g fit is also. given.one_refusal text f g is also)
       found (λ us vs s t runs others after other. maps.one_after given c us vs s t (same_units given c found told us vs runs others) after other)
       a b (any found) m n (maps.fate given c a x found told quiet) (maps.fate given c b y found told quiet)
 
   pub shows_once : AllowsOneStatus ShowsRight
   shows_once c a b found told all quiet m n x y =
-      one_fate text_limit IsCanonicalOf IsFaulty shows.faulty_status (shows.After given c) (λ text shown fault is refused. shown_not_refused given text shown fault is refused) Any (λ text f g fit is also. given.one_refusal text f g is also)
+      one_fate text_limit IsCanonicalOf IsRefused Refused (shows.After given c) (λ text shown fault is refused. shown_not_refused given text shown fault is refused) Any (λ text f g fit is also. given.one_refusal text f g is also)
       found (λ us vs s t runs others after other. ended s t after other)
       a b (any found) m n (shows.fate given c x.texts x.shown x.have_texts x.have_shown a x.comes x.writes found told quiet) (shows.fate given c y.texts y.shown y.have_texts y.have_shown b y.comes y.writes found told quiet)
 
   pub compiles_once : AllowsOneStatus CompilesRight
   compiles_once c a b found told all quiet m n x y =
-      one_fate text_limit HasUnit IsRefused Refused (compiles.After given c) (λ text u fault is refused. not_refused given text u fault is refused) Any (λ text f g fit is also. one_refusal given text f g is also)
+      one_fate text_limit HasUnit IsRefused Refused (compiles.After given c) (λ text u fault is refused. not_refused given text u fault is refused) Any (λ text f g fit is also. given.one_refusal text f g is also)
       found (λ us vs s t runs others after other. ended s t after other)
       a b (any found) m n (compiles.fate given c a x found told quiet) (compiles.fate given c b y found told quiet)
 

@@ -3,13 +3,13 @@ use Rattle.std.proofs.Common.{◌≡◌, ◌⊎◌, ℕ, List, length, map, Opti
 use Rattle.std.proofs.lemmas.List.{length-map}
 use Rattle.cw_io.specs.File.{Told}
 use Rattle.cw_unit.specs.declared.unit.Unit.{Unit as SourceUnit}
-use Rattle.cw_compile.specs.Texts.{text_limit}
-use Rattle.cw_files.specs.Texts.{HasUnit, IsRefused}
+use Rattle.cw_compile.specs.declared.fault.Refusal.{Refusal}
+use Rattle.cw_compile.specs.Texts.{text_limit, IsRefused}
+use Rattle.cw_files.specs.Texts.{HasUnit}
 use Rattle.cw_files.specs.Reading.{HaveBytes, HaveValues, AllTaken, IsLongerAt, IsRefusedAt, StopsTexts}
 use Rattle.cw_correct.specs.Calls.{Call, told_files, NoFault}
 use Rattle.cw_correct.specs.Files.{counts_before, counts_after, AllAccepted}
 use Rattle.cw_correct.specs.Results.{IsDone}
-use Rattle.cw_say.specs.declared.status.Refused.{Refused as Refusing}
 use Rattle.cw_say.specs.declared.status.Status.{Status}
 use Rattle.cw_say.specs.declared.status.Status.TheVariants.{Refused, NoMemory, TooLong}
 use Rattle.cw_say.specs.declared.status.Long.TheVariants.{File}
@@ -20,7 +20,7 @@ use Rattle.cw_results.proofs.Texts.{OneOfText, one_unit, not_refused}
 abbrev pub UnitRuns : List Found → List SourceUnit → Option Status → Type 0
 UnitRuns found us s = Runs text_limit HasUnit IsRefused Refused 0 found us s
 
-refused_at : (o : Option (List ℕ)) (fault : Refusing) → IsRefusedAt o fault → RefusesAt IsRefused o fault
+pub refused_at : (o : Option (List ℕ)) (fault : Refusal) → IsRefusedAt o fault → RefusesAt IsRefused o fault
 refused_at None fault x = x
 refused_at (Some text) fault x = x
 

@@ -17,7 +17,6 @@ use Rattle.cw_results.specs.Closed.{Files, Out}
 use Rattle.cw_results.specs.Written.{GivesOut, GivesFile}
 use Rattle.cw_say.specs.declared.status.Status.{Status}
 use Rattle.cw_say.specs.declared.status.Status.TheVariants.{Refused, Unlinked, NoMemory}
-use Rattle.cw_say.specs.declared.status.Refused.TheVariants.{Faulty}
 
 -- the status of what does not link
 abbrev pub unlinked_status : LinkFault → Status
@@ -26,7 +25,7 @@ unlinked_status fault = Unlinked fault
 
 -- and of a text that has no unit
 abbrev pub faulty_status : UnitFault → Status
-faulty_status (units.Refused refusal) = Refused 0 (Faulty refusal)
+faulty_status (units.Refused refusal) = Refused 0 refusal
 faulty_status units.NoMemory = NoMemory
 
 -- units, whose storage map is written
@@ -38,7 +37,7 @@ MapsUnits us limits out out' status = Links us limits × GivesOut (map_text us l
 -- a text, whose canonical text is written
 abbrev pub ShowsText : (text : List ℕ) → (out out' : Out) → Status → Type 0
 ShowsText text out out' NoMemory = out' ≡ out
-ShowsText text out out' (Refused number (Faulty refusal)) = (number ≡ 0) × IsRefused text refusal × (out' ≡ out)
+ShowsText text out out' (Refused number refusal) = (number ≡ 0) × IsRefused text refusal × (out' ≡ out)
 ShowsText text out out' status = (shown : List ℕ) × IsCanonicalOf text shown × GivesOut shown out out' status
 
 -- objects, whose image is written

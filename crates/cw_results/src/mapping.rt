@@ -1,10 +1,10 @@
 //! The action `map`.
-ghost use Rattle.std.specs.Prelude.{◌≡◌, ◌≤◌, ℕ, List as Sequence, Option, length, map, All, IsTrue};
+ghost use Rattle.std.specs.Prelude.{◌≡◌, ◌≤◌, ℕ, List as Sequence, Option, length, map, All};
 ghost use Rattle.cw_unit.specs.declared.unit.Unit.{Unit as SourceUnit};
 ghost use Rattle.cw_unit.specs.Allocation.{storage_map};
 ghost use Rattle.cw_list.specs.Rows.{layouts_of};
 ghost use Rattle.cw_place.specs.Placement.{IsLimits};
-ghost use Rattle.cw_build.specs.Compiled.{is_compiled};
+ghost use Rattle.cw_build.specs.Compiled.{IsCompilable};
 ghost use Rattle.cw_build.specs.Linking.{map_text as map_text_of};
 ghost use Rattle.cw_files.specs.Reading.{AreSegmentsOf};
 ghost use Rattle.cw_words.specs.declared.action.Action.TheVariants.{Map};
@@ -20,6 +20,7 @@ use crate::unlinked::unlinked;
 use cw_build::laws::linked_units;
 use cw_build::link_units;
 use cw_compile::laws::one_outcome;
+use cw_files::laws::compiled_units;
 use cw_files::{Segments, read_units};
 use cw_io::{Sink, Store};
 use cw_link::Linked;
@@ -53,7 +54,7 @@ fn write_map<O: Sink>(
 fn map_units<O: Sink>(alloc: Global, segments: &Segments, limits: &Limits, out: &mut O) -> Status
     ghost us: { Sequence SourceUnit }
     requires segments { AreSegmentsOf us segments.now }
-    requires compiled { All (λ u. IsTrue (is_compiled u)) us }
+    requires compiled { All IsCompilable us }
     requires few { length us ≤ 200 }
     requires limits { IsLimits limits.now }
     ensures { MapsUnits us limits.now (out_at (O.held out.old) (O.faults out.old)) (out_at (O.held out.new) (O.faults out.new)) result }
@@ -77,6 +78,7 @@ fn map_all<F: Store, O: Sink>(
     ensures { KeepsClosed MapsRight Map limits.now (map (λ name. name.now) names.now) (files_at (F.file files.old) (F.faults files.old) (F.absences files.old)) (files_at (F.file files.new) (F.faults files.new) (F.absences files.new)) (out_at (O.held out.old) (O.faults out.old)) (out_at (O.held out.new) (O.faults out.new)) result }
 {
     one_outcome();
+    compiled_units();
     linked_units();
     match read_units(alloc, files, names) {
         Ok(segments) => map_units(alloc, &segments, limits, out),

@@ -15,7 +15,7 @@ use cw_compile::laws::one_outcome;
 use cw_compile::{UnitFault, canonical};
 use cw_files::read_text;
 use cw_io::{Sink, Store};
-use cw_say::{Refused, Status};
+use cw_say::Status;
 use cw_unit::layout::Limits;
 use std::alloc::Global;
 
@@ -24,10 +24,7 @@ fn faulty(fault: UnitFault) -> Status
     ensures { result ≡ faulty_status fault }
 {
     match fault {
-        UnitFault::Refused(refusal) => Status::Refused {
-            file: 0,
-            fault: Refused::Faulty(refusal),
-        },
+        UnitFault::Refused(fault) => Status::Refused { file: 0, fault },
         UnitFault::NoMemory => Status::NoMemory,
     }
 }

@@ -2,8 +2,6 @@
 use Rattle.std.specs.Prelude.{ℕ, ◌-◌, ◌==◌, List, [], ◌++◌, Option, None, Some, slice_get, slice_index_or, codes, decimal, if◌then◌else◌}
 use Rattle.cw_say.specs.declared.status.Status.{Status}
 use Rattle.cw_say.specs.declared.status.Status.TheVariants.{Ended, Usage, Refused, Unlinked, Stopped, Unfinished, NoFile, Outside, NoMemory, BadFile, TooLong, BadCode, Divided}
-use Rattle.cw_say.specs.declared.status.Refused.{Refused as Refusing}
-use Rattle.cw_say.specs.declared.status.Refused.TheVariants.{Faulty, NotBuilt}
 use Rattle.cw_link.specs.declared.fault.LinkFault.{LinkFault}
 use Rattle.cw_link.specs.declared.fault.LinkFault.TheVariants.{SegmentTwice, Differs, DefinedTwice, Undefined, AbsoluteOutside, DataTooBig, ControlTooBig, PresetClash, CodeTooBig}
 use Rattle.cw_link.specs.declared.fault.LinkFault.TheVariants as linking
@@ -133,17 +131,13 @@ type_line (typing.TooMany line) = fault_line line (codes "Y7 TooMany")
 type_line (typing.NumberRange line) = fault_line line (codes "Y8 NumberRange")
 type_line typing.NoMemory = fault_line 0 (codes "NoMemory")
 
-abbrev pub faulty_line : Refusal → List ℕ
-faulty_line (Lex fault) = lexical_line fault
-faulty_line (Macro fault) = expansion_line fault
-faulty_line (Parse fault) = syntax_line fault
-faulty_line (Scope fault) = scope_line fault
-faulty_line (Typing fault) = type_line fault
-
 -- behind the name of the file
-abbrev pub refusal_line : Refusing → List ℕ
-refusal_line (Faulty refusal) = faulty_line refusal
-refusal_line NotBuilt = codes ": NotBuilt\n"
+abbrev pub refusal_line : Refusal → List ℕ
+refusal_line (Lex fault) = lexical_line fault
+refusal_line (Macro fault) = expansion_line fault
+refusal_line (Parse fault) = syntax_line fault
+refusal_line (Scope fault) = scope_line fault
+refusal_line (Typing fault) = type_line fault
 
 -- a name, and the numbers of two segments
 abbrev pub clash_line : (text name : List ℕ) → (first second : ℕ) → List ℕ

@@ -1,7 +1,7 @@
 // The lines that tell the faults of texts.
 ghost use Rattle.std.specs.Prelude.{◌≡◌, ◌++◌, decimal, codes};
 ghost use Rattle.cw_say.specs.Said.{Writes};
-ghost use Rattle.cw_say.specs.Closing.{fault_line, named_line, lexical_line, expansion_line, syntax_line, scope_line, type_line, faulty_line, left_out};
+ghost use Rattle.cw_say.specs.Closing.{fault_line, named_line, lexical_line, expansion_line, syntax_line, scope_line, type_line, refusal_line, left_out};
 
 use crate::saying::write_line;
 use cw_compile::Refusal;
@@ -165,12 +165,12 @@ fn write_typing<S: Sink>(say: &mut S, file: &[u8], fault: &TypeFault) -> Result<
 }
 
 /// Writes the first fault of the text of a file.
-pub(crate) fn write_faulty<S: Sink>(
+pub(crate) fn write_refusal<S: Sink>(
     say: &mut S,
     file: &[u8],
     refusal: &Refusal,
 ) -> Result<(), Failed>
-    ensures { Writes (S.held say.old) (S.held say.new) (S.faults say.old) (S.faults say.new) (file.now ++ faulty_line refusal.now) result }
+    ensures { Writes (S.held say.old) (S.held say.new) (S.faults say.old) (S.faults say.new) (file.now ++ refusal_line refusal.now) result }
 {
     match refusal {
         Refusal::Lex(fault) => write_lexical(say, file, fault),

@@ -1,13 +1,13 @@
 // The line that closes what is told of a run.
 ghost use Rattle.std.specs.Prelude.{◌≡◌, ◌++◌, map, option_map, decimal, codes};
 ghost use Rattle.cw_say.specs.Said.{Writes};
-ghost use Rattle.cw_say.specs.Closing.{closing_line, file_name, refusal_line, long_name, stop_name, name_or_number, segment_name};
+ghost use Rattle.cw_say.specs.Closing.{closing_line, file_name, long_name, stop_name, name_or_number, segment_name};
 
 use crate::bad::write_bad;
-use crate::faults::write_faulty;
+use crate::faults::write_refusal;
 use crate::link::write_unlinked;
 use crate::saying::{write_line, write_name, write_number, write_piece};
-use crate::status::{Long, Refused, Status};
+use crate::status::{Long, Status};
 use cw_io::{Failed, Sink};
 use cw_word::Name;
 
@@ -20,15 +20,6 @@ fn file_name<'a>(names: &'a [&str], file: u16) -> &'a [u8]
     match names.get(file as usize) {
         Some(name) => name.as_bytes(),
         None => b"",
-    }
-}
-
-fn write_refusal<S: Sink>(say: &mut S, file: &[u8], fault: &Refused) -> Result<(), Failed>
-    ensures { Writes (S.held say.old) (S.held say.new) (S.faults say.old) (S.faults say.new) (file.now ++ refusal_line fault.now) result }
-{
-    match fault {
-        Refused::Faulty(refusal) => write_faulty(say, file, refusal),
-        Refused::NotBuilt => write_line(say, &[file, b": NotBuilt\n"]),
     }
 }
 

@@ -10,4 +10,4 @@ mod status;
 
 pub use last::write_last;
 pub use saying::write_piece;
-pub use status::{Bad, LinkFault, Long, Refused, Status, Which};
+pub use status::{Bad, LinkFault, Long, Status, Which};

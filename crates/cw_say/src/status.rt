@@ -11,8 +11,8 @@ pub enum Status {
     Ended,
     /// The words are not the command.
     Usage,
-    /// The text of this file does not compile.
-    Refused { file: u16, fault: Refused },
+    /// The text of this file has no unit: its first fault.
+    Refused { file: u16, fault: Refusal },
     /// What was compiled does not link; never for want of memory.
     Unlinked(LinkFault),
     /// The program stopped, for the cause of this kind, at a line of a segment, counted from 1.
@@ -33,15 +33,6 @@ pub enum Status {
     BadCode { offset: u16 },
     /// A quotient of the machine faults.
     Divided { offset: u16 },
-}
-
-/// Why a text is refused.
-#[derive(Drop)]
-pub enum Refused {
-    /// The text has no unit: its first fault.
-    Faulty(Refusal),
-    /// Its unit is none that can be compiled so far.
-    NotBuilt,
 }
 
 /// The first thing that is wrong with bytes; never want of memory.

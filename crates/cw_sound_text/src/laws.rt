@@ -1,9 +1,9 @@
 //! Laws of the units of texts: each is a function without a body, whose contract is the law.
-ghost use Rattle.std.specs.Prelude.{ℕ, ◌*◌, ◌≤◌, List, length};
+ghost use Rattle.std.specs.Prelude.{ℕ, ◌*◌, ◌<◌, ◌≤◌, List, length, All};
 ghost use Rattle.cw_tree.specs.declared.segment.Raw.{Raw};
 ghost use Rattle.cw_unit.specs.declared.unit.Unit.{Unit as SourceUnit};
 ghost use Rattle.cw_compile.specs.Texts.{HasTree, IsUnitOf};
-ghost use Rattle.cw_sound_text.specs.Compilable.{code_of, IsCompilable};
+ghost use Rattle.cw_build.specs.Compiled.{code_of, IsCompilable};
 ghost use Rattle.cw_sound.specs.TreeFits.{TreeFits};
 
 use cw_coded::laws::coded;
@@ -34,9 +34,9 @@ pub fn text_trees()
     placed();
 }
 
-/// Each unit of a text can be compiled.
+/// The unit of each text of bytes can be compiled.
 pub fn text_units()
-    ensures { (text : List ℕ) (u : SourceUnit) → IsUnitOf text u → IsCompilable u }
+    ensures { (text : List ℕ) (u : SourceUnit) → All (λ b. b < 256) text → IsUnitOf text u → IsCompilable u }
 {
     text_trees();
     items_derived();

@@ -2,7 +2,6 @@ use Rattle.std.proofs.Common.{List, [], ℕ, map, Bor, refl, inl, inr, arith}
 use Rattle.std.proofs.lemmas.List.{length-map}
 use Rattle.cw_words.specs.declared.action.Action.TheVariants.{Go}
 use Rattle.cw_correct.specs.Calls.{surroundings_of, call_as}
-use Rattle.cw_go.proofs.Meant.{all_compiled}
 use Rattle.cw_go.proofs.Called.{map_twice, stops_reading, takes, runs_units, named, closed}
 use Rattle.cw_go.proofs.going.go.Goals as goal
 
@@ -10,7 +9,7 @@ pub link_segments-requires : goal.link_segments-requires
 link_segments-requires g c =
     let (all, segments, counts) = c.in-Ok.ensures.taken in
     let same = length-map c.args.names.now (λ (name : Bor (List ℕ)). g.F.Store.file c.args.files.now name.now) in
-    (segments, (all_compiled all.texts c.in-Ok.segments.units all.have_values, (omega (arith, all.all, same, c.requires.few), c.requires.limits)))
+    (segments, (c.compiled_units.ensures all.texts c.in-Ok.segments.units all.have_values, (omega (arith, all.all, same, c.requires.few), c.requires.limits)))
 
 pub returns-in-Ok-link_segments : goal.returns-in-Ok-link_segments
 returns-in-Ok-link_segments g c =

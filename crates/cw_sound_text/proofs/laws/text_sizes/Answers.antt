@@ -3,7 +3,7 @@ use Rattle.std.proofs.Common.{◌≡◌, ℕ, ◌*◌, ◌≤◌, length, refl, 
 use Rattle.cw_unit.specs.declared.unit.Unit.{Unit as SourceUnit}
 use Rattle.cw_make.specs.Made.{unit_of}
 use Rattle.cw_compile.specs.Texts.{most_levels}
-use Rattle.cw_sound_text.specs.Compilable.{code_of}
+use Rattle.cw_build.specs.Compiled.{code_of}
 use Rattle.cw_sound_text.proofs.laws.text_sizes.Goals as goal
 
 by_tokens : (size unit tree text told : ℕ) → size ≤ 64 * unit → unit ≤ tree → tree ≤ text → told ≡ text → size ≤ 64 * told

@@ -3,11 +3,11 @@ use Rattle.std.proofs.Common.{◌≤◌, sym, subst, arith}
 use Rattle.std.proofs.lemmas.Bool.{and_from}
 use Rattle.cw_make.specs.Made.{unit_of}
 use Rattle.cw_compile.specs.Texts.{most_levels}
-use Rattle.cw_sound_text.specs.Compilable.{IsCompilable}
+use Rattle.cw_build.specs.Compiled.{IsCompilable}
 use Rattle.cw_sound_text.proofs.laws.text_units.Goals as goal
 
 pub returns : goal.returns
-returns c text u is =
+returns c text u bytes is =
     let named = is.named in
     let raw = named.raw.now in
     let resolves = is.has.names.resolves in
@@ -23,5 +23,7 @@ returns c text u is =
       built = and_from _ _ (c.descriptors_named.ensures raw named resolves fits.rising names)
           (and_from _ _ is_stored (and_from _ _ (c.unit_formed.ensures raw named resolves fine fits) (and_from _ _ (c.definitions_met.ensures named resolves fine fits.placed items) are_built)));
       coded = c.coded.ensures (unit_of named) is_stored are_built (c.unit_ranged.ensures raw named resolves fine fits);
+      short = ?;
       need = c.need_fits.ensures most_levels tree.expanded raw named levels tree.derives resolves fine fits;
+      writable = ?;
     })
