@@ -1,4 +1,4 @@
--- Where units pass the test and agree, what a name means is what each descriptor of it says.
+-- Where units are built and agree, what a name means is what each descriptor of it says.
 use Rattle.std.proofs.Common.{◌≡◌, ℕ, zero, suc, ◌+◌, ◌<◌, ◌≤◌, ◌⊎◌, inl, inr, List, [], ◌∷◌, map, Bool, true, false, cond, All, IsTrue, ◌&&◌, ◌||◌, Option, Some, None, slice_get, refl, sym, ap, ap₂, subst, ◌∙◌, arith, true≢false}
 use Rattle.std.specs.Prelude.{option_map}
 use Rattle.std.specs.Str.{bytes_eq}

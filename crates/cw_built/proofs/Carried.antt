@@ -26,11 +26,10 @@ use Rattle.cw_unit.specs.Program.{Program, program_at, definition_of}
 use Rattle.cw_unit.specs.Step.{switch_of_def, procedure_of_def, label_of_goal, goals_of, switch_in}
 use Rattle.cw_unit.specs.Configuration.{procedure_in, procedure_at}
 use Rattle.cw_unit.specs.declared.unit.Label.{Label}
-use Rattle.cw_safety.specs.Kinds.{Kind, LabelKind, SwitchKind, parameter_kinds, procedure_kind, same_kinds}
+use Rattle.cw_safety.specs.Kinds.{Kind, LabelKind, SwitchKind, ProcedureKind, taken_of, parameter_kinds, procedure_kind, same_kinds}
 use Rattle.cw_safety.specs.WellFormed.{sets, sets_in_procedure, is_at, reaches_label, reaches_unit, controls_in, kind_if, kinds_of, is_label, is_switch, takes_arguments, parameter_takes, condition_step, spot_step, reference_step, reaches, reaches_goals, reaches_list, reaches_switch, controls_of, procedure_of_place, is_call, argument_step, expression_step, is_expression, kind_of, is_condition, is_reference, is_element, are_elements, is_goal, statement_step, is_statement}
 use Rattle.cw_built.specs.Listed.{body_at}
-use Rattle.cw_built.specs.Built.{alone}
-use Rattle.cw_built.specs.Arguments.{at_work, procedure_of}
+use Rattle.cw_built.specs.Built.{alone, at_work}
 use Rattle.cw_built.proofs.Saying.{Means, kinds_at, label-as-said, switch-as-said, kinds-as-said}
 
 -- the procedure at work, in the segment of this number
@@ -42,6 +41,10 @@ abbrev by_owner : SourceUnit → (segment label : ℕ) → (at_work : Option (�
 by_owner u h l o v = elim v [ None ↦ sets l u.body | Some q ↦ is_at h q o && sets_in_procedure l (slice_get u.procs q) ]
 
 -- ---- procedures by the kinds of their parameters
+
+abbrev procedure_of : Option (List Kind) → Option Kind
+procedure_of None = None
+procedure_of (Some ks) = Some (ProcedureKind (map taken_of ks))
 
 abbrev pub kinds_taken : Option (List Kind) → List Kind → Bool
 kinds_taken None ks = false

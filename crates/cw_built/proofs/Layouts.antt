@@ -1,4 +1,4 @@
--- A unit that passes the test of its storage has a layout.
+-- A unit whose storage stands has a layout.
 use Rattle.std.proofs.Common.{◌≡◌, ℕ, zero, suc, ◌+◌, ◌<◌, ◌≤◌, max, List, [], ◌∷◌, length, Bool, true, false, cond, IsTrue, ◌&&◌, nat_eq, nat_lt, nat_le, Option, Some, None, slice_get, refl, ap, subst, inl, inr, ◌⊎◌, arith}
 use Rattle.std.specs.List.{list_all}
 use Rattle.std.proofs.lemmas.Bool.{leb-true, ltb-true, cases_lt}

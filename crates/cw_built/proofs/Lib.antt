@@ -1,7 +1,5 @@
 pub mod SameKinds
-pub mod Judged
 pub mod Parts
-pub mod SpecifiedKinds
 pub mod Apart
 pub mod Saying
 pub mod Carried
@@ -12,9 +10,4 @@ pub mod OrderCodes
 pub mod Layouts
 pub mod Programs
 pub mod Units
-pub mod Calls
-pub mod Controls
-pub mod WholeStatements
 pub mod ItemNames
-pub mod Levels
-pub mod Choices

@@ -1,4 +1,4 @@
--- An order that passes the test has code.
+-- An order of which `has_code` holds has code.
 use Rattle.std.proofs.Common.{ℕ, ◌+◌, ◌<◌, ◌≤◌, nat_eq, ℤ, pos, negsuc, length, Bool, IsTrue, ◌&&◌, nat_lt, nat_le, All, slice_index_or, arith}
 use Rattle.std.proofs.lemmas.Int.{ints}
 use Rattle.std.proofs.lemmas.Bool.{leb-true, ltb-true}
@@ -69,6 +69,9 @@ coded-order (order.GoSpecial k) h = ltb-true k 256 h
 coded-order (order.GoSwitchSpecial k) h = ltb-true k 256 h
 coded-order (order.LoopWay marks) h = ltb-true (length marks) 32768 h
 coded-order (order.Exhausted m) h = tt
+coded-order order.SetVariable h = tt
+coded-order order.AddStep h = tt
+coded-order order.PutVariable h = tt
 coded-order (order.CallProc q) h = tt
 coded-order (order.CallCommon d) h = tt
 coded-order (order.LabelOut l) h = tt
@@ -82,7 +85,7 @@ coded-order (order.GoCommon d) h = tt
 coded-order (order.GoSwitch n) h = tt
 coded-order (order.GoSwitchCommon d) h = tt
 
--- the parts of the test for all orders of a unit
+-- the parts of `have_code`
 pub record Coded (o : Orders) : Type 0 where
   pub entry : IsTrue (nat_eq o.entry 0)
   pub list : IsTrue (list_all has_code o.list)

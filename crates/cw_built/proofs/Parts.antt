@@ -1,4 +1,4 @@
--- The parts of the test for a unit.
+-- The parts of what a built unit is.
 use Rattle.std.proofs.Common.{[], ◌∷◌, Bool, ◌&&◌, IsTrue}
 use Rattle.cw_unit.specs.declared.unit.Unit.{Unit as SourceUnit}
 use Rattle.cw_safety.proofs.Truth.{both}

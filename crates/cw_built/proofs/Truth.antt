@@ -1,5 +1,5 @@
 -- Parts of tests that hold.
-use Rattle.std.proofs.Common.{◌≡◌, ℕ, zero, suc, ◌<◌, List, [], ◌∷◌, length, Bool, true, false, IsTrue, Some, nat_eq, slice_get, subst, refl, arith}
+use Rattle.std.proofs.Common.{◌≡◌, ℕ, zero, suc, ◌<◌, List, [], ◌∷◌, Bool, true, false, IsTrue, Some, nat_eq, slice_get, subst, refl, arith}
 use Rattle.std.specs.List.{list_all}
 use Rattle.std.proofs.lemmas.Bool.{eqb-true}
 use Rattle.std.proofs.lemmas.Option.{none-some, same_Some}
@@ -14,7 +14,3 @@ all-get f (y ∷ xs) (suc k) x h e = all-get f xs k x (both (f y) (list_all f xs
 pub unequal : (a b : ℕ) (t : Bool) → nat_eq a b ≡ t → b < a → t ≡ false
 unequal a b true e lt = let same : a ≡ b = eqb-true a b e in absurd (omega (arith, same, lt))
 unequal a b false e lt = refl
-
-pub empty : {X : Type 0} (xs : List X) → IsTrue (nat_eq (length xs) 0) → xs ≡ []
-empty [] h = refl
-empty (x ∷ xs) h = let same : length (x ∷ xs) ≡ 0 = eqb-true (length (x ∷ xs)) 0 h in absurd (omega (arith, same))

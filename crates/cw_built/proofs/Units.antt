@@ -1,4 +1,4 @@
--- What the test of units tells of a list of them.
+-- What is so of a list of built units.
 use Rattle.std.proofs.Common.{◌≡◌, ◌≢◌, ℕ, zero, suc, ◌+◌, ◌<◌, ◌≤◌, List, [], ◌∷◌, length, All, Bool, true, false, ◌&&◌, IsTrue, Option, Some, None, is_some, slice_get, refl, subst, arith}
 use Rattle.std.proofs.lemmas.Option.{none-some, same_Some, slice_get_within}
 use Rattle.cw_unit.specs.declared.unit.Unit.{Unit as SourceUnit}
@@ -13,7 +13,6 @@ use Rattle.cw_unit.specs.declared.descriptor.DescBody.TheVariants as bodies
 use Rattle.cw_unit.specs.declared.layout.Limits.{Limits}
 use Rattle.cw_unit.specs.declared.layout.Map.{Map}
 use Rattle.cw_unit.specs.HasLayout.{HasLayout}
-use Rattle.cw_unit.specs.ValidStorage.{IsStorable}
 use Rattle.cw_unit.specs.Program.{program_at}
 use Rattle.cw_unit.specs.Step.{goals_of}
 use Rattle.cw_safety.specs.WellFormed.{WellFormed, is_statement, are_procedures, reaches_label, reaches_list, takes_arguments}
@@ -22,23 +21,16 @@ use Rattle.cw_safety.proofs.Truth.{both, no}
 use Rattle.cw_comm.specs.Clashes.{Agree}
 use Rattle.cw_gen_unit.specs.BuiltUnits.{are_built}
 use Rattle.cw_built.specs.Shared.{faces_of, IsThere, Defines}
-use Rattle.cw_built.specs.Stored.{is_stored}
 use Rattle.cw_built.specs.Built.{alone, defines_as, meets, is_built}
 use Rattle.cw_built.proofs.Truth.{all-get}
 use Rattle.cw_built.proofs.Parts.{Parts, parts}
-use Rattle.cw_built.proofs.Layouts.{stored, storable, has-layout}
+use Rattle.cw_built.proofs.Layouts.{has-layout}
 use Rattle.cw_built.proofs.Saying.{means-alone}
 use Rattle.cw_built.proofs.Carried.{statement-same}
 use Rattle.cw_built.proofs.Agreeing.{all-at, means-agreed}
 
 pub layout : (u : SourceUnit) → IsTrue (is_built u) → HasLayout u
 layout u h = has-layout u (parts u h).stored
-
-pub has-storage : (u : SourceUnit) → IsTrue (is_stored u) → IsStorable u
-has-storage u h = storable u (stored u h).items
-
-pub few-items : (u : SourceUnit) → IsTrue (is_stored u) → length u.items ≤ 65535
-few-items u h = (stored u h).few
 
 -- ---- well-formed units
 

@@ -1,5 +1,4 @@
--- The test for a unit whose orders do what it means when it is linked with others that pass it too and agree with it. What its text's checks
--- give is tested here until laws say that they give it.
+-- When a unit is built: its orders do what it means where it is linked with others that are built and agree with it. It is judged alone.
 use Rattle.std.specs.Prelude.{ℕ, [], ◌∷◌, map, slice_get, Bool, false, ◌&&◌, Option, Some, None}
 use Rattle.std.specs.List.{list_all}
 use Rattle.cw_unit.specs.declared.unit.Unit.{Unit as SourceUnit}
@@ -27,6 +26,11 @@ no_limits = record { area = 0; frames = 0; depth = 0 }
 -- its name as it says. What names mean depends on no storage map and no limits.
 abbrev pub alone : SourceUnit → Program
 alone u = program_at (record u { defined = [] } ∷ map defining u.descs) no_map no_limits
+
+-- the procedure at work there
+abbrev pub at_work : Option ℕ → Option (ℕ × ℕ)
+at_work None = None
+at_work (Some q) = Some (0, q)
 
 -- the unit's bodies are well formed
 abbrev pub is_formed : SourceUnit → Bool

@@ -1,4 +1,4 @@
--- The test for orders whose code does what they say: what templates need of them.
+-- When orders have code that does what they say: what templates need of them.
 use Rattle.std.specs.Prelude.{ℕ, ◌+◌, nat_eq, nat_lt, nat_le, pos, negsuc, List, length, Bool, true, false, ◌&&◌, ◌||◌, not, Option, Some, None, slice_get}
 use Rattle.std.specs.List.{list_all}
 use Rattle.cw_word.specs.FixedPoint.{fits_word}

@@ -2,6 +2,5 @@ pub mod Stored
 pub mod Listed
 pub mod Built
 pub mod Coded
-pub mod Arguments
 pub mod Named
 pub mod Shared

@@ -17,7 +17,7 @@ use Rattle.cw_unit.specs.declared.descriptor.Spec.{Spec, out-Spec}
 use Rattle.cw_unit.specs.declared.descriptor.SpecParam.{SpecParam, SpecParam-F, out-SpecParam}
 use Rattle.cw_unit.specs.declared.descriptor.SpecParam.TheOpen as layer
 use Rattle.cw_unit.specs.Allocation.{Name}
-use Rattle.cw_safety.specs.Kinds.{Kind, kind_of_param, parameter_kinds}
+use Rattle.cw_safety.specs.Kinds.{Kind, parameter_kinds}
 
 -- ---- names
 
@@ -48,13 +48,6 @@ param_in_layer (layer.Proc s) = param.Proc 0 s
 
 abbrev pub param_as : SpecParam → Param
 param_as s = param_in_layer (out-SpecParam s)
-
--- what such parameters take
-abbrev pub kind_specified : SpecParam → Kind
-kind_specified s = kind_of_param (param_as s)
-
-abbrev pub kinds_specified : List SpecParam → List Kind
-kinds_specified ps = map kind_of_param (map param_as ps)
 
 abbrev pub nothing : Stmt
 nothing = statement.Seq []

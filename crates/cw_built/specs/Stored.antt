@@ -1,4 +1,4 @@
--- The test for what a unit's layout asks of the unit: each base is there and stands before what is overlaid on it, an item of a frame has a
+-- What a unit's layout asks of the unit: each base is there and stands before what is overlaid on it, an item of a frame has a
 -- procedure, and all places and presets have room.
 use Rattle.std.specs.Prelude.{ℕ, suc, ◌+◌, nat_lt, nat_le, List, [], ◌∷◌, length, Bool, true, false, ◌&&◌, Option, Some, None}
 use Rattle.std.specs.List.{list_all}

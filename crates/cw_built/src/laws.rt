@@ -1,4 +1,4 @@
-//! What the tests tell: laws that need only the definitions.
+//! What is so of built units, and of orders that have code: laws that need only the definitions.
 ghost use Rattle.std.specs.Prelude.{◌≡◌, ◌≢◌, ◌⊎◌, ℕ, ◌<◌, ◌≤◌, List, [], length, false, All, IsTrue, Some, slice_get};
 ghost use Rattle.cw_unit.specs.declared.unit.Unit.{Unit as SourceUnit};
 ghost use Rattle.cw_unit.specs.declared.unit.Def.{Def};
@@ -23,7 +23,7 @@ ghost use Rattle.cw_built.specs.Built.{is_built};
 ghost use Rattle.cw_built.specs.Shared.{faces_of, Defines};
 ghost use Rattle.cw_built.specs.Coded.{have_code, ends_block};
 
-/// Units that pass the test and agree are well formed together at every storage map and limits. Each of them has a layout, and what it defines in
+/// Units that are built and agree are well formed together at every storage map and limits. Each of them has a layout, and what it defines in
 /// common with others is there.
 pub fn built_units()
     ensures well_formed { (us : List SourceUnit) (m : Map) (limits : Limits) → us ≢ [] → All (λ u. IsTrue (is_built u)) us → Agree (faces_of us) → WellFormed (program_at us m limits) }
@@ -32,12 +32,12 @@ pub fn built_units()
     ensures defined { (u : SourceUnit) (k d : ℕ) (def : Def) → IsTrue (is_built u) → slice_get u.defined k ≡ Some (d, def) → Defines u d def }
 {}
 
-/// Orders that pass the test have code.
+/// Each order of a unit whose orders have code has code.
 pub fn coded()
     ensures { (orders : Orders) → IsTrue (have_code orders) → All HasCode orders.list }
 {}
 
-/// What code needs of the program of the orders of such units, where they pass the test: each order has code, lines are words, switches
+/// What code needs of the program of the orders of such units, where these have code: each order has code, lines are words, switches
 /// have few goals, a mark stands at the first order or at one that begins a block, and calls are in order.
 pub fn programs()
     ensures codes { (us : List SourceUnit) (m : Map) (limits : Limits) (room g place : ℕ) (o : Order) → All (λ u. IsTrue (have_code (unit_orders u))) us → order_at (orders_program us m limits room) g place ≡ Some o → HasCode o }

@@ -1,4 +1,4 @@
-//! What the tests for units and their orders tell.
+//! What is so of built units, and of orders that have code.
 ghost use Rattle.std.specs.Prelude.{◌≡◌, ◌≢◌, ℕ, ◌<◌, ◌≤◌, List, [], All, IsTrue, Some, slice_get};
 ghost use Rattle.cw_unit.specs.declared.unit.Unit.{Unit as SourceUnit};
 ghost use Rattle.cw_unit.specs.declared.unit.Def.{Def};
@@ -19,7 +19,7 @@ ghost use Rattle.cw_built.specs.Coded.{have_code};
 
 use cw_carry_run::laws::{order_words, tested};
 
-/// Units that pass the test and agree are well formed together at every storage map and limits, and have orders that do what they mean. Each of them
+/// Units that are built and agree are well formed together at every storage map and limits, and have orders that do what they mean. Each of them
 /// has a layout, and what it defines in common with others is there.
 pub fn built_units()
     ensures well_formed { (us : List SourceUnit) (m : Map) (limits : Limits) → us ≢ [] → All (λ u. IsTrue (is_built u)) us → Agree (faces_of us) → WellFormed (program_at us m limits) }
@@ -30,14 +30,14 @@ pub fn built_units()
     tested();
 }
 
-/// The orders of a list that passes the test have code.
+/// Each order of a unit whose orders have code has code.
 pub fn coded()
     ensures { (orders : Orders) → IsTrue (have_code orders) → All HasCode orders.list }
 {
     cw_built::laws::coded();
 }
 
-/// The program of the orders of such units, which pass the test too, is one that code can carry out, at every storage map and at limits
+/// The program of the orders of such units, where these have code, is one that code can carry out, at every storage map and at limits
 /// and room as a run has them.
 pub fn codable()
     ensures { (us : List SourceUnit) (m : Map) (limits : Limits) (room : ℕ) → All (λ u. IsTrue (is_built u)) us → All (λ u. IsTrue (have_code (unit_orders u))) us → Agree (faces_of us) → limits.frames ≤ limits.area → limits.depth < 65536 → room ≤ 32000 → Codable (orders_program us m limits room) }

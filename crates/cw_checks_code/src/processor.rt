@@ -1,7 +1,6 @@
 //! Programs of orders on the processor.
+use crate::codes::have_code;
 use cw_assemble::assemble;
-use cw_built::have_code;
-use cw_built::laws::coded;
 use cw_cpu86::Cpu;
 use cw_interpreter::Program;
 use cw_io::{MemSink, MemSource};
@@ -16,8 +15,7 @@ use std::alloc::Global;
 
 // The code of orders; none where one has none.
 fn code_of(alloc: Global, orders: &Orders) -> Option<Code> {
-    coded();
-    if have_code(orders) {
+    if have_code(orders.list.as_slice()) {
         assemble(alloc, orders).ok()
     } else {
         None

@@ -1,15 +1,13 @@
 //! Small texts, with what they write and how they end, by hand from the rules of the language.
 use crate::orders::{ORDER_STEPS, STEPS, bytes_of, told_of_code, told_of_orders};
 use crate::processor::Run;
-use cw_build::compile;
-use cw_compile::unit;
+use cw_files::{Segment as Compiled, compile_text};
 use cw_gen_unit::orders;
 use cw_interpreter::{Machine, Program, Segment};
 use cw_link::{Linked, link};
 use cw_ports::ImageEnd;
 use cw_tmpl::base_code;
 use cw_unit::layout::Limits;
-use cw_unit::unit::Unit;
 use cw_view::View;
 use std::alloc::{AllocError, Global};
 use std::test::Fail;
@@ -137,13 +135,6 @@ fn text_of(alloc: Global, communicators: &str, body: &str) -> Result<Vec<u8>, Al
     Ok(bytes)
 }
 
-fn unit_of(alloc: Global, text: &[u8]) -> Option<Unit> {
-    if text.len() > 1_048_576 {
-        return None;
-    }
-    unit(alloc, text).ok()
-}
-
 fn link_one(alloc: Global, object: &[u8]) -> Option<Linked> {
     match View::open(object) {
         Ok(view) => link(alloc, &[view], &LIMITS).ok(),
@@ -159,10 +150,13 @@ struct Built {
 }
 
 fn compiled(alloc: Global, text: &[u8]) -> Option<Built> {
-    let unit = unit_of(alloc, text)?;
-    let Ok(made) = compile(alloc, &unit) else {
+    if text.len() > 1_048_576 {
+        return None;
+    }
+    let Ok(compiled) = compile_text(alloc, text, 0) else {
         return None;
     };
+    let Compiled { unit, made } = compiled;
     let orders = orders(alloc, &unit, &made.layout).ok()?;
     let linked = link_one(alloc, made.object.as_slice())?;
     let mut arguments = Vec::new(alloc);
@@ -268,13 +262,17 @@ fn texts_run(rt: HostRuntime) -> Result<(), Fail> {
 
 // A body, the bytes of its segment's code, and the instructions of its run. The segment's entry has 15 bytes, and the way on to the
 // end 5. A run takes 20 instructions to the first order, and 3 from the last one through the end.
-const COUNTED: [(&str, usize, u64); 3] = [
+const COUNTED: [(&str, usize, u64); 4] = [
     // The line 5 bytes and 1 instruction, the number 4 and 2, the byte 3 and 2.
     ("W(7)", 32, 28),
     // Line, number and store 13 and 5; line, load, sum with a number and store 21 and 7; line, load and byte 12 and 5.
     ("INTEGER X; X := 3; X := X + 4; W(X)", 66, 40),
     // Line, number, call and drop 14 and 6; the entry and the argument 21 and 27; line, load and byte 12 and 5; 0 and the return 15 and 8.
     ("PROCEDURE P(VALUE INTEGER N); W(N); P(5)", 82, 69),
+    // Line, address and store 13 and 5; the number of the element, its first value, which is set, its step, its limit and the jump 41 and 30;
+    // the step added 10 and 18; the test 19, and 33 or at the end 31; the jump past the loop 3 and 1; a value set 10; line, load and byte
+    // 12 and 5; line, number and the way on 32 and 10. The body runs twice.
+    ("INTEGER I; FOR I := 1 STEP 1 UNTIL 2 DO W(I)", 160, 222),
 ];
 
 #[test]

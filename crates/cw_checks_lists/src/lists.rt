@@ -4,8 +4,7 @@ ghost use Rattle.std.specs.List.{All};
 ghost use Rattle.cw_link.specs.Views.{IsOpened};
 
 use crate::spelling::spelled;
-use cw_build::compile;
-use cw_compile::unit;
+use cw_files::compile_text;
 use cw_io::MemSink;
 use cw_link::{LinkFault, link};
 use cw_say::{Status, write_last};
@@ -140,11 +139,8 @@ fn compiled(alloc: Global, text: &str) -> Result<Option<List<u8>>, AllocError> {
     if text.len() > 1_048_576 {
         return Ok(None);
     }
-    let Ok(unit) = unit(alloc, text.as_bytes()) else {
-        return Ok(None);
-    };
-    match compile(alloc, &unit) {
-        Ok(made) => Ok(Some(made.object)),
+    match compile_text(alloc, text.as_bytes(), 0) {
+        Ok(segment) => Ok(Some(segment.made.object)),
         Err(_) => Ok(None),
     }
 }

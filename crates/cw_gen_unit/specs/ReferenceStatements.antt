@@ -1,5 +1,5 @@
 -- The orders of statements.
-use Rattle.std.specs.Prelude.{ℕ, ◌+◌, List, [], ◌∷◌, ◌++◌, map, length, true, false, Option, Some, None, slice_get}
+use Rattle.std.specs.Prelude.{ℕ, ◌+◌, List, [], ◌∷◌, map, length, true, false, Option, Some, None, slice_get}
 use Rattle.cw_order.specs.declared.order.Order.{Order}
 use Rattle.cw_order.specs.declared.order.Order.TheVariants as order
 use Rattle.cw_unit.specs.declared.layout.Layout.{Layout}
@@ -74,17 +74,15 @@ number_orders y item i = number_order i ∷ item_order y item 3 ∷ order.Store 
 
 -- the control variable is set through the first word of the loop
 abbrev pub set_orders : Layout → (item : ℕ) → List Order
-set_orders y item = item_order y item 0 ∷ order.Load ∷ order.InArea ∷ order.Store ∷ []
+set_orders y item = item_order y item 0 ∷ order.SetVariable ∷ []
 
-abbrev pub variable_orders : Layout → (item : ℕ) → List Order
-variable_orders y item = item_order y item 0 ∷ order.Load ∷ order.InArea ∷ order.Load ∷ []
-
+-- and the step added to it
 abbrev pub bump_orders : Layout → (item : ℕ) → List Order
-bump_orders y item = variable_orders y item ++ item_order y item 1 ∷ order.Load ∷ order.Add ∷ item_order y item 0 ∷ order.Load ∷ order.Store ∷ []
+bump_orders y item = item_order y item 0 ∷ order.AddStep ∷ []
 
 -- the test of a STEP element, which goes on behind it where the control variable is past the limit
 abbrev pub turn_piece : Layout → (item body : ℕ) → Piece
-turn_piece y item body = with_end (λ next. plain (variable_orders y item ++ item_order y item 0 ∷ order.Exhausted next ∷ order.Jump body ∷ []))
+turn_piece y item body = with_end (λ next. plain (item_order y item 0 ∷ order.PutVariable ∷ order.Exhausted next ∷ order.Jump body ∷ []))
 
 -- the mark where the body's end goes on with an element whose marks begin at this number
 abbrev pub way_mark : Felem → ℕ → ℕ

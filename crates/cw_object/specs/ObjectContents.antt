@@ -1,5 +1,5 @@
 -- What a linker takes from the bytes of an object, and from the object of a unit.
-use Rattle.std.specs.Prelude.{◌≡◌, ℕ, List, [], ◌∷◌, drop, Option, Some, None, IsTrue, IsFalse}
+use Rattle.std.specs.Prelude.{◌≡◌, ℕ, List, [], ◌∷◌, drop, IsTrue}
 use Rattle.cw_unit.specs.declared.unit.Unit.{Unit as SourceUnit}
 use Rattle.cw_unit.specs.declared.layout.Layout.{Layout}
 use Rattle.cw_view.specs.ObjectFormat.{IsObject}
@@ -48,11 +48,6 @@ contents_with u l c need = record {
   definitions = definitions_of c u.defined;
   body = body_of u c need;
 }
-
--- what writing answers: the object, where it can be written
-abbrev pub TellsObject : SourceUnit → Layout → Code → (need : ℕ) → Option (List ℕ) → Type 0
-TellsObject u l c need None = IsFalse (is_writable u l c need)
-TellsObject u l c need (Some object) = IsTrue (is_writable u l c need) × (object ≡ object_with u l c need)
 
 -- The object of a unit is in the format, and tells what it was written from.
 abbrev pub TellsItsUnit : Type 0

@@ -1,13 +1,7 @@
-//! The object of a unit, and objects as the linker takes them.
+//! What the object of a unit tells, and linking objects by their bytes.
 #![tactic(auto)]
 
-mod code;
-mod descriptors;
-mod fields;
 pub mod laws;
 mod linking;
-mod storage;
-mod writing;
 
 pub use linking::link_objects;
-pub use writing::object;

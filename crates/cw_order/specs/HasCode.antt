@@ -57,6 +57,9 @@ HasCode (order.GoSwitchSpecial k) = k < 256
 -- an element's number is a word with a sign
 HasCode (order.LoopWay marks) = length marks < 32768
 HasCode (order.Exhausted m) = Unit {0}
+HasCode order.SetVariable = Unit {0}
+HasCode order.AddStep = Unit {0}
+HasCode order.PutVariable = Unit {0}
 HasCode (order.CallProc q) = Unit {0}
 HasCode (order.CallCommon d) = Unit {0}
 HasCode (order.LabelOut l) = Unit {0}

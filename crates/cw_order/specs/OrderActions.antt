@@ -10,7 +10,7 @@ use Rattle.cw_order.specs.declared.order.Order.{Order}
 use Rattle.cw_order.specs.declared.order.Order.TheVariants as order
 use Rattle.cw_order.specs.OrderProgram.{OrderProgram, defined_at}
 use Rattle.cw_order.specs.OrderState.{OrderActivation, argument_at, control_at, frame_word}
-use Rattle.cw_order.specs.OrderChanges.{index, index_sum, index_row, difference, without_top, put_address, bind, Way, ToMark, way_of_one, way_of_two, to_mark_if, to_mark_in, comparison, way_past_limit, mark_of_number}
+use Rattle.cw_order.specs.OrderChanges.{index, index_sum, index_row, difference, without_top, put_address, bind, Way, ToMark, way_of_one, way_of_two, to_mark_if, to_mark_in, comparison, set_variable, add_step, put_variable, way_past_limit, mark_of_number}
 
 -- Perform does an operation, and so does Access, on an address that has been tested or is that of an item. Alter changes the words,
 -- and so does AlterWithin, at an address of an item. Branch goes on here or there. GoMain goes to a label of the segment's body, GoLabel
@@ -77,6 +77,9 @@ module _ (p : OrderProgram) where
   action_of g acts (order.IndexRow lower width) = Alter (index_row lower width)
   action_of g acts order.InArea = Perform (Form Taken)
   action_of g acts (order.InBounds lower upper) = Perform (InBounds lower upper)
+  action_of g acts order.SetVariable = Alter (set_variable p.limits.area)
+  action_of g acts order.AddStep = Alter (add_step p.limits.area)
+  action_of g acts order.PutVariable = Alter (put_variable p.limits.area)
   -- ways within a body
   action_of g acts (order.Jump m) = Branch (ToMark m)
   action_of g acts (order.JumpIf c m) = Branch (way_of_two (λ x y v. to_mark_if (holds (comparison c) x y) m v))

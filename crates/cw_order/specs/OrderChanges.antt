@@ -1,12 +1,12 @@
 -- What orders do to words beyond the operations of the source semantics, and how they choose the way on.
-use Rattle.std.specs.Prelude.{ℕ, zero, suc, ◌+◌, ℤ, pos, negsuc, ◌+ℤ◌, ◌-ℤ◌, ◌*ℤ◌, List, ◌∷◌, set, Bool, true, false, Option, Some, None, slice_get}
+use Rattle.std.specs.Prelude.{ℕ, zero, suc, ◌+◌, ◌-◌, ℤ, pos, negsuc, ◌+ℤ◌, ◌-ℤ◌, ◌*ℤ◌, List, ◌∷◌, set, Bool, true, false, Option, Some, None, slice_get}
 use Rattle.cw_word.specs.FixedPoint.{fits_word}
 use Rattle.cw_word.specs.Word.{signed, unsigned, word_difference}
 use Rattle.cw_unit.specs.declared.unit.CompareOp.{CompareOp}
 use Rattle.cw_unit.specs.declared.unit.CompareOp.TheVariants as compare
 use Rattle.cw_unit.specs.Stop.{AddressRange}
-use Rattle.cw_unit.specs.Words.{Operand, Word, Words, Outcome, Changed, Refused, Impossible, with_operands, with_memory, put, put_if, on_one, on_two, word_at, at_address}
-use Rattle.cw_unit.specs.Operation.{is_past}
+use Rattle.cw_unit.specs.Words.{Operand, Word, Words, Outcome, Changed, Refused, Impossible, with_operands, with_memory, put, put_if, is_below, number_of, on_one, on_two, word_at, at_address}
+use Rattle.cw_unit.specs.Operation.{SetVariable, AddStep, perform, is_past}
 use Rattle.cw_order.specs.declared.order.Comparator.{Comparator}
 use Rattle.cw_order.specs.declared.order.Comparator.TheVariants as comparator
 
@@ -51,6 +51,29 @@ put_address (Some a) w = Changed (put (signed a) w)
 abbrev pub bind : (area : ℕ) → Option Operand → Option ℕ → Words → Outcome
 bind area (Some (Word z)) (Some a) w = at_address area (λ i v. Changed (with_memory v (set v.memory i z))) (pos a) w
 bind area _ _ w = Impossible
+
+-- ---- loops, whose words are in the area
+
+abbrev pub if_inside : Bool → Outcome → Outcome
+if_inside true o = o
+if_inside false o = Impossible
+
+abbrev pub set_variable : (area : ℕ) → Words → Outcome
+set_variable area w = on_one (λ a v. if_inside (is_below a area) (perform area (SetVariable (number_of a)) v)) w.operands w
+
+-- by word 1 of the loop
+abbrev pub add_step : (area : ℕ) → Words → Outcome
+add_step area w = on_one (λ a v. if_inside (is_below a (area - 1)) (perform area (AddStep (number_of a)) v)) w.operands w
+
+-- below the address of the loop
+abbrev pub put_variable : (area : ℕ) → Words → Outcome
+put_variable area w =
+    on_one
+    (λ a v.
+    if_inside (is_below a area)
+    (at_address area (λ i t. Changed (put a (put (word_at t.memory i) t))) (word_at v.memory (number_of a)) v))
+    w.operands
+    w
 
 -- ---- ways on
 

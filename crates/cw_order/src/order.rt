@@ -108,6 +108,15 @@ pub enum Order {
     /// Takes the address of a loop's words, then the value of its control variable below it, and goes on at the mark where
     /// that is past the element's limit. Word 1 of the loop is the step, word 2 the limit.
     Exhausted(u32),
+    /// Takes the address of a loop's words, then the word below it, and stores that word in the loop's control variable,
+    /// whose address is word 0 of the loop; stops with Address where that is no address of the data area.
+    SetVariable,
+    /// Takes the address of a loop's words and adds the step, word 1 of the loop, to the control variable; stops with
+    /// Address as `SetVariable` does, and then with Overflow where the sum does not fit.
+    AddStep,
+    /// Puts the value of the control variable below the address of a loop's words, which stays on top; stops with Address
+    /// as `SetVariable` does.
+    PutVariable,
     /// Takes the number of a loop's element, from 1, and goes on at the mark of that number; further on where it has
     /// none.
     LoopWay(List<u32>),

@@ -1,5 +1,5 @@
 -- The bytes of the orders of expressions and statements, whatever their numbers.
-use Rattle.std.proofs.Common.{ℕ, zero, suc, ◌+◌, ◌-◌, ◌*◌, ◌^◌, ◌≤◌, ◌==◌, nat_le, nat_lt, if◌then◌else◌, ℤ, pos, negsuc, List, [], ◌∷◌, ◌++◌, length, Bool, true, false, Option, Some, None, slice_get, slice_index_or, arith}
+use Rattle.std.proofs.Common.{ℕ, zero, suc, ◌+◌, ◌-◌, ◌*◌, ◌%◌, ◌^◌, ◌≤◌, ◌==◌, nat_le, nat_lt, if◌then◌else◌, ℤ, pos, negsuc, List, [], ◌∷◌, ◌++◌, length, Bool, true, false, Option, Some, None, slice_get, slice_index_or, arith}
 use Rattle.cw_order.specs.declared.order.Order.{Order}
 use Rattle.cw_order.specs.declared.order.Order.TheVariants as order
 use Rattle.cw_unit.specs.declared.layout.Layout.{Layout}
@@ -17,35 +17,59 @@ use Rattle.cw_unit.specs.declared.unit.Target.{Target}
 use Rattle.cw_unit.specs.declared.unit.Target.TheVariants as target
 use Rattle.cw_unit.specs.declared.unit.Goal.{Goal}
 use Rattle.cw_unit.specs.declared.unit.Goal.TheVariants as goal
-use Rattle.cw_gen_expr.specs.ReferenceExpressions.{Scope, argument_words, placed_by, placed_in, item_order, table_orders, bounds_orders, load_orders, store_orders, rescale_orders, logic_order, call_order, label_order}
+use Rattle.cw_gen_expr.specs.ReferenceExpressions.{Scope, argument_words, placed_by, placed_in, item_order, table_orders, bounds_orders, load_orders, store_orders, rescale_orders, logic_order, number_order, call_order, label_order}
 use Rattle.cw_gen_expr.specs.ReferenceEntries.{bound_by, bound_in, bound_order, parameter_orders, bind_orders}
 use Rattle.cw_gen_expr.specs.UnitTables.{label_mark}
-use Rattle.cw_gen_unit.specs.ReferenceStatements.{after_statement_call, from_procedure, own_order, goal_order, number_orders, set_orders, variable_orders, bump_orders}
-use Rattle.cw_tmpl.specs.Templates.{times_size, listed_size, listed_sizes}
-use Rattle.cw_size.proofs.Short.{sizes-append}
+use Rattle.cw_gen_unit.specs.ReferenceStatements.{after_statement_call, from_procedure, own_order, goal_order, number_orders, set_orders, bump_orders}
+use Rattle.cw_tmpl.specs.Templates.{times_size, listed_size, sizes_behind, listed_sizes}
+use Rattle.cw_size.proofs.Short.{all-behind, sizes-append, then}
 
 -- ---- items
 
-pub item-short : (y : Layout) (i n : ℕ) → listed_size (item_order y i n) ≤ 7
-item-short y i n = at_family (slice_get y.families (slice_index_or y.homes i (0, 0)).0) (slice_index_or y.homes i (0, 0)).0 ((slice_index_or y.homes i (0, 0)).1 + n)
+-- the address of a word is of one of two forms
+by-form : (P : Order → Type 0) → ((f n : ℕ) → P (order.Home f n)) → ((n : ℕ) → P (order.FrameHome n)) → (y : Layout) (i n : ℕ) → P (item_order y i n)
+by-form P home frame y i n = at_family (slice_get y.families (slice_index_or y.homes i (0, 0)).0) (slice_index_or y.homes i (0, 0)).0 ((slice_index_or y.homes i (0, 0)).1 + n)
   where
-    at_sort : (k : Sort) (f o : ℕ) → listed_size (placed_by k f o) ≤ 7
-    at_sort (sort.Frame base) f o = omega arith
-    at_sort (sort.Common d) f o = omega arith
-    at_sort sort.Own f o = omega arith
-    at_sort (sort.Absolute a) f o = omega arith
+    at_sort : (k : Sort) (f o : ℕ) → P (placed_by k f o)
+    at_sort (sort.Frame base) f o = frame ((base + o) % 65536)
+    at_sort (sort.Common d) f o = home f (o % 65536)
+    at_sort sort.Own f o = home f (o % 65536)
+    at_sort (sort.Absolute a) f o = home f (o % 65536)
 
-    at_family : (x : Option Family) (f o : ℕ) → listed_size (placed_in x f o) ≤ 7
-    at_family None f o = omega arith
+    at_family : (x : Option Family) (f o : ℕ) → P (placed_in x f o)
+    at_family None f o = home f (o % 65536)
     at_family (Some x) f o = at_sort x.sort f o
 
--- behind the address of an item
-pub item-first : (y : Layout) (i n : ℕ) (os : List Order) (most : ℕ) → listed_sizes os ≤ most → listed_sizes (item_order y i n ∷ os) ≤ 7 + most
-item-first y i n os most h = let e = item-short y i n in let z : listed_size (item_order y i n) + listed_sizes os ≤ 7 + most = omega (arith, e, h) in z
+pub item-short : (y : Layout) (i n : ℕ) → listed_size (item_order y i n) ≤ 7
+item-short = by-form (λ o. listed_size o ≤ 7) (λ f n. omega arith) (λ n. omega arith)
 
-pub table-short : (y : Layout) (t : Bool) (i : ℕ) → listed_sizes (table_orders y t i) ≤ 13
-table-short y true i = item-first y i 0 (order.Load ∷ []) 6 (let z : 6 + 0 ≤ 6 = omega arith in z)
-table-short y false i = item-first y i 0 [] 6 (let z : 0 ≤ 6 = omega arith in z)
+-- behind the address of an item, and behind its load or its store
+pub item-first : (y : Layout) (i n : ℕ) (os : List Order) (most : ℕ) → listed_sizes os ≤ most → listed_sizes (item_order y i n ∷ os) ≤ 7 + most
+item-first y i n os most = then (item_order y i n) os 7 most (item-short y i n)
+
+pub item-load : (y : Layout) (i n : ℕ) (os : List Order) (most : ℕ) → listed_sizes os ≤ most → listed_sizes (item_order y i n ∷ order.Load ∷ os) ≤ 10 + most
+item-load y i n os most h =
+    let behind = all-behind (Some order.Load) os in
+    by-form (λ o. listed_sizes (o ∷ order.Load ∷ os) ≤ 10 + most)
+    (λ f m. let z : 4 + (0 + sizes_behind (Some order.Load) os) ≤ 10 + most = omega (arith, h, behind) in z)
+    (λ m. let z : 7 + (3 + sizes_behind (Some order.Load) os) ≤ 10 + most = omega (arith, h, behind) in z)
+    y
+    i
+    n
+
+pub item-store : (y : Layout) (i n : ℕ) (os : List Order) (most : ℕ) → listed_sizes os ≤ most → listed_sizes (item_order y i n ∷ order.Store ∷ os) ≤ 10 + most
+item-store y i n os most h =
+    let behind = all-behind (Some order.Store) os in
+    by-form (λ o. listed_sizes (o ∷ order.Store ∷ os) ≤ 10 + most)
+    (λ f m. let z : 4 + (0 + sizes_behind (Some order.Store) os) ≤ 10 + most = omega (arith, h, behind) in z)
+    (λ m. let z : 7 + (3 + sizes_behind (Some order.Store) os) ≤ 10 + most = omega (arith, h, behind) in z)
+    y
+    i
+    n
+
+pub table-short : (y : Layout) (t : Bool) (i : ℕ) → listed_sizes (table_orders y t i) ≤ 10
+table-short y true i = item-load y i 0 [] 0 (let z : 0 ≤ 0 = omega arith in z)
+table-short y false i = item-first y i 0 [] 3 (let z : 0 ≤ 3 = omega arith in z)
 
 -- ---- parts, bounds and scales
 
@@ -134,35 +158,18 @@ goal-short u who (goal.Common d) = omega arith
 
 -- ---- FOR
 
-pub number-short : (y : Layout) (item i : ℕ) → listed_sizes (number_orders y item i) ≤ 19
-number-short y item i = let e = item-short y item 3 in let z : 4 + (listed_size (item_order y item 3) + (8 + 0)) ≤ 19 = omega (arith, e) in z
+pub number-short : (y : Layout) (item i : ℕ) → listed_sizes (number_orders y item i) ≤ 14
+number-short y item i =
+    then (number_order i) (item_order y item 3 ∷ order.Store ∷ []) 4 10 (let z : 4 ≤ 4 = omega arith in z) (item-store y item 3 [] 0 (let z : 0 ≤ 0 = omega arith in z))
 
-pub set-short : (y : Layout) (item : ℕ) → listed_sizes (set_orders y item) ≤ 31
-set-short y item = let e = item-short y item 0 in let z : listed_size (item_order y item 0) + (6 + (10 + (8 + 0))) ≤ 31 = omega (arith, e) in z
+pub set-short : (y : Layout) (item : ℕ) → listed_sizes (set_orders y item) ≤ 13
+set-short y item = item-first y item 0 (order.SetVariable ∷ []) 6 (let z : 6 + 0 ≤ 6 = omega arith in z)
 
-pub variable-short : (y : Layout) (item : ℕ) → listed_sizes (variable_orders y item) ≤ 29
-variable-short y item = let e = item-short y item 0 in let z : listed_size (item_order y item 0) + (6 + (10 + (6 + 0))) ≤ 29 = omega (arith, e) in z
+pub bump-short : (y : Layout) (item : ℕ) → listed_sizes (bump_orders y item) ≤ 13
+bump-short y item = item-first y item 0 (order.AddStep ∷ []) 6 (let z : 6 + 0 ≤ 6 = omega arith in z)
 
-pub bump-short : (y : Layout) (item : ℕ) → listed_sizes (bump_orders y item) ≤ 71
-bump-short y item =
-    let os : List Order = item_order y item 1 ∷ order.Load ∷ order.Add ∷ item_order y item 0 ∷ order.Load ∷ order.Store ∷ [] in
-    let a = item-short y item 0 in
-    let b = item-short y item 1 in
-    let v = variable-short y item in
-    let all = sizes-append (variable_orders y item) os in
-    let rest : listed_size (item_order y item 1) + (6 + (8 + (listed_size (item_order y item 0) + (6 + (8 + 0))))) ≤ 42 = omega (arith, a, b) in
-    let z : listed_sizes (variable_orders y item ++ os) ≤ 71 = omega (arith, all, v, rest) in
-    z
-
-pub turn-short : (y : Layout) (item body mark : ℕ) → listed_sizes (variable_orders y item ++ item_order y item 0 ∷ order.Exhausted mark ∷ order.Jump body ∷ []) ≤ 68
-turn-short y item body mark =
-    let os : List Order = item_order y item 0 ∷ order.Exhausted mark ∷ order.Jump body ∷ [] in
-    let a = item-short y item 0 in
-    let v = variable-short y item in
-    let all = sizes-append (variable_orders y item) os in
-    let rest : listed_size (item_order y item 0) + (29 + (3 + 0)) ≤ 39 = omega (arith, a) in
-    let z : listed_sizes (variable_orders y item ++ os) ≤ 68 = omega (arith, all, v, rest) in
-    z
+pub turn-short : (y : Layout) (item body mark : ℕ) → listed_sizes (item_order y item 0 ∷ order.PutVariable ∷ order.Exhausted mark ∷ order.Jump body ∷ []) ≤ 22
+turn-short y item body mark = item-first y item 0 (order.PutVariable ∷ order.Exhausted mark ∷ order.Jump body ∷ []) 15 (let z : 6 + (6 + (3 + 0)) ≤ 15 = omega arith in z)
 
 -- ---- parameters
 

@@ -1,13 +1,38 @@
 -- Pieces whose orders have few bytes, wherever they stand.
-use Rattle.std.proofs.Common.{◌≡◌, ℕ, ◌+◌, ◌≤◌, List, [], ◌∷◌, ◌++◌, length, arith}
+use Rattle.std.proofs.Common.{ℕ, ◌+◌, ◌≤◌, List, [], ◌∷◌, ◌++◌, length, Option, Some, None, arith}
 use Rattle.cw_order.specs.declared.order.Order.{Order}
 use Rattle.cw_order.specs.declared.order.Order.TheVariants as order
 use Rattle.cw_gen_expr.specs.Pieces.{Piece, plain, followed_by, with_end, with_labels}
-use Rattle.cw_tmpl.specs.Templates.{listed_sizes}
+use Rattle.cw_tmpl.specs.Templates.{listed_size, size_behind, sizes_behind, listed_sizes}
 
-pub sizes-append : (xs ys : List Order) → listed_sizes (xs ++ ys) ≡ listed_sizes xs + listed_sizes ys
-sizes-append [] ys = omega arith
-sizes-append (x ∷ xs) ys = omega (arith, sizes-append xs ys)
+-- an order takes no more behind another
+behind-within : (before : Option Order) (o : Order) → size_behind before o ≤ listed_size o
+behind-within (Some (order.Home f n)) order.Load = omega arith
+behind-within (Some (order.Home f n)) order.Store = omega arith
+behind-within (Some (order.FrameHome n)) order.Load = omega arith
+behind-within (Some (order.FrameHome n)) order.Store = omega arith
+behind-within before o = omega arith
+
+pub all-behind : (before : Option Order) (os : List Order) → sizes_behind before os ≤ listed_sizes os
+all-behind before [] = omega arith
+all-behind before (o ∷ os) =
+    let h = behind-within before o in
+    let z : size_behind before o + sizes_behind (Some o) os ≤ listed_size o + sizes_behind (Some o) os = omega (arith, h) in
+    z
+
+append-behind : (before : Option Order) (xs ys : List Order) → sizes_behind before (xs ++ ys) ≤ sizes_behind before xs + listed_sizes ys
+append-behind before [] ys = let h = all-behind before ys in let z : sizes_behind before ys ≤ 0 + listed_sizes ys = omega (arith, h) in z
+append-behind before (x ∷ xs) ys =
+    let h = append-behind (Some x) xs ys in
+    let z : size_behind before x + sizes_behind (Some x) (xs ++ ys) ≤ size_behind before x + sizes_behind (Some x) xs + listed_sizes ys = omega (arith, h) in
+    z
+
+pub sizes-append : (xs ys : List Order) → listed_sizes (xs ++ ys) ≤ listed_sizes xs + listed_sizes ys
+sizes-append = append-behind None
+
+-- an order, and orders behind it
+pub then : (o : Order) (os : List Order) (m n : ℕ) → listed_size o ≤ m → listed_sizes os ≤ n → listed_sizes (o ∷ os) ≤ m + n
+then o os m n h k = let behind = all-behind (Some o) os in let z : listed_size o + sizes_behind (Some o) os ≤ m + n = omega (arith, h, k, behind) in z
 
 -- the orders have at most so many bytes, even with some to spare
 pub record Short (p : Piece) (spare most : ℕ) : Type 0 where

@@ -1,5 +1,5 @@
 -- The orders of statements, with the landings of the labels that they set, are short by the tokens of their trees.
-use Rattle.std.proofs.Common.{◌≡◌, ℕ, zero, suc, ◌+◌, ◌*◌, ◌<◌, ◌≤◌, List, [], ◌∷◌, ◌++◌, map, length, true, false, Option, refl, sym, ap, subst, arith}
+use Rattle.std.proofs.Common.{◌≡◌, ℕ, zero, suc, ◌+◌, ◌*◌, ◌<◌, ◌≤◌, List, [], ◌∷◌, map, length, true, false, Option, refl, sym, ap, subst, arith}
 use Rattle.cw_order.specs.declared.order.Order.{Order}
 use Rattle.cw_order.specs.declared.order.Order.TheVariants as order
 use Rattle.cw_unit.specs.declared.layout.Layout.{Layout}
@@ -15,13 +15,13 @@ use Rattle.cw_gen_expr.specs.Pieces.{Piece, plain, followed_by, sequence, with_e
 use Rattle.cw_gen_expr.specs.ReferenceExpressions.{Scope, argument_words, control_place, item_order, store_orders, call_order, condition_piece, expression_piece}
 use Rattle.cw_gen_expr.proofs.Layers.{total}
 use Rattle.cw_gen_unit.specs.ReferenceStatements as made
-use Rattle.cw_gen_unit.specs.ReferenceStatements.{begin_orders, after_statement_call, goal_order, jump_piece, with_middle, number_orders, set_orders, variable_orders, bump_orders, turn_piece, while_values, step_values, element_piece, elements_piece, element_ways, ring_piece, statement_piece}
+use Rattle.cw_gen_unit.specs.ReferenceStatements.{begin_orders, after_statement_call, goal_order, jump_piece, with_middle, number_orders, set_orders, bump_orders, turn_piece, while_values, step_values, element_piece, elements_piece, element_ways, ring_piece, statement_piece}
 use Rattle.cw_tokens.specs.LeastTokens as least
 use Rattle.cw_tokens.specs.LeastTokens.{separated, arguments, expression_tokens, argument_tokens, condition_tokens, reference_tokens, each_argument, element_tokens, each_element, jump_tokens, statement_tokens}
 use Rattle.cw_tmpl.specs.Templates.{listed_size, listed_sizes}
 use Rattle.cw_tokens.specs.SetLabels.{together, set_step, set_labels}
-use Rattle.cw_size.proofs.Short.{Short, plainly, both_short, ended_short, labels_short, eased}
-use Rattle.cw_size.proofs.OrderSizes.{item-short, store-short, call-short, after-short, goal-short, number-short, set-short, bump-short, turn-short}
+use Rattle.cw_size.proofs.Short.{then, Short, plainly, both_short, ended_short, labels_short, eased}
+use Rattle.cw_size.proofs.OrderSizes.{item-load, item-store, store-short, call-short, after-short, goal-short, number-short, set-short, bump-short, turn-short}
 use Rattle.cw_size.proofs.TokenLayers.{each-argument, separated-within}
 use Rattle.cw_size.proofs.Expressions.{choice_short, expression_short, condition_ended_short, address_short, arguments_short}
 
@@ -66,10 +66,8 @@ statement-size = fold_out-Stmt ℕ size_step
 begin_short : (line : ℕ) → Short (plain (begin_orders line)) 0 5
 begin_short line = plainly (begin_orders line) 5 (let z : 0 + (5 + 0) ≤ 5 = omega arith in z)
 
-kept_short : (y : Layout) (item word : ℕ) (os : List Order) (most : ℕ) → listed_sizes os ≤ most → Short (plain (item_order y item word ∷ order.Store ∷ os)) 0 (15 + most)
-kept_short y item word os most h =
-    let e = item-short y item word in
-    plainly (item_order y item word ∷ order.Store ∷ os) (15 + most) (let z : listed_size (item_order y item word) + (8 + listed_sizes os) ≤ 15 + most = omega (arith, e, h) in z)
+kept_short : (y : Layout) (item word : ℕ) (os : List Order) (most : ℕ) → listed_sizes os ≤ most → Short (plain (item_order y item word ∷ order.Store ∷ os)) 0 (10 + most)
+kept_short y item word os most h = plainly (item_order y item word ∷ order.Store ∷ os) (10 + most) (item-store y item word os most h)
 
 -- ---- FOR
 
@@ -78,24 +76,24 @@ middle_short a b ha hb = record { at = λ place next. (both_short (ended_short a
 
 module _ (s : Scope) where
   -- an element has the place of its way on too
-  element_short : (item f set body i : ℕ) (e : Felem) → Short (element_piece s item f set body i e) 2 (64 * suc (element_tokens e))
+  element_short : (item f set body i : ℕ) (e : Felem) → Short (element_piece s item f set body i e) 2 (32 * suc (element_tokens e))
   element_short item f set body i (element.One e) =
       ended_short (λ next. followed_by (plain (number_orders s.layout item i)) (followed_by (expression_piece s e f) (plain (order.Jump set ∷ []))))
       (λ next. eased
-      (both_short (plainly (number_orders s.layout item i) 19 (number-short s.layout item i))
+      (both_short (plainly (number_orders s.layout item i) 14 (number-short s.layout item i))
       (both_short (expression_short s e f) (plainly (order.Jump set ∷ []) 3 (let z : 3 + 0 ≤ 3 = omega arith in z))))
-      (let z : 19 + (64 * expression_tokens e + 3) + 2 ≤ 64 * suc (expression_tokens e) + (0 + (13 + 0)) = omega arith in z))
+      (let z : 14 + (32 * expression_tokens e + 3 + 3) + 2 ≤ 32 * suc (expression_tokens e) + (0 + (0 + 0)) = omega arith in z))
   element_short item f set body i (element.While e c) =
       let a = expression_tokens e in
       let b = condition_tokens c in
       eased
       (middle_short (λ own. plain []) (λ own. with_end (λ next. while_values s item f body next i e c)) (λ own. plainly [] 0 (let z : 0 ≤ 0 = omega arith in z))
       (λ own. ended_short (λ next. while_values s item f body next i e c)
-      (λ next. both_short (plainly (number_orders s.layout item i) 19 (number-short s.layout item i))
+      (λ next. both_short (plainly (number_orders s.layout item i) 14 (number-short s.layout item i))
       (both_short (expression_short s e f)
-      (both_short (plainly (set_orders s.layout item) 31 (set-short s.layout item))
+      (both_short (plainly (set_orders s.layout item) 13 (set-short s.layout item))
       (both_short (condition_ended_short s c false next) (plainly (order.Jump body ∷ []) 3 (let z : 3 + 0 ≤ 3 = omega arith in z))))))))
-      (let z : 0 + (19 + (64 * a + (31 + (64 * b + 3)))) + 2 ≤ 64 * suc (suc (a + b)) + (0 + (0 + (13 + (0 + (0 + 0))))) = omega arith in z)
+      (let z : 0 + (14 + (32 * a + 3 + (13 + (32 * b + 3)))) + 2 ≤ 32 * suc (suc (a + b)) + (0 + (0 + (0 + (0 + (0 + 0))))) = omega arith in z)
   element_short item f set body i (element.Step a b d) =
       let k = expression_tokens a in
       let m = expression_tokens b in
@@ -104,22 +102,22 @@ module _ (s : Scope) where
       (middle_short (λ turn. followed_by (with_end (λ bump. step_values s item f turn i a b d)) (plain (bump_orders s.layout item))) (λ turn. turn_piece s.layout item body)
       (λ turn. both_short
       (ended_short (λ bump. step_values s item f turn i a b d)
-      (λ bump. both_short (plainly (number_orders s.layout item i) 19 (number-short s.layout item i))
+      (λ bump. both_short (plainly (number_orders s.layout item i) 14 (number-short s.layout item i))
       (both_short (expression_short s a f)
-      (both_short (plainly (set_orders s.layout item) 31 (set-short s.layout item))
+      (both_short (plainly (set_orders s.layout item) 13 (set-short s.layout item))
       (both_short (expression_short s b f)
       (both_short (kept_short s.layout item 1 [] 0 (let z : 0 ≤ 0 = omega arith in z))
       (both_short (expression_short s d f) (kept_short s.layout item 2 (order.Jump turn ∷ []) 3 (let z : 3 + 0 ≤ 3 = omega arith in z)))))))))
-      (plainly (bump_orders s.layout item) 71 (bump-short s.layout item)))
-      (λ turn. ended_short (λ next. plain (variable_orders s.layout item ++ item_order s.layout item 0 ∷ order.Exhausted next ∷ order.Jump body ∷ []))
-      (λ next. plainly (variable_orders s.layout item ++ item_order s.layout item 0 ∷ order.Exhausted next ∷ order.Jump body ∷ []) 68 (turn-short s.layout item body next))))
-      (let z : 19 + (64 * k + (31 + (64 * m + (15 + 0 + (64 * n + (15 + 3)))))) + 71 + 68 + 2 ≤ 64 * suc (2 + (k + (m + n))) + (0 + (13 + (0 + (13 + (0 + (13 + 0))))) + 0 + 0) = omega arith in z)
+      (plainly (bump_orders s.layout item) 13 (bump-short s.layout item)))
+      (λ turn. ended_short (λ next. plain (item_order s.layout item 0 ∷ order.PutVariable ∷ order.Exhausted next ∷ order.Jump body ∷ []))
+      (λ next. plainly (item_order s.layout item 0 ∷ order.PutVariable ∷ order.Exhausted next ∷ order.Jump body ∷ []) 22 (turn-short s.layout item body next))))
+      (let z : 14 + (32 * k + 3 + (13 + (32 * m + 3 + (10 + 0 + (32 * n + 3 + (10 + 3)))))) + 13 + 22 + 2 ≤ 32 * suc (2 + (k + (m + n))) + (0 + (0 + (0 + (0 + (0 + (0 + 0))))) + 0 + 0) = omega arith in z)
 
-  elements_short : (item f set body i : ℕ) (es : List Felem) → Short (elements_piece s item f set body i es) (2 * length es) (64 * separated (each_element es))
-  elements_short item f set body i [] = plainly [] (64 * 0) (let z : 0 ≤ 64 * 0 = omega arith in z)
+  elements_short : (item f set body i : ℕ) (es : List Felem) → Short (elements_piece s item f set body i es) (2 * length es) (32 * separated (each_element es))
+  elements_short item f set body i [] = plainly [] (32 * 0) (let z : 0 ≤ 32 * 0 = omega arith in z)
   elements_short item f set body i (e ∷ es) =
       eased (both_short (element_short item f set body i e) (elements_short item f set body (i + 1) es))
-      (let z : 64 * suc (element_tokens e) + 64 * separated (each_element es) + 2 * suc (length es) ≤ 64 * (suc (element_tokens e) + separated (each_element es)) + (2 + 2 * length es) = omega arith in z)
+      (let z : 32 * suc (element_tokens e) + 32 * separated (each_element es) + 2 * suc (length es) ≤ 32 * (suc (element_tokens e) + separated (each_element es)) + (2 + 2 * length es) = omega arith in z)
 
   ways-long : (item f set body i : ℕ) (es : List Felem) (place next : ℕ) → length (element_ways s item f set body i es place next) ≡ length es
   ways-long item f set body i [] place next = refl
@@ -127,21 +125,20 @@ module _ (s : Scope) where
       let x = element_piece s item f set body i e place next in
       ap suc (ways-long item f set body (i + 1) es (place + length x.orders) (next + length x.marks))
 
-  ring_short : (line item f : ℕ) (es : List Felem) (body : Piece) (k m : ℕ) → Short body k m → Short (ring_piece s line item f es body) k (64 * separated (each_element es) + m + 73)
+  ring_short : (line item f : ℕ) (es : List Felem) (body : Piece) (k m : ℕ) → Short body k m → Short (ring_piece s line item f es body) k (32 * separated (each_element es) + m + 52)
   ring_short line item f es body k m hb = record { at = λ place next. (laid (element_ways s item f (next + 1 + 1) (next + 1) 1 es place (next + 1 + 1 + 1)) (ways-long item f (next + 1 + 1) (next + 1) 1 es place (next + 1 + 1 + 1))).at place next }
     where
       way_orders : List ℕ → List Order
       way_orders ways = order.Line line ∷ item_order s.layout item 3 ∷ order.Load ∷ order.LoopWay ways ∷ []
 
-      way_short : (ways : List ℕ) → length ways ≡ length es → listed_sizes (order.Line line ∷ item_order s.layout item 3 ∷ order.Load ∷ order.LoopWay ways ∷ []) ≤ 39 + 2 * length es
+      way_short : (ways : List ℕ) → length ways ≡ length es → listed_sizes (order.Line line ∷ item_order s.layout item 3 ∷ order.Load ∷ order.LoopWay ways ∷ []) ≤ 36 + 2 * length es
       way_short ways e =
-          let h = item-short s.layout item 3 in
-          let z : 5 + (listed_size (item_order s.layout item 3) + (6 + (21 + 2 * length ways + 0))) ≤ 39 + 2 * length es = omega (arith, h, e) in
-          z
+          then (order.Line line) (item_order s.layout item 3 ∷ order.Load ∷ order.LoopWay ways ∷ []) 5 (31 + 2 * length es) (let z : 5 ≤ 5 = omega arith in z)
+          (item-load s.layout item 3 (order.LoopWay ways ∷ []) (21 + 2 * length es) (let z : 21 + 2 * length ways + 0 ≤ 21 + 2 * length es = omega (arith, e) in z))
 
       laid : (ways : List ℕ) → length ways ≡ length es
           → Short (with_end (λ end. with_middle (λ start. followed_by (with_end (λ set. followed_by (elements_piece s item f set start 1 es) (plain (order.Jump end ∷ [])))) (plain (set_orders s.layout item))) (λ start. followed_by body (plain (order.Line line ∷ item_order s.layout item 3 ∷ order.Load ∷ order.LoopWay ways ∷ [])))))
-          k (64 * separated (each_element es) + m + 73)
+          k (32 * separated (each_element es) + m + 52)
       laid ways e =
           ended_short (λ end. with_middle (λ start. followed_by (with_end (λ set. followed_by (elements_piece s item f set start 1 es) (plain (order.Jump end ∷ [])))) (plain (set_orders s.layout item))) (λ start. followed_by body (plain (order.Line line ∷ item_order s.layout item 3 ∷ order.Load ∷ order.LoopWay ways ∷ []))))
           (λ end. eased
@@ -149,64 +146,62 @@ module _ (s : Scope) where
           (λ start. both_short
           (ended_short (λ set. followed_by (elements_piece s item f set start 1 es) (plain (order.Jump end ∷ [])))
           (λ set. both_short (elements_short item f set start 1 es) (plainly (order.Jump end ∷ []) 3 (let z : 3 + 0 ≤ 3 = omega arith in z))))
-          (plainly (set_orders s.layout item) 31 (set-short s.layout item)))
-          (λ start. both_short hb (plainly (order.Line line ∷ item_order s.layout item 3 ∷ order.Load ∷ order.LoopWay ways ∷ []) (39 + 2 * length es) (way_short ways e))))
-          (let z : 64 * separated (each_element es) + 3 + 31 + (m + (39 + 2 * length es)) + k ≤ 64 * separated (each_element es) + m + 73 + (2 * length es + 0 + 0 + (k + 0)) = omega arith in z))
+          (plainly (set_orders s.layout item) 13 (set-short s.layout item)))
+          (λ start. both_short hb (plainly (order.Line line ∷ item_order s.layout item 3 ∷ order.Load ∷ order.LoopWay ways ∷ []) (36 + 2 * length es) (way_short ways e))))
+          (let z : 32 * separated (each_element es) + 3 + 13 + (m + (36 + 2 * length es)) + k ≤ 32 * separated (each_element es) + m + 52 + (2 * length es + 0 + 0 + (k + 0)) = omega arith in z))
 
 -- ---- statements
 
 module _ (s : Scope) (who : Option ℕ) (answer : ℕ) where
   -- the index of a switch, and the way to it
-  switched : (e : Expr) (o : Order) → listed_size o ≤ 10 → Short (followed_by (expression_piece s e 0) (plain (o ∷ []))) 0 (64 * (3 + expression_tokens e))
+  switched : (e : Expr) (o : Order) → listed_size o ≤ 10 → Short (followed_by (expression_piece s e 0) (plain (o ∷ []))) 0 (32 * (3 + expression_tokens e))
   switched e o h =
       eased (both_short (expression_short s e 0) (plainly (o ∷ []) 10 (let z : listed_size o + 0 ≤ 10 = omega (arith, h) in z)))
-      (let z : 64 * expression_tokens e + 10 + 0 ≤ 64 * (3 + expression_tokens e) + (13 + 0) = omega arith in z)
+      (let z : 32 * expression_tokens e + 3 + 10 + 0 ≤ 32 * (3 + expression_tokens e) + (0 + 0) = omega arith in z)
 
-  jump_short : (d : Dest) → Short (jump_piece s who d) 0 (64 * jump_tokens d)
-  jump_short (dest.Goal g) = let h = goal-short s.unit who g in plainly (goal_order s.unit who g ∷ []) (64 * 1) (let z : listed_size (goal_order s.unit who g) + 0 ≤ 64 * 1 = omega (arith, h) in z)
-  jump_short (dest.Special k) = plainly (order.GoSpecial (control_place s.parameters k) ∷ []) (64 * 1) (let z : 17 + 0 ≤ 64 * 1 = omega arith in z)
+  jump_short : (d : Dest) → Short (jump_piece s who d) 0 (32 * jump_tokens d)
+  jump_short (dest.Goal g) = let h = goal-short s.unit who g in plainly (goal_order s.unit who g ∷ []) (32 * 1) (let z : listed_size (goal_order s.unit who g) + 0 ≤ 32 * 1 = omega (arith, h) in z)
+  jump_short (dest.Special k) = plainly (order.GoSpecial (control_place s.parameters k) ∷ []) (32 * 1) (let z : 17 + 0 ≤ 32 * 1 = omega arith in z)
   jump_short (dest.Switch n e) = switched e (order.GoSwitch n) (let z : 5 ≤ 10 = omega arith in z)
   jump_short (dest.CommonSwitch d e) = switched e (order.GoSwitchCommon d) (let z : 5 ≤ 10 = omega arith in z)
   jump_short (dest.SpecialSwitch k e) = switched e (order.GoSwitchSpecial (control_place s.parameters k)) (let z : 10 ≤ 10 = omega arith in z)
 
   -- with the landings of its labels
   abbrev pub ShortStatement : Stmt → Type 0
-  ShortStatement t = Short (statement_piece s who answer t) (15 * set_labels t) (64 * statement_tokens t)
+  ShortStatement t = Short (statement_piece s who answer t) (15 * set_labels t) (32 * statement_tokens t)
 
   module _ (n : ℕ) (below : (t : Stmt) → statement_size t < n → ShortStatement t) where
-    all_short : (ss : List Stmt) → total (map statement_size ss) < n → Short (sequence (map (statement_piece s who answer) ss)) (15 * together (map set_labels ss)) (64 * separated (map statement_tokens ss))
-    all_short [] lt = eased (plainly [] 0 (let z : 0 ≤ 0 = omega arith in z)) (let z : 0 + 15 * 0 ≤ 64 * 0 + 0 = omega arith in z)
+    all_short : (ss : List Stmt) → total (map statement_size ss) < n → Short (sequence (map (statement_piece s who answer) ss)) (15 * together (map set_labels ss)) (32 * separated (map statement_tokens ss))
+    all_short [] lt = eased (plainly [] 0 (let z : 0 ≤ 0 = omega arith in z)) (let z : 0 + 15 * 0 ≤ 32 * 0 + 0 = omega arith in z)
     all_short (t ∷ ts) lt =
         let labels = together (map set_labels ts) in
         let tokens = separated (map statement_tokens ts) in
         eased (both_short (below t (let z : statement_size t < n = omega (arith, lt) in z)) (all_short ts (let z : total (map statement_size ts) < n = omega (arith, lt) in z)))
-        (let z : 64 * statement_tokens t + 64 * tokens + 15 * (set_labels t + labels) ≤ 64 * (suc (statement_tokens t) + tokens) + (15 * set_labels t + 15 * labels) = omega arith in z)
+        (let z : 32 * statement_tokens t + 32 * tokens + 15 * (set_labels t + labels) ≤ 32 * (suc (statement_tokens t) + tokens) + (15 * set_labels t + 15 * labels) = omega arith in z)
 
-    layer_short : (x : Stmt-F Stmt) → size_layer x ≤ n → Short (statement_layer s who answer x) (15 * labels_layer x) (64 * tokens_layer x)
+    layer_short : (x : Stmt-F Stmt) → size_layer x ≤ n → Short (statement_layer s who answer x) (15 * labels_layer x) (32 * tokens_layer x)
     layer_short (statement.Put line r e) le =
         eased
         (both_short (begin_short line)
         (both_short (expression_short s e (out-Ref r).f) (both_short (address_short s r) (plainly (store_orders (out-Ref r).field) 27 (store-short (out-Ref r).field)))))
-        (let z : 5 + (64 * expression_tokens e + (64 * reference_tokens r + 27)) + 15 * 0 ≤ 64 * suc (reference_tokens r + expression_tokens e) + (0 + (13 + (41 + 0))) = omega arith in z)
+        (let z : 5 + (32 * expression_tokens e + 3 + (32 * reference_tokens r + 27)) + 15 * 0 ≤ 32 * suc (reference_tokens r + expression_tokens e) + (0 + (0 + (16 + 0))) = omega arith in z)
     layer_short (statement.PutBits line t b r e) le =
         eased
         (both_short (begin_short line) (both_short (expression_short s e 0) (both_short (address_short s r) (plainly (order.StorePart t b ∷ []) 27 (let z : 27 + 0 ≤ 27 = omega arith in z)))))
-        (let z : 5 + (64 * expression_tokens e + (64 * reference_tokens r + 27)) + 15 * 0 ≤ 64 * (7 + (reference_tokens r + expression_tokens e)) + (0 + (13 + (41 + 0))) = omega arith in z)
+        (let z : 5 + (32 * expression_tokens e + 3 + (32 * reference_tokens r + 27)) + 15 * 0 ≤ 32 * (7 + (reference_tokens r + expression_tokens e)) + (0 + (0 + (16 + 0))) = omega arith in z)
     layer_short (statement.Go line d) le =
-        eased (both_short (begin_short line) (jump_short d)) (let z : 5 + 64 * jump_tokens d + 15 * 0 ≤ 64 * suc (jump_tokens d) + (0 + 0) = omega arith in z)
+        eased (both_short (begin_short line) (jump_short d)) (let z : 5 + 32 * jump_tokens d + 15 * 0 ≤ 32 * suc (jump_tokens d) + (0 + 0) = omega arith in z)
     layer_short (statement.Call line t args) le =
         let ns = map argument_tokens args in
         let listed = separated-within ns in
-        let h = call-short s t in
-        let after = after-short t in
-        subst (λ (l : List ℕ). Short (statement_layer s who answer (statement.Call line t args)) (15 * 0) (64 * suc (arguments l))) (sym (each-argument args))
+        subst (λ (l : List ℕ). Short (statement_layer s who answer (statement.Call line t args)) (15 * 0) (32 * suc (arguments l))) (sym (each-argument args))
         (eased
         (both_short (begin_short line)
-        (both_short (arguments_short s args) (plainly (call_order s t ∷ after_statement_call t) 20 (let z : listed_size (call_order s t) + listed_sizes (after_statement_call t) ≤ 20 = omega (arith, h, after) in z))))
-        (let z : 5 + (64 * separated ns + 20) + 15 * 0 ≤ 64 * suc (arguments ns) + (0 + (0 + 0)) = omega (arith, listed) in z))
+        (both_short (arguments_short s args) (plainly (call_order s t ∷ after_statement_call t) 20 (then (call_order s t) (after_statement_call t) 19 1 (call-short s t) (after-short t)))))
+        (let z : 5 + (32 * separated ns + 20) + 15 * 0 ≤ 32 * suc (arguments ns) + (0 + (0 + 0)) = omega (arith, listed) in z))
     layer_short (statement.Answer line e) le =
         eased (both_short (begin_short line) (both_short (expression_short s e answer) (plainly (order.Return (argument_words s.parameters) true ∷ []) 11 (let z : 11 + 0 ≤ 11 = omega arith in z))))
-        (let z : 5 + (64 * expression_tokens e + 11) + 15 * 0 ≤ 64 * suc (expression_tokens e) + (0 + (13 + 0)) = omega arith in z)
+        (let z : 5 + (32 * expression_tokens e + 3 + 11) + 15 * 0 ≤ 32 * suc (expression_tokens e) + (0 + (0 + 0)) = omega arith in z)
     layer_short (statement.If line c a b) le =
         let i = condition_tokens c in
         let j = statement_tokens a in
@@ -215,26 +210,26 @@ module _ (s : Scope) (who : Option ℕ) (answer : ℕ) where
         (both_short (begin_short line)
         (choice_short (condition_piece s c) (statement_piece s who answer a) (statement_piece s who answer b) (λ when mark. condition_ended_short s c when mark)
         (below a (let z : statement_size a < n = omega (arith, le) in z)) (below b (let z : statement_size b < n = omega (arith, le) in z))))
-        (let z : 5 + (64 * i + 64 * j + 64 * k + 3) + 15 * (set_labels a + set_labels b) ≤ 64 * (2 + (i + (j + k))) + (0 + (15 * set_labels a + 15 * set_labels b)) = omega arith in z)
+        (let z : 5 + (32 * i + 32 * j + 32 * k + 3) + 15 * (set_labels a + set_labels b) ≤ 32 * (2 + (i + (j + k))) + (0 + (15 * set_labels a + 15 * set_labels b)) = omega arith in z)
     layer_short (statement.For line item r es t) le =
         let m = separated (each_element es) in
         eased
         (both_short (begin_short line)
         (both_short (address_short s r)
         (both_short (kept_short s.layout item 0 [] 0 (let z : 0 ≤ 0 = omega arith in z))
-        (ring_short s line item (out-Ref r).f es (statement_piece s who answer t) (15 * set_labels t) (64 * statement_tokens t) (below t (let z : statement_size t < n = omega (arith, le) in z))))))
-        (let z : 5 + (64 * reference_tokens r + (15 + 0 + (64 * m + 64 * statement_tokens t + 73))) + 15 * set_labels t ≤ 64 * (2 + (reference_tokens r + (m + statement_tokens t))) + (0 + (41 + (0 + 15 * set_labels t))) = omega arith in z)
+        (ring_short s line item (out-Ref r).f es (statement_piece s who answer t) (15 * set_labels t) (32 * statement_tokens t) (below t (let z : statement_size t < n = omega (arith, le) in z))))))
+        (let z : 5 + (32 * reference_tokens r + (10 + 0 + (32 * m + 32 * statement_tokens t + 52))) + 15 * set_labels t ≤ 32 * (2 + (reference_tokens r + (m + statement_tokens t))) + (0 + (16 + (0 + 15 * set_labels t))) = omega arith in z)
     layer_short (statement.Seq ss) le = all_short ss (let z : total (map statement_size ss) < n = omega (arith, le) in z)
     layer_short (statement.Mark ls t) le =
         eased (both_short (labels_short ls) (below t (let z : statement_size t < n = omega (arith, le) in z)))
-        (let z : 0 + 64 * statement_tokens t + 15 * (length ls + set_labels t) ≤ 64 * (2 * length ls + statement_tokens t) + (0 + 15 * set_labels t) = omega arith in z)
+        (let z : 0 + 32 * statement_tokens t + 15 * (length ls + set_labels t) ≤ 32 * (2 * length ls + statement_tokens t) + (0 + 15 * set_labels t) = omega arith in z)
 
   short_below : (n : ℕ) (t : Stmt) → statement_size t < n → ShortStatement t
   short_below zero t lt = absurd (omega (arith, lt))
   short_below (suc n) t lt =
-      subst (λ (p : Piece). Short p (15 * set_labels t) (64 * statement_tokens t)) (sym (statement-made s who answer t))
-      (subst (λ (k : ℕ). Short (statement_layer s who answer (out-Stmt t)) (15 * k) (64 * statement_tokens t)) (sym (labels-set t))
-      (subst (λ (k : ℕ). Short (statement_layer s who answer (out-Stmt t)) (15 * labels_layer (out-Stmt t)) (64 * k)) (sym (statement-tokens t))
+      subst (λ (p : Piece). Short p (15 * set_labels t) (32 * statement_tokens t)) (sym (statement-made s who answer t))
+      (subst (λ (k : ℕ). Short (statement_layer s who answer (out-Stmt t)) (15 * k) (32 * statement_tokens t)) (sym (labels-set t))
+      (subst (λ (k : ℕ). Short (statement_layer s who answer (out-Stmt t)) (15 * labels_layer (out-Stmt t)) (32 * k)) (sym (statement-tokens t))
       (layer_short n (short_below n) (out-Stmt t) (let z : size_layer (out-Stmt t) ≤ n = omega (arith, lt, statement-size t) in z))))
 
   pub statement_short : (t : Stmt) → ShortStatement t

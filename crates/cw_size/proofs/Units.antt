@@ -1,5 +1,5 @@
 -- The code of a unit is short by the tokens that a text of it has at least.
-use Rattle.std.proofs.Common.{◌≡◌, ℕ, suc, ◌+◌, ◌*◌, ◌≤◌, List, [], ◌∷◌, length, Some, None, refl, ap, arith}
+use Rattle.std.proofs.Common.{◌≡◌, ℕ, suc, ◌+◌, ◌*◌, ◌≤◌, List, [], ◌∷◌, length, Some, None, slice_index, refl, ap, arith}
 use Rattle.cw_order.specs.declared.order.Order.TheVariants as order
 use Rattle.cw_order.specs.declared.order.Orders.{Orders}
 use Rattle.cw_unit.specs.declared.unit.Unit.{Unit as SourceUnit}
@@ -16,7 +16,7 @@ use Rattle.cw_tmpl.specs.Pieces.{blanks}
 use Rattle.cw_tmpl.specs.Templates.{listed_sizes}
 use Rattle.cw_tmpl.specs.ReferenceCode.{entry_size, switch_sizes, pieces_of, orders_code}
 use Rattle.cw_tokens.specs.SetLabels.{set_labels, set_in_procedures, LabelsStand}
-use Rattle.cw_size.proofs.Short.{Short, plainly, both_short, eased}
+use Rattle.cw_size.proofs.Short.{then, Short, plainly, both_short, eased}
 use Rattle.cw_size.proofs.OrderSizes.{bind-short}
 use Rattle.cw_size.proofs.Statements.{statement_short}
 
@@ -24,39 +24,38 @@ labels-long : (u : SourceUnit) (l : ℕ) (ms : List Label) → length (label_mar
 labels-long u l [] = refl
 labels-long u l (m ∷ ms) = ap suc (labels-long u (suc l) ms)
 
-switches-short : (ss : List Switch) → switch_sizes (switch_lists ss) ≤ 64 * switches_tokens ss
+switches-short : (ss : List Switch) → switch_sizes (switch_lists ss) ≤ 32 * switches_tokens ss
 switches-short [] = omega arith
 switches-short (s ∷ ss) =
     let h = switches-short ss in
-    let z : 29 + 2 * length s.list + switch_sizes (switch_lists ss) ≤ 64 * (3 + 2 * length s.list + switches_tokens ss) = omega (arith, h) in
+    let z : 29 + 2 * length s.list + switch_sizes (switch_lists ss) ≤ 32 * (3 + 2 * length s.list + switches_tokens ss) = omega (arith, h) in
     z
 
 module _ (u : SourceUnit) where
-  procedure_short : (p : ℕ) (q : Proc) → Short (procedure_piece u p q) (15 * set_labels q.body) (64 * procedure_tokens q)
+  procedure_short : (p : ℕ) (q : Proc) → Short (procedure_piece u p q) (15 * set_labels q.body) (32 * procedure_tokens q)
   procedure_short p q =
-      let h = bind-short (layout_of u) q.params in
       eased
-      (both_short (plainly (entry_orders u p q) (12 + 13 * length q.params) (let z : 12 + listed_sizes (bind_orders (layout_of u) q.params) ≤ 12 + 13 * length q.params = omega (arith, h) in z))
+      (both_short (plainly (entry_orders u p q) (12 + 13 * length q.params) (then (order.Enter (slice_index (layout_of u).frames p)) (bind_orders (layout_of u) q.params) 12 (13 * length q.params) (let z : 12 ≤ 12 = omega arith in z) (bind-short (layout_of u) q.params)))
       (both_short (statement_short (scope_of u (Some p)) (Some p) (answer_of u (Some p)) q.body) (plainly (leave_orders q) 15 (let z : 4 + (11 + 0) ≤ 15 = omega arith in z))))
-      (let z : 12 + 13 * length q.params + (64 * statement_tokens q.body + 15) + 15 * set_labels q.body ≤ 64 * (4 + (2 * length q.params + statement_tokens q.body)) + (0 + (15 * set_labels q.body + 0)) = omega arith in z)
+      (let z : 12 + 13 * length q.params + (32 * statement_tokens q.body + 15) + 15 * set_labels q.body ≤ 32 * (4 + (2 * length q.params + statement_tokens q.body)) + (0 + (15 * set_labels q.body + 0)) = omega arith in z)
 
-  procedures_short : (p : ℕ) (qs : List Proc) → Short (procedures_piece u p qs) (15 * set_in_procedures qs) (64 * procedures_tokens qs)
-  procedures_short p [] = eased (plainly [] 0 (let z : 0 ≤ 0 = omega arith in z)) (let z : 0 + 15 * 0 ≤ 64 * 0 + 0 = omega arith in z)
+  procedures_short : (p : ℕ) (qs : List Proc) → Short (procedures_piece u p qs) (15 * set_in_procedures qs) (32 * procedures_tokens qs)
+  procedures_short p [] = eased (plainly [] 0 (let z : 0 ≤ 0 = omega arith in z)) (let z : 0 + 15 * 0 ≤ 32 * 0 + 0 = omega arith in z)
   procedures_short p (q ∷ qs) =
       eased (both_short (procedure_short p q) (procedures_short (suc p) qs))
-      (let z : 64 * procedure_tokens q + 64 * procedures_tokens qs + 15 * (set_labels q.body + set_in_procedures qs) ≤ 64 * (procedure_tokens q + procedures_tokens qs) + (15 * set_labels q.body + 15 * set_in_procedures qs) = omega arith in z)
+      (let z : 32 * procedure_tokens q + 32 * procedures_tokens qs + 15 * (set_labels q.body + set_in_procedures qs) ≤ 32 * (procedure_tokens q + procedures_tokens qs) + (15 * set_labels q.body + 15 * set_in_procedures qs) = omega arith in z)
 
-  unit_short : Short (unit_piece u) (15 * set_labels u.body + 0 + 15 * set_in_procedures u.procs) (64 * statement_tokens u.body + 5 + 64 * procedures_tokens u.procs)
+  unit_short : Short (unit_piece u) (15 * set_labels u.body + 0 + 15 * set_in_procedures u.procs) (32 * statement_tokens u.body + 5 + 32 * procedures_tokens u.procs)
   unit_short = both_short (both_short (statement_short (scope_of u None) None 0 u.body) (plainly (order.NextBody ∷ []) 5 (let z : 5 + 0 ≤ 5 = omega arith in z))) (procedures_short 0 u.procs)
 
   -- by the sizes of what the code of a segment has
-  pub short : ((o : Orders) → length (blanks (pieces_of o)) ≤ entry_size + (listed_sizes o.list + (landing_size * length o.labels + switch_sizes o.switches))) → LabelsStand u → length (orders_code (unit_orders u)).bytes ≤ 64 * least_tokens u
+  pub short : ((o : Orders) → length (blanks (pieces_of o)) ≤ entry_size + (listed_sizes o.list + (landing_size * length o.labels + switch_sizes o.switches))) → LabelsStand u → length (orders_code (unit_orders u)).bytes ≤ 32 * least_tokens u
   short segment stand =
       let o = unit_orders u in
       let all : length (orders_code o).bytes ≤ 15 + (listed_sizes o.list + (15 * length o.labels + switch_sizes o.switches)) = segment o in
-      let orders : listed_sizes o.list + (15 * set_labels u.body + 0 + 15 * set_in_procedures u.procs) ≤ 64 * statement_tokens u.body + 5 + 64 * procedures_tokens u.procs = unit_short.at 0 (first_mark u) in
+      let orders : listed_sizes o.list + (15 * set_labels u.body + 0 + 15 * set_in_procedures u.procs) ≤ 32 * statement_tokens u.body + 5 + 32 * procedures_tokens u.procs = unit_short.at 0 (first_mark u) in
       let labels : length o.labels ≡ length u.labels = labels-long u 0 u.labels in
       let few : length u.labels ≤ set_labels u.body + set_in_procedures u.procs = stand.few in
-      let switches : switch_sizes o.switches ≤ 64 * switches_tokens u.switches = switches-short u.switches in
-      let z : length (orders_code o).bytes ≤ 64 * (4 + (procedures_tokens u.procs + (switches_tokens u.switches + statement_tokens u.body))) = omega (arith, all, orders, labels, few, switches) in
+      let switches : switch_sizes o.switches ≤ 32 * switches_tokens u.switches = switches-short u.switches in
+      let z : length (orders_code o).bytes ≤ 32 * (4 + (procedures_tokens u.procs + (switches_tokens u.switches + statement_tokens u.body))) = omega (arith, all, orders, labels, few, switches) in
       z

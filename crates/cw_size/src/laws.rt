@@ -13,19 +13,19 @@ ghost use Rattle.cw_tokens.specs.SetLabels.{set_labels, LabelsStand};
 
 use cw_tmpl::laws::sizes;
 
-/// The orders of an expression, at whatever scale, have at most 64 bytes for each of its tokens.
+/// The orders of an expression, at whatever scale, have at most 32 bytes for each of its tokens, and 3 more.
 pub fn short_expressions()
-    ensures { (s : Scope) (e : Expr) (f place next : ℕ) → listed_sizes (expression_piece s e f place next).orders ≤ 64 * expression_tokens e }
+    ensures { (s : Scope) (e : Expr) (f place next : ℕ) → listed_sizes (expression_piece s e f place next).orders ≤ 32 * expression_tokens e + 3 }
 {}
 
-/// The orders of a statement, with the landings of the labels that it sets, have at most 64 bytes for each of its tokens.
+/// The orders of a statement, with the landings of the labels that it sets, have at most 32 bytes for each of its tokens.
 pub fn short_statements()
-    ensures { (s : Scope) (who : Option ℕ) (answer : ℕ) (t : Stmt) (place next : ℕ) → listed_sizes (statement_piece s who answer t place next).orders + 15 * set_labels t ≤ 64 * statement_tokens t }
+    ensures { (s : Scope) (who : Option ℕ) (answer : ℕ) (t : Stmt) (place next : ℕ) → listed_sizes (statement_piece s who answer t place next).orders + 15 * set_labels t ≤ 32 * statement_tokens t }
 {}
 
-/// The code of a unit whose labels stand in its bodies has at most 64 bytes for each token that a text of it has at least.
+/// The code of a unit whose labels stand in its bodies has at most 32 bytes for each token that a text of it has at least.
 pub fn short_code()
-    ensures { (u : SourceUnit) → LabelsStand u → length (orders_code (unit_orders u)).bytes ≤ 64 * least_tokens u }
+    ensures { (u : SourceUnit) → LabelsStand u → length (orders_code (unit_orders u)).bytes ≤ 32 * least_tokens u }
 {
     sizes();
 }

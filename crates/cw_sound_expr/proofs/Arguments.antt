@@ -46,8 +46,7 @@ use Rattle.cw_gen_expr.specs.NamedItems.{has_words}
 use Rattle.cw_gen_expr.specs.BuiltExpressions as built
 use Rattle.cw_gen_expr.specs.BuiltExpressions.{BuiltValue, BuiltReference, most_levels, whole, all_built, is_argument, built_reference}
 use Rattle.cw_gen_expr.proofs.Layers.{built_argument_layer}
-use Rattle.cw_built.specs.Arguments.{at_work}
-use Rattle.cw_built.specs.Built.{alone}
+use Rattle.cw_built.specs.Built.{alone, at_work}
 use Rattle.cw_sound_uses.specs.Stands.{kind_of_plain, taken_by_plain, kind_specified, IsItem, IsLabel, IsSwitch, Takes, IsProcedure, IsParameter, IsControl, StandsAs}
 use Rattle.cw_sound_expr.specs.Levels.{largest}
 use Rattle.cw_sound_expr.proofs.Truth.{no, both, parts, le_true}

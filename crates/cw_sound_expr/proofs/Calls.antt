@@ -33,8 +33,7 @@ use Rattle.cw_safety.specs.WellFormed as formed
 use Rattle.cw_safety.specs.WellFormed.{takes_arguments, parameter_takes, controls_of, procedure_of_place, is_call, kinds_of}
 use Rattle.cw_gen_expr.specs.NamedItems.{has_words}
 use Rattle.cw_gen_expr.specs.BuiltExpressions.{all_built, is_argument}
-use Rattle.cw_built.specs.Arguments.{at_work}
-use Rattle.cw_built.specs.Built.{alone}
+use Rattle.cw_built.specs.Built.{alone, at_work}
 use Rattle.cw_sound_uses.specs.Stands.{kind_of_plain, taken_by_plain, kind_specified, IsParameter, Takes, IsProcedure, IsReader, IsWriter, StandsAs}
 use Rattle.cw_sound_expr.proofs.Truth.{no, both}
 use Rattle.cw_sound_expr.proofs.Judging.{NoFault}

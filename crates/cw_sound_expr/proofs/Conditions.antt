@@ -19,8 +19,7 @@ use Rattle.cw_gen_expr.specs.NamedItems.{has_words}
 use Rattle.cw_gen_expr.specs.BuiltExpressions as built
 use Rattle.cw_gen_expr.specs.BuiltExpressions.{BuiltValue, BuiltReference, most_levels, whole, is_condition}
 use Rattle.cw_safety.specs.WellFormed as formed
-use Rattle.cw_built.specs.Arguments.{at_work}
-use Rattle.cw_built.specs.Built.{alone}
+use Rattle.cw_built.specs.Built.{alone, at_work}
 use Rattle.cw_sound_expr.specs.Levels.{largest}
 use Rattle.cw_sound_expr.proofs.Truth.{both as both_true, max_small}
 use Rattle.cw_sound_expr.proofs.Judging.{Keeps, NoFault, keeps_fine, keeps_both, both_free}

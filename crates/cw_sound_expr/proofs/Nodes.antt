@@ -23,8 +23,7 @@ use Rattle.cw_gen_expr.specs.NamedItems.{has_words}
 use Rattle.cw_gen_expr.specs.BuiltExpressions as built
 use Rattle.cw_gen_expr.specs.BuiltExpressions.{BuiltValue, BuiltReference, most_levels, whole, built_unscaled, built_scaled}
 use Rattle.cw_gen_expr.proofs.Layers.{built_value_layer, value-built}
-use Rattle.cw_built.specs.Arguments.{at_work}
-use Rattle.cw_built.specs.Built.{alone}
+use Rattle.cw_built.specs.Built.{alone, at_work}
 use Rattle.cw_sound_expr.proofs.Truth.{both, le_true, lt_true, lt_of}
 use Rattle.cw_sound_expr.proofs.Parts.{value, is_formed, Ready, Result, Addend}
 

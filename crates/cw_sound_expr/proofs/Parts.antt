@@ -19,8 +19,7 @@ use Rattle.cw_unit.specs.declared.unit.Ref.{Ref}
 use Rattle.cw_safety.specs.WellFormed as formed
 use Rattle.cw_gen_expr.specs.NamedItems.{has_words}
 use Rattle.cw_gen_expr.specs.BuiltExpressions.{BuiltValue, most_levels, whole, built_value, built_reference, is_condition}
-use Rattle.cw_built.specs.Arguments.{at_work}
-use Rattle.cw_built.specs.Built.{alone}
+use Rattle.cw_built.specs.Built.{alone, at_work}
 use Rattle.cw_sound_uses.specs.Stands.{Stands, FactsStand}
 use Rattle.cw_sound_expr.specs.Readings.{is_placed}
 use Rattle.cw_sound_expr.proofs.Judging.{Keeps, NoFault}

@@ -27,8 +27,7 @@ use Rattle.cw_gen_expr.specs.NamedItems.{has_words}
 use Rattle.cw_gen_expr.specs.BuiltExpressions as built
 use Rattle.cw_gen_expr.specs.BuiltExpressions.{BuiltValue, BuiltReference, whole, built_reference, is_spot}
 use Rattle.cw_gen_expr.proofs.Layers.{built_spot_layer, built_reference_layer}
-use Rattle.cw_built.specs.Arguments.{at_work}
-use Rattle.cw_built.specs.Built.{alone}
+use Rattle.cw_built.specs.Built.{alone, at_work}
 use Rattle.cw_sound_uses.specs.Stands.{IsItem, IsTable, StandsAs}
 use Rattle.cw_sound_expr.proofs.Truth.{no, both}
 use Rattle.cw_sound_expr.proofs.Parts.{value, is_formed, Result}

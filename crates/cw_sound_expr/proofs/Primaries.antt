@@ -37,8 +37,7 @@ use Rattle.cw_unit.specs.declared.unit.Arg.TheOpen as unit_layer
 use Rattle.cw_gen_expr.specs.NamedItems.{has_words}
 use Rattle.cw_gen_expr.specs.BuiltExpressions.{BuiltValue, most_levels, whole, built_reference, is_condition}
 use Rattle.cw_safety.specs.WellFormed as formed
-use Rattle.cw_built.specs.Arguments.{at_work}
-use Rattle.cw_built.specs.Built.{alone}
+use Rattle.cw_built.specs.Built.{alone, at_work}
 use Rattle.cw_sound_expr.specs.Levels.{largest}
 use Rattle.cw_sound_expr.proofs.Truth.{no, both as both_true, parts, le_true, le_of, lt_true, lt_of, max_small}
 use Rattle.cw_sound_expr.proofs.Judging.{NoFault, keeps_fine, keeps_unless, keeps_both, both_free, holds, keeps_type}

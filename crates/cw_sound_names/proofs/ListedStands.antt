@@ -47,8 +47,7 @@ use Rattle.cw_unit.specs.Step.{label_of_def, switch_of_def, procedure_of_def}
 use Rattle.cw_safety.specs.Kinds.{Kind, ProcedureKind, kind_of_param, parameter_kinds}
 use Rattle.cw_safety.specs.WellFormed.{reaches, reaches_switch, procedure_of_place}
 use Rattle.cw_built.specs.Listed.{are_named, procedure_as, param_as, param_in_layer, says_label, says_switch, body_in, body_at}
-use Rattle.cw_built.specs.Arguments.{at_work}
-use Rattle.cw_built.specs.Built.{alone}
+use Rattle.cw_built.specs.Built.{alone, at_work}
 use Rattle.cw_built.proofs.Saying.{Means, label-as-said, switch-as-said, means-alone}
 use Rattle.cw_sound_uses.specs.Mentions.{In, Mention, Here, here, declares, facts_mentions, listed_mentions, block_mentions, text_mentions}
 use Rattle.cw_sound_uses.specs.Stands.{StandsAs, IsLabel, IsSwitch, IsProcedure, Called, kind_specified, taken_by_plain}

@@ -25,8 +25,7 @@ use Rattle.cw_unit.specs.declared.unit.Unit.{Unit as SourceUnit}
 use Rattle.cw_unit.specs.declared.unit.Switch.{Switch}
 use Rattle.cw_unit.specs.Step.{label_of_goal, goals_of}
 use Rattle.cw_safety.specs.WellFormed.{reaches, reaches_list}
-use Rattle.cw_built.specs.Arguments.{at_work}
-use Rattle.cw_built.specs.Built.{alone}
+use Rattle.cw_built.specs.Built.{alone, at_work}
 use Rattle.cw_sound_uses.specs.Mentions.{In, Mention, Here, here, declares, uses, stores, facts_mentions, listed_mentions, block_mentions, text_mentions}
 use Rattle.cw_sound_uses.specs.Stands.{StandsAs, IsLabel, IsSwitch}
 use Rattle.cw_sound_names.specs.Placed.{Placed}

@@ -28,7 +28,7 @@ use Rattle.cw_unit.specs.declared.unit.Label.{Label}
 use Rattle.cw_unit.specs.Scales.{answer_scale, fraction_of, fraction_of_proc}
 use Rattle.cw_safety.specs.Kinds.{Kind, LabelKind, SwitchKind, ProcedureKind}
 use Rattle.cw_safety.specs.WellFormed.{sets, sets_in_procedure, is_at, reaches_label}
-use Rattle.cw_built.specs.Arguments.{at_work}
+use Rattle.cw_built.specs.Built.{at_work}
 use Rattle.cw_sound_uses.specs.Stands.{StandsAs, IsItem, IsLabel, IsControl, IsProcedure, Called, taken_by_plain, kind_specified}
 use Rattle.cw_sound_uses.specs.Mentions.{In}
 use Rattle.cw_sound_names.specs.Placed.{tokens, Differ}

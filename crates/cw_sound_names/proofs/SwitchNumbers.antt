@@ -24,8 +24,7 @@ use Rattle.cw_unit.specs.declared.unit.Goal.{Goal}
 use Rattle.cw_unit.specs.declared.unit.Switch.{Switch}
 use Rattle.cw_unit.specs.Step.{label_of_goal}
 use Rattle.cw_safety.specs.WellFormed.{reaches, reaches_unit, reaches_label, reaches_goals}
-use Rattle.cw_built.specs.Arguments.{at_work}
-use Rattle.cw_built.specs.Built.{alone}
+use Rattle.cw_built.specs.Built.{alone, at_work}
 use Rattle.cw_sound_uses.specs.Mentions.{In, Mention, Here, here, declares as declared, uses, stores, facts_mentions}
 use Rattle.cw_sound_names.proofs.Parts.{Part, empty, both, plain, items as data_items, label, switch, block, procedure, more}
 use Rattle.cw_sound_names.proofs.Lists.{in_left, in_right}

@@ -9,8 +9,7 @@ use Rattle.cw_unit.specs.Step.{label_of_def, label_of_goal}
 use Rattle.cw_safety.specs.WellFormed.{reaches, reaches_goals}
 use Rattle.cw_make_items.specs.Lookup.{Numbers}
 use Rattle.cw_scope.specs.declared.resolve.Named.{Named}
-use Rattle.cw_built.specs.Arguments.{at_work}
-use Rattle.cw_built.specs.Built.{alone}
+use Rattle.cw_built.specs.Built.{alone, at_work}
 use Rattle.cw_built.specs.Listed.{are_named}
 use Rattle.cw_coded.proofs.Fine.{both, parts}
 use Rattle.cw_code_written.specs.Ready.{is_goal}

@@ -24,8 +24,7 @@ use Rattle.cw_gen_expr.specs.NamedItems.{has_words}
 use Rattle.cw_gen_expr.specs.BuiltExpressions.{most_levels, within, all_built, is_expression, is_condition, is_argument, built_reference}
 use Rattle.cw_gen_unit.specs.BuiltStatements.{is_jump, are_elements, all_within, statement_step, is_statement}
 use Rattle.cw_gen_unit.specs.ReferenceUnits.{answer_of}
-use Rattle.cw_built.specs.Arguments.{at_work}
-use Rattle.cw_built.specs.Built.{alone}
+use Rattle.cw_built.specs.Built.{alone, at_work}
 use Rattle.cw_sound_expr.specs.Levels.{then_levels, reference_levels}
 use Rattle.cw_sound_expr.proofs.Truth.{both}
 use Rattle.cw_sound_stmt.proofs.Parts.{Fit, PlaceFit, ElementsFit}

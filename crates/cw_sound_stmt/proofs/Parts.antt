@@ -37,8 +37,7 @@ use Rattle.cw_gen_expr.specs.BuiltExpressions.{BuiltReference, most_levels, buil
 use Rattle.cw_gen_expr.proofs.Layers.{reference-built}
 use Rattle.cw_gen_unit.specs.BuiltStatements.{is_jump, is_element, are_elements}
 use Rattle.cw_gen_unit.specs.ReferenceUnits.{answer_of}
-use Rattle.cw_built.specs.Arguments.{at_work}
-use Rattle.cw_built.specs.Built.{alone}
+use Rattle.cw_built.specs.Built.{alone, at_work}
 use Rattle.cw_sound_uses.specs.Mentions.{here, uses}
 use Rattle.cw_sound_uses.specs.Stands.{FactsStand, StandsAs, IsLabel, IsSwitch, IsControl}
 use Rattle.cw_sound_expr.specs.Levels.{largest, then_levels, condition_levels, reference_levels}

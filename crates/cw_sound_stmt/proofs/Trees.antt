@@ -31,8 +31,7 @@ use Rattle.cw_unit.specs.declared.unit.Stmt.{Stmt}
 use Rattle.cw_safety.specs.Kinds.{Kind}
 use Rattle.cw_safety.specs.WellFormed as formed
 use Rattle.cw_gen_expr.specs.BuiltExpressions.{most_levels}
-use Rattle.cw_built.specs.Arguments.{at_work}
-use Rattle.cw_built.specs.Built.{alone}
+use Rattle.cw_built.specs.Built.{alone, at_work}
 use Rattle.cw_sound_expr.specs.Levels.{largest, then_levels, condition_levels, reference_levels}
 use Rattle.cw_sound_expr.specs.Regular.{all, is_regular, is_regular_condition, is_regular_reference}
 use Rattle.cw_sound_expr.proofs.Truth.{parts}

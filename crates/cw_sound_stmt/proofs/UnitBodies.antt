@@ -19,8 +19,7 @@ use Rattle.cw_gen_expr.specs.NamedItems.{has_words}
 use Rattle.cw_gen_expr.specs.BuiltExpressions.{most_levels}
 use Rattle.cw_gen_unit.specs.BuiltStatements.{is_statement}
 use Rattle.cw_gen_unit.specs.ReferenceUnits.{answer_of}
-use Rattle.cw_built.specs.Arguments.{at_work}
-use Rattle.cw_built.specs.Built.{alone, is_formed}
+use Rattle.cw_built.specs.Built.{alone, is_formed, at_work}
 use Rattle.cw_sound_uses.specs.Mentions.{In}
 use Rattle.cw_sound_expr.proofs.Truth.{both}
 use Rattle.cw_sound_expr.proofs.Judging.{NoFault}

@@ -52,9 +52,9 @@ pub fn text_units()
     need_fits();
 }
 
-/// The code of a text's unit has at most 64 bytes for each token of the text.
+/// The code of a text's unit has at most 32 bytes for each token of the text.
 pub fn text_sizes()
-    ensures { (text : List ℕ) (u : SourceUnit) → IsUnitOf text u → length (code_of u).bytes ≤ 64 * u.tokens }
+    ensures { (text : List ℕ) (u : SourceUnit) → IsUnitOf text u → length (code_of u).bytes ≤ 32 * u.tokens }
 {
     one_outcome();
     tokens_counted();

@@ -18,27 +18,27 @@ use Rattle.cw_unit.specs.declared.unit.Arg.TheFolds.{fold-roll-Expr, fold-roll-A
 use Rattle.cw_tokens.specs.LeastTokens as tokens
 use Rattle.cw_tokens.specs.LeastTokens.{arguments, argument_tokens, condition_tokens, expression_tokens, reference_tokens}
 
-abbrev pub spot_tokens : Spot → ℕ
-spot_tokens = fold-Spot ℕ ℕ ℕ ℕ ℕ tokens.argument_step tokens.condition_step tokens.expression_step tokens.spot_step tokens.reference_step
+abbrev pub spot_tokens : Spot → Option Field → ℕ
+spot_tokens = fold-Spot ℕ ℕ ℕ (Option Field → ℕ) ℕ tokens.argument_step tokens.condition_step tokens.expression_step tokens.spot_step tokens.reference_step
 
 pub expression_rolled : (x : Expr-F Arg Cond Expr Spot Ref)
-    → expression_tokens (roll-Expr x) ≡ tokens.expression_step (map-Expr Arg Cond Expr Spot Ref ℕ ℕ ℕ ℕ ℕ argument_tokens condition_tokens expression_tokens spot_tokens reference_tokens x)
-expression_rolled = fold-roll-Expr ℕ ℕ ℕ ℕ ℕ tokens.argument_step tokens.condition_step tokens.expression_step tokens.spot_step tokens.reference_step
+    → expression_tokens (roll-Expr x) ≡ tokens.expression_step (map-Expr Arg Cond Expr Spot Ref ℕ ℕ ℕ (Option Field → ℕ) ℕ argument_tokens condition_tokens expression_tokens spot_tokens reference_tokens x)
+expression_rolled = fold-roll-Expr ℕ ℕ ℕ (Option Field → ℕ) ℕ tokens.argument_step tokens.condition_step tokens.expression_step tokens.spot_step tokens.reference_step
 
 pub argument_rolled : (x : Arg-F Arg Cond Expr Spot Ref)
-    → argument_tokens (roll-Arg x) ≡ tokens.argument_step (map-Arg Arg Cond Expr Spot Ref ℕ ℕ ℕ ℕ ℕ argument_tokens condition_tokens expression_tokens spot_tokens reference_tokens x)
-argument_rolled = fold-roll-Arg ℕ ℕ ℕ ℕ ℕ tokens.argument_step tokens.condition_step tokens.expression_step tokens.spot_step tokens.reference_step
+    → argument_tokens (roll-Arg x) ≡ tokens.argument_step (map-Arg Arg Cond Expr Spot Ref ℕ ℕ ℕ (Option Field → ℕ) ℕ argument_tokens condition_tokens expression_tokens spot_tokens reference_tokens x)
+argument_rolled = fold-roll-Arg ℕ ℕ ℕ (Option Field → ℕ) ℕ tokens.argument_step tokens.condition_step tokens.expression_step tokens.spot_step tokens.reference_step
 
 pub condition_rolled : (x : Cond-F Arg Cond Expr Spot Ref)
-    → condition_tokens (roll-Cond x) ≡ tokens.condition_step (map-Cond Arg Cond Expr Spot Ref ℕ ℕ ℕ ℕ ℕ argument_tokens condition_tokens expression_tokens spot_tokens reference_tokens x)
-condition_rolled = fold-roll-Cond ℕ ℕ ℕ ℕ ℕ tokens.argument_step tokens.condition_step tokens.expression_step tokens.spot_step tokens.reference_step
+    → condition_tokens (roll-Cond x) ≡ tokens.condition_step (map-Cond Arg Cond Expr Spot Ref ℕ ℕ ℕ (Option Field → ℕ) ℕ argument_tokens condition_tokens expression_tokens spot_tokens reference_tokens x)
+condition_rolled = fold-roll-Cond ℕ ℕ ℕ (Option Field → ℕ) ℕ tokens.argument_step tokens.condition_step tokens.expression_step tokens.spot_step tokens.reference_step
 
-pub spot_rolled : (x : Spot-F Arg Cond Expr Spot Ref)
-    → spot_tokens (roll-Spot x) ≡ tokens.spot_step (map-Spot Arg Cond Expr Spot Ref ℕ ℕ ℕ ℕ ℕ argument_tokens condition_tokens expression_tokens spot_tokens reference_tokens x)
-spot_rolled = fold-roll-Spot ℕ ℕ ℕ ℕ ℕ tokens.argument_step tokens.condition_step tokens.expression_step tokens.spot_step tokens.reference_step
+pub spot_rolled : (x : Spot-F Arg Cond Expr Spot Ref) (field : Option Field)
+    → spot_tokens (roll-Spot x) field ≡ tokens.spot_step (map-Spot Arg Cond Expr Spot Ref ℕ ℕ ℕ (Option Field → ℕ) ℕ argument_tokens condition_tokens expression_tokens spot_tokens reference_tokens x) field
+spot_rolled x field = ap (λ (tokens : Option Field → ℕ). tokens field) (fold-roll-Spot ℕ ℕ ℕ (Option Field → ℕ) ℕ tokens.argument_step tokens.condition_step tokens.expression_step tokens.spot_step tokens.reference_step x)
 
-pub reference_rolled : (s : Spot) (f : ℕ) (field : Option Field) → reference_tokens (reference s f field) ≡ spot_tokens s
-reference_rolled s f field = fold-roll-Ref ℕ ℕ ℕ ℕ ℕ tokens.argument_step tokens.condition_step tokens.expression_step tokens.spot_step tokens.reference_step (record { «at» = s; f = f; field = field })
+pub reference_rolled : (s : Spot) (f : ℕ) (field : Option Field) → reference_tokens (reference s f field) ≡ spot_tokens s field
+reference_rolled s f field = fold-roll-Ref ℕ ℕ ℕ (Option Field → ℕ) ℕ tokens.argument_step tokens.condition_step tokens.expression_step tokens.spot_step tokens.reference_step (record { «at» = s; f = f; field = field })
 
 pub added_tokens : (op : AddOp) (a b : Expr) → expression_tokens (added op a b) ≡ suc (expression_tokens a + expression_tokens b)
 added_tokens add.Plus a b = expression_rolled (layer.Sum a b)

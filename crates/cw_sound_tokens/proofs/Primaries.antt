@@ -15,13 +15,14 @@ use Rattle.cw_scale.specs.Kinds.{kind_of, fraction_of, fraction_of_kind}
 use Rattle.cw_number.specs.declared.numbered.Numbered.{Numbered}
 use Rattle.cw_number.specs.declared.numbered.Numbered.TheVariants as numbered
 use Rattle.cw_make_expr.specs.Nodes.{number, constant, string, read, call, force, locate, choice, comparison, reference}
-use Rattle.cw_make_expr.specs.Parts.{Numbers, bound, row_length, number_of, item_here, handed_item, handed, named_spot, words_of, width_of, entries_of, element_word, element_spot, double_spot, twice_indexed_spot, indexed_spot, kind_here, field_of, is_called}
+use Rattle.cw_make_expr.specs.Parts.{Numbers, bound, row_length, number_of, item_here, handed_item, handed, named_spot, words_of, width_of, entries_of, element_word, element_field, element_spot, double_spot, twice_indexed_spot, indexed_spot, kind_here, field_of, is_called}
 use Rattle.cw_make_expr.specs.Made as made
 use Rattle.cw_make_expr.specs.Made.{Made, Placed, simply, plainly, argument_for, arguments_for, value_of_name, place_read, reference_at}
 use Rattle.cw_unit.specs.declared.unit.Arg.TheOpen as layer
 use Rattle.cw_unit.specs.declared.unit.Cond.{Cond}
 use Rattle.cw_unit.specs.declared.unit.CompareOp.{CompareOp}
 use Rattle.cw_unit.specs.declared.unit.Expr.{Expr}
+use Rattle.cw_unit.specs.declared.unit.Field.{Field}
 use Rattle.cw_unit.specs.declared.unit.Goal.TheVariants as goal
 use Rattle.cw_unit.specs.declared.unit.Ref.{Ref}
 use Rattle.cw_unit.specs.declared.unit.Spot.{Spot, roll-Spot}
@@ -135,9 +136,9 @@ name_handed k (Some (numbered.CommonProc d)) = argument_rolled (layer.CommonProc
 name_handed k (Some (numbered.Control c)) = argument_rolled (layer.Special c)
 name_handed k _ = no_argument_tokens
 
-named_spot_tokens : (k : Option Kind) (i : ℕ) → spot_tokens (named_spot k i) ≡ 1
-named_spot_tokens (Some (kind.Location t)) i = spot_rolled (layer.Through i)
-named_spot_tokens _ i = spot_rolled (layer.Direct i)
+named_spot_tokens : (k : Option Kind) (i : ℕ) → spot_tokens (named_spot k i) (field_of k) ≡ 1
+named_spot_tokens (Some (kind.Location t)) i = spot_rolled (layer.Through i) None
+named_spot_tokens k i = spot_rolled (layer.Direct i) (field_of k)
 
 name_read : (called : Bool) (t : Target) (r : Ref) → reference_tokens r ≡ 1 → expression_tokens (value_of_name called t r) ≡ 1
 name_read true t r is = expression_rolled (layer.Call t [])
@@ -145,29 +146,34 @@ name_read false t r is = expression_rolled (layer.Read r) ∙ is
 
 -- ---- indexes
 
-element_least : (k : Option Kind) (i p : ℕ) (e : Expr) → spot_tokens (element_spot k i p e) ≤ 3 + expression_tokens e
-element_least (Some (kind.Table s)) i p e = at_most (spot_tokens (element_spot (Some (kind.Table s)) i p e)) (3 + expression_tokens e) (spot_rolled (layer.Elem i false (width_of s) (entries_of s) p e))
-element_least (Some (kind.TableParam s)) i p e = at_most (spot_tokens (element_spot (Some (kind.TableParam s)) i p e)) (3 + expression_tokens e) (spot_rolled (layer.Elem i true (width_of s) (entries_of s) p e))
-element_least _ i p e = let a : spot_tokens (roll-Spot (layer.Bare e)) ≡ 2 + expression_tokens e = spot_rolled (layer.Bare e) in omega (arith, a)
+bare_tokens : (e : Expr) (field : Option Field) → spot_tokens (roll-Spot (layer.Bare e)) field ≡ 2 + expression_tokens e
+bare_tokens e field = spot_rolled (layer.Bare e) field
 
-double_least : (r : RawRange) (o : Option RawRange) (i : ℕ) (e g : Expr) → spot_tokens (double_spot r o i e g) ≤ 4 + (expression_tokens e + expression_tokens g)
+element_least : (k : Option Kind) (i p : ℕ) (e : Expr) (field : Option Field) → spot_tokens (element_spot k i p e) field ≤ 3 + expression_tokens e
+element_least (Some (kind.Table s)) i p e field =
+    at_most (spot_tokens (element_spot (Some (kind.Table s)) i p e) field) (3 + expression_tokens e) (spot_rolled (layer.Elem i false (width_of s) (entries_of s) p e) field)
+element_least (Some (kind.TableParam s)) i p e field =
+    at_most (spot_tokens (element_spot (Some (kind.TableParam s)) i p e) field) (3 + expression_tokens e) (spot_rolled (layer.Elem i true (width_of s) (entries_of s) p e) field)
+element_least _ i p e field = let a = bare_tokens e field in omega (arith, a)
+
+double_least : (r : RawRange) (o : Option RawRange) (i : ℕ) (e g : Expr) → spot_tokens (double_spot r o i e g) None ≤ 4 + (expression_tokens e + expression_tokens g)
 double_least r (Some s) i e g =
-    at_most (spot_tokens (double_spot r (Some s) i e g)) (4 + (expression_tokens e + expression_tokens g)) (spot_rolled (layer.Two i (bound r.lower) (bound r.upper) (bound s.lower) (bound s.upper) (row_length s) e g))
-double_least r None i e g = let a : spot_tokens (roll-Spot (layer.Bare e)) ≡ 2 + expression_tokens e = spot_rolled (layer.Bare e) in omega (arith, a)
+    at_most (spot_tokens (double_spot r (Some s) i e g) None) (4 + (expression_tokens e + expression_tokens g)) (spot_rolled (layer.Two i (bound r.lower) (bound r.upper) (bound s.lower) (bound s.upper) (row_length s) e g) None)
+double_least r None i e g = let a = bare_tokens e None in omega (arith, a)
 
-twice_least : (k : Option Kind) (i : ℕ) (e g : Expr) → spot_tokens (twice_indexed_spot k i e g) ≤ 4 + (expression_tokens e + expression_tokens g)
+twice_least : (k : Option Kind) (i : ℕ) (e g : Expr) → spot_tokens (twice_indexed_spot k i e g) (field_of k) ≤ 4 + (expression_tokens e + expression_tokens g)
 twice_least (Some (kind.Array t bounds)) i e g = double_least bounds.first bounds.second i e g
-twice_least _ i e g = let a : spot_tokens (roll-Spot (layer.Bare e)) ≡ 2 + expression_tokens e = spot_rolled (layer.Bare e) in omega (arith, a)
+twice_least k i e g = let a = bare_tokens e (field_of k) in omega (arith, a)
 
 module _ (named : Named) (numbers : Numbers) where
-  once_least : (k : Option Kind) (i : ℕ) (e : Expr) → spot_tokens (indexed_spot named numbers k i e) ≤ 3 + expression_tokens e
+  once_least : (k : Option Kind) (i : ℕ) (e : Expr) → spot_tokens (indexed_spot named numbers k i e) (field_of k) ≤ 3 + expression_tokens e
   once_least (Some (kind.Array t bounds)) i e =
-      at_most (spot_tokens (indexed_spot named numbers (Some (kind.Array t bounds)) i e)) (3 + expression_tokens e) (spot_rolled (layer.One i (bound bounds.first.lower) (bound bounds.first.upper) e))
-  once_least (Some (kind.ArrayParam t)) i e = at_most (spot_tokens (indexed_spot named numbers (Some (kind.ArrayParam t)) i e)) (3 + expression_tokens e) (spot_rolled (layer.ParamArray i e))
-  once_least (Some (kind.Table s)) i e = at_most (spot_tokens (indexed_spot named numbers (Some (kind.Table s)) i e)) (3 + expression_tokens e) (spot_rolled (layer.Word i false (words_of s) e))
-  once_least (Some (kind.TableParam s)) i e = at_most (spot_tokens (indexed_spot named numbers (Some (kind.TableParam s)) i e)) (3 + expression_tokens e) (spot_rolled (layer.Word i true (words_of s) e))
-  once_least (Some (kind.Element table x)) i e = element_least (kind_here named table.at.token) (item_here numbers table.at.token) (element_word x) e
-  once_least _ i e = let a : spot_tokens (roll-Spot (layer.Bare e)) ≡ 2 + expression_tokens e = spot_rolled (layer.Bare e) in omega (arith, a)
+      at_most (spot_tokens (indexed_spot named numbers (Some (kind.Array t bounds)) i e) None) (3 + expression_tokens e) (spot_rolled (layer.One i (bound bounds.first.lower) (bound bounds.first.upper) e) None)
+  once_least (Some (kind.ArrayParam t)) i e = at_most (spot_tokens (indexed_spot named numbers (Some (kind.ArrayParam t)) i e) None) (3 + expression_tokens e) (spot_rolled (layer.ParamArray i e) None)
+  once_least (Some (kind.Table s)) i e = at_most (spot_tokens (indexed_spot named numbers (Some (kind.Table s)) i e) None) (3 + expression_tokens e) (spot_rolled (layer.Word i false (words_of s) e) None)
+  once_least (Some (kind.TableParam s)) i e = at_most (spot_tokens (indexed_spot named numbers (Some (kind.TableParam s)) i e) None) (3 + expression_tokens e) (spot_rolled (layer.Word i true (words_of s) e) None)
+  once_least (Some (kind.Element table x)) i e = element_least (kind_here named table.at.token) (item_here numbers table.at.token) (element_word x) e (element_field x)
+  once_least k i e = let a = bare_tokens e (field_of k) in omega (arith, a)
 
   -- ---- references
 
@@ -176,7 +182,7 @@ module _ (named : Named) (numbers : Numbers) where
       let a : expression_tokens (read r) ≡ reference_tokens r = expression_rolled (layer.Read r) in
       record { some = h; place = k; value = omega (arith, a, k); handed = no_argument_least n h }
 
-  spot_read : (r : RawName) (s : Spot) (n : ℕ) → 1 ≤ n → spot_tokens s ≤ n → SizedPlace (place_read (reference_at named r s)) n
+  spot_read : (r : RawName) (s : Spot) (n : ℕ) → 1 ≤ n → spot_tokens s (field_of (kind_of named r)) ≤ n → SizedPlace (place_read (reference_at named r s)) n
   spot_read r s n h k =
       let a = reference_rolled s (fraction_of_kind (kind_of named r)) (field_of (kind_of named r)) in
       read_sized (reference_at named r s) n h (omega (arith, a, k))
@@ -207,7 +213,7 @@ module _ (named : Named) (numbers : Numbers) where
   pub bare_sized : (at : Position) {m : Made} {k : ℕ} → Sized m k → SizedPlace (made.reference_step named numbers (raw.Bare at m)) (2 + k)
   bare_sized at {m = m} {k = k} h =
       let r : Ref = reference (roll-Spot (layer.Bare (m.made false))) 0 None in
-      let a : spot_tokens (roll-Spot (layer.Bare (m.made false))) ≡ 2 + expression_tokens (m.made false) = spot_rolled (layer.Bare (m.made false)) in
+      let a = bare_tokens (m.made false) None in
       let b = reference_rolled (roll-Spot (layer.Bare (m.made false))) 0 None in
       let c = h.made false in
       read_sized r (2 + k) (omega arith) (omega (arith, a, b, c))

@@ -32,8 +32,7 @@ use Rattle.cw_unit.specs.Step.{label_of_goal, switch_of_def, procedure_of_def}
 use Rattle.cw_safety.specs.Kinds.{Kind, WordKind, LabelKind, SwitchKind, ProcedureKind, Taken, TakesWord, TakesLabel, TakesSwitch, parameter_kinds}
 use Rattle.cw_safety.specs.WellFormed.{reaches, reaches_switch, controls_of, procedure_of_place}
 use Rattle.cw_gen_expr.specs.NamedItems.{has_words}
-use Rattle.cw_built.specs.Arguments.{at_work}
-use Rattle.cw_built.specs.Built.{alone}
+use Rattle.cw_built.specs.Built.{alone, at_work}
 use Rattle.cw_sound_uses.specs.Mentions.{In, Mention, Here, declares, uses, stores, facts_mentions}
 
 -- ---- what parameters take, as they are specified

@@ -1,7 +1,8 @@
 -- The least number of tokens that a text of such a tree has: each node of a unit's trees counts the words, names, numbers and signs without which it
 -- is not written. Brackets round operands are not counted, nor is what stores data.
-use Rattle.std.specs.Prelude.{ℕ, suc, ◌+◌, ◌*◌, List, [], ◌∷◌, length}
+use Rattle.std.specs.Prelude.{ℕ, suc, ◌+◌, ◌*◌, List, [], ◌∷◌, length, Option, Some, None}
 use Rattle.cw_unit.specs.declared.unit.Unit.{Unit as SourceUnit}
+use Rattle.cw_unit.specs.declared.unit.Field.{Field}
 use Rattle.cw_unit.specs.declared.unit.Proc.{Proc}
 use Rattle.cw_unit.specs.declared.unit.Switch.{Switch}
 use Rattle.cw_unit.specs.declared.unit.Stmt.{Stmt, Stmt-F, fold-Stmt}
@@ -29,7 +30,7 @@ abbrev pub arguments : List ℕ → ℕ
 arguments [] = 0
 arguments (n ∷ ns) = suc (separated (n ∷ ns))
 
-abbrev pub argument_step : Arg-F ℕ ℕ ℕ ℕ ℕ → ℕ
+abbrev pub argument_step : Arg-F ℕ ℕ ℕ (Option Field → ℕ) ℕ → ℕ
 argument_step (layer.Value e f) = e
 argument_step (layer.Place r) = r
 argument_step (layer.Array i l) = 1
@@ -42,26 +43,31 @@ argument_step (layer.Proc q) = 1
 argument_step (layer.CommonProc d) = 1
 argument_step (layer.Special k) = 1
 
-abbrev pub condition_step : Cond-F ℕ ℕ ℕ ℕ ℕ → ℕ
+abbrev pub condition_step : Cond-F ℕ ℕ ℕ (Option Field → ℕ) ℕ → ℕ
 condition_step (layer.Cmp op a b) = suc (a + b)
 condition_step (layer.And c d) = suc (c + d)
 condition_step (layer.Or c d) = suc (c + d)
 
--- a name, with its indexes in brackets
-abbrev pub spot_step : Spot-F ℕ ℕ ℕ ℕ ℕ → ℕ
-spot_step (layer.Direct i) = 1
-spot_step (layer.Through i) = 1
-spot_step (layer.One i l u e) = 3 + e
-spot_step (layer.Two i l1 u1 l2 u2 n e g) = 4 + (e + g)
-spot_step (layer.ParamArray i e) = 3 + e
-spot_step (layer.Word i p n e) = 3 + e
-spot_step (layer.Elem i p w n q e) = 3 + e
-spot_step (layer.Bare e) = 2 + e
+-- what is counted beside the name and the indexes of a word that no text takes a part of
+abbrev pub part : Option Field → ℕ
+part None = 0
+part (Some s) = 1
 
-abbrev pub reference_step : Ref-F ℕ ℕ ℕ ℕ ℕ → ℕ
-reference_step r = r.at
+-- A name, with its indexes in brackets. Only elements of tables are parts of words: no text has one through a LOCATION parameter, or in an array.
+abbrev pub spot_step : Spot-F ℕ ℕ ℕ (Option Field → ℕ) ℕ → Option Field → ℕ
+spot_step (layer.Direct i) field = 1
+spot_step (layer.Through i) field = 1 + part field
+spot_step (layer.One i l u e) field = 3 + e
+spot_step (layer.Two i l1 u1 l2 u2 n e g) field = 4 + (part field + (e + g))
+spot_step (layer.ParamArray i e) field = 3 + e
+spot_step (layer.Word i p n e) field = 3 + e
+spot_step (layer.Elem i p w n q e) field = 3 + e
+spot_step (layer.Bare e) field = 2 + e
 
-abbrev pub expression_step : Expr-F ℕ ℕ ℕ ℕ ℕ → ℕ
+abbrev pub reference_step : Ref-F ℕ ℕ ℕ (Option Field → ℕ) ℕ → ℕ
+reference_step r = r.at r.field
+
+abbrev pub expression_step : Expr-F ℕ ℕ ℕ (Option Field → ℕ) ℕ → ℕ
 expression_step (layer.Num n) = 1
 expression_step (layer.Const z) = 1
 expression_step (layer.Text i) = 1
@@ -83,16 +89,16 @@ expression_step (layer.Over a b) = suc (a + b)
 expression_step (layer.Choice c a b) = 3 + (c + (a + b))
 
 abbrev pub expression_tokens : Expr → ℕ
-expression_tokens = fold-Expr ℕ ℕ ℕ ℕ ℕ argument_step condition_step expression_step spot_step reference_step
+expression_tokens = fold-Expr ℕ ℕ ℕ (Option Field → ℕ) ℕ argument_step condition_step expression_step spot_step reference_step
 
 abbrev pub argument_tokens : Arg → ℕ
-argument_tokens = fold-Arg ℕ ℕ ℕ ℕ ℕ argument_step condition_step expression_step spot_step reference_step
+argument_tokens = fold-Arg ℕ ℕ ℕ (Option Field → ℕ) ℕ argument_step condition_step expression_step spot_step reference_step
 
 abbrev pub condition_tokens : Cond → ℕ
-condition_tokens = fold-Cond ℕ ℕ ℕ ℕ ℕ argument_step condition_step expression_step spot_step reference_step
+condition_tokens = fold-Cond ℕ ℕ ℕ (Option Field → ℕ) ℕ argument_step condition_step expression_step spot_step reference_step
 
 abbrev pub reference_tokens : Ref → ℕ
-reference_tokens = fold-Ref ℕ ℕ ℕ ℕ ℕ argument_step condition_step expression_step spot_step reference_step
+reference_tokens = fold-Ref ℕ ℕ ℕ (Option Field → ℕ) ℕ argument_step condition_step expression_step spot_step reference_step
 
 -- the arguments of a call
 abbrev pub each_argument : List Arg → List ℕ

@@ -3,8 +3,7 @@ use Rattle.std.proofs.Common.{false, IsTrue, Option, List, sym, subst}
 use Rattle.cw_make_expr.specs.Made.{target}
 use Rattle.cw_safety.specs.Kinds.{Kind}
 use Rattle.cw_safety.specs.WellFormed as formed
-use Rattle.cw_built.specs.Arguments.{at_work}
-use Rattle.cw_built.specs.Built.{alone}
+use Rattle.cw_built.specs.Built.{alone, at_work}
 use Rattle.cw_sound_expr.proofs.Trees.{condition_is_right, reference_is_right}
 use Rattle.cw_sound_expr.proofs.Whole.{expression_good, call_good}
 use Rattle.cw_sound_expr.proofs.laws.well_formed.Goals as goal
