@@ -117,9 +117,15 @@ fn actions(rt: HostRuntime) -> Result<(), Fail> {
         ("go e e", "3||link: K5 SegmentTwice E\n"),
         ("link a.SEG a.SEG", "3||link: K5 SegmentTwice A\n"),
         ("go e missing", "6||no file: missing\n"),
+        ("big 1", "0|0854\n|big 1 words 110\n"),
+        ("big 2", "0|2562\n|big 2 words 219\n"),
+        ("big 20", "0|3212\n|big 20 words 2181\n"),
+        ("big 20", "0|3212\n|big 20 words 2181\n"),
+        ("big 100", "0|3708\n|big 100 words 10901\n"),
+        ("--data 109 --frames 0 big 1", "3||link: P1 DataTooBig 110\n"),
         (
-            "big 1",
-            "1||usage: coral66 [--data N] [--frames N] [--depth N] [--steps N] ACTION WORD...\n",
+            "--steps 1000 big 1",
+            "5||big 1 words 110\nunfinished: 1000\n",
         ),
     ];
     let alloc = rt.alloc();

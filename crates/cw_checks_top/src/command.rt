@@ -222,7 +222,7 @@ fn words_and_files(rt: HostRuntime) -> Result<(), Fail> {
     let rows = [
         ("go", USAGE),
         ("list a b", USAGE),
-        ("big 1", USAGE),
+        ("big 0", USAGE),
         ("go none", "6||no file: none\n"),
         ("go a", MAP),
         (
