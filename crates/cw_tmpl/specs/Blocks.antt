@@ -29,10 +29,16 @@ after_home f n (Some order.Load) third = with_variable f n (use_of third)
 after_home f n (Some order.Store) third = block.Assign f n
 after_home f n _ third = block.Single
 
+abbrev pub after_frame_home : (offset : ℕ) → (second : Option Order) → Block
+after_frame_home n (Some order.Load) = block.FetchFrame n
+after_frame_home n (Some order.Store) = block.AssignFrame n
+after_frame_home n _ = block.Single
+
 -- the block that begins with the first of these orders
 abbrev pub block_of : (first second third : Option Order) → Block
 block_of (Some (order.Const w)) second third = with_number w (use_of second)
 block_of (Some (order.Home f n)) second third = after_home f n second third
+block_of (Some (order.FrameHome n)) second third = after_frame_home n second
 block_of _ second third = block.Single
 
 -- how the first order of a list stands, where so many are left of the block before
@@ -46,6 +52,8 @@ orders_left (block.Within n) = n
 orders_left block.Single = 0
 orders_left (block.Fetch f n) = 1
 orders_left (block.Assign f n) = 1
+orders_left (block.FetchFrame n) = 1
+orders_left (block.AssignFrame n) = 1
 orders_left (block.Operate (simple.Number w) u) = 1
 orders_left (block.Operate (simple.Variable f n) u) = 2
 

@@ -4,8 +4,9 @@ use Rattle.cw_i86.specs.declared.instr.Instr.{Instr}
 use Rattle.cw_i86.specs.declared.instr.Instr.TheVariants as i86
 use Rattle.cw_i86.specs.declared.instr.Imm.TheVariants as imm
 use Rattle.cw_i86.specs.declared.instr.Rm.TheVariants as rms
+use Rattle.cw_run86.specs.Views.{with_number}
 use Rattle.cw_unit.specs.Stop.{StopKind, Overflow, ZeroDivisor, SwitchRange, AddressRange, IndexRange, stop_number}
-use Rattle.cw_tmpl.specs.Mnemonics.{ax, bx, cx, dx, sp, bp, si, di, al, ah, line_slot, segment_slot, calls_slot, top_slot, slot, set_word, load, move, add, subtract, compare, one_of, shift_up, shift_down, shift_down_signed, multiply, divide, jump_to, jump_if_equal, jump_if_unequal, jump_if_below, bytes_of_all}
+use Rattle.cw_tmpl.specs.Mnemonics.{ax, bx, cx, dx, sp, bp, si, di, al, ah, line_slot, segment_slot, calls_slot, top_slot, slot, at_bx, near_field, set_word, load, store, move, add, subtract, compare, one_of, double, shift_up, shift_down, shift_down_signed, multiply, divide, jump_to, jump_if_no_overflow, jump_if_equal, jump_if_unequal, jump_if_below, jump_if_at_most, bytes_of_all}
 
 -- ---- the routines
 
@@ -119,6 +120,65 @@ quotient_end =
 abbrev pub quotient_up_routine : List Instr
 quotient_up_routine = magnitudes (quotient_up_place + 10) ++ (move dx ax ∷ shift_up ax ∷ (turn_count ++ (shift_down dx ∷ quotient_end)))
 
+-- ---- addresses and loops
+--
+-- Where an address is tested the words of the data area come in DX; where it is not below them the routine stops.
+
+-- the address in AX
+abbrev pub in_area_place : ℕ
+in_area_place = 250
+
+abbrev pub in_area_routine : List Instr
+in_area_routine = compare ax dx ∷ jump_if_below 3 ∷ call_stop AddressRange (in_area_place + 7) ∷ i86.Ret ∷ []
+
+-- BX at the words of a loop, whose address is in AX
+abbrev pub loop_reached : List Instr
+loop_reached = i86.Pop si ∷ move bx ax ∷ double bx ∷ []
+
+-- BX at the control variable, whose address it has
+abbrev pub variable_reached : (behind : ℕ) → List Instr
+variable_reached behind = compare bx dx ∷ jump_if_below 3 ∷ call_stop AddressRange behind ∷ double bx ∷ []
+
+-- the word below the address of a loop into its control variable
+abbrev pub set_variable_place : ℕ
+set_variable_place = 258
+
+abbrev pub set_variable_routine : List Instr
+set_variable_routine =
+    loop_reached ++ (load bx at_bx ∷ (variable_reached (set_variable_place + 14) ++ (i86.Pop ax ∷ store at_bx ax ∷ i86.Pop ax ∷ jump_to si ∷ [])))
+
+-- the step of a loop added to its control variable
+abbrev pub add_step_place : ℕ
+add_step_place = 280
+
+abbrev pub add_step_routine : List Instr
+add_step_routine =
+    loop_reached ++ (load cx (near_field 2) ∷ load bx at_bx ∷ (variable_reached (add_step_place + 17) ++
+    (load ax at_bx ∷ add ax cx ∷ jump_if_no_overflow 3 ∷ call_stop Overflow (add_step_place + 28)
+    ∷ store at_bx ax ∷ i86.Pop ax ∷ jump_to si ∷ [])))
+
+-- the value of the control variable below the address of its loop
+abbrev pub put_variable_place : ℕ
+put_variable_place = 313
+
+abbrev pub put_variable_routine : List Instr
+put_variable_routine =
+    loop_reached ++ (load bx at_bx ∷ (variable_reached (put_variable_place + 14) ++ (load cx at_bx ∷ i86.Push cx ∷ jump_to si ∷ [])))
+
+-- The words of a loop at the address in AX, and the value of its control variable below it. Where that is past the limit the way on is
+-- behind the call, and else 3 bytes further, past a jump. Where the step is negative, the value and the limit are turned bit by bit, which
+-- turns their order; where it is 0, none is past the limit.
+abbrev pub exhausted_routine : List Instr
+exhausted_routine =
+    loop_reached ++ (i86.Pop cx ∷ load ax (near_field 2) ∷ load bx (near_field 4) ∷ i86.Cwd
+    ∷ with_number 7 0 ∷ i86.Pop ax ∷ jump_if_equal 10
+    ∷ one_of cx dx ∷ one_of bx dx ∷ compare cx bx ∷ jump_if_at_most 2 ∷ jump_to si
+    ∷ set_word bx 3 ∷ add si bx ∷ jump_to si ∷ [])
+
+-- its place
+abbrev pub exhausted_place : ℕ
+exhausted_place = 334
+
 -- ---- the whole
 
 abbrev pub routines : List (List Instr)
@@ -126,7 +186,8 @@ routines =
     end_routine ∷ start_routine
     -- overflow, zero divisor, switch, address, frames, depth, bounds
     ∷ stop_routine 1 24 ∷ stop_routine 2 20 ∷ stop_routine 3 16 ∷ stop_routine 4 12 ∷ stop_routine 5 8 ∷ stop_routine 6 4 ∷ (stop_routine 7 0 ++ stop_end)
-    ∷ enter_routine ∷ product_routine ∷ quotient_down_routine ∷ quotient_up_routine ∷ []
+    ∷ enter_routine ∷ product_routine ∷ quotient_down_routine ∷ quotient_up_routine
+    ∷ in_area_routine ∷ set_variable_routine ∷ add_step_routine ∷ put_variable_routine ∷ exhausted_routine ∷ []
 
 abbrev pub joined : List (List Instr) → List Instr
 joined [] = []
@@ -171,6 +232,21 @@ quotient_down_entry = 11
 
 abbrev pub quotient_up_entry : ℕ
 quotient_up_entry = 12
+
+abbrev pub in_area_entry : ℕ
+in_area_entry = 13
+
+abbrev pub set_variable_entry : ℕ
+set_variable_entry = 14
+
+abbrev pub add_step_entry : ℕ
+add_step_entry = 15
+
+abbrev pub put_variable_entry : ℕ
+put_variable_entry = 16
+
+abbrev pub exhausted_entry : ℕ
+exhausted_entry = 17
 
 -- the place of a routine
 abbrev pub entry_place : ℕ → ℕ

@@ -5,7 +5,7 @@
 -- use, and no code asks how many operands there are. Addresses of the data area are in words. A stop is called in the library, which
 -- reads line and segment from the activation record. A jump goes by the distance from its end, so its code hangs on where it stands, and on
 -- where the marks' code starts: both are places in the code of the segment.
-use Rattle.std.specs.Prelude.{ℕ, ◌*◌, zero, suc, ◌+◌, ◌-◌, ◌%◌, ◌^◌, ◌==◌, nat_lt, nat_le, ℤ, pos, negsuc, Bool, true, false, List, [], ◌∷◌, ◌++◌, length, if◌then◌else◌}
+use Rattle.std.specs.Prelude.{ℕ, ◌*◌, zero, suc, ◌+◌, ◌-◌, ◌%◌, ◌^◌, ◌==◌, nat_lt, nat_le, ℤ, pos, negsuc, Bool, true, false, List, [], ◌∷◌, ◌++◌, length, if◌then◌else◌, Option, Some, None}
 use Rattle.cw_i86.specs.declared.instr.Instr.{Instr}
 use Rattle.cw_i86.specs.declared.instr.Instr.TheVariants as i86
 use Rattle.cw_i86.specs.declared.instr.Imm.TheVariants as imm
@@ -30,8 +30,8 @@ use Rattle.cw_tmpl.specs.declared.blocks.Use.{Use}
 use Rattle.cw_tmpl.specs.declared.blocks.Use.TheVariants as uses
 use Rattle.cw_tmpl.specs.declared.blocks.Block.{Block}
 use Rattle.cw_tmpl.specs.declared.blocks.Block.TheVariants as block
-use Rattle.cw_tmpl.specs.Mnemonics.{ax, bx, cx, dx, sp, bp, si, di, line_slot, segment_slot, base_slot, base_record, base_operands, record_depth, slot, argument, at_bx, field, near_field, set_word, load, store, move, add, subtract, compare, negate, double, both, either, one_of, shift_up, shift_down, shift_down_signed, multiply, jump_to, jump_if_no_overflow, jump_if_equal, jump_if_below, jump_if_unequal, jump_if_not_less, jump_if_at_most}
-use Rattle.cw_tmpl.specs.Library.{start_entry, overflow_entry, address_entry, switch_entry, bounds_entry, enter_entry, product_entry, quotient_down_entry, quotient_up_entry}
+use Rattle.cw_tmpl.specs.Mnemonics.{ax, bx, cx, dx, sp, bp, si, di, line_slot, segment_slot, base_slot, base_record, base_operands, record_depth, slot, argument, at_bx, field, set_word, load, store, move, add, subtract, compare, negate, double, both, either, one_of, shift_up, shift_down, shift_down_signed, multiply, jump_to, jump_if_no_overflow, jump_if_below, jump_if_unequal, jump_if_not_less, jump_if_at_most}
+use Rattle.cw_tmpl.specs.Library.{start_entry, overflow_entry, address_entry, switch_entry, bounds_entry, enter_entry, product_entry, quotient_down_entry, quotient_up_entry, in_area_entry, set_variable_entry, add_step_entry, put_variable_entry, exhausted_entry}
 use Rattle.cw_tmpl.specs.Pieces.{size_of, blanks}
 use Rattle.cw_tmpl.specs.Names.{Names, no_names, mark_place, label_start, procedure_start, switch_start, own}
 
@@ -135,10 +135,9 @@ row_end = coded.Whole (add ax cx) ∷ unless_overflow address_entry
 abbrev pub index_row : (lower : ℤ) → (n : ℕ) → List Coded
 index_row lower n = row_start lower ++ (times address_entry n ++ row_end)
 
-abbrev pub in_area : List Coded
-in_area =
-    coded.Move bx (target.Limit limit.DataWords) ∷ coded.Whole (compare ax bx)
-    ∷ coded.Whole (jump_if_below 3) ∷ call_library address_entry ∷ []
+-- a routine of the library that tests an address
+abbrev pub by_area : (entry : ℕ) → List Coded
+by_area entry = coded.Move dx (target.Limit limit.DataWords) ∷ call_library entry ∷ []
 
 -- the top operand is compared with both bounds
 abbrev pub in_bounds : (lower upper : ℤ) → List Coded
@@ -226,21 +225,9 @@ switch_near place to = coded.Whole (move di bp) ∷ jump_near (place + 5) to ∷
 
 -- ---- loops and switches
 
--- The words of a loop at the address in AX, and the value of its control variable below it. Where the step is negative, the value and the
--- limit are turned bit by bit, which turns their order; where it is 0, none is past the limit. The code ends at a place.
-abbrev pub step_loaded : List Coded
-step_loaded =
-    coded.Whole (move bx ax) ∷ coded.Whole (double bx) ∷ coded.Whole (i86.Pop cx)
-    ∷ coded.Whole (load ax (near_field 2)) ∷ coded.Whole (load bx (near_field 4)) ∷ coded.Whole i86.Cwd ∷ []
-
-abbrev pub limit_compared : (end to : ℕ) → List Coded
-limit_compared end to =
-    coded.Whole (with_number 7 0) ∷ coded.Whole (i86.Pop ax) ∷ coded.Whole (jump_if_equal 11)
-    ∷ coded.Whole (one_of cx dx) ∷ coded.Whole (one_of bx dx) ∷ coded.Whole (compare cx bx)
-    ∷ coded.Whole (jump_if_at_most 3) ∷ jump_near end to ∷ []
-
-abbrev pub past_limit : (end to : ℕ) → List Coded
-past_limit end to = step_loaded ++ limit_compared end to
+-- goes to a place where a loop is exhausted; the routine comes back behind the jump where it is not. The code stands at a place.
+abbrev pub past_limit : (place to : ℕ) → List Coded
+past_limit place to = call_library exhausted_entry ∷ jump_near (place + 6) to ∷ []
 
 -- the number in AX, counted from 1, is in BX as one counted from 0, and is compared with a number
 abbrev pub number_compared : ℕ → List Coded
@@ -302,7 +289,7 @@ template names place (order.IndexTimes n) = times address_entry n
 template names place (order.IndexPlus n) = with_word address_entry n (add ax bx)
 template names place order.IndexAdd = coded.Whole (i86.Pop bx) ∷ coded.Whole (add ax bx) ∷ unless_overflow address_entry
 template names place (order.IndexRow lower n) = index_row lower n
-template names place order.InArea = in_area
+template names place order.InArea = by_area in_area_entry
 template names place (order.InBounds lower upper) = in_bounds lower upper
 template names place order.ReadByte = read_byte
 template names place order.WriteByte = coded.Whole (i86.Out 0x12) ∷ coded.Whole (i86.Pop ax) ∷ []
@@ -311,7 +298,10 @@ template names place order.NextBody = coded.Move ax target.NextSegment ∷ coded
 template names place (order.Jump mark) = jump_near (place + 3) (mark_place names mark) ∷ []
 template names place (order.JumpIf c mark) = jump_where c place (mark_place names mark)
 template names place (order.FrameHome n) = coded.Whole (i86.Push ax) ∷ coded.Whole (load ax (slot base_slot)) ∷ coded.Whole (with_number 0 n) ∷ []
-template names place (order.Exhausted mark) = past_limit (place + 29) (mark_place names mark)
+template names place (order.Exhausted mark) = past_limit place (mark_place names mark)
+template names place order.SetVariable = by_area set_variable_entry
+template names place order.AddStep = by_area add_step_entry
+template names place order.PutVariable = by_area put_variable_entry
 template names place (order.LoopWay marks) = loop_way names place marks
 -- calls
 template names place (order.CallProc q) = call_near place (procedure_start names q)
@@ -365,6 +355,10 @@ block_pieces names place (block.Within n) o = []
 block_pieces names place block.Single o = template names place o
 block_pieces names place (block.Fetch family offset) o = coded.Whole (i86.Push ax) ∷ coded.Load (target.Bytes family offset) ∷ []
 block_pieces names place (block.Assign family offset) o = coded.Store (target.Bytes family offset) ∷ coded.Whole (i86.Pop ax) ∷ []
+block_pieces names place (block.FetchFrame n) o =
+    coded.Whole (i86.Push ax) ∷ coded.Whole (load bx (slot base_slot)) ∷ coded.Whole (double bx) ∷ coded.Whole (load ax (field (2 * n % 65536))) ∷ []
+block_pieces names place (block.AssignFrame n) o =
+    coded.Whole (load bx (slot base_slot)) ∷ coded.Whole (double bx) ∷ coded.Whole (store (field (2 * n % 65536)) ax) ∷ coded.Whole (i86.Pop ax) ∷ []
 block_pieces names place (block.Operate s u) o = operated names place s u
 
 -- what the code of a segment begins with: the base record is made
@@ -413,7 +407,7 @@ listed_size (order.IndexTimes n) = times_size n
 listed_size (order.IndexPlus n) = 10
 listed_size order.IndexAdd = 8
 listed_size (order.IndexRow lower n) = times_size n + 20
-listed_size order.InArea = 10
+listed_size order.InArea = 6
 listed_size (order.InBounds lower upper) = 20
 listed_size order.ReadByte = 19
 listed_size order.WriteByte = 3
@@ -422,7 +416,10 @@ listed_size order.NextBody = 5
 listed_size (order.Jump mark) = 3
 listed_size (order.JumpIf c mark) = 9
 listed_size (order.FrameHome n) = 7
-listed_size (order.Exhausted mark) = 29
+listed_size (order.Exhausted mark) = 6
+listed_size order.SetVariable = 6
+listed_size order.AddStep = 6
+listed_size order.PutVariable = 6
 listed_size (order.LoopWay marks) = 21 + 2 * length marks
 listed_size (order.CallProc q) = 4
 listed_size (order.CallCommon d) = 4
@@ -447,6 +444,17 @@ listed_size (order.GoSwitchSpecial k) = 10
 listed_size order.Mark = 0
 listed_size (order.Start n) = 0
 
+-- the same behind an order: a load or a store behind the address of a word is in its block
+abbrev pub size_behind : Option Order → Order → ℕ
+size_behind (Some (order.Home f n)) order.Load = 0
+size_behind (Some (order.Home f n)) order.Store = 0
+size_behind (Some (order.FrameHome n)) order.Load = 3
+size_behind (Some (order.FrameHome n)) order.Store = 3
+size_behind _ o = listed_size o
+
+abbrev pub sizes_behind : Option Order → List Order → ℕ
+sizes_behind before [] = 0
+sizes_behind before (o ∷ os) = size_behind before o + sizes_behind (Some o) os
+
 abbrev pub listed_sizes : List Order → ℕ
-listed_sizes [] = 0
-listed_sizes (o ∷ os) = listed_size o + listed_sizes os
+listed_sizes os = sizes_behind None os

@@ -1,7 +1,7 @@
 //! Blocks: orders that have one piece of code together. The orders before the last only put a word that the code of the last
 //! one takes from its instruction or from memory.
 ghost use Rattle.std.specs.Prelude.{◌≡◌, ◌<◌, length, drop, slice_get};
-ghost use Rattle.cw_tmpl.specs.Blocks.{use_of, with_number, with_variable, after_home, block_at, orders_left};
+ghost use Rattle.cw_tmpl.specs.Blocks.{use_of, with_number, with_variable, after_home, after_frame_home, block_at, orders_left};
 
 use cw_order::{Comparator, Order};
 
@@ -33,6 +33,10 @@ pub enum Block {
     Fetch { family: u16, offset: u16 },
     /// First of two: the top operand is stored in a word of a storage family.
     Assign { family: u16, offset: u16 },
+    /// First of two: a word of the frame of the activation is put.
+    FetchFrame { offset: u16 },
+    /// First of two: the top operand is stored in a word of the frame.
+    AssignFrame { offset: u16 },
     /// First of those that put a simple operand and use it.
     Operate { operand: Simple, with: Use },
 }
@@ -85,6 +89,16 @@ fn block_after_home(family: u16, offset: u16, orders: &[Order]) -> Block
     }
 }
 
+fn block_after_frame_home(offset: u16, orders: &[Order]) -> Block
+    ensures { result ≡ after_frame_home offset (slice_get orders.now 1) }
+{
+    match orders.get(1) {
+        Some(Order::Load) => Block::FetchFrame { offset },
+        Some(Order::Store) => Block::AssignFrame { offset },
+        _ => Block::Single,
+    }
+}
+
 /// The block that begins with the first of these orders.
 fn block_here(orders: &[Order]) -> Block
     ensures { result ≡ block_at 0 orders.now }
@@ -92,6 +106,7 @@ fn block_here(orders: &[Order]) -> Block
     match orders.first() {
         Some(Order::Const(word)) => block_after_const(*word, orders),
         Some(Order::Home { family, offset }) => block_after_home(*family, *offset, orders),
+        Some(Order::FrameHome(offset)) => block_after_frame_home(*offset, orders),
         _ => Block::Single,
     }
 }
@@ -122,6 +137,7 @@ pub fn orders_left(block: Block) -> u8
         Block::Within(left) => left,
         Block::Single => 0,
         Block::Fetch { .. } | Block::Assign { .. } => 1,
+        Block::FetchFrame { .. } | Block::AssignFrame { .. } => 1,
         Block::Operate {
             operand: Simple::Number(_),
             ..

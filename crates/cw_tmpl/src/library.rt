@@ -27,8 +27,21 @@ pub const QUOTIENT_DOWN: u16 = 11;
 
 pub const QUOTIENT_UP: u16 = 12;
 
-const CODE: [u8; 250] = [
-    0xE9, 0xF7, 0x00, // JMP past the library
+/// The entry that tests an address.
+pub const IN_AREA: u16 = 13;
+
+/// The entries that set, step and put the control variable of a loop.
+pub const SET_VARIABLE: u16 = 14;
+
+pub const ADD_STEP: u16 = 15;
+
+pub const PUT_VARIABLE: u16 = 16;
+
+/// The entry that tests whether a loop is exhausted.
+pub const EXHAUSTED: u16 = 17;
+
+const CODE: [u8; 370] = [
+    0xE9, 0x6F, 0x01, // JMP past the library
     0xF4, // end: HLT
     0x5E, // start: POP SI
     0xBC, 0x00, 0x00, // MOV SP,0
@@ -154,9 +167,72 @@ const CODE: [u8; 250] = [
     0x33, 0xC6, // XOR AX,SI
     0x2B, 0xC6, // SUB AX,SI
     0xC3, // RET
+    0x3B, 0xC2, // in area: CMP AX,DX
+    0x72, 0x03, // JB +3
+    0xE8, 0x25, 0xFF, // CALL address
+    0xC3, // RET
+    0x5E, // set variable: POP SI
+    0x8B, 0xD8, // MOV BX,AX
+    0xD1, 0xE3, // SHL BX,1
+    0x8B, 0x1F, // MOV BX,[BX]
+    0x3B, 0xDA, // CMP BX,DX
+    0x72, 0x03, // JB +3
+    0xE8, 0x16, 0xFF, // CALL address
+    0xD1, 0xE3, // SHL BX,1
+    0x58, // POP AX
+    0x89, 0x07, // MOV [BX],AX
+    0x58, // POP AX
+    0xFF, 0xE6, // JMP SI
+    0x5E, // add step: POP SI
+    0x8B, 0xD8, // MOV BX,AX
+    0xD1, 0xE3, // SHL BX,1
+    0x8B, 0x4F, 0x02, // MOV CX,[BX+2]
+    0x8B, 0x1F, // MOV BX,[BX]
+    0x3B, 0xDA, // CMP BX,DX
+    0x72, 0x03, // JB +3
+    0xE8, 0xFD, 0xFE, // CALL address
+    0xD1, 0xE3, // SHL BX,1
+    0x8B, 0x07, // MOV AX,[BX]
+    0x03, 0xC1, // ADD AX,CX
+    0x71, 0x03, // JNO +3
+    0xE8, 0xE6, 0xFE, // CALL overflow
+    0x89, 0x07, // MOV [BX],AX
+    0x58, // POP AX
+    0xFF, 0xE6, // JMP SI
+    0x5E, // put variable: POP SI
+    0x8B, 0xD8, // MOV BX,AX
+    0xD1, 0xE3, // SHL BX,1
+    0x8B, 0x1F, // MOV BX,[BX]
+    0x3B, 0xDA, // CMP BX,DX
+    0x72, 0x03, // JB +3
+    0xE8, 0xDF, 0xFE, // CALL address
+    0xD1, 0xE3, // SHL BX,1
+    0x8B, 0x0F, // MOV CX,[BX]
+    0x51, // PUSH CX
+    0xFF, 0xE6, // JMP SI
+    0x5E, // exhausted: POP SI
+    0x8B, 0xD8, // MOV BX,AX
+    0xD1, 0xE3, // SHL BX,1
+    0x59, // POP CX
+    0x8B, 0x47, 0x02, // MOV AX,[BX+2]
+    0x8B, 0x5F, 0x04, // MOV BX,[BX+4]
+    0x99, // CWD
+    0x3D, 0x00, 0x00, // CMP AX,0
+    0x58, // POP AX
+    0x74, 0x0A, // JZ +10
+    0x33, 0xCA, // XOR CX,DX
+    0x33, 0xDA, // XOR BX,DX
+    0x3B, 0xCB, // CMP CX,BX
+    0x7E, 0x02, // JLE +2
+    0xFF, 0xE6, // JMP SI
+    0xBB, 0x03, 0x00, // MOV BX,3
+    0x03, 0xF3, // ADD SI,BX
+    0xFF, 0xE6, // JMP SI
 ];
 
-const ENTRIES: [u16; 13] = [3, 4, 26, 30, 34, 38, 42, 46, 50, 71, 110, 140, 179];
+const ENTRIES: [u16; 18] = [
+    3, 4, 26, 30, 34, 38, 42, 46, 50, 71, 110, 140, 179, 250, 258, 280, 313, 334,
+];
 
 /// The code of the run-time library, which begins with a jump to its own end. It has no relocated word.
 pub fn base_code() -> &'static [u8]
@@ -166,8 +242,9 @@ pub fn base_code() -> &'static [u8]
 }
 
 /// The place in the library of an entry: 0 is the end of the program, 1 makes the base record of a segment, 2 to 8 stop
-/// with Overflow, ZeroDivisor, Switch, Address, Frames, Depth and Bounds, 9 begins an activation, 10 is a product, 11 and 12 are quotients. None for
-/// every other number.
+/// with Overflow, ZeroDivisor, Switch, Address, Frames, Depth and Bounds, 9 begins an activation, 10 is a product, 11 and 12 are quotients, 13 tests
+/// an address, 14 to 16 set, step and put the control variable of a loop, and 17 tests whether a loop is exhausted. None
+/// for every other number.
 pub fn base_entry(k: u16) -> Option<u16>
     ensures { result ≡ library_entry k }
 {
