@@ -389,6 +389,10 @@ module _ (known : Given) where
     pub low_room : operand_words w.operands < level acts
     low_room = let room = s.room in let most = coded.room in let split = words_split w.operands acts in omega arith
 
+    -- the same with a word more
+    pub more_room : suc (operand_words w.operands) < level acts
+    more_room = let room = s.room in let most = coded.room in let split = words_split w.operands acts in omega arith
+
     -- ---- orders that are blocks of their own
 
     pub alone : block_at 0 (drop s.from s.orders.list) ≡ block.Single → Alone p image g place line acts w q s.orders.list
