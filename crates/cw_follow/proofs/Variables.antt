@@ -6,7 +6,7 @@ use borrow.Author.Tests.{ltb-true}
 use Rattle.cw_i86.specs.declared.instr.Instr.TheVariants as i86
 use Rattle.cw_i86.specs.declared.instr.Imm.TheVariants as imm
 use Rattle.cw_run86.specs.Processor.{Processor, Told}
-use Rattle.cw_run86.specs.Views.{Has, put_word, compare as compare_of, word_sum, sum_overflows, double_overflows}
+use Rattle.cw_run86.specs.Views.{Has, put_word, compare as compare_of, word_sum, sum_overflows, difference_overflows, double_overflows}
 use Rattle.cw_word.specs.FixedPoint.{FitsWord, fits_word}
 use Rattle.cw_word.specs.Word.{unsigned}
 use Rattle.cw_unit.specs.Stop.{Overflow, AddressRange}
@@ -55,9 +55,9 @@ module _ (c : Setting) (memory : List ℤ) (input output : List ℕ) where
       enters place by l.top a small l.low arrives l.kept.wrote code.1.0 h t)
 
   -- where the loop's words are in the area
-  at_loop : {p : Processor} (limit to most : ℕ) (f : ℕ → Outcome) (a : ℤ) → most ≤ 32768 → ((n : ℕ) → n < most → unsigned a ≡ n → DoesHere c memory input output limit to p (f n)) → DoesHere c memory input output limit to p (if_inside (is_below a most) (f (number_of a)))
-  at_loop limit to most f (negsuc n) low does = tt
-  at_loop {p} limit to most f (pos n) low does = cases (nat_lt n most) refl
+  at_loop : (p : Processor) (limit to most : ℕ) (f : ℕ → Outcome) (a : ℤ) → most ≤ 32768 → ((n : ℕ) → n < most → unsigned a ≡ n → DoesHere c memory input output limit to p (f n)) → DoesHere c memory input output limit to p (if_inside (is_below a most) (f (number_of a)))
+  at_loop p limit to most f (negsuc n) low does = tt
+  at_loop p limit to most f (pos n) low does = cases (nat_lt n most) refl
     where
       cases : (b : Bool) → nat_lt n most ≡ b → DoesHere c memory input output limit to p (if_inside b (f n))
       cases true is = let lt = ltb-true n most is in does n lt (unsigned_pos n (omega arith))
@@ -80,7 +80,7 @@ module _ (c : Setting) (memory : List ℤ) (input output : List ℕ) where
           let v = view ax cx c.program.limits.area (unsigned z) (2 * suc n) (record_of c.acts) si di overflow cells stack left told in
           later c.program c.image m to c.g c.line c.acts 2 bound (f (number_of z) w) le
           (compared c.rows {v = v} 3 2 kept.wrote h.0 s (done (jumps_below c.rows {v = v} 3 2 3 lt h.0 h.1.0 s)))
-          (λ q t. on (number_of z) within same _ q t)
+          (λ q t. on (number_of z) within same (difference_overflows (unsigned z) c.program.limits.area) q t)
       cases false is =
           let v = view ax cx c.program.limits.area (unsigned z) (2 * suc n) (record_of c.acts) si di overflow cells stack left told in
           further 13 le' (lit< tt)
@@ -135,7 +135,7 @@ module _ (c : Setting) (memory : List ℤ) (input output : List ℕ) where
           (landed c.rows c.program c.image c.g c.line c.acts to (suc (suc (suc l.top))) rest (set memory k x) input output refl held.1 (kept_stored k x below kept) (jump_to c.rows 6 to way h.1.1.1.1.1.1.1.1.1.1.1.0 t))))))
 
       does : (a : ℤ) (rest : List Operand) → FitsWord a → One c memory input output at a rest p → DoesHere c memory input output 19 to p (if_inside (is_below a c.program.limits.area) (perform c.program.limits.area (SetVariable (number_of a)) (words rest memory input output)))
-      does a rest fa l = at_loop 19 to c.program.limits.area (λ n. perform c.program.limits.area (SetVariable n) (words rest memory input output)) a c.low (λ n within same. sets n a rest within same l)
+      does a rest fa l = at_loop p 19 to c.program.limits.area (λ n. perform c.program.limits.area (SetVariable n) (words rest memory input output)) a c.low (λ n within same. sets n a rest within same l)
 
   sum_allowed : (b : Bool) (k : ℕ) (z : ℤ) (w : Words) → allowed b Overflow (Changed (with_memory w (set w.memory k z))) ≡ store_sum b k z w
   sum_allowed true k z w = refl
@@ -170,7 +170,7 @@ module _ (c : Setting) (memory : List ℤ) (input output : List ℕ) where
           later c.program c.image 17 to c.g c.line c.acts 7 24 (perform c.program.limits.area (AddStep n) (words rest memory input output)) (lit≤ tt)
           (past {m = 5} {n = 2} (reaches add_step_place by d a rest small area_is arrives i (h.0, (h.1.0, (h.1.1.0, tt))) l) (λ q t.
           straight c.rows (LoadField 1 2 (n + 1) (unsigned s) ∷ Load 3 n (unsigned z) ∷ []) {n = 0} kept.wrote (h.1.1.1.0, (h.1.1.1.1.0, tt)) ((s_low, s_there, kept.words (n + 1) (omega arith)), ((n_low, there, kept.words n (omega arith)), tt)) t (λ q t. done t)))
-          (λ q t. tests (λ k v. store_sum (fits_word (word_at v.memory k +ℤ s)) k (word_at v.memory k +ℤ s) v) z (words rest memory input output) to l.top (stop_place AddressRange + (65536 - 297)) 15 17 (all n (pos 0) (omega arith)) low refl (lit≤ tt) (lit≤ tt) kept
+          (λ q t. tests (λ k v. store_sum (fits_word (word_at v.memory k +ℤ word_at v.memory (n + 1))) k (word_at v.memory k +ℤ word_at v.memory (n + 1)) v) z (words rest memory input output) to l.top (stop_place AddressRange + (65536 - 297)) 15 17 (all n (pos 0) (omega arith)) low refl (lit≤ tt) (lit≤ tt) kept
           (h.1.1.1.1.1.0, (h.1.1.1.1.1.1.0, (h.1.1.1.1.1.1.1.0, tt))) t
           (λ k below same_k o q t.
           let x = word_at memory k in
@@ -191,7 +191,7 @@ module _ (c : Setting) (memory : List ℤ) (input output : List ℕ) where
           (landed c.rows c.program c.image c.g c.line c.acts to (suc (suc l.top)) rest (set memory k sum) input output refl held (kept_stored k sum below kept) (jump_to c.rows 6 to way g.1.1.1.1.1.1.1.0 t)))))))))
 
       does : (a : ℤ) (rest : List Operand) → FitsWord a → One c memory input output at a rest p → DoesHere c memory input output 24 to p (if_inside (is_below a (c.program.limits.area - 1)) (perform c.program.limits.area (AddStep (number_of a)) (words rest memory input output)))
-      does a rest fa l = let low = c.low in at_loop 24 to (c.program.limits.area - 1) (λ n. perform c.program.limits.area (AddStep n) (words rest memory input output)) a (omega arith) (λ n within same. adds n a rest within same l)
+      does a rest fa l = let low = c.low in at_loop p 24 to (c.program.limits.area - 1) (λ n. perform c.program.limits.area (AddStep n) (words rest memory input output)) a (omega arith) (λ n within same. adds n a rest within same l)
 
   abbrev variable_put : (a : ℤ) → (loop : ℕ) → Words → Outcome
   variable_put a n w = at_address c.program.limits.area (λ k v. Changed (put a (put (word_at v.memory k) v))) (word_at w.memory n) w
@@ -234,4 +234,4 @@ module _ (c : Setting) (memory : List ℤ) (input output : List ℕ) where
           (landed c.rows c.program c.image c.g c.line c.acts to l.top (Word a ∷ Word x ∷ rest) memory input output refl (refl, (put_at stack' l.top (unsigned x), under_way l.top (unsigned x) stack' a rest held)) (kept_under l.top (unsigned x) low kept) (jump_to c.rows 6 to way g.1.1.1.0 t))))))
 
       does : (a : ℤ) (rest : List Operand) → FitsWord a → One c memory input output at a rest p → DoesHere c memory input output 19 to p (if_inside (is_below a c.program.limits.area) (variable_put a (number_of a) (words rest memory input output)))
-      does a rest fa l = at_loop 19 to c.program.limits.area (λ n. variable_put a n (words rest memory input output)) a c.low (λ n within same. puts n a rest within same l)
+      does a rest fa l = at_loop p 19 to c.program.limits.area (λ n. variable_put a n (words rest memory input output)) a c.low (λ n within same. puts n a rest within same l)
