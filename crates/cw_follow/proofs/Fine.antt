@@ -216,13 +216,13 @@ ax_free = (is_ax, λ e. omega arith)
 pub bx_free : IsFree 3
 bx_free = (is_bx, λ e. omega arith)
 
-cx_free : IsFree 1
+pub cx_free : IsFree 1
 cx_free = (cx_register, λ e. omega arith)
 
 bp_free : IsFree 5
 bp_free = (lit< tt, λ e. omega arith)
 
-si_free : IsFree 6
+pub si_free : IsFree 6
 si_free = (lit< tt, λ e. omega arith)
 
 below : (w n : ℕ) → w ≡ n % 65536 → w < 65536

@@ -18,7 +18,7 @@ use Rattle.cw_tmpl.specs.Blocks.{block_at, left_at}
 use Rattle.cw_tmpl.specs.Names.{Names, mark_place, landing_start, switch_start, switch_size}
 use Rattle.cw_tmpl.specs.ReferenceCode.{templates, landings, switches, switch_places, landings_place, switches_place, names_of, pieces_of, entry_size}
 use Rattle.cw_follow.specs.Placing.{Fills, total_size, base_of, place_after, AreCodes, no_code, a_code, IsImage, Codable}
-use Rattle.cw_follow.proofs.Fine.{AllInstr, all_instr-append, all_there, AllFine, pieces_there, OrderFits, NumberFits, fits_at, IsFree, is_ax, is_bx, ax_free, bx_free, entry_fine, base_fine, switch_fine, block_fine}
+use Rattle.cw_follow.proofs.Fine.{AllInstr, all_instr-append, all_there, AllFine, pieces_there, OrderFits, NumberFits, fits_at, IsFree, is_ax, is_bx, ax_free, bx_free, cx_free, si_free, entry_fine, base_fine, switch_fine, block_fine}
 use Rattle.cw_tmpl.proofs.Growing.{blanks-append}
 use Rattle.cw_tmpl.proofs.Filling.{filled-append, length-filled}
 use Rattle.cw_tmpl.proofs.Sizes.{in_middle, own_place, size_to, size_of_templates, size_of_landings, size_of_switch, landings_at}
@@ -279,13 +279,6 @@ sl = lit< tt
 
 dil : 7 < 8
 dil = lit< tt
-
--- registers that are pushed and popped
-cx_free : IsFree 1
-cx_free = (cl, λ e. omega arith)
-
-si_free : IsFree 6
-si_free = (sl, λ e. omega arith)
 
 turn_instrs : AllInstr turn_count
 turn_instrs = ((dil, lit< tt), ((lit< tt, dil, cl), ((cl, dil), tt)))

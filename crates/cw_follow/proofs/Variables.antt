@@ -44,14 +44,18 @@ module _ (c : Setting) (memory : List ℤ) (input output : List ℕ) where
       more c.rows {to = place} {w = view (unsigned a) cx dx bx (2 * n) (record_of c.acts) si di overflow cells (put_word stack n back) left told} s wrote (to_place arrives (call c.rows by n back lt up refl i s)) (λ q t.
       straight c.rows (Pop 6 n back ∷ Move 3 0 ∷ Double 3 ∷ []) {n = 0} wrote h ((lt', top, put_at stack n back), (tt, (small, tt))) t (λ q t. done t))
 
-  -- the same behind the words of the area in DX
+  -- the same, with the words of the area in DX
+  abbrev Reached : (place at : ℕ) (a : ℤ) (rest : List Operand) {p : Processor} → One c memory input output at a rest p → Processor → Type 0
+  Reached place at a rest l =
+      Is c.image (place + 1 + 2 + 2) (view (unsigned a) l.cx c.program.limits.area (2 * unsigned a) (2 * suc l.top) (record_of c.acts) ((at + 3 + 3) % 65536) l.di (double_overflows (unsigned a)) l.cells (put_word l.stack l.top ((at + 3 + 3) % 65536)) l.left l.told)
+
   reaches : {p : Processor} {at : ℕ} (place by d : ℕ) (a : ℤ) (rest : List Operand) → unsigned a < 32768 → d ≡ c.program.limits.area % 65536 → (at + 3 + 3 + by) % 65536 ≡ place % 65536 → AreaCode c memory input output at d by → HasAll c.image place loop_reached → (l : One c memory input output at a rest p)
-      → Leads output 5 p (Is c.image (place + 1 + 2 + 2) (view (unsigned a) l.cx c.program.limits.area (2 * unsigned a) (2 * suc l.top) (record_of c.acts) ((at + 3 + 3) % 65536) l.di (double_overflows (unsigned a)) l.cells (put_word l.stack l.top ((at + 3 + 3) % 65536)) l.left l.told))
+      → Leads output 5 p (Reached place at a rest l)
   reaches {p} {at} place by d a rest small area_is arrives i h l =
       let low = c.low in
       let d_is : d ≡ c.program.limits.area = omega arith in
       let code : AreaCode c memory input output at c.program.limits.area by = subst (λ d. AreaCode c memory input output at d by) d_is i in
-      straight c.rows (Number 2 c.program.limits.area ∷ []) {n = 4} l.kept.wrote (code.0, tt) (tt, tt) l.is (λ q t.
+      straight c.rows (Number 2 c.program.limits.area ∷ []) {n = 4} {Target = Reached place at a rest l} l.kept.wrote (code.0, tt) (tt, tt) l.is (λ q t.
       enters place by l.top a small l.low arrives l.kept.wrote code.1.0 h t)
 
   -- where the loop's words are in the area
