@@ -1,5 +1,5 @@
 -- What the code of a loop's limit does: the control variable is compared with the limit by the sign of the step.
-use Rattle.std.proofs.Common.{◌≡◌, ◌≢◌, ◌⊎◌, inl, inr, ℕ, zero, suc, ◌+◌, ◌-◌, ◌*◌, ◌%◌, ◌<◌, ◌≤◌, Bool, true, false, not, ℤ, pos, negsuc, List, [], ◌∷◌, length, refl, sym, ap, ap₂, ◌∙◌, subst, arith, lit<, lit≤}
+use Rattle.std.proofs.Common.{◌≡◌, ◌≢◌, ◌⊎◌, inl, inr, ℕ, zero, suc, ◌+◌, ◌-◌, ◌*◌, ◌%◌, ◌<◌, Bool, true, false, not, ℤ, pos, negsuc, List, [], ◌∷◌, refl, sym, ap, ap₂, ◌∙◌, subst, arith, lit<, lit≤}
 use Rattle.std.specs.Prelude.{bit_xor, nat_eq, int_lt}
 use Rattle.std.specs.List.{All}
 use Rattle.std.specs.Int.Bits.{xor_zero_r}
