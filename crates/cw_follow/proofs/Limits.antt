@@ -1,5 +1,5 @@
 -- What the code of a loop's limit does: the control variable is compared with the limit by the sign of the step.
-use Rattle.std.proofs.Common.{◌≡◌, ◌≢◌, ◌⊎◌, inl, inr, ℕ, zero, suc, ◌+◌, ◌-◌, ◌*◌, ◌%◌, ◌<◌, ◌≤◌, Bool, true, false, not, ℤ, pos, negsuc, List, [], ◌∷◌, length, refl, sym, ap, ap₂, ◌∙◌, subst, arith, lit<, lit≤}
+use Rattle.std.proofs.Common.{◌≡◌, ◌≢◌, ◌⊎◌, inl, inr, ℕ, zero, suc, ◌+◌, ◌-◌, ◌*◌, ◌%◌, ◌<◌, Bool, true, false, not, ℤ, pos, negsuc, List, [], ◌∷◌, refl, sym, ap, ap₂, ◌∙◌, subst, arith, lit<, lit≤}
 use Rattle.std.specs.Prelude.{bit_xor, nat_eq, int_lt}
 use Rattle.std.specs.List.{All}
 use Rattle.std.specs.Int.Bits.{xor_zero_r}
@@ -154,14 +154,16 @@ module _ (c : Setting) (memory : List ℤ) (input output : List ℕ) where
         t kept.wrote (compare_number c.rows 0 g.1.1.1.1.0 t) (λ r u.
         last c.rows u.is kept.wrote (compared_pop c.rows 0 (suc (suc l.top)) (2 * top) second sp' over g.1.1.1.1.1.0 u))))
 
-    -- the two ways back
+    -- behind the comparison of the step with 0
     g : HasAll c.image 351 (jump_if_equal 10 ∷ one_of 1 2 ∷ one_of 3 2 ∷ compare 1 3 ∷ jump_if_at_most 2 ∷ jump_to 6 ∷ set_word 3 3 ∷ add 6 3 ∷ jump_to 6 ∷ [])
     g = h.1.1.1.1.1.1.1.1.1
 
+    -- both operands are taken
     lands : {r : Processor} {cx bx si : ℕ} {o : Bool} (to : ℕ) → Is c.image to (view (stacked (suc (suc l.top))) cx (sign_of (unsigned s)) bx (2 * top) (record_of c.acts) si l.di o l.cells stacked l.left l.told) r
         → Landed c.program c.image to c.g c.line c.acts (words rest memory input output) r
     lands to t = landed c.rows c.program c.image c.g c.line c.acts to top rest memory input output refl held.1 (kept_under l.top back l.low l.kept) t
 
+    -- past the jump, where the value is not past the limit
     passes_on : {r : Processor} {cx bx : ℕ} {o : Bool} (to : ℕ) → at + 6 ≡ to → Is c.image 363 (seen_with (stacked (suc (suc l.top))) cx bx o) r → Leads output 3 r (Landed c.program c.image to c.g c.line c.acts (words rest memory input output))
     passes_on to e t =
         let there : word_sum back 3 ≡ to % 65536 = omega arith in
@@ -169,6 +171,7 @@ module _ (c : Setting) (memory : List ℤ) (input output : List ℕ) where
         straight c.rows (Number 3 3 ∷ Sum 6 3 ∷ []) {n = 1} l.kept.wrote (i.0, (i.1.0, tt)) (tt, (tt, tt)) t (λ r t.
         last c.rows t l.kept.wrote (lands to (goes_to c.rows 6 to there i.1.1.0 t)))
 
+    -- through the jump, where it is
     jumps_on : {r : Processor} {cx bx : ℕ} {o : Bool} (to : ℕ) → (at + 6 + way) % 65536 ≡ to % 65536 → Is c.image 361 (seen_with (stacked (suc (suc l.top))) cx bx o) r → Leads output 2 r (Landed c.program c.image to c.g c.line c.acts (words rest memory input output))
     jumps_on {r} {cx} {bx} {o} to e t =
         let there : (at + 3 + 3 + way) % 65536 ≡ to % 65536 = omega arith in

@@ -1,12 +1,11 @@
 -- What the orders on the control variable of a loop do.
-use Rattle.std.proofs.Common.{◌≡◌, ℕ, suc, ◌+◌, ◌-◌, ◌*◌, ◌%◌, ◌<◌, ◌≤◌, Bool, true, false, not, ℤ, pos, negsuc, ◌+ℤ◌, List, [], ◌∷◌, set, refl, ap, ◌∙◌, subst, arith, lit<, lit≤}
+use Rattle.std.proofs.Common.{◌≡◌, ℕ, suc, ◌+◌, ◌-◌, ◌*◌, ◌%◌, ◌<◌, ◌≤◌, Bool, true, false, ℤ, pos, negsuc, ◌+ℤ◌, List, [], ◌∷◌, set, refl, subst, arith, lit<, lit≤}
 use Rattle.std.specs.List.{All}
 use Rattle.std.specs.Prelude.{nat_lt}
 use borrow.Author.Tests.{ltb-true}
 use Rattle.cw_i86.specs.declared.instr.Instr.TheVariants as i86
-use Rattle.cw_i86.specs.declared.instr.Imm.TheVariants as imm
 use Rattle.cw_run86.specs.Processor.{Processor, Told}
-use Rattle.cw_run86.specs.Views.{Has, put_word, compare as compare_of, word_sum, sum_overflows, difference_overflows, double_overflows}
+use Rattle.cw_run86.specs.Views.{Has, put_word, compare as compare_of, difference_overflows, double_overflows}
 use Rattle.cw_word.specs.FixedPoint.{FitsWord, fits_word}
 use Rattle.cw_word.specs.Word.{unsigned}
 use Rattle.cw_unit.specs.Stop.{Overflow, AddressRange}
