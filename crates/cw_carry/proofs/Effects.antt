@@ -365,7 +365,7 @@ module _ (p : OrderProgram) (g : ℕ) (acts : List OrderActivation) where
       let z = word_at w.memory (number_of a) in
       let f : ℕ → Words → Outcome = λ i t. Changed (put a (put (word_at t.memory i) t)) in
       fine_inside (operand_words w.operands) w.output (is_below a p.limits.area) (at_address p.limits.area f z (with_operands w rest))
-      (fine_through (operand_words w.operands) w.output (is_below z p.limits.area) f z (with_operands w rest) (λ i. ((let l : 2 + operand_words rest ≤ 2 + operand_words w.operands = omega (arith, le) in l), refl))))
+      (fine_through (operand_words w.operands) w.output (is_below z p.limits.area) f z (with_operands w rest) (λ i. ((let l : 1 + (1 + operand_words rest) ≤ 2 + operand_words w.operands = omega (arith, le) in l), refl))))
   fine_order (order.InBounds l u) w s = fine_operation p.limits.area w (InBounds l u) refl
   fine_order (order.LabelOut l) w s = fine_held _ _ (Some (LabelControl g l (length acts))) w (same p.limits.area w) refl
   fine_order (order.LabelCommon d) w s = fine_held _ _ _ w (same p.limits.area w) refl

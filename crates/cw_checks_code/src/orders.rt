@@ -116,6 +116,12 @@ Line:8 Const:999 Home:1:0 Store Const:7 Home:1:0 SetVariable Home:1:0 PutVariabl
 Line:8 Const:65535 Home:1:0 Store Home:1:0 PutVariable Drop Drop End|||4 1 8
 Line:8 Const:32767 Home:1:0 Store Const:32767 Home:1:1 Store Home:1:0 AddStep End|||4 1 8
 Line:9 Home:0:0 Home:1:0 Store Const:65535 Home:1:1 Store Const:3 Home:1:0 SetVariable Home:1:0 AddStep Home:0:0 Load WriteByte Const:32768 Home:1:0 SetVariable Home:1:0 AddStep End||2|1 1 9
+Line:1 Home:0:6 Home:1:0 Store Const:41 Home:0:6 Store Const:8 Home:1:0 PutVariable WriteByte WriteByte WriteByte End||10 41 8|
+Line:1 Home:1:1 Home:1:0 Store Const:3 Home:1:1 Store Home:1:0 AddStep Home:1:1 Load WriteByte Home:1:0 Home:1:0 Store Home:1:0 AddStep Home:1:0 Load WriteByte End||6 16|
+Line:3 Const:1000 Home:1:0 Store Const:1 Home:1:1 Store Home:1:0 AddStep Const:9 WriteByte End|||4 1 3
+Line:1 Const:5 WriteByte End Segment Line:6 Const:1000 Home:1:0 Store Home:1:0 PutVariable Drop WriteByte End||5|4 2 6
+Line:7 Const:65535 Home:1:0 Store Const:5 Home:1:0 SetVariable Const:9 WriteByte End|||4 1 7
+Line:8 Home:0:0 Home:1:0 Store Const:1 Home:1:1 Store Const:32766 Home:1:0 SetVariable Home:1:0 AddStep Home:0:0 Load Const:32760 Sub WriteByte Home:1:0 AddStep Const:9 WriteByte End||7|1 1 8
 Line:1 Const:2 LoopWay:0:1:2 Const:9 WriteByte Mark:0 Const:1 WriteByte Mark:1 Const:2 WriteByte Mark:2 Const:3 WriteByte End||2 3|
 Line:1 Const:4 LoopWay:0:1:2 Const:0 LoopWay:0:1:2 Const:65535 LoopWay:0:1:2 Const:9 WriteByte Mark:0 Const:1 WriteByte Mark:1 Const:2 WriteByte Mark:2 Const:3 WriteByte End||9 1 2 3|
 Line:1 Const:1 WriteByte End Segment Line:4 Const:2 WriteByte Const:1 Const:0 Div:0 WriteByte End||1 2|2 2 4
@@ -225,7 +231,7 @@ fn programs(rt: HostRuntime) -> Result<(), Fail> {
             count = count.wrapping_add(1);
         }
     }
-    assert_eq!(rt; count, 97);
+    assert_eq!(rt; count, 103);
     Ok(())
 }
 

@@ -16,7 +16,7 @@ use Rattle.cw_unit.specs.declared.layout.Family.{Family}
 use Rattle.cw_tmpl.specs.declared.blocks.Block.TheVariants as block
 use Rattle.cw_tmpl.specs.Pieces.{blanks}
 use Rattle.cw_tmpl.specs.Names.{mark_place, way_to_label, landing_start, switch_size}
-use Rattle.cw_tmpl.specs.Blocks.{use_of, with_number, with_variable, after_home, block_at, orders_left}
+use Rattle.cw_tmpl.specs.Blocks.{use_of, with_number, with_variable, after_home, after_frame_home, block_at, orders_left}
 use Rattle.cw_tmpl.specs.Templates.{block_size, entry_pieces}
 use Rattle.cw_tmpl.specs.ReferenceCode.{templates, landings, switches, entry_size, order_places, switch_places, switch_sizes, landings_place, switches_place, names_of, mark_starts, label_starts, statement_at, statements_from, orders_code}
 use Rattle.cw_tmpl.proofs.Growing.{blanks-append}
@@ -60,10 +60,17 @@ left-home f n (order.Load ∷ os) = left-variable f n os
 left-home f n (order.Store ∷ os) = refl
 left-home f n (x ∷ os) = refl
 
+left-frame : (n : ℕ) (os : List Order) → IsTrue (left_over (orders_left (after_frame_home n (slice_get os 0))) os)
+left-frame n [] = refl
+left-frame n (order.Load ∷ os) = refl
+left-frame n (order.Store ∷ os) = refl
+left-frame n (x ∷ os) = refl
+
 left-next : (left : ℕ) (o : Order) (os : List Order) → IsTrue (left_over left (o ∷ os)) → IsTrue (left_over (orders_left (block_at left (o ∷ os))) os)
 left-next (suc n) o os h = (parts (ends_block o) (left_over n os) h).1
 left-next zero (order.Const w) os h = left-number w os
 left-next zero (order.Home f n) os h = left-home f n os
+left-next zero (order.FrameHome n) os h = left-frame n os
 left-next zero o os h = refl
 
 -- ---- places of orders

@@ -19,7 +19,7 @@ use Rattle.cw_tmpl.specs.declared.blocks.Use.TheVariants as uses
 use Rattle.cw_tmpl.specs.Pieces.{size_of, target_of, relocation_of, relocation_before, relocations}
 use Rattle.cw_tmpl.specs.Names.{Names, mark_place, label_start, procedure_start, switch_start, landing_size, switch_size, own}
 use Rattle.cw_tmpl.specs.Library.{overflow_entry, address_entry}
-use Rattle.cw_tmpl.specs.Blocks.{use_of, with_number, with_variable, after_home, block_at, orders_left}
+use Rattle.cw_tmpl.specs.Blocks.{use_of, with_number, with_variable, after_home, after_frame_home, block_at, orders_left}
 use Rattle.cw_tmpl.specs.Templates.{template, mark_words, goal_words, landing_pieces, switch_pieces, times_if, times, rescale_if, product_start, product_down, row_start, row_end, block_pieces, block_size, entry_pieces}
 use Rattle.cw_tmpl.specs.ReferenceCode.{templates, landings, switches, entry_size, landings_place, switches_place, names_of, pieces_of}
 use Rattle.cw_tmpl.specs.Blanks.{FillsBlank, Rise}
@@ -146,10 +146,17 @@ module _ (n : ℕ) (fs : List Family) where
   home-sound names place f k (order.Store ∷ os) h = only (is_place fs f k) h
   home-sound names place f k (x ∷ os) h = only (is_place fs f k) h
 
+  frame-sound : (names : Names) (place k : ℕ) (os : List Order) → Sound (block_pieces names place (after_frame_home k (slice_get os 0)) (order.FrameHome k))
+  frame-sound names place k [] = refl
+  frame-sound names place k (order.Load ∷ os) = refl
+  frame-sound names place k (order.Store ∷ os) = refl
+  frame-sound names place k (x ∷ os) = refl
+
   block-sound : (names : Names) (place left : ℕ) (o : Order) (os : List Order) → IsTrue (names_well n fs o) → Sound (block_pieces names place (block_at left (o ∷ os)) o)
   block-sound names place (suc left) o os h = refl
   block-sound names place zero (order.Const w) os h = number-sound names place w (use_of (slice_get os 0))
   block-sound names place zero (order.Home f k) os h = home-sound names place f k os h
+  block-sound names place zero (order.FrameHome k) os h = frame-sound names place k os
   block-sound names place zero o os h = template-sound names place o h
 
   start-sound : (names : Names) (place left line : ℕ) (os : List Order) → Sound (block_pieces names place (block_at left (order.Start line ∷ os)) (order.Start line))

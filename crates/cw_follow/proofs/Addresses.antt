@@ -1,9 +1,10 @@
 -- What the code of indexes and addresses does, and that of multiplications by a number.
-use Rattle.std.proofs.Common.{◌≡◌, ℕ, suc, ◌+◌, ◌-◌, ◌*◌, ◌%◌, ◌<◌, ◌≤◌, Bool, true, false, not, ℤ, pos, negsuc, ◌+ℤ◌, ◌-ℤ◌, ◌*ℤ◌, List, [], ◌∷◌, ◌++◌, refl, sym, ap, ap₂, ◌∙◌, subst, arith, lit<, lit≤}
+use Rattle.std.proofs.Common.{◌≡◌, ℕ, zero, suc, ◌+◌, ◌-◌, ◌*◌, ◌%◌, ◌<◌, ◌≤◌, Bool, true, false, not, ℤ, pos, negsuc, ◌+ℤ◌, ◌-ℤ◌, ◌*ℤ◌, List, [], ◌∷◌, ◌++◌, refl, sym, ap, ap₂, ◌∙◌, subst, arith, lit<, lit≤}
 use borrow.Author.Tests.{ltb-true, eqb-true, eqb-false}
 use Rattle.std.proofs.lemmas.Bool.{lt-ltb, false≢true}
 use Rattle.std.proofs.lemmas.Int.{ints}
 use Rattle.std.specs.List.{All}
+use Rattle.std.proofs.lemmas.List.Elements.{All-head}
 use Rattle.std.specs.Prelude.{◌==◌, int_le, ◌&&◌}
 use Rattle.cw_i86.specs.declared.instr.Instr.{Instr}
 use Rattle.cw_i86.specs.declared.instr.Instr.TheVariants as i86
@@ -11,24 +12,25 @@ use Rattle.cw_i86.specs.declared.instr.Imm.TheVariants as imm
 use Rattle.cw_i86.specs.declared.instr.Rm.TheVariants as rms
 use Rattle.cw_i86.specs.Sums.{overflows}
 use Rattle.cw_run86.specs.Processor.{Processor, Told}
-use Rattle.cw_run86.specs.Views.{compare as compare_of, word_sum, word_difference, sum_overflows, difference_overflows, product_low, product_high, product_overflows, Comparison, NotLess, AtMost, words_compare, compares}
+use Rattle.cw_run86.specs.Views.{put_word, compare as compare_of, word_sum, word_difference, sum_overflows, difference_overflows, product_low, product_high, product_overflows, Comparison, NotLess, AtMost, words_compare, compares}
 use Rattle.cw_word.specs.FixedPoint.{FitsWord, fits_word}
 use Rattle.cw_word.specs.Word.{unsigned, low_word}
 use Rattle.cw_unit.specs.Stop.{StopKind, AddressRange, IndexRange}
-use Rattle.cw_unit.specs.Words.{Operand, Words, Outcome, Changed, Refused, put, put_if, on_two, is_below}
-use Rattle.cw_unit.specs.Operation.{Form, Taken, InBounds, address_of, perform}
+use Rattle.cw_unit.specs.Words.{Operand, Word, Held, Words, Outcome, Changed, Refused, put, put_if, on_two, is_below, number_of}
+use Rattle.cw_unit.specs.Operation.{Form, Taken, InBounds, perform}
 use Rattle.cw_order.specs.FittingWords.{OperandFits}
 use Rattle.cw_order.specs.OrderChanges.{put_index, index, if_fits, index_row}
-use Rattle.cw_tmpl.specs.Library.{stop_place}
+use Rattle.cw_tmpl.specs.Library.{stop_place, in_area_place}
 use Rattle.cw_follow.proofs.Standing.{HasAll}
 use Rattle.cw_follow.proofs.Rows.{Rows}
-use Rattle.cw_follow.proofs.Chains.{Is, Leads, view, compared, compare_jumps, compare_passes, jumps_below, passes_above, done}
+use Rattle.cw_follow.proofs.Chains.{Is, Leads, view, to_place, call, compared, compare_jumps, compare_passes, jumps_below, passes_above, last, done}
 use Rattle.cw_follow.proofs.Straight.{Move, Pop, Number, Sum, Difference, Negative, Product, piece, straight}
-use Rattle.cw_follow.proofs.Routines.{with_ax}
-use Rattle.cw_follow.proofs.Stacks.{level, record_of}
-use Rattle.cw_follow.proofs.Orders.{Kept, later, further, checks}
+use Rattle.cw_follow.proofs.Routines.{put_at, with_ax, in_area_stands}
+use Rattle.cw_follow.proofs.Stacks.{level, record_of, StackIs, top_is, same_put, stack_same}
+use Rattle.cw_follow.proofs.Orders.{Kept, kept_under, later, further, checks}
 use Rattle.cw_order.specs.OrderState.{operand_words}
-use Rattle.cw_follow.proofs.Operands.{Setting, words, allowed, One, Two, result, LandedWith, DoesHere, taking_one, taking_two, calls_stop, guards}
+use Rattle.cw_follow.proofs.Operands.{Setting, words, allowed, One, Two, one_there, result, LandedWith, DoesHere, taking_one, taking_two, calls_stop, guards}
+use Rattle.cw_follow.proofs.Called.{Comes, returns, by_call}
 use Rattle.cw_follow.proofs.Numbers.{left, right, overflows_same, sum_overflows_is, difference_overflows_is, sum_is, difference_is, fits_tested, unsigned_pos}
 use Rattle.cw_follow.proofs.Facts.{low_is, top_overflows, top_low, not_below}
 
@@ -228,51 +230,77 @@ module _ (c : Setting) (memory : List ℤ) (input output : List ℕ) where
 
   -- ---- addresses of the data area
 
-  below_is : (x : ℤ) → FitsWord x → (b : Bool) → is_below x c.program.limits.area ≡ b → (b ≡ true → unsigned x < c.program.limits.area) × (b ≡ false → c.program.limits.area ≤ unsigned x)
-  below_is (pos n) fx b is =
-      let e : unsigned (pos n) ≡ n = unsigned_pos n (omega (arith, fx.sfits)) in
-      (λ yes. let lt = ltb-true n c.program.limits.area (is ∙ yes) in omega (arith, e, lt), λ no. let ge = not_below n c.program.limits.area (is ∙ no) in omega (arith, e, ge))
-  below_is (negsuc n) fx b is =
-      let low = c.low in
-      let f = fx.sfits in
-      (λ yes. absurd (false≢true (is ∙ yes)), λ no. omega (arith, fx.sfits))
+  pub inside : (x : ℤ) → is_below x c.program.limits.area ≡ true → (number_of x < c.program.limits.area) × (unsigned x ≡ number_of x)
+  inside (pos n) is = let low = c.low in let lt = ltb-true n c.program.limits.area is in (lt, unsigned_pos n (omega arith))
+  inside (negsuc n) is = absurd (false≢true is)
 
-  abbrev AreaCode : ℕ → (d by : ℕ) → Type 0
-  AreaCode at d by = HasAll c.image at (i86.MovImm 3 (imm.Word d) ∷ compare_of 0 3 ∷ i86.JumpIf 2 3 ∷ i86.Call by ∷ [])
+  pub outside : (x : ℤ) → FitsWord x → is_below x c.program.limits.area ≡ false → c.program.limits.area ≤ unsigned x
+  outside (pos n) fx is = let e = unsigned_pos n (omega (arith, fx.sfits)) in let ge = not_below n c.program.limits.area is in omega arith
+  outside (negsuc n) fx is = let low = c.low in omega (arith, fx.sfits)
 
-  in_area_or_not : {p : Processor} {at : ℕ} (to by : ℕ) (x : ℤ) (rest : List Operand) (b : Bool) → is_below x c.program.limits.area ≡ b → at + 10 ≡ to → (at + 3 + 2 + 2 + 3 + by) % 65536 ≡ stop_place AddressRange % 65536 → FitsWord x
-      → AreaCode at c.program.limits.area by → One c memory input output at x rest p
-      → DoesHere c memory input output 14 to p (put_if b AddressRange x (words rest memory input output))
-  in_area_or_not {p} {at} to by x rest true is e arrives fx i l =
-      let s = l in
-      let k = l.kept in
-      let acts = Number 3 c.program.limits.area ∷ [] in
-      let ps = piece c.image at acts (compare_of 0 3 ∷ i86.JumpIf 2 3 ∷ i86.Call by ∷ []) i in
-      let lt : unsigned x < c.program.limits.area = (below_is x fx true is).0 refl in
-      let e' : at + 3 + 2 + 2 + 3 ≡ to = omega arith in
+  -- the routine comes back with an address, and stops at another word
+  in_area_comes : (x : ℤ) (b : Bool) → FitsWord x → is_below x c.program.limits.area ≡ b → {p : Processor} {cx bx si di : ℕ} {overflow : Bool} {cells stack : ℕ → ℕ} {left : List ℕ} {told : Told} (n back : ℕ) → suc n < level c.acts → back < 65536 → stack (suc n) ≡ back
+      → Kept c.program c.g c.line c.acts memory input output cells stack left told
+      → Is c.image in_area_place (view (unsigned x) cx c.program.limits.area bx (2 * suc n) (record_of c.acts) si di overflow cells stack left told) p
+      → Comes c memory input output b AddressRange x 13 back (suc (suc n)) cells stack left told p
+  in_area_comes x true fx is {cx = cx} {bx = bx} {si = si} {di = di} {overflow = overflow} {cells = cells} {stack = stack} {left = left} {told = told} n back low small there kept s =
+      let h = in_area_stands c.library in
+      let f = inside x is in
+      let within = f.0 in
+      let same = f.1 in
+      let lt : unsigned x < c.program.limits.area = omega arith in
+      let v = view (unsigned x) cx c.program.limits.area bx (2 * suc n) (record_of c.acts) si di overflow cells stack left told in
       further 3 (lit≤ tt) (lit< tt)
-      (straight c.rows acts {n = 2} k.wrote ps.0 (tt, tt) s.is (λ q t.
-      compared c.rows {v = view (unsigned x) s.cx s.dx c.program.limits.area (2 * suc l.top) (record_of c.acts) s.si s.di s.overflow l.cells l.stack l.left l.told} 0 3 k.wrote ps.1.0 t
-      (done (result c memory input output to l.top x rest e' refl l.under k (jumps_below c.rows 0 3 3 lt ps.1.0 ps.1.1.0 t)))))
-  in_area_or_not {p} {at} to by x rest false is e arrives fx i l =
-      let s = l in
-      let k = l.kept in
-      let acts = Number 3 c.program.limits.area ∷ [] in
-      let ps = piece c.image at acts (compare_of 0 3 ∷ i86.JumpIf 2 3 ∷ i86.Call by ∷ []) i in
-      let ge : c.program.limits.area ≤ unsigned x = (below_is x fx false is).1 refl in
-      further 14 (lit≤ tt) (lit< tt)
-      (straight c.rows acts {n = 13} k.wrote ps.0 (tt, tt) s.is (λ q t.
-      compared c.rows {v = view (unsigned x) s.cx s.dx c.program.limits.area (2 * suc l.top) (record_of c.acts) s.si s.di s.overflow l.cells l.stack l.left l.told} 0 3 k.wrote ps.1.0 t
-      (calls_stop c memory input output AddressRange l.top by l.low arrives k ps.1.1.1.0 (passes_above c.rows 0 3 3 ge ps.1.0 ps.1.1.0 t))))
+      (compared c.rows {v = v} 0 2 kept.wrote h.0 s
+      (returns c memory input output n back x (unsigned x) low small there kept refl h.1.1.1.0 (jumps_below c.rows {v = v} 0 2 3 lt h.0 h.1.0 s)))
+  in_area_comes x false fx is {cx = cx} {bx = bx} {si = si} {di = di} {overflow = overflow} {cells = cells} {stack = stack} {left = left} {told = told} n back low small there kept s =
+      let h = in_area_stands c.library in
+      let v = view (unsigned x) cx c.program.limits.area bx (2 * suc n) (record_of c.acts) si di overflow cells stack left told in
+      let room : n < level c.acts = omega arith in
+      further 13 (lit≤ tt) (lit< tt)
+      (compared c.rows {v = v} 0 2 kept.wrote h.0 s
+      (calls_stop c memory input output AddressRange n (stop_place AddressRange + (65536 - 257)) room refl kept h.1.1.0 (passes_above c.rows {v = v} 0 2 3 (outside x fx is) h.0 h.1.0 s)))
 
-  pub in_areas : {p : Processor} {at : ℕ} (to by d : ℕ) (operands : List Operand) → at + 10 ≡ to → (at + 3 + 2 + 2 + 3 + by) % 65536 ≡ stop_place AddressRange % 65536 → d ≡ c.program.limits.area % 65536 → operand_words operands < level c.acts → All OperandFits operands
+  -- a routine that tests an address is called with the words of the area in DX
+  abbrev pub AreaCode : ℕ → (d by : ℕ) → Type 0
+  AreaCode at d by = HasAll c.image at (i86.MovImm 2 (imm.Word d) ∷ i86.Call by ∷ [])
+
+  -- the stop inside the routine takes a word more of the stack
+  pub in_areas : {p : Processor} {at : ℕ} (to by d : ℕ) (operands : List Operand) → at + 6 ≡ to → (at + 3 + 3 + by) % 65536 ≡ in_area_place % 65536 → d ≡ c.program.limits.area % 65536 → suc (operand_words operands) < level c.acts → All OperandFits operands
       → AreaCode at d by → LandedWith c memory input output at operands p
-      → DoesHere c memory input output 14 to p (perform c.program.limits.area (Form Taken) (words operands memory input output))
-  in_areas {p} {at} to by d operands e arrives area_is roomy fits i =
-      let low = c.low in
-      let d_is : d ≡ c.program.limits.area = omega arith in
-      taking_one c memory input output 14 to (address_of c.program.limits.area)
-      (λ x rest fx l. in_area_or_not to by x rest (is_below x c.program.limits.area) refl e arrives fx (subst (λ n. AreaCode at n by) d_is i) l) operands roomy fits
+      → DoesHere c memory input output 15 to p (perform c.program.limits.area (Form Taken) (words operands memory input output))
+  in_areas to by d [] e arrives area_is room fits i l = tt
+  in_areas to by d (Held h ∷ rest) e arrives area_is room fits i l = tt
+  in_areas {p} {at} to by d (Word x ∷ rest) e arrives area_is room fits i l = from o.top o.is o.under refl
+    where
+      o : One c memory input output at x rest p
+      o = one_there c memory input output x rest (omega arith) l
+
+      from : (top : ℕ) → Is c.image at (view (unsigned x) o.cx o.dx o.bx (2 * suc top) (record_of c.acts) o.si o.di o.overflow o.cells o.stack o.left o.told) p → StackIs c.program c.acts (o.stack (suc top)) o.stack (suc (suc top)) rest → o.top ≡ top
+          → DoesHere c memory input output 15 to p (put_if (is_below x c.program.limits.area) AddressRange x (words rest memory input output))
+      from zero s under is = let t = top_is c.program c.acts (o.stack 1) o.stack 2 rest under in absurd (omega arith)
+      from (suc n) s under is =
+          let b = is_below x c.program.limits.area in
+          let fx = All-head OperandFits (Word x) rest fits in
+          let low : suc n < level c.acts = let top_low = o.low in omega arith in
+          let area_low = c.low in
+          let d_is : d ≡ c.program.limits.area = omega arith in
+          let code : AreaCode at c.program.limits.area by = subst (λ d. AreaCode at d by) d_is i in
+          let back = (at + 3 + 3) % 65536 in
+          let stack' : ℕ → ℕ = put_word o.stack (suc n) back in
+          let kept = kept_under (suc n) back low o.kept in
+          let held = stack_same c.program c.acts (unsigned x) o.stack stack' (suc (suc n)) (Word x ∷ rest) (same_put o.stack (suc n) back (suc (suc n)) (omega arith)) (refl, under) in
+          let lt : suc n < 32768 = omega arith in
+          let sp : 2 * suc (suc n) ≡ 2 * suc (suc n) % 65536 = omega arith in
+          let small : back < 65536 = omega arith in
+          let there : back % 65536 ≡ to % 65536 = omega arith in
+          let lead : Leads output 2 p (Is c.image in_area_place (view (unsigned x) o.cx c.program.limits.area o.bx (2 * suc n) (record_of c.acts) o.si o.di o.overflow o.cells stack' o.left o.told)) =
+          straight c.rows (Number 2 c.program.limits.area ∷ []) {n = 1} o.kept.wrote (code.0, tt) (tt, tt) s (λ q t.
+          last c.rows t o.kept.wrote (to_place arrives (call c.rows by (suc n) back lt sp refl code.1.0 t))) in
+          subst (λ o. DoesHere c memory input output 15 to p o) (put_allowed b AddressRange x (words rest memory input output))
+          (by_call c memory input output to 2 13 15 b AddressRange x rest (lit≤ tt) lead
+          (λ q t. in_area_comes x b fx refl n back low small (put_at o.stack (suc n) back) kept t)
+          (λ q r. result c memory input output to (suc n) x rest refl refl held.1 kept (to_place there r.is)))
 
   -- ---- declared bounds
 

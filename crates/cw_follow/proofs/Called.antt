@@ -69,6 +69,15 @@ module _ (c : Setting) (memory : List ℤ) (input output : List ℕ) where
       let up : 2 * suc (suc n) % 65536 ≡ 2 * suc (suc n) = omega arith in
       last c.rows s k.wrote (record { cx = cx; dx = dx; bx = bx; si = si; di = di; overflow = overflow; is = with_ax value (return c.rows (suc n) (2 * suc (suc n)) back (omega arith) top up (there ∙ whole) i s) })
 
+  -- so many instructions to a routine, and the operand that it comes back with, or a stop
+  pub by_call : {p : Processor} {back top : ℕ} {cells stack : ℕ → ℕ} {left : List ℕ} {told : Told} {T : Processor → Type 0} (to n limit bound : ℕ) (b : Bool) (kind : StopKind) (z : ℤ) (rest : List Operand) → n + limit ≤ bound → Leads output n p T
+      → ((q : Processor) → T q → Comes b kind z limit back top cells stack left told q)
+      → ((q : Processor) → Returned c.image back top (record_of c.acts) (unsigned z) cells stack left told q → Landed c.program c.image to c.g c.line c.acts (put z (words rest memory input output)) q)
+      → DoesHere c memory input output bound to p (allowed b kind (Changed (put z (words rest memory input output))))
+  by_call to n limit bound true kind z rest le lead comes lands =
+      later c.program c.image limit to c.g c.line c.acts n bound (Changed (put z (words rest memory input output))) le lead (λ q t. let r = comes q t in record { spent = r.spent; some = r.some; within = r.within; leads = leads_on lands r.leads })
+  by_call to n limit bound false kind z rest le lead comes lands = later c.program c.image limit to c.g c.line c.acts n bound (Refused kind) le lead comes
+
   -- the order that calls a routine with the two operands on top
   pub by_routine : {p : Processor} {at : ℕ} (to place by count limit : ℕ) (x y : ℤ) (b : Bool) (kind : StopKind) (z : ℤ) (rest : List Operand) → at + 9 ≡ to → (at + 2 + 1 + 3 + 3 + by) % 65536 ≡ place % 65536
       → Routine place count x y b kind z limit
@@ -92,13 +101,5 @@ module _ (c : Setting) (memory : List ℤ) (input output : List ℕ) where
       last c.rows t l.kept.wrote (to_place arrives (call c.rows by (suc l.top) back lt sp refl ps.1.0 t))) in
       let there : back % 65536 ≡ (at + 2 + 1 + 3 + 3) % 65536 = omega arith in
       let e' : at + 2 + 1 + 3 + 3 ≡ to = omega arith in
-      finish b lead (λ q t. routine.comes l.top back low small (put_at l.stack (suc l.top) back) kept t)
+      by_call to 4 limit (4 + limit) b kind z rest (omega arith) lead (λ q t. routine.comes l.top back low small (put_at l.stack (suc l.top) back) kept t)
       (λ q r. result c memory input output to (suc l.top) z rest e' refl under kept (to_place there r.is))
-    where
-      finish : {back top : ℕ} {cells stack : ℕ → ℕ} {left : List ℕ} {told : Told} {T : Processor → Type 0} (b : Bool) → Leads output 4 p T → ((q : Processor) → T q → Comes b kind z limit back top cells stack left told q)
-          → ((q : Processor) → Returned c.image back top (record_of c.acts) (unsigned z) cells stack left told q → Landed c.program c.image to c.g c.line c.acts (put z (words rest memory input output)) q)
-          → DoesHere c memory input output (4 + limit) to p (allowed b kind (Changed (put z (words rest memory input output))))
-      finish true lead comes lands =
-          later c.program c.image limit to c.g c.line c.acts 4 (4 + limit) (Changed (put z (words rest memory input output))) (omega arith) lead
-          (λ q t. let r = comes q t in record { spent = r.spent; some = r.some; within = r.within; leads = leads_on lands r.leads })
-      finish false lead comes lands = later c.program c.image limit to c.g c.line c.acts 4 (4 + limit) (Refused kind) (omega arith) lead comes

@@ -17,6 +17,7 @@ use Rattle.cw_tmpl.specs.declared.blocks.Simple.TheVariants as simple
 use Rattle.cw_tmpl.specs.declared.blocks.Block.{Block}
 use Rattle.cw_tmpl.specs.declared.blocks.Block.TheVariants as block
 use Rattle.cw_tmpl.specs.Blocks.{block_at}
+use Rattle.cw_tmpl.specs.Library.{in_area_entry}
 use Rattle.cw_tmpl.specs.Templates.{distance}
 use Rattle.cw_tmpl.specs.ReferenceCode.{mark_starts, names_of}
 use Rattle.cw_follow.specs.Showing.{shown_as}
@@ -37,14 +38,15 @@ use Rattle.cw_follow.proofs.Bodies.{ends_or_not}
 use Rattle.cw_follow.proofs.Beginning.{begins_activation}
 use Rattle.cw_order.specs.OrderProgram.{defined_at}
 use Rattle.cw_tmpl.specs.Names.{label_start, procedure_start, switch_start}
-use Rattle.cw_follow.proofs.Loops.{limit_follows, loop_follows}
+use Rattle.cw_follow.proofs.Loops.{set_follows, step_follows, put_follows, limit_follows, loop_follows}
 use Rattle.cw_follow.proofs.Calling.{calls_own, calls_common, controls_own, owned, labels_common, switches_common, procedures_common, goes_to_main}
 use Rattle.cw_follow.proofs.Jumping.{goes_common}
 use Rattle.cw_follow.proofs.Switching.{switches_own, switches_by_descriptor}
 use Rattle.cw_follow.proofs.Within.{frame_home, bind_static, bind_frame, come_back, enter_again, hand_on, call_special, go_special, switch_special}
 use Rattle.cw_follow.proofs.WordOrders.{put_is, here, next, rescaling, multiplying, dividing, index_times, row, reading}
 use Rattle.cw_follow.proofs.BlockOrders.{fetch_follows, assign_follows, number_follows, variable_follows, within_block}
-use Rattle.cw_follow.proofs.Steps.{Follow, leads_to, onward, few_segments, order_is, step_is, weight_is, stuck_here, sound_at, does, tells, arrives, by, calls, setting, cheap, has_code, start, chosen, low_room, Alone, alone, code, behind, begins_next, silent, two_roomy}
+use Rattle.cw_follow.proofs.FrameBlocks.{fetch_frame_follows, assign_frame_follows}
+use Rattle.cw_follow.proofs.Steps.{Follow, leads_to, onward, few_segments, order_is, step_is, weight_is, stuck_here, sound_at, does, tells, arrives, by, calls, setting, cheap, has_code, start, chosen, low_room, more_room, Alone, alone, code, behind, begins_next, silent, two_roomy}
 
 module _ (known : Given) where
   open known use {rows, p, image, all, coded, few, low}
@@ -114,8 +116,9 @@ module _ (known : Given) where
     follow_order (order.IndexRow lower n) e = row known s a lower n e (n == 32768) refl
     follow_order order.InArea e =
         let st = all.stands g s.orders s.unit in
-        does known s (perform p.limits.area (Form Taken) w) 14 (begins_next known s a order.InArea e) (step_is known s (Some order.InArea) e) (cheap known s order.InArea 14 (lit≤ tt) e)
-        (in_areas (setting known s) w.memory w.input w.output (next known s a) (by known s 5 (here known s a + 3 + 2 + 2 + 3)) (st.value 8 0 0 (here known s a + 3)) w.operands (behind known s a order.InArea e) (calls known s 5 (here known s a + 3 + 2 + 2 + 3) (lit< tt)) (st.fills.area (here known s a + 3)) (low_room known s) s.fits.operands (code known s a order.InArea e) a.landed)
+        let behind_call = here known s a + 3 + 3 in
+        does known s (perform p.limits.area (Form Taken) w) 15 (begins_next known s a order.InArea e) (step_is known s (Some order.InArea) e) (cheap known s order.InArea 15 (lit≤ tt) e)
+        (in_areas (setting known s) w.memory w.input w.output (next known s a) (by known s in_area_entry behind_call) (st.value 8 0 0 (here known s a + 3)) w.operands (behind known s a order.InArea e) (calls known s in_area_entry behind_call (lit< tt)) (st.fills.area (here known s a + 3)) (more_room known s) s.fits.operands (code known s a order.InArea e) a.landed)
     follow_order (order.InBounds lower upper) e =
         let o = order.InBounds lower upper in
         let h = has_code known s o e in
@@ -162,6 +165,9 @@ module _ (known : Given) where
     follow_order order.NextBody e = ends_or_not known s a e acts refl
     follow_order (order.FrameHome n) e = frame_home known acts s a n e
     follow_order (order.Exhausted m) e = limit_follows known s a m e
+    follow_order order.SetVariable e = set_follows known s a e
+    follow_order order.AddStep e = step_follows known s a e
+    follow_order order.PutVariable e = put_follows known s a e
     follow_order (order.LoopWay marks) e = loop_follows known s a marks e
     follow_order (order.CallProc n) e = calls_own known s a n e
     follow_order (order.CallCommon d) e = calls_common known s a d e (defined_at p g d) refl
@@ -190,6 +196,8 @@ module _ (known : Given) where
     follow_block block.Single o e is sh = follow_order s (alone known s is) o e
     follow_block (block.Fetch f n) o e is sh = fetch_follows known s f n s.done sh.0 refl (within_block known s (block.Fetch f n) 1 is refl) sh.1 is
     follow_block (block.Assign f n) o e is sh = assign_follows known s f n s.done sh.0 refl (within_block known s (block.Assign f n) 1 is refl) sh.1 is
+    follow_block (block.FetchFrame n) o e is sh = fetch_frame_follows known s n s.done sh.0 refl (within_block known s (block.FetchFrame n) 1 is refl) sh.1 is
+    follow_block (block.AssignFrame n) o e is sh = assign_frame_follows known s n s.done sh.0 refl (within_block known s (block.AssignFrame n) 1 is refl) sh.1 is
     follow_block (block.Operate (simple.Number x) u) o e is sh = number_follows known s x u s.done sh.0 refl (within_block known s (block.Operate (simple.Number x) u) 1 is refl) sh.1 is
     follow_block (block.Operate (simple.Variable f n) u) o e is sh = variable_follows known s f n u s.done sh.0 refl (within_block known s (block.Operate (simple.Variable f n) u) 2 is refl) sh.1 is
 

@@ -21,16 +21,16 @@ use Rattle.cw_tmpl.specs.declared.pieces.Coded.{Coded}
 use Rattle.cw_tmpl.specs.declared.pieces.Coded.TheVariants as coded
 use Rattle.cw_tmpl.specs.Pieces.{Filling, bytes_with, size_of, target_of, relocation_of, word_of, word_before, filled}
 use Rattle.cw_tmpl.specs.Mnemonics.{entry_of_table, argument, double, jump_to, jump_if_below, at_bx, load, store, set_word, subtract, bytes_of_all, both, either, one_of, move, add}
-use Rattle.cw_tmpl.specs.Library.{routines, entry_place, bounds_entry, overflow_entry, address_entry, switch_entry, enter_entry, product_entry, quotient_up_entry, quotient_down_entry}
+use Rattle.cw_tmpl.specs.Library.{routines, entry_place, bounds_entry, overflow_entry, address_entry, switch_entry, enter_entry, product_entry, quotient_up_entry, quotient_down_entry, in_area_entry, set_variable_entry, add_step_entry, put_variable_entry, exhausted_entry}
 use Rattle.cw_tmpl.specs.Names.{Names, mark_place, label_start, switch_start, procedure_start}
-use Rattle.cw_tmpl.specs.Templates.{template, call_library, jump_near, base_jump, control_out, record_dropped, return_with, operands_dropped, step_loaded, limit_compared, number_compared, mark_words, goal_words, loop_way, switch_pieces, checked, product_start, branch, operation, operated, block_pieces, distance, opposite_of, entry_pieces, unless_overflow, with_word, times_if, times, taken, taken_signed, load_top, row_start, row_end, on_both, rescale_if, by_routine, product_down, product, quotient, store_part, index_row}
+use Rattle.cw_tmpl.specs.Templates.{template, call_library, jump_near, base_jump, control_out, record_dropped, return_with, operands_dropped, by_area, number_compared, mark_words, goal_words, loop_way, switch_pieces, checked, product_start, branch, operation, operated, block_pieces, distance, opposite_of, entry_pieces, unless_overflow, with_word, times_if, times, taken, taken_signed, load_top, row_start, row_end, on_both, rescale_if, by_routine, product_down, product, quotient, store_part, index_row}
 use Rattle.cw_tmpl.specs.declared.blocks.Simple.{Simple}
 use Rattle.cw_tmpl.specs.declared.blocks.Simple.TheVariants as simple
 use Rattle.cw_tmpl.specs.declared.blocks.Use.{Use}
 use Rattle.cw_tmpl.specs.declared.blocks.Use.TheVariants as uses
 use Rattle.cw_tmpl.specs.declared.blocks.Block.{Block}
 use Rattle.cw_tmpl.specs.declared.blocks.Block.TheVariants as block
-use Rattle.cw_tmpl.specs.Blocks.{use_of, with_number, with_variable, after_home, block_at}
+use Rattle.cw_tmpl.specs.Blocks.{use_of, with_number, with_variable, after_home, after_frame_home, block_at}
 use Rattle.cw_tmpl.specs.ReferenceCode.{names_of}
 use Rattle.cw_follow.specs.Placing.{Fills, base_of, definition_place}
 use Rattle.cw_follow.proofs.Stacks.{start_small}
@@ -155,6 +155,8 @@ BlockFits (block.Within n) o = Unit {0}
 BlockFits block.Single o = OrderFits o
 BlockFits (block.Fetch f n) o = Unit {0}
 BlockFits (block.Assign f n) o = Unit {0}
+BlockFits (block.FetchFrame n) o = Unit {0}
+BlockFits (block.AssignFrame n) o = Unit {0}
 BlockFits (block.Operate s u) o = SimpleFits s
 
 number_fits : (w : ℕ) (u : Option Use) → w < 65536 → BlockFits (with_number w u) (order.Const w)
@@ -170,9 +172,15 @@ home_fits f n (Some order.Load) third = variable_fits f n (use_of third)
 home_fits f n (Some order.Store) third = tt
 home_fits f n _ third = (tt, tt)
 
+frame_fits : (n : ℕ) (second : Option Order) → OrderFits (order.FrameHome n) → BlockFits (after_frame_home n second) (order.FrameHome n)
+frame_fits n (Some order.Load) fits = tt
+frame_fits n (Some order.Store) fits = tt
+frame_fits n _ fits = fits
+
 fits_first : (o : Order) (os : List Order) → OrderFits o → BlockFits (block_at 0 (o ∷ os)) o
 fits_first (order.Const w) os fits = number_fits w (use_of (slice_get os 0)) fits.0
 fits_first (order.Home f n) os fits = home_fits f n (slice_get os 0) (slice_get os 1)
+fits_first (order.FrameHome n) os fits = frame_fits n (slice_get os 0) fits
 fits_first o os fits = fits
 
 fits_front : (left : ℕ) (o : Order) (os : List Order) → OrderFits o → BlockFits (block_at left (o ∷ os)) o
@@ -208,13 +216,13 @@ ax_free = (is_ax, λ e. omega arith)
 pub bx_free : IsFree 3
 bx_free = (is_bx, λ e. omega arith)
 
-cx_free : IsFree 1
+pub cx_free : IsFree 1
 cx_free = (cx_register, λ e. omega arith)
 
 bp_free : IsFree 5
 bp_free = (lit< tt, λ e. omega arith)
 
-si_free : IsFree 6
+pub si_free : IsFree 6
 si_free = (lit< tt, λ e. omega arith)
 
 below : (w n : ℕ) → w ≡ n % 65536 → w < 65536
@@ -418,12 +426,9 @@ module _ (p : OrderProgram) (segment next : ℕ) (value : Filling) (fills : Fill
       (ax_free, ((lit< tt, lit< tt), (distance_small (place + 14) (place + 21 + 2 * length marks), ((lit< tt, λ e. omega arith, is_bx), (place_filled ((place + 21) % 65536), mark_words_fine names marks))))) in
       all_fine-append value (number_compared (length marks)) rest (number_fine (length marks) lt) fine
 
-  loaded_fine : AllFine value step_loaded
-  loaded_fine = ((is_bx, is_ax), ((lit< tt, λ e. omega arith, is_bx), (cx_free, ((is_ax, (lit< tt, lit< tt)), ((is_bx, (lit< tt, lit< tt)), (tt, tt))))))
-
-  limit_fine : (end to : ℕ) → AllFine value (limit_compared end to)
-  limit_fine end to =
-      ((lit< tt, lit< tt), (ax_free, ((lit< tt, lit< tt), ((lit< tt, cx_register, dx_register), ((lit< tt, is_bx, dx_register), ((lit< tt, cx_register, is_bx), ((lit< tt, lit< tt), (distance_small end to, tt))))))))
+  -- a routine that tests an address
+  area_fine : (entry : ℕ) → entry < length routines → AllFine value (by_area entry)
+  area_fine entry lt = ((dx_register, area_filled), (library_filled entry lt, tt))
 
   few_more : (k : ℕ) → k < 256 → k < 257
   few_more k lt = omega arith
@@ -456,7 +461,7 @@ module _ (p : OrderProgram) (segment next : ℕ) (value : Filling) (fills : Fill
   template_fine names place (order.IndexPlus n) fits = word_fine address_entry n (add 0 3) (lit< tt) (let f = fits.1 in omega arith) (lit< tt, is_ax, is_bx)
   template_fine names place order.IndexAdd fits = (bx_free, ((lit< tt, is_ax, is_bx), stop_fine address_entry (lit< tt)))
   template_fine names place (order.IndexRow lower n) fits = row_fine lower n fits.1.0 fits.1.1
-  template_fine names place order.InArea fits = ((is_bx, area_filled), ((lit< tt, is_ax, is_bx), ((lit< tt, lit< tt), (library_filled address_entry (lit< tt), tt))))
+  template_fine names place order.InArea fits = area_fine in_area_entry (lit< tt)
   template_fine names place (order.InBounds lower upper) fits =
       ((is_bx, unsigned_small lower fits.1.0), ((lit< tt, is_ax, is_bx), ((lit< tt, lit< tt), (library_filled bounds_entry (lit< tt), ((is_bx, unsigned_small upper fits.1.1), ((lit< tt, is_ax, is_bx), ((lit< tt, lit< tt), (library_filled bounds_entry (lit< tt), tt))))))))
   template_fine names place order.ReadByte fits =
@@ -467,7 +472,10 @@ module _ (p : OrderProgram) (segment next : ℕ) (value : Filling) (fills : Fill
   template_fine names place (order.Jump mark) fits = (distance_small (place + 3) (mark_place names mark), tt)
   template_fine names place (order.JumpIf c mark) fits = (bx_free, ((lit< tt, is_bx, is_ax), branch_fine c (place + 9) (mark_place names mark)))
   template_fine names place (order.FrameHome n) fits = (ax_free, ((is_ax, (lit< tt, lit< tt)), ((lit< tt, fits.1), tt)))
-  template_fine names place (order.Exhausted mark) fits = all_fine-append value step_loaded (limit_compared (place + 29) (mark_place names mark)) loaded_fine (limit_fine (place + 29) (mark_place names mark))
+  template_fine names place (order.Exhausted mark) fits = (library_filled exhausted_entry (lit< tt), (distance_small (place + 6) (mark_place names mark), tt))
+  template_fine names place order.SetVariable fits = area_fine set_variable_entry (lit< tt)
+  template_fine names place order.AddStep fits = area_fine add_step_entry (lit< tt)
+  template_fine names place order.PutVariable fits = area_fine put_variable_entry (lit< tt)
   template_fine names place (order.LoopWay marks) fits = loop_fine names place marks (let f = fits.1 in omega arith)
   template_fine names place (order.CallProc q) fits = (ax_free, (distance_small (place + 4) (procedure_start names q), tt))
   template_fine names place (order.CallCommon d) fits = (ax_free, (ahead_filled d, tt))
@@ -509,4 +517,10 @@ module _ (p : OrderProgram) (segment next : ℕ) (value : Filling) (fills : Fill
   block_fine names place block.Single o fits = template_fine names place o fits
   block_fine names place (block.Fetch family offset) o fits = (ax_free, (bytes_filled family offset, tt))
   block_fine names place (block.Assign family offset) o fits = (bytes_filled family offset, (ax_free, tt))
+  block_fine names place (block.FetchFrame n) o fits =
+      let small : 2 * n % 65536 < 65536 = omega arith in
+      (ax_free, ((is_bx, (lit< tt, lit< tt)), ((lit< tt, λ e. omega arith, is_bx), ((is_ax, (lit< tt, small)), tt))))
+  block_fine names place (block.AssignFrame n) o fits =
+      let small : 2 * n % 65536 < 65536 = omega arith in
+      ((is_bx, (lit< tt, lit< tt)), ((lit< tt, λ e. omega arith, is_bx), ((is_ax, (lit< tt, small)), (ax_free, tt))))
   block_fine names place (block.Operate s u) o fits = operated_fine names place s u fits

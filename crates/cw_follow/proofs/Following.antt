@@ -105,9 +105,9 @@ following rows p image words memory input s all is coded begins never starts byt
           comes_back = tt;
           never = never;
         } in
-        let base_is : 250 ≡ base_of p 0 = refl in
+        let base_is : 370 ≡ base_of p 0 = refl in
         let way : Leads [] 20 (processor_start s input) (Sound p image 0 first 0 [] begun) =
-        more rows {to = base_of p 0} {w = view 0 0 0 0 0 0 0 0 false (slice_index words) (λ k. 0) input nothing_told} from refl (seen base_is refl (near rows 247 all.library.0 from)) (λ q t.
+        more rows {to = base_of p 0} {w = view 0 0 0 0 0 0 0 0 false (slice_index words) (λ k. 0) input nothing_told} from refl (seen base_is refl (near rows 367 all.library.0 from)) (λ q t.
         leads_on at_entry
         (enters rows p 0 su.next_place su.value (base_of p 0) 0 0 0 0 0 0 0 32767 false (slice_index words) (λ k. 0) input nothing_told all.library su.fills su.entry (lit< tt) (lit< tt) area coded.frames coded.depth 0 refl t)) in
         starts_up is_running (order_machine p) (processor_machine shown_as) (order_start p memory input) 0 20 20 (processor_start s input) way.reached refl way.path

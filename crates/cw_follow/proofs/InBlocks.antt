@@ -1,5 +1,5 @@
 -- Orders in their blocks.
-use Rattle.std.proofs.Common.{◌≡◌, ℕ, zero, suc, ◌+◌, List, [], ◌∷◌, drop, Some, None, refl, sym, ap, ◌∙◌, subst, arith, Bool, true, false}
+use Rattle.std.proofs.Common.{◌≡◌, ℕ, zero, suc, ◌+◌, List, [], ◌∷◌, drop, Option, Some, None, refl, sym, ap, ◌∙◌, subst, arith, Bool, true, false}
 use Rattle.std.specs.Prelude.{slice_get}
 use Rattle.cw_unit.specs.Words.{Words, Outcome, Changed, Refused, Impossible, Word, Held, Operand, put, through, is_below, word_at, number_of, with_operands}
 use Rattle.cw_unit.specs.Operation.{Fetch, perform}
@@ -8,6 +8,8 @@ use Rattle.cw_word.specs.Word.{signed}
 use Rattle.cw_order.specs.declared.order.Order.{Order}
 use Rattle.cw_order.specs.declared.order.Order.TheVariants as order
 use Rattle.cw_order.specs.OrderProgram.{OrderProgram}
+use Rattle.cw_order.specs.OrderState.{OrderActivation, frame_word}
+use Rattle.cw_order.specs.OrderChanges.{put_address}
 use Rattle.cw_order.specs.OrderActions.{home_word}
 use Rattle.cw_order.specs.OrderMachine.{unrefused}
 use Rattle.cw_tmpl.specs.declared.blocks.Simple.TheVariants as simple
@@ -16,7 +18,7 @@ use Rattle.cw_tmpl.specs.declared.blocks.Use.TheVariants as uses
 use Rattle.cw_tmpl.specs.declared.blocks.Block.{Block}
 use Rattle.cw_tmpl.specs.declared.blocks.Block.TheVariants as block
 use Rattle.cw_follow.specs.Placing.{EndsBlock}
-use Rattle.cw_tmpl.specs.Blocks.{use_of, with_number, with_variable, after_home, block_at, orders_left, left_at}
+use Rattle.cw_tmpl.specs.Blocks.{use_of, with_number, with_variable, after_home, after_frame_home, block_at, orders_left, left_at}
 use Rattle.cw_tmpl.proofs.Sizes.{size_to}
 
 -- ---- lists
@@ -74,9 +76,16 @@ home_ends f n (order.Load ∷ os) = variable_ends f n os
 home_ends f n (order.Store ∷ os) = (tt, tt)
 home_ends f n (x ∷ os) = tt
 
+frame_ends : (n : ℕ) (os : List Order) → AllEnd (orders_left (after_frame_home n (slice_get os 0))) os
+frame_ends n [] = tt
+frame_ends n (order.Load ∷ os) = (tt, tt)
+frame_ends n (order.Store ∷ os) = (tt, tt)
+frame_ends n (x ∷ os) = tt
+
 first_ends : (o : Order) (os : List Order) → AllEnd (orders_left (block_at 0 (o ∷ os))) os
 first_ends (order.Const w) os = number_ends w os
 first_ends (order.Home f n) os = home_ends f n os
+first_ends (order.FrameHome n) os = frame_ends n os
 first_ends _ os = tt
 
 next_ends : (left : ℕ) (o : Order) (os : List Order) → AllEnd left (o ∷ os) → AllEnd (orders_left (block_at left (o ∷ os))) os
@@ -114,6 +123,8 @@ Shape (block.Within n) list = ⊥
 Shape block.Single list = Unit {0}
 Shape (block.Fetch f n) list = (more : List Order) × (list ≡ order.Home f n ∷ order.Load ∷ more)
 Shape (block.Assign f n) list = (more : List Order) × (list ≡ order.Home f n ∷ order.Store ∷ more)
+Shape (block.FetchFrame n) list = (more : List Order) × (list ≡ order.FrameHome n ∷ order.Load ∷ more)
+Shape (block.AssignFrame n) list = (more : List Order) × (list ≡ order.FrameHome n ∷ order.Store ∷ more)
 Shape (block.Operate (simple.Number w) u) list = (more : List Order) × (list ≡ order.Const w ∷ order_of u ∷ more)
 Shape (block.Operate (simple.Variable f n) u) list = (more : List Order) × (list ≡ order.Home f n ∷ order.Load ∷ order_of u ∷ more)
 
@@ -137,10 +148,17 @@ home_shape f n (order.Load ∷ os) = variable_shape f n os
 home_shape f n (order.Store ∷ os) = (os, refl)
 home_shape f n (x ∷ os) = tt
 
+frame_shape : (n : ℕ) (os : List Order) → Shape (after_frame_home n (slice_get os 0)) (order.FrameHome n ∷ os)
+frame_shape n [] = tt
+frame_shape n (order.Load ∷ os) = (os, refl)
+frame_shape n (order.Store ∷ os) = (os, refl)
+frame_shape n (x ∷ os) = tt
+
 pub shape : (list : List Order) → Shape (block_at 0 list) list
 shape [] = tt
 shape (order.Const w ∷ os) = number_shape w os
 shape (order.Home f n ∷ os) = home_shape f n os
+shape (order.FrameHome n ∷ os) = frame_shape n os
 shape (x ∷ os) = tt
 
 -- ---- what the orders before the last one of a block do
@@ -150,10 +168,11 @@ chain (Changed v) f = f v
 chain (Refused kind) f = Refused kind
 chain Impossible f = Impossible
 
-module _ (p : OrderProgram) (g : ℕ) where
+module _ (p : OrderProgram) (g : ℕ) (acts : List OrderActivation) where
   abbrev pub puts_word : Order → Words → Outcome
   puts_word (order.Const n) w = Changed (put (signed n) w)
   puts_word (order.Home f n) w = Changed (put (signed (home_word p.addresses g f n)) w)
+  puts_word (order.FrameHome n) w = put_address (frame_word acts n) w
   puts_word order.Load w = unrefused (perform p.limits.area (Fetch None) w)
   puts_word _ w = Impossible
 
@@ -197,8 +216,13 @@ load_silent area (Word a ∷ rest) w = cases (is_below a area)
     cases true = changed_silent w (put (word_at w.memory (number_of a)) (with_operands w rest)) refl
     cases false = impossible_silent w
 
-pub is_silent : (p : OrderProgram) (g : ℕ) (o : Order) (w : Words) → IsSilent w (puts_word p g o w)
-is_silent p g (order.Const n) w = changed_silent w (put (signed n) w) refl
-is_silent p g (order.Home f n) w = changed_silent w (put (signed (home_word p.addresses g f n)) w) refl
-is_silent p g order.Load w = load_silent p.limits.area w.operands w
-is_silent p g _ w = impossible_silent w
+address_silent : (a : Option ℕ) (w : Words) → IsSilent w (put_address a w)
+address_silent None w = impossible_silent w
+address_silent (Some a) w = changed_silent w (put (signed a) w) refl
+
+pub is_silent : (p : OrderProgram) (g : ℕ) (acts : List OrderActivation) (o : Order) (w : Words) → IsSilent w (puts_word p g acts o w)
+is_silent p g acts (order.Const n) w = changed_silent w (put (signed n) w) refl
+is_silent p g acts (order.Home f n) w = changed_silent w (put (signed (home_word p.addresses g f n)) w) refl
+is_silent p g acts (order.FrameHome n) w = address_silent (frame_word acts n) w
+is_silent p g acts order.Load w = load_silent p.limits.area w.operands w
+is_silent p g acts _ w = impossible_silent w

@@ -2,6 +2,7 @@ pub mod Standing
 pub mod Fine
 pub mod Placement
 pub mod WordLaws
+pub mod Fields
 pub mod Rows
 pub mod Chains
 pub mod Routines
@@ -24,10 +25,12 @@ pub mod States
 pub mod Steps
 pub mod WordOrders
 pub mod BlockOrders
+pub mod FrameBlocks
 pub mod Bodies
 pub mod Dispatch
 pub mod Leaving
 pub mod Tables
+pub mod Variables
 pub mod Limits
 pub mod Naming
 pub mod Calling

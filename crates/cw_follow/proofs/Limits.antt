@@ -1,5 +1,5 @@
 -- What the code of a loop's limit does: the control variable is compared with the limit by the sign of the step.
-use Rattle.std.proofs.Common.{◌≡◌, ◌≢◌, ◌⊎◌, inl, inr, ℕ, zero, suc, ◌+◌, ◌-◌, ◌*◌, ◌%◌, ◌<◌, ◌≤◌, Bool, true, false, not, ℤ, pos, negsuc, List, [], ◌∷◌, length, refl, sym, ap, ap₂, ◌∙◌, subst, arith, lit<, lit≤}
+use Rattle.std.proofs.Common.{◌≡◌, ◌≢◌, ◌⊎◌, inl, inr, ℕ, zero, suc, ◌+◌, ◌-◌, ◌*◌, ◌%◌, ◌<◌, Bool, true, false, not, ℤ, pos, negsuc, List, [], ◌∷◌, refl, sym, ap, ap₂, ◌∙◌, subst, arith, lit<, lit≤}
 use Rattle.std.specs.Prelude.{bit_xor, nat_eq, int_lt}
 use Rattle.std.specs.List.{All}
 use Rattle.std.specs.Int.Bits.{xor_zero_r}
@@ -9,27 +9,28 @@ use Rattle.std.proofs.lemmas.Int.{ints}
 use Rattle.std.proofs.lemmas.List.Elements.{All-head, All-tail}
 use Rattle.cw_i86.specs.declared.instr.Instr.TheVariants as i86
 use Rattle.cw_run86.specs.Processor.{Processor}
-use Rattle.cw_run86.specs.Views.{View, with_number, Equal, AtMost, words_compare, sign_of, difference_overflows}
+use Rattle.cw_run86.specs.Views.{View, put_word, word_sum, Equal, AtMost, words_compare, sign_of, difference_overflows}
 use Rattle.cw_word.specs.FixedPoint.{FitsWord}
 use Rattle.cw_word.specs.Word.{unsigned}
-use Rattle.cw_unit.specs.Words.{Operand, Word, Held, Words, is_below, number_of, word_at}
+use Rattle.cw_unit.specs.Words.{Operand, Word, Held, is_below, number_of, word_at}
 use Rattle.cw_unit.specs.Operation.{is_past}
 use Rattle.cw_order.specs.declared.order.Comparator.TheVariants as comparator
 use Rattle.cw_order.specs.OrderChanges.{way_of_two, way_past_limit, to_mark_if}
-use Rattle.cw_order.specs.OrderProgram.{OrderProgram}
-use Rattle.cw_order.specs.OrderState.{OrderActivation}
+use Rattle.cw_order.specs.OrderState.{operand_words}
 use Rattle.cw_order.specs.FittingWords.{OperandFits}
-use Rattle.cw_tmpl.specs.Mnemonics.{near_field, double, move, one_of, compare, jump_if_equal, jump_if_at_most, load}
+use Rattle.cw_tmpl.specs.Mnemonics.{set_word, add, one_of, compare, jump_if_equal, jump_if_at_most, jump_to}
+use Rattle.cw_tmpl.specs.Library.{exhausted_place, exhausted_routine}
 use Rattle.cw_follow.proofs.Standing.{HasAll}
 use Rattle.cw_follow.proofs.WordLaws.{WordLaws}
-use Rattle.cw_follow.proofs.Rows.{Rows}
-use Rattle.cw_follow.proofs.Chains.{Is, IsCompared, Leads, view, to_place, near, compare as compares, compare_number, compared_pop, compared_jumps, compared_passes, compared_more, last}
-use Rattle.cw_follow.proofs.Straight.{Move, Double, Pop, LoadField, Sign, One, straight}
-use Rattle.cw_follow.proofs.Routines.{with_ax}
-use Rattle.cw_follow.proofs.Numbers.{opposite_is, fits_tested}
+use Rattle.cw_follow.proofs.Chains.{Is, IsCompared, Leads, view, to_place, near, jump_to as goes_to, compare as compares, compare_number, compared_pop, compared_jumps, compared_passes, more, compared_more, last}
+use Rattle.cw_follow.proofs.Straight.{Number, Pop, LoadField, Sum, Sign, One, straight}
+use Rattle.cw_follow.proofs.Routines.{exhausted_stands}
+use Rattle.cw_follow.proofs.Numbers.{opposite_is, fits_tested, unsigned_pos}
 use Rattle.cw_follow.proofs.Facts.{xor_all, fits_true, equal_words}
-use Rattle.cw_follow.proofs.Stacks.{record_of, top_is}
-use Rattle.cw_follow.proofs.Orders.{Landed, landed, Chooses, further}
+use Rattle.cw_follow.proofs.Stacks.{level, record_of, StackIs}
+use Rattle.cw_follow.proofs.Orders.{Landed, landed, kept_under, Chooses, further}
+use Rattle.cw_follow.proofs.Operands.{Setting, words, One as OneOn, one_there, LandedWith}
+use Rattle.cw_follow.proofs.Variables.{enters, under_way}
 use Rattle.cw_follow.proofs.Leaving.{past}
 
 -- ---- words turned bit by bit
@@ -95,70 +96,95 @@ by_step laws (negsuc n) x y fs fx fy ne =
     let z = sign_down n fs in
     compared_as laws (negsuc n) x y (turned x) (turned y) (turned_fits x fx) (turned_fits y fy) (ap (bit_xor (unsigned x)) z ∙ turned_word x fx) (ap (bit_xor (unsigned y)) z ∙ turned_word y fy) (turned_less x y)
 
-module _ (rows : Rows) (prog : OrderProgram) (image : List ℕ) (g line : ℕ) (acts : List OrderActivation) (memory : List ℤ) (input output : List ℕ) where
-  abbrev words : List Operand → Words
-  words operands = record { operands = operands; memory = memory; input = input; output = output }
-
-  -- the code, as far as the place behind it
-  abbrev pub LimitCode : (at by : ℕ) → Type 0
-  LimitCode at by =
-      HasAll image at (move 3 0 ∷ double 3 ∷ i86.Pop 1 ∷ load 0 (near_field 2) ∷ load 3 (near_field 4) ∷ i86.Cwd ∷ with_number 7 0 ∷ i86.Pop 0 ∷ jump_if_equal 11
-      ∷ one_of 1 2 ∷ one_of 3 2 ∷ compare 1 3 ∷ jump_if_at_most 3 ∷ i86.Jump by ∷ [])
+module _ (c : Setting) (memory : List ℤ) (input output : List ℕ) where
+  -- the call of the routine, and the jump behind it
+  abbrev LimitCode : (at by way : ℕ) → Type 0
+  LimitCode at by way = HasAll c.image at (i86.Call by ∷ i86.Jump way ∷ [])
 
   -- the words of a loop at an address, and the value of its variable below it
-  module _ {q : Processor} {at : ℕ} (by n : ℕ) (x : ℤ) (rest : List Operand) (low : prog.limits.area ≤ 32768) (within : n + 2 < prog.limits.area) (i : LimitCode at by)
-      (l : Landed prog image at g line acts (record { operands = Word (pos n) ∷ Word x ∷ rest; memory = memory; input = input; output = output }) q) where
+  module _ {q : Processor} {at : ℕ} (by way n : ℕ) (x : ℤ) (rest : List Operand) (within : n + 2 < c.program.limits.area) (arrives : (at + 3 + by) % 65536 ≡ exhausted_place % 65536) (i : LimitCode at by way)
+      (l : OneOn c memory input output at (pos n) (Word x ∷ rest) q) where
     abbrev s : ℤ
     s = word_at memory (n + 1)
 
     abbrev y : ℤ
     y = word_at memory (n + 2)
 
+    abbrev back : ℕ
+    back = (at + 3) % 65536
+
+    abbrev stacked : ℕ → ℕ
+    stacked = put_word l.stack l.top back
+
+    -- behind both operands
+    abbrev top : ℕ
+    top = suc (suc (suc l.top))
+
+    abbrev seen_with : (ax cx bx : ℕ) → (overflow : Bool) → View
+    seen_with ax cx bx overflow = view ax cx (sign_of (unsigned s)) bx (2 * top) (record_of c.acts) back l.di overflow l.cells stacked l.left l.told
+
+    h : HasAll c.image exhausted_place exhausted_routine
+    h = exhausted_stands c.library
+
+    held : (stacked (suc l.top) ≡ unsigned x) × StackIs c.program c.acts (stacked (suc (suc l.top))) stacked top rest
+    held = under_way c memory input output l.top back l.stack (pos n) (Word x ∷ rest) l.under
+
     -- the step is compared with 0, and AX has the next operand
-    loaded : n < 65536 → Leads output 8 q (IsCompared image (at + 2 + 2 + 1 + 3 + 3 + 1 + 3 + 1)
-        (view (l.stack (suc l.top)) (unsigned x) (sign_of (unsigned s)) (unsigned y) (2 * suc (suc l.top)) (record_of acts) l.stacked.si l.stacked.di (difference_overflows (unsigned s) 0) l.cells l.stack l.input l.told) (unsigned s) 0)
-    loaded small =
-        let z = l.stacked in
-        let t = top_is prog acts (l.stack (suc l.top)) l.stack (suc (suc l.top)) rest l.operands.1.1 in
-        let ax : z.ax ≡ n = l.operands.0 ∙ (omega (arith, ints)) in
-        let top_low : l.top < 32767 = omega arith in
-        let top : 2 * l.top ≡ 2 * l.top % 65536 = omega arith in
-        let next_low : suc l.top < 32768 = omega arith in
-        let next : 2 * suc l.top ≡ 2 * suc l.top % 65536 = omega arith in
-        let over : 2 * suc (suc l.top) % 65536 ≡ 2 * suc (suc l.top) = omega arith in
-        let n_low : n < 32768 = omega arith in
+    loaded : Leads output 10 q (IsCompared c.image 351 (seen_with (stacked (suc (suc l.top))) (unsigned x) (unsigned y) (difference_overflows (unsigned s) 0)) (unsigned s) 0)
+    loaded =
+        let area_low = c.low in
+        let low = l.low in
+        let kept = l.kept in
+        let same : unsigned (pos n) ≡ n = unsigned_pos n (omega arith) in
+        let small : unsigned (pos n) < 32768 = omega arith in
+        let first : suc l.top < 32767 = omega arith in
+        let sp : 2 * suc l.top ≡ 2 * suc l.top % 65536 = omega arith in
+        let second : suc (suc l.top) < 32768 = omega arith in
+        let sp' : 2 * suc (suc l.top) ≡ 2 * suc (suc l.top) % 65536 = omega arith in
+        let over : 2 * top % 65536 ≡ 2 * top = omega arith in
         let k1 : n + 1 < 32768 = omega arith in
         let k2 : n + 2 < 32768 = omega arith in
-        let a1 : (2 * n + 2) % 65536 ≡ 2 * (n + 1) = omega arith in
-        let a2 : (2 * n + 4) % 65536 ≡ 2 * (n + 2) = omega arith in
-        let pieces = Move 3 0 ∷ Double 3 ∷ Pop 1 l.top (unsigned x) ∷ LoadField 0 2 (n + 1) (unsigned s) ∷ LoadField 3 4 (n + 2) (unsigned y) ∷ Sign ∷ [] in
-        straight rows pieces {n = 2} l.kept.wrote (i.0, (i.1.0, (i.1.1.0, (i.1.1.1.0, (i.1.1.1.1.0, (i.1.1.1.1.1.0, tt))))))
-        (tt, (n_low, ((top_low, top, l.operands.1.0), ((k1, a1, l.kept.words (n + 1) (omega arith)), ((k2, a2, l.kept.words (n + 2) (omega arith)), (tt, tt)))))) (with_ax ax z.is) (λ r t.
-        compared_more rows {Between = IsCompared image (at + 2 + 2 + 1 + 3 + 3 + 1 + 3) (view (unsigned s) (unsigned x) (sign_of (unsigned s)) (unsigned y) (2 * suc l.top) (record_of acts) z.si z.di (difference_overflows (unsigned s) 0) l.cells l.stack l.input l.told) (unsigned s) 0}
-        t l.kept.wrote (compare_number rows 0 i.1.1.1.1.1.1.0 t) (λ r c.
-        last rows c.is l.kept.wrote (compared_pop rows 0 (suc l.top) (2 * suc (suc l.top)) next_low next over i.1.1.1.1.1.1.1.0 c)))
+        let a1 : (2 * unsigned (pos n) + 2) % 65536 ≡ 2 * (n + 1) = omega arith in
+        let a2 : (2 * unsigned (pos n) + 4) % 65536 ≡ 2 * (n + 2) = omega arith in
+        let g = h.1.1.1 in
+        past {m = 4} {n = 6} (enters c memory input output exhausted_place by l.top (pos n) small low arrives kept.wrote i.0 (h.0, (h.1.0, (h.1.1.0, tt))) l.is) (λ r t.
+        straight c.rows (Pop 1 (suc l.top) (unsigned x) ∷ LoadField 0 2 (n + 1) (unsigned s) ∷ LoadField 3 4 (n + 2) (unsigned y) ∷ Sign ∷ []) {n = 2} kept.wrote (g.0, (g.1.0, (g.1.1.0, (g.1.1.1.0, tt))))
+        ((first, sp, held.0), ((k1, a1, kept.words (n + 1) (omega arith)), ((k2, a2, kept.words (n + 2) (omega arith)), (tt, tt)))) t (λ r t.
+        compared_more c.rows {Between = IsCompared c.image 350 (view (unsigned s) (unsigned x) (sign_of (unsigned s)) (unsigned y) (2 * suc (suc l.top)) (record_of c.acts) back l.di (difference_overflows (unsigned s) 0) l.cells stacked l.left l.told) (unsigned s) 0}
+        t kept.wrote (compare_number c.rows 0 g.1.1.1.1.0 t) (λ r u.
+        last c.rows u.is kept.wrote (compared_pop c.rows 0 (suc (suc l.top)) (2 * top) second sp' over g.1.1.1.1.1.0 u))))
 
-    -- behind all
-    behind_all : {r : Processor} {at' cx dx bx : ℕ} {o : Bool} (to : ℕ) → at' % 65536 ≡ to % 65536 → Is image at' (view (l.stack (suc l.top)) cx dx bx (2 * suc (suc l.top)) (record_of acts) l.stacked.si l.stacked.di o l.cells l.stack l.input l.told) r
-        → Landed prog image to g line acts (words rest) r
-    behind_all to e t = landed rows prog image g line acts to (suc (suc l.top)) rest memory input output refl l.operands.1.1 l.kept (to_place e t)
+    -- behind the comparison of the step with 0
+    g : HasAll c.image 351 (jump_if_equal 10 ∷ one_of 1 2 ∷ one_of 3 2 ∷ compare 1 3 ∷ jump_if_at_most 2 ∷ jump_to 6 ∷ set_word 3 3 ∷ add 6 3 ∷ jump_to 6 ∷ [])
+    g = h.1.1.1.1.1.1.1.1.1
 
-    limits : (to m : ℕ) (start : ℕ → ℕ) → at + 29 ≡ to → (at + 29 + by) % 65536 ≡ start m % 65536 → FitsWord s → FitsWord x → FitsWord y
-        → Chooses prog image 20 to start g line acts output q (to_mark_if (is_past s x y) m (words rest))
-    limits to m start e arrives fs fx fy = cases (zero_or_some s)
+    -- both operands are taken
+    lands : {r : Processor} {cx bx si : ℕ} {o : Bool} (to : ℕ) → Is c.image to (view (stacked (suc (suc l.top))) cx (sign_of (unsigned s)) bx (2 * top) (record_of c.acts) si l.di o l.cells stacked l.left l.told) r
+        → Landed c.program c.image to c.g c.line c.acts (words rest memory input output) r
+    lands to t = landed c.rows c.program c.image c.g c.line c.acts to top rest memory input output refl held.1 (kept_under l.top back l.low l.kept) t
+
+    -- past the jump, where the value is not past the limit
+    passes_on : {r : Processor} {cx bx : ℕ} {o : Bool} (to : ℕ) → at + 6 ≡ to → Is c.image 363 (seen_with (stacked (suc (suc l.top))) cx bx o) r → Leads output 3 r (Landed c.program c.image to c.g c.line c.acts (words rest memory input output))
+    passes_on to e t =
+        let there : word_sum back 3 ≡ to % 65536 = omega arith in
+        let i = g.1.1.1.1.1.1 in
+        straight c.rows (Number 3 3 ∷ Sum 6 3 ∷ []) {n = 1} l.kept.wrote (i.0, (i.1.0, tt)) (tt, (tt, tt)) t (λ r t.
+        last c.rows t l.kept.wrote (lands to (goes_to c.rows 6 to there i.1.1.0 t)))
+
+    -- through the jump, where it is
+    jumps_on : {r : Processor} {cx bx : ℕ} {o : Bool} (to : ℕ) → (at + 6 + way) % 65536 ≡ to % 65536 → Is c.image 361 (seen_with (stacked (suc (suc l.top))) cx bx o) r → Leads output 2 r (Landed c.program c.image to c.g c.line c.acts (words rest memory input output))
+    jumps_on {r} {cx} {bx} {o} to e t =
+        let there : (at + 3 + 3 + way) % 65536 ≡ to % 65536 = omega arith in
+        let whole : back ≡ (at + 3) % 65536 = refl in
+        more c.rows {to = at + 3} {w = seen_with (stacked (suc (suc l.top))) cx bx o} t l.kept.wrote (goes_to c.rows 6 (at + 3) whole g.1.1.1.1.1.0 t) (λ r t.
+        last c.rows t l.kept.wrote (lands to (to_place there (near c.rows way i.1.0 t))))
+
+    limits : (to m : ℕ) (start : ℕ → ℕ) → at + 6 ≡ to → (at + 6 + way) % 65536 ≡ start m % 65536 → FitsWord s → FitsWord x → FitsWord y
+        → Chooses c.program c.image 20 to start c.g c.line c.acts output q (to_mark_if (is_past s x y) m (words rest memory input output))
+    limits to m start e goes fs fx fy = cases (zero_or_some s)
       where
-        small : n < 65536
-        small = omega arith
-
         ls : unsigned s < 65536
-        ls = rows.words.unsigned_fits s fs
-
-        -- the view behind the jump for a step of 0, and the one in which the words are turned
-        before : ℕ
-        before = at + 2 + 2 + 1 + 3 + 3 + 1 + 3 + 1
-
-        tested : View
-        tested = view (l.stack (suc l.top)) (unsigned x) (sign_of (unsigned s)) (unsigned y) (2 * suc (suc l.top)) (record_of acts) l.stacked.si l.stacked.di (difference_overflows (unsigned s) 0) l.cells l.stack l.input l.told
+        ls = c.rows.words.unsigned_fits s fs
 
         a : ℕ
         a = bit_xor (unsigned x) (sign_of (unsigned s))
@@ -166,55 +192,55 @@ module _ (rows : Rows) (prog : OrderProgram) (image : List ℕ) (g line : ℕ) (
         b : ℕ
         b = bit_xor (unsigned y) (sign_of (unsigned s))
 
-        both : View
-        both = view (l.stack (suc l.top)) a (sign_of (unsigned s)) b (2 * suc (suc l.top)) (record_of acts) l.stacked.si l.stacked.di (difference_overflows a b) l.cells l.stack l.input l.told
-
         -- as far as the comparison
-        compared : s ≢ pos 0 → Leads output 12 q (IsCompared image (at + 2 + 2 + 1 + 3 + 3 + 1 + 3 + 1 + 2 + 2 + 2 + 2) both a b)
+        compared : s ≢ pos 0 → Leads output 14 q (IsCompared c.image 359 (seen_with (stacked (suc (suc l.top))) a b (difference_overflows a b)) a b)
         compared some =
-            past {m = 8} {n = 4} (loaded small) (λ r c.
-            compared_more rows {Between = Is image (before + 2) tested} c.is l.kept.wrote (compared_passes rows Equal 11 ls (lit< tt) (equal_words (unsigned s) 0 ls (lit< tt) ∙ step_some s fs some) i.1.1.1.1.1.1.1.1.0 c) (λ r t.
-            straight rows (One 1 2 ∷ One 3 2 ∷ []) {n = 1} l.kept.wrote (i.1.1.1.1.1.1.1.1.1.0, (i.1.1.1.1.1.1.1.1.1.1.0, tt)) (tt, (tt, tt)) t (λ r t.
-            last rows t l.kept.wrote (compares rows 1 3 i.1.1.1.1.1.1.1.1.1.1.1.0 t))))
+            past {m = 10} {n = 4} loaded (λ r u.
+            compared_more c.rows {Between = Is c.image 353 (seen_with (stacked (suc (suc l.top))) (unsigned x) (unsigned y) (difference_overflows (unsigned s) 0))} u.is l.kept.wrote
+            (compared_passes c.rows Equal 10 ls (lit< tt) (equal_words (unsigned s) 0 ls (lit< tt) ∙ step_some s fs some) g.0 u) (λ r t.
+            straight c.rows (One 1 2 ∷ One 3 2 ∷ []) {n = 1} l.kept.wrote (g.1.0, (g.1.1.0, tt)) (tt, (tt, tt)) t (λ r t.
+            last c.rows t l.kept.wrote (compares c.rows 1 3 g.1.1.1.0 t))))
 
-        chosen : (past_limit : Bool) → is_past s x y ≡ past_limit → s ≢ pos 0 → Chooses prog image 20 to start g line acts output q (to_mark_if past_limit m (words rest))
+        chosen : (past_limit : Bool) → is_past s x y ≡ past_limit → s ≢ pos 0 → Chooses c.program c.image 20 to start c.g c.line c.acts output q (to_mark_if past_limit m (words rest memory input output))
         chosen true is some =
-            let f = by_step rows.words s x y fs fx fy some in
-            let there : (before + 2 + 2 + 2 + 2 + 2 + 3 + by) % 65536 ≡ start m % 65536 = omega arith in
-            further 14 (lit≤ tt) (lit< tt)
-            (past {m = 12} {n = 2} (compared some) (λ r c.
-            compared_more rows {Between = Is image (before + 2 + 2 + 2 + 2 + 2) both} c.is l.kept.wrote (compared_passes rows AtMost 3 f.left f.right (f.is ∙ ap not is) i.1.1.1.1.1.1.1.1.1.1.1.1.0 c) (λ r t.
-            last rows t l.kept.wrote (behind_all (start m) there (near rows by i.1.1.1.1.1.1.1.1.1.1.1.1.1.0 t)))))
+            let f = by_step c.rows.words s x y fs fx fy some in
+            further 17 (lit≤ tt) (lit< tt)
+            (past {m = 14} {n = 3} (compared some) (λ r u.
+            compared_more c.rows {Between = Is c.image 361 (seen_with (stacked (suc (suc l.top))) a b (difference_overflows a b))} u.is l.kept.wrote (compared_passes c.rows AtMost 2 f.left f.right (f.is ∙ ap not is) g.1.1.1.1.0 u) (λ r t.
+            jumps_on (start m) goes t)))
         chosen false is some =
-            let f = by_step rows.words s x y fs fx fy some in
-            let there : (before + 2 + 2 + 2 + 2 + 2 + 3) % 65536 ≡ to % 65536 = omega arith in
-            further 13 (lit≤ tt) (lit< tt)
-            (past {m = 12} {n = 1} (compared some) (λ r c.
-            last rows c.is l.kept.wrote (behind_all to there (compared_jumps rows AtMost 3 f.left f.right (f.is ∙ ap not is) i.1.1.1.1.1.1.1.1.1.1.1.1.0 c))))
+            let f = by_step c.rows.words s x y fs fx fy some in
+            further 18 (lit≤ tt) (lit< tt)
+            (past {m = 14} {n = 4} (compared some) (λ r u.
+            compared_more c.rows {Between = Is c.image 363 (seen_with (stacked (suc (suc l.top))) a b (difference_overflows a b))} u.is l.kept.wrote (compared_jumps c.rows AtMost 2 f.left f.right (f.is ∙ ap not is) g.1.1.1.1.0 u) (λ r t.
+            passes_on to e t)))
 
-        cases : (s ≡ pos 0) ⊎ (s ≢ pos 0) → Chooses prog image 20 to start g line acts output q (to_mark_if (is_past s x y) m (words rest))
+        cases : (s ≡ pos 0) ⊎ (s ≢ pos 0) → Chooses c.program c.image 20 to start c.g c.line c.acts output q (to_mark_if (is_past s x y) m (words rest memory input output))
         cases (inr some) = chosen (is_past s x y) refl some
         cases (inl none) =
-            let there : (before + 2 + 11) % 65536 ≡ to % 65536 = omega arith in
             let zero_is : nat_eq (unsigned s) 0 ≡ true = ap (λ z. nat_eq (unsigned z) 0) none in
-            subst (λ b. Chooses prog image 20 to start g line acts output q (to_mark_if b m (words rest))) (sym (ap (λ z. is_past z x y) none))
-            (further 9 (lit≤ tt) (lit< tt)
-            (past {m = 8} {n = 1} (loaded small) (λ r c.
-            last rows c.is l.kept.wrote (behind_all to there (compared_jumps rows Equal 11 ls (lit< tt) (equal_words (unsigned s) 0 ls (lit< tt) ∙ zero_is) i.1.1.1.1.1.1.1.1.0 c)))))
+            subst (λ b. Chooses c.program c.image 20 to start c.g c.line c.acts output q (to_mark_if b m (words rest memory input output))) (sym (ap (λ z. is_past z x y) none))
+            (further 14 (lit≤ tt) (lit< tt)
+            (past {m = 10} {n = 4} loaded (λ r u.
+            compared_more c.rows {Between = Is c.image 363 (seen_with (stacked (suc (suc l.top))) (unsigned x) (unsigned y) (difference_overflows (unsigned s) 0))} u.is l.kept.wrote
+            (compared_jumps c.rows Equal 10 ls (lit< tt) (equal_words (unsigned s) 0 ls (lit< tt) ∙ zero_is) g.0 u) (λ r t.
+            passes_on to e t))))
 
   -- the order: where there are no such operands, or the words of the loop are not in the area, nothing is asked
-  pub exhausts : {q : Processor} {at : ℕ} (to by m : ℕ) (start : ℕ → ℕ) (operands : List Operand) → prog.limits.area ≤ 32768 → length memory ≡ prog.limits.area → at + 29 ≡ to → (at + 29 + by) % 65536 ≡ start m % 65536 → All OperandFits operands → All FitsWord memory
-      → LimitCode at by → Landed prog image at g line acts (words operands) q
-      → Chooses prog image 20 to start g line acts output q (way_of_two (λ x a v. way_past_limit (is_below a (prog.limits.area - 2)) m x (number_of a) v) (words operands))
-  exhausts to by m start [] low long e arrives fits all i l = tt
-  exhausts to by m start (Held c ∷ rest) low long e arrives fits all i l = tt
-  exhausts to by m start (Word a ∷ []) low long e arrives fits all i l = tt
-  exhausts to by m start (Word a ∷ Held c ∷ rest) low long e arrives fits all i l = tt
-  exhausts to by m start (Word (negsuc n) ∷ Word x ∷ rest) low long e arrives fits all i l = tt
-  exhausts {q} {at} to by m start (Word (pos n) ∷ Word x ∷ rest) low long e arrives fits all i l = cases (is_below (pos n) (prog.limits.area - 2)) refl
+  pub exhausts : {q : Processor} {at : ℕ} (to by way m : ℕ) (start : ℕ → ℕ) (operands : List Operand) → at + 6 ≡ to → (at + 3 + by) % 65536 ≡ exhausted_place % 65536 → (at + 6 + way) % 65536 ≡ start m % 65536 → operand_words operands < level c.acts → All OperandFits operands → All FitsWord memory
+      → LimitCode at by way → LandedWith c memory input output at operands q
+      → Chooses c.program c.image 20 to start c.g c.line c.acts output q (way_of_two (λ x a v. way_past_limit (is_below a (c.program.limits.area - 2)) m x (number_of a) v) (words operands memory input output))
+  exhausts to by way m start [] e arrives goes roomy fits all i l = tt
+  exhausts to by way m start (Held d ∷ rest) e arrives goes roomy fits all i l = tt
+  exhausts to by way m start (Word a ∷ []) e arrives goes roomy fits all i l = tt
+  exhausts to by way m start (Word a ∷ Held d ∷ rest) e arrives goes roomy fits all i l = tt
+  exhausts to by way m start (Word (negsuc n) ∷ Word x ∷ rest) e arrives goes roomy fits all i l = tt
+  exhausts {q} {at} to by way m start (Word (pos n) ∷ Word x ∷ rest) e arrives goes roomy fits all i l = cases (is_below (pos n) (c.program.limits.area - 2)) refl
     where
-      cases : (b : Bool) → is_below (pos n) (prog.limits.area - 2) ≡ b → Chooses prog image 20 to start g line acts output q (way_past_limit b m x n (words rest))
+      cases : (b : Bool) → is_below (pos n) (c.program.limits.area - 2) ≡ b → Chooses c.program c.image 20 to start c.g c.line c.acts output q (way_past_limit b m x n (words rest memory input output))
       cases false is = tt
       cases true is =
-          let less : n < prog.limits.area - 2 = ltb-true n (prog.limits.area - 2) is in
-          limits by n x rest low (omega arith) i l to m start e arrives (all (n + 1) (pos 0) (omega arith)) (All-head OperandFits (Word x) rest (All-tail OperandFits (Word (pos n)) (Word x ∷ rest) fits)) (all (n + 2) (pos 0) (omega arith))
+          let less : n < c.program.limits.area - 2 = ltb-true n (c.program.limits.area - 2) is in
+          let long = l.kept.long in
+          limits by way n x rest (omega arith) arrives i (one_there c memory input output (pos n) (Word x ∷ rest) roomy l) to m start e goes (all (n + 1) (pos 0) (omega arith))
+          (All-head OperandFits (Word x) rest (All-tail OperandFits (Word (pos n)) (Word x ∷ rest) fits)) (all (n + 2) (pos 0) (omega arith))

@@ -11,21 +11,21 @@ use Rattle.cw_order.specs.declared.order.Orders.{Orders}
 use Rattle.cw_order.specs.OrderProgram.{OrderProgram, order_in, order_at}
 use Rattle.cw_tmpl.specs.declared.pieces.Coded.{Coded}
 use Rattle.cw_tmpl.specs.Pieces.{Filling, blanks, filled}
-use Rattle.cw_tmpl.specs.Mnemonics.{slot, line_slot, top_slot, compare, jump_to, jump_if_below, load, set_word, subtract, move, add, shift_up, shift_down}
-use Rattle.cw_tmpl.specs.Library.{start_routine, stop_routine, stop_end, routines, joined, past, library_bytes, entry_place, stop_place, enter_routine, turn_count, product_routine, magnitudes, quotient_down_place, quotient_down_routine, quotient_up_place, quotient_up_routine, quotient_end}
+use Rattle.cw_tmpl.specs.Mnemonics.{slot, line_slot, top_slot, at_bx, compare, jump_to, jump_if_below, jump_if_no_overflow, jump_if_at_most, load, store, set_word, subtract, move, add, double, one_of, shift_up, shift_down}
+use Rattle.cw_tmpl.specs.Library.{start_routine, stop_routine, stop_end, routines, joined, past, library_bytes, entry_place, stop_place, enter_routine, turn_count, product_routine, magnitudes, quotient_down_place, quotient_down_routine, quotient_up_place, quotient_up_routine, quotient_end, call_stop, loop_reached, variable_reached, in_area_routine, set_variable_place, set_variable_routine, add_step_place, add_step_routine, put_variable_place, put_variable_routine, exhausted_routine}
 use Rattle.cw_tmpl.specs.Templates.{block_pieces, entry_pieces, landing_pieces, switch_pieces}
 use Rattle.cw_tmpl.specs.Blocks.{block_at, left_at}
 use Rattle.cw_tmpl.specs.Names.{Names, mark_place, landing_start, switch_start, switch_size}
 use Rattle.cw_tmpl.specs.ReferenceCode.{templates, landings, switches, switch_places, landings_place, switches_place, names_of, pieces_of, entry_size}
 use Rattle.cw_follow.specs.Placing.{Fills, total_size, base_of, place_after, AreCodes, no_code, a_code, IsImage, Codable}
-use Rattle.cw_follow.proofs.Fine.{AllInstr, all_instr-append, all_there, AllFine, pieces_there, OrderFits, NumberFits, fits_at, IsFree, is_ax, is_bx, ax_free, bx_free, entry_fine, base_fine, switch_fine, block_fine}
+use Rattle.cw_follow.proofs.Fine.{AllInstr, all_instr-append, all_there, AllFine, pieces_there, OrderFits, NumberFits, fits_at, IsFree, is_ax, is_bx, ax_free, bx_free, cx_free, si_free, entry_fine, base_fine, switch_fine, block_fine}
 use Rattle.cw_tmpl.proofs.Growing.{blanks-append}
 use Rattle.cw_tmpl.proofs.Filling.{filled-append, length-filled}
 use Rattle.cw_tmpl.proofs.Sizes.{in_middle, own_place, size_to, size_of_templates, size_of_landings, size_of_switch, landings_at}
 use Rattle.cw_follow.proofs.Standing.{HasPieces, order_place, pieces_at, Stands, AllStand}
 use Rattle.cw_i86.specs.declared.instr.Instr.TheVariants as i86
 use Rattle.cw_i86.specs.declared.instr.Imm.TheVariants as imm
-use Rattle.cw_unit.specs.Stop.{ZeroDivisor}
+use Rattle.cw_unit.specs.Stop.{Overflow, ZeroDivisor, AddressRange}
 
 -- ---- one segment
 
@@ -286,9 +286,7 @@ turn_instrs = ((dil, lit< tt), ((lit< tt, dil, cl), ((cl, dil), tt)))
 enter_instrs : AllInstr enter_routine
 enter_instrs =
     let bp_free : IsFree 5 = (lit< tt, λ e. omega arith) in
-    let cx_free : IsFree 1 = (cl, λ e. omega arith) in
     let dx_free : IsFree 2 = (dl, λ e. omega arith) in
-    let si_free : IsFree 6 = (sl, λ e. omega arith) in
     let di_free : IsFree 7 = (dil, λ e. omega arith) in
     let record_made : AllInstr (i86.Push 5 ∷ move 5 4 ∷ i86.Push 3 ∷ i86.MovRm (slot line_slot) (imm.Word 0) ∷ i86.Push 2 ∷ i86.Push 1 ∷ i86.Push 7 ∷ i86.Push 0 ∷ jump_to 6 ∷ []) =
     (bp_free, ((lit< tt, lit< tt), (bx_free, (((lit< tt, lit< tt), lit< tt), (dx_free, (cx_free, (di_free, (ax_free, (sl, tt))))))))) in
@@ -338,6 +336,56 @@ quotient_up_instrs =
     all_instr-append (magnitudes (quotient_up_place + 10)) (move 2 0 ∷ shift_up 0 ∷ (turn_count ++ (shift_down 2 ∷ quotient_end))) (magnitudes_instrs (quotient_up_place + 10) (lit< tt))
     ((dl, is_ax), ((lit< tt, λ e. omega arith, is_ax), all_instr-append turn_count (shift_down 2 ∷ quotient_end) turn_instrs ((lit< tt, λ e. omega arith, dl), quotient_end_instrs)))
 
+-- a word at BX, and BX doubled
+at_bx_instr : (r : ℕ) → r < 8 → IsInstr (load r at_bx)
+at_bx_instr r lt = (lt, (lit< tt, λ e. omega arith))
+
+bx_doubled : IsInstr (double 3)
+bx_doubled = (lit< tt, λ e. omega arith, is_bx)
+
+loop_reached_instrs : AllInstr loop_reached
+loop_reached_instrs = (si_free, ((is_bx, is_ax), (bx_doubled, tt)))
+
+variable_reached_instrs : (behind : ℕ) → stop_place AddressRange + (65536 - behind) < 65536 → AllInstr (variable_reached behind)
+variable_reached_instrs behind near = ((lit< tt, is_bx, dl), ((lit< tt, lit< tt), (near, (bx_doubled, tt))))
+
+in_area_instrs : AllInstr in_area_routine
+in_area_instrs = ((lit< tt, is_ax, dl), ((lit< tt, lit< tt), (lit< tt, (tt, tt))))
+
+set_variable_instrs : AllInstr set_variable_routine
+set_variable_instrs =
+    let stored : AllInstr (i86.Pop 0 ∷ store at_bx 0 ∷ i86.Pop 0 ∷ jump_to 6 ∷ []) = (ax_free, (at_bx_instr 0 is_ax, (ax_free, (sl, tt)))) in
+    let reached = all_instr-append (variable_reached (set_variable_place + 14)) (i86.Pop 0 ∷ store at_bx 0 ∷ i86.Pop 0 ∷ jump_to 6 ∷ []) (variable_reached_instrs (set_variable_place + 14) (lit< tt)) stored in
+    (loop_reached_instrs.0, (loop_reached_instrs.1.0, (loop_reached_instrs.1.1.0, (at_bx_instr 3 is_bx, reached))))
+
+add_step_instrs : AllInstr add_step_routine
+add_step_instrs =
+    let summed : AllInstr (load 0 at_bx ∷ add 0 1 ∷ jump_if_no_overflow 3 ∷ call_stop Overflow (add_step_place + 28) ∷ store at_bx 0 ∷ i86.Pop 0 ∷ jump_to 6 ∷ []) =
+    (at_bx_instr 0 is_ax, ((lit< tt, is_ax, cl), ((lit< tt, lit< tt), (lit< tt, (at_bx_instr 0 is_ax, (ax_free, (sl, tt))))))) in
+    let reached = all_instr-append (variable_reached (add_step_place + 17)) (load 0 at_bx ∷ add 0 1 ∷ jump_if_no_overflow 3 ∷ call_stop Overflow (add_step_place + 28) ∷ store at_bx 0 ∷ i86.Pop 0 ∷ jump_to 6 ∷ []) (variable_reached_instrs (add_step_place + 17) (lit< tt)) summed in
+    (loop_reached_instrs.0, (loop_reached_instrs.1.0, (loop_reached_instrs.1.1.0, ((cl, (lit< tt, lit< tt)), (at_bx_instr 3 is_bx, reached)))))
+
+put_variable_instrs : AllInstr put_variable_routine
+put_variable_instrs =
+    let pushed : AllInstr (load 1 at_bx ∷ i86.Push 1 ∷ jump_to 6 ∷ []) = (at_bx_instr 1 cl, (cx_free, (sl, tt))) in
+    let reached = all_instr-append (variable_reached (put_variable_place + 14)) (load 1 at_bx ∷ i86.Push 1 ∷ jump_to 6 ∷ []) (variable_reached_instrs (put_variable_place + 14) (lit< tt)) pushed in
+    (loop_reached_instrs.0, (loop_reached_instrs.1.0, (loop_reached_instrs.1.1.0, (at_bx_instr 3 is_bx, reached))))
+
+exhausted_instrs : AllInstr exhausted_routine
+exhausted_instrs =
+    let on_and_past : AllInstr (jump_to 6 ∷ set_word 3 3 ∷ add 6 3 ∷ jump_to 6 ∷ []) = (sl, ((is_bx, lit< tt), ((lit< tt, sl, is_bx), (sl, tt)))) in
+    let turned : AllInstr (one_of 1 2 ∷ one_of 3 2 ∷ compare 1 3 ∷ jump_if_at_most 2 ∷ jump_to 6 ∷ set_word 3 3 ∷ add 6 3 ∷ jump_to 6 ∷ []) =
+    ((lit< tt, cl, dl), ((lit< tt, is_bx, dl), ((lit< tt, cl, is_bx), ((lit< tt, lit< tt), on_and_past)))) in (
+      loop_reached_instrs.0,
+      (
+        loop_reached_instrs.1.0,
+        (
+          loop_reached_instrs.1.1.0,
+          (cx_free, ((is_ax, (lit< tt, lit< tt)), ((is_bx, (lit< tt, lit< tt)), (tt, ((lit< tt, lit< tt), (ax_free, ((lit< tt, lit< tt), turned))))))),
+        ),
+      ),
+    )
+
 library_instrs : AllInstr (past ∷ joined routines)
 library_instrs = (
   lit< tt,
@@ -359,7 +407,7 @@ library_instrs = (
                   stop_instrs 6 4 (lit< tt) (lit< tt),
                   (
                     all_instr-append (stop_routine 7 0) stop_end (stop_instrs 7 0 (lit< tt) (lit< tt)) stop_end_instrs,
-                    (enter_instrs, (product_instrs, (quotient_down_instrs, (quotient_up_instrs, tt)))),
+                    (enter_instrs, (product_instrs, (quotient_down_instrs, (quotient_up_instrs, (in_area_instrs, (set_variable_instrs, (add_step_instrs, (put_variable_instrs, (exhausted_instrs, tt))))))))),
                   ),
                 ),
               ),

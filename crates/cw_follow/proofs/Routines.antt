@@ -10,7 +10,7 @@ use Rattle.cw_run86.specs.Views.{View, Has, put_word, word_difference, differenc
 use Rattle.cw_unit.specs.Stop.{StopKind, Overflow, ZeroDivisor, SwitchRange, AddressRange, FramesFull, DepthReached, IndexRange, stop_number, Stopped, Ended}
 use Rattle.cw_unit.specs.Behaviour.{Observation}
 use Rattle.cw_follow.specs.Showing.{shown_as}
-use Rattle.cw_tmpl.specs.Library.{routines, joined, stop_end, past, start_routine, stop_routine, stop_place, enter_routine, product_place, product_routine, quotient_down_place, quotient_down_routine, quotient_up_place, quotient_up_routine}
+use Rattle.cw_tmpl.specs.Library.{routines, joined, stop_end, past, start_routine, stop_routine, stop_place, enter_routine, product_place, product_routine, quotient_down_place, quotient_down_routine, quotient_up_place, quotient_up_routine, in_area_place, in_area_routine, set_variable_place, set_variable_routine, add_step_place, add_step_routine, put_variable_place, put_variable_routine, exhausted_place, exhausted_routine}
 use Rattle.cw_order.specs.OrderProgram.{OrderProgram}
 use Rattle.cw_tmpl.specs.Pieces.{Filling}
 use Rattle.cw_tmpl.specs.Templates.{entry_pieces}
@@ -75,8 +75,38 @@ behind_product {image} h = has_back image product_place product_routine (joined 
 pub quotient_down_stands : {image : List ℕ} → LibraryStands image → HasAll image quotient_down_place quotient_down_routine
 quotient_down_stands {image} h = has_front image quotient_down_place quotient_down_routine (joined (drop 12 routines)) (behind_product h)
 
+behind_quotient_down : {image : List ℕ} → LibraryStands image → HasAll image quotient_up_place (joined (drop 12 routines))
+behind_quotient_down {image} h = has_back image quotient_down_place quotient_down_routine (joined (drop 12 routines)) (behind_product h)
+
 pub quotient_up_stands : {image : List ℕ} → LibraryStands image → HasAll image quotient_up_place quotient_up_routine
-quotient_up_stands {image} h = has_front image quotient_up_place quotient_up_routine [] (has_back image quotient_down_place quotient_down_routine (joined (drop 12 routines)) (behind_product h))
+quotient_up_stands {image} h = has_front image quotient_up_place quotient_up_routine (joined (drop 13 routines)) (behind_quotient_down h)
+
+behind_quotient_up : {image : List ℕ} → LibraryStands image → HasAll image in_area_place (joined (drop 13 routines))
+behind_quotient_up {image} h = has_back image quotient_up_place quotient_up_routine (joined (drop 13 routines)) (behind_quotient_down h)
+
+pub in_area_stands : {image : List ℕ} → LibraryStands image → HasAll image in_area_place in_area_routine
+in_area_stands {image} h = has_front image in_area_place in_area_routine (joined (drop 14 routines)) (behind_quotient_up h)
+
+behind_in_area : {image : List ℕ} → LibraryStands image → HasAll image set_variable_place (joined (drop 14 routines))
+behind_in_area {image} h = has_back image in_area_place in_area_routine (joined (drop 14 routines)) (behind_quotient_up h)
+
+pub set_variable_stands : {image : List ℕ} → LibraryStands image → HasAll image set_variable_place set_variable_routine
+set_variable_stands {image} h = has_front image set_variable_place set_variable_routine (joined (drop 15 routines)) (behind_in_area h)
+
+behind_set_variable : {image : List ℕ} → LibraryStands image → HasAll image add_step_place (joined (drop 15 routines))
+behind_set_variable {image} h = has_back image set_variable_place set_variable_routine (joined (drop 15 routines)) (behind_in_area h)
+
+pub add_step_stands : {image : List ℕ} → LibraryStands image → HasAll image add_step_place add_step_routine
+add_step_stands {image} h = has_front image add_step_place add_step_routine (joined (drop 16 routines)) (behind_set_variable h)
+
+behind_add_step : {image : List ℕ} → LibraryStands image → HasAll image put_variable_place (joined (drop 16 routines))
+behind_add_step {image} h = has_back image add_step_place add_step_routine (joined (drop 16 routines)) (behind_set_variable h)
+
+pub put_variable_stands : {image : List ℕ} → LibraryStands image → HasAll image put_variable_place put_variable_routine
+put_variable_stands {image} h = has_front image put_variable_place put_variable_routine (joined (drop 17 routines)) (behind_add_step h)
+
+pub exhausted_stands : {image : List ℕ} → LibraryStands image → HasAll image exhausted_place exhausted_routine
+exhausted_stands {image} h = has_front image exhausted_place exhausted_routine [] (has_back image put_variable_place put_variable_routine (joined (drop 17 routines)) (behind_add_step h))
 
 -- ---- numbers
 

@@ -55,7 +55,7 @@ pub record Sound (p : OrderProgram) (image : List ℕ) (g place line : ℕ) (act
   pub place_is : from + done ≡ place
   pub begins : left_at 0 orders.list from ≡ 0
   pub inside : done ≤ orders_left (block_at 0 (drop from orders.list))
-  pub did : silently p g done (drop from orders.list) before ≡ Changed w
+  pub did : silently p g acts done (drop from orders.list) before ≡ Changed w
   pub landed : Landed p image (order_place (base_of p g) orders.list from) g line acts before q
   pub fits : WordsFit w
   pub acts_fit : All ActivationFits acts

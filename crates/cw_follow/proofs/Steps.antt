@@ -245,20 +245,20 @@ module _ (known : Given) where
         ap (slice_get s.orders.list) there ∙ sym (slice_drop s.orders.list s.from n) ∙ ap (λ l. slice_get l n) e ∙ is
 
     -- an order that is not the last of its block
-    pub silent_in : (o : Order) → slice_get s.orders.list place ≡ Some o → carry_out p (Some o) g place line acts w ≡ after p.room (puts_word p g o w) g place line acts w → s.done + 1 ≤ orders_left (block_at 0 (drop s.from s.orders.list)) → Follow (at g place line acts w Running) q
-    silent_in o e goes_so more = cases (puts_word p g o w) refl
+    pub silent_in : (o : Order) → slice_get s.orders.list place ≡ Some o → carry_out p (Some o) g place line acts w ≡ after p.room (puts_word p g acts o w) g place line acts w → s.done + 1 ≤ orders_left (block_at 0 (drop s.from s.orders.list)) → Follow (at g place line acts w Running) q
+    silent_in o e goes_so more = cases (puts_word p g acts o w) refl
       where
         here : OrderState
         here = at g place line acts w Running
 
-        goes_as : (x : Outcome) → puts_word p g o w ≡ x → step p (at g place line acts w Running) ≡ after p.room x g place line acts w
+        goes_as : (x : Outcome) → puts_word p g acts o w ≡ x → step p (at g place line acts w Running) ≡ after p.room x g place line acts w
         goes_as x is = step_is (Some o) e ∙ goes_so ∙ ap (λ x. after p.room x g place line acts w) is
 
         there : slice_get (drop s.from s.orders.list) s.done ≡ Some o
         there = slice_drop s.orders.list s.from s.done ∙ ap (slice_get s.orders.list) s.place_is ∙ e
 
-        cases : (x : Outcome) → puts_word p g o w ≡ x → Follow (at g place line acts w Running) q
-        cases (Refused kind) is = absurd ((is_silent p g o w).stops kind is)
+        cases : (x : Outcome) → puts_word p g acts o w ≡ x → Follow (at g place line acts w Running) q
+        cases (Refused kind) is = absurd ((is_silent p g acts o w).stops kind is)
         cases Impossible is = absurd (not_stuck p g place line acts w (never_on p (at g place line acts w Running) (at g place line acts w Stuck) (goes_as Impossible is) s.never))
         cases (Changed v) is =
             let on = went_on p g place line acts w v (goes_as (Changed v) is) s.never in
@@ -274,15 +274,15 @@ module _ (known : Given) where
               begins = s.begins;
               inside = more;
               did =
-                  ap (λ n. silently p g n (drop s.from s.orders.list) s.before) next ∙ silently_next p g s.done (drop s.from s.orders.list) o s.before there
-                  ∙ ap (λ x. chain x (puts_word p g o)) s.did ∙ is;
+                  ap (λ n. silently p g acts n (drop s.from s.orders.list) s.before) next ∙ silently_next p g acts s.done (drop s.from s.orders.list) o s.before there
+                  ∙ ap (λ x. chain x (puts_word p g acts o)) s.did ∙ is;
               landed = s.landed;
               fits = (fits_next (at g (place + 1) line acts v Running) on.goes).words;
               acts_fit = (fits_next (at g (place + 1) line acts v Running) on.goes).activations;
               fits_before = s.fits_before;
               room = on.room;
               room_before = s.room_before;
-              wrote = s.wrote ∙ sym ((is_silent p g o w).wrote v is);
+              wrote = s.wrote ∙ sym ((is_silent p g acts o w).wrote v is);
               stands = stands_next (at g (place + 1) line acts v Running) on.goes;
               working = s.working;
               comes_back = s.comes_back;
@@ -301,12 +301,12 @@ module _ (known : Given) where
             }
 
     -- what the orders before the last one did
-    pub did_as : (n : ℕ) (os : List Order) → s.done ≡ n → drop s.from s.orders.list ≡ os → silently p g n os s.before ≡ Changed w
-    did_as n os is_done e = sym (ap₂ (λ m r. silently p g m r s.before) is_done e) ∙ s.did
+    pub did_as : (n : ℕ) (os : List Order) → s.done ≡ n → drop s.from s.orders.list ≡ os → silently p g acts n os s.before ≡ Changed w
+    did_as n os is_done e = sym (ap₂ (λ m r. silently p g acts m r s.before) is_done e) ∙ s.did
 
     -- the last order of a block, whose code does what all its orders do
     pub last_does : (f : Words → Outcome) (limit n : ℕ) (os : List Order) → s.done ≡ n → drop s.from s.orders.list ≡ os → left_at 0 s.orders.list (place + 1) ≡ 0 → step p (at g place line acts w Running) ≡ after p.room (f w) g place line acts w → limit ≤ weight p (at g place line acts w Running)
-        → Does p image limit (order_place (base_of p g) s.orders.list (place + 1)) g line acts s.before.output q (chain (silently p g n os s.before) f) → Follow (at g place line acts w Running) q
+        → Does p image limit (order_place (base_of p g) s.orders.list (place + 1)) g line acts s.before.output q (chain (silently p g acts n os s.before) f) → Follow (at g place line acts w Running) q
     last_does f limit n os is_done e begins goes paid d =
         does (f w) limit begins goes paid
         (subst (λ o. Does p image limit (order_place (base_of p g) s.orders.list (place + 1)) g line acts o q (f w)) s.wrote
@@ -380,7 +380,7 @@ module _ (known : Given) where
     chosen Nowhere limit begins room e paid d = absurd (stuck_here e)
 
     pub last_chooses : (f : Words → Way) (limit n : ℕ) (os : List Order) → s.done ≡ n → drop s.from s.orders.list ≡ os → left_at 0 s.orders.list (place + 1) ≡ 0 → Roomy acts p.room (f w) → step p (at g place line acts w Running) ≡ branch p (f w) g place line acts w → limit ≤ weight p (at g place line acts w Running)
-        → Chooses p image limit (order_place (base_of p g) s.orders.list (place + 1)) start g line acts s.before.output q (way_after (silently p g n os s.before) f) → Follow (at g place line acts w Running) q
+        → Chooses p image limit (order_place (base_of p g) s.orders.list (place + 1)) start g line acts s.before.output q (way_after (silently p g acts n os s.before) f) → Follow (at g place line acts w Running) q
     last_chooses f limit n os is_done e begins room goes paid d =
         chosen (f w) limit begins room goes paid
         (subst (λ o. Chooses p image limit (order_place (base_of p g) s.orders.list (place + 1)) start g line acts o q (f w)) s.wrote
@@ -388,6 +388,10 @@ module _ (known : Given) where
 
     pub low_room : operand_words w.operands < level acts
     low_room = let room = s.room in let most = coded.room in let split = words_split w.operands acts in omega arith
+
+    -- the same with a word more
+    pub more_room : suc (operand_words w.operands) < level acts
+    more_room = let room = s.room in let most = coded.room in let split = words_split w.operands acts in omega arith
 
     -- ---- orders that are blocks of their own
 

@@ -27,12 +27,14 @@ pub data Act : Type 0 where
   LoadArgument : (r by k w : ℕ) → Act
   StoreField : (r by k : ℕ) → Act
   LoadField : (r by k w : ℕ) → Act
+  LoadWord : (r by k w : ℕ) → Act
   Sum : (r q : ℕ) → Act
   SumNumber : (w : ℕ) → Act
   DifferenceNumber : (w : ℕ) → Act
   Difference : (r q : ℕ) → Act
   Negative : (r : ℕ) → Act
   Double : (r : ℕ) → Act
+  DoubleWord : (r : ℕ) → Act
   Both : (r q : ℕ) → Act
   Either : (r q : ℕ) → Act
   One : (r q : ℕ) → Act
@@ -54,12 +56,14 @@ instruction (LoadSlot r by k w) = i86.Mov true true r (slot by)
 instruction (LoadArgument r by k w) = i86.Mov true true r (rms.Mem (record { cs = false; place = places.Far 6 by }))
 instruction (StoreField r by k) = i86.Mov true false r (rms.Mem (record { cs = false; place = places.Far 7 by }))
 instruction (LoadField r by k w) = i86.Mov true true r (near_field by)
+instruction (LoadWord r by k w) = i86.Mov true true r (rms.Mem (record { cs = false; place = places.Far 7 by }))
 instruction (SumNumber w) = with_number 0 w
 instruction (DifferenceNumber w) = with_number 5 w
 instruction (Sum r q) = i86.AluRm 0 true true r (rms.Reg q)
 instruction (Difference r q) = i86.AluRm 5 true true r (rms.Reg q)
 instruction (Negative r) = i86.Unary 3 true (rms.Reg r)
 instruction (Double r) = i86.Shift 4 true false (rms.Reg r)
+instruction (DoubleWord r) = i86.Shift 4 true false (rms.Reg r)
 instruction (Both r q) = i86.AluRm 4 true true r (rms.Reg q)
 instruction (Either r q) = i86.AluRm 1 true true r (rms.Reg q)
 instruction (One r q) = i86.AluRm 6 true true r (rms.Reg q)
@@ -81,6 +85,7 @@ Needs (Store r k) v = (k < 32768) × (register v 3 ≡ 2 * k)
 Needs (LoadSlot r by k w) v = (k < 32768) × ((register v 5 + sign_extended by) % 65536 ≡ 2 * k) × (v.stack k ≡ w)
 Needs (LoadArgument r by k w) v = (k < 32768) × ((register v 5 + by) % 65536 ≡ 2 * k) × (v.stack k ≡ w)
 Needs (LoadField r by k w) v = (k < 32768) × ((register v 3 + sign_extended by) % 65536 ≡ 2 * k) × (v.cells k ≡ w)
+Needs (LoadWord r by k w) v = (k < 32768) × ((register v 3 + by) % 65536 ≡ 2 * k) × (v.cells k ≡ w)
 Needs (StoreField r by k) v = (k < 32768) × ((register v 3 + by) % 65536 ≡ 2 * k)
 Needs (Double r) v = register v r < 32768
 Needs (Up r) v = register v r < 65536
@@ -100,12 +105,14 @@ after (LoadSlot r by k w) v = with_register r w v
 after (LoadArgument r by k w) v = with_register r w v
 after (StoreField r by k) v = with_cell k (register v r) v
 after (LoadField r by k w) v = with_register r w v
+after (LoadWord r by k w) v = with_register r w v
 after (SumNumber w) v = with_result 0 (word_sum (register v 0) w) (sum_overflows (register v 0) w) v
 after (DifferenceNumber w) v = with_result 0 (word_difference (register v 0) w) (difference_overflows (register v 0) w) v
 after (Sum r q) v = with_result r (word_sum (register v r) (register v q)) (sum_overflows (register v r) (register v q)) v
 after (Difference r q) v = with_result r (word_difference (register v r) (register v q)) (difference_overflows (register v r) (register v q)) v
 after (Negative r) v = with_result r (word_difference 0 (register v r)) (difference_overflows 0 (register v r)) v
 after (Double r) v = with_result r (2 * register v r) (double_overflows (register v r)) v
+after (DoubleWord r) v = with_result r (2 * register v r % 65536) (double_overflows (register v r)) v
 after (Both r q) v = with_result r (bit_and (register v r) (register v q)) false v
 after (Either r q) v = with_result r (bit_or (register v r) (register v q)) false v
 after (One r q) v = with_result r (bit_xor (register v r) (register v q)) false v
@@ -177,12 +184,18 @@ module _ (rows : Rows) where
       moved at i (with_register r w v) (processor_step p)
       (subst (λ x. Sees image (with_place ((at % 65536 + 3) % 65536) (with_register r x v)) (processor_step p)) needs.2
       (rows.load_field image (placed at v) r by k (has i (omega arith) h s) needs.0 needs.1 p s.sees))
+  step (LoadWord r by k w) {image} {at} {v} {p} h needs s =
+      let i = instruction (LoadWord r by k w) in
+      moved at i (with_register r w v) (processor_step p)
+      (subst (λ x. Sees image (with_place ((at % 65536 + 4) % 65536) (with_register r x v)) (processor_step p)) needs.2
+      (rows.load_word image (placed at v) r by k (has i (omega arith) h s) needs.0 needs.1 p s.sees))
   step (SumNumber w) {image} {at} {v} {p} h n s = moved at (with_number 0 w) (after (SumNumber w) v) (processor_step p) (rows.add_number image (placed at v) w (has (with_number 0 w) (omega arith) h s) p s.sees)
   step (DifferenceNumber w) {image} {at} {v} {p} h n s = moved at (with_number 5 w) (after (DifferenceNumber w) v) (processor_step p) (rows.subtract_number image (placed at v) w (has (with_number 5 w) (omega arith) h s) p s.sees)
   step (Sum r q) {image} {at} {v} {p} h n s = moved at (instruction (Sum r q)) (after (Sum r q) v) (processor_step p) (rows.add image (placed at v) r q (has (instruction (Sum r q)) (omega arith) h s) p s.sees)
   step (Difference r q) {image} {at} {v} {p} h n s = moved at (instruction (Difference r q)) (after (Difference r q) v) (processor_step p) (rows.subtract image (placed at v) r q (has (instruction (Difference r q)) (omega arith) h s) p s.sees)
   step (Negative r) {image} {at} {v} {p} h n s = moved at (instruction (Negative r)) (after (Negative r) v) (processor_step p) (rows.negate image (placed at v) r (has (instruction (Negative r)) (omega arith) h s) p s.sees)
   step (Double r) {image} {at} {v} {p} h n s = moved at (instruction (Double r)) (after (Double r) v) (processor_step p) (rows.double image (placed at v) r (has (instruction (Double r)) (omega arith) h s) n p s.sees)
+  step (DoubleWord r) {image} {at} {v} {p} h n s = moved at (instruction (DoubleWord r)) (after (DoubleWord r) v) (processor_step p) (rows.double_word image (placed at v) r (has (instruction (DoubleWord r)) (omega arith) h s) p s.sees)
   step (Both r q) {image} {at} {v} {p} h n s = moved at (instruction (Both r q)) (after (Both r q) v) (processor_step p) (rows.both image (placed at v) r q (has (instruction (Both r q)) (omega arith) h s) p s.sees)
   step (Either r q) {image} {at} {v} {p} h n s = moved at (instruction (Either r q)) (after (Either r q) v) (processor_step p) (rows.either image (placed at v) r q (has (instruction (Either r q)) (omega arith) h s) p s.sees)
   step (One r q) {image} {at} {v} {p} h n s = moved at (instruction (One r q)) (after (One r q) v) (processor_step p) (rows.one image (placed at v) r q (has (instruction (One r q)) (omega arith) h s) p s.sees)

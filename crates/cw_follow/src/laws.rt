@@ -12,8 +12,8 @@ ghost use Rattle.cw_follow.specs.Placing.{IsImage, Codable, BeginsWith, NeverStu
 
 use cw_order::laws::{activations, words};
 use cw_run86::laws::{
-    arithmetic, comparing, comparing_below, fields as stack_fields, jumps, logic, memory, moves,
-    multiplying, numbers, offsets, ports, shifting, stacking, starting, tables,
+    arithmetic, comparing, comparing_below, fetching, fields as stack_fields, jumps, logic, memory,
+    moves, multiplying, numbers, offsets, ports, shifting, stacking, starting, tables,
 };
 use cw_word::laws::{fields, many_places, masks, products, quotients, readings, scaling, sums};
 
@@ -35,6 +35,7 @@ pub fn code_follows_orders()
     many_places();
     words();
     activations();
+    fetching();
     starting();
     moves();
     stacking();

@@ -37,4 +37,4 @@ read_again {n = n} {x = x} h l =
     let quiet : NoComment false a = subst (NoComment false) (items_spelled a) (no_comment first.derives (append-nil (items_of a))) in
     let lexed = text_lexes a (all_spelled a (back h).shown l) false quiet [] in
     let r = (back h).read (numbered 1 lexed.0) (numbered_spelled lexed.0 1 ∙ lexed.2) in
-    record { tokens = lexed.0; tokenizes = lexed.1; tree = r.value; expands = λ k. text_expands lexed.0 k r.derives; derives = r.derives; same = r.holds }
+    record { tokens = lexed.0; tokenizes = lexed.1; spelled = lexed.2; tree = r.value; expands = λ k. text_expands lexed.0 k r.derives; derives = r.derives; same = r.holds }

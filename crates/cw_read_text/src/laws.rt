@@ -1,6 +1,7 @@
 //! Laws of the canonical text of a text: each is a function without a body, whose contract is the law.
 ghost use Rattle.std.specs.Prelude.{ℕ, List, All};
 ghost use Rattle.cw_lex.specs.Lexical.{Lexeme};
+ghost use Rattle.cw_macro.specs.Expansion.{Expands};
 ghost use Rattle.cw_spelled.specs.Proper.{IsProperToken};
 ghost use Rattle.cw_tree.specs.declared.segment.Raw.{Raw};
 ghost use Rattle.cw_grammar.specs.Tokens.{numbered};
@@ -14,6 +15,7 @@ ghost use Rattle.cw_compile.specs.Texts.{HasTree, most_levels};
 
 use cw_derived::laws::in_normal_form;
 use cw_read_back::laws::read_back;
+use cw_shorter::laws::no_longer;
 use cw_spelled::laws::spelled;
 
 /// Names, strings and literals of a tree whose tokens are spelled right can be written again.
@@ -21,12 +23,13 @@ pub fn leaves_spelled()
     ensures { (n : ℕ) (ts : List Lexeme) (raw : Raw) → All IsProperToken ts → Derives n a_raw text (numbered 1 ts) raw → HasSpelledLeaves (canonical_tokens raw) }
 {}
 
-/// The canonical text of a text's tree has that tree again, but for its positions.
+/// The canonical text of a text's tree has that tree again, but for its positions, and its tokens expand to themselves.
 pub fn texts_read_back()
-    ensures { (text : List ℕ) (raw : Raw) → HasTree text raw → IsReadBack most_levels raw }
+    ensures { (text : List ℕ) (raw : Raw) → HasTree text raw → (back : IsReadBack most_levels raw) × Expands back.tokens back.tokens }
 {
     spelled();
     in_normal_form();
     leaves_spelled();
     read_back();
+    no_longer();
 }

@@ -19,7 +19,7 @@ use Rattle.cw_gen_expr.proofs.Layers.{value_layer, value-made, spot-made, refere
 use Rattle.cw_gen_expr.proofs.Layers as made
 use Rattle.cw_tokens.specs.LeastTokens.{separated, part, expression_tokens, argument_tokens, condition_tokens, reference_tokens}
 use Rattle.cw_tmpl.specs.Templates.{listed_size, listed_sizes}
-use Rattle.cw_size.proofs.Short.{sizes-append, then, Short, plainly, both_short, ended_short, eased}
+use Rattle.cw_size.proofs.Short.{sizes-append, first_short, Short, plainly, both_short, ended_short, eased}
 use Rattle.cw_size.proofs.OrderSizes.{item-first, item-load, table-short, bounds-short, load-short, rescale-short, times-short, logic-short, product-short, call-short, label-short}
 use Rattle.cw_size.proofs.TokenLayers.{expression_layer, expression-tokens, argument_layer, argument-tokens, condition_layer, condition-tokens, spot_layer, spot-tokens, reference-tokens, separated-within}
 
@@ -110,7 +110,7 @@ module _ (s : Scope) where
         let h = item-first s.layout i 0 (order.IndexAdd ∷ order.InArea ∷ []) 14 (let z : 8 + (6 + 0) ≤ 14 = omega arith in z) in
         let left = most-spared field in
         indexed (32 * expression_tokens e + 23) 31 (spared field) (32 * (3 + expression_tokens e)) (order.IndexLess l ∷ rest) (bounded e l u (let z : expression_size e < n = omega (arith, le) in z))
-        (then (order.IndexLess l) rest 10 21 (let z : 10 ≤ 10 = omega arith in z) h)
+        (first_short (order.IndexLess l) rest 10 21 (let z : 10 ≤ 10 = omega arith in z) h)
         (let z : 32 * expression_tokens e + 23 + 31 + spared field ≤ 32 * (3 + expression_tokens e) = omega (arith, left) in z)
     spot_short (layer.Two i l1 u1 l2 u2 m e g) field le =
         let rest : List Order = item_order s.layout i 0 ∷ order.IndexAdd ∷ order.InArea ∷ [] in
@@ -119,8 +119,8 @@ module _ (s : Scope) where
         let left = two-spared field in
         indexed (32 * expression_tokens e + 23 + (32 * expression_tokens g + 23)) 63 (spared field) (32 * (4 + (part field + (expression_tokens e + expression_tokens g)))) (order.IndexLess l2 ∷ order.IndexRow l1 m ∷ rest)
         (both_short (bounded e l1 u1 (let z : expression_size e < n = omega (arith, le) in z)) (bounded g l2 u2 (let z : expression_size g < n = omega (arith, le) in z)))
-        (then (order.IndexLess l2) (order.IndexRow l1 m ∷ rest) 10 53 (let z : 10 ≤ 10 = omega arith in z)
-        (then (order.IndexRow l1 m) rest 32 21 (let z : listed_size (order.IndexRow l1 m) ≤ 32 = omega (arith, t) in z) h))
+        (first_short (order.IndexLess l2) (order.IndexRow l1 m ∷ rest) 10 53 (let z : 10 ≤ 10 = omega arith in z)
+        (first_short (order.IndexRow l1 m) rest 32 21 (let z : listed_size (order.IndexRow l1 m) ≤ 32 = omega (arith, t) in z) h))
         (let z : 32 * expression_tokens e + 23 + (32 * expression_tokens g + 23) + 63 + spared field ≤ 32 * (4 + (part field + (expression_tokens e + expression_tokens g))) = omega (arith, left) in z)
     spot_short (layer.ParamArray i e) field le =
         let os : List Order = item_order s.layout i 0 ∷ order.Load ∷ order.IndexAdd ∷ order.InArea ∷ [] in
@@ -139,7 +139,7 @@ module _ (s : Scope) where
         let left = most-spared field in
         indexed (32 * expression_tokens e + 23) 46 (spared field) (32 * (3 + expression_tokens e)) (order.IndexTimes k ∷ order.IndexPlus w ∷ rest)
         (bounded e (pos 0) (pos m -ℤ pos 1) (let z : expression_size e < n = omega (arith, le) in z))
-        (then (order.IndexTimes k) (order.IndexPlus w ∷ rest) 12 34 (times-short k) (then (order.IndexPlus w) rest 10 24 (let z : 10 ≤ 10 = omega arith in z) (based t i)))
+        (first_short (order.IndexTimes k) (order.IndexPlus w ∷ rest) 12 34 (times-short k) (first_short (order.IndexPlus w) rest 10 24 (let z : 10 ≤ 10 = omega arith in z) (based t i)))
         (let z : 32 * expression_tokens e + 23 + 46 + spared field ≤ 32 * (3 + expression_tokens e) = omega (arith, left) in z)
     spot_short (layer.Bare e) field le =
         let left = most-spared field in
@@ -214,7 +214,7 @@ module _ (s : Scope) where
     value_short : (x : Expr-F Arg Cond Expr Spot Ref) → expression_size_layer x ≤ n → (f : ℕ) → Short ((value_layer s x).at f) 0 (32 * expression_layer x + 3)
     value_short (layer.Num k) le f = single (number_order (decimal_floor k.whole k.digits k.places f) ∷ []) (let z : 4 + 0 ≤ 35 = omega arith in z)
     value_short (layer.Const z) le f =
-        let h = then (number_order (unsigned z)) (rescale_orders 0 f) 4 12 (let y : 4 ≤ 4 = omega arith in y) (rescale-short 0 f) in
+        let h = first_short (number_order (unsigned z)) (rescale_orders 0 f) 4 12 (let y : 4 ≤ 4 = omega arith in y) (rescale-short 0 f) in
         single (number_order (unsigned z) ∷ rescale_orders 0 f) (let y : listed_sizes (number_order (unsigned z) ∷ rescale_orders 0 f) ≤ 35 = omega (arith, h) in y)
     value_short (layer.Text i) le f =
         let h = item-first s.layout i 0 (rescale_orders 0 f) 12 (rescale-short 0 f) in
@@ -233,7 +233,7 @@ module _ (s : Scope) where
         let ns = map argument_tokens args in
         let listed = separated-within ns in
         eased
-        (both_short (all_short args (let z : total (map argument_size args) < n = omega (arith, le) in z)) (plainly (call_order s t ∷ rescale_orders k f) 31 (then (call_order s t) (rescale_orders k f) 19 12 (call-short s t) (rescale-short k f))))
+        (both_short (all_short args (let z : total (map argument_size args) < n = omega (arith, le) in z)) (plainly (call_order s t ∷ rescale_orders k f) 31 (first_short (call_order s t) (rescale_orders k f) 19 12 (call-short s t) (rescale-short k f))))
         (let z : 32 * separated ns + 31 + 0 ≤ 32 * expression_layer (layer.Call t args) + 3 + (0 + 0) = omega (arith, listed) in z)
     value_short (layer.Force g e) le f = unary e g (rescale_orders g f) 3 12 (let z : expression_size e < n = omega (arith, le) in z) (rescale-short g f) (omega arith)
     value_short (layer.Locate r) le f =
@@ -241,11 +241,11 @@ module _ (s : Scope) where
         (let z : 32 * reference_tokens r + 12 + 0 ≤ 32 * (3 + reference_tokens r) + 3 + (spared (reference_of s r).field + 0) = omega arith in z)
     value_short (layer.Bits t d e) le f =
         unary e (value_of s e).operand (order.Take t d ∷ rescale_orders 0 f) 6 22 (let z : expression_size e < n = omega (arith, le) in z)
-        (then (order.Take t d) (rescale_orders 0 f) 10 12 (let z : 10 ≤ 10 = omega arith in z) (rescale-short 0 f)) (omega arith)
+        (first_short (order.Take t d) (rescale_orders 0 f) 10 12 (let z : 10 ≤ 10 = omega arith in z) (rescale-short 0 f)) (omega arith)
     value_short (layer.Logic op a d) le f =
         let h = logic-short op in
         binary a d (value_of s a).operand (value_of s d).operand (logic_order op ∷ rescale_orders 0 f) (let z : expression_size a < n = omega (arith, le) in z) (let z : expression_size d < n = omega (arith, le) in z)
-        (then (logic_order op) (rescale_orders 0 f) 17 12 (let z : listed_size (logic_order op) ≤ 17 = omega (arith, h) in z) (rescale-short 0 f))
+        (first_short (logic_order op) (rescale_orders 0 f) 17 12 (let z : listed_size (logic_order op) ≤ 17 = omega (arith, h) in z) (rescale-short 0 f))
     value_short (layer.Sum a d) le f =
         binary a d f f (order.Add ∷ []) (let z : expression_size a < n = omega (arith, le) in z) (let z : expression_size d < n = omega (arith, le) in z) (let z : 8 + 0 ≤ 29 = omega arith in z)
     value_short (layer.Less a d) le f =

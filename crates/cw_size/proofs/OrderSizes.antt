@@ -22,7 +22,7 @@ use Rattle.cw_gen_expr.specs.ReferenceEntries.{bound_by, bound_in, bound_order, 
 use Rattle.cw_gen_expr.specs.UnitTables.{label_mark}
 use Rattle.cw_gen_unit.specs.ReferenceStatements.{after_statement_call, from_procedure, own_order, goal_order, number_orders, set_orders, bump_orders}
 use Rattle.cw_tmpl.specs.Templates.{times_size, listed_size, sizes_behind, listed_sizes}
-use Rattle.cw_size.proofs.Short.{all-behind, sizes-append, then}
+use Rattle.cw_size.proofs.Short.{all-behind, sizes-append, first_short}
 
 -- ---- items
 
@@ -45,7 +45,7 @@ item-short = by-form (λ o. listed_size o ≤ 7) (λ f n. omega arith) (λ n. om
 
 -- behind the address of an item, and behind its load or its store
 pub item-first : (y : Layout) (i n : ℕ) (os : List Order) (most : ℕ) → listed_sizes os ≤ most → listed_sizes (item_order y i n ∷ os) ≤ 7 + most
-item-first y i n os most = then (item_order y i n) os 7 most (item-short y i n)
+item-first y i n os most = first_short (item_order y i n) os 7 most (item-short y i n)
 
 pub item-load : (y : Layout) (i n : ℕ) (os : List Order) (most : ℕ) → listed_sizes os ≤ most → listed_sizes (item_order y i n ∷ order.Load ∷ os) ≤ 10 + most
 item-load y i n os most h =
@@ -160,7 +160,7 @@ goal-short u who (goal.Common d) = omega arith
 
 pub number-short : (y : Layout) (item i : ℕ) → listed_sizes (number_orders y item i) ≤ 14
 number-short y item i =
-    then (number_order i) (item_order y item 3 ∷ order.Store ∷ []) 4 10 (let z : 4 ≤ 4 = omega arith in z) (item-store y item 3 [] 0 (let z : 0 ≤ 0 = omega arith in z))
+    first_short (number_order i) (item_order y item 3 ∷ order.Store ∷ []) 4 10 (let z : 4 ≤ 4 = omega arith in z) (item-store y item 3 [] 0 (let z : 0 ≤ 0 = omega arith in z))
 
 pub set-short : (y : Layout) (item : ℕ) → listed_sizes (set_orders y item) ≤ 13
 set-short y item = item-first y item 0 (order.SetVariable ∷ []) 6 (let z : 6 + 0 ≤ 6 = omega arith in z)

@@ -31,8 +31,8 @@ pub sizes-append : (xs ys : List Order) → listed_sizes (xs ++ ys) ≤ listed_s
 sizes-append = append-behind None
 
 -- an order, and orders behind it
-pub then : (o : Order) (os : List Order) (m n : ℕ) → listed_size o ≤ m → listed_sizes os ≤ n → listed_sizes (o ∷ os) ≤ m + n
-then o os m n h k = let behind = all-behind (Some o) os in let z : listed_size o + sizes_behind (Some o) os ≤ m + n = omega (arith, h, k, behind) in z
+pub first_short : (o : Order) (os : List Order) (m n : ℕ) → listed_size o ≤ m → listed_sizes os ≤ n → listed_sizes (o ∷ os) ≤ m + n
+first_short o os m n h k = let behind = all-behind (Some o) os in let z : listed_size o + sizes_behind (Some o) os ≤ m + n = omega (arith, h, k, behind) in z
 
 -- the orders have at most so many bytes, even with some to spare
 pub record Short (p : Piece) (spare most : ℕ) : Type 0 where

@@ -20,7 +20,7 @@ use Rattle.cw_tokens.specs.LeastTokens as least
 use Rattle.cw_tokens.specs.LeastTokens.{separated, arguments, expression_tokens, argument_tokens, condition_tokens, reference_tokens, each_argument, element_tokens, each_element, jump_tokens, statement_tokens}
 use Rattle.cw_tmpl.specs.Templates.{listed_size, listed_sizes}
 use Rattle.cw_tokens.specs.SetLabels.{together, set_step, set_labels}
-use Rattle.cw_size.proofs.Short.{then, Short, plainly, both_short, ended_short, labels_short, eased}
+use Rattle.cw_size.proofs.Short.{first_short, Short, plainly, both_short, ended_short, labels_short, eased}
 use Rattle.cw_size.proofs.OrderSizes.{item-load, item-store, store-short, call-short, after-short, goal-short, number-short, set-short, bump-short, turn-short}
 use Rattle.cw_size.proofs.TokenLayers.{each-argument, separated-within}
 use Rattle.cw_size.proofs.Expressions.{choice_short, expression_short, condition_ended_short, address_short, arguments_short}
@@ -133,8 +133,11 @@ module _ (s : Scope) where
 
       way_short : (ways : List ℕ) → length ways ≡ length es → listed_sizes (order.Line line ∷ item_order s.layout item 3 ∷ order.Load ∷ order.LoopWay ways ∷ []) ≤ 36 + 2 * length es
       way_short ways e =
-          then (order.Line line) (item_order s.layout item 3 ∷ order.Load ∷ order.LoopWay ways ∷ []) 5 (31 + 2 * length es) (let z : 5 ≤ 5 = omega arith in z)
-          (item-load s.layout item 3 (order.LoopWay ways ∷ []) (21 + 2 * length es) (let z : 21 + 2 * length ways + 0 ≤ 21 + 2 * length es = omega (arith, e) in z))
+          let os : List Order = item_order s.layout item 3 ∷ order.Load ∷ order.LoopWay ways ∷ [] in
+          let h = item-load s.layout item 3 (order.LoopWay ways ∷ []) (21 + 2 * length es) (let z : 21 + 2 * length ways + 0 ≤ 21 + 2 * length es = omega (arith, e) in z) in
+          let k = first_short (order.Line line) os 5 (10 + (21 + 2 * length es)) (let z : 5 ≤ 5 = omega arith in z) h in
+          let z : listed_sizes (order.Line line ∷ os) ≤ 36 + 2 * length es = omega (arith, k) in
+          z
 
       laid : (ways : List ℕ) → length ways ≡ length es
           → Short (with_end (λ end. with_middle (λ start. followed_by (with_end (λ set. followed_by (elements_piece s item f set start 1 es) (plain (order.Jump end ∷ [])))) (plain (set_orders s.layout item))) (λ start. followed_by body (plain (order.Line line ∷ item_order s.layout item 3 ∷ order.Load ∷ order.LoopWay ways ∷ [])))))
@@ -197,7 +200,7 @@ module _ (s : Scope) (who : Option ℕ) (answer : ℕ) where
         subst (λ (l : List ℕ). Short (statement_layer s who answer (statement.Call line t args)) (15 * 0) (32 * suc (arguments l))) (sym (each-argument args))
         (eased
         (both_short (begin_short line)
-        (both_short (arguments_short s args) (plainly (call_order s t ∷ after_statement_call t) 20 (then (call_order s t) (after_statement_call t) 19 1 (call-short s t) (after-short t)))))
+        (both_short (arguments_short s args) (plainly (call_order s t ∷ after_statement_call t) 20 (first_short (call_order s t) (after_statement_call t) 19 1 (call-short s t) (after-short t)))))
         (let z : 5 + (32 * separated ns + 20) + 15 * 0 ≤ 32 * suc (arguments ns) + (0 + (0 + 0)) = omega (arith, listed) in z))
     layer_short (statement.Answer line e) le =
         eased (both_short (begin_short line) (both_short (expression_short s e answer) (plainly (order.Return (argument_words s.parameters) true ∷ []) 11 (let z : 11 + 0 ≤ 11 = omega arith in z))))

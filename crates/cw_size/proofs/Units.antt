@@ -16,7 +16,7 @@ use Rattle.cw_tmpl.specs.Pieces.{blanks}
 use Rattle.cw_tmpl.specs.Templates.{listed_sizes}
 use Rattle.cw_tmpl.specs.ReferenceCode.{entry_size, switch_sizes, pieces_of, orders_code}
 use Rattle.cw_tokens.specs.SetLabels.{set_labels, set_in_procedures, LabelsStand}
-use Rattle.cw_size.proofs.Short.{then, Short, plainly, both_short, eased}
+use Rattle.cw_size.proofs.Short.{first_short, Short, plainly, both_short, eased}
 use Rattle.cw_size.proofs.OrderSizes.{bind-short}
 use Rattle.cw_size.proofs.Statements.{statement_short}
 
@@ -35,7 +35,7 @@ module _ (u : SourceUnit) where
   procedure_short : (p : ℕ) (q : Proc) → Short (procedure_piece u p q) (15 * set_labels q.body) (32 * procedure_tokens q)
   procedure_short p q =
       eased
-      (both_short (plainly (entry_orders u p q) (12 + 13 * length q.params) (then (order.Enter (slice_index (layout_of u).frames p)) (bind_orders (layout_of u) q.params) 12 (13 * length q.params) (let z : 12 ≤ 12 = omega arith in z) (bind-short (layout_of u) q.params)))
+      (both_short (plainly (entry_orders u p q) (12 + 13 * length q.params) (first_short (order.Enter (slice_index (layout_of u).frames p)) (bind_orders (layout_of u) q.params) 12 (13 * length q.params) (let z : 12 ≤ 12 = omega arith in z) (bind-short (layout_of u) q.params)))
       (both_short (statement_short (scope_of u (Some p)) (Some p) (answer_of u (Some p)) q.body) (plainly (leave_orders q) 15 (let z : 4 + (11 + 0) ≤ 15 = omega arith in z))))
       (let z : 12 + 13 * length q.params + (32 * statement_tokens q.body + 15) + 15 * set_labels q.body ≤ 32 * (4 + (2 * length q.params + statement_tokens q.body)) + (0 + (15 * set_labels q.body + 0)) = omega arith in z)
 

@@ -158,7 +158,9 @@ element_least _ i p e field = let a = bare_tokens e field in omega (arith, a)
 
 double_least : (r : RawRange) (o : Option RawRange) (i : ℕ) (e g : Expr) → spot_tokens (double_spot r o i e g) None ≤ 4 + (expression_tokens e + expression_tokens g)
 double_least r (Some s) i e g =
-    at_most (spot_tokens (double_spot r (Some s) i e g) None) (4 + (expression_tokens e + expression_tokens g)) (spot_rolled (layer.Two i (bound r.lower) (bound r.upper) (bound s.lower) (bound s.upper) (row_length s) e g) None)
+    let n = 4 + (0 + (expression_tokens e + expression_tokens g)) in
+    let a : spot_tokens (double_spot r (Some s) i e g) None ≡ n = spot_rolled (layer.Two i (bound r.lower) (bound r.upper) (bound s.lower) (bound s.upper) (row_length s) e g) None in
+    omega (arith, a)
 double_least r None i e g = let a = bare_tokens e None in omega (arith, a)
 
 twice_least : (k : Option Kind) (i : ℕ) (e g : Expr) → spot_tokens (twice_indexed_spot k i e g) (field_of k) ≤ 4 + (expression_tokens e + expression_tokens g)

@@ -1,0 +1,7 @@
+mod Lengths
+mod Held
+mod Built
+mod Expressions
+mod Items
+mod Statements
+mod Texts
