@@ -1,0 +1,20 @@
+use Rattle.std.proofs.Common.{arith, ap, length, sym, ◌∙◌, refl}
+use Rattle.cw_image.specs.declared.image.Image.{Image}
+use Rattle.cw_go.proofs.Library.{some_code, few_words}
+use Rattle.cw_go.proofs.Called.{runs_as}
+use Rattle.cw_go.proofs.running.run_linked.Goals as goal
+
+pub load_and_run-requires : goal.load_and_run-requires
+load_and_run-requires g c =
+    let us = g.us in
+    let limits = g.limits in
+    let code = ap (λ (i : Image). length i.code) c.requires.linked.image ∙ c.linked_units.ensures.code us limits in
+    let words = ap (λ (i : Image). length i.words) c.requires.linked.image in
+    record {
+      some = omega (arith, code, some_code us);
+      code = omega (arith, code, c.requires.linked.links.code);
+      words = omega (arith, words, few_words us limits, c.requires.limits.1);
+    }
+
+pub returns : goal.returns
+returns g c = runs_as _ _ _ _ _ _ _ _ refl c.requires.linked.image c.load_and_run.ensures
