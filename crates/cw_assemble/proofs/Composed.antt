@@ -19,7 +19,7 @@ use Rattle.cw_tmpl.specs.Names.{Names, no_names, own, switch_size}
 use Rattle.cw_tmpl.specs.Blocks.{block_at, orders_left}
 use Rattle.cw_tmpl.specs.Pieces.{blanks, relocations}
 use Rattle.cw_order.specs.declared.order.Order.TheVariants as order
-use Rattle.cw_tmpl.specs.Templates.{template, back_jump, step_loaded, limit_compared, past_limit, distance, number_compared, goal_words, mark_words, loop_way, switch_pieces, block_pieces, block_size, entry_pieces}
+use Rattle.cw_tmpl.specs.Templates.{template, back_jump, distance, number_compared, goal_words, mark_words, loop_way, switch_pieces, block_pieces, block_size, entry_pieces}
 use Rattle.cw_tmpl.specs.ReferenceCode.{templates, landings, switches, places_from, entry_size, landings_place, switches_place, names_of, pieces_of}
 use Rattle.cw_tmpl.proofs.Sizes.{size_everywhere, size_of_switch, size_of_templates, size_of_landings, landings_at}
 use Rattle.cw_tmpl.proofs.Growing.{adds_then, Coming, coming_more}
@@ -131,8 +131,3 @@ pub special_added : (old one new : Assembly) (k : ℕ) (i : Instr) (t : Target) 
 special_added old one new k i t a e et b =
     let first : coded.Whole (i86.Push 0) ∷ coded.Whole i ∷ [] ≡ coded.Whole (i86.Push 0) ∷ coded.Whole (load 0 (argument k)) ∷ [] = ap (λ x. coded.Whole (i86.Push 0) ∷ coded.Whole x ∷ []) e in
     adds_then old one new (coded.Whole (i86.Push 0) ∷ coded.Whole (load 0 (argument k)) ∷ []) (back_jump (own (length old.bytes + 11))) (as_pieces old one _ _ first a) (as_pieces one new (back_jump t) (back_jump (own (length old.bytes + 11))) (ap back_jump et) b)
-
--- ---- the limit of a loop
-
-pub limit_added : (old one new : Assembly) (n to : ℕ) → Adds old step_loaded one → n ≡ length old.bytes → Adds one (limit_compared (n + 29) to) new → Adds old (past_limit (length old.bytes + 29) to) new
-limit_added old one new n to a e b = adds_then old one new step_loaded (limit_compared (length old.bytes + 29) to) a (subst (λ m. Adds one (limit_compared (m + 29) to) new) e b)

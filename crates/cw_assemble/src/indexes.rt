@@ -3,13 +3,13 @@ ghost use Rattle.std.specs.Prelude.{◌≡◌, OnOk};
 ghost use Rattle.cw_order.specs.declared.order.Order.TheVariants as order;
 ghost use Rattle.cw_tmpl.specs.Assembling.{Adds};
 ghost use Rattle.cw_tmpl.specs.Names.{no_names};
-ghost use Rattle.cw_tmpl.specs.Templates.{template, row_start, row_end, index_row, in_area, in_bounds};
+ghost use Rattle.cw_tmpl.specs.Templates.{template, row_start, row_end, index_row, by_area, in_bounds};
 
 use crate::arithmetic::put_times;
 use cw_i86::Instr;
 use cw_tmpl::instructions::{
-    AX, BX, CX, add, compare, copy, jump_if_at_most, jump_if_below, jump_if_no_overflow,
-    jump_if_not_less, set_word, subtract,
+    AX, BX, CX, DX, add, compare, copy, jump_if_at_most, jump_if_no_overflow, jump_if_not_less,
+    set_word, subtract,
 };
 use cw_tmpl::library::{ADDRESS, BOUNDS};
 use cw_tmpl::{Assembly, Coded, Limit, Target};
@@ -57,17 +57,16 @@ pub(crate) fn put_index_add(code: &mut Assembly) -> Result<(), NoMemory>
     ])
 }
 
-pub(crate) fn put_in_area(code: &mut Assembly) -> Result<(), NoMemory>
-    ensures { OnOk result (Adds code.old in_area code.new) }
+/// Adds a call of a routine of the library that tests an address.
+pub(crate) fn put_by_area(code: &mut Assembly, entry: u16) -> Result<(), NoMemory>
+    ensures { OnOk result (Adds code.old (by_area entry) code.new) }
 {
     code.put_all(&[
         Coded::Move {
-            reg: BX,
+            reg: DX,
             target: Target::Limit(Limit::DataWords),
         },
-        Coded::Whole(compare(AX, BX)),
-        Coded::Whole(jump_if_below(3)),
-        Coded::Call(Target::LibraryAhead(ADDRESS)),
+        Coded::Call(Target::LibraryAhead(entry)),
     ])
 }
 

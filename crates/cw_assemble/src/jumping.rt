@@ -4,16 +4,15 @@ ghost use Rattle.cw_run86.specs.Views.{condition_of};
 ghost use Rattle.cw_order.specs.declared.order.Order.TheVariants as order;
 ghost use Rattle.cw_tmpl.specs.Assembling.{Adds};
 ghost use Rattle.cw_tmpl.specs.Names.{no_names};
-ghost use Rattle.cw_tmpl.specs.Templates.{template, step_loaded, limit_compared, past_limit, number_compared, mark_words, goal_words, loop_way, switch_pieces, landing_pieces, base_jump, switch_near, jump_where, jump_near, distance, opposite_of};
+ghost use Rattle.cw_tmpl.specs.Templates.{template, past_limit, number_compared, mark_words, goal_words, loop_way, switch_pieces, landing_pieces, base_jump, switch_near, jump_where, jump_near, distance, opposite_of};
 
 use cw_i86::Instr;
 use cw_order::{Comparator, LabelMark};
 use cw_tmpl::instructions::{
-    AX, BASE_OPERANDS, BASE_RECORD, BP, BX, CX, DI, DX, RECORD_DEPTH, SEGMENT, SP, argument,
-    compare, copy, double, jump_if_at_most, jump_if_below, jump_if_equal, jump_to, load,
-    near_field, one_of, set_word, store, subtract, with_number,
+    AX, BASE_OPERANDS, BASE_RECORD, BP, BX, DI, RECORD_DEPTH, SEGMENT, SP, argument, compare, copy,
+    double, jump_if_below, jump_to, load, set_word, store, subtract, with_number,
 };
-use cw_tmpl::library::SWITCH;
+use cw_tmpl::library::{EXHAUSTED, SWITCH};
 use cw_tmpl::{Assembly, Coded, Limit, Names, Target, own};
 use cw_unit::unit::Goal;
 use cw_word::NoMemory;
@@ -70,43 +69,15 @@ pub(crate) fn put_jump_if(
     ])
 }
 
-/// Adds what brings the words of a loop to registers, with the value of its control variable.
-fn put_step_loaded(code: &mut Assembly) -> Result<(), NoMemory>
-    ensures { OnOk result (Adds code.old step_loaded code.new) }
+/// Adds a jump to a place where a loop is exhausted.
+pub(crate) fn put_past_limit(code: &mut Assembly, to: u64) -> Result<(), NoMemory>
+    ensures { OnOk result (Adds code.old (past_limit (length code.old.bytes) to) code.new) }
 {
+    let end = code.bytes.as_slice().len() + 6;
     code.put_all(&[
-        Coded::Whole(copy(BX, AX)),
-        Coded::Whole(double(BX)),
-        Coded::Whole(Instr::Pop(CX)),
-        Coded::Whole(load(AX, near_field(2))),
-        Coded::Whole(load(BX, near_field(4))),
-        Coded::Whole(Instr::Cwd),
-    ])
-}
-
-/// Adds a jump to a place where the value is past the limit. It ends at a place.
-fn put_limit_compared(code: &mut Assembly, end: usize, to: u64) -> Result<(), NoMemory>
-    ensures { OnOk result (Adds code.old (limit_compared end to) code.new) }
-{
-    code.put_all(&[
-        Coded::Whole(with_number(7, 0)),
-        Coded::Whole(Instr::Pop(AX)),
-        Coded::Whole(jump_if_equal(11)),
-        Coded::Whole(one_of(CX, DX)),
-        Coded::Whole(one_of(BX, DX)),
-        Coded::Whole(compare(CX, BX)),
-        Coded::Whole(jump_if_at_most(3)),
+        Coded::Call(Target::LibraryAhead(EXHAUSTED)),
         Coded::Whole(Instr::Jump(distance(end, to))),
     ])
-}
-
-/// Adds a jump to a place where the control variable of a loop is past its limit.
-pub(crate) fn put_past_limit(code: &mut Assembly, to: u64) -> Result<(), NoMemory>
-    ensures { OnOk result (Adds code.old (past_limit (length code.old.bytes + 29) to) code.new) }
-{
-    let end = code.bytes.as_slice().len() + 29;
-    put_step_loaded(code)?;
-    put_limit_compared(code, end, to)
 }
 
 /// Adds what makes the base record the one at work, without operands, for this segment, and a jump to a place.

@@ -12,10 +12,11 @@ use crate::arithmetic::{
     put_with_word,
 };
 use crate::calling::{
-    put_bind, put_bind_frame, put_call, put_call_common, put_call_special, put_control, put_enter,
-    put_frame_home, put_read_byte, put_return, put_special_out,
+    put_assign_frame, put_bind, put_bind_frame, put_call, put_call_common, put_call_special,
+    put_control, put_enter, put_fetch_frame, put_frame_home, put_read_byte, put_return,
+    put_special_out,
 };
-use crate::indexes::{put_in_area, put_in_bounds, put_index_add, put_index_row};
+use crate::indexes::{put_by_area, put_in_bounds, put_index_add, put_index_row};
 use crate::jumping::{
     distance, opposite, put_base_jump, put_go_special, put_go_switch, put_go_switch_common,
     put_go_switch_special, put_jump, put_jump_if, put_loop_way, put_past_limit,
@@ -27,7 +28,7 @@ use cw_tmpl::instructions::{
     AT_BX, AX, BX, LINE, add, both, copy, double, either, jump_to, load, negate, one_of, set_word,
     store, subtract, with_number,
 };
-use cw_tmpl::library::ADDRESS;
+use cw_tmpl::library::{ADD_STEP, ADDRESS, IN_AREA, PUT_VARIABLE, SET_VARIABLE};
 use cw_tmpl::{Assembly, Block, Coded, Names, Simple, Target, Use, own};
 use cw_word::NoMemory;
 
@@ -162,7 +163,7 @@ fn put_order(code: &mut Assembly, order: &Order, names: &Names) -> Result<(), No
         Order::IndexPlus(number) => put_with_word(code, ADDRESS, *number, add(AX, BX)),
         Order::IndexAdd => put_index_add(code),
         Order::IndexRow { lower, length } => put_index_row(code, *lower, *length),
-        Order::InArea => put_in_area(code),
+        Order::InArea => put_by_area(code, IN_AREA),
         Order::InBounds { lower, upper } => put_in_bounds(code, *lower, *upper),
         Order::Less => put_less(code),
         Order::Drop => code.put_all(&[Coded::Whole(Instr::Pop(AX))]),
@@ -171,6 +172,9 @@ fn put_order(code: &mut Assembly, order: &Order, names: &Names) -> Result<(), No
             put_jump_if(code, *comparator, u64::from(names.mark(*mark)))
         }
         Order::Exhausted(mark) => put_past_limit(code, u64::from(names.mark(*mark))),
+        Order::SetVariable => put_by_area(code, SET_VARIABLE),
+        Order::AddStep => put_by_area(code, ADD_STEP),
+        Order::PutVariable => put_by_area(code, PUT_VARIABLE),
         Order::LoopWay(marks) => put_loop_way(code, marks.as_slice(), names),
         Order::LabelOut(label) => put_control(code, own(names.label(*label))),
         Order::SwitchOut(switch) => put_control(code, own(u64::from(names.switch(*switch)))),
@@ -261,6 +265,8 @@ pub(crate) fn put_block(
             Coded::Store(Target::Bytes { family, offset }),
             Coded::Whole(Instr::Pop(AX)),
         ]),
+        Block::FetchFrame { offset } => put_fetch_frame(code, offset),
+        Block::AssignFrame { offset } => put_assign_frame(code, offset),
         Block::Operate { operand, with } => put_operated(code, operand, with, names),
     }
 }

@@ -182,8 +182,8 @@ module _ (c : Compiled) where
     pub variable_set : (x : Loop) (k : Work) (q n l : ℕ) (w : Words) → IsTrue (has_words c t x.item 4) → Stands (code c t) q (set_orders (layout c t) x.item) n → x.line ≡ l → Leads_to c t n l false k → Facts c t (SetVar x k) w → Steps c t (SetVar x k) q l w
     variable_set x k q n l w b stands same carried facts =
         done_by c t (SetVar x k) k x.line q n l (set_orders (layout c t) x.item) w false (perform c.limits.area (SetVariable (address_at (source c) t.segment t.acts x.item)) w) same stands
-        (item_and (layout c t) x.item (order.Load ∷ order.InArea ∷ order.Store ∷ []) refl (omega arith) (omega arith)) facts refl
-        (λ ok. sets (target c) (here_in c t) t.calls_below (source c) t.segment t.acts (layout c t) (has_words c t) t.in_words t.stand x.item 4 w.operands w.memory w.input w.output b (omega arith) ok)
+        (item_and (layout c t) x.item (order.SetVariable ∷ []) refl (omega arith) (omega arith)) facts refl
+        (λ ok. sets (target c) (here_in c t) t.calls_below (source c) t.segment t.acts (layout c t) (has_words c t) t.in_words t.stand x.item 4 w.operands w.memory w.input w.output b (omega arith))
         (λ v h. tt) carried
 
     -- ---- input and output

@@ -1,5 +1,5 @@
 -- The code at a place carries out a pending work.
-use Rattle.std.proofs.Common.{◌≡◌, ℕ, suc, ◌+◌, ◌-◌, ◌<◌, ◌≤◌, pos, List, [], ◌∷◌, ◌++◌, Bool, true, false, Option, Some, None, arith}
+use Rattle.std.proofs.Common.{◌≡◌, ℕ, suc, ◌+◌, ◌-◌, ◌<◌, ◌≤◌, pos, List, [], ◌∷◌, Bool, true, false, Option, Some, None, arith}
 use Rattle.std.specs.Prelude.{slice_get, IsTrue}
 use Rattle.cw_unit.specs.declared.unit.Unit.{Unit as SourceUnit}
 use Rattle.cw_unit.specs.declared.unit.Stmt.{Stmt}
@@ -90,15 +90,11 @@ OperationFits _ r = ⊥
 
 -- the control variable of a loop is set through its first word
 abbrev pub set_orders : Layout → (item : ℕ) → List Order
-set_orders y i = item_order y i 0 ∷ order.Load ∷ order.InArea ∷ order.Store ∷ []
-
--- the value of the control variable of a loop, through its first word, which is tested
-abbrev pub variable_orders : Layout → (item : ℕ) → List Order
-variable_orders y i = item_order y i 0 ∷ order.Load ∷ order.InArea ∷ order.Load ∷ []
+set_orders y i = item_order y i 0 ∷ order.SetVariable ∷ []
 
 -- the step is added to it
 abbrev pub bump_orders : Layout → (item : ℕ) → List Order
-bump_orders y i = variable_orders y i ++ item_order y i 1 ∷ order.Load ∷ order.Add ∷ item_order y i 0 ∷ order.Load ∷ order.Store ∷ []
+bump_orders y i = item_order y i 0 ∷ order.AddStep ∷ []
 
 -- every procedure answers, one without a type 0; a call statement drops the answer
 abbrev pub after_call : Target → (wanted : Bool) → List Order

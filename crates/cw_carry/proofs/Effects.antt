@@ -1,5 +1,5 @@
 -- What orders do to words, one after another.
-use Rattle.std.proofs.Common.{◌≡◌, ℕ, zero, suc, ◌+◌, ◌*◌, ◌<◌, ◌≤◌, ℤ, pos, negsuc, ◌+ℤ◌, ◌-ℤ◌, ◌*ℤ◌, neg_ℤ, List, [], ◌∷◌, set, length, Bool, true, false, Option, Some, None, refl, sym, ap, ◌∙◌, subst, arith}
+use Rattle.std.proofs.Common.{◌≡◌, ℕ, zero, suc, ◌+◌, ◌-◌, ◌*◌, ◌<◌, ◌≤◌, ℤ, pos, negsuc, ◌+ℤ◌, ◌-ℤ◌, ◌*ℤ◌, neg_ℤ, List, [], ◌∷◌, set, length, Bool, true, false, Option, Some, None, refl, sym, ap, ◌∙◌, subst, arith}
 use Rattle.std.specs.Prelude.{slice_get, int_le, not, IsTrue, ◌&&◌}
 use Rattle.std.proofs.lemmas.Bool.{false≢true, le-leb}
 use Rattle.cw_track.specs.Machine.{Machine}
@@ -8,7 +8,7 @@ use Rattle.cw_unit.specs.Stop.{StopKind, AddressRange, IndexRange, Running, Stop
 use Rattle.cw_word.specs.FixedPoint.{fits_word, rescaled, scaled_product}
 use Rattle.cw_word.specs.BitField.{unsigned_field}
 use Rattle.cw_word.specs.Word.{signed, unsigned, word_difference}
-use Rattle.cw_unit.specs.Words.{Control, LabelControl, SwitchControl, ProcedureControl, Operand, Word, Held, Words, Outcome, Changed, Refused, Impossible, with_operands, with_memory, is_below, put, put_if, put_value, on_one, on_two, word_at, through, at_address, field_value, with_bits, stored_value, logic_word, read_byte}
+use Rattle.cw_unit.specs.Words.{Control, LabelControl, SwitchControl, ProcedureControl, Operand, Word, Held, Words, Outcome, Changed, Refused, Impossible, with_operands, with_memory, is_below, number_of, put, put_if, put_value, on_one, on_two, word_at, through, at_address, field_value, with_bits, stored_value, logic_word, read_byte}
 use Rattle.cw_unit.specs.Operation.{Operation, Constant, Rescale, Fetch, Store, StoreBits, Add, Subtract, Negate, Multiply, Divide, Combine, Extract, InBounds, Form, Addressing, Known, Taken, Indexed, Indexed2, Scaled, Keep, SetVariable, AddStep, ReadByte, WriteByte, fitting, address_of, divide, store_sum, perform}
 use Rattle.cw_unit.specs.declared.unit.LogicOp.TheVariants as logic
 use Rattle.cw_unit.specs.Step.{held}
@@ -18,7 +18,7 @@ use Rattle.cw_order.specs.declared.order.Order.TheVariants as order
 use Rattle.cw_order.specs.OrderProgram.{OrderProgram, order_at}
 use Rattle.cw_order.specs.OrderState.{OrderActivation, at as state, operand_words, stack_words, argument_at, frame_word}
 use Rattle.cw_order.specs.OrderActions.{Action, Perform, Access, Alter, AlterWithin, home_word, action_of}
-use Rattle.cw_order.specs.OrderChanges.{bind, put_address, put_index, if_fits}
+use Rattle.cw_order.specs.OrderChanges.{bind, put_address, put_index, if_fits, if_inside}
 use Rattle.cw_order.specs.OrderCosts.{weight_of, weight_at}
 use Rattle.cw_order.specs.OrderMachine.{go_on, after, unrefused, act, carry_out, order_machine}
 use Rattle.cw_carry.proofs.Standing.{Stands}
@@ -117,6 +117,9 @@ costs_some (order.InBounds lower upper) h = (let z : 0 < 18 = omega arith in z)
 costs_some (order.Jump m) h = (let z : 0 < 1 = omega arith in z)
 costs_some (order.JumpIf c m) h = (let z : 0 < 7 = omega arith in z)
 costs_some (order.Exhausted m) h = (let z : 0 < 20 = omega arith in z)
+costs_some order.SetVariable h = (let z : 0 < 22 = omega arith in z)
+costs_some order.AddStep h = (let z : 0 < 28 = omega arith in z)
+costs_some order.PutVariable h = (let z : 0 < 22 = omega arith in z)
 costs_some (order.LoopWay marks) h = (let z : 0 < 12 = omega arith in z)
 costs_some order.Mark h = absurd (false≢true h)
 costs_some (order.Line n) h = (let z : 0 < 1 = omega arith in z)
@@ -160,6 +163,15 @@ fine_if n out false o h = tt
 fine_fits : (n : ℕ) (out : List ℕ) (b : Bool) (o : Outcome) → Fine n out o → Fine n out (if_fits b o)
 fine_fits n out true o h = h
 fine_fits n out false o h = tt
+
+fine_inside : (n : ℕ) (out : List ℕ) (b : Bool) (o : Outcome) → Fine n out o → Fine n out (if_inside b o)
+fine_inside n out true o h = h
+fine_inside n out false o h = tt
+
+fine_more : (m n : ℕ) (out : List ℕ) (o : Outcome) → m ≤ n → Fine m out o → Fine n out o
+fine_more m n out (Changed v) le (h, e) = ((let l : operand_words v.operands ≤ 2 + n = omega (arith, le, h) in l), e)
+fine_more m n out (Refused kind) le h = tt
+fine_more m n out Impossible le h = tt
 
 fine_through : (n : ℕ) (out : List ℕ) (b : Bool) (f : ℕ → Words → Outcome) (a : ℤ) (w : Words) → ((i : ℕ) → Fine n out (f i w)) → Fine n out (through b f a w)
 fine_through n out true f a w h = h _
@@ -286,6 +298,11 @@ module _ (area : ℕ) (w : Words) where
   fine_operation ReadByte s = fine_input n out w.input w same refl
   fine_operation WriteByte s = absurd (false≢true (sym s))
 
+-- behind an operand
+fine_behind : (area : ℕ) (op : Operation) (rest : List Operand) (w : Words) → writes area w op ≡ false → 1 + operand_words rest ≤ operand_words w.operands → Fine (operand_words w.operands) w.output (perform area op (with_operands w rest))
+fine_behind area op rest w s le =
+    fine_more (operand_words rest) (operand_words w.operands) w.output (perform area op (with_operands w rest)) (let l : operand_words rest ≤ operand_words w.operands = omega (arith, le) in l) (fine_operation area (with_operands w rest) op s)
+
 change_of : Words → Outcome → Words
 change_of d (Changed x) = x
 change_of d (Refused kind) = d
@@ -336,6 +353,19 @@ module _ (p : OrderProgram) (g : ℕ) (acts : List OrderActivation) where
       let second = if_fits (fits_word ((x -ℤ l) *ℤ pos k)) last in
       fine_fits (operand_words w.operands) w.output (fits_word (x -ℤ l)) second (fine_fits (operand_words w.operands) w.output (fits_word ((x -ℤ l) *ℤ pos k)) last (fine_put (operand_words w.operands) w.output (fits_word ((x -ℤ l) *ℤ pos k +ℤ y)) AddressRange ((x -ℤ l) *ℤ pos k +ℤ y) (with_operands w rest) (fewer p.limits.area w rest le) refl)))
   fine_order order.InArea w s = fine_operation p.limits.area w (Form Taken) refl
+  fine_order order.SetVariable w s =
+      fine_one _ _ (λ a v. if_inside (is_below a p.limits.area) (perform p.limits.area (SetVariable (number_of a)) v)) w.operands w (same p.limits.area w)
+      (λ a rest le. fine_inside _ _ (is_below a p.limits.area) (perform p.limits.area (SetVariable (number_of a)) (with_operands w rest)) (fine_behind p.limits.area (SetVariable (number_of a)) rest w refl le))
+  fine_order order.AddStep w s =
+      fine_one _ _ (λ a v. if_inside (is_below a (p.limits.area - 1)) (perform p.limits.area (AddStep (number_of a)) v)) w.operands w (same p.limits.area w)
+      (λ a rest le. fine_inside _ _ (is_below a (p.limits.area - 1)) (perform p.limits.area (AddStep (number_of a)) (with_operands w rest)) (fine_behind p.limits.area (AddStep (number_of a)) rest w refl le))
+  fine_order order.PutVariable w s =
+      fine_one _ _ (λ a v. if_inside (is_below a p.limits.area) (at_address p.limits.area (λ i t. Changed (put a (put (word_at t.memory i) t))) (word_at v.memory (number_of a)) v)) w.operands w (same p.limits.area w)
+      (λ a rest le.
+      let z = word_at w.memory (number_of a) in
+      let f : ℕ → Words → Outcome = λ i t. Changed (put a (put (word_at t.memory i) t)) in
+      fine_inside (operand_words w.operands) w.output (is_below a p.limits.area) (at_address p.limits.area f z (with_operands w rest))
+      (fine_through (operand_words w.operands) w.output (is_below z p.limits.area) f z (with_operands w rest) (λ i. ((let l : 1 + (1 + operand_words rest) ≤ 2 + operand_words w.operands = omega (arith, le) in l), refl))))
   fine_order (order.InBounds l u) w s = fine_operation p.limits.area w (InBounds l u) refl
   fine_order (order.LabelOut l) w s = fine_held _ _ (Some (LabelControl g l (length acts))) w (same p.limits.area w) refl
   fine_order (order.LabelCommon d) w s = fine_held _ _ _ w (same p.limits.area w) refl

@@ -1,5 +1,5 @@
 -- What the orders of an operation, and those of an address, do to words is what the source does.
-use Rattle.std.proofs.Common.{◌≡◌, ℕ, ◌+◌, ◌<◌, ◌≤◌, ℤ, pos, negsuc, ◌+ℤ◌, ◌-ℤ◌, ◌*ℤ◌, List, [], ◌∷◌, ◌++◌, Bool, true, false, Option, Some, None, refl, sym, ap, ◌∙◌, subst, arith}
+use Rattle.std.proofs.Common.{◌≡◌, ℕ, ◌+◌, ◌-◌, ◌<◌, ◌≤◌, ℤ, pos, negsuc, ◌+ℤ◌, ◌-ℤ◌, ◌*ℤ◌, List, [], ◌∷◌, ◌++◌, Bool, true, false, Option, Some, None, refl, sym, ap, ◌∙◌, subst, arith}
 use Rattle.std.specs.Prelude.{not, ◌==◌, IsTrue, ◌&&◌, if◌then◌else◌, set}
 use Rattle.std.proofs.lemmas.Bool.{false≢true, lt-ltb}
 use Rattle.std.proofs.lemmas.Bool.Decides.{nat_tests}
@@ -29,13 +29,14 @@ use Rattle.cw_order.specs.declared.order.Order.{Order}
 use Rattle.cw_order.specs.declared.order.Order.TheVariants as order
 use Rattle.cw_order.specs.OrderProgram.{OrderProgram}
 use Rattle.cw_order.specs.OrderState.{OrderActivation}
+use Rattle.cw_order.specs.OrderChanges.{if_inside}
 use Rattle.cw_order.specs.OrderMachine.{unrefused}
 use Rattle.cw_order.specs.FittingWords.{OperandFits, WordsFit}
 use Rattle.cw_gen_expr.specs.ReferenceExpressions.{item_order, table_orders, form_orders, narrow}
 use Rattle.cw_gen_expr.specs.BuiltExpressions.{whole, built_value}
 use Rattle.cw_gen_expr.proofs.Layers.{built_spot_layer}
 use Rattle.cw_carry.proofs.Effects.{then_do, IsPossible, effect, run_orders}
-use Rattle.cw_carry.proofs.Carried.{Ready, OperationFits, operation_orders, set_orders, variable_orders, bump_orders}
+use Rattle.cw_carry.proofs.Carried.{Ready, OperationFits, operation_orders, set_orders, bump_orders}
 
 -- ---- numbers
 
@@ -314,52 +315,22 @@ module _ (p : OrderProgram) (g : ℕ) (bs : List OrderActivation) where
           ap (λ o. then_do o (λ v. run (order.Load ∷ os) v)) (stand.puts i n k (words hand memory input output) h lt)
           ∙ behind_load (address i + n) os hand memory input output (stand.within i n k h lt)
 
-      -- at a tested address
-      set_through : (b : Bool) (z x : ℤ) (rest : List Operand) (memory : List ℤ) (input output : List ℕ) → is_below z area ≡ b → then_do (put_if b AddressRange z (words (Word x ∷ rest) memory input output)) (λ v. run (order.Store ∷ []) v) ≡ through b (λ i t. Changed (with_memory t (set t.memory i x))) z (words rest memory input output)
-      set_through true z x rest memory input output h =
-          one order.Store (words (Word z ∷ Word x ∷ rest) memory input output)
-          ∙ ap (λ b. unrefused (through b (λ i t. Changed (with_memory t (set t.memory i (stored_value None (word_at t.memory i) x)))) z (words rest memory input output))) h
-      set_through false z x rest memory input output h = refl
-
-      pub sets : (i k : ℕ) (hand : List Operand) (memory : List ℤ) (input output : List ℕ) → IsTrue (has_words i k) → 0 < k → IsPossible (perform area (SetVariable (address i)) (words hand memory input output)) → run (set_orders y i) (words hand memory input output) ≡ perform area (SetVariable (address i)) (words hand memory input output)
-      sets i k [] memory input output h lt ok = absurd ok
-      sets i k (Held x ∷ rest) memory input output h lt ok = absurd ok
-      sets i k (Word x ∷ rest) memory input output h lt ok =
-          behind_item i k (order.Load ∷ order.InArea ∷ order.Store ∷ []) (words (Word x ∷ rest) memory input output) h lt
-          ∙ behind_load (address i) (order.InArea ∷ order.Store ∷ []) (Word x ∷ rest) memory input output (inside i k h lt)
-          ∙ set_through (is_below (word_at memory (address i)) area) (word_at memory (address i)) x rest memory input output refl
-
-      -- the control variable through the first word of a loop
-      loaded_through : (b : Bool) (z : ℤ) (os : List Order) (hand : List Operand) (memory : List ℤ) (input output : List ℕ) → is_below z area ≡ b → then_do (put_if b AddressRange z (words hand memory input output)) (λ v. run (order.Load ∷ os) v) ≡ through b (λ i v. run os (put (word_at v.memory i) v)) z (words hand memory input output)
-      loaded_through true z os hand memory input output h =
-          ap (λ b. then_do (unrefused (through b (λ i v. Changed (put (field_value None (word_at v.memory i)) v)) z (words hand memory input output))) (λ v. run os v)) h
-      loaded_through false z os hand memory input output h = refl
-
-      pub behind_variable : (i k : ℕ) (os : List Order) (hand : List Operand) (memory : List ℤ) (input output : List ℕ) → IsTrue (has_words i k) → 0 < k → run (variable_orders y i ++ os) (words hand memory input output) ≡ through (is_below (word_at memory (address i)) area) (λ j v. run os (put (word_at v.memory j) v)) (word_at memory (address i)) (words hand memory input output)
-      behind_variable i k os hand memory input output h lt =
-          behind_item i k (order.Load ∷ order.InArea ∷ order.Load ∷ os) (words hand memory input output) h lt
-          ∙ behind_load (address i) (order.InArea ∷ order.Load ∷ os) hand memory input output (inside i k h lt)
-          ∙ loaded_through (is_below (word_at memory (address i)) area) (word_at memory (address i)) os hand memory input output refl
-
-      -- the sum goes back
-      put_back : (b : Bool) (i k : ℕ) (z x : ℤ) (hand : List Operand) (memory : List ℤ) (input output : List ℕ) → IsTrue (has_words i k) → 0 < k → z ≡ word_at memory (address i) → is_below z area ≡ true → then_do (put_if b Overflow x (words hand memory input output)) (λ v. run (item_order y i 0 ∷ order.Load ∷ order.Store ∷ []) v) ≡ store_sum b (number_of z) x (words hand memory input output)
-      put_back false i k z x hand memory input output h lt is below = refl
-      put_back true i k z x hand memory input output h lt is below =
-          behind_item i k (order.Load ∷ order.Store ∷ []) (words (Word x ∷ hand) memory input output) h lt
-          ∙ behind_load (address i) (order.Store ∷ []) (Word x ∷ hand) memory input output (inside i k h lt)
-          ∙ ap (λ a. run (order.Store ∷ []) (words (Word a ∷ Word x ∷ hand) memory input output)) (sym is)
-          ∙ one order.Store (words (Word z ∷ Word x ∷ hand) memory input output)
-          ∙ ap (λ b. unrefused (through b (λ j t. Changed (with_memory t (set t.memory j (stored_value None (word_at t.memory j) x)))) z (words hand memory input output))) below
-
-      added_through : (b : Bool) (i k : ℕ) (z : ℤ) (hand : List Operand) (memory : List ℤ) (input output : List ℕ) → IsTrue (has_words i k) → 1 < k → z ≡ word_at memory (address i) → is_below z area ≡ b → through b (λ j v. run (item_order y i 1 ∷ order.Load ∷ order.Add ∷ item_order y i 0 ∷ order.Load ∷ order.Store ∷ []) (put (word_at v.memory j) v)) z (words hand memory input output) ≡ through b (λ j v. store_sum (fits_word (word_at v.memory j +ℤ word_at v.memory (address i + 1))) j (word_at v.memory j +ℤ word_at v.memory (address i + 1)) v) z (words hand memory input output)
-      added_through false i k z hand memory input output h lt is below = refl
-      added_through true i k z hand memory input output h lt is below =
-          let v = word_at memory (number_of z) in
-          let x = v +ℤ word_at memory (address i + 1) in
-          behind_word i 1 k (order.Add ∷ item_order y i 0 ∷ order.Load ∷ order.Store ∷ []) (Word v ∷ hand) memory input output h lt
-          ∙ put_back (fits_word x) i k z x hand memory input output h (let l : 0 < k = omega (arith, lt) in l) is below
+      pub sets : (i k : ℕ) (hand : List Operand) (memory : List ℤ) (input output : List ℕ) → IsTrue (has_words i k) → 0 < k → run (set_orders y i) (words hand memory input output) ≡ perform area (SetVariable (address i)) (words hand memory input output)
+      sets i k hand memory input output h lt =
+          let w = words hand memory input output in
+          behind_item i k (order.SetVariable ∷ []) w h lt ∙ one order.SetVariable (put (pos (address i)) w)
+          ∙ ap (λ b. if_inside b (perform area (SetVariable (address i)) w)) (lt-ltb (address i) area (inside i k h lt))
 
       pub bumps : (i k : ℕ) (hand : List Operand) (memory : List ℤ) (input output : List ℕ) → IsTrue (has_words i k) → 1 < k → run (bump_orders y i) (words hand memory input output) ≡ perform area (AddStep (address i)) (words hand memory input output)
       bumps i k hand memory input output h lt =
-          behind_variable i k (item_order y i 1 ∷ order.Load ∷ order.Add ∷ item_order y i 0 ∷ order.Load ∷ order.Store ∷ []) hand memory input output h (let l : 0 < k = omega (arith, lt) in l)
-          ∙ added_through (is_below (word_at memory (address i)) area) i k (word_at memory (address i)) hand memory input output h lt refl refl
+          let w = words hand memory input output in
+          let both_words : address i < area - 1 = omega (arith, stand.within i 1 k h lt) in
+          behind_item i k (order.AddStep ∷ []) w h (let l : 0 < k = omega (arith, lt) in l) ∙ one order.AddStep (put (pos (address i)) w)
+          ∙ ap (λ b. if_inside b (perform area (AddStep (address i)) w)) (lt-ltb (address i) (area - 1) both_words)
+
+      -- the value of the control variable, below the address of the loop
+      pub variable_put : (i k : ℕ) (hand : List Operand) (memory : List ℤ) (input output : List ℕ) → IsTrue (has_words i k) → 0 < k → run (item_order y i 0 ∷ order.PutVariable ∷ []) (words hand memory input output) ≡ through (is_below (word_at memory (address i)) area) (λ j v. Changed (put (pos (address i)) (put (word_at v.memory j) v))) (word_at memory (address i)) (words hand memory input output)
+      variable_put i k hand memory input output h lt =
+          let w = words hand memory input output in
+          behind_item i k (order.PutVariable ∷ []) w h lt ∙ one order.PutVariable (put (pos (address i)) w)
+          ∙ ap (λ b. if_inside b (through (is_below (word_at memory (address i)) area) (λ j v. Changed (put (pos (address i)) (put (word_at v.memory j) v))) (word_at memory (address i)) w)) (lt-ltb (address i) area (inside i k h lt))

@@ -36,7 +36,7 @@ use Rattle.cw_gen_expr.specs.ReferenceExpressions.{Scope, item_order, store_orde
 use Rattle.cw_gen_expr.specs.ReferenceEntries.{scope_of, bound_by, bound_in, bound_order, parameter_orders, bind_orders}
 use Rattle.cw_gen_expr.specs.UnitTables.{first_mark}
 use Rattle.cw_gen_expr.proofs.Layers.{total}
-use Rattle.cw_gen_unit.specs.ReferenceStatements.{begin_orders, after_statement_call, own_order, goal_order, jump_piece, with_middle, number_orders, set_orders, variable_orders, bump_orders, turn_piece, while_values, step_values, element_piece, elements_piece, element_ways, ring_piece, statement_piece}
+use Rattle.cw_gen_unit.specs.ReferenceStatements.{begin_orders, after_statement_call, own_order, goal_order, jump_piece, with_middle, number_orders, set_orders, bump_orders, turn_piece, while_values, step_values, element_piece, elements_piece, element_ways, ring_piece, statement_piece}
 use Rattle.cw_gen_unit.specs.ReferenceUnits.{answer_of, entry_orders, leave_orders, procedure_piece, procedures_piece, body_piece, unit_piece, unit_orders, orders_program}
 use Rattle.cw_carry_stmt.proofs.Shapes.{statement_layer, statement-made}
 use Rattle.cw_carry_run.proofs.ConstantWords.{IsWord, Fit, together, each, Fits, plain_fit, both_fit, end_fit, item_word, number_word, call_word, choice_fit, value_words, condition_words, reference_words, argument_list_words}
@@ -77,15 +77,15 @@ module _ (y : Layout) (item : ℕ) where
   number_fit i = (number_word i, (item_word y item 3, (tt, tt)))
 
   set_fit : Fit (set_orders y item)
-  set_fit = (item_word y item 0, (tt, (tt, (tt, tt))))
+  set_fit = (item_word y item 0, (tt, tt))
 
   bump_fit : Fit (bump_orders y item)
-  bump_fit = (item_word y item 0, (tt, (tt, (tt, (item_word y item 1, (tt, (tt, (item_word y item 0, (tt, (tt, tt))))))))))
+  bump_fit = (item_word y item 0, (tt, tt))
 
   turn_fit : (body : ℕ) → Fits (turn_piece y item body)
   turn_fit body =
-      end_fit (λ next. plain (variable_orders y item ++ item_order y item 0 ∷ order.Exhausted next ∷ order.Jump body ∷ []))
-      (λ k place next. (item_word y item 0, (tt, (tt, (tt, (item_word y item 0, (tt, (tt, tt))))))))
+      end_fit (λ next. plain (item_order y item 0 ∷ order.PutVariable ∷ order.Exhausted next ∷ order.Jump body ∷ []))
+      (λ k place next. (item_word y item 0, (tt, (tt, (tt, tt)))))
 
 module _ (s : Scope) where
   while_fit : (item f body next i : ℕ) (e : Expr) (c : Cond) → Fits (while_values s item f body next i e c)

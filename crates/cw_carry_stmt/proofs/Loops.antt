@@ -32,10 +32,11 @@ use Rattle.cw_gen_expr.specs.BuiltExpressions.{is_expression, is_condition, most
 use Rattle.cw_carry.proofs.Standing.{Stands, Made, both_made, one_made, end_made}
 use Rattle.cw_carry.proofs.Effects.{then_do, is_silent, all_silent, total_weight, total_growth, growth_within, Ran, run_through}
 use Rattle.cw_carry.proofs.Carried.{Leads, here, past, over as leap, Via, wider, who_of}
-use Rattle.cw_carry.proofs.Operations.{keeps, bumps, behind_item, behind_word, behind_variable}
+use Rattle.cw_carry.proofs.Operations.{keeps, bumps, behind_word, variable_put}
 use Rattle.cw_carry.proofs.Stepping.{Compiled, source, target, B, work_size, Seen, order_here, mark_here, lands, silent, stops}
+use Rattle.cw_carry.proofs.Addresses.{item_and}
 use Rattle.cw_carry.proofs.Moments.{both, item_silent, item_light, IsLight, silent_and, Moment, here_in, layout, scope, has_words, code, marks, At, Leads_to, Steps, config, next, run, Facts, at_once, done_by, one_order}
-use Rattle.cw_gen_unit.specs.ReferenceStatements.{number_orders, set_orders, variable_orders, bump_orders, element_piece, way_mark}
+use Rattle.cw_gen_unit.specs.ReferenceStatements.{number_orders, set_orders, bump_orders, element_piece, way_mark}
 use Rattle.cw_gen_unit.specs.BuiltStatements.{is_element, are_elements}
 use Rattle.cw_carry_stmt.proofs.Sites.{LoopSite, ElementSite, TurnSite, BumpSite, OnSite, sites}
 use Rattle.cw_gen_unit.specs.ReferenceUnits.{answer_of}
@@ -81,7 +82,7 @@ module _ (code : List Order) (marks : List ℕ) (s : Scope) (who : Option ℕ) (
   keep2 turn = item_order s.layout item 2 ∷ order.Store ∷ order.Jump turn ∷ []
 
   abbrev step_turn : (body mark : ℕ) → List Order
-  step_turn body mark = variable_orders s.layout item ++ item_order s.layout item 0 ∷ order.Exhausted mark ∷ order.Jump body ∷ []
+  step_turn body mark = item_order s.layout item 0 ∷ order.PutVariable ∷ order.Exhausted mark ∷ order.Jump body ∷ []
 
   abbrev after_keep1 : ℕ → Piece
   after_keep1 turn = followed_by pd (plain (keep2 turn))
@@ -286,10 +287,6 @@ module _ (c : Compiled) (at_sites : (g : ℕ) (u : Rattle.cw_unit.specs.declared
   value_at : (e : Expr) (line q m free last l : ℕ) (k' : Work) → IsTrue (is_expression t.unit (has_words c t) e x.scale most_levels) → Made (code c t) (marks c t) (expression_piece (scope c t) e x.scale q free) q m free last → line ≡ l → At c t m l false k' → At c t q l false (Eval e x.scale line k')
   value_at e line q m free last l k' b made same carried = (m, 64, 0, free, last, b, made, (let z : 0 + 64 ≤ 64 = omega arith in z), same, (m, here refl, carried))
 
-  -- the test of a STEP element
-  abbrev turn_orders : (site : Site) → (mark : ℕ) → List Order
-  turn_orders site mark = variable_orders (layout c t) x.item ++ item_order (layout c t) x.item 0 ∷ order.Exhausted mark ∷ order.Jump site.body ∷ []
-
   -- where the way on leads, for an element of each kind: at its way mark
   abbrev Way : Site → ℕ → Felem → ℕ → Type 0
   Way site i e l = (y : ℕ) × (slice_get (marks c t) (way_mark e (site.free i)) ≡ Some y) × Leads_to c t y l false (next_work e i x k)
@@ -419,16 +416,8 @@ module _ (c : Compiled) (at_sites : (g : ℕ) (u : Rattle.cw_unit.specs.declared
   pub bump_follows : (i q l : ℕ) (w : Words) → BumpSite c.orders_for t.unit who (has_words c t) q i x n → x.line ≡ l → Facts c t (Bump i x k) w → Steps c t (Bump i x k) q l w
   bump_follows i q l w (y, stands, marked, turning) same facts =
       let site = turning.0 in
-      let one = item_light (layout c t) x.item 1 in
-      let zero' = item_light (layout c t) x.item 0 in
-      let rest = item_order (layout c t) x.item 1 ∷ order.Load ∷ order.Add ∷ item_order (layout c t) x.item 0 ∷ order.Load ∷ order.Store ∷ [] in
       done_by c t (Bump i x k) (Turn i x k) x.line q y l (bump_orders (layout c t) x.item) w false (perform c.limits.area (AddStep (address_at (source c) t.segment t.acts x.item)) w) same stands
-      (record {
-        quiet = silent_and (is_silent (item_order (layout c t) x.item 0)) (all_silent rest) (item_silent (layout c t) x.item 0) (silent_and (is_silent (item_order (layout c t) x.item 1)) (is_silent (item_order (layout c t) x.item 0) && true) (item_silent (layout c t) x.item 1) (silent_and (is_silent (item_order (layout c t) x.item 0)) true (item_silent (layout c t) x.item 0) refl));
-        light = (let z : total_weight (bump_orders (layout c t) x.item) ≤ 160 = omega (arith, one.1, zero'.1) in z);
-        some = (let z : 0 < total_weight (bump_orders (layout c t) x.item) = omega (arith, zero'.0) in z);
-        short = (let z : 10 ≤ 12 = omega arith in z);
-      })
+      (item_and (layout c t) x.item (order.AddStep ∷ []) refl (omega arith) (omega arith))
       facts refl
       (λ ok. bumps (target c) (here_in c t) t.calls_below (source c) t.segment t.acts (layout c t) (has_words c t) t.in_words t.stand x.item 4 w.operands w.memory w.input w.output site.words (let z : 1 < 4 = omega arith in z))
       (λ v h. tt)
@@ -520,18 +509,18 @@ module _ (c : Compiled) (at_sites : (g : ℕ) (u : Rattle.cw_unit.specs.declared
       z = word_at w.memory a
 
       os : List Order
-      os = variable_orders (layout c t) x.item ++ item_order (layout c t) x.item 0 ∷ []
+      os = item_order (layout c t) x.item 0 ∷ order.PutVariable ∷ []
 
       p : ℕ
-      p = q + 1 + 1 + 1 + 1 + 1
+      p = q + 1 + 1
 
       ran : Ran (target c) g t.calls_below q p l os w (run c t os w)
-      ran = run_on os q p l w (stands.0, (stands.1.0, (stands.1.1.0, (stands.1.1.1.0, (stands.1.1.1.1.0, refl)))))
-          (silent_and (is_silent (item_order (layout c t) x.item 0)) (is_silent (item_order (layout c t) x.item 0) && true) (item_silent (layout c t) x.item 0) (silent_and (is_silent (item_order (layout c t) x.item 0)) true (item_silent (layout c t) x.item 0) refl))
-          (let y' : 2 * 5 + stack_words w.operands t.calls_below ≤ c.room = omega (arith, facts.room) in y')
+      ran = run_on os q p l w (stands.0, (stands.1.0, refl))
+          (silent_and (is_silent (item_order (layout c t) x.item 0)) true (item_silent (layout c t) x.item 0) refl)
+          (let y' : 2 * 2 + stack_words w.operands t.calls_below ≤ c.room = omega (arith, facts.room) in y')
 
-      read : run c t os w ≡ through (is_below z c.limits.area) (λ j' v. run c t (item_order (layout c t) x.item 0 ∷ []) (put (word_at v.memory j') v)) z w
-      read = behind_variable (target c) (here_in c t) t.calls_below (source c) t.segment t.acts (layout c t) (has_words c t) t.in_words t.stand x.item 4 (item_order (layout c t) x.item 0 ∷ []) w.operands w.memory w.input w.output site.words none_of_four
+      read : run c t os w ≡ through (is_below z c.limits.area) (λ j' v. Changed (put (pos a) (put (word_at v.memory j') v))) z w
+      read = variable_put (target c) (here_in c t) t.calls_below (source c) t.segment t.acts (layout c t) (has_words c t) t.in_words t.stand x.item 4 w.operands w.memory w.input w.output site.words none_of_four
 
       heavy : (0 < weight_of (item_order (layout c t) x.item 0)) × (weight_of (item_order (layout c t) x.item 0) ≤ 4)
       heavy = item_light (layout c t) x.item 0
@@ -555,17 +544,17 @@ module _ (c : Compiled) (at_sites : (g : ℕ) (u : Rattle.cw_unit.specs.declared
       cost = total_weight os
 
       light : cost + 20 ≤ 160
-      light = let v : weight_of (item_order (layout c t) x.item 0) + (4 + (16 + (4 + (weight_of (item_order (layout c t) x.item 0) + 0)))) + 20 ≤ 160 = omega (arith, heavy.1) in v
+      light = let v : weight_of (item_order (layout c t) x.item 0) + (22 + 0) + 20 ≤ 160 = omega (arith, heavy.1) in v
 
       to_way : is_below z c.limits.area ≡ true → Path (Seen c t.segment t.acts t.calls_below t.unit t.unit_is w) (B c) cost (at_state q l w) (at_state p l u)
       to_way is =
-          let done : run c t os w ≡ Changed u = read ∙ ap (λ b. through b (λ j' v. run c t (item_order (layout c t) x.item 0 ∷ []) (put (word_at v.memory j') v)) z w) is ∙ behind_item (target c) (here_in c t) t.calls_below (source c) t.segment t.acts (layout c t) (has_words c t) t.in_words t.stand x.item 4 [] (put value w) site.words none_of_four in
+          let done : run c t os w ≡ Changed u = read ∙ ap (λ b. through b (λ j' v. Changed (put (pos a) (put (word_at v.memory j') v))) z w) is in
           (subst (Ran (target c) g t.calls_below q p l os w) done ran).0
 
       goes : (y' : ℕ) (k' : Work) → is_below z c.limits.area ≡ true → next c t (Turn i x k) w ≡ config c t k' w → act (target c) (action_of (target c) g t.calls_below (order.Exhausted mark)) g p l t.calls_below u ≡ at_state y' l w → Leads_to c t y' l false k' → Steps c t (Turn i x k) q l w
       goes y' k' is e f carried =
           let seen = Seen c t.segment t.acts t.calls_below t.unit t.unit_is w in
-          let chosen = one_order c t (order.Exhausted mark) p l u (at_state y' l w) stands.1.1.1.1.1.0 f in
+          let chosen = one_order c t (order.Exhausted mark) p l u (at_state y' l w) stands.1.1.0 f in
           let all = join seen (B c) cost 20 (cost + 20) (at_state q l w) (at_state p l u) (at_state y' l w) refl (to_way is) chosen in
           lands c t.segment t.acts t.calls_below t.unit t.unit_is t.calls (Turn i x k) k' q y' l l false w w (cost + 20) e
           (weaken seen (Quiet (shown (config c t (Turn i x k) w)) (shown (configuration t.segment k' t.acts w Running))) (B c) (cost + 20) (at_state q l w) (at_state y' l w) (λ o h. inl h) all)
@@ -585,12 +574,12 @@ module _ (c : Compiled) (at_sites : (g : ℕ) (u : Rattle.cw_unit.specs.declared
           goes y next_on is (picks true is e)
           (chooses true e ∙ ap (λ o. go_at o g p l t.calls_below u w) (mark_here c t.segment t.acts t.calls_below t.unit t.unit_is mark y mark_is))
           (site.place (i + 1), wider (code c t) (marks c t) 0 most_levels y (site.place (i + 1)) (let v : 0 ≤ 64 = omega arith in v) way, element_carried (site.place (i + 1)) (i + 1) l (next_element_site site i below) same)
-      by_past false is e = goes (p + 1) body_on is (picks false is e) (chooses false e) (to_body site (p + 1) l stands.1.1.1.1.1.1.0)
+      by_past false is e = goes (p + 1) body_on is (picks false is e) (chooses false e) (to_body site (p + 1) l stands.1.1.1.0)
 
       by_area : (b : Bool) → is_below z c.limits.area ≡ b → Steps c t (Turn i x k) q l w
       by_area true is = by_past (is_past (word_at w.memory (a + 1)) value (word_at w.memory (a + 2))) is refl
       by_area false is =
-          let done : run c t os w ≡ Refused AddressRange = read ∙ ap (λ b. through b (λ j' v. run c t (item_order (layout c t) x.item 0 ∷ []) (put (word_at v.memory j') v)) z w) is in
+          let done : run c t os w ≡ Refused AddressRange = read ∙ ap (λ b. through b (λ j' v. Changed (put (pos a) (put (word_at v.memory j') v))) z w) is in
           let stop = subst (Ran (target c) g t.calls_below q p l os w) done ran in
           stops c t.segment t.acts t.calls_below t.unit t.unit_is t.calls (Turn i x k) q stop.1 l w stop.2 AddressRange x.line stop.0 (ap (λ d. turn_step (source c) d t.segment a i x (Turn i x k) k t.acts w) is)
           (subst (λ m. Path (Seen c t.segment t.acts t.calls_below t.unit t.unit_is w) (B c) stop.0 (at_state q l w) (state g stop.1 l t.calls_below stop.2 (Stopped AddressRange (g + 1) m))) (sym same) stop.5)

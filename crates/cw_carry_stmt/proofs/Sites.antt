@@ -1,5 +1,5 @@
 -- Where statements, jumps and the parts of loops stand.
-use Rattle.std.proofs.Common.{◌≡◌, ℕ, ◌+◌, ◌<◌, ◌≤◌, pos, List, [], ◌∷◌, ◌++◌, length, Bool, Option, Some, None}
+use Rattle.std.proofs.Common.{◌≡◌, ℕ, ◌+◌, ◌<◌, ◌≤◌, pos, List, [], ◌∷◌, length, Bool, Option, Some, None}
 use Rattle.std.specs.Prelude.{slice_get, IsTrue}
 use Rattle.cw_unit.specs.declared.unit.Unit.{Unit as SourceUnit}
 use Rattle.cw_unit.specs.declared.unit.Stmt.{Stmt}
@@ -13,7 +13,7 @@ use Rattle.cw_gen_expr.specs.ReferenceExpressions.{Scope, item_order}
 use Rattle.cw_carry.proofs.Standing.{Stands, Made}
 use Rattle.cw_carry.proofs.Carried.{Leads, Places}
 use Rattle.cw_gen_expr.specs.ReferenceEntries.{scope_of}
-use Rattle.cw_gen_unit.specs.ReferenceStatements.{jump_order, statement_piece, set_orders, variable_orders, bump_orders, element_piece, way_mark}
+use Rattle.cw_gen_unit.specs.ReferenceStatements.{jump_order, statement_piece, set_orders, bump_orders, element_piece, way_mark}
 use Rattle.cw_gen_unit.specs.BuiltStatements.{is_statement, are_elements}
 use Rattle.cw_gen_unit.specs.ReferenceUnits.{answer_of}
 
@@ -72,7 +72,7 @@ module _ (orders_for : SourceUnit → Orders) (u : SourceUnit) (who : Option ℕ
 
   abbrev pub TurnSite : (q number : ℕ) → Loop → (next : ℕ) → Type 0
   TurnSite q i c next =
-      (site : LoopSite c next) × (mark : ℕ) × (x : ℕ) × (y : ℕ) × Stands code q (variable_orders scope.layout c.item ++ item_order scope.layout c.item 0 ∷ order.Exhausted mark ∷ order.Jump site.body ∷ []) x × (slice_get marks mark ≡ Some y) × Leads code marks 0 y (site.place (i + 1)) × (i ≤ length c.elements)
+      (site : LoopSite c next) × (mark : ℕ) × (x : ℕ) × (y : ℕ) × Stands code q (item_order scope.layout c.item 0 ∷ order.PutVariable ∷ order.Exhausted mark ∷ order.Jump site.body ∷ []) x × (slice_get marks mark ≡ Some y) × Leads code marks 0 y (site.place (i + 1)) × (i ≤ length c.elements)
 
   abbrev pub BumpSite : (q number : ℕ) → Loop → (next : ℕ) → Type 0
   BumpSite q i c next = (x : ℕ) × Stands code q (bump_orders scope.layout c.item) x × (slice_get code x ≡ Some order.Mark) × TurnSite (x + 1) i c next

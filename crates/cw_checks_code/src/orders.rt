@@ -109,6 +109,19 @@ Line:1 ReadByte WriteByte ReadByte WriteByte ReadByte WriteByte End|7|7 255 255|
 Line:1 Const:2 Home:1:1 Store Const:7 Home:1:2 Store Const:1 Home:0:0 Store Mark:0 Home:0:0 Load Home:1:0 Exhausted:1 Home:0:0 Load WriteByte Home:0:0 Load Home:1:1 Load Add Home:0:0 Store Jump:0 Mark:1 End||1 3 5 7|
 Line:1 Const:65533 Home:1:1 Store Const:65534 Home:1:2 Store Const:5 Home:0:0 Store Mark:0 Home:0:0 Load Home:1:0 Exhausted:1 Home:0:0 Load WriteByte Home:0:0 Load Home:1:1 Load Add Home:0:0 Store Jump:0 Mark:1 End||5 2 255|
 Line:1 Const:0 Home:1:1 Store Const:1 Home:1:2 Store Const:5 Home:1:0 Exhausted:0 Const:5 WriteByte Mark:0 Const:65535 Home:1:1 Store Const:32767 Home:1:2 Store Const:32768 Home:1:0 Exhausted:1 Const:6 WriteByte Mark:1 Const:1 Home:1:1 Store Const:32768 Home:1:2 Store Const:32767 Home:1:0 Exhausted:2 Const:7 WriteByte Mark:2 End||5|
+Line:1 Home:0:0 Home:1:0 Store Const:2 Home:1:1 Store Const:7 Home:1:2 Store Const:1 Home:1:0 SetVariable Jump:2 Mark:0 Home:0:0 Load WriteByte Home:1:0 AddStep Mark:2 Home:1:0 PutVariable Exhausted:1 Jump:0 Mark:1 End||1 3 5 7|
+Line:1 Home:0:1 Home:1:0 Store Const:3 Home:1:1 Store Const:9 Const:5 Home:1:0 SetVariable Home:1:0 AddStep WriteByte Const:6 Home:1:0 PutVariable Drop WriteByte WriteByte Home:0:1 Load WriteByte End||9 8 6 8|
+Line:1 Const:5 CallProc:0 WriteByte End Proc:0:1 Enter:6 BindFrame:0:4 FrameHome:4 FrameHome:0 Store Const:65534 FrameHome:1 Store Const:1 FrameHome:2 Store Mark:1 FrameHome:0 PutVariable Exhausted:2 FrameHome:4 Load WriteByte FrameHome:0 AddStep Jump:1 Mark:2 FrameHome:4 Load Return:1:1||5 3 1 255|
+Line:8 Const:999 Home:1:0 Store Const:7 Home:1:0 SetVariable Home:1:0 PutVariable Drop WriteByte Const:1000 Home:1:0 Store Const:5 Home:1:0 SetVariable End||7|4 1 8
+Line:8 Const:65535 Home:1:0 Store Home:1:0 PutVariable Drop Drop End|||4 1 8
+Line:8 Const:32767 Home:1:0 Store Const:32767 Home:1:1 Store Home:1:0 AddStep End|||4 1 8
+Line:9 Home:0:0 Home:1:0 Store Const:65535 Home:1:1 Store Const:3 Home:1:0 SetVariable Home:1:0 AddStep Home:0:0 Load WriteByte Const:32768 Home:1:0 SetVariable Home:1:0 AddStep End||2|1 1 9
+Line:1 Home:0:6 Home:1:0 Store Const:41 Home:0:6 Store Const:8 Home:1:0 PutVariable WriteByte WriteByte WriteByte End||10 41 8|
+Line:1 Home:1:1 Home:1:0 Store Const:3 Home:1:1 Store Home:1:0 AddStep Home:1:1 Load WriteByte Home:1:0 Home:1:0 Store Home:1:0 AddStep Home:1:0 Load WriteByte End||6 16|
+Line:3 Const:1000 Home:1:0 Store Const:1 Home:1:1 Store Home:1:0 AddStep Const:9 WriteByte End|||4 1 3
+Line:1 Const:5 WriteByte End Segment Line:6 Const:1000 Home:1:0 Store Home:1:0 PutVariable Drop WriteByte End||5|4 2 6
+Line:7 Const:65535 Home:1:0 Store Const:5 Home:1:0 SetVariable Const:9 WriteByte End|||4 1 7
+Line:8 Home:0:0 Home:1:0 Store Const:1 Home:1:1 Store Const:32766 Home:1:0 SetVariable Home:1:0 AddStep Home:0:0 Load Const:32760 Sub WriteByte Home:1:0 AddStep Const:9 WriteByte End||7|1 1 8
 Line:1 Const:2 LoopWay:0:1:2 Const:9 WriteByte Mark:0 Const:1 WriteByte Mark:1 Const:2 WriteByte Mark:2 Const:3 WriteByte End||2 3|
 Line:1 Const:4 LoopWay:0:1:2 Const:0 LoopWay:0:1:2 Const:65535 LoopWay:0:1:2 Const:9 WriteByte Mark:0 Const:1 WriteByte Mark:1 Const:2 WriteByte Mark:2 Const:3 WriteByte End||9 1 2 3|
 Line:1 Const:1 WriteByte End Segment Line:4 Const:2 WriteByte Const:1 Const:0 Div:0 WriteByte End||1 2|2 2 4
@@ -150,7 +163,7 @@ Line:1 ProcOut:1 CallProc:0 WriteByte End Proc:0:1 Enter:0 SpecialOut:0 ProcOut:
 
 // The orders, by the names that the rows give them.
 const ORDERS: &str =
-    "Const Home FrameHome Load Store LoadPart StorePart Rescale Add Sub Neg Mul Div And Or Xor Take IndexLess IndexTimes IndexPlus IndexAdd IndexRow InArea InBounds Less Drop Jump JumpIf Exhausted LoopWay Mark LabelOut LabelCommon SwitchOut SwitchCommon ProcOut ProcCommon SpecialOut GoSpecial GoSwitch GoSwitchCommon GoSwitchSpecial GoMain GoCommon CallProc CallCommon CallSpecial Enter Bind BindFrame Return ReadByte WriteByte Line Start End";
+    "Const Home FrameHome Load Store LoadPart StorePart Rescale Add Sub Neg Mul Div And Or Xor Take IndexLess IndexTimes IndexPlus IndexAdd IndexRow InArea InBounds Less Drop Jump JumpIf Exhausted SetVariable AddStep PutVariable LoopWay Mark LabelOut LabelCommon SwitchOut SwitchCommon ProcOut ProcCommon SpecialOut GoSpecial GoSwitch GoSwitchCommon GoSwitchSpecial GoMain GoCommon CallProc CallCommon CallSpecial Enter Bind BindFrame Return ReadByte WriteByte Line Start End";
 
 // A row whose run comes from so many calls to a label of the segment's body, and writes a byte on either side of the jump. The control stack has
 // no room for more of such calls.
@@ -218,7 +231,7 @@ fn programs(rt: HostRuntime) -> Result<(), Fail> {
             count = count.wrapping_add(1);
         }
     }
-    assert_eq!(rt; count, 90);
+    assert_eq!(rt; count, 103);
     Ok(())
 }
 

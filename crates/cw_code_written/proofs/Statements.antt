@@ -1,5 +1,5 @@
 -- The orders of the statements of a unit that is built name what there is, and begin each statement with its line.
-use Rattle.std.proofs.Common.{◌≡◌, ℕ, zero, suc, ◌+◌, ◌<◌, ◌≤◌, nat_lt, List, [], ◌∷◌, ◌++◌, map, length, Bool, true, false, IsTrue, ◌&&◌, Option, Some, None, is_some, slice_get, refl, sym, subst, arith}
+use Rattle.std.proofs.Common.{◌≡◌, ℕ, zero, suc, ◌+◌, ◌<◌, ◌≤◌, nat_lt, List, [], ◌∷◌, map, length, Bool, true, false, IsTrue, ◌&&◌, Option, Some, None, is_some, slice_get, refl, sym, subst, arith}
 use Rattle.std.proofs.lemmas.Bool.{leb-true}
 use Rattle.std.specs.List.{list_all}
 use Rattle.cw_order.specs.declared.order.Order.{Order}
@@ -35,7 +35,7 @@ use Rattle.cw_gen_expr.specs.UnitTables.{label_mark}
 use Rattle.cw_gen_expr.proofs.Layers.{total}
 use Rattle.cw_gen_unit.specs.BuiltStatements as built
 use Rattle.cw_gen_unit.specs.ReferenceStatements as made
-use Rattle.cw_gen_unit.specs.ReferenceStatements.{begin_orders, after_statement_call, from_procedure, own_order, goal_order, jump_piece, with_middle, number_orders, set_orders, variable_orders, bump_orders, turn_piece, while_values, step_values, element_piece, elements_piece, element_ways, ring_piece, statement_piece}
+use Rattle.cw_gen_unit.specs.ReferenceStatements.{begin_orders, after_statement_call, from_procedure, own_order, goal_order, jump_piece, with_middle, number_orders, set_orders, bump_orders, turn_piece, while_values, step_values, element_piece, elements_piece, element_ways, ring_piece, statement_piece}
 use Rattle.cw_built.specs.Listed.{are_named}
 use Rattle.cw_built.specs.Built.{alone}
 use Rattle.cw_coded.proofs.Fine.{no, both, parts}
@@ -143,20 +143,16 @@ module _ (u : SourceUnit) (stored : IsStorable u) (few : length u.items ≤ 6553
     numbered_good i = plainly (number_orders (layout_of u) item i) (item-first item 4 3 (order.Store ∷ []) has refl)
 
     set_good : Sound (plain (set_orders (layout_of u) item))
-    set_good = plainly (set_orders (layout_of u) item) (item-first item 4 0 (order.Load ∷ order.InArea ∷ order.Store ∷ []) has refl)
+    set_good = plainly (set_orders (layout_of u) item) (item-first item 4 0 (order.SetVariable ∷ []) has refl)
 
     bump_good : Sound (plain (bump_orders (layout_of u) item))
-    bump_good =
-        let last : List Order = item_order (layout_of u) item 0 ∷ order.Load ∷ order.Store ∷ [] in
-        let middle : List Order = item_order (layout_of u) item 1 ∷ order.Load ∷ order.Add ∷ last in
-        plainly (bump_orders (layout_of u) item)
-        (item-first item 4 0 (order.Load ∷ order.InArea ∷ order.Load ∷ middle) has (item-first item 4 1 (order.Load ∷ order.Add ∷ last) has (item-first item 4 0 (order.Load ∷ order.Store ∷ []) has refl)))
+    bump_good = plainly (bump_orders (layout_of u) item) (item-first item 4 0 (order.AddStep ∷ []) has refl)
 
     turn_good : (body : ℕ) → Sound (turn_piece (layout_of u) item body)
     turn_good body =
-        ended_good (λ next. plain (variable_orders (layout_of u) item ++ item_order (layout_of u) item 0 ∷ order.Exhausted next ∷ order.Jump body ∷ []))
-        (λ next. plainly (variable_orders (layout_of u) item ++ item_order (layout_of u) item 0 ∷ order.Exhausted next ∷ order.Jump body ∷ [])
-        (item-first item 4 0 (order.Load ∷ order.InArea ∷ order.Load ∷ item_order (layout_of u) item 0 ∷ order.Exhausted next ∷ order.Jump body ∷ []) has (item-first item 4 0 (order.Exhausted next ∷ order.Jump body ∷ []) has refl)))
+        ended_good (λ next. plain (item_order (layout_of u) item 0 ∷ order.PutVariable ∷ order.Exhausted next ∷ order.Jump body ∷ []))
+        (λ next. plainly (item_order (layout_of u) item 0 ∷ order.PutVariable ∷ order.Exhausted next ∷ order.Jump body ∷ [])
+        (item-first item 4 0 (order.PutVariable ∷ order.Exhausted next ∷ order.Jump body ∷ []) has refl))
 
     kept_good : (word : ℕ) (os : List Order) → Well os → Sound (plain (item_order (layout_of u) item word ∷ order.Store ∷ os))
     kept_good word os h = plainly (item_order (layout_of u) item word ∷ order.Store ∷ os) (item-first item 4 word (order.Store ∷ os) has h)

@@ -1,5 +1,5 @@
 -- The orders of statements whose numbers are in range have code, and their marks and labels stand at places of marks.
-use Rattle.std.proofs.Common.{◌≡◌, ℕ, zero, suc, ◌+◌, ◌<◌, ◌≤◌, nat_lt, List, [], ◌∷◌, ◌++◌, map, length, Bool, true, false, IsTrue, ◌&&◌, Option, Some, None, slice_get, refl, sym, ap, subst, arith}
+use Rattle.std.proofs.Common.{◌≡◌, ℕ, zero, suc, ◌+◌, ◌<◌, ◌≤◌, nat_lt, List, [], ◌∷◌, map, length, Bool, true, false, IsTrue, ◌&&◌, Option, Some, None, slice_get, refl, sym, ap, subst, arith}
 use Rattle.std.specs.List.{list_all}
 use Rattle.cw_order.specs.declared.order.Order.{Order}
 use Rattle.cw_order.specs.declared.order.Order.TheVariants as order
@@ -24,7 +24,7 @@ use Rattle.cw_gen_expr.specs.ReferenceExpressions.{Scope, argument_words, contro
 use Rattle.cw_gen_expr.specs.UnitTables.{label_mark}
 use Rattle.cw_gen_expr.proofs.Layers.{total}
 use Rattle.cw_gen_unit.specs.ReferenceStatements as made
-use Rattle.cw_gen_unit.specs.ReferenceStatements.{begin_orders, after_statement_call, from_procedure, own_order, goal_order, jump_piece, with_middle, number_orders, set_orders, variable_orders, bump_orders, turn_piece, while_values, step_values, element_piece, elements_piece, element_ways, ring_piece, loop_piece, statement_piece}
+use Rattle.cw_gen_unit.specs.ReferenceStatements.{begin_orders, after_statement_call, from_procedure, own_order, goal_order, jump_piece, with_middle, number_orders, set_orders, bump_orders, turn_piece, while_values, step_values, element_piece, elements_piece, element_ways, ring_piece, loop_piece, statement_piece}
 use Rattle.cw_built.specs.Coded.{is_part, has_code}
 use Rattle.cw_coded.specs.RangedExpressions.{all_ranged, is_ranged_expression, is_ranged_condition, is_ranged_argument, ranged_reference}
 use Rattle.cw_coded.specs.RangedUnits as ranged
@@ -103,20 +103,16 @@ numbered_good : (y : Layout) (item i : ℕ) → Good (plain (number_orders y ite
 numbered_good y item i = plainly (number_orders y item i) (item-first y item 3 (order.Store ∷ []) refl)
 
 set_good : (y : Layout) (item : ℕ) → Good (plain (set_orders y item))
-set_good y item = plainly (set_orders y item) (item-first y item 0 (order.Load ∷ order.InArea ∷ order.Store ∷ []) refl)
+set_good y item = plainly (set_orders y item) (item-first y item 0 (order.SetVariable ∷ []) refl)
 
 bump_good : (y : Layout) (item : ℕ) → Good (plain (bump_orders y item))
-bump_good y item =
-    let last : List Order = item_order y item 0 ∷ order.Load ∷ order.Store ∷ [] in
-    let middle : List Order = item_order y item 1 ∷ order.Load ∷ order.Add ∷ last in
-    plainly (bump_orders y item)
-    (item-first y item 0 (order.Load ∷ order.InArea ∷ order.Load ∷ middle) (item-first y item 1 (order.Load ∷ order.Add ∷ last) (item-first y item 0 (order.Load ∷ order.Store ∷ []) refl)))
+bump_good y item = plainly (bump_orders y item) (item-first y item 0 (order.AddStep ∷ []) refl)
 
 turn_good : (y : Layout) (item body : ℕ) → Good (turn_piece y item body)
 turn_good y item body =
-    ended_good (λ next. plain (variable_orders y item ++ item_order y item 0 ∷ order.Exhausted next ∷ order.Jump body ∷ []))
-    (λ next. plainly (variable_orders y item ++ item_order y item 0 ∷ order.Exhausted next ∷ order.Jump body ∷ [])
-    (item-first y item 0 (order.Load ∷ order.InArea ∷ order.Load ∷ item_order y item 0 ∷ order.Exhausted next ∷ order.Jump body ∷ []) (item-first y item 0 (order.Exhausted next ∷ order.Jump body ∷ []) refl)))
+    ended_good (λ next. plain (item_order y item 0 ∷ order.PutVariable ∷ order.Exhausted next ∷ order.Jump body ∷ []))
+    (λ next. plainly (item_order y item 0 ∷ order.PutVariable ∷ order.Exhausted next ∷ order.Jump body ∷ [])
+    (item-first y item 0 (order.PutVariable ∷ order.Exhausted next ∷ order.Jump body ∷ []) refl))
 
 kept_good : (y : Layout) (item word : ℕ) (os : List Order) → IsTrue (list_all has_code os) → Good (plain (item_order y item word ∷ order.Store ∷ os))
 kept_good y item word os h = plainly (item_order y item word ∷ order.Store ∷ os) (item-first y item word (order.Store ∷ os) h)

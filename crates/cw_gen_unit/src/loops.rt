@@ -4,7 +4,7 @@ ghost use Rattle.cw_order.specs.declared.order.Order.TheVariants as order;
 ghost use Rattle.cw_gen_expr.specs.Pieces.{plain};
 ghost use Rattle.cw_gen_expr.specs.Output.{made, added};
 ghost use Rattle.cw_gen_expr.specs.ReferenceExpressions.{item_order};
-ghost use Rattle.cw_gen_unit.specs.ReferenceStatements.{number_orders, set_orders, variable_orders, bump_orders, turn_piece};
+ghost use Rattle.cw_gen_unit.specs.ReferenceStatements.{number_orders, set_orders, bump_orders, turn_piece};
 
 use cw_gen_expr::orders::item;
 use cw_gen_expr::output::Output;
@@ -38,32 +38,15 @@ pub fn emit_set(out: &mut Output, layout: &Layout, looped: u32) -> Result<(), No
     ensures { OnOk result (made out.new ≡ added (plain (set_orders layout.now looped)) (made out.old)) }
 {
     out.push(item(layout, looped, 0))?;
-    out.push(Order::Load)?;
-    out.push(Order::InArea)?;
-    out.push(Order::Store)
-}
-
-/// Puts the value of the control variable, through the first word of the loop.
-fn emit_variable(out: &mut Output, layout: &Layout, looped: u32) -> Result<(), NoMemory>
-    ensures { OnOk result (made out.new ≡ added (plain (variable_orders layout.now looped)) (made out.old)) }
-{
-    out.push(item(layout, looped, 0))?;
-    out.push(Order::Load)?;
-    out.push(Order::InArea)?;
-    out.push(Order::Load)
+    out.push(Order::SetVariable)
 }
 
 /// Adds the step to the control variable.
 pub fn emit_bump(out: &mut Output, layout: &Layout, looped: u32) -> Result<(), NoMemory>
     ensures { OnOk result (made out.new ≡ added (plain (bump_orders layout.now looped)) (made out.old)) }
 {
-    emit_variable(out, layout, looped)?;
-    out.push(item(layout, looped, 1))?;
-    out.push(Order::Load)?;
-    out.push(Order::Add)?;
     out.push(item(layout, looped, 0))?;
-    out.push(Order::Load)?;
-    out.push(Order::Store)
+    out.push(Order::AddStep)
 }
 
 /// The test of a STEP element, which jumps to the body or goes on behind it.
@@ -71,8 +54,8 @@ pub fn emit_turn(out: &mut Output, layout: &Layout, looped: u32, body: u32) -> R
     ensures { OnOk result (made out.new ≡ added (turn_piece layout.now looped body) (made out.old)) }
 {
     let next = out.new_mark()?;
-    emit_variable(out, layout, looped)?;
     out.push(item(layout, looped, 0))?;
+    out.push(Order::PutVariable)?;
     out.push(Order::Exhausted(next))?;
     out.push(Order::Jump(body))?;
     out.set_mark(next)

@@ -259,6 +259,15 @@ impl<'a> Machine<'a> {
         Ok(())
     }
 
+    // An address of the data area.
+    fn in_area(&self, address: i16) -> Result<i64, End> {
+        let address = i64::from(address);
+        if address < 0 || address >= i64::from(self.program.limits.area) {
+            return Err(self.stopped(ADDRESS));
+        }
+        Ok(address)
+    }
+
     // The address of a word of a storage family, and of the frame at work.
     fn home(&self, family: u16, offset: u16) -> i16 {
         let homes = match self.program.segments.get(self.segment) {
@@ -469,9 +478,7 @@ impl<'a> Machine<'a> {
         match order {
             Order::InArea => {
                 let address = self.take()?;
-                if address < 0 || i64::from(address) >= i64::from(self.program.limits.area) {
-                    return Err(self.stopped(ADDRESS));
-                }
+                self.in_area(address)?;
                 self.put(address)
             }
             Order::InBounds { lower, upper } => {
@@ -514,6 +521,37 @@ impl<'a> Machine<'a> {
                 }
                 Ok(())
             }
+            Order::NextBody => self.next_body(),
+            _ => self.turn(order),
+        }
+    }
+
+    // Orders on the words of loops.
+    fn turn(&mut self, order: &Order) -> Result<(), End> {
+        match order {
+            Order::SetVariable => {
+                let words = self.take_number()?;
+                let value = self.take()?;
+                let variable = self.in_area(self.word_at(words)?)?;
+                self.store(variable, value)
+            }
+            Order::AddStep => {
+                let words = self.take_number()?;
+                let variable = self.in_area(self.word_at(words)?)?;
+                let step = i64::from(self.word_at(words.wrapping_add(1))?);
+                let sum = i64::from(self.word_at(variable)?).wrapping_add(step);
+                match i16::try_from(sum) {
+                    Ok(sum) => self.store(variable, sum),
+                    Err(_) => Err(self.stopped(OVERFLOW)),
+                }
+            }
+            Order::PutVariable => {
+                let words = self.take()?;
+                let variable = self.in_area(self.word_at(i64::from(words))?)?;
+                let value = self.word_at(variable)?;
+                self.put(value)?;
+                self.put(words)
+            }
             Order::Exhausted(mark) => {
                 let words = self.take_number()?;
                 let variable = self.take()?;
@@ -532,7 +570,6 @@ impl<'a> Machine<'a> {
                     None => Ok(()),
                 }
             }
-            Order::NextBody => self.next_body(),
             _ => self.name(order),
         }
     }

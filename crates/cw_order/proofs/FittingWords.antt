@@ -13,14 +13,14 @@ use Rattle.cw_unit.specs.declared.unit.Field.{Field}
 use Rattle.cw_unit.specs.declared.unit.Goal.{Goal}
 use Rattle.cw_unit.specs.Stop.{StopKind, Overflow, AddressRange, Running, Ended, Stopped, Stuck, IndexRange}
 use Rattle.cw_unit.specs.Words.{Control, LabelControl, SwitchControl, ProcedureControl, Operand, Word, Held, Words, Outcome, Changed, Refused, Impossible, with_operands, with_memory, put, put_if, put_value, on_one, on_two, through, at_address, is_below, number_of, word_at, field_value, with_bits, byte_of, read_byte}
-use Rattle.cw_unit.specs.Operation.{Constant, Fetch, store_with, divide, address_of, perform, holds}
+use Rattle.cw_unit.specs.Operation.{Constant, Fetch, SetVariable, AddStep, store_with, store_sum, divide, address_of, perform, holds}
 use Rattle.cw_unit.specs.Step.{held, goal_at, with_label_owner}
 use Rattle.cw_order.specs.declared.order.Order.{Order}
 use Rattle.cw_order.specs.declared.order.Order.TheVariants as order
 use Rattle.cw_order.specs.declared.order.Orders.{Orders}
 use Rattle.cw_order.specs.OrderProgram.{LabelEntry, ProcedureEntry, OrderProgram, order_at, place_of, label_at, procedure_at, switch_at, label_of}
 use Rattle.cw_order.specs.OrderState.{OrderActivation, OrderState, at, operand_words, stack_words, argument_behind, argument_at, frame_word, frame_end, control_at}
-use Rattle.cw_order.specs.OrderChanges.{put_index, if_fits, put_address, bind, Way, Onward, ToMark, Nowhere, way_of_one, way_of_two, to_mark_if, to_mark_in, way_past_limit, mark_of_number, comparison}
+use Rattle.cw_order.specs.OrderChanges.{put_index, if_fits, put_address, bind, if_inside, Way, Onward, ToMark, Nowhere, way_of_one, way_of_two, to_mark_if, to_mark_in, way_past_limit, mark_of_number, comparison}
 use Rattle.cw_order.specs.OrderActions.{Action, Perform, Access, Alter, AlterWithin, SetLine, Pass, Branch, GoMain, GoLabel, GoSwitch, Call, Enter, Return, EndBody, home_word, common_label, common_switch, common_procedure, action_of}
 use Rattle.cw_order.specs.OrderMachine.{go_on, go_at, after, unrefused, leave_for, dropped_by, called, call_at, enter_with, return_with, next_body, branch, go_to_entry, go_to, go_to_goal, go_by_list, go_through, call_entry, call, enter, come_back, end_body, act, carry_out, step}
 use Rattle.cw_order.specs.FittingWords.{OperandFits, WordsFit, ActivationFits, StateFits}
@@ -168,6 +168,40 @@ if_fits-fits : (b : Bool) (f : Words → Outcome) → Keeps f → Keeps (λ w. i
 if_fits-fits true f h w fits = h w fits
 if_fits-fits false f h w fits = tt
 
+if_inside-fits : (b : Bool) (f : Words → Outcome) → Keeps f → Keeps (λ w. if_inside b (f w))
+if_inside-fits true f h w fits = h w fits
+if_inside-fits false f h w fits = tt
+
+variable-fits : (area loop : ℕ) → Keeps (perform area (SetVariable loop))
+variable-fits area loop =
+    on_top-fits (λ x v. at_address area (λ i t. Changed (with_memory t (set t.memory i x))) (word_at v.memory loop) v)
+    (λ x fx v fv.
+    through-fits (is_below (word_at v.memory loop) area) (λ i t. Changed (with_memory t (set t.memory i x))) (λ i t ft. set-fits i x t fx ft)
+    (word_at v.memory loop)
+    v
+    fv)
+
+store_sum-fits : (b : Bool) (i : ℕ) (z : ℤ) → fits_word z ≡ b → Keeps (store_sum b i z)
+store_sum-fits true i z h w fits = set-fits i z w (tested-fits z h) fits
+store_sum-fits false i z h w fits = tt
+
+step-added-fits : (area loop : ℕ) → Keeps (perform area (AddStep loop))
+step-added-fits area loop w fits =
+    through-fits (is_below (word_at w.memory loop) area)
+    (λ i v. store_sum (fits_word (word_at v.memory i +ℤ word_at v.memory (loop + 1))) i (word_at v.memory i +ℤ word_at v.memory (loop + 1)) v)
+    (λ i v fv. store_sum-fits (fits_word (word_at v.memory i +ℤ word_at v.memory (loop + 1))) i (word_at v.memory i +ℤ word_at v.memory (loop + 1)) refl v fv)
+    (word_at w.memory loop)
+    w
+    fits
+
+variable-put-fits : (area loop : ℕ) (a : ℤ) → FitsWord a → Keeps (λ w. at_address area (λ i t. Changed (put a (put (word_at t.memory i) t))) (word_at w.memory loop) w)
+variable-put-fits area loop a fa w fits =
+    through-fits (is_below (word_at w.memory loop) area) (λ i t. Changed (put a (put (word_at t.memory i) t)))
+    (λ i t ft. put-fits a fa (put (word_at t.memory i) t) (put-fits (word_at t.memory i) (word_at-fits t.memory i ft.memory) t ft))
+    (word_at w.memory loop)
+    w
+    fits
+
 held-fits : (c : Option Control) → Keeps (held c)
 held-fits None w fits = tt
 held-fits (Some c) w fits = record { operands = All-cons OperandFits (Held c) w.operands tt fits.operands; memory = fits.memory; input = fits.input }
@@ -291,6 +325,21 @@ action-fits p g acts (order.InBounds lower upper) all =
 action-fits p g acts (order.Jump m) all = λ w fits. fits
 action-fits p g acts (order.JumpIf c m) all = way_of_two-fits (λ x y v. to_mark_if (holds (comparison c) x y) m v) (λ x y. to_mark_if-fits (holds (comparison c) x y) m)
 action-fits p g acts (order.Exhausted m) all = way_of_two-fits (λ x a v. way_past_limit (is_below a (p.limits.area - 2)) m x (number_of a) v) (λ x a. way_past_limit-fits (is_below a (p.limits.area - 2)) m x (number_of a))
+action-fits p g acts order.SetVariable all =
+    on_top-fits (λ a v. if_inside (is_below a p.limits.area) (perform p.limits.area (SetVariable (number_of a)) v))
+    (λ a fa. if_inside-fits (is_below a p.limits.area) (perform p.limits.area (SetVariable (number_of a))) (variable-fits p.limits.area (number_of a)))
+action-fits p g acts order.AddStep all =
+    on_top-fits (λ a v. if_inside (is_below a (p.limits.area - 1)) (perform p.limits.area (AddStep (number_of a)) v))
+    (λ a fa. if_inside-fits (is_below a (p.limits.area - 1)) (perform p.limits.area (AddStep (number_of a))) (step-added-fits p.limits.area (number_of a)))
+action-fits p g acts order.PutVariable all =
+    on_top-fits
+    (λ a v.
+    if_inside (is_below a p.limits.area)
+    (at_address p.limits.area (λ i t. Changed (put a (put (word_at t.memory i) t))) (word_at v.memory (number_of a)) v))
+    (λ a fa.
+    if_inside-fits (is_below a p.limits.area)
+    (λ v. at_address p.limits.area (λ i t. Changed (put a (put (word_at t.memory i) t))) (word_at v.memory (number_of a)) v)
+    (variable-put-fits p.limits.area (number_of a) a fa))
 action-fits p g acts (order.LoopWay marks) all = λ w fits.
     way_of_one-fits (λ i v. to_mark_in (mark_of_number marks i) v) (λ i. to_mark_in-fits (mark_of_number marks i)) w.operands fits.operands w fits
 action-fits p g acts (order.LabelOut l) all = held-fits (Some (LabelControl g l (length acts)))

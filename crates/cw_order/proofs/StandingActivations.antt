@@ -14,14 +14,14 @@ use Rattle.cw_unit.specs.declared.unit.Def.{Def}
 use Rattle.cw_unit.specs.declared.unit.Def.TheVariants as def
 use Rattle.cw_unit.specs.Stop.{StopKind, Overflow, AddressRange, IndexRange, Running, Ended, Stopped, Stuck}
 use Rattle.cw_unit.specs.Words.{Control, LabelControl, SwitchControl, ProcedureControl, Operand, Word, Held, Words, Outcome, Changed, Refused, Impossible, with_operands, with_memory, put, put_if, put_value, on_one, on_two, through, at_address, is_below, number_of, word_at, field_value, with_bits, byte_of, read_byte}
-use Rattle.cw_unit.specs.Operation.{Fetch, store_with, divide, address_of, perform, holds}
+use Rattle.cw_unit.specs.Operation.{Fetch, SetVariable, AddStep, store_with, store_sum, divide, address_of, perform, holds}
 use Rattle.cw_unit.specs.Step.{held, goal_at, label_of_def, switch_of_def, procedure_of_def, with_label_owner, with_switch_owner, as_procedure}
 use Rattle.cw_order.specs.declared.order.Order.{Order}
 use Rattle.cw_order.specs.declared.order.Order.TheVariants as order
 use Rattle.cw_order.specs.declared.order.Orders.{Orders}
 use Rattle.cw_order.specs.OrderProgram.{LabelEntry, ProcedureEntry, OrderProgram, order_at, place_of, label_at, procedure_at, switch_at, label_of, defined_at}
 use Rattle.cw_order.specs.OrderState.{OrderActivation, OrderState, at, operand_words, stack_words, argument_behind, argument_at, frame_word, frame_end, control_in, control_at}
-use Rattle.cw_order.specs.OrderChanges.{put_index, if_fits, put_address, bind, Way, Onward, ToMark, Nowhere, way_of_one, way_of_two, to_mark_if, to_mark_in, way_past_limit, mark_of_number, comparison}
+use Rattle.cw_order.specs.OrderChanges.{put_index, if_fits, put_address, bind, if_inside, Way, Onward, ToMark, Nowhere, way_of_one, way_of_two, to_mark_if, to_mark_in, way_past_limit, mark_of_number, comparison}
 use Rattle.cw_order.specs.OrderActions.{Action, Perform, Access, Alter, AlterWithin, SetLine, Pass, Branch, GoMain, GoLabel, GoSwitch, Call, Enter, Return, EndBody, home_word, common_label, common_switch, common_procedure, action_of}
 use Rattle.cw_order.specs.OrderMachine.{go_on, go_at, after, unrefused, leave_for, line_below, dropped_by, called, call_at, enter_with, return_with, next_body, branch, go_to_entry, go_to, go_to_goal, go_by_list, go_through, call_entry, call, enter, come_back, end_body, act, carry_out, step}
 use Rattle.cw_order.specs.Activations.{segment_below, IsThere, OwnsLabel, ControlStands, OperandStands, ActivationsStand, Beginning, LastStands, StateStands, Callable}
@@ -113,6 +113,34 @@ module _ (P : Operand → Type 0) (plain : (z : ℤ) → P (Word z)) where
   if_fits-stands : (b : Bool) (f : Words → Outcome) → Keeps f → Keeps (λ w. if_fits b (f w))
   if_fits-stands true f h w fits = h w fits
   if_fits-stands false f h w fits = tt
+
+  if_inside-stands : (b : Bool) (f : Words → Outcome) → Keeps f → Keeps (λ w. if_inside b (f w))
+  if_inside-stands true f h w fits = h w fits
+  if_inside-stands false f h w fits = tt
+
+  variable-stands : (area loop : ℕ) → Keeps (perform area (SetVariable loop))
+  variable-stands area loop =
+      top-stands (λ x v. at_address area (λ i t. Changed (with_memory t (set t.memory i x))) (word_at v.memory loop) v)
+      (λ x v. through-stands (is_below (word_at v.memory loop) area) (λ i t. Changed (with_memory t (set t.memory i x))) (λ i t ft. ft) (word_at v.memory loop) v)
+
+  store_sum-stands : (b : Bool) (i : ℕ) (z : ℤ) → Keeps (store_sum b i z)
+  store_sum-stands true i z w fits = fits
+  store_sum-stands false i z w fits = tt
+
+  step-added-stands : (area loop : ℕ) → Keeps (perform area (AddStep loop))
+  step-added-stands area loop w =
+      through-stands (is_below (word_at w.memory loop) area)
+      (λ i v. store_sum (fits_word (word_at v.memory i +ℤ word_at v.memory (loop + 1))) i (word_at v.memory i +ℤ word_at v.memory (loop + 1)) v)
+      (λ i v. store_sum-stands (fits_word (word_at v.memory i +ℤ word_at v.memory (loop + 1))) i (word_at v.memory i +ℤ word_at v.memory (loop + 1)) v)
+      (word_at w.memory loop)
+      w
+
+  variable-put-stands : (area loop : ℕ) (a : ℤ) → Keeps (λ w. at_address area (λ i t. Changed (put a (put (word_at t.memory i) t))) (word_at w.memory loop) w)
+  variable-put-stands area loop a w =
+      through-stands (is_below (word_at w.memory loop) area) (λ i t. Changed (put a (put (word_at t.memory i) t)))
+      (λ i t ft. put-stands a (put (word_at t.memory i) t) (put-stands (word_at t.memory i) t ft))
+      (word_at w.memory loop)
+      w
 
   abbrev Names : Option Control → Type 0
   Names None = Unit {0}
@@ -307,6 +335,21 @@ module _ (p : OrderProgram) where
       action-stands (order.Jump m) = λ n w l. l
       action-stands (order.JumpIf c m) = way_of_two-stands P plain (λ x y v. to_mark_if (holds (comparison c) x y) m v) (λ x y. to_mark_if-stands P plain (holds (comparison c) x y) m)
       action-stands (order.Exhausted m) = way_of_two-stands P plain (λ x a v. way_past_limit (is_below a (p.limits.area - 2)) m x (number_of a) v) (λ x a. way_past_limit-stands P plain (is_below a (p.limits.area - 2)) m x (number_of a))
+      action-stands order.SetVariable =
+          top-stands P plain (λ a v. if_inside (is_below a p.limits.area) (perform p.limits.area (SetVariable (number_of a)) v))
+          (λ a. if_inside-stands P plain (is_below a p.limits.area) (perform p.limits.area (SetVariable (number_of a))) (variable-stands P plain p.limits.area (number_of a)))
+      action-stands order.AddStep =
+          top-stands P plain (λ a v. if_inside (is_below a (p.limits.area - 1)) (perform p.limits.area (AddStep (number_of a)) v))
+          (λ a. if_inside-stands P plain (is_below a (p.limits.area - 1)) (perform p.limits.area (AddStep (number_of a))) (step-added-stands P plain p.limits.area (number_of a)))
+      action-stands order.PutVariable =
+          top-stands P plain
+          (λ a v.
+          if_inside (is_below a p.limits.area)
+          (at_address p.limits.area (λ i t. Changed (put a (put (word_at t.memory i) t))) (word_at v.memory (number_of a)) v))
+          (λ a.
+          if_inside-stands P plain (is_below a p.limits.area)
+          (λ v. at_address p.limits.area (λ i t. Changed (put a (put (word_at t.memory i) t))) (word_at v.memory (number_of a)) v)
+          (variable-put-stands P plain p.limits.area (number_of a) a))
       action-stands (order.LoopWay marks) = λ n w l.
           way_of_one-stands P plain (λ i v. to_mark_in (mark_of_number marks i) v) (λ i. to_mark_in-stands P plain (mark_of_number marks i)) w.operands n w l
       action-stands (order.LabelOut l) = held-stands P plain (Some (LabelControl g l (length acts))) (label_stands g l acts)

@@ -2,8 +2,8 @@
 -- library's among them. Some are bounds above what the code takes now: the orders of one step of the source may take 224 in all. The
 -- dearest steps, with items in frames: the entry of a procedure with 32 word parameters, 172 (CallSpecial 16, Enter 28, 32 of BindFrame 4);
 -- a product or a quotient, 120; an element of an array of two dimensions, 84 (IndexLess 16, IndexRow 32, FrameHome 4, IndexAdd 16, InArea
--- 16); a word at another scale, 64; a jump through a switch, 48; the test of a FOR's variable, 46 (FrameHome 4, PutVariable 22, Exhausted
--- 20).
+-- 16); that of a table, 76 (IndexTimes 18, IndexPlus 18, FrameHome, Load, IndexAdd, InArea); a word at another scale, 64; an element of an
+-- array of one dimension, 52; a jump through a switch, 48; the test of a FOR's variable, 46 (FrameHome, PutVariable 22, Exhausted 20).
 use Rattle.std.specs.Prelude.{ℕ, Option, Some, None}
 use Rattle.cw_order.specs.declared.order.Order.{Order}
 use Rattle.cw_order.specs.declared.order.Order.TheVariants as order

@@ -14,9 +14,9 @@ use Rattle.cw_unit.specs.declared.unit.Goal.TheVariants as goal
 use Rattle.cw_order.specs.declared.order.LabelMark.{LabelMark}
 use Rattle.cw_tmpl.specs.Pieces.{blanks}
 use Rattle.cw_tmpl.specs.Names.{Names, no_names, switch_size}
-use Rattle.cw_tmpl.specs.Blocks.{use_of, with_number, with_variable, after_home, block_at, orders_left, left_at}
+use Rattle.cw_tmpl.specs.Blocks.{use_of, with_number, with_variable, after_home, after_frame_home, block_at, orders_left, left_at}
 use Rattle.cw_tmpl.specs.Library.{overflow_entry, address_entry}
-use Rattle.cw_tmpl.specs.Templates.{template, mark_words, goal_words, landing_pieces, switch_pieces, times_if, rescale_if, product_start, product_down, row_start, row_end, block_pieces, block_size, order_size, listed_size, listed_sizes, distance, entry_pieces}
+use Rattle.cw_tmpl.specs.Templates.{template, mark_words, goal_words, landing_pieces, switch_pieces, times_if, rescale_if, product_start, product_down, row_start, row_end, block_pieces, block_size, order_size, listed_size, size_behind, sizes_behind, listed_sizes, distance, entry_pieces}
 use Rattle.cw_tmpl.specs.ReferenceCode.{templates, landings, switches, places_from, entry_size, order_places, landings_place, switches_place, names_of, mark_starts, pieces_of, switch_sizes, StandsAt}
 use Rattle.cw_tmpl.proofs.Growing.{blanks-append}
 
@@ -43,6 +43,8 @@ size_everywhere names place block.Single (order.Return n false) = refl
 size_everywhere names place block.Single _ = refl
 size_everywhere names place (block.Fetch f n) o = refl
 size_everywhere names place (block.Assign f n) o = refl
+size_everywhere names place (block.FetchFrame n) o = refl
+size_everywhere names place (block.AssignFrame n) o = refl
 size_everywhere names place (block.Operate (simple.Number w) uses.Add) o = refl
 size_everywhere names place (block.Operate (simple.Number w) uses.Subtract) o = refl
 size_everywhere names place (block.Operate (simple.Number w) (uses.Compare c m)) o = refl
@@ -152,33 +154,42 @@ mark_start o mark place e le = ap (slice_index (order_places o.list)) (got o.mar
 pub jump_arrives : (base own n to : ℕ) → (base + own + n + distance (own + n) to) % 65536 ≡ (base + to) % 65536
 jump_arrives base own n to = omega arith
 
--- ---- the code of a block is not longer than that of its orders alone
+-- ---- the code of a block is not longer than its orders in a list
 
--- what the orders that are left of a block have alone
-abbrev spare : (left : ℕ) → List Order → ℕ
-spare zero os = 0
-spare (suc n) [] = 0
-spare (suc n) (o ∷ os) = listed_size o + spare n os
+-- behind an order that is not the address of a word
+behind_other : (o : Order) → ((x : Order) → size_behind (Some o) x ≡ listed_size x) → (os : List Order) → sizes_behind (Some o) os ≡ listed_sizes os
+behind_other o same [] = refl
+behind_other o same (x ∷ xs) = ap (λ n. n + sizes_behind (Some x) xs) (same x)
 
-number_fits : (w : ℕ) (os : List Order) → block_size (with_number w (use_of (slice_get os 0))) (order.Const w) ≤ 4 + spare (orders_left (with_number w (use_of (slice_get os 0)))) os
+-- a block, and the orders behind it
+abbrev from_block : (b : Block) (o : Order) → List Order → ℕ
+from_block b o os = block_size b o + listed_sizes (drop (orders_left b) os)
+
+number_fits : (w : ℕ) (os : List Order) → from_block (with_number w (use_of (slice_get os 0))) (order.Const w) os ≤ listed_sizes (order.Const w ∷ os)
 number_fits w [] = omega arith
-number_fits w (order.Add ∷ os) = omega arith
-number_fits w (order.Sub ∷ os) = omega arith
-number_fits w (order.JumpIf c m ∷ os) = omega arith
+number_fits w (order.Add ∷ os) = omega (arith, behind_other order.Add (λ x. refl) os)
+number_fits w (order.Sub ∷ os) = omega (arith, behind_other order.Sub (λ x. refl) os)
+number_fits w (order.JumpIf c m ∷ os) = omega (arith, behind_other (order.JumpIf c m) (λ x. refl) os)
 number_fits w (x ∷ os) = omega arith
 
-variable_fits : (f n : ℕ) (os : List Order) → block_size (with_variable f n (use_of (slice_get os 0))) (order.Home f n) ≤ 4 + spare (orders_left (with_variable f n (use_of (slice_get os 0)))) (order.Load ∷ os)
+variable_fits : (f n : ℕ) (os : List Order) → from_block (with_variable f n (use_of (slice_get os 0))) (order.Home f n) (order.Load ∷ os) ≤ listed_sizes (order.Home f n ∷ order.Load ∷ os)
 variable_fits f n [] = omega arith
-variable_fits f n (order.Add ∷ os) = omega arith
-variable_fits f n (order.Sub ∷ os) = omega arith
-variable_fits f n (order.JumpIf c m ∷ os) = omega arith
+variable_fits f n (order.Add ∷ os) = omega (arith, behind_other order.Add (λ x. refl) os)
+variable_fits f n (order.Sub ∷ os) = omega (arith, behind_other order.Sub (λ x. refl) os)
+variable_fits f n (order.JumpIf c m ∷ os) = omega (arith, behind_other (order.JumpIf c m) (λ x. refl) os)
 variable_fits f n (x ∷ os) = omega arith
 
-home_fits : (f n : ℕ) (os : List Order) → block_size (after_home f n (slice_get os 0) (slice_get os 1)) (order.Home f n) ≤ 4 + spare (orders_left (after_home f n (slice_get os 0) (slice_get os 1))) os
+home_fits : (f n : ℕ) (os : List Order) → from_block (after_home f n (slice_get os 0) (slice_get os 1)) (order.Home f n) os ≤ listed_sizes (order.Home f n ∷ os)
 home_fits f n [] = omega arith
 home_fits f n (order.Load ∷ os) = variable_fits f n os
-home_fits f n (order.Store ∷ os) = omega arith
+home_fits f n (order.Store ∷ os) = omega (arith, behind_other order.Store (λ x. refl) os)
 home_fits f n (x ∷ os) = omega arith
+
+frame_fits : (n : ℕ) (os : List Order) → from_block (after_frame_home n (slice_get os 0)) (order.FrameHome n) os ≤ listed_sizes (order.FrameHome n ∷ os)
+frame_fits n [] = omega arith
+frame_fits n (order.Load ∷ os) = omega (arith, behind_other order.Load (λ x. refl) os)
+frame_fits n (order.Store ∷ os) = omega (arith, behind_other order.Store (λ x. refl) os)
+frame_fits n (x ∷ os) = omega arith
 
 -- a multiplication by a number, and codes that hang on one
 times_long : (b : Bool) (stop n : ℕ) → length (blanks (times_if b stop n)) ≡ (if b then 12 else 10)
@@ -218,15 +229,13 @@ listed (order.IndexTimes n) = times_long (n == 32768) address_entry n
 listed (order.IndexRow lower n) = row_long (n == 32768) lower n
 listed _ = refl
 
-single_fits : (o : Order) (n : ℕ) → order_size o ≤ listed_size o + n
-single_fits o n = omega (arith, listed o)
-
-block_fits : (o : Order) (os : List Order) → block_size (block_at 0 (o ∷ os)) o ≤ listed_size o + spare (orders_left (block_at 0 (o ∷ os))) os
+block_fits : (o : Order) (os : List Order) → from_block (block_at 0 (o ∷ os)) o os ≤ listed_sizes (o ∷ os)
 block_fits (order.Const w) os = number_fits w os
 block_fits (order.Home f n) os = home_fits f n os
-block_fits o os = single_fits o 0
+block_fits (order.FrameHome n) os = frame_fits n os
+block_fits o os = omega (arith, listed o, behind_other o (λ x. refl) os)
 
-whole_within : (names : Names) (place left : ℕ) (os : List Order) → length (blanks (templates names place left os)) + spare left os ≤ listed_sizes os
+whole_within : (names : Names) (place left : ℕ) (os : List Order) → length (blanks (templates names place left os)) ≤ listed_sizes (drop left os)
 whole_within names place zero [] = omega arith
 whole_within names place (suc n) [] = omega arith
 whole_within names place zero (o ∷ os) =
@@ -234,10 +243,10 @@ whole_within names place zero (o ∷ os) =
     let rest = templates names (place + block_size b o) (orders_left b) os in
     let long = ap length (blanks-append (block_pieces names place b o) rest) ∙ length-append (blanks (block_pieces names place b o)) (blanks rest) in
     omega (arith, long, size_everywhere names place b o, block_fits o os, whole_within names (place + block_size b o) (orders_left b) os)
-whole_within names place (suc n) (o ∷ os) = omega (arith, whole_within names (place + 0) n os)
+whole_within names place (suc n) (o ∷ os) = whole_within names (place + 0) n os
 
 pub whole : (names : Names) (place : ℕ) (os : List Order) → length (blanks (templates names place 0 os)) ≤ listed_sizes os
-whole names place os = omega (arith, whole_within names place 0 os)
+whole names place os = whole_within names place 0 os
 
 -- ---- landings and switches
 

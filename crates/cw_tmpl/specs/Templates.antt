@@ -30,7 +30,7 @@ use Rattle.cw_tmpl.specs.declared.blocks.Use.{Use}
 use Rattle.cw_tmpl.specs.declared.blocks.Use.TheVariants as uses
 use Rattle.cw_tmpl.specs.declared.blocks.Block.{Block}
 use Rattle.cw_tmpl.specs.declared.blocks.Block.TheVariants as block
-use Rattle.cw_tmpl.specs.Mnemonics.{ax, bx, cx, dx, sp, bp, si, di, line_slot, segment_slot, base_slot, base_record, base_operands, record_depth, slot, argument, at_bx, field, near_field, set_word, load, store, move, add, subtract, compare, negate, double, both, either, one_of, shift_up, shift_down, shift_down_signed, multiply, jump_to, jump_if_no_overflow, jump_if_equal, jump_if_below, jump_if_unequal, jump_if_not_less, jump_if_at_most}
+use Rattle.cw_tmpl.specs.Mnemonics.{ax, bx, cx, dx, sp, bp, si, di, line_slot, segment_slot, base_slot, base_record, base_operands, record_depth, slot, argument, at_bx, field, set_word, load, store, move, add, subtract, compare, negate, double, both, either, one_of, shift_up, shift_down, shift_down_signed, multiply, jump_to, jump_if_no_overflow, jump_if_below, jump_if_unequal, jump_if_not_less, jump_if_at_most}
 use Rattle.cw_tmpl.specs.Library.{start_entry, overflow_entry, address_entry, switch_entry, bounds_entry, enter_entry, product_entry, quotient_down_entry, quotient_up_entry, in_area_entry, set_variable_entry, add_step_entry, put_variable_entry, exhausted_entry}
 use Rattle.cw_tmpl.specs.Pieces.{size_of, blanks}
 use Rattle.cw_tmpl.specs.Names.{Names, no_names, mark_place, label_start, procedure_start, switch_start, own}

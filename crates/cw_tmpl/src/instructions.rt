@@ -277,13 +277,6 @@ pub fn jump_if_at_most(by: u8) -> Instr
     Instr::JumpIf { cond: 14, by }
 }
 
-/// JE.
-pub fn jump_if_equal(by: u8) -> Instr
-    ensures { result ≡ mnemonics.jump_if_equal by }
-{
-    Instr::JumpIf { cond: 4, by }
-}
-
 /// JMP to the place in a register.
 pub fn jump_to(reg: u8) -> Instr
     ensures { result ≡ mnemonics.jump_to reg }
@@ -320,16 +313,6 @@ pub fn field(by: u16) -> Rm
     Rm::Mem(Mem {
         cs: false,
         place: Place::Far(7, by),
-    })
-}
-
-/// The same, for a few bytes.
-pub fn near_field(by: u8) -> Rm
-    ensures { result ≡ mnemonics.near_field by }
-{
-    Rm::Mem(Mem {
-        cs: false,
-        place: Place::Near(7, by),
     })
 }
 

@@ -26,7 +26,8 @@ pub fn relocating()
     ensures rise { (pieces : List Coded) → Rise 0 (relocations 0 pieces) }
 {}
 
-/// The sizes of the code. A list has at most the bytes that its orders have alone, and the places of the orders' code are where it stands.
+/// The sizes of the code. A list has at most the bytes that its orders are listed with, one behind another, and the places of the orders' code
+/// are where it stands.
 /// The code of a segment has its entry, the code of its orders, and that of its labels and its switches.
 pub fn sizes()
     ensures each { (o : Order) → order_size o ≡ listed_size o }
