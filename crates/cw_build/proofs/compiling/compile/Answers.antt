@@ -29,5 +29,5 @@ returns c = record {
   object =
       c.of-object.ensures
       ∙ of_unit c.args.unit.now c.in_ok-layout.layout c.in_ok-orders.orders c.in_ok-code.code c.unit_need-need.result c.as_slice-statements.result.now c.in_ok-bytes.bytes.items
-          c.in_ok-layout.ensures c.in_ok-orders.ensures c.in_ok-code.ensures c.unit_need-need.ensures c.as_slice-statements.ensures c.in_ok-bytes.ensures;
+      c.in_ok-layout.ensures c.in_ok-orders.ensures c.in_ok-code.ensures c.unit_need-need.ensures c.as_slice-statements.ensures c.in_ok-bytes.ensures;
 }
