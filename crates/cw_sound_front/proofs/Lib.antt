@@ -1,0 +1,4 @@
+mod Identified
+mod IdentifiedTexts
+mod Counts
+mod Based
