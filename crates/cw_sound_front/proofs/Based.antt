@@ -1,9 +1,8 @@
 -- The base of each descriptor that is overlaid is a descriptor before it.
-use Rattle.std.proofs.Common.{◌≡◌, ◌⊎◌, inl, inr, ℕ, zero, suc, ◌+◌, ◌<◌, ◌≤◌, min, List, [], ◌∷◌, ◌++◌, length, map, Bool, true, false, cond, IsTrue, nat_eq, nat_lt, Option, Some, None, slice_get, refl, sym, ap, subst, subst₂, ◌∙◌, arith, append_assoc, eqb-true}
+use Rattle.std.proofs.Common.{◌≡◌, ◌⊎◌, inl, inr, ℕ, suc, ◌+◌, ◌<◌, ◌≤◌, min, List, [], ◌∷◌, ◌++◌, length, map, Bool, true, false, cond, IsTrue, nat_eq, nat_lt, Option, Some, None, slice_get, refl, sym, ap, subst, subst₂, ◌∙◌, arith, append_assoc, eqb-true}
 use Rattle.std.specs.Prelude.{find, option_map}
 use Rattle.std.specs.List.{list_all}
-use Rattle.std.proofs.lemmas.Bool.{cases_order}
-use Rattle.std.proofs.lemmas.Option.{none-some, same_Some, slice_get_within, slice_get_cases}
+use Rattle.std.proofs.lemmas.Option.{slice_get_within, slice_get_cases}
 use Rattle.cw_table.specs.declared.table.Row.{Row}
 use Rattle.cw_table.specs.Rows.{stands_at, place_at}
 use Rattle.cw_tree.specs.declared.leaf.RawName.{RawName}
@@ -36,44 +35,16 @@ use Rattle.cw_front.proofs.Truth.{lt_true, both, first_of_two, second_of_two}
 use Rattle.cw_sound_items.specs.Derived.{IsRising, declared_token, facts_tokens, HasRisingTokens}
 use Rattle.cw_sound_items.specs.Bases.{BasesStand}
 use Rattle.cw_sound_items.specs.Items.{things_of}
-use Rattle.cw_sound_items.proofs.Lists.{In, at-place, Within, nothing, with, none-within, within-append, rising-within, rising-left, not-below}
+use Rattle.cw_sound_items.proofs.Lists.{In, at-place, Within, nothing, with, none-within, within-append, rising-within, rising-left}
 use Rattle.cw_sound_items.proofs.Says.{tokens-append, tokens-declares}
 use Rattle.cw_sound_items.proofs.Resolving.{row_tokens}
 use Rattle.cw_sound_items.proofs.ListedData.{placed}
 use Rattle.cw_sound_items.proofs.Numbering.{token_of_thing, row-at}
 use Rattle.cw_sound_items.proofs.Overlaying.{as-many, overlays-are}
 use Rattle.cw_sound_items.proofs.Standing.{things-rise, made}
+use Rattle.cw_sound_front.proofs.Lists.{token_in, rises_to, stands_before}
 use Rattle.cw_sound_names.proofs.PartKinds.{is_data}
 use Rattle.cw_sound_names.proofs.ListedParts.{Listed, none, also, used, stored, unlisted, label, switch, procedure, special, communicators_parts}
-
--- ---- places in lists whose tokens rise
-
-module _ {A : Type 0} (token : A → ℕ) where
-  token_in : (xs : List A) (x : A) → In x xs → In (token x) (map token xs)
-  token_in [] x i = absurd i
-  token_in (y ∷ xs) x (inl e) = inl (ap token e)
-  token_in (y ∷ xs) x (inr i) = inr (token_in xs x i)
-
-  rises_to : (n : ℕ) (xs : List A) (i j : ℕ) (x y : A) → IsRising n (map token xs) → slice_get xs i ≡ Some x → slice_get xs j ≡ Some y → i < j → token x < token y
-  rises_to n [] i j x y r e f h = absurd (none-some x e)
-  rises_to n (z ∷ xs) zero zero x y r e f h = absurd (omega (arith, h))
-  rises_to n (z ∷ xs) zero (suc j) x y r e f h =
-      let same : token z ≡ token x = ap token (same_Some z x e) in
-      let above : suc (token z) ≤ token y = not-below (suc (token z)) (map token xs) (token y) r.1 (token_in xs y (at-place xs j y f)) in
-      omega (arith, same, above)
-  rises_to n (z ∷ xs) (suc i) zero x y r e f h = absurd (omega (arith, h))
-  rises_to n (z ∷ xs) (suc i) (suc j) x y r e f h = rises_to (suc (token z)) xs i j x y r.1 e f (omega (arith, h))
-
-  -- what has a lower token stands before
-  stands_before : (n : ℕ) (xs : List A) (i j : ℕ) (x y : A) → IsRising n (map token xs) → slice_get xs i ≡ Some x → slice_get xs j ≡ Some y → token x < token y → i < j
-  stands_before n xs i j x y r e f h =
-      elim (cases_order i j) [
-        | inl same ↦ (let tokens = ap token (same_Some x y (sym e ∙ ap (slice_get xs) same ∙ f)) in absurd (omega (arith, h, tokens)))
-        | inr apart ↦ elim apart [
-          | inl before ↦ before
-          | inr behind ↦ (let lower = rises_to n xs j i y x r f e behind in absurd (omega (arith, h, lower)))
-        ]
-      ]
 
 -- ---- the tokens of what is listed rise
 

@@ -1,4 +1,8 @@
 mod Identified
 mod IdentifiedTexts
 mod Counts
+mod Lists
 mod Based
+mod Trees
+mod Declared
+mod Called
