@@ -2,6 +2,7 @@
 use Rattle.std.proofs.Common.{◌≡◌, ◌⊎◌, inl, inr, ℕ, suc, ◌+◌, ◌<◌, ◌≤◌, min, List, [], ◌∷◌, ◌++◌, length, map, Bool, true, false, cond, IsTrue, nat_eq, nat_lt, Option, Some, None, slice_get, refl, sym, ap, subst, subst₂, ◌∙◌, arith, append_assoc, eqb-true}
 use Rattle.std.specs.Prelude.{find, option_map}
 use Rattle.std.specs.List.{list_all}
+use Rattle.std.proofs.lemmas.List.{map-append}
 use Rattle.std.proofs.lemmas.Option.{slice_get_within, slice_get_cases}
 use Rattle.cw_table.specs.declared.table.Row.{Row}
 use Rattle.cw_table.specs.Rows.{stands_at, place_at}
@@ -48,10 +49,6 @@ use Rattle.cw_sound_names.proofs.ListedParts.{Listed, none, also, used, stored, 
 
 -- ---- the tokens of what is listed rise
 
-rows_both : (rs qs : List (Row Listing)) → row_tokens (rs ++ qs) ≡ row_tokens rs ++ row_tokens qs
-rows_both [] qs = refl
-rows_both (r ∷ rs) qs = ap (λ (ts : List ℕ). r.token ∷ ts) (rows_both rs qs)
-
 data_token : (k : Kind) (token : ℕ) → IsTrue (is_data k) → declared_token k token ≡ token ∷ []
 data_token (kind.Answer t) token h = absurd (cc)
 data_token _ token h = refl
@@ -61,7 +58,7 @@ named_first n k fs h = subst (λ (ts : List ℕ). Within (n.at.token ∷ []) (ts
 
 listed_within : {fs : List Fact} {rs : List (Row Listing)} {ds : List Desc} → Listed fs rs ds → Within (row_tokens rs) (facts_tokens fs)
 listed_within none = nothing
-listed_within (also {fs} {gs} {rs} {qs} a b) = subst₂ Within (sym (rows_both rs qs)) (sym (tokens-append fs gs)) (within-append (listed_within a) (listed_within b))
+listed_within (also {fs} {gs} {rs} {qs} a b) = subst₂ Within (sym (map-append (λ (r : Row Listing). r.token) rs qs)) (sym (tokens-append fs gs)) (within-append (listed_within a) (listed_within b))
 listed_within (used x) = none-within (facts_tokens (fact.Uses x ∷ []))
 listed_within (stored n k d e w) = named_first n k [] (data_token k n.at.token e)
 listed_within (unlisted n k e) = none-within (facts_tokens (declares n k ∷ []))

@@ -11,6 +11,8 @@ use Rattle.cw_facts.specs.declared.fact.Kind.TheVariants as kind
 use Rattle.cw_facts.specs.Facts.{block_facts}
 use Rattle.cw_facts.specs.Text.{communicators_facts, text_facts}
 use Rattle.cw_grammar.specs.Tokens.{is_identifier}
+use Rattle.cw_grammar.specs.Grammar.{a_raw}
+use Rattle.cw_derived.specs.NormalForm.{IsNormal}
 use Rattle.cw_scope.specs.declared.resolve.Named.{Named}
 use Rattle.cw_scope.specs.Outcome.{Resolves}
 use Rattle.cw_items.specs.declared.thing.Base.{Base}
@@ -97,7 +99,7 @@ by_sort sort.Loop o common declared unlisted = subst (λ (b : Bool). IsTrue (not
 
 -- ---- items
 
-module _ (named : Named) (resolves : Resolves named.raw.now (results.Ok named)) (names : HasIdentifiers named.raw.now) (rising : HasRisingTokens named.raw.now) where
+module _ (named : Named) (resolves : Resolves named.raw.now (results.Ok named)) (names : HasIdentifiers named.raw.now) (rising : HasRisingTokens named.raw.now) {n : ℕ} {marks : List ℕ} (tree : IsNormal n false a_raw named.raw.now marks) where
   -- what has no name is not listed: it stands in the outermost block
   not_listed : (t : Thing) (d : ℕ) → In t (block_things named named.raw.now.block None) → place_at (listed_of named.raw.now) t.at.token ≡ Some d → ⊥
   not_listed t d i e =
@@ -122,7 +124,7 @@ module _ (named : Named) (resolves : Resolves named.raw.now (results.Ok named)) 
   declaration_of : (t : Thing) → In t (things_of named) → t.sort ≡ sort.Named → HasDeclaration named.declarations t.at.token
   declaration_of t i e =
       subst (λ (rs : List (Row Declaration)). HasDeclaration rs t.at.token) (sym resolves.3)
-      (declaration_at _ names t.at.token (each-in _ (things_of named) (things_declared named named.raw.now).each t i e))
+      (declaration_at _ names t.at.token (each-in _ (things_of named) (things_declared named tree).each t i e))
 
   pub items_called : (i : ℕ) (x : Item) → slice_get (unit_of named).items i ≡ Some x → IsTrue (is_named (entry_of (unit_of named) (0, 0) x))
   items_called i x e =

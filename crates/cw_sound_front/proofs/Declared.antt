@@ -1,13 +1,13 @@
 -- Each thing that has a name stands at the token of a declaration.
-use Rattle.std.proofs.Common.{◌≡◌, ℕ, List, [], ◌∷◌, ◌++◌, true, Option, Some, None, refl, sym, ap, subst, ◌∙◌, append-nil, inl}
+use Rattle.std.proofs.Common.{◌≡◌, ℕ, List, [], ◌∷◌, ◌++◌, map, Bool, true, false, Option, Some, None, refl, sym, ap, subst, subst₂, ◌∙◌, append-nil, inl}
 use Rattle.cw_table.specs.declared.table.Row.{Row}
+use Rattle.cw_tree.specs.declared.leaf.Position.{Position}
 use Rattle.cw_tree.specs.declared.leaf.RawName.{RawName}
 use Rattle.cw_tree.specs.declared.leaf.RawType.{RawType}
 use Rattle.cw_tree.specs.declared.items.RawGroup.{RawGroup}
 use Rattle.cw_tree.specs.declared.items.RawData.{RawData}
 use Rattle.cw_tree.specs.declared.items.RawData.TheVariants as items
 use Rattle.cw_tree.specs.declared.segment.Raw.{Raw}
-use Rattle.cw_tree.specs.declared.segment.RawPs.{RawPs}
 use Rattle.cw_tree.specs.declared.segment.RawComm.{RawComm}
 use Rattle.cw_tree.specs.declared.segment.RawComm.TheVariants as comm
 use Rattle.cw_tree.specs.declared.segment.RawCitem.{RawCitem}
@@ -16,29 +16,51 @@ use Rattle.cw_tree.specs.declared.segment.RawAitem.{RawAitem}
 use Rattle.cw_tree.specs.declared.segment.RawAitem.TheVariants as aitem
 use Rattle.cw_tree.specs.declared.statement.RawParam.{RawParam}
 use Rattle.cw_tree.specs.declared.statement.RawParam.TheVariants as param
+use Rattle.cw_tree.specs.declared.statement.RawFelem.{RawFelem}
+use Rattle.cw_tree.specs.declared.statement.RawFelem.TheVariants as felem
+use Rattle.cw_tree.specs.declared.statement.RawDecl.{RawDecl, RawDecl-F, roll-RawDecl}
+use Rattle.cw_tree.specs.declared.statement.RawDecl.TheVariants as decl_tree
+use Rattle.cw_tree.specs.declared.statement.RawForm.{RawForm, roll-RawForm}
+use Rattle.cw_tree.specs.declared.statement.RawForm.TheVariants as form_tree
+use Rattle.cw_tree.specs.declared.statement.RawSimple.{RawSimple, roll-RawSimple}
+use Rattle.cw_tree.specs.declared.statement.RawSimple.TheVariants as simple_tree
+use Rattle.cw_tree.specs.declared.statement.RawBlock.{RawBlock}
+use Rattle.cw_tree.specs.declared.statement.RawProc.{RawProc}
+use Rattle.cw_tree.specs.declared.statement.RawStmt.{RawStmt}
+use Rattle.cw_tree.specs.declared.statement.RawDecl.TheOpen as layer
+use Rattle.cw_tree.specs.declared.statement.RawDecl.TheOpen.{RawForm-F, RawSimple-F}
 use Rattle.cw_facts.specs.declared.fact.Declaration.{Declaration}
 use Rattle.cw_facts.specs.declared.fact.Fact.{Fact, Fact-F, out-Fact}
-use Rattle.cw_facts.specs.declared.fact.Fact.TheOpen as layer
+use Rattle.cw_facts.specs.declared.fact.Fact.TheOpen as fact_layer
 use Rattle.cw_facts.specs.declared.fact.Fact.TheVariants as fact
 use Rattle.cw_facts.specs.declared.fact.Kind.{Kind}
 use Rattle.cw_facts.specs.declared.fact.Kind.TheVariants as kind
-use Rattle.cw_facts.specs.Facts.{declares, specifies, each_declares, groups_facts, data_facts, base_facts, parameter_facts, parameters_facts, block_facts}
+use Rattle.cw_facts.specs.declared.fact.Reading.TheVariants as reading
+use Rattle.cw_facts.specs.Signatures.{flattened}
+use Rattle.cw_facts.specs.Uses.{expression_uses, condition_uses, reference_uses}
+use Rattle.cw_facts.specs.Facts.{joined, declares, specifies, each_declares, groups_facts, data_facts, base_facts, parameter_facts, parameters_facts, answer_facts, felems_facts, enclosed, declaration_facts, form_facts, simple_facts, block_facts, statement_facts}
 use Rattle.cw_facts.specs.Text.{citem_facts, citems_facts, aitem_facts, aitems_facts, communicator_facts, communicators_facts, text_facts}
 use Rattle.cw_scope.specs.declared.resolve.Named.{Named}
 use Rattle.cw_scope.specs.Resolved.{text_declarations}
+use Rattle.cw_grammar.specs.Grammar.{Sort, a_list, a_decl, a_form, a_simple, a_block, a_stmt, a_raw, Value}
+use Rattle.cw_grammar.specs.Statements.{proc_tree}
+use Rattle.cw_derived.specs.NormalForm as normal
+use Rattle.cw_derived.specs.NormalForm.{IsNormal}
 use Rattle.cw_items.specs.declared.thing.Owner.{Owner}
 use Rattle.cw_items.specs.declared.thing.Base.{Base}
 use Rattle.cw_items.specs.declared.thing.Sort.TheVariants as sort
 use Rattle.cw_items.specs.declared.thing.Thing.{Thing}
-use Rattle.cw_items.specs.Things.{base_at, thing, moved, moved_past, named_things, group_words, groups_things, data_things, parameter_things, parameters_things, fact_texts, texts, aitem_things, aitems_things, citem_things, citems_things, communicator_things, communicators_things, block_things, text_things}
+use Rattle.cw_items.specs.Things.{Things, joined as joined_things, base_at, thing, moved, moved_past, named_things, group_words, groups_things, data_things, parameter_things, parameters_things, fact_texts, texts, felem_things, felems_things, is_recursive, declaration_things, form_things, simple_things, statement_things, aitem_things, aitems_things, citem_things, citems_things, communicator_things, communicators_things, block_things, text_things}
 use Rattle.cw_sound_items.proofs.Lists.{In, in-left, in-right, Each, each-append, each-in, from-in}
 use Rattle.cw_sound_items.proofs.Bases.{OfData, of-data}
 use Rattle.cw_sound_names.specs.Placed.{tokens}
 use Rattle.cw_sound_names.proofs.ListedRows.{declared_row}
-use Rattle.cw_sound_tree.proofs.Core.{declared_append, row_tokens_append}
-use Rattle.cw_sound_tree.proofs.Said.{declared}
+use Rattle.cw_sound_names.proofs.ListedNumbers.{declarations_append, tokens_append}
 use Rattle.cw_sound_written.proofs.Titles.{block_rows}
-use Rattle.cw_sound_front.proofs.Trees.{Closed, block_holds}
+use Rattle.cw_sound_front.proofs.Shapes.{decl_said, form_said, simple_said, decl_says, form_says, simple_says, block_says, proc_says, stmt_says, decl_stored, form_stored, simple_stored, decl_stores, form_stores, simple_stores, block_stores, proc_stores, stmt_stores}
+
+abbrev declared : List Fact → List ℕ
+declared facts = tokens (text_declarations facts)
 
 abbrev IsDeclared : List Fact → Thing → Type 0
 IsDeclared facts t = t.sort ≡ sort.Named → In t.at.token (declared facts)
@@ -53,7 +75,7 @@ widened : (facts gs : List Fact) (ts : List Thing) → ((t : ℕ) → In t (decl
 widened facts gs ts h d = record { each = from-in (IsDeclared gs) ts (λ t i e. h t.at.token (each-in (IsDeclared facts) ts d.each t i e)) }
 
 declared_both : (a b : List Fact) → declared (a ++ b) ≡ declared a ++ declared b
-declared_both a b = ap tokens (declared_append a b) ∙ row_tokens_append (text_declarations a) (text_declarations b)
+declared_both a b = ap tokens (declarations_append a b) ∙ tokens_append (text_declarations a) (text_declarations b)
 
 together : (a b : List Fact) (ts ss : List Thing) → Declare a ts → Declare b ss → Declare (a ++ b) (ts ++ ss)
 together a b ts ss h k =
@@ -97,42 +119,124 @@ parameters_declared o (p ∷ ps) = together (parameter_facts p) (parameters_fact
 -- ---- strings, which have no name
 
 layer_unnamed : (facts : List Fact) (o : Option Owner) (y : Fact-F Fact) → Each (IsDeclared facts) (fact_texts o y)
-layer_unnamed facts o (layer.Text at n) = ((λ e. absurd (cc)), tt)
-layer_unnamed facts o (layer.Uses u) = tt
-layer_unnamed facts o (layer.Declares d) = tt
-layer_unnamed facts o (layer.Specifies token s) = tt
-layer_unnamed facts o (layer.Loop at) = tt
-layer_unnamed facts o (layer.Block owner xs) = tt
+layer_unnamed facts o (fact_layer.Text at n) = ((λ e. absurd (cc)), tt)
+layer_unnamed facts o (fact_layer.Uses u) = tt
+layer_unnamed facts o (fact_layer.Declares d) = tt
+layer_unnamed facts o (fact_layer.Specifies token s) = tt
+layer_unnamed facts o (fact_layer.Loop at) = tt
+layer_unnamed facts o (fact_layer.Block owner xs) = tt
 
-texts_unnamed : (facts : List Fact) (o : Option Owner) (fs : List Fact) → Each (IsDeclared facts) (texts o fs)
-texts_unnamed facts o [] = tt
-texts_unnamed facts o (f ∷ fs) = each-append (IsDeclared facts) (fact_texts o (out-Fact f)) (texts o fs) (layer_unnamed facts o (out-Fact f)) (texts_unnamed facts o fs)
+texts_unnamed : (facts : List Fact) (o : Option Owner) (fs : List Fact) → Declare facts (texts o fs)
+texts_unnamed facts o [] = nothing facts
+texts_unnamed facts o (f ∷ fs) = record { each = each-append (IsDeclared facts) (fact_texts o (out-Fact f)) (texts o fs) (layer_unnamed facts o (out-Fact f)) (texts_unnamed facts o fs).each }
+
+element_unnamed : (facts : List Fact) (o : Option Owner) (e : RawFelem) → Declare facts (felem_things e o)
+element_unnamed facts o (felem.One e) = texts_unnamed facts o (expression_uses e reading.Value)
+element_unnamed facts o (felem.While e c) = texts_unnamed facts o (expression_uses e reading.Value ++ condition_uses c reading.Value)
+element_unnamed facts o (felem.Step a b c) = texts_unnamed facts o (expression_uses a reading.Value ++ (expression_uses b reading.Value ++ expression_uses c reading.Value))
+
+elements_unnamed : (facts : List Fact) (o : Option Owner) (es : List RawFelem) → Declare facts (felems_things es o)
+elements_unnamed facts o [] = nothing facts
+elements_unnamed facts o (e ∷ es) = record { each = each-append (IsDeclared facts) (felem_things e o) (felems_things es o) (element_unnamed facts o e).each (elements_unnamed facts o es).each }
+
+loop_unnamed : (facts : List Fact) (o : Option Owner) (at : Position) → Declare facts (thing sort.Loop at o None 4 ∷ [])
+loop_unnamed facts o at = record { each = ((λ e. absurd (cc)), tt) }
 
 -- ---- blocks
 
 block_declared : (o : Option ℕ) (fs : List Fact) (ts : List Thing) → Declare fs ts → Declare (fact.Block o fs ∷ []) ts
 block_declared o fs ts h = widened fs (fact.Block o fs ∷ []) ts (λ t i. subst (λ (rs : List (Row Declaration)). In t (tokens rs)) (sym (append-nil _ ∙ block_rows o fs)) i) h
 
-declaring : Closed (λ o. Declare)
-declaring = record {
-  both = λ o. together;
-  none = λ o. nothing [];
-  labels = λ o ns. nothing _;
-  switch = λ o n. nothing _;
-  used = λ o n f. nothing _;
-  texts = λ o fs. record { each = texts_unnamed fs o fs };
-  loop = λ o at. record { each = ((λ e. absurd (cc)), tt) };
-  items = data_declared;
-  parameters = parameters_declared;
-  answer = λ o answer. nothing _;
-  block = λ o. block_declared None;
-  procedure = λ o recursive n answer params fs ts h.
-      together (declares n (kind.Proc answer) ∷ specifies n.at.token answer params ∷ []) (fact.Block (Some n.at.token) fs ∷ []) [] ts (nothing _) (block_declared (Some n.at.token) fs ts h);
-}
+enclosed_declared : (b : Bool) (fs : List Fact) (ts : List Thing) → Declare fs ts → Declare (enclosed b fs) ts
+enclosed_declared true fs ts h = block_declared None fs ts h
+enclosed_declared false fs ts h = h
 
--- ---- communicators
+-- ---- statements, whatever procedure is around them
+
+abbrev Of : List Fact → Things → Type 0
+Of facts things = (o : Option Owner) → Declare facts (things o)
 
 module _ (named : Named) where
+  abbrev Told : (z : Sort) → Value z → Type 0
+  Told (a_list z) xs = Each (Told z) xs
+  Told a_decl x = Of (declaration_facts x) (declaration_things named x)
+  Told a_form x = Of (form_facts x) (form_things named x)
+  Told a_simple x = Of (simple_facts x) (simple_things named x)
+  Told a_block x = (outermost : Bool) → Of (block_facts x outermost) (block_things named x)
+  Told a_stmt x = Of (statement_facts x) (statement_things named x)
+  Told _ x = Unit {0}
+
+  decl : (y : RawDecl-F RawDecl RawForm RawSimple RawBlock RawProc RawStmt) (x : RawDecl) → roll-RawDecl y ≡ x → Of (decl_said y) (decl_stored named y) → Of (declaration_facts x) (declaration_things named x)
+  decl y x e h = subst₂ Of (decl_says y ∙ ap declaration_facts e) (decl_stores named y ∙ ap (declaration_things named) e) h
+
+  formed : (y : RawForm-F RawDecl RawForm RawSimple RawBlock RawProc RawStmt) (x : RawForm) → roll-RawForm y ≡ x → Of (form_said y) (form_stored named y) → Of (form_facts x) (form_things named x)
+  formed y x e h = subst₂ Of (form_says y ∙ ap form_facts e) (form_stores named y ∙ ap (form_things named) e) h
+
+  simple : (y : RawSimple-F RawDecl RawForm RawSimple RawBlock RawProc RawStmt) (x : RawSimple) → roll-RawSimple y ≡ x → Of (simple_said y) (simple_stored named y) → Of (simple_facts x) (simple_things named x)
+  simple y x e h = subst₂ Of (simple_says y ∙ ap simple_facts e) (simple_stores named y ∙ ap (simple_things named) e) h
+
+  each_joined : {A : Type 0} (f : A → List Fact) (g : A → Things) (xs : List A) → Each (λ x. Of (f x) (g x)) xs → Of (joined (map f xs)) (joined_things (map g xs))
+  each_joined f g [] h o = nothing []
+  each_joined f g (x ∷ xs) h o = together (f x) (joined (map f xs)) (g x o) (joined_things (map g xs) o) (h.0 o) (each_joined f g xs h.1 o)
+
+  told : {n : ℕ} {p : Bool} {z : Sort} {x : Value z} {a : List ℕ} → IsNormal n p z x a → Told z x
+  told normal.no_more = tt
+  told (normal.one_more h k) = (told h, told k)
+  told normal.no_statement = simple layer.Empty simple_tree.Empty simple_tree.rolls-Empty (λ o. nothing [])
+  told (normal.assignment {r = r} {x = x} h k) = simple (layer.Assign r x) (simple_tree.Assign r x) (simple_tree.rolls-Assign r x) (λ o. texts_unnamed _ o _)
+  told (normal.bits_assignment {z = z} {r = r} {x = x} i h k) = simple (layer.AssignBits z r x) (simple_tree.AssignBits z r x) (simple_tree.rolls-AssignBits z r x) (λ o. texts_unnamed _ o _)
+  told (normal.jump_to at {f = f} h) = simple (layer.Goto at f) (simple_tree.Goto at f) (simple_tree.rolls-Goto at f) (λ o. nothing _)
+  told (normal.jump_through at {f = f} {x = x} h k) = simple (layer.GotoSwitch at f x) (simple_tree.GotoSwitch at f x) (simple_tree.rolls-GotoSwitch at f x) (λ o. texts_unnamed _ o _)
+  told (normal.called_alone {f = f} h) = simple (layer.Call f []) (simple_tree.Call f []) (simple_tree.rolls-Call f []) (λ o. nothing _)
+  told (normal.called_with {f = f} {x = x} {xs = xs} h k) = simple (layer.Call f (x ∷ xs)) (simple_tree.Call f (x ∷ xs)) (simple_tree.rolls-Call f (x ∷ xs)) (λ o. texts_unnamed _ o _)
+  told (normal.is_answer at {x = x} h) = simple (layer.Answer at x) (simple_tree.Answer at x) (simple_tree.rolls-Answer at x) (λ o. texts_unnamed _ o _)
+  told (normal.inner_block {x = x} h) = simple (layer.Block x) (simple_tree.Block x) (simple_tree.rolls-Block x) (told h false)
+  told (normal.is_block at {ds = ds} {x = x} {xs = xs} h k) =
+      λ b. subst₂ (λ f. Of (f b)) (block_says (record { at = at; decls = ds; stmts = x ∷ xs })) (block_stores named (record { at = at; decls = ds; stmts = x ∷ xs }))
+      (λ o. enclosed_declared _ _ _
+      (together (joined (map declaration_facts ds)) (joined (map statement_facts (x ∷ xs))) (joined_things (map (declaration_things named) ds) o) (joined_things (map (statement_things named) (x ∷ xs)) o)
+      (each_joined declaration_facts (declaration_things named) ds (told h) o) (each_joined statement_facts (statement_things named) (x ∷ xs) (told k) o)))
+  told (normal.is_stmt {ls = ls} {x = x} h k) =
+      subst₂ Of (stmt_says (record { labels = ls; form = x })) (stmt_stores named (record { labels = ls; form = x })) (λ o. together (each_declares kind.Label ls) (form_facts x) [] (form_things named x o) (nothing _) (told k o))
+  told (normal.simple_form {x = x} h) = formed (layer.Simple x) (form_tree.Simple x) (form_tree.rolls-Simple x) (told h)
+  told (normal.if_form at {t = t} {ls = ls} {x = x} h l k) =
+      formed (layer.If at t ls x None) (form_tree.If at t ls x None) (form_tree.rolls-If at t ls x None)
+      (λ o.
+      together (condition_uses t reading.Value) (each_declares kind.Label ls ++ (simple_facts x ++ [])) (texts o (condition_uses t reading.Value)) (simple_things named x o ++ []) (texts_unnamed _ o _)
+      (together (each_declares kind.Label ls) (simple_facts x ++ []) [] (simple_things named x o ++ []) (nothing _) (together (simple_facts x) [] (simple_things named x o) [] (told k o) (nothing []))))
+  told (normal.else_form at {t = t} {ls = ls} {x = x} {y = y} h l k m) =
+      formed (layer.If at t ls x (Some y)) (form_tree.If at t ls x (Some y)) (form_tree.rolls-If at t ls x (Some y))
+      (λ o.
+      together (condition_uses t reading.Value) (each_declares kind.Label ls ++ (simple_facts x ++ statement_facts y)) (texts o (condition_uses t reading.Value)) (simple_things named x o ++ statement_things named y o) (texts_unnamed _ o _)
+      (together (each_declares kind.Label ls) (simple_facts x ++ statement_facts y) [] (simple_things named x o ++ statement_things named y o) (nothing _)
+      (together (simple_facts x) (statement_facts y) (simple_things named x o) (statement_things named y o) (told k o) (told m o))))
+  told (normal.for_form at {r = r} {x = x} {xs = xs} {y = y} h k l) =
+      formed (layer.For at r (x ∷ xs) y) (form_tree.For at r (x ∷ xs) y) (form_tree.rolls-For at r (x ∷ xs) y)
+      (λ o.
+      let uses = reference_uses r reading.Whole in
+      let facts = felems_facts (x ∷ xs) in
+      let things = felems_things (x ∷ xs) o in
+      together (fact.Loop at ∷ []) (uses ++ (facts ++ statement_facts y)) (thing sort.Loop at o None 4 ∷ []) (texts o uses ++ (things ++ statement_things named y o)) (loop_unnamed _ o at)
+      (together uses (facts ++ statement_facts y) (texts o uses) (things ++ statement_things named y o) (texts_unnamed _ o _)
+      (together facts (statement_facts y) things (statement_things named y o) (elements_unnamed _ o (x ∷ xs)) (told l o))))
+  told (normal.data_decl {x = x} h) = decl (layer.Data x) (decl_tree.Data x) (decl_tree.rolls-Data x) (λ o. data_declared o None x)
+  told (normal.overlay_decl at {x = x} {y = y} h k) =
+      decl (layer.Overlay at x y) (decl_tree.Overlay at x y) (decl_tree.rolls-Overlay at x y) (λ o. together (base_facts x) (data_facts y) [] (data_things o (Some (base_at named x)) y) (nothing _) (data_declared o (Some (base_at named x)) y))
+  told (normal.switch_decl at {f = f} {x = x} {xs = xs} h k) = decl (layer.Switch at f (x ∷ xs)) (decl_tree.Switch at f (x ∷ xs)) (decl_tree.rolls-Switch at f (x ∷ xs)) (λ o. nothing _)
+  told (normal.proc_decl {o = answer} {t = t} {f = f} {xs = xs} {x = x} h g l k m) =
+      decl (layer.Proc (proc_tree answer t f xs x)) (decl_tree.Proc (proc_tree answer t f xs x)) (decl_tree.rolls-Proc (proc_tree answer t f xs x))
+      (subst₂ Of (proc_says (record { answer = answer; tag = t; name = f; params = xs; body = x })) (proc_stores named (record { answer = answer; tag = t; name = f; params = xs; body = x }))
+      (λ o.
+      let own : Option Owner = Some (record { token = f.at.token; recursive = is_recursive t }) in
+      let inside : List Fact = parameters_facts xs ++ statement_facts x in
+      let things : List Thing = parameters_things own xs ++ statement_things named x own in
+      together (declares f (kind.Proc answer) ∷ specifies f.at.token answer (flattened xs) ∷ []) (fact.Block (Some f.at.token) (answer_facts answer ++ inside) ∷ []) [] things (nothing _)
+      (block_declared (Some f.at.token) (answer_facts answer ++ inside) things
+      (together (answer_facts answer) inside [] things (nothing _) (together (parameters_facts xs) (statement_facts x) (parameters_things own xs) (statement_things named x own) (parameters_declared own xs) (told m own))))))
+  told _ = tt
+
+  -- ---- communicators
+
   citem_declared : (i : RawCitem) → Declare (citem_facts i) (citem_things named i)
   citem_declared (citem.Data d) = data_declared None None d
   citem_declared (citem.Overlay at b d) = together (base_facts b) (data_facts d) [] (data_things None (Some (base_at named b)) d) (nothing _) (data_declared None (Some (base_at named b)) d)
@@ -162,9 +266,9 @@ module _ (named : Named) where
   communicators_declared [] = nothing []
   communicators_declared (c ∷ cs) = together (communicator_facts c) (communicators_facts cs) (communicator_things named c) (communicators_things named cs) (communicator_declared c) (communicators_declared cs)
 
-  pub things_declared : (raw : Raw) → Declare (text_facts raw) (text_things named raw)
-  things_declared raw =
-      together (communicators_facts raw.comms) (block_facts raw.block true) (communicators_things named raw.comms) (block_things named raw.block None) (communicators_declared raw.comms) (block_holds named (λ o. Declare) declaring raw.block true None)
+  pub things_declared : {n : ℕ} {x : Raw} {a : List ℕ} → IsNormal n false a_raw x a → Declare (text_facts x) (text_things named x)
+  things_declared (normal.is_raw f {cs = cs} {x = x} tokens h e k) =
+      together (communicators_facts cs) (block_facts x true) (communicators_things named cs) (block_things named x None) (communicators_declared cs) (told k true None)
 
   -- ---- all that communicators list has a name
 

@@ -71,9 +71,6 @@ specified_identified token answer params =
 pub loop_identified : (at : Position) → Identified (fact.Loop at ∷ [])
 loop_identified at = alone (layer.Loop at) (fact.Loop at) (fact.rolls-Loop at) tt
 
-pub text_identified : (at : Position) (n : ℕ) → Identified (fact.Text at n ∷ [])
-text_identified at n = alone (layer.Text at n) (fact.Text at n) (fact.rolls-Text at n) tt
-
 pub block_identified : (o : Option ℕ) {facts : List Fact} → Identified facts → Identified (fact.Block o facts ∷ [])
 block_identified o {facts = facts} h = alone (layer.Block o facts) (fact.Block o facts) (fact.rolls-Block o facts) h.each
 

@@ -1,8 +1,8 @@
+mod Shapes
 mod Identified
 mod IdentifiedTexts
 mod Counts
 mod Lists
 mod Based
-mod Trees
 mod Declared
 mod Called

@@ -15,7 +15,6 @@ ghost use Rattle.cw_unit.specs.declared.unit.Item.{Item};
 ghost use Rattle.cw_object.specs.IsWritable.{are_listed};
 ghost use Rattle.cw_obj.specs.ReferenceObject.{entry_of};
 ghost use Rattle.cw_view.specs.ObjectFormat.{is_named};
-ghost use Rattle.cw_sound_items.specs.Derived.{HasRisingTokens};
 ghost use Rattle.cw_sound_written.specs.Counts.{CountsFit};
 ghost use Rattle.cw_sound_written.specs.Identified.{HasIdentifiers};
 
@@ -34,8 +33,11 @@ pub fn names_identified()
 
 /// Each item of a text's unit has a name, or is a string or the words of a FOR, which no list names.
 pub fn items_called()
-    ensures { (named : Named) → Resolves named.raw.now (results.Ok named) → HasIdentifiers named.raw.now → HasRisingTokens named.raw.now → (i : ℕ) (x : Item) → slice_get (unit_of named).items i ≡ Some x → IsTrue (is_named (entry_of (unit_of named) (0, 0) x)) }
-{}
+    ensures { (n : ℕ) (ts : List Lexeme) (raw : Raw) (named : Named) → length ts ≤ 65535 → Derives n a_raw text (numbered 1 ts) raw → Resolves raw (results.Ok named) → (i : ℕ) (x : Item) → slice_get (unit_of named).items i ≡ Some x → IsTrue (is_named (entry_of (unit_of named) (0, 0) x)) }
+{
+    names_identified();
+    cw_sound_tree::laws::items_derived();
+}
 
 /// The descriptors of the unit of a text without faults are in the format, and each that is overlaid has its base before it.
 pub fn bases_listed()
