@@ -9,18 +9,20 @@ use Rattle.cw_facts.specs.declared.fact.Declaration.{Declaration}
 use Rattle.cw_facts.specs.declared.fact.Kind.{Kind}
 use Rattle.cw_facts.specs.declared.fact.Kind.TheVariants as kind
 use Rattle.cw_facts.specs.Facts.{block_facts}
-use Rattle.cw_facts.specs.Text.{communicators_facts, text_facts}
+use Rattle.cw_facts.specs.Text.{communicators_facts}
 use Rattle.cw_grammar.specs.Tokens.{is_identifier}
 use Rattle.cw_grammar.specs.Grammar.{a_raw}
 use Rattle.cw_derived.specs.NormalForm.{IsNormal}
 use Rattle.cw_scope.specs.declared.resolve.Named.{Named}
 use Rattle.cw_scope.specs.Outcome.{Resolves}
+use Rattle.cw_scope.specs.Text.{declarations_of}
 use Rattle.cw_items.specs.declared.thing.Base.{Base}
 use Rattle.cw_items.specs.declared.thing.Sort.{Sort}
 use Rattle.cw_items.specs.declared.thing.Sort.TheVariants as sort
 use Rattle.cw_items.specs.declared.thing.Thing.{Thing}
 use Rattle.cw_items.specs.Families.{frame_of}
 use Rattle.cw_items.specs.Things.{communicators_things, block_things}
+use Rattle.cw_number.specs.declared.listed.Listing.{Listing}
 use Rattle.cw_number.specs.Listed.{listed_of}
 use Rattle.cw_number.specs.Numbers.{numbers_of}
 use Rattle.cw_make_items.specs.Lookup.{Numbers}
@@ -45,7 +47,7 @@ use Rattle.cw_sound_names.specs.Placed.{tokens}
 use Rattle.cw_sound_written.specs.Counts.{Each}
 use Rattle.cw_sound_written.specs.Identified.{IsIdentified, HasIdentifiers}
 use Rattle.cw_sound_front.proofs.Lists.{token_in}
-use Rattle.cw_sound_front.proofs.Declared.{things_declared, communicators_named}
+use Rattle.cw_sound_front.proofs.Declared.{at_declaration, things_declared, communicators_named}
 
 -- ---- names
 
@@ -107,7 +109,7 @@ module _ (named : Named) (resolves : Resolves named.raw.now (results.Ok named)) 
       let block = block_facts named.raw.now.block true in
       let r = row-at (listed_of named.raw.now) t.at.token d e in
       let before : In t.at.token (facts_tokens comms) =
-      listed-token named.raw.now.comms t.at.token (subst (λ n. In n (row_tokens (listed_of named.raw.now))) r.2 (token_in (λ x. x.token) (listed_of named.raw.now) r.0 (at-place (listed_of named.raw.now) d r.0 r.1))) in
+      listed-token named.raw.now.comms t.at.token (subst (λ n. In n (row_tokens (listed_of named.raw.now))) r.2 (token_in (λ (x : Row Listing). x.token) (listed_of named.raw.now) r.0 (at-place (listed_of named.raw.now) d r.0 r.1))) in
       let behind : In t.at.token (facts_tokens block) =
       within-in t.at.token (block_stores (λ x. Unit {0}) [] named named.raw.now.block true None).tokens (token_in token_of_thing (block_things named named.raw.now.block None) t i) in
       let low = stands-before 1 (facts_tokens comms) (facts_tokens block) t.at.token t.at.token (subst (IsRising 1) (tokens-append comms block) rising) before behind in
@@ -124,7 +126,7 @@ module _ (named : Named) (resolves : Resolves named.raw.now (results.Ok named)) 
   declaration_of : (t : Thing) → In t (things_of named) → t.sort ≡ sort.Named → HasDeclaration named.declarations t.at.token
   declaration_of t i e =
       subst (λ (rs : List (Row Declaration)). HasDeclaration rs t.at.token) (sym resolves.3)
-      (declaration_at _ names t.at.token (each-in _ (things_of named) (things_declared named tree).each t i e))
+      (declaration_at (declarations_of named.raw.now) names t.at.token (at_declaration (things_declared named tree) t i e))
 
   pub items_called : (i : ℕ) (x : Item) → slice_get (unit_of named).items i ≡ Some x → IsTrue (is_named (entry_of (unit_of named) (0, 0) x))
   items_called i x e =

@@ -41,7 +41,7 @@ use Rattle.cw_facts.specs.Uses.{expression_uses, condition_uses, reference_uses}
 use Rattle.cw_facts.specs.Facts.{joined, declares, specifies, each_declares, groups_facts, data_facts, base_facts, parameter_facts, parameters_facts, answer_facts, felems_facts, enclosed, declaration_facts, form_facts, simple_facts, block_facts, statement_facts}
 use Rattle.cw_facts.specs.Text.{citem_facts, citems_facts, aitem_facts, aitems_facts, communicator_facts, communicators_facts, text_facts}
 use Rattle.cw_scope.specs.declared.resolve.Named.{Named}
-use Rattle.cw_scope.specs.Resolved.{text_declarations}
+use Rattle.cw_scope.specs.Resolved.{fact_declarations, text_declarations}
 use Rattle.cw_grammar.specs.Grammar.{Sort, a_list, a_decl, a_form, a_simple, a_block, a_stmt, a_raw, Value}
 use Rattle.cw_grammar.specs.Statements.{proc_tree}
 use Rattle.cw_derived.specs.NormalForm as normal
@@ -67,6 +67,9 @@ IsDeclared facts t = t.sort ≡ sort.Named → In t.at.token (declared facts)
 
 pub record Declare (facts : List Fact) (things : List Thing) : Type 0 where
   pub each : Each (IsDeclared facts) things
+
+pub at_declaration : {facts : List Fact} {things : List Thing} → Declare facts things → (t : Thing) → In t things → t.sort ≡ sort.Named → In t.at.token (tokens (text_declarations facts))
+at_declaration {facts = facts} {things = things} d t i e = each-in (IsDeclared facts) things d.each t i e
 
 nothing : (facts : List Fact) → Declare facts []
 nothing facts = record { each = tt }
@@ -145,7 +148,7 @@ loop_unnamed facts o at = record { each = ((λ e. absurd (cc)), tt) }
 -- ---- blocks
 
 block_declared : (o : Option ℕ) (fs : List Fact) (ts : List Thing) → Declare fs ts → Declare (fact.Block o fs ∷ []) ts
-block_declared o fs ts h = widened fs (fact.Block o fs ∷ []) ts (λ t i. subst (λ (rs : List (Row Declaration)). In t (tokens rs)) (sym (append-nil _ ∙ block_rows o fs)) i) h
+block_declared o fs ts h = widened fs (fact.Block o fs ∷ []) ts (λ t i. subst (λ (rs : List (Row Declaration)). In t (tokens rs)) (sym (append-nil (fact_declarations (fact.Block o fs)) ∙ block_rows o fs)) i) h
 
 enclosed_declared : (b : Bool) (fs : List Fact) (ts : List Thing) → Declare fs ts → Declare (enclosed b fs) ts
 enclosed_declared true fs ts h = block_declared None fs ts h
