@@ -123,7 +123,7 @@ module _ (token : ℕ) where
       of_test : (b : Bool) → nat_eq token t.at.token ≡ b → (item_here (item_rows (next_long n) ts ++ rest) token ≡ 0) ⊎ Holds ts
           → (item_in (option_map (λ (r : Row Numbered). r.item) (cond b (Some (record { token = t.at.token; item = numbered.Item n })) (find (stands_at token) (item_rows (next_long n) ts ++ rest)))) ≡ 0) ⊎ Holds (t ∷ ts)
       of_test true e later = inr (0, t, refl, sym (eqb-true token t.at.token e))
-      of_test false e (inl none) = inl none
+      of_test false e (inl missing) = inl missing
       of_test false e (inr there) = inr (suc there.0, there.1, there.2, there.3)
 
 -- ---- descriptors
@@ -181,7 +181,7 @@ module _ (named : Named) (rising : HasRisingTokens named.raw.now) (bases : Bases
   over_before : (d : ℕ) (r : Row Listing) → slice_get rows d ≡ Some r → IsTrue (has_base d (over_at numbers rows things r.token))
   over_before d r e =
       elim (thing_or_none r.token 0 things (listed_rows 0 rows ++ declared_rows (begin_of named.raw.now) none_counted named.declarations) (no_listed r.token 0 rows (declared_rows (begin_of named.raw.now) none_counted named.declarations) (no_declared r.token (begin_of named.raw.now) none_counted named.declarations))) [
-        | inl none ↦ subst (λ (i : ℕ). IsTrue (has_base d (over_thing rows (slice_get things i)))) (sym none) (first_alone d (slice_get things 0) refl)
+        | inl missing ↦ subst (λ (i : ℕ). IsTrue (has_base d (over_thing rows (slice_get things i)))) (sym missing) (first_alone d (slice_get things 0) refl)
         | inr there ↦
             (let number : item_here numbers r.token ≡ there.0 = ap (item_here numbers) (sym there.3) ∙ ap item_in ((made named rising bases).number there.0 there.1 there.2) in
             subst (λ (o : Option Thing). IsTrue (has_base d (over_thing rows o))) (sym (ap (slice_get things) number ∙ there.2)) (base_before d r e there.0 there.1 there.2 there.3 there.1.base refl))
@@ -197,9 +197,9 @@ module _ (named : Named) (rising : HasRisingTokens named.raw.now) (bases : Bases
   descriptor_based d x e =
       let r = row_of d x e in
       elim (overlays-are numbers rows things named.raw.now.comms d x r.0 e r.1) [
-        | inl none ↦ subst (λ o. IsTrue (has_base d o)) (sym none) refl
+        | inl alone ↦ subst (λ o. IsTrue (has_base d o)) (sym alone) refl
         | inr over ↦ subst (λ o. IsTrue (has_base d o)) (sym over) (over_before d r.0 r.1)
       ]
 
   pub bases_listed : IsTrue (list_all fits_descriptor (unit_of named).descs) → IsTrue (are_listed 0 (unit_of named).descs)
-  bases_listed fits = listed_from 0 (unit_of named).descs fits (λ d x e. descriptor_based d x e)
+  bases_listed fits = listed_from 0 (unit_of named).descs fits (λ d x e. let same : 0 + d ≡ d = omega arith in subst (λ m. IsTrue (has_base m x.over)) (sym same) (descriptor_based d x e))

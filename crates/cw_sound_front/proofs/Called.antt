@@ -56,14 +56,14 @@ HasDeclaration rs token = (d : Declaration) × (item_at rs token ≡ Some d) × 
 
 declaration_at : (rs : List (Row Declaration)) → Each IsIdentified rs → (token : ℕ) → In token (tokens rs) → HasDeclaration rs token
 declaration_at [] h token i = absurd i
-declaration_at (r ∷ rs) h token i = of_test (nat_eq token r.token) refl i
+declaration_at (r ∷ rs) h token i = of_test (nat_eq token r.token) refl i (declaration_at rs h.1 token)
   where
-    of_test : (b : Bool) → nat_eq token r.token ≡ b → In token (tokens (r ∷ rs)) → HasDeclaration (r ∷ rs) token
-    of_test true q j = (r.item, found-here r rs token (eqb-true token r.token q), h.0)
-    of_test false q (inl e) = let no : true ≡ false = sym (eq-eqb token r.token e) ∙ q in absurd (cc)
-    of_test false q (inr j) =
-        let d = declaration_at rs h.1 token j in
-        (d.0, found-later r rs token (λ e. let no : true ≡ false = sym (eq-eqb token r.token e) ∙ q in absurd (cc)) ∙ d.1, d.2)
+    of_test : (b : Bool) → nat_eq token r.token ≡ b → In token (tokens (r ∷ rs)) → (In token (tokens rs) → HasDeclaration rs token) → HasDeclaration (r ∷ rs) token
+    of_test true q j later = (r.item, found-here r rs token (eqb-true token r.token q), h.0)
+    of_test false q (inl e) later = let other : true ≡ false = sym (eq-eqb token r.token e) ∙ q in absurd (cc)
+    of_test false q (inr j) later =
+        let d = later j in
+        (d.0, found-later r rs token (λ e. let other : true ≡ false = sym (eq-eqb token r.token e) ∙ q in absurd (cc)) ∙ d.1, d.2)
 
 declared_has_name : (o : Option Kind) → has_name (declared_kind o) ≡ true
 declared_has_name (Some (kind.Array t bounds)) = refl
@@ -116,10 +116,10 @@ module _ (named : Named) (resolves : Resolves named.raw.now (results.Ok named)) 
       omega (arith, low)
 
   unlisted : (t : Thing) → In t (things_of named) → (t.sort ≡ sort.Named → ⊥) → (o : Option ℕ) → place_at (listed_of named.raw.now) t.at.token ≡ o → o ≡ None
-  unlisted t i no None e = refl
-  unlisted t i no (Some d) e =
+  unlisted t i unnamed None e = refl
+  unlisted t i unnamed (Some d) e =
       elim (in-either t (communicators_things named named.raw.now.comms) (block_things named named.raw.now.block None) i) [
-        | inl l ↦ absurd (no (each-in (λ (x : Thing). x.sort ≡ sort.Named) (communicators_things named named.raw.now.comms) (communicators_named named named.raw.now.comms) t l))
+        | inl l ↦ absurd (unnamed (each-in (λ (x : Thing). x.sort ≡ sort.Named) (communicators_things named named.raw.now.comms) (communicators_named named named.raw.now.comms) t l))
         | inr r ↦ absurd (not_listed t d r e)
       ]
 
@@ -135,6 +135,6 @@ module _ (named : Named) (resolves : Resolves named.raw.now (results.Ok named)) 
       let there = at-place (things_of named) i t m.1 in
       let address : Option ℕ = item_at (addresses_of named.raw.now.comms) t.at.token in
       let apart : (t.sort ≡ sort.Named → ⊥) → is_common (home_listed (numbers_of named) (place_at (listed_of named.raw.now) t.at.token) address t) ≡ false =
-      λ no. subst (λ (o : Option ℕ). is_common (home_listed (numbers_of named) o address t) ≡ false) (sym (unlisted t there no (place_at (listed_of named.raw.now) t.at.token) refl)) (uncommon (numbers_of named) t address) in
+      λ unnamed. subst (λ (o : Option ℕ). is_common (home_listed (numbers_of named) o address t) ≡ false) (sym (unlisted t there unnamed (place_at (listed_of named.raw.now) t.at.token) refl)) (uncommon (numbers_of named) t address) in
       subst (λ (y : Item). IsTrue (is_named (entry_of (unit_of named) (0, 0) y))) m.2
       (by_sort t.sort (item_at named.declarations t.at.token) (is_common (home_listed (numbers_of named) (place_at (listed_of named.raw.now) t.at.token) address t)) (declaration_of t there) apart)

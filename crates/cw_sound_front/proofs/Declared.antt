@@ -270,7 +270,7 @@ module _ (named : Named) where
   communicators_declared (c ∷ cs) = together (communicator_facts c) (communicators_facts cs) (communicator_things named c) (communicators_things named cs) (communicator_declared c) (communicators_declared cs)
 
   pub things_declared : {n : ℕ} {x : Raw} {a : List ℕ} → IsNormal n false a_raw x a → Declare (text_facts x) (text_things named x)
-  things_declared (normal.is_raw f {cs = cs} {x = x} tokens h e k) =
+  things_declared (normal.is_raw {cs = cs} f {x = x} count h e k) =
       together (communicators_facts cs) (block_facts x true) (communicators_things named cs) (block_things named x None) (communicators_declared cs) (told k true None)
 
   -- ---- all that communicators list has a name
