@@ -1,4 +1,4 @@
--- Each item of a text's unit has a name, or is a string or the words of a FOR, which no list names.
+-- Each item of a text's unit has a name, but for its strings and the words of its FORs, which no COMMON list has.
 use Rattle.std.proofs.Common.{◌≡◌, ℕ, List, [], ◌∷◌, Bool, true, false, not, ◌&&◌, IsTrue, cond, nat_eq, Option, Some, None, is_some, slice_get, refl, sym, ap, subst, ◌∙◌, arith, eqb-true, inl, inr}
 use Rattle.std.proofs.lemmas.Bool.{eq-eqb}
 use Rattle.std.proofs.lemmas.Option.{none-some}

@@ -1,4 +1,4 @@
-//! Laws of what stands before the code of a text's unit: each is a function without a body, whose contract is the law.
+//! Laws of what stands before the code in the object of a text's unit: each is a function without a body, whose contract is the law.
 ghost use Rattle.std.specs.Prelude.{◌≡◌, ◌≤◌, ℕ, List, Some, None, IsTrue, length, slice_get};
 ghost use Rattle.std.specs.declared.result.Result.TheVariants as results;
 ghost use Rattle.cw_lex.specs.Lexical.{Lexeme};
@@ -18,7 +18,7 @@ ghost use Rattle.cw_view.specs.ObjectFormat.{is_named};
 ghost use Rattle.cw_sound_written.specs.Counts.{CountsFit};
 ghost use Rattle.cw_sound_written.specs.Identified.{HasIdentifiers};
 
-/// No procedure that a text without faults specifies has too many parameters for the format, and no table that it lists too many elements.
+/// What the communicators of a text without faults list has few enough parts for the format: parameters, and elements of tables.
 pub fn counts_fit()
     ensures { (n : ℕ) (ts : List Lexeme) (raw : Raw) (named : Named) → length ts ≤ 65535 → Derives n a_raw text (numbered 1 ts) raw → Resolves raw (results.Ok named) → first_type_fault named ≡ None → CountsFit raw.comms }
 {
@@ -31,7 +31,7 @@ pub fn names_identified()
     ensures { (n : ℕ) (ts : List Lexeme) (raw : Raw) → Derives n a_raw text (numbered 1 ts) raw → HasIdentifiers raw }
 {}
 
-/// Each item of a text's unit has a name, or is a string or the words of a FOR, which no list names.
+/// Each item of a text's unit has a name, but for its strings and the words of its FORs, which no COMMON list has.
 pub fn items_called()
     ensures { (n : ℕ) (ts : List Lexeme) (raw : Raw) (named : Named) → length ts ≤ 65535 → Derives n a_raw text (numbered 1 ts) raw → Resolves raw (results.Ok named) → (i : ℕ) (x : Item) → slice_get (unit_of named).items i ≡ Some x → IsTrue (is_named (entry_of (unit_of named) (0, 0) x)) }
 {
