@@ -1,5 +1,5 @@
 -- The base of each descriptor that is overlaid is a descriptor before it.
-use Rattle.std.proofs.Common.{◌≡◌, ◌⊎◌, inl, inr, ℕ, suc, ◌+◌, ◌<◌, ◌≤◌, min, List, [], ◌∷◌, ◌++◌, length, map, Bool, true, false, cond, IsTrue, nat_eq, nat_lt, Option, Some, None, slice_get, refl, sym, ap, subst, subst₂, ◌∙◌, arith, append_assoc, eqb-true}
+use Rattle.std.proofs.Common.{◌≡◌, ◌⊎◌, inl, inr, ℕ, suc, ◌+◌, ◌≤◌, min, List, [], ◌∷◌, ◌++◌, Bool, true, false, cond, IsTrue, nat_eq, nat_lt, Option, Some, None, slice_get, refl, sym, ap, subst, subst₂, ◌∙◌, arith, append_assoc, eqb-true}
 use Rattle.std.specs.Prelude.{find, option_map}
 use Rattle.std.specs.List.{list_all}
 use Rattle.std.proofs.lemmas.List.{map-append}

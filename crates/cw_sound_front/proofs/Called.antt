@@ -1,7 +1,6 @@
 -- Each item of a text's unit has a name, but for its strings and the words of its FORs, which no COMMON list has.
-use Rattle.std.proofs.Common.{◌≡◌, ℕ, List, [], ◌∷◌, Bool, true, false, not, ◌&&◌, IsTrue, cond, nat_eq, Option, Some, None, is_some, slice_get, refl, sym, ap, subst, ◌∙◌, arith, eqb-true, inl, inr}
+use Rattle.std.proofs.Common.{◌≡◌, ℕ, List, [], ◌∷◌, Bool, true, false, not, ◌&&◌, IsTrue, cond, nat_eq, Option, Some, None, is_some, slice_get, refl, sym, subst, ◌∙◌, arith, eqb-true, inl, inr}
 use Rattle.std.proofs.lemmas.Bool.{eq-eqb}
-use Rattle.std.proofs.lemmas.Option.{none-some}
 use Rattle.std.specs.declared.result.Result.TheVariants as results
 use Rattle.cw_table.specs.declared.table.Row.{Row}
 use Rattle.cw_table.specs.Rows.{item_at, place_at}
@@ -41,7 +40,6 @@ use Rattle.cw_sound_items.proofs.Says.{tokens-append}
 use Rattle.cw_sound_items.proofs.Naming.{listed-token}
 use Rattle.cw_sound_items.proofs.Resolving.{row_tokens}
 use Rattle.cw_sound_items.proofs.Numbering.{token_of_thing, found-here, found-later, made-of, row-at}
-use Rattle.cw_sound_items.proofs.Bases.{token-in}
 use Rattle.cw_sound_items.proofs.Trees.{block_stores}
 use Rattle.cw_sound_names.specs.Placed.{tokens}
 use Rattle.cw_sound_written.specs.Counts.{Each}

@@ -1,7 +1,6 @@
 -- Each name that a text declares is an identifier.
-use Rattle.std.proofs.Common.{◌≡◌, ℕ, List, [], ◌∷◌, ◌++◌, map, Bool, true, false, IsTrue, Option, Some, None, inl, inr, sym, refl, ap, subst, ◌∙◌}
+use Rattle.std.proofs.Common.{◌≡◌, ℕ, List, [], ◌∷◌, ◌++◌, map, Bool, true, false, IsTrue, Some, None, inl, inr, sym, refl, ap, subst, ◌∙◌}
 use Rattle.cw_lex.specs.Lexical.{Lexeme}
-use Rattle.cw_tree.specs.declared.leaf.RawName.{RawName}
 use Rattle.cw_tree.specs.declared.expression.RawExpr.{RawExpr}
 use Rattle.cw_tree.specs.declared.expression.RawCond.{RawCond}
 use Rattle.cw_tree.specs.declared.expression.RawRef.{RawRef}
@@ -28,7 +27,6 @@ use Rattle.cw_facts.specs.Signatures.{flattened}
 use Rattle.cw_facts.specs.Uses.{expression_uses, condition_uses, reference_uses, argument_uses}
 use Rattle.cw_facts.specs.Facts.{joined, answer_name, felem_facts, felems_facts, enclosed, declaration_facts, form_facts, simple_facts, block_facts, statement_facts}
 use Rattle.cw_facts.specs.Text.{text_facts}
-use Rattle.cw_scope.specs.Resolved.{text_declarations}
 use Rattle.cw_grammar.specs.Tokens.{numbered}
 use Rattle.cw_grammar.specs.Grammar.{Sort, a_list, a_decl, a_form, a_simple, a_block, a_stmt, a_raw, Value}
 use Rattle.cw_grammar.specs.Statements.{text, proc_tree}

@@ -45,11 +45,11 @@ use Rattle.cw_sound_written.specs.Counts.{Each}
 use Rattle.cw_sound_written.specs.Identified.{IsIdentified, HasIdentifiers}
 use Rattle.cw_sound_written.proofs.Segment.{identifier_is_name}
 
-pub each_left : {A : Type 0} (P : A → Type 0) (xs ys : List A) → Each P (xs ++ ys) → Each P xs
+each_left : {A : Type 0} (P : A → Type 0) (xs ys : List A) → Each P (xs ++ ys) → Each P xs
 each_left P [] ys h = tt
 each_left P (x ∷ xs) ys h = (h.0, each_left P xs ys h.1)
 
-pub each_right : {A : Type 0} (P : A → Type 0) (xs ys : List A) → Each P (xs ++ ys) → Each P ys
+each_right : {A : Type 0} (P : A → Type 0) (xs ys : List A) → Each P (xs ++ ys) → Each P ys
 each_right P [] ys h = h
 each_right P (x ∷ xs) ys h = each_right P xs ys h.1
 

@@ -1,6 +1,5 @@
 -- Each base stands before what is overlaid on it.
 use Rattle.std.proofs.Common.{sym, subst}
-use Rattle.cw_tree.specs.declared.segment.Raw.{Raw}
 use Rattle.cw_sound_items.specs.Derived.{HasRisingTokens}
 use Rattle.cw_sound_front.proofs.Based.{bases_listed}
 use Rattle.cw_sound_front.proofs.laws.bases_listed.Goals as goal
