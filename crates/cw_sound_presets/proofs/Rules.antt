@@ -60,7 +60,7 @@ module _ (names : Named) (sites : List (Row Site)) (absolute : List (Row ℕ)) w
 
   table_keeps : Keeps names sites absolute data_table
   unfolding data_table
-  table_keeps = (tt, λ x h _. table_held sites _ _ _)
+  table_keeps = (tt, λ x h _. table_held sites (record { at = position x.0; name = x.1.0; size = x.1.1.0; elems = x.1.1.1.0.0 }) x.1.1.1.0.1 x.1.1.1.1)
 
   item_keeps : Keeps names sites absolute item_data
   unfolding item_data
