@@ -3,33 +3,20 @@ use Rattle.std.proofs.Common.{◌≡◌, ℕ, List, [], ◌∷◌, ◌++◌, map
 use Rattle.cw_table.specs.declared.table.Row.{Row}
 use Rattle.cw_tree.specs.declared.leaf.Position.{Position}
 use Rattle.cw_tree.specs.declared.leaf.RawName.{RawName}
-use Rattle.cw_tree.specs.declared.leaf.RawSign.{RawSign}
-use Rattle.cw_tree.specs.declared.leaf.RawFactorSign.{RawFactorSign}
-use Rattle.cw_tree.specs.declared.leaf.RawCompareSign.{RawCompareSign}
-use Rattle.cw_tree.specs.declared.leaf.RawType.{RawType}
-use Rattle.cw_tree.specs.declared.expression.RawBits.{RawBits}
 use Rattle.cw_tree.specs.declared.expression.RawExpr.{RawExpr}
 use Rattle.cw_tree.specs.declared.expression.RawExpr.TheVariants as expr_tree
 use Rattle.cw_tree.specs.declared.expression.RawCond.{RawCond}
 use Rattle.cw_tree.specs.declared.expression.RawCand.{RawCand}
 use Rattle.cw_tree.specs.declared.expression.RawCmp.{RawCmp}
-use Rattle.cw_tree.specs.declared.expression.RawSum.{RawSum}
-use Rattle.cw_tree.specs.declared.expression.RawTerm.{RawTerm}
-use Rattle.cw_tree.specs.declared.expression.RawDiffer.{RawDiffer}
-use Rattle.cw_tree.specs.declared.expression.RawUnion.{RawUnion}
-use Rattle.cw_tree.specs.declared.expression.RawMask.{RawMask}
-use Rattle.cw_tree.specs.declared.expression.RawPrim.{RawPrim}
-use Rattle.cw_tree.specs.declared.expression.RawPrimary.{RawPrimary}
 use Rattle.cw_tree.specs.declared.expression.RawPrimary.TheVariants as primary_tree
-use Rattle.cw_tree.specs.declared.expression.RawRef.{RawRef}
 use Rattle.cw_tree.specs.declared.expression.RawRef.TheVariants as ref_tree
 use Rattle.cw_grammar.specs.Tokens.{Item, position, characters}
 use Rattle.cw_grammar.specs.Grammar.{Either, left, right}
-use Rattle.cw_grammar.specs.Trees.{Operands, extended, mask_start, union_start, differ_start, term_start, mask_tree, union_tree, differ_tree, term_tree, cand_tree, cond_tree, comparison_tree, sum_start, sum_tree, more_terms, expr_of, prim_of}
+use Rattle.cw_grammar.specs.Trees.{Operands, extended, cand_tree, cond_tree}
 use Rattle.cw_grammar.specs.Rules.{raw_literal, indexed_name, ref_behind, primary_behind, reference, constant, worded, enclosed, named, primary, prim, mask, union, differ, term, sum, cmp, cand, condition, expr}
 use Rattle.cw_scope.specs.declared.resolve.Named.{Named}
 use Rattle.cw_items.specs.declared.families.Site.{Site}
-use Rattle.cw_preset.specs.Strings.{Rows, joined, expression_rows, primary_rows, reference_rows, conjunction_rows, comparison_rows, condition_rows, differ_rows, mask_rows, prim_rows, sum_rows, term_rows, union_rows, argument_rows}
+use Rattle.cw_preset.specs.Strings.{Rows, joined, expression_rows, primary_rows, reference_rows, conjunction_rows, comparison_rows, condition_rows, differ_rows, mask_rows, prim_rows, sum_rows, term_rows, union_rows}
 use Rattle.cw_sound_items.proofs.Lists.{Each}
 use Rattle.cw_sound_presets.proofs.Small.{RowsSmall, rows_append, string_small, characters_bytes}
 use Rattle.cw_sound_presets.proofs.Layers.{cand_made, cond_made, cmp_made, expr_choice, primary_number, primary_octal, primary_literal, primary_text, primary_location, primary_forced, primary_bracket, primary_ref, primary_call, ref_name, ref_one, ref_two, ref_bare}

@@ -1,9 +1,8 @@
 -- What lists of presets and strings hold stands in no frame: the rules of types refuse presets of what does, and a string is in none.
-use Rattle.std.proofs.Common.{◌≡◌, ℕ, List, [], ◌∷◌, ◌++◌, length, drop, Bool, true, false, not, is_none, is_some, Option, Some, None, refl, sym, ap, ◌∙◌}
+use Rattle.std.proofs.Common.{◌≡◌, ℕ, List, [], ◌∷◌, drop, Bool, true, false, not, is_none, is_some, Option, Some, None, refl, sym, ap, ◌∙◌}
 use Rattle.cw_table.specs.declared.table.Row.{Row}
 use Rattle.cw_table.specs.Rows.{item_at}
 use Rattle.cw_tree.specs.declared.leaf.RawName.{RawName}
-use Rattle.cw_tree.specs.declared.items.RawBase.{RawBase}
 use Rattle.cw_tree.specs.declared.items.RawGroup.{RawGroup}
 use Rattle.cw_tree.specs.declared.items.RawPlace.{RawPlace}
 use Rattle.cw_tree.specs.declared.items.RawPresets.{RawPresets}
@@ -31,9 +30,9 @@ use Rattle.cw_items.specs.Things.{moved, moved_past, named_things, group_words, 
 use Rattle.cw_judge.specs.Declared.{is_framed, names_framed, groups_framed, places_of, frame_judged, one_kind, presets_judged, declared_judged}
 use Rattle.cw_preset.specs.Strings.{Words, Rows}
 use Rattle.cw_preset.specs.Lists.{named_rows, groups_rows, singles_preset, groups_preset, table_preset, data_rows}
-use Rattle.cw_sound_items.proofs.Lists.{In, Each, each-append, each-left, each-right, each-in}
+use Rattle.cw_sound_items.proofs.Lists.{Each, each-append, each-left, each-right, each-in}
 use Rattle.cw_sound_items.proofs.Keeping.{Keeps, keeps-fine, keeps-wrong, keeps-unless, keeps-presets, parts-free, holds}
-use Rattle.cw_sound_items.proofs.Fitting.{RowFits, RowsFit}
+use Rattle.cw_sound_items.proofs.Fitting.{RowsFit}
 use Rattle.cw_sound_presets.proofs.Small.{Small, RowsSmall, data_small}
 
 -- a list with a name

@@ -1,8 +1,8 @@
 -- What the items of a text's unit hold at the start: words, of items whose root stands in no frame.
-use Rattle.std.proofs.Common.{◌≡◌, ℕ, suc, ◌<◌, List, [], ◌∷◌, length, take, take_all, Bool, true, false, IsTrue, cond, nat_eq, nat_lt, Option, Some, None, is_some, slice_get, refl, sym, ap, subst, ◌∙◌, arith, eqb-true}
+use Rattle.std.proofs.Common.{◌≡◌, ℕ, suc, List, [], ◌∷◌, length, take, take_all, Bool, true, false, IsTrue, cond, nat_eq, nat_lt, Option, Some, None, is_some, slice_get, refl, sym, ap, subst, ◌∙◌, arith, eqb-true}
 use Rattle.std.specs.Prelude.{find, option_map}
 use Rattle.std.specs.List.{list_all}
-use Rattle.std.proofs.lemmas.Option.{none-some, same_Some, slice_get_within}
+use Rattle.std.proofs.lemmas.Option.{slice_get_within}
 use Rattle.cw_table.specs.declared.table.Row.{Row}
 use Rattle.cw_table.specs.Rows.{stands_at, item_at, place_at}
 use Rattle.cw_scope.specs.declared.resolve.Named.{Named}

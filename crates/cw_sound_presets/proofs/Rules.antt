@@ -8,17 +8,13 @@ use Rattle.cw_tree.specs.declared.expression.RawCond.{RawCond}
 use Rattle.cw_tree.specs.declared.expression.RawRef.TheVariants as ref_tree
 use Rattle.cw_tree.specs.declared.items.RawBase.{RawBase}
 use Rattle.cw_tree.specs.declared.items.RawData.{RawData}
-use Rattle.cw_tree.specs.declared.items.RawData.TheVariants as data_tree
 use Rattle.cw_tree.specs.declared.statement.RawStmt.{RawStmt}
 use Rattle.cw_tree.specs.declared.statement.RawDecl.{RawDecl}
-use Rattle.cw_tree.specs.declared.statement.RawForm.{RawForm}
 use Rattle.cw_tree.specs.declared.statement.RawForm.TheVariants as form_tree
 use Rattle.cw_tree.specs.declared.statement.RawSimple.{RawSimple}
-use Rattle.cw_tree.specs.declared.statement.RawFelem.TheVariants as felem_tree
 use Rattle.cw_tree.specs.declared.segment.RawCitem.{RawCitem}
 use Rattle.cw_tree.specs.declared.segment.RawCitem.TheVariants as citem_tree
 use Rattle.cw_tree.specs.declared.segment.RawComm.{RawComm}
-use Rattle.cw_tree.specs.declared.segment.RawComm.TheVariants as comm_tree
 use Rattle.cw_grammar.specs.Tokens.{Item, position}
 use Rattle.cw_grammar.specs.Grammar.{Sort, Rule, bracketed, subscript, indexed, called, located, conditional, if_rest, else_rest, for_rest, block_rest, proc_body, Again, labelled, labelled_simple, more_elems, places}
 use Rattle.cw_grammar.specs.Rules.{commas, indexed_name, reference, condition, expr}
@@ -28,7 +24,7 @@ use Rattle.cw_scope.specs.declared.resolve.Named.{Named}
 use Rattle.cw_items.specs.declared.families.Site.{Site}
 use Rattle.cw_items.specs.Things.{base_at, citem_things, citems_things, communicator_things, communicators_things, block_things}
 use Rattle.cw_judge.specs.Declared.{declared_judged, common_base_judged, common_overlaid_judged}
-use Rattle.cw_judge.specs.Judged.{citem_judged, citems_judged, communicator_judged, communicators_judged, block_judged}
+use Rattle.cw_judge.specs.Judged.{citem_judged, citems_judged, communicator_judged, communicators_judged}
 use Rattle.cw_preset.specs.Strings.{expression_rows, condition_rows}
 use Rattle.cw_preset.specs.Held.{citem_rows, citems_rows, communicator_rows, communicators_rows, block_rows}
 use Rattle.cw_sound_items.proofs.Lists.{Each, each-append, each-left, each-right}

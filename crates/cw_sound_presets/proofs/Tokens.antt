@@ -1,5 +1,5 @@
 -- The tokens of a text of bytes are of bytes, and so are those that it expands to.
-use Rattle.std.proofs.Common.{ℕ, ◌<◌, List, [], ◌∷◌, ◌++◌, length, take, drop, Bool}
+use Rattle.std.proofs.Common.{ℕ, ◌<◌, List, [], ◌∷◌, ◌++◌, drop, Bool}
 use Rattle.std.specs.List.{All}
 use Rattle.std.proofs.lemmas.List.Elements.{All-nil, All-cons, All-head, All-tail, All-take, All-drop}
 use Rattle.cw_lex.specs.declared.token.Form.{Form}

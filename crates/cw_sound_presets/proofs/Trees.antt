@@ -1,5 +1,5 @@
 -- What a tree of statements holds stands in no frame: where it is so of the parts, by the layers of trees.
-use Rattle.std.proofs.Common.{◌≡◌, List, [], ◌∷◌, ◌++◌, map, Option, Some, None, sym, subst, append-nil}
+use Rattle.std.proofs.Common.{◌≡◌, List, [], ◌∷◌, ◌++◌, map, Option, Some, None, sym, subst}
 use Rattle.cw_table.specs.declared.table.Row.{Row}
 use Rattle.cw_tree.specs.declared.leaf.Position.{Position}
 use Rattle.cw_tree.specs.declared.leaf.RawName.{RawName}
@@ -17,7 +17,7 @@ use Rattle.cw_tree.specs.declared.statement.RawPtag.{RawPtag}
 use Rattle.cw_tree.specs.declared.statement.RawDecl.{RawDecl, RawDecl-F, roll-RawDecl, map-RawDecl, fold-roll-RawDecl}
 use Rattle.cw_tree.specs.declared.statement.RawForm.{RawForm, roll-RawForm, map-RawForm, fold-roll-RawForm}
 use Rattle.cw_tree.specs.declared.statement.RawSimple.{RawSimple, roll-RawSimple, map-RawSimple, fold-roll-RawSimple}
-use Rattle.cw_tree.specs.declared.statement.RawBlock.{RawBlock, roll-RawBlock, fold-roll-RawBlock}
+use Rattle.cw_tree.specs.declared.statement.RawBlock.{RawBlock, fold-roll-RawBlock}
 use Rattle.cw_tree.specs.declared.statement.RawProc.{RawProc, fold-roll-RawProc}
 use Rattle.cw_tree.specs.declared.statement.RawStmt.{RawStmt, out-RawStmt, fold-roll-RawStmt, fold_out-RawStmt}
 use Rattle.cw_tree.specs.declared.statement.RawDecl.TheOpen as layer
@@ -29,23 +29,19 @@ use Rattle.cw_facts.specs.declared.fact.Fact.{Fact}
 use Rattle.cw_facts.specs.declared.fact.Reading.TheVariants as reading
 use Rattle.cw_facts.specs.Uses.{expression_uses, condition_uses, reference_uses, argument_uses}
 use Rattle.cw_grammar.specs.Tokens.{Item, position}
-use Rattle.cw_grammar.specs.Statements.{jump, block_tree, stmt_tree, simple_stmt, with_label, proc_tree}
+use Rattle.cw_grammar.specs.Statements.{block_tree, stmt_tree, simple_stmt, with_label, proc_tree}
 use Rattle.cw_scope.specs.declared.resolve.Named.{Named}
 use Rattle.cw_scale.specs.Faults.{Judgement, fine, both}
-use Rattle.cw_scale.specs.Types.{bits_judged}
 use Rattle.cw_data.specs.Overlays.{base_judged}
 use Rattle.cw_data.specs.Specifications.{heading_judged}
 use Rattle.cw_items.specs.declared.families.Site.{Site}
 use Rattle.cw_items.specs.declared.thing.Owner.{Owner}
-use Rattle.cw_items.specs.declared.thing.Sort.TheVariants as sort
-use Rattle.cw_items.specs.declared.thing.Thing.{Thing}
 use Rattle.cw_items.specs.Things as stores
 use Rattle.cw_items.specs.Things.{Things, thing, texts, base_at, data_things, parameters_things, felem_things, felems_things, is_recursive}
 use Rattle.cw_judge.specs.Declared.{declared_judged, overlaid_judged}
 use Rattle.cw_judge.specs.Judged as judges
 use Rattle.cw_judge.specs.Judged.{expression_judged, condition_judged, reference_judged, felems_judged, scale_of, all_judged}
-use Rattle.cw_preset.specs.Strings.{Words, Rows, joined, expression_rows, condition_rows, reference_rows, argument_rows}
-use Rattle.cw_preset.specs.Lists.{data_rows}
+use Rattle.cw_preset.specs.Strings.{Rows, joined, expression_rows, condition_rows, reference_rows, argument_rows}
 use Rattle.cw_preset.specs.Held as holds
 use Rattle.cw_preset.specs.Held.{felem_rows, felems_rows}
 use Rattle.cw_sound_items.proofs.Lists.{Each, each-append, each-left, each-right}
