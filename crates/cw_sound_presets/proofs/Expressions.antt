@@ -11,7 +11,7 @@ use Rattle.cw_tree.specs.declared.expression.RawCmp.{RawCmp}
 use Rattle.cw_tree.specs.declared.expression.RawPrimary.TheVariants as primary_tree
 use Rattle.cw_tree.specs.declared.expression.RawRef.TheVariants as ref_tree
 use Rattle.cw_grammar.specs.Tokens.{Item, position, characters}
-use Rattle.cw_grammar.specs.Grammar.{Either, left, right}
+use Rattle.cw_grammar.specs.Grammar.{Either, left, right, Sort, Value, Grammar}
 use Rattle.cw_grammar.specs.Trees.{Operands, extended, cand_tree, cond_tree}
 use Rattle.cw_grammar.specs.Rules.{raw_literal, indexed_name, ref_behind, primary_behind, reference, constant, worded, enclosed, named, primary, prim, mask, union, differ, term, sum, cmp, cand, condition, expr}
 use Rattle.cw_scope.specs.declared.resolve.Named.{Named}
@@ -21,7 +21,7 @@ use Rattle.cw_sound_items.proofs.Lists.{Each}
 use Rattle.cw_sound_presets.proofs.Small.{RowsSmall, rows_append, string_small, characters_bytes}
 use Rattle.cw_sound_presets.proofs.Layers.{cand_made, cond_made, cmp_made, expr_choice, primary_number, primary_octal, primary_literal, primary_text, primary_location, primary_forced, primary_bracket, primary_ref, primary_call, ref_name, ref_one, ref_two, ref_bare}
 use Rattle.cw_sound_presets.proofs.Held.{joined_extended, mask_kept, union_kept, differ_kept, term_kept, sum_kept, expr_of_keeps, prim_of_keeps}
-use Rattle.cw_sound_presets.proofs.Good.{IsOfBytes, OfOption, OfEither, Keeps, given_good}
+use Rattle.cw_sound_presets.proofs.Good.{IsOfBytes, OfOption, OfEither, Good, Given, Keeps, given_good}
 
 -- ---- trees
 
@@ -75,79 +75,85 @@ cond_small x rest h k =
 -- ---- rules
 
 module _ (names : Named) (sites : List (Row Site)) (absolute : List (Row ℕ)) where
-  pub reference_keeps : Keeps names sites absolute reference
+  abbrev Keep : {s : Sort} → Grammar s → Type 0
+  Keep g = Keeps names sites absolute g
+
+  taken : {s : Sort} (g : Grammar s) (x : Value s) → Given names sites absolute g x → Good names sites absolute s x
+  taken g x h = given_good names sites absolute g x h
+
+  pub reference_keeps : Keep reference
   unfolding reference
   reference_keeps = (((tt, ((tt, λ x h _. (tt, h)), tt)), λ x h _. ref_small x.0 x.1 h.1), (tt, λ x h _. bare_small (position x.0) x.1 h))
 
-  constant_keeps : Keeps names sites absolute constant
+  constant_keeps : Keep constant
   unfolding constant
   constant_keeps = (
     (tt, λ x h _. same (primary_number x) tt),
     ((tt, λ x h _. same (primary_octal x) tt), ((tt, λ t h _. same (primary_literal (raw_literal t)) tt), (tt, λ t h _. text_small t h))),
   )
 
-  worded_keeps : Keeps names sites absolute worded
+  worded_keeps : Keep worded
   unfolding worded
   worded_keeps = (((tt, tt), λ x h _. same (primary_location (position x.0) x.1.1) h.1), ((tt, tt), λ x h _. same (primary_forced x.0 x.1.1) h.1))
 
-  enclosed_keeps : Keeps names sites absolute enclosed
+  enclosed_keeps : Keep enclosed
   unfolding enclosed
   enclosed_keeps = ((tt, λ x h _. same (primary_bracket (position x.0) x.1) h), (tt, λ x h _. same (primary_ref (ref_tree.Bare (position x.0) x.1)) (bare_small (position x.0) x.1 h)))
 
-  named_keeps : Keeps names sites absolute named
+  named_keeps : Keep named
   unfolding named
   named_keeps = ((tt, ((tt, λ x h _. h), ((tt, λ x h _. h), tt))), λ x h _. primary_small x.0 x.1 h.1)
 
-  primary_keeps : Keeps names sites absolute primary
+  primary_keeps : Keep primary
   unfolding primary
   primary_keeps = (constant_keeps, (worded_keeps, (enclosed_keeps, named_keeps)))
 
-  prim_keeps : Keeps names sites absolute prim
+  prim_keeps : Keep prim
   unfolding prim
-  prim_keeps = ((tt, primary_keeps), λ x h _. same (prim_of_keeps x.0 x.1) (given_good names sites absolute primary x.1 h.1))
+  prim_keeps = ((tt, primary_keeps), λ x h _. same (prim_of_keeps x.0 x.1) (taken primary x.1 h.1))
 
-  mask_keeps : Keeps names sites absolute mask
+  mask_keeps : Keep mask
   unfolding mask
   mask_keeps =
-      ((prim_keeps, (tt, prim_keeps)), λ x h _. same (mask_kept x.0 x.1) (rows_append (prim_rows x.0) (joined (map (λ z. prim_rows z.1) x.1)) (given_good names sites absolute prim x.0 h.0) (behind_small prim_rows x.1 h.1)))
+      ((prim_keeps, (tt, prim_keeps)), λ x h _. same (mask_kept x.0 x.1) (rows_append (prim_rows x.0) (joined (map (λ z. prim_rows z.1) x.1)) (taken prim x.0 h.0) (behind_small prim_rows x.1 h.1)))
 
-  union_keeps : Keeps names sites absolute union
+  union_keeps : Keep union
   unfolding union
   union_keeps =
-      ((mask_keeps, (tt, mask_keeps)), λ x h _. same (union_kept x.0 x.1) (rows_append (mask_rows x.0) (joined (map (λ z. mask_rows z.1) x.1)) (given_good names sites absolute mask x.0 h.0) (behind_small mask_rows x.1 h.1)))
+      ((mask_keeps, (tt, mask_keeps)), λ x h _. same (union_kept x.0 x.1) (rows_append (mask_rows x.0) (joined (map (λ z. mask_rows z.1) x.1)) (taken mask x.0 h.0) (behind_small mask_rows x.1 h.1)))
 
-  differ_keeps : Keeps names sites absolute differ
+  differ_keeps : Keep differ
   unfolding differ
   differ_keeps =
-      ((union_keeps, (tt, union_keeps)), λ x h _. same (differ_kept x.0 x.1) (rows_append (union_rows x.0) (joined (map (λ z. union_rows z.1) x.1)) (given_good names sites absolute union x.0 h.0) (behind_small union_rows x.1 h.1)))
+      ((union_keeps, (tt, union_keeps)), λ x h _. same (differ_kept x.0 x.1) (rows_append (union_rows x.0) (joined (map (λ z. union_rows z.1) x.1)) (taken union x.0 h.0) (behind_small union_rows x.1 h.1)))
 
-  term_keeps : Keeps names sites absolute term
+  term_keeps : Keep term
   unfolding term
   term_keeps =
-      ((differ_keeps, (tt, differ_keeps)), λ x h _. same (term_kept x.0 x.1) (rows_append (differ_rows x.0) (joined (map (λ z. differ_rows z.1) x.1)) (given_good names sites absolute differ x.0 h.0) (behind_small differ_rows x.1 h.1)))
+      ((differ_keeps, (tt, differ_keeps)), λ x h _. same (term_kept x.0 x.1) (rows_append (differ_rows x.0) (joined (map (λ z. differ_rows z.1) x.1)) (taken differ x.0 h.0) (behind_small differ_rows x.1 h.1)))
 
-  sum_keeps : Keeps names sites absolute sum
+  sum_keeps : Keep sum
   unfolding sum
   sum_keeps = (
     (tt, (term_keeps, (tt, term_keeps))),
-    λ x h _. same (sum_kept x.0 x.1.0 x.1.1) (rows_append (term_rows x.1.0) (joined (map (λ z. term_rows z.1) x.1.1)) (given_good names sites absolute term x.1.0 h.1.0) (behind_small term_rows x.1.1 h.1.1)),
+    λ x h _. same (sum_kept x.0 x.1.0 x.1.1) (rows_append (term_rows x.1.0) (joined (map (λ z. term_rows z.1) x.1.1)) (taken term x.1.0 h.1.0) (behind_small term_rows x.1.1 h.1.1)),
   )
 
-  cmp_keeps : Keeps names sites absolute cmp
+  cmp_keeps : Keep cmp
   unfolding cmp
   cmp_keeps = (
     (sum_keeps, (tt, sum_keeps)),
-    λ x h _. same (cmp_made x.0 x.1.0 x.1.1) (rows_append (sum_rows x.0) (sum_rows x.1.1) (given_good names sites absolute sum x.0 h.0) (given_good names sites absolute sum x.1.1 h.1.1)),
+    λ x h _. same (cmp_made x.0 x.1.0 x.1.1) (rows_append (sum_rows x.0) (sum_rows x.1.1) (taken sum x.0 h.0) (taken sum x.1.1 h.1.1)),
   )
 
-  cand_keeps : Keeps names sites absolute cand
+  cand_keeps : Keep cand
   unfolding cand
-  cand_keeps = ((cmp_keeps, (tt, cmp_keeps)), λ x h _. cand_small x.0 x.1 (given_good names sites absolute cmp x.0 h.0) h.1)
+  cand_keeps = ((cmp_keeps, (tt, cmp_keeps)), λ x h _. cand_small x.0 x.1 (taken cmp x.0 h.0) h.1)
 
-  pub condition_keeps : Keeps names sites absolute condition
+  pub condition_keeps : Keep condition
   unfolding condition
-  condition_keeps = ((cand_keeps, (tt, cand_keeps)), λ x h _. cond_small x.0 x.1 (given_good names sites absolute cand x.0 h.0) h.1)
+  condition_keeps = ((cand_keeps, (tt, cand_keeps)), λ x h _. cond_small x.0 x.1 (taken cand x.0 h.0) h.1)
 
-  pub expr_keeps : Keeps names sites absolute expr
+  pub expr_keeps : Keep expr
   unfolding expr
-  expr_keeps = ((tt, λ x h _. choice_small (position x.0) x.1.0 x.1.1.0 x.1.1.1 h.0 h.1.0 h.1.1), (sum_keeps, λ x h _. same (expr_of_keeps x) (given_good names sites absolute sum x h)))
+  expr_keeps = ((tt, λ x h _. choice_small (position x.0) x.1.0 x.1.1.0 x.1.1.1 h.0 h.1.0 h.1.1), (sum_keeps, λ x h _. same (expr_of_keeps x) (taken sum x h)))

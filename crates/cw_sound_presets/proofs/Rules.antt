@@ -16,7 +16,7 @@ use Rattle.cw_tree.specs.declared.segment.RawCitem.{RawCitem}
 use Rattle.cw_tree.specs.declared.segment.RawCitem.TheVariants as citem_tree
 use Rattle.cw_tree.specs.declared.segment.RawComm.{RawComm}
 use Rattle.cw_grammar.specs.Tokens.{Item, position}
-use Rattle.cw_grammar.specs.Grammar.{Sort, Rule, bracketed, subscript, indexed, called, located, conditional, if_rest, else_rest, for_rest, block_rest, proc_body, Again, labelled, labelled_simple, more_elems, places}
+use Rattle.cw_grammar.specs.Grammar.{Sort, Value, Grammar, Rule, bracketed, subscript, indexed, called, located, conditional, if_rest, else_rest, for_rest, block_rest, proc_body, Again, labelled, labelled_simple, more_elems, places}
 use Rattle.cw_grammar.specs.Rules.{commas, indexed_name, reference, condition, expr}
 use Rattle.cw_grammar.specs.Statements.{semicolons, group, data_table, singles, arrays, item_data, overlay, citem, comm, simple_behind, jump, block_tree, unnamed, simple, if_tree, for_tree, stmt, felem, proc_behind, worded_decl, decl, raw, text}
 use Rattle.cw_grammar.specs.Table.{rule, again_rule}
@@ -34,37 +34,52 @@ use Rattle.cw_sound_presets.proofs.Small.{RowsSmall, rows_append}
 use Rattle.cw_sound_presets.proofs.Frames.{HasName, Told, Held, DataHeld, singles_held, arrays_held, table_held}
 use Rattle.cw_sound_presets.proofs.Trees.{FormHeld, SimpleHeld, BlockHeld, StmtHeld, empty_held, assign_held, assign_bits_held, goto_held, goto_switch_held, call_held, answer_held, inner_held, if_held, else_held, for_held, labelled_held, form_alone, simple_alone, data_held, overlay_held, switch_held, proc_held, block_held}
 use Rattle.cw_sound_presets.proofs.Expressions.{joined_small, name_small, index_small, bare_small, reference_keeps, condition_keeps, expr_keeps}
-use Rattle.cw_sound_presets.proofs.Good.{OfOption, CitemHeld, CommHeld, TextHeld, Keeps, given_good}
+use Rattle.cw_sound_presets.proofs.Good.{OfOption, CitemHeld, CommHeld, TextHeld, Good, Given, Keeps, given_good}
 
 module _ (names : Named) (sites : List (Row Site)) (absolute : List (Row ℕ)) where
+  abbrev Keep : {s : Sort} → Grammar s → Type 0
+  Keep g = Keeps names sites absolute g
+
+  taken : {s : Sort} (g : Grammar s) (x : Value s) → Given names sites absolute g x → Good names sites absolute s x
+  taken g x h = given_good names sites absolute g x h
+
+  expression : Keep expr
+  expression = expr_keeps names sites absolute
+
+  test : Keep condition
+  test = condition_keeps names sites absolute
+
+  referred : Keep reference
+  referred = reference_keeps names sites absolute
+
   -- ---- data
 
-  group_keeps : Keeps names sites absolute group
+  group_keeps : Keep group
   unfolding group
   group_keeps = (tt, λ x h s. subst HasName s.0.1 tt)
 
-  singles_keep : Keeps names sites absolute singles
+  singles_keep : Keep singles
   unfolding singles
   singles_keep = (tt, λ x h _ t k. singles_held sites t x.0 x.1)
 
-  groups_keep : Keeps names sites absolute (commas group)
-  groups_keep = ((group_keeps, ((tt, group_keeps), λ x h _. given_good names sites absolute group x.1 h.1)), λ x h _. (given_good names sites absolute group x.0 h.0, h.1))
+  groups_keep : Keep (commas group)
+  groups_keep = ((group_keeps, ((tt, group_keeps), λ x h _. taken group x.1 h.1)), λ x h _. (taken group x.0 h.0, h.1))
 
-  arrays_keep : Keeps names sites absolute arrays
+  arrays_keep : Keep arrays
   unfolding arrays
   arrays_keep = (((tt, (groups_keep, tt)), λ x h _. (h.1.0, h.1.1)), λ x h _ t k. arrays_held sites t x.0 x.1 h.0)
 
-  table_keeps : Keeps names sites absolute data_table
+  table_keeps : Keep data_table
   unfolding data_table
   table_keeps = (tt, λ x h _. table_held sites (record { at = position x.0; name = x.1.0; size = x.1.1.0; elems = x.1.1.1.0.0 }) x.1.1.1.0.1 x.1.1.1.1)
 
-  item_keeps : Keeps names sites absolute item_data
+  item_keeps : Keep item_data
   unfolding item_data
   item_keeps = (((tt, (singles_keep, arrays_keep)), λ x h _. h.1 x.0 tt), table_keeps)
 
-  overlay_keeps : Keeps names sites absolute overlay
+  overlay_keeps : Keep overlay
   unfolding overlay
-  overlay_keeps = (tt, (tt, ((tt, item_keeps), λ x h _. given_good names sites absolute item_data x.1 h.1)))
+  overlay_keeps = (tt, (tt, ((tt, item_keeps), λ x h _. taken item_data x.1 h.1)))
 
   -- ---- communicators
 
@@ -78,17 +93,17 @@ module _ (names : Named) (sites : List (Row Site)) (absolute : List (Row ℕ)) w
   overlay_citem : (at : Position) (b : RawBase) (d : RawData) → DataHeld sites d → CitemHeld names sites absolute (citem_tree.Overlay at b d)
   overlay_citem at b d h free told = h None (Some (base_at names b)) (on_base b d free) told
 
-  citem_keeps : Keeps names sites absolute citem
+  citem_keeps : Keep citem
   unfolding citem
   citem_keeps = (
     (
-      (tt, ((singles_keep, λ f h _ t k. data_citem (f t) (given_good names sites absolute singles f h t tt)), ((arrays_keep, λ f h _ t k. data_citem (f t) (given_good names sites absolute arrays f h t tt)), (tt, λ f h _ t k free told. tt)))),
+      (tt, ((singles_keep, λ f h _ t k. data_citem (f t) (taken singles f h t tt)), ((arrays_keep, λ f h _ t k. data_citem (f t) (taken arrays f h t tt)), (tt, λ f h _ t k free told. tt)))),
       λ x h _. h.1 x.0 tt,
     ),
     (
-      (table_keeps, λ d h _. data_citem d (given_good names sites absolute data_table d h)),
+      (table_keeps, λ d h _. data_citem d (taken data_table d h)),
       (
-        (overlay_keeps, λ x h _. overlay_citem (position x.0) x.1.0 x.1.1 (given_good names sites absolute overlay x h).1.1),
+        (overlay_keeps, λ x h _. overlay_citem (position x.0) x.1.0 x.1.1 (taken overlay x h).1.1),
         ((tt, λ x h _ free told. tt), ((tt, λ x h _ free told. tt), (tt, λ f h _ free told. tt))),
       ),
     ),
@@ -101,10 +116,10 @@ module _ (names : Named) (sites : List (Row Site)) (absolute : List (Row ℕ)) w
       each-append (Held sites) (citem_rows i) (citems_rows is) (h.0 frees.0 (each-left (Told sites) (citem_things names i) (citems_things names is) told))
       (citems_held is h.1 frees.1 (each-right (Told sites) (citem_things names i) (citems_things names is) told))
 
-  citems_keep : Keeps names sites absolute (semicolons citem)
-  citems_keep = ((citem_keeps, ((tt, citem_keeps), λ x h _. given_good names sites absolute citem x.1 h.1)), λ x h _. (given_good names sites absolute citem x.0 h.0, h.1))
+  citems_keep : Keep (semicolons citem)
+  citems_keep = ((citem_keeps, ((tt, citem_keeps), λ x h _. taken citem x.1 h.1)), λ x h _. (taken citem x.0 h.0, h.1))
 
-  comm_keeps : Keeps names sites absolute comm
+  comm_keeps : Keep comm
   unfolding comm
   comm_keeps = (
     ((tt, ((tt, ((citems_keep, tt), λ x h _. h.0)), λ x h _. h.1)), λ x h _. citems_held x.1 h.1),
@@ -128,89 +143,89 @@ module _ (names : Named) (sites : List (Row Site)) (absolute : List (Row ℕ)) w
   form_held t c ls s None h k l = if_held names sites (position t) c ls s h k
   form_held t c ls s (Some x) h k l = else_held names sites (position t) c ls s x h k l
 
-  behind_keeps : Keeps names sites absolute simple_behind
+  behind_keeps : Keep simple_behind
   unfolding simple_behind
   behind_keeps = (
-    (((tt, expr_keeps names sites absolute), λ x h _. given_good names sites absolute expr x.1 h.1), λ e h _ n k. assign_held names sites (ref_tree.Name n) e (name_small n) h),
+    (((tt, expression), λ x h _. taken expr x.1 h.1), λ e h _ n k. assign_held names sites (ref_tree.Name n) e (name_small n) h),
     (
-      ((tt, ((tt, expr_keeps names sites absolute), λ x h _. given_good names sites absolute expr x.1 h.1)), λ x h _ n k. assign_held names sites (indexed_name n x.0.1.0 x.0.1.1) x.1 (index_small n x.0.1.0 x.0.1.1 h.0.0 h.0.1) h.1),
+      ((tt, ((tt, expression), λ x h _. taken expr x.1 h.1)), λ x h _ n k. assign_held names sites (indexed_name n x.0.1.0 x.0.1.1) x.1 (index_small n x.0.1.0 x.0.1.1 h.0.0 h.0.1) h.1),
       ((tt, λ x h _ n k. call_held names sites n x.1 (joined_small expression_rows x.1 h)), λ n k. call_held names sites n [] tt),
     ),
   )
 
-  unnamed_keeps : (p : Bool) → Keeps names sites absolute (unnamed p)
+  unnamed_keeps : (p : Bool) → Keep (unnamed p)
   unfolding unnamed
   unnamed_keeps p = (
-    ((tt, ((tt, expr_keeps names sites absolute), λ x h _. given_good names sites absolute expr x.1 h.1)), λ x h _. assign_held names sites (ref_tree.Bare (position x.0.0) x.0.1) x.1 (bare_small (position x.0.0) x.0.1 h.0) h.1),
+    ((tt, ((tt, expression), λ x h _. taken expr x.1 h.1)), λ x h _. assign_held names sites (ref_tree.Bare (position x.0.0) x.0.1) x.1 (bare_small (position x.0.0) x.0.1 h.0) h.1),
     (
-      ((tt, (reference_keeps names sites absolute, ((tt, expr_keeps names sites absolute), λ x h _. given_good names sites absolute expr x.1 h.1))), λ x h _. assign_bits_held names sites x.0 x.1.0 x.1.1 (given_good names sites absolute reference x.1.0 h.1.0) h.1.1),
+      ((tt, (referred, ((tt, expression), λ x h _. taken expr x.1 h.1))), λ x h _. assign_bits_held names sites x.0 x.1.0 x.1.1 (taken reference x.1.0 h.1.0) h.1.1),
       (
         ((tt, (tt, ((tt, λ x h _. (tt, h)), tt))), λ x h _. jump_held x.0 x.1.0 x.1.1 h.1.1),
         (
-          ((tt, expr_keeps names sites absolute), λ x h _. answer_held names sites (position x.0) x.1 (given_good names sites absolute expr x.1 h.1)),
+          ((tt, expression), λ x h _. answer_held names sites (position x.0) x.1 (taken expr x.1 h.1)),
           ((tt, λ x h _. inner_held names sites (block_tree x.0 x.1.0 x.1.1) (block_held names sites x.0 x.1.0 x.1.1 h.0 h.1)), empty_held names sites),
         ),
       ),
     ),
   )
 
-  simple_keeps : (p : Bool) → Keeps names sites absolute (simple p)
+  simple_keeps : (p : Bool) → Keep (simple p)
   unfolding simple
   simple_keeps p = (
-    ((tt, ((((tt, tt), λ x h _. h.1), λ x h _ n k. ((tt, h.0), h.1)), (behind_keeps, λ f h _ n k. (tt, given_good names sites absolute simple_behind f h n tt)))), λ x h _. h.1 x.0 tt),
-    (unnamed_keeps p, λ s h _. (tt, given_good names sites absolute (unnamed p) s h)),
+    ((tt, ((((tt, tt), λ x h _. h.1), λ x h _ n k. ((tt, h.0), h.1)), (behind_keeps, λ f h _ n k. (tt, taken simple_behind f h n tt)))), λ x h _. h.1 x.0 tt),
+    (unnamed_keeps p, λ s h _. (tt, taken (unnamed p) s h)),
   )
 
-  stmt_keeps : (p : Bool) → Keeps names sites absolute (stmt p)
+  stmt_keeps : (p : Bool) → Keep (stmt p)
   unfolding stmt
   stmt_keeps p = (
-    ((tt, ((((tt, tt), λ x h _. h.1), λ s h _ n k. labelled_held names sites n s h), (behind_keeps, λ f h _ n k. simple_alone names sites (f n) (given_good names sites absolute simple_behind f h n tt)))), λ x h _. h.1 x.0 tt),
+    ((tt, ((((tt, tt), λ x h _. h.1), λ s h _ n k. labelled_held names sites n s h), (behind_keeps, λ f h _ n k. simple_alone names sites (f n) (taken simple_behind f h n tt)))), λ x h _. h.1 x.0 tt),
     (
       (tt, λ x h _. form_alone names sites (if_tree x.0 x.1) (form_held x.0 x.1.0 x.1.1.0.0 x.1.1.0.1 x.1.1.1 h.0 h.1.0.1 h.1.1)),
       (
         (tt, λ x h _. form_alone names sites (for_tree x.0 x.1) (for_held names sites (position x.0) x.1.0 x.1.1.0 x.1.1.1 h.0 h.1.0 h.1.1)),
-        (unnamed_keeps p, λ s h _. simple_alone names sites s (given_good names sites absolute (unnamed p) s h)),
+        (unnamed_keeps p, λ s h _. simple_alone names sites s (taken (unnamed p) s h)),
       ),
     ),
   )
 
-  felem_keeps : Keeps names sites absolute felem
+  felem_keeps : Keep felem
   unfolding felem
   felem_keeps = (
     (
-      expr_keeps names sites absolute,
+      expression,
       (
-        (((tt, condition_keeps names sites absolute), λ x h _. given_good names sites absolute condition x.1 h.1), λ c h _ e k. rows_append (expression_rows e) (condition_rows c) k h),
+        (((tt, test), λ x h _. taken condition x.1 h.1), λ c h _ e k. rows_append (expression_rows e) (condition_rows c) k h),
         (
           (
-            ((tt, (expr_keeps names sites absolute, ((tt, expr_keeps names sites absolute), λ x h _. given_good names sites absolute expr x.1 h.1))), λ x h _. (given_good names sites absolute expr x.1.0 h.1.0, h.1.1)),
+            ((tt, (expression, ((tt, expression), λ x h _. taken expr x.1 h.1))), λ x h _. (taken expr x.1.0 h.1.0, h.1.1)),
             λ x h _ e k. rows_append (expression_rows e) (expression_rows x.0 ++ expression_rows x.1) k (rows_append (expression_rows x.0) (expression_rows x.1) h.0 h.1),
           ),
           λ e k. k,
         ),
       ),
     ),
-    λ x h _. h.1 x.0 (given_good names sites absolute expr x.0 h.0),
+    λ x h _. h.1 x.0 (taken expr x.0 h.0),
   )
 
   -- ---- procedures and blocks
 
-  proc_keeps : Keeps names sites absolute proc_behind
+  proc_keeps : Keep proc_behind
   unfolding proc_behind
   proc_keeps = ((tt, (tt, (tt, tt))), λ x h _ t k. proc_held names sites t x.0 x.1.0 x.1.1.0 x.1.1.1.1 h.1.1.1)
 
-  worded_keeps : Keeps names sites absolute worded_decl
+  worded_keeps : Keep worded_decl
   unfolding worded_decl
   worded_keeps = (
-    (table_keeps, λ d h _. data_held names sites d (given_good names sites absolute data_table d h)),
-    ((overlay_keeps, λ x h _. overlay_held names sites (position x.0) x.1.0 x.1.1 (given_good names sites absolute overlay x h).1.1), (tt, λ x h _. switch_held names sites (position x.0) x.1.0 x.1.1)),
+    (table_keeps, λ d h _. data_held names sites d (taken data_table d h)),
+    ((overlay_keeps, λ x h _. overlay_held names sites (position x.0) x.1.0 x.1.1 (taken overlay x h).1.1), (tt, λ x h _. switch_held names sites (position x.0) x.1.0 x.1.1)),
   )
 
-  decl_keeps : (p : Bool) → Keeps names sites absolute (decl p)
+  decl_keeps : (p : Bool) → Keep (decl p)
   unfolding decl
   decl_keeps true = (
     (
-      (tt, ((singles_keep, λ f h _ t k. data_held names sites (f t) (given_good names sites absolute singles f h t tt)), (arrays_keep, λ f h _ t k. data_held names sites (f t) (given_good names sites absolute arrays f h t tt)))),
+      (tt, ((singles_keep, λ f h _ t k. data_held names sites (f t) (taken singles f h t tt)), (arrays_keep, λ f h _ t k. data_held names sites (f t) (taken arrays f h t tt)))),
       λ x h _. h.1 x.0 tt,
     ),
     worded_keeps,
@@ -220,54 +235,54 @@ module _ (names : Named) (sites : List (Row Site)) (absolute : List (Row ℕ)) w
       (
         tt,
         (
-          (singles_keep, λ f h _ t k. data_held names sites (f t) (given_good names sites absolute singles f h t tt)),
-          ((arrays_keep, λ f h _ t k. data_held names sites (f t) (given_good names sites absolute arrays f h t tt)), (proc_keeps, λ f h _ t k. given_good names sites absolute proc_behind f h (Some t) tt)),
+          (singles_keep, λ f h _ t k. data_held names sites (f t) (taken singles f h t tt)),
+          ((arrays_keep, λ f h _ t k. data_held names sites (f t) (taken arrays f h t tt)), (proc_keeps, λ f h _ t k. taken proc_behind f h (Some t) tt)),
         ),
       ),
       λ x h _. h.1 x.0 tt,
     ),
-    (worded_keeps, (proc_keeps, λ f h _. given_good names sites absolute proc_behind f h None tt)),
+    (worded_keeps, (proc_keeps, λ f h _. taken proc_behind f h None tt)),
   )
 
-  pub rule_keeps : {s : Sort} (r : Rule s) → Keeps names sites absolute (rule r)
+  pub rule_keeps : {s : Sort} (r : Rule s) → Keep (rule r)
   unfolding rule
-  rule_keeps bracketed = ((expr_keeps names sites absolute, tt), λ x h _. given_good names sites absolute expr x.0 h.0)
-  rule_keeps subscript = ((expr_keeps names sites absolute, tt), λ x h _. given_good names sites absolute expr x.0 h.0)
-  rule_keeps indexed = (expr_keeps names sites absolute, ((((((tt, expr_keeps names sites absolute), λ x h _. given_good names sites absolute expr x.1 h.1), λ x h _. h), tt), tt), λ x h _. h.0))
+  rule_keeps bracketed = ((expression, tt), λ x h _. taken expr x.0 h.0)
+  rule_keeps subscript = ((expression, tt), λ x h _. taken expr x.0 h.0)
+  rule_keeps indexed = (expression, ((((((tt, expression), λ x h _. taken expr x.1 h.1), λ x h _. h), tt), tt), λ x h _. h.0))
   rule_keeps called = (
-    (((expr_keeps names sites absolute, ((tt, expr_keeps names sites absolute), λ x h _. given_good names sites absolute expr x.1 h.1)), λ x h _. (given_good names sites absolute expr x.0 h.0, h.1)), tt),
+    (((expression, ((tt, expression), λ x h _. taken expr x.1 h.1)), λ x h _. (taken expr x.0 h.0, h.1)), tt),
     λ x h _. h.0,
   )
-  rule_keeps located = ((reference_keeps names sites absolute, tt), λ x h _. given_good names sites absolute reference x.0 h.0)
+  rule_keeps located = ((referred, tt), λ x h _. taken reference x.0 h.0)
   rule_keeps conditional = (
-    condition_keeps names sites absolute,
-    (((tt, expr_keeps names sites absolute), λ x h _. given_good names sites absolute expr x.1 h.1), ((tt, expr_keeps names sites absolute), λ x h _. given_good names sites absolute expr x.1 h.1)),
+    test,
+    (((tt, expression), λ x h _. taken expr x.1 h.1), ((tt, expression), λ x h _. taken expr x.1 h.1)),
   )
-  rule_keeps (if_rest p) = (condition_keeps names sites absolute, (((tt, tt), λ x h _. h.1), (((tt, λ x h _. h), λ x h _. h), tt)))
+  rule_keeps (if_rest p) = (test, (((tt, tt), λ x h _. h.1), (((tt, λ x h _. h), λ x h _. h), tt)))
   rule_keeps (else_rest p) = tt
   rule_keeps (for_rest p) = (
-    reference_keeps names sites absolute,
+    referred,
     (
-      ((tt, ((felem_keeps, ((tt, felem_keeps), λ x h _. given_good names sites absolute felem x.1 h.1)), λ x h _. (given_good names sites absolute felem x.0 h.0, h.1))), λ x h _. h.1),
+      ((tt, ((felem_keeps, ((tt, felem_keeps), λ x h _. taken felem x.1 h.1)), λ x h _. (taken felem x.0 h.0, h.1))), λ x h _. h.1),
       ((tt, tt), λ x h _. h.1),
     ),
   )
-  rule_keeps (block_rest p) = (((decl_keeps p, tt), λ x h _. given_good names sites absolute (decl p) x.0 h.0), ((((tt, ((tt, tt), λ x h _. h.1)), λ x h _. (h.0, h.1)), tt), λ x h _. h.0))
+  rule_keeps (block_rest p) = (((decl_keeps p, tt), λ x h _. taken (decl p) x.0 h.0), ((((tt, ((tt, tt), λ x h _. h.1)), λ x h _. (h.0, h.1)), tt), λ x h _. h.0))
   rule_keeps proc_body = tt
 
-  pub again_keeps : {s : Sort} (a : Again s) → Keeps names sites absolute (again_rule a)
+  pub again_keeps : {s : Sort} (a : Again s) → Keep (again_rule a)
   unfolding again_rule
   again_keeps (labelled p) = stmt_keeps p
   again_keeps (labelled_simple p) = simple_keeps p
   again_keeps more_elems = tt
   again_keeps places = tt
 
-  text_held : (cs : List RawComm) (n : RawName) (b : Item × (List RawDecl × List RawStmt)) (finish : Item) → Each (CommHeld names sites absolute) cs → BlockHeld names sites (block_tree b.0 b.1.0 b.1.1) → TextHeld names sites absolute (raw cs n b finish)
-  text_held cs n b finish h k comms block told =
+  whole_held : (cs : List RawComm) (n : RawName) (b : Item × (List RawDecl × List RawStmt)) (finish : Item) → Each (CommHeld names sites absolute) cs → BlockHeld names sites (block_tree b.0 b.1.0 b.1.1) → TextHeld names sites absolute (raw cs n b finish)
+  whole_held cs n b finish h k comms block told =
       let whole = block_tree b.0 b.1.0 b.1.1 in
       each-append (Held sites) (communicators_rows cs) (block_rows whole) (comms_held cs h comms (each-left (Told sites) (communicators_things names cs) (block_things names whole None) told))
       (k None block (each-right (Told sites) (communicators_things names cs) (block_things names whole None) told))
 
-  pub text_keeps : Keeps names sites absolute text
+  pub text_keeps : Keep text
   unfolding text
-  text_keeps = ((((comm_keeps, tt), λ x h _. given_good names sites absolute comm x.0 h.0), (tt, (tt, tt))), λ x h _. text_held x.0 x.1.0 x.1.1.0 x.1.1.1 h.0 (block_held names sites x.1.1.0.0 x.1.1.0.1.0 x.1.1.0.1.1 h.1.1.0.0 h.1.1.0.1))
+  text_keeps = ((((comm_keeps, tt), λ x h _. taken comm x.0 h.0), (tt, (tt, tt))), λ x h _. whole_held x.0 x.1.0 x.1.1.0 x.1.1.1 h.0 (block_held names sites x.1.1.0.0 x.1.1.0.1.0 x.1.1.0.1.1 h.1.1.0.0 h.1.1.0.1))
