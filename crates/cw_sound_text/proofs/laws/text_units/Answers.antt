@@ -49,5 +49,5 @@ returns c text u bytes is =
     let front = c.front_of_parts.ensures v (c.segment_named.ensures most_levels ts raw named tree.derives resolves) (c.bases_listed.ensures most_levels ts raw named few tree.derives resolves fine)
         (c.items_fit.ensures named resolves fine fits.rising fits.plain) (c.homes_fit.ensures named resolves fine fits.placed fits.rising fits.plain items)
         (c.presets_fit.ensures most_levels ts named tree.derives of_bytes resolves fine fits.rising fits.plain)
-        (record { titled = c.items_titled.ensures named resolves identified; called = c.items_called.ensures named resolves identified fits.rising }) in
+        (record { titled = c.items_titled.ensures named resolves identified; called = c.items_called.ensures most_levels ts raw named few tree.derives resolves }) in
     subst IsCompilable (sym is.unit_is) (record { built = built; coded = coded; short = short; need = need; writable = writable v front back })
