@@ -29,7 +29,8 @@ use Rattle.cw_show.specs.ExpressionTokens.{bits_tokens, expr_tokens, primary_tok
 use Rattle.cw_read_back_expr.proofs.ExpressionLayers.{sum_expr-tokens, bracket-tokens, differ-tokens, mask-tokens, prim-tokens, sum-tokens, term-tokens, union-tokens}
 use Rattle.cw_tokens.specs.LeastTokens.{separated}
 use Rattle.cw_tokens.specs.TreeTokens.{total}
-use Rattle.cw_shorter.proofs.Lengths.{not_none, same_some, joined_length, between_grows, operation_grows, extended_most, first_most, Falls, then_falls, sole_between, sole_operation}
+use Rattle.cw_derived.proofs.Held.{not_none, same_some}
+use Rattle.cw_shorter.proofs.Lengths.{joined_length, between_grows, operation_grows, extended_most, first_most, Falls, then_falls, sole_between, sole_operation}
 
 -- ---- trees by their operands
 
