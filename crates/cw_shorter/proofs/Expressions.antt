@@ -5,11 +5,8 @@ use Rattle.cw_lex.specs.declared.token.Word.{Word}
 use Rattle.cw_lex.specs.declared.token.Word.TheVariants as words
 use Rattle.cw_tree.specs.declared.leaf.RawInt.{RawInt}
 use Rattle.cw_tree.specs.declared.leaf.RawName.{RawName}
-use Rattle.cw_tree.specs.declared.leaf.RawSign.{RawSign}
 use Rattle.cw_tree.specs.declared.leaf.RawSint.{RawSint}
-use Rattle.cw_tree.specs.declared.leaf.RawSize.{RawSize}
 use Rattle.cw_tree.specs.declared.leaf.Position.{Position}
-use Rattle.cw_tree.specs.declared.leaf.RawType.{RawType}
 use Rattle.cw_tree.specs.declared.leaf.RawType.TheVariants as type_tree
 use Rattle.cw_tree.specs.declared.expression.RawBits.{RawBits}
 use Rattle.cw_tree.specs.declared.expression.RawCand.{RawCand}
@@ -23,7 +20,7 @@ use Rattle.cw_tree.specs.declared.expression.RawRef.TheVariants as ref_tree
 use Rattle.cw_grammar.specs.Tokens.{position, characters}
 use Rattle.cw_grammar.specs.Grammar.{a_list, an_option, a_position, a_name, a_number, an_octal, an_int, a_sint, a_size, a_type, a_sign, a_factor_sign, a_compare_sign, a_bits, an_expr, a_cond, a_cand, a_cmp, a_sum, a_term, a_differ, a_union, a_mask, a_prim, a_primary, a_ref, many}
 use Rattle.cw_grammar.specs.Rules.{name, number, octal, int, sign, sint, number_type, size, operator, factor_sign, comparator, bits, indexed_name, raw_literal, optional, reference, constant, worded, enclosed, named, primary, prim, mask, union, differ, term, sum, cmp, cand, condition, expr}
-use Rattle.cw_grammar.specs.Trees.{Operands, extended, cand_tree, cond_tree, comparison_tree}
+use Rattle.cw_grammar.specs.Trees.{Operands, extended, cand_tree, cond_tree}
 use Rattle.cw_show.specs.Spelling.{word, symbol}
 use Rattle.cw_show.specs.Canonical.{Tokens, compare_symbol, int_tokens, sint_tokens, sign_tokens, size_tokens, type_tokens, between, comma, bracketed, indexed}
 use Rattle.cw_show.specs.ExpressionTokens.{bits_tokens, expr_tokens, primary_tokens, ref_tokens, cand_tokens, cmp_tokens, cond_tokens, differ_tokens, mask_tokens, prim_tokens, sum_tokens, term_tokens, union_tokens}

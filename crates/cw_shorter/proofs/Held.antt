@@ -24,12 +24,13 @@ use Rattle.cw_tree.specs.declared.expression.RawTerm.{RawTerm, out-RawTerm}
 use Rattle.cw_tree.specs.declared.expression.RawUnion.{RawUnion, out-RawUnion}
 use Rattle.cw_grammar.specs.Trees.{sole, ◌>>-◌, Operands, extended, as_sum, sole_term, as_term, as_differ, as_union, as_mask, as_prim, bracket_primary, bracket_prim, bracket_mask, bracket_union, bracket_differ, bracket_term, bracket_sum, mask_start, union_start, differ_start, term_start, mask_tree, union_tree, differ_tree, term_tree, Terms, sum_tree, terms_of, sum_start, more_terms, expr_or, expr_of, prim_or, prim_of}
 use Rattle.cw_show.specs.Spelling.{Spelling, word}
-use Rattle.cw_show.specs.Canonical.{Tokens, add_symbol, multiply_symbol, sign_tokens, between, operation, joined, bracketed}
+use Rattle.cw_show.specs.Canonical.{add_symbol, multiply_symbol, sign_tokens, between, operation, joined, bracketed}
 use Rattle.cw_show.specs.ExpressionTokens.{bits_tokens, expr_tokens, primary_tokens, differ_tokens, mask_tokens, prim_tokens, sum_tokens, term_tokens, union_tokens}
 use Rattle.cw_read_back_expr.proofs.ExpressionLayers.{sum_expr-tokens, bracket-tokens, differ-tokens, mask-tokens, prim-tokens, sum-tokens, term-tokens, union-tokens}
 use Rattle.cw_tokens.specs.LeastTokens.{separated}
 use Rattle.cw_tokens.specs.TreeTokens.{total}
-use Rattle.cw_shorter.proofs.Lengths.{not_none, same_some, joined_length, between_grows, operation_grows, extended_most, first_most, Falls, then_falls, sole_between, sole_operation}
+use Rattle.cw_derived.proofs.Held.{not_none, same_some}
+use Rattle.cw_shorter.proofs.Lengths.{joined_length, between_grows, operation_grows, extended_most, first_most, Falls, then_falls, sole_between, sole_operation}
 
 -- ---- trees by their operands
 

@@ -1,5 +1,5 @@
 -- Data, specifications and communicators have at least as many tokens as their canonical text.
-use Rattle.std.proofs.Common.{◌≡◌, ℕ, suc, ◌+◌, ◌≤◌, List, [], ◌∷◌, ◌++◌, length, length-append, map, Bool, true, false, Option, Some, None, is_some, ap, arith}
+use Rattle.std.proofs.Common.{◌≡◌, ℕ, suc, ◌+◌, ◌≤◌, List, [], ◌∷◌, ◌++◌, length, length-append, map, Bool, Option, Some, None, is_some, arith}
 use Rattle.cw_lex.specs.declared.token.Symbol.TheVariants as symbols
 use Rattle.cw_lex.specs.declared.token.Word.TheVariants as words
 use Rattle.cw_tree.specs.declared.leaf.Position.{Position}
@@ -8,18 +8,15 @@ use Rattle.cw_tree.specs.declared.leaf.RawName.{RawName}
 use Rattle.cw_tree.specs.declared.leaf.RawSint.{RawSint}
 use Rattle.cw_tree.specs.declared.leaf.RawType.{RawType}
 use Rattle.cw_tree.specs.declared.items.RawData.{RawData}
-use Rattle.cw_tree.specs.declared.items.RawData.TheVariants as data_tree
-use Rattle.cw_tree.specs.declared.items.RawElem.{RawElem}
 use Rattle.cw_tree.specs.declared.items.RawElem.TheVariants as elem_tree
 use Rattle.cw_tree.specs.declared.items.RawPlace.{RawPlace}
 use Rattle.cw_tree.specs.declared.items.RawTable.{RawTable}
 use Rattle.cw_tree.specs.declared.segment.RawAitem.{RawAitem}
-use Rattle.cw_tree.specs.declared.segment.RawIps.{RawIps}
 use Rattle.cw_tree.specs.declared.segment.RawPs.{RawPs}
 use Rattle.cw_tree.specs.declared.segment.RawSpec.{RawSpec}
 use Rattle.cw_grammar.specs.Tokens.{position}
 use Rattle.cw_grammar.specs.Grammar.{Sort, a_token, a_pair, a_list, an_option, a_position, a_from, a_name, an_int, a_sint, a_type, a_range, a_bounds, a_group, an_elem, a_place, a_presets, a_table, a_data, a_base, a_ptag, an_ips, a_ps, a_spec, a_citem, an_aitem, a_comm, Value, Grammar, ◌·◌, many}
-use Rattle.cw_grammar.specs.Rules.{name, raw_literal, int, sint, symbol, word as the_word, optional, commas, ◌*>◌, ◌<*◌}
+use Rattle.cw_grammar.specs.Rules.{name, raw_literal, int, sint, symbol, word as the_word, optional, commas, ◌*>◌}
 use Rattle.cw_grammar.specs.Statements.{semicolons, separator, separated, in_round, in_square, listed, preset_value, place, further_places, presets, assigned, preset, range, bounds, group, elem, table, elems_behind, table_body, data_table, singles, arrays, item_data, base, overlay, ptag, worded_ips, ips, ips_list, procedure_ps, ps, spec_behind, spec, citem, typed_aitem, unplaced_aitem, aitem, comm}
 use Rattle.cw_show.specs.Spelling as shown
 use Rattle.cw_show.specs.Spelling.{Spelling}

@@ -24,7 +24,7 @@ use Rattle.cw_tree.specs.declared.statement.RawSimple.TheVariants as simple_tree
 use Rattle.cw_tree.specs.declared.statement.RawStmt.{RawStmt, out-RawStmt}
 use Rattle.cw_grammar.specs.Tokens.{position}
 use Rattle.cw_grammar.specs.Grammar.{a_list, a_pair, an_option, a_from, a_name, a_type, a_stmt, a_simple, a_felem, a_decl, a_param, a_comm, a_raw}
-use Rattle.cw_grammar.specs.Rules.{name, indexed_name, symbol, ◌<*◌}
+use Rattle.cw_grammar.specs.Rules.{indexed_name, symbol, ◌<*◌}
 use Rattle.cw_grammar.specs.Statements.{simple_behind, unnamed, block_tree, stmt_tree, with_label, simple_stmt, simple, if_tree, for_tree, stmt, felem, procedure_param, param, proc_tree, proc_behind, worded_decl, decl, comm, text}
 use Rattle.cw_show.specs.Spelling.{word, symbol as symbol_shown}
 use Rattle.cw_show.specs.Canonical.{name as the_name, type_tokens, between, ended, listed, comma, semicolon}
