@@ -1,5 +1,5 @@
 -- The pieces of a text put together.
-use Rattle.std.proofs.Common.{◌≡◌, ℕ, List, [], ◌++◌, ap, ◌∙◌, append_assoc}
+use Rattle.std.proofs.Common.{◌≡◌, ℕ, List, ◌++◌, ◌∙◌, append_assoc}
 
 pub assembled : (x w a b c d e f g t h i j o1 o2 o3 o4 o5 o6 o7 : List ℕ) → o1 ≡ x → o2 ≡ o1 ++ w → o3 ≡ o2 ++ (a ++ (b ++ (c ++ (d ++ e)))) → o4 ≡ o3 ++ w → o5 ≡ o4 ++ (f ++ g) → o6 ≡ o5 ++ t → o7 ≡ o6 ++ (h ++ (i ++ j))
     → o7 ≡ x ++ w ++ a ++ b ++ c ++ d ++ e ++ w ++ f ++ g ++ t ++ h ++ i ++ j

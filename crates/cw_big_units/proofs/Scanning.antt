@@ -1,5 +1,5 @@
 -- The lexer's pieces one after another, over a text of which only the front may be known.
-use Rattle.std.proofs.Common.{◌≡◌, ℕ, zero, suc, ◌+◌, ◌<◌, ◌≤◌, ◌==◌, Bool, true, false, cond, List, [], ◌∷◌, ◌++◌, length, take, drop, Option, Some, None, Ok, Err, refl, sym, ap, subst, ◌∙◌, append_assoc, arith}
+use Rattle.std.proofs.Common.{◌≡◌, ℕ, zero, suc, ◌+◌, ◌<◌, ◌≤◌, ◌==◌, Bool, false, cond, List, [], ◌∷◌, ◌++◌, length, take, drop, Option, Some, None, Ok, Err, refl, sym, subst, append_assoc, arith}
 use Rattle.std.specs.Prelude.{count_by}
 use Rattle.std.proofs.lemmas.List.{take-append-drop, length-append, append-nil}
 use Rattle.std.proofs.lemmas.List.Sums.{sum_by-append}
@@ -71,16 +71,24 @@ stands_on before s kind n le h = record {
 -- one piece
 piece_follows : (s : State) (kind : Option TokenKind) (n : ℕ) → IsPiece Source s.after_semicolon s.rest (Ok (kind, n)) → Follows s (lexemes kind s.line s.at (take n s.rest)) (moved s kind n)
 piece_follows s None n p = record {
-  behind = λ before h. (before ++ take n s.rest, stands_on before s None n p.within h, λ us d.
-      let F : List ℕ → Type 0 = λ z. Lexes Source first_place before s.after_semicolon z us in
-      subst F (take-append-drop n s.rest) (a_gap p.is_gap d));
+  behind = λ before h. (
+    before ++ take n s.rest,
+    stands_on before s None n p.within h,
+    λ us d.
+        let F : List ℕ → Type 0 = λ z. Lexes Source first_place before s.after_semicolon z us in
+        subst F (take-append-drop n s.rest) (a_gap p.is_gap d),
+  );
 }
 piece_follows s (Some k) n p = record {
-  behind = λ before h. (before ++ take n s.rest, stands_on before s (Some k) n p.within h, λ us d.
-      let F : List ℕ → Type 0 = λ z. Lexes Source first_place before s.after_semicolon z (record { kind = k; line = s.line; at = s.at; text = take n s.rest } ∷ us) in
-      let L : ℕ → Type 0 = λ z. Lexes Source first_place before s.after_semicolon (take n s.rest ++ drop n s.rest) (record { kind = k; line = z; at = s.at; text = take n s.rest } ∷ us) in
-      let A : ℕ → Type 0 = λ z. Lexes Source first_place before s.after_semicolon (take n s.rest ++ drop n s.rest) (record { kind = k; line = line_behind first_place before; at = z; text = take n s.rest } ∷ us) in
-      subst F (take-append-drop n s.rest) (subst L (sym h.line_is) (subst A (sym h.at_is) (a_token p.is_longest p.is_token p.keeps d))));
+  behind = λ before h. (
+    before ++ take n s.rest,
+    stands_on before s (Some k) n p.within h,
+    λ us d.
+        let F : List ℕ → Type 0 = λ z. Lexes Source first_place before s.after_semicolon z (record { kind = k; line = s.line; at = s.at; text = take n s.rest } ∷ us) in
+        let L : ℕ → Type 0 = λ z. Lexes Source first_place before s.after_semicolon (take n s.rest ++ drop n s.rest) (record { kind = k; line = z; at = s.at; text = take n s.rest } ∷ us) in
+        let A : ℕ → Type 0 = λ z. Lexes Source first_place before s.after_semicolon (take n s.rest ++ drop n s.rest) (record { kind = k; line = line_behind first_place before; at = z; text = take n s.rest } ∷ us) in
+        subst F (take-append-drop n s.rest) (subst L (sym h.line_is) (subst A (sym h.at_is) (a_token p.is_longest p.is_token p.keeps d))),
+  );
 }
 
 some_rest : (after : Bool) (bs : List ℕ) (x : Option TokenKind × ℕ) → piece Source after bs ≡ Ok x → 0 < length bs

@@ -1,5 +1,5 @@
 -- The tokens of the texts, whose numbers are known to be numerals alone.
-use Rattle.std.proofs.Common.{◌≡◌, ℕ, zero, suc, ◌+◌, ◌<◌, ◌≤◌, ◌==◌, Bool, true, false, cond, ◌&&◌, nat_lt, nat_le, List, [], ◌∷◌, ◌++◌, length, take, drop, Option, Some, None, Ok, Err, refl, sym, ap, subst, ◌∙◌, codes, decimal, append_assoc, arith}
+use Rattle.std.proofs.Common.{◌≡◌, ℕ, ◌+◌, ◌<◌, ◌≤◌, ◌==◌, Bool, true, false, cond, ◌&&◌, nat_lt, nat_le, List, [], ◌∷◌, ◌++◌, length, take, drop, Option, Some, None, Ok, refl, sym, ap, ◌∙◌, codes, decimal, append_assoc, arith}
 use Rattle.std.specs.List.{list_all, prefix_len}
 use Rattle.std.specs.Char.{is_ascii_digit, is_ascii_alphabetic, is_ascii_alphanumeric}
 use Rattle.std.proofs.lemmas.Bool.{and_parts, and_from, eqb-true, ltb-true}
@@ -13,7 +13,7 @@ use Rattle.cw_lex.specs.Found.{PieceResult, piece, piece_of, found, word_or_name
 use Rattle.cw_lex.specs.Lexical.{Lexeme, first_place, Tokenizes}
 use Rattle.cw_lex.proofs.Lists.{every_stop, every_all, cut}
 use Rattle.cw_big.specs.LargeProgram.{total_written, large_text}
-use Rattle.cw_big_units.proofs.Scanning.{State, Scanned, start, feeds, scan, Follows, follows_on, scan_follows, token_follows, scanned_whole}
+use Rattle.cw_big_units.proofs.Scanning.{Scanned, start, feeds, scan, follows_on, scan_follows, token_follows, scanned_whole}
 use Rattle.cw_big_units.proofs.Digits.{IsNumeral}
 
 -- ---- the name and the number

@@ -1,5 +1,5 @@
-use Rattle.std.proofs.Common.{◌≡◌, ℕ, List, [], ◌++◌, ap, ◌∙◌, codes, decimal}
-use Rattle.cw_big.specs.LargeProgram.{total_written, large_text}
+use Rattle.std.proofs.Common.{ℕ, List, ◌++◌, ap, ◌∙◌, codes, decimal}
+use Rattle.cw_big.specs.LargeProgram.{total_written}
 use Rattle.cw_big.proofs.Assembled.{assembled}
 use Rattle.cw_big.proofs.large_text.Goals as goal
 
