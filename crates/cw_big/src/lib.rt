@@ -1,5 +1,6 @@
 //! The texts of a large program.
 #![tactic(auto)]
+
 ghost use Rattle.std.specs.Prelude.{◌≡◌, ◌++◌, decimal, OnOk, IfOk};
 ghost use Rattle.cw_big.specs.LargeProgram.{total_written, large_text};
 
@@ -36,11 +37,20 @@ pub fn large_text(alloc: Global, number: u8, is_last: bool) -> Result<Vec<u8>, N
     ensures { IfOk result (λ text. text.items ≡ large_text number is_last) }
 {
     let mut text = Vec::new(alloc);
-    put(&mut text, b"COMMON (INTEGER TOTAL);\nLIBRARY (PROCEDURE WRITEBYTE(VALUE INTEGER));\nSEGMENT B")?;
+    put(
+        &mut text,
+        b"COMMON (INTEGER TOTAL);\nLIBRARY (PROCEDURE WRITEBYTE(VALUE INTEGER));\nSEGMENT B",
+    )?;
     put_number(&mut text, number)?;
-    put(&mut text, b"\nBEGIN\nINTEGER J;\nINTEGER ARRAY A[0:99];\nFOR J := 0 STEP 1 UNTIL 99 DO A[J] := J * ")?;
+    put(
+        &mut text,
+        b"\nBEGIN\nINTEGER J;\nINTEGER ARRAY A[0:99];\nFOR J := 0 STEP 1 UNTIL 99 DO A[J] := J * ",
+    )?;
     put_number(&mut text, number)?;
-    put(&mut text, b";\nFOR J := 0 STEP 1 UNTIL 99 DO TOTAL := (TOTAL + A[J]) MASK 4095")?;
+    put(
+        &mut text,
+        b";\nFOR J := 0 STEP 1 UNTIL 99 DO TOTAL := (TOTAL + A[J]) MASK 4095",
+    )?;
     put(&mut text, total_written(is_last))?;
     put(&mut text, b"\nEND\nFINISH\n")?;
     Ok(text)

@@ -59,11 +59,10 @@ fn run_program<I: Source, O: Sink, S: Sink>(
     out: &mut O,
     say: &mut S,
 ) -> Status
-    ghost us: { List SourceUnit }
-    ghost limits: { RunLimits }
-    requires linked { IsLinkedOf us limits linked.now }
-    requires limits { IsLimits limits }
-    ensures { Runs (program_line copies us) (image_of us limits) steps (streams_at (I.left input.old) (I.faults input.old) (O.held out.old) (O.faults out.old) (S.held say.old) (S.faults say.old)) (streams_at (I.left input.new) (I.faults input.new) (O.held out.new) (O.faults out.new) (S.held say.new) (S.faults say.new)) result }
+    ghost program: { List SourceUnit × RunLimits }
+    requires linked { IsLinkedOf program.0 program.1 linked.now }
+    requires limits { IsLimits program.1 }
+    ensures { Runs (program_line copies program.0) (image_of program.0 program.1) steps (streams_at (I.left input.old) (I.faults input.old) (O.held out.old) (O.faults out.old) (S.held say.old) (S.faults say.old)) (streams_at (I.left input.new) (I.faults input.new) (O.held out.new) (O.faults out.new) (S.held say.new) (S.faults say.new)) result }
 {
     match line_with(alloc, copies, linked.map.end) {
         Ok(line) => run_linked(alloc, line.as_slice(), linked, steps, input, out, say),

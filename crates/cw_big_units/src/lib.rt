@@ -1,4 +1,4 @@
-//! Laws of the units of a large program.
+//! Why no text of a large program is refused.
 #![tactic(auto)]
 
 pub mod laws;

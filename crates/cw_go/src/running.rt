@@ -73,11 +73,10 @@ pub fn run_linked<I: Source, O: Sink, S: Sink>(
     out: &mut O,
     say: &mut S,
 ) -> Status
-    ghost us: { Sequence SourceUnit }
-    ghost limits: { RunLimits }
-    requires linked { IsLinkedOf us limits linked.now }
-    requires limits { IsLimits limits }
-    ensures { Runs told.now (image_of us limits) steps (streams_at (I.left input.old) (I.faults input.old) (O.held out.old) (O.faults out.old) (S.held say.old) (S.faults say.old)) (streams_at (I.left input.new) (I.faults input.new) (O.held out.new) (O.faults out.new) (S.held say.new) (S.faults say.new)) result }
+    ghost program: { Sequence SourceUnit × RunLimits }
+    requires linked { IsLinkedOf program.0 program.1 linked.now }
+    requires limits { IsLimits program.1 }
+    ensures { Runs told.now (image_of program.0 program.1) steps (streams_at (I.left input.old) (I.faults input.old) (O.held out.old) (O.faults out.old) (S.held say.old) (S.faults say.old)) (streams_at (I.left input.new) (I.faults input.new) (O.held out.new) (O.faults out.new) (S.held say.new) (S.faults say.new)) result }
 {
     linked_units();
     load_and_run(alloc, told, &linked.image, steps, input, out, say)

@@ -1,14 +1,12 @@
 -- Expressions and conditions have at least as many tokens as their canonical text.
 use Rattle.std.proofs.Common.{◌≡◌, ℕ, suc, ◌+◌, ◌≤◌, List, [], ◌∷◌, ◌++◌, length, length-append, map, Option, Some, None, ap, ◌∙◌, arith}
+use Rattle.cw_lex.specs.declared.token.Symbol.TheVariants as symbols
 use Rattle.cw_lex.specs.declared.token.Word.{Word}
 use Rattle.cw_lex.specs.declared.token.Word.TheVariants as words
 use Rattle.cw_tree.specs.declared.leaf.RawInt.{RawInt}
 use Rattle.cw_tree.specs.declared.leaf.RawName.{RawName}
-use Rattle.cw_tree.specs.declared.leaf.RawSign.{RawSign}
 use Rattle.cw_tree.specs.declared.leaf.RawSint.{RawSint}
-use Rattle.cw_tree.specs.declared.leaf.RawSize.{RawSize}
 use Rattle.cw_tree.specs.declared.leaf.Position.{Position}
-use Rattle.cw_tree.specs.declared.leaf.RawType.{RawType}
 use Rattle.cw_tree.specs.declared.leaf.RawType.TheVariants as type_tree
 use Rattle.cw_tree.specs.declared.expression.RawBits.{RawBits}
 use Rattle.cw_tree.specs.declared.expression.RawCand.{RawCand}
@@ -22,9 +20,9 @@ use Rattle.cw_tree.specs.declared.expression.RawRef.TheVariants as ref_tree
 use Rattle.cw_grammar.specs.Tokens.{position, characters}
 use Rattle.cw_grammar.specs.Grammar.{a_list, an_option, a_position, a_name, a_number, an_octal, an_int, a_sint, a_size, a_type, a_sign, a_factor_sign, a_compare_sign, a_bits, an_expr, a_cond, a_cand, a_cmp, a_sum, a_term, a_differ, a_union, a_mask, a_prim, a_primary, a_ref, many}
 use Rattle.cw_grammar.specs.Rules.{name, number, octal, int, sign, sint, number_type, size, operator, factor_sign, comparator, bits, indexed_name, raw_literal, optional, reference, constant, worded, enclosed, named, primary, prim, mask, union, differ, term, sum, cmp, cand, condition, expr}
-use Rattle.cw_grammar.specs.Trees.{Operands, extended, cand_tree, cond_tree, comparison_tree}
-use Rattle.cw_show.specs.Spelling.{word}
-use Rattle.cw_show.specs.Canonical.{Tokens, int_tokens, sint_tokens, sign_tokens, size_tokens, type_tokens, between, comma, bracketed, indexed}
+use Rattle.cw_grammar.specs.Trees.{Operands, extended, cand_tree, cond_tree}
+use Rattle.cw_show.specs.Spelling.{word, symbol}
+use Rattle.cw_show.specs.Canonical.{Tokens, compare_symbol, int_tokens, sint_tokens, sign_tokens, size_tokens, type_tokens, between, comma, bracketed, indexed}
 use Rattle.cw_show.specs.ExpressionTokens.{bits_tokens, expr_tokens, primary_tokens, ref_tokens, cand_tokens, cmp_tokens, cond_tokens, differ_tokens, mask_tokens, prim_tokens, sum_tokens, term_tokens, union_tokens}
 use Rattle.cw_read_back_expr.proofs.ExpressionLayers.{choice-tokens, number-tokens, octal-tokens, literal-tokens, string-tokens, location-tokens, forced-tokens, bracket-tokens, referred-tokens, call-tokens, named-tokens, one_index-tokens, two_indexes-tokens, bare-tokens, cand-tokens, cond-tokens, cmp-tokens}
 use Rattle.cw_tokens.specs.LeastTokens.{separated}
@@ -64,8 +62,8 @@ sint_counts x u (b_map (b_then {u = v} {v = w} {x = o} {y = i} d e)) = omega (ar
 
 fixed_length : (at : Position) (t : RawInt) (f : RawSint) → length (type_tokens (type_tree.Fixed at t f)) ≡ 4 + (length (int_tokens t) + length (sint_tokens f))
 fixed_length at t f =
-    let a : length (type_tokens (type_tree.Fixed at t f)) ≡ 2 + (length (int_tokens t) + _) = ap (λ n. 2 + n) (length-append (int_tokens t) _) in
-    let b = length-append (sint_tokens f) (_ ∷ []) in
+    let a = length-append (int_tokens t) (comma ∷ (sint_tokens f ++ symbol symbols.Close ∷ [])) in
+    let b = length-append (sint_tokens f) (symbol symbols.Close ∷ []) in
     omega (arith, a, b)
 
 pub type_counts : Counts a_type number_type (λ x. length (type_tokens x))
@@ -77,7 +75,7 @@ type_counts x u (b_right (b_map (b_then {x = w} b_one (b_then b_one (b_then {u =
 pub size_counts : Counts a_size size (λ x. length (size_tokens x))
 unfolding size
 size_counts x u (b_map (b_then b_one (b_then {u = v} {x = a} d (b_then b_one (b_then {u = w} {x = b} e b_one))))) =
-    omega (arith, int_counts a v d, int_counts b w e, length-append (int_tokens a) (comma ∷ (int_tokens b ++ _)), length-append (int_tokens b) (_ ∷ []))
+    omega (arith, int_counts a v d, int_counts b w e, length-append (int_tokens a) (comma ∷ (int_tokens b ++ symbol symbols.CloseSquare ∷ [])), length-append (int_tokens b) (symbol symbols.CloseSquare ∷ []))
 
 pub bits_counts : Counts a_bits bits (λ x. length (bits_tokens x))
 unfolding bits
@@ -107,10 +105,10 @@ operator_counts x u (b_map b_one) = omega arith
 -- ---- references
 
 pub square_length : (ts : Tokens) → length (indexed ts) ≡ 2 + length ts
-square_length ts = let a = length-append ts (_ ∷ []) in omega (arith, a)
+square_length ts = let a = length-append ts (symbol symbols.CloseSquare ∷ []) in omega (arith, a)
 
 pub round_length : (ts : Tokens) → length (bracketed ts) ≡ 2 + length ts
-round_length ts = let a = length-append ts (_ ∷ []) in omega (arith, a)
+round_length ts = let a = length-append ts (symbol symbols.Close ∷ []) in omega (arith, a)
 
 pub ref_name : (n : RawName) → length (ref_tokens (ref_tree.Name n)) ≡ 1
 ref_name n = ap length (named-tokens n)
@@ -122,8 +120,8 @@ pub indexed_most : (n : RawName) (e : RawExpr) (o : Option RawExpr) → length (
 indexed_most n e None = let a : length (ref_tokens (ref_tree.One n e)) ≡ suc (length (indexed (expr_tokens e))) = ap length (one_index-tokens n e) in omega (arith, a, square_length (expr_tokens e))
 indexed_most n e (Some d) =
     let a = ap length (two_indexes-tokens n e d) in
-    let b = length-append (expr_tokens e) (comma ∷ (expr_tokens d ++ _ ∷ [])) in
-    let c = length-append (expr_tokens d) (_ ∷ []) in
+    let b = length-append (expr_tokens e) (comma ∷ (expr_tokens d ++ symbol symbols.CloseSquare ∷ [])) in
+    let c = length-append (expr_tokens d) (symbol symbols.CloseSquare ∷ []) in
     omega (arith, a, b, c)
 
 pub reference_counts : Counts a_ref reference (λ x. length (ref_tokens x))
@@ -203,7 +201,7 @@ cmp_counts : Counts a_cmp cmp (λ x. length (cmp_tokens x))
 unfolding cmp
 cmp_counts x u (b_map (b_then {u = v} {x = a} d (b_then {u = w} {v = z} {x = op} {y = b} o e))) =
     let all = ap length (cmp-tokens a op b) in
-    omega (arith, all, length-append (sum_tokens a) (_ ∷ sum_tokens b), sum_counts a v d, comparator_counts op w o, sum_counts b z e)
+    omega (arith, all, length-append (sum_tokens a) (compare_symbol op.op ∷ sum_tokens b), sum_counts a v d, comparator_counts op w o, sum_counts b z e)
 
 cand_most : (x : RawCmp) (more : List (Position × RawCmp)) → length (cand_tokens (cand_tree (extended (x ∷ [], []) more))) ≤ length (cmp_tokens x) + separated (map (λ z. length (cmp_tokens z.1)) more)
 cand_most x more =
@@ -232,8 +230,8 @@ condition_counts x u (b_map (b_then {u = v} {x = y} {y = more} d e)) = omega (ar
 choice_length : (at : Position) (c : RawCond) (a b : RawExpr) → length (expr_tokens (expr_tree.Choice at c a b)) ≡ 3 + (length (cond_tokens c) + (length (expr_tokens a) + length (expr_tokens b)))
 choice_length at c a b =
     let all = ap length (choice-tokens at c a b) in
-    let x = length-append (cond_tokens c) (_ ∷ (expr_tokens a ++ _ ∷ expr_tokens b)) in
-    let y = length-append (expr_tokens a) (_ ∷ expr_tokens b) in
+    let x = length-append (cond_tokens c) (word words.Then ∷ (expr_tokens a ++ word words.Else ∷ expr_tokens b)) in
+    let y = length-append (expr_tokens a) (word words.Else ∷ expr_tokens b) in
     omega (arith, all, x, y)
 
 pub expr_counts : Counts an_expr expr (λ x. length (expr_tokens x))

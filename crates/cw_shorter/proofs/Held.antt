@@ -24,12 +24,13 @@ use Rattle.cw_tree.specs.declared.expression.RawTerm.{RawTerm, out-RawTerm}
 use Rattle.cw_tree.specs.declared.expression.RawUnion.{RawUnion, out-RawUnion}
 use Rattle.cw_grammar.specs.Trees.{sole, ◌>>-◌, Operands, extended, as_sum, sole_term, as_term, as_differ, as_union, as_mask, as_prim, bracket_primary, bracket_prim, bracket_mask, bracket_union, bracket_differ, bracket_term, bracket_sum, mask_start, union_start, differ_start, term_start, mask_tree, union_tree, differ_tree, term_tree, Terms, sum_tree, terms_of, sum_start, more_terms, expr_or, expr_of, prim_or, prim_of}
 use Rattle.cw_show.specs.Spelling.{Spelling, word}
-use Rattle.cw_show.specs.Canonical.{Tokens, add_symbol, multiply_symbol, sign_tokens, between, operation, joined, bracketed}
+use Rattle.cw_show.specs.Canonical.{add_symbol, multiply_symbol, sign_tokens, between, operation, joined, bracketed}
 use Rattle.cw_show.specs.ExpressionTokens.{bits_tokens, expr_tokens, primary_tokens, differ_tokens, mask_tokens, prim_tokens, sum_tokens, term_tokens, union_tokens}
 use Rattle.cw_read_back_expr.proofs.ExpressionLayers.{sum_expr-tokens, bracket-tokens, differ-tokens, mask-tokens, prim-tokens, sum-tokens, term-tokens, union-tokens}
 use Rattle.cw_tokens.specs.LeastTokens.{separated}
 use Rattle.cw_tokens.specs.TreeTokens.{total}
-use Rattle.cw_shorter.proofs.Lengths.{not_none, same_some, joined_length, between_grows, operation_grows, extended_most, first_most, Falls, then_falls, sole_between, sole_operation}
+use Rattle.cw_derived.proofs.Held.{not_none, same_some}
+use Rattle.cw_shorter.proofs.Lengths.{joined_length, between_grows, operation_grows, extended_most, first_most, Falls, then_falls, sole_between, sole_operation}
 
 -- ---- trees by their operands
 
@@ -186,9 +187,9 @@ mask_most x more =
     let all : length (mask_tokens (mask_tree ops)) ≡ size ops = ap length (mask-tokens ops.0 ops.1) in
     let grown : size ops ≤ size (mask_start x) + separated (map (λ z. length (prim_tokens z.1)) more) = extended_most size (λ y. length (prim_tokens y)) (λ o b y. between_grows (word words.Mask) prim_tokens o.0 y) (mask_start x) more in
     let begun : size (mask_start x) ≤ length (prim_tokens x) =
-        first_most size (λ y. length (prim_tokens y)) (λ m. ((out-RawMask m).operands, (out-RawMask m).operators)) (bracket_prim x >>- as_mask) x
-        (omega (arith, length-append (prim_tokens x) []))
-        (λ m e. omega (arith, mask_layer m, then_falls (length (prim_tokens x)) expr_tokens mask_tokens (bracket_prim x) as_mask m (prim_held x) as_mask_falls e)) in
+    first_most size (λ y. length (prim_tokens y)) (λ m. ((out-RawMask m).operands, (out-RawMask m).operators)) (bracket_prim x >>- as_mask) x
+    (omega (arith, length-append (prim_tokens x) []))
+    (λ m e. omega (arith, mask_layer m, then_falls (length (prim_tokens x)) expr_tokens mask_tokens (bracket_prim x) as_mask m (prim_held x) as_mask_falls e)) in
     omega (arith, all, grown, begun)
 
 pub union_most : (x : RawMask) (more : List (Position × RawMask)) → length (union_tokens (union_tree (extended (union_start x) more))) ≤ length (mask_tokens x) + separated (map (λ z. length (mask_tokens z.1)) more)
@@ -198,9 +199,9 @@ union_most x more =
     let all : length (union_tokens (union_tree ops)) ≡ size ops = ap length (union-tokens ops.0 ops.1) in
     let grown : size ops ≤ size (union_start x) + separated (map (λ z. length (mask_tokens z.1)) more) = extended_most size (λ y. length (mask_tokens y)) (λ o b y. between_grows (word words.Union) mask_tokens o.0 y) (union_start x) more in
     let begun : size (union_start x) ≤ length (mask_tokens x) =
-        first_most size (λ y. length (mask_tokens y)) (λ m. ((out-RawUnion m).operands, (out-RawUnion m).operators)) (bracket_mask x >>- as_union) x
-        (omega (arith, length-append (mask_tokens x) []))
-        (λ m e. omega (arith, union_layer m, then_falls (length (mask_tokens x)) expr_tokens union_tokens (bracket_mask x) as_union m (mask_held x) as_union_falls e)) in
+    first_most size (λ y. length (mask_tokens y)) (λ m. ((out-RawUnion m).operands, (out-RawUnion m).operators)) (bracket_mask x >>- as_union) x
+    (omega (arith, length-append (mask_tokens x) []))
+    (λ m e. omega (arith, union_layer m, then_falls (length (mask_tokens x)) expr_tokens union_tokens (bracket_mask x) as_union m (mask_held x) as_union_falls e)) in
     omega (arith, all, grown, begun)
 
 pub differ_most : (x : RawUnion) (more : List (Position × RawUnion)) → length (differ_tokens (differ_tree (extended (differ_start x) more))) ≤ length (union_tokens x) + separated (map (λ z. length (union_tokens z.1)) more)
@@ -210,9 +211,9 @@ differ_most x more =
     let all : length (differ_tokens (differ_tree ops)) ≡ size ops = ap length (differ-tokens ops.0 ops.1) in
     let grown : size ops ≤ size (differ_start x) + separated (map (λ z. length (union_tokens z.1)) more) = extended_most size (λ y. length (union_tokens y)) (λ o b y. between_grows (word words.Differ) union_tokens o.0 y) (differ_start x) more in
     let begun : size (differ_start x) ≤ length (union_tokens x) =
-        first_most size (λ y. length (union_tokens y)) (λ m. ((out-RawDiffer m).operands, (out-RawDiffer m).operators)) (bracket_union x >>- as_differ) x
-        (omega (arith, length-append (union_tokens x) []))
-        (λ m e. omega (arith, differ_layer m, then_falls (length (union_tokens x)) expr_tokens differ_tokens (bracket_union x) as_differ m (union_held x) as_differ_falls e)) in
+    first_most size (λ y. length (union_tokens y)) (λ m. ((out-RawDiffer m).operands, (out-RawDiffer m).operators)) (bracket_union x >>- as_differ) x
+    (omega (arith, length-append (union_tokens x) []))
+    (λ m e. omega (arith, differ_layer m, then_falls (length (union_tokens x)) expr_tokens differ_tokens (bracket_union x) as_differ m (union_held x) as_differ_falls e)) in
     omega (arith, all, grown, begun)
 
 pub term_most : (x : RawDiffer) (more : List (RawFactorSign × RawDiffer)) → length (term_tokens (term_tree (extended (term_start x) more))) ≤ length (differ_tokens x) + separated (map (λ z. length (differ_tokens z.1)) more)
@@ -221,11 +222,11 @@ term_most x more =
     let size : Operands RawDiffer RawFactorSign → ℕ = λ o. length (operation (map (λ s. multiply_symbol s.op) o.1) (map differ_tokens o.0)) in
     let all : length (term_tokens (term_tree ops)) ≡ size ops = ap length (term-tokens ops.0 ops.1) in
     let grown : size ops ≤ size (term_start x) + separated (map (λ z. length (differ_tokens z.1)) more) =
-        extended_most size (λ y. length (differ_tokens y)) (λ o b y. operation_grows (λ s. multiply_symbol s.op) differ_tokens o.1 o.0 b y) (term_start x) more in
+    extended_most size (λ y. length (differ_tokens y)) (λ o b y. operation_grows (λ s. multiply_symbol s.op) differ_tokens o.1 o.0 b y) (term_start x) more in
     let begun : size (term_start x) ≤ length (differ_tokens x) =
-        first_most size (λ y. length (differ_tokens y)) (λ m. ((out-RawTerm m).operands, (out-RawTerm m).operators)) (bracket_differ x >>- as_term) x
-        (omega (arith, length-append (differ_tokens x) []))
-        (λ m e. omega (arith, term_layer m, then_falls (length (differ_tokens x)) expr_tokens term_tokens (bracket_differ x) as_term m (differ_held x) as_term_falls e)) in
+    first_most size (λ y. length (differ_tokens y)) (λ m. ((out-RawTerm m).operands, (out-RawTerm m).operators)) (bracket_differ x >>- as_term) x
+    (omega (arith, length-append (differ_tokens x) []))
+    (λ m e. omega (arith, term_layer m, then_falls (length (differ_tokens x)) expr_tokens term_tokens (bracket_differ x) as_term m (differ_held x) as_term_falls e)) in
     omega (arith, all, grown, begun)
 
 -- ---- sums
@@ -252,7 +253,7 @@ sum_most o t more =
     let ops : Operands RawTerm RawSign = extended start.1 more in
     let all = sum_made start.0 ops.0 ops.1 in
     let grown : operands_length ops ≤ operands_length start.1 + separated (map (λ z. length (term_tokens z.1)) more) =
-        extended_most operands_length (λ y. length (term_tokens y)) (λ p b y. operation_grows (λ s. add_symbol s.op) term_tokens p.1 p.0 b y) start.1 more in
+    extended_most operands_length (λ y. length (term_tokens y)) (λ p b y. operation_grows (λ s. add_symbol s.op) term_tokens p.1 p.0 b y) start.1 more in
     omega (arith, all, grown, sum_begun o t)
 
 -- ---- expressions and primaries

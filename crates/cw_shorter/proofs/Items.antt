@@ -1,5 +1,5 @@
 -- Data, specifications and communicators have at least as many tokens as their canonical text.
-use Rattle.std.proofs.Common.{◌≡◌, ℕ, suc, ◌+◌, ◌≤◌, List, [], ◌∷◌, ◌++◌, length, length-append, map, Bool, true, false, Option, Some, None, is_some, ap, arith}
+use Rattle.std.proofs.Common.{◌≡◌, ℕ, suc, ◌+◌, ◌≤◌, List, [], ◌∷◌, ◌++◌, length, length-append, map, Bool, Option, Some, None, is_some, arith}
 use Rattle.cw_lex.specs.declared.token.Symbol.TheVariants as symbols
 use Rattle.cw_lex.specs.declared.token.Word.TheVariants as words
 use Rattle.cw_tree.specs.declared.leaf.Position.{Position}
@@ -8,23 +8,21 @@ use Rattle.cw_tree.specs.declared.leaf.RawName.{RawName}
 use Rattle.cw_tree.specs.declared.leaf.RawSint.{RawSint}
 use Rattle.cw_tree.specs.declared.leaf.RawType.{RawType}
 use Rattle.cw_tree.specs.declared.items.RawData.{RawData}
-use Rattle.cw_tree.specs.declared.items.RawData.TheVariants as data_tree
-use Rattle.cw_tree.specs.declared.items.RawElem.{RawElem}
 use Rattle.cw_tree.specs.declared.items.RawElem.TheVariants as elem_tree
 use Rattle.cw_tree.specs.declared.items.RawPlace.{RawPlace}
 use Rattle.cw_tree.specs.declared.items.RawTable.{RawTable}
 use Rattle.cw_tree.specs.declared.segment.RawAitem.{RawAitem}
-use Rattle.cw_tree.specs.declared.segment.RawIps.{RawIps}
 use Rattle.cw_tree.specs.declared.segment.RawPs.{RawPs}
 use Rattle.cw_tree.specs.declared.segment.RawSpec.{RawSpec}
 use Rattle.cw_grammar.specs.Tokens.{position}
 use Rattle.cw_grammar.specs.Grammar.{Sort, a_token, a_pair, a_list, an_option, a_position, a_from, a_name, an_int, a_sint, a_type, a_range, a_bounds, a_group, an_elem, a_place, a_presets, a_table, a_data, a_base, a_ptag, an_ips, a_ps, a_spec, a_citem, an_aitem, a_comm, Value, Grammar, ◌·◌, many}
-use Rattle.cw_grammar.specs.Rules.{name, int, sint, symbol, word as the_word, optional, commas, ◌*>◌, ◌<*◌}
+use Rattle.cw_grammar.specs.Rules.{name, raw_literal, int, sint, symbol, word as the_word, optional, commas, ◌*>◌}
 use Rattle.cw_grammar.specs.Statements.{semicolons, separator, separated, in_round, in_square, listed, preset_value, place, further_places, presets, assigned, preset, range, bounds, group, elem, table, elems_behind, table_body, data_table, singles, arrays, item_data, base, overlay, ptag, worded_ips, ips, ips_list, procedure_ps, ps, spec_behind, spec, citem, typed_aitem, unplaced_aitem, aitem, comm}
+use Rattle.cw_show.specs.Spelling as shown
 use Rattle.cw_show.specs.Spelling.{Spelling}
-use Rattle.cw_show.specs.Canonical.{Tokens, octal_tokens, int_tokens, sint_tokens, sign_tokens, size_tokens, type_tokens, behind_each, between, listed as listed_tokens, comma, semicolon}
+use Rattle.cw_show.specs.Canonical.{Tokens, name as the_name, number, literal, octal_tokens, int_tokens, sint_tokens, sign_tokens, size_tokens, type_tokens, behind_each, between, listed as listed_tokens, comma, semicolon}
 use Rattle.cw_show.specs.ItemTokens.{name_tokens, names_tokens, place_tokens, places_tokens, assigned_tokens, preset_tokens, range_tokens, second_range_tokens, bounds_tokens, group_tokens, groups_tokens, unsigned_tokens, shape_tokens, two_ints, elem_tokens, elems_tokens, table_with, data_tokens, base_tokens, overlay_tokens}
-use Rattle.cw_show.specs.SegmentTokens.{answer_tokens, ips_tokens, ps_tokens, spec_tokens, citem_tokens, address_tokens, aitem_tokens, comm_tokens}
+use Rattle.cw_show.specs.SegmentTokens.{answer_tokens, tag, ips_tokens, ps_tokens, spec_tokens, citem_tokens, address_tokens, aitem_tokens, comm_tokens}
 use Rattle.cw_shorter.proofs.Lengths.{between_length, between_append, between_none, listed_most}
 use Rattle.cw_shorter.proofs.Built.{Built, b_one, b_none, b_then, b_left, b_right, b_map, b_again, Counts, behind_counts, token_counts}
 use Rattle.cw_shorter.proofs.Expressions.{name_counts, number_counts, octal_counts, int_counts, front_counts, sint_counts, size_counts, type_counts, round_length}
@@ -61,9 +59,9 @@ names_counts ns u d = commas_counts name_tokens one_name ns u d
 
 preset_value_counts : Counts a_place preset_value (λ x. length (place_tokens x))
 unfolding preset_value
-preset_value_counts x u (b_map (b_then {u = v} {v = w} {x = s} d (b_left (b_map {x = n} e)))) = omega (arith, length-append (sign_tokens s) (_ ∷ []), front_counts s v d, number_counts n w e)
+preset_value_counts x u (b_map (b_then {u = v} {v = w} {x = s} d (b_left (b_map {x = n} e)))) = omega (arith, length-append (sign_tokens s) (number n.number ∷ []), front_counts s v d, number_counts n w e)
 preset_value_counts x u (b_map (b_then {u = v} {v = w} {x = s} d (b_right (b_left (b_map {x = n} e))))) = omega (arith, length-append (sign_tokens s) (octal_tokens n), front_counts s v d, octal_counts n w e)
-preset_value_counts x u (b_map (b_then {u = v} {x = s} d (b_right (b_right (b_map b_one))))) = omega (arith, length-append (sign_tokens s) (_ ∷ []), front_counts s v d)
+preset_value_counts x u (b_map (b_then {u = v} {x = s} d (b_right (b_right (b_map {x = t} b_one))))) = omega (arith, length-append (sign_tokens s) (literal (raw_literal t).byte ∷ []), front_counts s v d)
 
 place_counts : (p : Position) {f : Position → List RawPlace} {u : ℕ} → Built (a_from a_position (a_list a_place)) place f u → length (places_tokens (f p)) ≤ u
 unfolding place
@@ -96,7 +94,7 @@ may_be_assigned o u (b_right b_none) = omega arith
 
 range_counts : Counts a_range range (λ x. length (range_tokens x))
 unfolding range
-range_counts x u (b_map (b_then {u = v} {x = a} d (b_map (b_then {v = w} {y = b} b_one e)))) = omega (arith, length-append (sint_tokens a) (_ ∷ sint_tokens b), sint_counts a v d, sint_counts b w e)
+range_counts x u (b_map (b_then {u = v} {x = a} d (b_map (b_then {v = w} {y = b} b_one e)))) = omega (arith, length-append (sint_tokens a) (shown.symbol symbols.Colon ∷ sint_tokens b), sint_counts a v d, sint_counts b w e)
 
 bounds_counts : Counts a_bounds bounds (λ x. length (range_tokens x.first) + length (second_range_tokens x.second))
 unfolding bounds
@@ -105,8 +103,8 @@ bounds_counts x u (b_map (b_then {u = v} {x = a} d (b_right b_none))) = omega (a
 
 pub squared_counts : Counts a_bounds (in_square bounds) (λ x. length (bounds_tokens x))
 squared_counts x u (b_map (b_then b_one (b_map (b_then {u = v} d b_one)))) =
-    let a = length-append (range_tokens x.first) (second_range_tokens x.second ++ _ ∷ []) in
-    let b = length-append (second_range_tokens x.second) (_ ∷ []) in
+    let a = length-append (range_tokens x.first) (second_range_tokens x.second ++ shown.symbol symbols.CloseSquare ∷ []) in
+    let b = length-append (second_range_tokens x.second) (shown.symbol symbols.CloseSquare ∷ []) in
     omega (arith, bounds_counts x v d, a, b)
 
 group_counts : Counts a_group group (λ x. length (group_tokens x))
@@ -123,9 +121,9 @@ shape_counts x u (b_map (b_then b_one (b_map (b_then (b_then {u = v} {x = t} d (
 part_length : (n : RawName) (u : Bool) (t : RawInt) (f : RawSint) (w b : RawInt) → length (elem_tokens (elem_tree.Part n u t f w b)) ≡ 5 + (length (unsigned_tokens u) + (length (int_tokens t) + length (sint_tokens f) + (length (int_tokens w) + length (int_tokens b))))
 part_length n u t f w b =
     let i = length-append (shape_tokens u t f) (two_ints w b) in
-    let j = length-append (unsigned_tokens u) (_ ∷ (int_tokens t ++ comma ∷ (sint_tokens f ++ _ ∷ []))) in
-    let k = length-append (int_tokens t) (comma ∷ (sint_tokens f ++ _ ∷ [])) in
-    let l = length-append (sint_tokens f) (_ ∷ []) in
+    let j = length-append (unsigned_tokens u) (shown.symbol symbols.Open ∷ (int_tokens t ++ comma ∷ (sint_tokens f ++ shown.symbol symbols.Close ∷ []))) in
+    let k = length-append (int_tokens t) (comma ∷ (sint_tokens f ++ shown.symbol symbols.Close ∷ [])) in
+    let l = length-append (sint_tokens f) (shown.symbol symbols.Close ∷ []) in
     let m = length-append (int_tokens w) (comma ∷ int_tokens b) in
     omega (arith, i, j, k, l, m)
 
@@ -139,9 +137,9 @@ elem_counts x u (b_map (b_then {u = a} {x = n} d (b_right (b_map (b_then {u = b}
 
 table_length : (t : RawTable) (inside : Tokens) → length (table_with t inside) ≡ 4 + (length (size_tokens t.size) + (length (elems_tokens t.elems) + length inside))
 table_length t inside =
-    let a = length-append (size_tokens t.size) (_ ∷ (elems_tokens t.elems ++ (inside ++ _ ∷ []))) in
-    let b = length-append (elems_tokens t.elems) (inside ++ _ ∷ []) in
-    let c = length-append inside (_ ∷ []) in
+    let a = length-append (size_tokens t.size) (shown.symbol symbols.OpenSquare ∷ (elems_tokens t.elems ++ (inside ++ shown.symbol symbols.CloseSquare ∷ []))) in
+    let b = length-append (elems_tokens t.elems) (inside ++ shown.symbol symbols.CloseSquare ∷ []) in
+    let c = length-append inside (shown.symbol symbols.CloseSquare ∷ []) in
     omega (arith, a, b, c)
 
 elems_counts : Counts (a_list an_elem) (listed (semicolons elem)) (λ es. length (elems_tokens es))
@@ -170,8 +168,8 @@ body_counts x u (b_right (b_right (b_right b_none))) = omega arith
 
 pub data_table_counts : Counts a_data data_table (λ x. length (data_tokens x))
 unfolding data_table
-data_table_counts x u (b_map (b_then b_one (b_then {u = v} {x = n} d (b_then {u = w} {x = z} e (b_then {v = q} {y = o} (b_map (b_then b_one (b_map (b_then {u = k} {x = b} l b_one)))) m))))) =
-    let t : RawTable = record { at = _; name = n; size = z; elems = b.0 } in
+data_table_counts x u (b_map (b_then {x = h} b_one (b_then {u = v} {x = n} d (b_then {u = w} {x = z} e (b_then {v = q} {y = o} (b_map (b_then b_one (b_map (b_then {u = k} {x = b} l b_one)))) m))))) =
+    let t : RawTable = record { at = position h; name = n; size = z; elems = b.0 } in
     omega (arith, length-append (table_with t (preset_tokens b.1)) (assigned_tokens o), table_length t (preset_tokens b.1), name_counts n v d, size_counts z w e, body_counts b k l, may_be_assigned o q m)
 
 pub singles_counts : (t : RawType) {f : RawType → RawData} {u : ℕ} → Built (a_from a_type a_data) singles f u → length (data_tokens (f t)) ≤ length (type_tokens t) + u
@@ -182,7 +180,7 @@ singles_counts t (b_map (b_then {u = v} {v = w} {x = ns} {y = o} d e)) =
 pub arrays_counts : (t : RawType) {f : RawType → RawData} {u : ℕ} → Built (a_from a_type a_data) arrays f u → length (data_tokens (f t)) ≤ length (type_tokens t) + u
 unfolding arrays
 arrays_counts t (b_map (b_map (b_then b_one (b_then {u = v} {v = w} {x = gs} {y = o} d e)))) =
-    omega (arith, length-append (type_tokens t) (_ ∷ (groups_tokens gs ++ assigned_tokens o)), length-append (groups_tokens gs) (assigned_tokens o), commas_counts group_tokens group_counts gs v d, may_be_assigned o w e)
+    omega (arith, length-append (type_tokens t) (shown.word words.Array ∷ (groups_tokens gs ++ assigned_tokens o)), length-append (groups_tokens gs) (assigned_tokens o), commas_counts group_tokens group_counts gs v d, may_be_assigned o w e)
 
 data_counts : Counts a_data item_data (λ x. length (data_tokens x))
 unfolding item_data
@@ -193,14 +191,14 @@ data_counts x u (b_right d) = data_table_counts x u d
 base_counts : Counts a_base base (λ x. length (base_tokens x))
 unfolding base
 base_counts x u (b_map (b_then {u = v} {x = n} d (b_left (b_map (b_map (b_then b_one (b_map (b_then (b_then {u = w} {x = i} e (b_left (b_map (b_map (b_then {v = z} {y = j} b_one f))))) b_one)))))))) =
-    omega (arith, length-append (sint_tokens i) (comma ∷ (sint_tokens j ++ _ ∷ [])), length-append (sint_tokens j) (_ ∷ []), name_counts n v d, sint_counts i w e, sint_counts j z f)
+    omega (arith, length-append (sint_tokens i) (comma ∷ (sint_tokens j ++ shown.symbol symbols.CloseSquare ∷ [])), length-append (sint_tokens j) (shown.symbol symbols.CloseSquare ∷ []), name_counts n v d, sint_counts i w e, sint_counts j z f)
 base_counts x u (b_map (b_then {u = v} {x = n} d (b_left (b_map (b_map (b_then b_one (b_map (b_then (b_then {u = w} {x = i} e (b_right b_none)) b_one)))))))) =
-    omega (arith, length-append (sint_tokens i) (_ ∷ []), name_counts n v d, sint_counts i w e)
+    omega (arith, length-append (sint_tokens i) (shown.symbol symbols.CloseSquare ∷ []), name_counts n v d, sint_counts i w e)
 base_counts x u (b_map (b_then {u = v} {x = n} d (b_right b_none))) = omega (arith, name_counts n v d)
 
 pub overlay_counts : Counts (a_pair a_token (a_pair a_base a_data)) overlay (λ x. length (overlay_tokens x.1.0 x.1.1))
 unfolding overlay
-overlay_counts x u (b_then b_one (b_then {u = v} {x = b} d (b_map (b_then {v = w} {y = i} b_one e)))) = omega (arith, length-append (base_tokens b) (_ ∷ data_tokens i), base_counts b v d, data_counts i w e)
+overlay_counts x u (b_then b_one (b_then {u = v} {x = b} d (b_map (b_then {v = w} {y = i} b_one e)))) = omega (arith, length-append (base_tokens b) (shown.word words.With ∷ data_tokens i), base_counts b v d, data_counts i w e)
 
 -- ---- specifications
 
@@ -220,27 +218,27 @@ worded_counts x u (b_right (b_right (b_right (b_right (b_map b_one))))) = omega 
 ips_counts : Counts an_ips ips (λ x. length (ips_tokens x))
 unfolding ips
 ips_counts x u (b_left d) = worded_counts x u d
-ips_counts x u (b_right (b_map (b_map (b_then {u = v} {x = t} d b_one)))) = omega (arith, length-append (type_tokens t) (_ ∷ []), type_counts t v d)
+ips_counts x u (b_right (b_map (b_map (b_then {u = v} {x = t} d b_one)))) = omega (arith, length-append (type_tokens t) (shown.word words.Array ∷ []), type_counts t v d)
 
 pub ips_list_counts : Counts (a_list an_ips) ips_list (λ xs. length (listed_tokens comma (map ips_tokens xs)))
 unfolding ips_list
-ips_list_counts xs u d = listed_counts comma ips_tokens (separated_counts ips_tokens ips_counts) xs u d
+ips_list_counts xs u d = listed_counts comma ips_tokens (separated_counts {s = an_ips} {g = ips} ips_tokens ips_counts) xs u d
 
 procedure_counts : (o : Option RawType) {f : Option RawType → RawPs} {u : ℕ} → Built (a_from (an_option a_type) a_ps) procedure_ps f u → length (ps_tokens (f o)) ≤ length (answer_tokens o) + u
 unfolding procedure_ps
-procedure_counts o (b_map (b_then {v = v} {y = is} b_one l)) = omega (arith, length-append (answer_tokens o) (_ ∷ listed_tokens comma (map ips_tokens is)), ips_list_counts is v l)
+procedure_counts o (b_map (b_then {v = v} {y = is} b_one l)) = omega (arith, length-append (answer_tokens o) (shown.word words.Procedure ∷ listed_tokens comma (map ips_tokens is)), ips_list_counts is v l)
 
 ps_counts : Counts a_ps ps (λ x. length (ps_tokens x))
 unfolding ps
-ps_counts x u (b_left (b_map (b_then {u = v} {x = t} d (b_left (b_map b_one))))) = omega (arith, length-append (type_tokens t) (_ ∷ []), type_counts t v d)
+ps_counts x u (b_left (b_map (b_then {u = v} {x = t} d (b_left (b_map b_one))))) = omega (arith, length-append (type_tokens t) (shown.word words.Array ∷ []), type_counts t v d)
 ps_counts x u (b_left (b_map (b_then {u = v} {x = t} d (b_right (b_map f))))) = omega (arith, type_counts t v d, procedure_counts (Some t) f)
 ps_counts x u (b_right (b_left (b_map f))) = omega (arith, procedure_counts None f)
 ps_counts x u (b_right (b_right (b_map {u = v} {x = i} d))) = omega (arith, worded_counts i v d)
 
 spec_behind_counts : (o : Option RawType) {f : Option RawType → RawSpec} {u : ℕ} → Built (a_from (an_option a_type) a_spec) spec_behind f u → length (spec_tokens (f o)) ≤ length (answer_tokens o) + u
 unfolding spec_behind
-spec_behind_counts o (b_map (b_then {u = v} {x = g} t (b_then {u = w} {v = z} {x = n} {y = ps} d l))) =
-    omega (arith, length-append (answer_tokens o) (_ ∷ _ ∷ listed_tokens comma (map ps_tokens ps)), tag_counts g v t, name_counts n w d, listed_counts comma ps_tokens (separated_counts ps_tokens ps_counts) ps z l)
+spec_behind_counts o (b_map (b_then {u = v} {x = g} t (b_then {u = w} {v = z} {x = n} {y = qs} d l))) =
+    omega (arith, length-append (answer_tokens o) (tag g ∷ the_name n.name ∷ listed_tokens comma (map ps_tokens qs)), tag_counts g v t, name_counts n w d, listed_counts comma ps_tokens (separated_counts {s = a_ps} {g = ps} ps_tokens ps_counts) qs z l)
 
 spec_counts : Counts a_spec spec (λ x. length (spec_tokens x))
 unfolding spec
@@ -262,9 +260,9 @@ citem_counts x u (b_right (b_right (b_right (b_right (b_right (b_map d)))))) = o
 
 typed_counts : (t : RawType) (a : RawInt) {f : RawType → RawInt → RawAitem} {u : ℕ} → Built (a_from a_type (a_from an_int an_aitem)) typed_aitem f u → length (aitem_tokens (f t a)) ≤ length (type_tokens t) + u + suc (length (int_tokens a))
 unfolding typed_aitem
-typed_counts t a (b_left (b_map {u = v} {x = n} d)) = omega (arith, length-append (type_tokens t) (_ ∷ address_tokens a), name_counts n v d)
+typed_counts t a (b_left (b_map {u = v} {x = n} d)) = omega (arith, length-append (type_tokens t) (the_name n.name ∷ address_tokens a), name_counts n v d)
 typed_counts t a (b_right (b_map (b_map (b_then b_one (b_then {u = v} {v = w} {x = n} {y = b} d e))))) =
-    omega (arith, length-append (type_tokens t) (_ ∷ _ ∷ (bounds_tokens b ++ address_tokens a)), length-append (bounds_tokens b) (address_tokens a), name_counts n v d, squared_counts b w e)
+    omega (arith, length-append (type_tokens t) (shown.word words.Array ∷ the_name n.name ∷ (bounds_tokens b ++ address_tokens a)), length-append (bounds_tokens b) (address_tokens a), name_counts n v d, squared_counts b w e)
 
 unplaced_counts : (a : RawInt) {f : RawInt → RawAitem} {u : ℕ} → Built (a_from an_int an_aitem) unplaced_aitem f u → length (aitem_tokens (f a)) ≤ u + suc (length (int_tokens a))
 unfolding unplaced_aitem

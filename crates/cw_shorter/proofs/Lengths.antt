@@ -1,17 +1,11 @@
 -- How many tokens lists of canonical tokens have.
 use Rattle.std.proofs.Common.{◌≡◌, ℕ, suc, ◌+◌, ◌≤◌, List, [], ◌∷◌, ◌++◌, length, length-append, map, Option, Some, None, refl, ap, arith}
-use Rattle.std.proofs.lemmas.Option.{none-some, same_Some}
+use Rattle.cw_derived.proofs.Held.{not_none, same_some}
 use Rattle.cw_grammar.specs.Trees.{sole, ◌>>-◌, Operands, extended, first_of}
 use Rattle.cw_show.specs.Spelling.{Spelling}
 use Rattle.cw_show.specs.Canonical.{Tokens, behind_each, between, behind_operators, operation, joined, listed, ended}
 use Rattle.cw_tokens.specs.LeastTokens.{separated}
 use Rattle.cw_tokens.specs.TreeTokens.{total}
-
-pub not_none : {A : Type 0} {x : A} → None ≡ Some x → ⊥
-not_none {x = x} e = none-some x e
-
-pub same_some : {A : Type 0} {x y : A} → Some x ≡ Some y → x ≡ y
-same_some {x = x} {y = y} e = same_Some x y e
 
 -- ---- lists
 

@@ -1,5 +1,5 @@
 -- What is derived has at least as many tokens as its canonical text.
-use Rattle.std.proofs.Common.{◌≡◌, ℕ, suc, ◌+◌, ◌≤◌, Bool, List, [], ◌∷◌, length, length-append, sym, subst, arith}
+use Rattle.std.proofs.Common.{◌≡◌, ℕ, ◌+◌, ◌≤◌, Bool, List, [], ◌∷◌, length, length-append, sym, subst, arith}
 use Rattle.cw_lex.specs.Lexical.{Lexeme}
 use Rattle.cw_tree.specs.declared.segment.Raw.{Raw}
 use Rattle.cw_grammar.specs.Tokens.{Item, numbered}

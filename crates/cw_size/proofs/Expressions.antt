@@ -20,7 +20,7 @@ use Rattle.cw_gen_expr.proofs.Layers as made
 use Rattle.cw_tokens.specs.LeastTokens.{separated, part, expression_tokens, argument_tokens, condition_tokens, reference_tokens}
 use Rattle.cw_tmpl.specs.Templates.{listed_size, listed_sizes}
 use Rattle.cw_size.proofs.Short.{sizes-append, first_short, Short, plainly, both_short, ended_short, eased}
-use Rattle.cw_size.proofs.OrderSizes.{item-first, item-load, table-short, bounds-short, load-short, rescale-short, times-short, logic-short, product-short, call-short, label-short}
+use Rattle.cw_size.proofs.OrderSizes.{item-first, item-load, table-short, bounds-short, rescale-short, times-short, logic-short, product-short, call-short, label-short}
 use Rattle.cw_size.proofs.TokenLayers.{expression_layer, expression-tokens, argument_layer, argument-tokens, condition_layer, condition-tokens, spot_layer, spot-tokens, reference-tokens, separated-within}
 
 pub choice_short : {m k n : ℕ} {i j : ℕ} (c : ConditionPiece) (a b : Piece) → ((when : Bool) (mark : ℕ) → Short (c when mark) 0 m) → Short a i k → Short b j n → Short (choice_piece c a b) (i + j) (m + k + n + 3)

@@ -17,7 +17,7 @@ use Rattle.cw_unit.specs.declared.unit.Target.{Target}
 use Rattle.cw_unit.specs.declared.unit.Target.TheVariants as target
 use Rattle.cw_unit.specs.declared.unit.Goal.{Goal}
 use Rattle.cw_unit.specs.declared.unit.Goal.TheVariants as goal
-use Rattle.cw_gen_expr.specs.ReferenceExpressions.{Scope, argument_words, placed_by, placed_in, item_order, table_orders, bounds_orders, load_orders, store_orders, rescale_orders, logic_order, number_order, call_order, label_order}
+use Rattle.cw_gen_expr.specs.ReferenceExpressions.{Scope, argument_words, placed_by, placed_in, item_order, table_orders, bounds_orders, store_orders, rescale_orders, logic_order, number_order, call_order, label_order}
 use Rattle.cw_gen_expr.specs.ReferenceEntries.{bound_by, bound_in, bound_order, parameter_orders, bind_orders}
 use Rattle.cw_gen_expr.specs.UnitTables.{label_mark}
 use Rattle.cw_gen_unit.specs.ReferenceStatements.{after_statement_call, from_procedure, own_order, goal_order, number_orders, set_orders, bump_orders}
@@ -76,10 +76,6 @@ table-short y false i = item-first y i 0 [] 3 (let z : 0 ≤ 3 = omega arith in 
 pub bounds-short : (c : Bool) (l h : ℤ) → listed_sizes (bounds_orders c l h) ≤ 20
 bounds-short true l h = omega arith
 bounds-short false l h = omega arith
-
-pub load-short : (o : Option Field) → listed_sizes (load_orders o) ≤ 16
-load-short None = omega arith
-load-short (Some s) = omega arith
 
 pub store-short : (o : Option Field) → listed_sizes (store_orders o) ≤ 27
 store-short None = omega arith

@@ -6,19 +6,26 @@ ghost use Rattle.cw_compile.specs.Texts.{HasTree, IsUnitOf};
 ghost use Rattle.cw_build.specs.Compiled.{code_of, IsCompilable};
 ghost use Rattle.cw_sound.specs.TreeFits.{TreeFits};
 
+use cw_code_written::laws::back_writable;
 use cw_coded::laws::coded;
 use cw_compile::laws::one_outcome;
 use cw_counted::laws::tokens_counted;
+use cw_front::laws::front_of_parts;
 use cw_size::laws::short_code;
 use cw_sound::laws::{items_declared, unit_built, unit_formed};
+use cw_sound_front::laws::{bases_listed, items_called, names_identified};
 use cw_sound_items::laws::{descriptors_named, items_stand};
 use cw_sound_labels::laws::labels_set;
+use cw_sound_lines::laws::{lines_counted, positions_fit};
 use cw_sound_need::laws::need_fits;
+use cw_sound_presets::laws::{bytes_kept, presets_fit};
 use cw_sound_ranged::laws::unit_ranged;
+use cw_sound_ready::laws::unit_ready;
 use cw_sound_regular::laws::regular;
 use cw_sound_storage::laws::{definitions_met, stored};
 use cw_sound_tokens::laws::unit_counted;
 use cw_sound_tree::laws::{items_derived, placed, within_levels};
+use cw_sound_written::laws::{homes_fit, items_fit, items_titled, segment_named};
 use cw_spelled::laws::spelled;
 
 /// The tree of a text is as the laws of its unit ask.
@@ -34,11 +41,24 @@ pub fn text_trees()
     placed();
 }
 
+/// The code of a text's unit has at most 32 bytes for each token of the text.
+pub fn text_sizes()
+    ensures { (text : List ℕ) (u : SourceUnit) → IsUnitOf text u → length (code_of u).bytes ≤ 32 * u.tokens }
+{
+    one_outcome();
+    tokens_counted();
+    unit_counted();
+    labels_set();
+    short_code();
+}
+
 /// The unit of each text of bytes can be compiled.
 pub fn text_units()
     ensures { (text : List ℕ) (u : SourceUnit) → All (λ b. b < 256) text → IsUnitOf text u → IsCompilable u }
 {
     text_trees();
+    text_sizes();
+    one_outcome();
     items_derived();
     items_stand();
     items_declared();
@@ -50,15 +70,18 @@ pub fn text_units()
     unit_ranged();
     coded();
     need_fits();
-}
-
-/// The code of a text's unit has at most 32 bytes for each token of the text.
-pub fn text_sizes()
-    ensures { (text : List ℕ) (u : SourceUnit) → IsUnitOf text u → length (code_of u).bytes ≤ 32 * u.tokens }
-{
-    one_outcome();
-    tokens_counted();
-    unit_counted();
-    labels_set();
-    short_code();
+    lines_counted();
+    positions_fit();
+    unit_ready();
+    back_writable();
+    names_identified();
+    segment_named();
+    bases_listed();
+    items_fit();
+    homes_fit();
+    bytes_kept();
+    presets_fit();
+    items_titled();
+    items_called();
+    front_of_parts();
 }

@@ -2,4 +2,4 @@ mod Homes
 mod Segment
 mod Descriptors
 mod Texts
-mod Titles
+pub mod Titles

@@ -53,7 +53,7 @@ each_right : {A : Type 0} (P : A → Type 0) (xs ys : List A) → Each P (xs ++ 
 each_right P [] ys h = h
 each_right P (x ∷ xs) ys h = each_right P xs ys h.1
 
-each_both : {A : Type 0} (P : A → Type 0) (xs ys : List A) → Each P xs → Each P ys → Each P (xs ++ ys)
+pub each_both : {A : Type 0} (P : A → Type 0) (xs ys : List A) → Each P xs → Each P ys → Each P (xs ++ ys)
 each_both P [] ys h k = k
 each_both P (x ∷ xs) ys h k = (h.0, each_both P xs ys h.1 k)
 
@@ -62,7 +62,7 @@ each_both P (x ∷ xs) ys h k = (h.0, each_both P xs ys h.1 k)
 abbrev Identified : List Fact → Type 0
 Identified fs = Each IsIdentified (text_declarations fs)
 
-block_rows : (o : Option ℕ) (fs : List Fact) → fact_declarations (fact.Block o fs) ≡ text_declarations fs
+pub block_rows : (o : Option ℕ) (fs : List Fact) → fact_declarations (fact.Block o fs) ≡ text_declarations fs
 block_rows o fs = ap fact_declarations (sym (fact.rolls-Block o fs)) ∙ fold-roll-Fact (List (Row Declaration)) declarations_step (layer.Block o fs)
 
 in_block : (o : Option ℕ) (fs : List Fact) → Identified (fact.Block o fs ∷ []) → Identified fs

@@ -6,8 +6,8 @@ use Rattle.cw_go.proofs.running.run_linked.Goals as goal
 
 pub load_and_run-requires : goal.load_and_run-requires
 load_and_run-requires g c =
-    let us = g.us in
-    let limits = g.limits in
+    let us = g.program.0 in
+    let limits = g.program.1 in
     let code = ap (λ (i : Image). length i.code) c.requires.linked.image ∙ c.linked_units.ensures.code us limits in
     let words = ap (λ (i : Image). length i.words) c.requires.linked.image in
     record {

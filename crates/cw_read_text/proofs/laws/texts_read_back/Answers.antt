@@ -1,4 +1,4 @@
-use Rattle.std.proofs.Common.{◌≡◌, ℕ, ◌≤◌, length, map, ap, arith}
+use Rattle.std.proofs.Common.{◌≡◌, ◌≤◌, length, map, ap, arith}
 use Rattle.std.proofs.lemmas.List.{length-map}
 use Rattle.cw_grammar.specs.Tokens.{numbered}
 use Rattle.cw_show.specs.Lexing.{spelling}

@@ -1,0 +1,4 @@
+pub mod Scanning
+pub mod Digits
+pub mod Tokens
+pub mod Reading

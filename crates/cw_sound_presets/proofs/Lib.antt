@@ -1,0 +1,12 @@
+mod Carried
+mod Tokens
+mod Small
+mod Layers
+mod Held
+mod Frames
+mod Trees
+mod Good
+mod Expressions
+mod Rules
+mod Items
+mod Texts
