@@ -1,8 +1,6 @@
 // The large program made, linked and run.
 ghost use Rattle.std.specs.Prelude.{◌≡◌, ◌≤◌, ℕ, List, [], Some, slice_index_or, IfOk, OnOk, decimal, ◌++◌};
 ghost use Rattle.cw_io.specs.File.{Told};
-ghost use Rattle.cw_unit.specs.declared.unit.Unit.{Unit as SourceUnit};
-ghost use Rattle.cw_unit.specs.declared.layout.Limits.{Limits as RunLimits};
 ghost use Rattle.cw_place.specs.Placement.{IsLimits};
 ghost use Rattle.cw_build.specs.Linking.{image_of};
 ghost use Rattle.cw_build.specs.Building.{IsLinkedOf};
@@ -14,8 +12,10 @@ ghost use Rattle.cw_correct.specs.Correct.{IsCorrectCall};
 ghost use Rattle.cw_go.specs.Runs.{streams_at, Runs};
 
 use crate::making::make_segments;
+use cw_build::laws::linked_units;
+use cw_files::Segments;
 use cw_go::laws::promises;
-use cw_go::{close, link_segments, run_linked};
+use cw_go::{close, link_segments, load_and_run};
 use cw_io::{Sink, Source};
 use cw_link::Linked;
 use cw_say::Status;
@@ -53,19 +53,21 @@ fn line_with(alloc: Global, copies: u8, end: u32) -> Result<Vec<u8>, NoMemory>
 fn run_program<I: Source, O: Sink, S: Sink>(
     alloc: Global,
     copies: u8,
+    segments: &Segments,
     linked: &Linked,
+    limits: &Limits,
     steps: u64,
     input: &mut I,
     out: &mut O,
     say: &mut S,
 ) -> Status
-    ghost program: { List SourceUnit × RunLimits }
-    requires linked { IsLinkedOf program.0 program.1 linked.now }
-    requires limits { IsLimits program.1 }
-    ensures { Runs (program_line copies program.0) (image_of program.0 program.1) steps (streams_at (I.left input.old) (I.faults input.old) (O.held out.old) (O.faults out.old) (S.held say.old) (S.faults say.old)) (streams_at (I.left input.new) (I.faults input.new) (O.held out.new) (O.faults out.new) (S.held say.new) (S.faults say.new)) result }
+    requires linked { IsLinkedOf segments.now.units limits.now linked.now }
+    requires limits { IsLimits limits.now }
+    ensures { Runs (program_line copies segments.now.units) (image_of segments.now.units limits.now) steps (streams_at (I.left input.old) (I.faults input.old) (O.held out.old) (O.faults out.old) (S.held say.old) (S.faults say.old)) (streams_at (I.left input.new) (I.faults input.new) (O.held out.new) (O.faults out.new) (S.held say.new) (S.faults say.new)) result }
 {
+    linked_units();
     match line_with(alloc, copies, linked.map.end) {
-        Ok(line) => run_linked(alloc, line.as_slice(), linked, steps, input, out, say),
+        Ok(line) => load_and_run(alloc, line.as_slice(), &linked.image, steps, input, out, say),
         Err(_) => Status::NoMemory,
     }
 }
@@ -90,7 +92,9 @@ pub fn big<I: Source, O: Sink, S: Sink>(
     match make_segments(alloc, copies) {
         Ok(segments) => match link_segments(alloc, &segments, limits) {
             Ok(linked) => {
-                let status = run_program(alloc, copies, &linked, steps, input, out, say);
+                let status = run_program(
+                    alloc, copies, &segments, &linked, limits, steps, input, out, say,
+                );
                 close(say, &[], linked.image.names.as_slice(), status)
             }
             Err(status) => close(say, &[], &[], status),

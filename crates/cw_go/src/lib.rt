@@ -11,4 +11,4 @@ mod statuses;
 pub use closing::close;
 pub use going::go;
 pub use linking::link_segments;
-pub use running::run_linked;
+pub use running::load_and_run;

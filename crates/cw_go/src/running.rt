@@ -2,7 +2,6 @@
 ghost use Rattle.std.specs.Prelude.{◌<◌, ◌≤◌, length, List as Sequence};
 ghost use Rattle.cw_i86.specs.MachineRun.{IsStart};
 ghost use Rattle.cw_unit.specs.declared.unit.Unit.{Unit as SourceUnit};
-ghost use Rattle.cw_unit.specs.declared.layout.Limits.{Limits as RunLimits};
 ghost use Rattle.cw_image.specs.declared.image.Image.{Image as RunImage};
 ghost use Rattle.cw_place.specs.Placement.{IsLimits};
 ghost use Rattle.cw_build.specs.Linking.{map_text, image_of};
@@ -40,8 +39,8 @@ fn list_and_run<I: Source, O: Sink, S: Sink>(
     }
 }
 
-// Loads the image, writes the listing and runs.
-fn load_and_run<I: Source, O: Sink, S: Sink>(
+/// Loads the image, writes what is said first, and runs.
+pub fn load_and_run<I: Source, O: Sink, S: Sink>(
     alloc: Global,
     listing: &[u8],
     image: &Image,
@@ -63,25 +62,6 @@ fn load_and_run<I: Source, O: Sink, S: Sink>(
     }
 }
 
-/// Writes what is said of linked units, and runs their image.
-pub fn run_linked<I: Source, O: Sink, S: Sink>(
-    alloc: Global,
-    told: &[u8],
-    linked: &Linked,
-    steps: u64,
-    input: &mut I,
-    out: &mut O,
-    say: &mut S,
-) -> Status
-    ghost program: { Sequence SourceUnit × RunLimits }
-    requires linked { IsLinkedOf program.0 program.1 linked.now }
-    requires limits { IsLimits program.1 }
-    ensures { Runs told.now (image_of program.0 program.1) steps (streams_at (I.left input.old) (I.faults input.old) (O.held out.old) (O.faults out.old) (S.held say.old) (S.faults say.old)) (streams_at (I.left input.new) (I.faults input.new) (O.held out.new) (O.faults out.new) (S.held say.new) (S.faults say.new)) result }
-{
-    linked_units();
-    load_and_run(alloc, told, &linked.image, steps, input, out, say)
-}
-
 /// Lists the storage map of the units, and runs their image.
 pub(crate) fn run_segments<I: Source, O: Sink, S: Sink>(
     alloc: Global,
@@ -98,10 +78,19 @@ pub(crate) fn run_segments<I: Source, O: Sink, S: Sink>(
     requires limits { IsLimits limits.now }
     ensures { Runs (map_text segments.now.units limits.now) (image_of segments.now.units limits.now) steps (streams_at (I.left input.old) (I.faults input.old) (O.held out.old) (O.faults out.old) (S.held say.old) (S.faults say.old)) (streams_at (I.left input.new) (I.faults input.new) (O.held out.new) (O.faults out.new) (S.held say.new) (S.faults say.new)) result }
 {
+    linked_units();
     let units = segments.units.as_slice();
     let layouts = segments.layouts.as_slice();
     match map_text(alloc, units, layouts, &linked.map, limits) {
-        Ok(text) => run_linked(alloc, text.as_slice(), linked, steps, input, out, say),
+        Ok(text) => load_and_run(
+            alloc,
+            text.as_slice(),
+            &linked.image,
+            steps,
+            input,
+            out,
+            say,
+        ),
         Err(_) => Status::NoMemory,
     }
 }
