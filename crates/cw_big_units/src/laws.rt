@@ -1,8 +1,7 @@
 //! Laws of the texts of a large program: each is a function without a body, whose contract is the law.
 ghost use Rattle.std.specs.Prelude.{ℕ, ◌≤◌, Bool};
 ghost use Rattle.cw_tree.specs.declared.segment.Raw.{Raw};
-ghost use Rattle.cw_unit.specs.declared.unit.Unit.{Unit as SourceUnit};
-ghost use Rattle.cw_compile.specs.Texts.{HasTree, IsUnitOf};
+ghost use Rattle.cw_compile.specs.Texts.{HasTree};
 ghost use Rattle.cw_big.specs.LargeProgram.{large_text};
 
 use cw_plain::laws::expands_to_itself;
@@ -13,8 +12,3 @@ pub fn large_trees()
 {
     expands_to_itself();
 }
-
-/// Each text of a large program has a unit.
-pub fn large_units()
-    ensures { (i : ℕ) (is_last : Bool) → 1 ≤ i → i ≤ 100 → (u : SourceUnit) × IsUnitOf (large_text i is_last) u }
-{}

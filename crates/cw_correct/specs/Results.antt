@@ -22,7 +22,7 @@ use Rattle.cw_correct.specs.Saying.{SaysLast}
 use Rattle.cw_correct.specs.Going.{HasCause}
 use Rattle.cw_correct.specs.Meaning.{TellBytes}
 use Rattle.cw_say.specs.declared.status.Status.{Status}
-use Rattle.cw_say.specs.declared.status.Status.TheVariants.{Ended, Refused, Unlinked, NoFile, Outside, NoMemory, BadFile, TooLong}
+use Rattle.cw_say.specs.declared.status.Status.TheVariants.{Ended, Unlinked, NoFile, Outside, NoMemory, BadFile, TooLong}
 use Rattle.cw_say.specs.declared.status.Which.TheVariants.{Store, Out}
 use Rattle.cw_say.specs.declared.status.Long.TheVariants.{File}
 

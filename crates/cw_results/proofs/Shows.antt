@@ -2,7 +2,6 @@
 use Rattle.std.proofs.Common.{◌≡◌, ◌⊎◌, ℕ, ◌≤◌, List, [], ◌∷◌, map, length, Option, Some, None, refl, sym, ap, ◌∙◌, subst, inl, inr, slice_get}
 use Rattle.std.proofs.lemmas.List.{length-map}
 use Rattle.cw_io.specs.File.{Told, Is, AllStay}
-use Rattle.cw_compile.specs.declared.fault.Refusal.{Refusal}
 use Rattle.cw_compile.specs.Texts.{text_limit, IsCanonicalOf, IsRefused}
 use Rattle.cw_files.specs.Reading.{HaveBytes, HaveValues, AllTaken, IsLongerAt, IsRefusedAt, IsUnread, SameCounts}
 use Rattle.cw_correct.specs.Calls.{Call, told_files, NoFault, IsUntouched, IsUnwritten}
@@ -16,7 +15,7 @@ use Rattle.cw_say.specs.declared.status.Status.TheVariants.{Ended, Refused, NoMe
 use Rattle.cw_say.specs.declared.status.Long.TheVariants.{File}
 use Rattle.cw_results.proofs.Cases.{unread, gives_out, shows_text, show_comes}
 use Rattle.cw_results.proofs.Keeping.{Closed, says_last, unwritten, writes_out}
-use Rattle.cw_results.proofs.Readings.{Found, all_told, tells, RefusesAt, Runs, of_stop, of_all, taken_runs, from_zero, never}
+use Rattle.cw_results.proofs.Readings.{Found, all_told, tells, Runs, of_stop, of_all, taken_runs, from_zero, never}
 use Rattle.cw_results.proofs.Texts.{OneOfText, shown_not_refused}
 use Rattle.cw_results.proofs.Units.{refused_at}
 
