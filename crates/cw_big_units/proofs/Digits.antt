@@ -5,10 +5,8 @@ use Rattle.std.specs.Fmt.{digits}
 use Rattle.std.specs.List.{list_all}
 use Rattle.std.specs.Char.{is_ascii_digit}
 use Rattle.std.proofs.lemmas.Bool.{and_parts, ltb-true, ltb-false}
-use Rattle.cw_word.specs.Decimal.{decimal_floor}
 use Rattle.cw_lex.specs.declared.token.Word.{Word}
 use Rattle.cw_lex.specs.Items.{word_of}
-use Rattle.cw_grammar.specs.Tokens.{part_value}
 
 -- a test of each number from 1
 abbrev each : (ℕ → Bool) → ℕ → Bool
@@ -24,20 +22,15 @@ each_at p (suc n) i e l h =
       | false ↦ λ z. (let same : suc n ≡ i = omega (arith, ltb-false i (suc n) z) in subst (λ (k : ℕ). p k ≡ true) same q.0)
     ] refl
 
--- the value of the digits fits a word
-abbrev pub fits : List ℕ → Bool
-fits w = nat_le (decimal_floor (part_value w) 0 0 0) 32767
-
--- one to twelve digits, which make no word behind a letter, of a number that fits a word
+-- one to twelve digits, which make no word behind a B
 abbrev is_numeral : List ℕ → Bool
-is_numeral w = list_all is_ascii_digit w && (nat_lt 0 (length w) && (nat_le (length w) 12 && (is_none (word_of (66 ∷ w)) && fits w)))
+is_numeral w = list_all is_ascii_digit w && (nat_lt 0 (length w) && (nat_le (length w) 12 && is_none (word_of (66 ∷ w))))
 
 pub record IsNumeral (w : List ℕ) : Type 0 where
   pub all_digits : list_all is_ascii_digit w ≡ true
   pub some : 0 < length w
   pub few : nat_le (length w) 12 ≡ true
   pub no_word : word_of (66 ∷ w) ≡ None
-  pub fits_word : fits w ≡ true
 
 none_is : (o : Option Word) → is_none o ≡ true → o ≡ None
 none_is None e = refl
@@ -50,8 +43,7 @@ each_numeral = refl
 pub numeral : (i : ℕ) → 1 ≤ i → i ≤ 100 → IsNumeral (decimal i)
 numeral i l h =
     let w = decimal i in
-    let a = and_parts (list_all is_ascii_digit w) (nat_lt 0 (length w) && (nat_le (length w) 12 && (is_none (word_of (66 ∷ w)) && fits w))) (each_at (λ n. is_numeral (decimal n)) 100 i each_numeral l h) in
-    let b = and_parts (nat_lt 0 (length w)) (nat_le (length w) 12 && (is_none (word_of (66 ∷ w)) && fits w)) a.1 in
-    let c = and_parts (nat_le (length w) 12) (is_none (word_of (66 ∷ w)) && fits w) b.1 in
-    let d = and_parts (is_none (word_of (66 ∷ w))) (fits w) c.1 in
-    record { all_digits = a.0; some = ltb-true 0 (length w) b.0; few = c.0; no_word = none_is (word_of (66 ∷ w)) d.0; fits_word = d.1 }
+    let a = and_parts (list_all is_ascii_digit w) (nat_lt 0 (length w) && (nat_le (length w) 12 && is_none (word_of (66 ∷ w)))) (each_at (λ n. is_numeral (decimal n)) 100 i each_numeral l h) in
+    let b = and_parts (nat_lt 0 (length w)) (nat_le (length w) 12 && is_none (word_of (66 ∷ w))) a.1 in
+    let c = and_parts (nat_le (length w) 12) (is_none (word_of (66 ∷ w))) b.1 in
+    record { all_digits = a.0; some = ltb-true 0 (length w) b.0; few = c.0; no_word = none_is (word_of (66 ∷ w)) c.1 }
