@@ -1,5 +1,5 @@
 -- What objects link to, and the first reason why they do not; and units, by their objects.
-use Rattle.std.specs.Prelude.{◌≡◌, ◌≢◌, ◌≤◌, ℕ, List}
+use Rattle.std.specs.Prelude.{◌≢◌, ◌≤◌, ℕ, List}
 use Rattle.cw_unit.specs.declared.unit.Unit.{Unit as SourceUnit}
 use Rattle.cw_unit.specs.declared.layout.Limits.{Limits}
 use Rattle.cw_unit.specs.Program.{program_of}

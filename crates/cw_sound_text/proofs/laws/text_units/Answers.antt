@@ -38,7 +38,7 @@ returns c text u bytes is =
     let are_built = c.unit_built.ensures raw named resolves fine fits in
     let levels : most_levels ≤ 64 = omega arith in
     let built = and_from _ _ (c.descriptors_named.ensures raw named resolves fits.rising names)
-        (and_from _ _ is_stored (and_from _ _ (c.unit_formed.ensures raw named resolves fine fits) (and_from _ _ (c.definitions_met.ensures named resolves fine fits.placed items) are_built))) in
+    (and_from _ _ is_stored (and_from _ _ (c.unit_formed.ensures raw named resolves fine fits) (and_from _ _ (c.definitions_met.ensures named resolves fine fits.placed items) are_built))) in
     let coded = c.coded.ensures v is_stored are_built (c.unit_ranged.ensures raw named resolves fine fits) in
     let need = c.need_fits.ensures most_levels ts raw named levels tree.derives resolves fine fits in
     let lines = c.lines_counted.ensures text tree.expands.tokens ts tree.expands.tokenizes tree.expands.expands in
@@ -47,7 +47,7 @@ returns c text u bytes is =
     let identified = c.names_identified.ensures most_levels ts raw tree.derives in
     let of_bytes = c.bytes_kept.ensures text tree.expands.tokens ts bytes tree.expands.tokenizes tree.expands.expands in
     let front = c.front_of_parts.ensures v (c.segment_named.ensures most_levels ts raw named tree.derives resolves) (c.bases_listed.ensures most_levels ts raw named few tree.derives resolves fine)
-        (c.items_fit.ensures named resolves fine fits.rising fits.plain) (c.homes_fit.ensures named resolves fine fits.placed fits.rising fits.plain items)
-        (c.presets_fit.ensures most_levels ts named tree.derives of_bytes resolves fine fits.rising fits.plain)
-        (record { titled = c.items_titled.ensures named resolves identified; called = c.items_called.ensures most_levels ts raw named few tree.derives resolves }) in
+    (c.items_fit.ensures named resolves fine fits.rising fits.plain) (c.homes_fit.ensures named resolves fine fits.placed fits.rising fits.plain items)
+    (c.presets_fit.ensures most_levels ts named tree.derives of_bytes resolves fine fits.rising fits.plain)
+    (record { titled = c.items_titled.ensures named resolves identified; called = c.items_called.ensures most_levels ts raw named few tree.derives resolves }) in
     subst IsCompilable (sym is.unit_is) (record { built = built; coded = coded; short = short; need = need; writable = writable v front back })
