@@ -109,7 +109,7 @@ module _ (copies : ℕ) (limits : Limits) (steps : ℕ) (before between : Surrou
     keeps promise some few within goes result same =
         let length_is = count copies copies in
         let (input, is_input, runs) = promise (program_line copies) Big limits steps (large_program copies) segments (in_memory before) (in_memory between) (in_memory (after_line between say say_faults)) status within
-            (omega (arith, length_is, some)) (omega (arith, length_is, few)) (λ name. refl) goes closes in
+        (omega (arith, length_is, some)) (omega (arith, length_is, few)) (λ name. refl) goes closes in
         subst (IsCorrectCall (call_as Big limits steps names before (after_line between say say_faults))) (sym same)
         (input, is_input, copies, is_number, record { runs = runs; none_of_files = none; store_faults = store_faults; absences = absences; stays = λ name. ap (λ f. f name) files })
 

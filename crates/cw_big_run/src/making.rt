@@ -5,8 +5,8 @@ ghost use Rattle.cw_build.specs.Building.{IsMadeOf};
 ghost use Rattle.cw_files.specs.Texts.{HasUnit};
 ghost use Rattle.cw_files.specs.Reading.{HaveValues, AreSegmentsOf};
 
-use cw_big::laws::short_texts;
 use cw_big::large_text;
+use cw_big::laws::short_texts;
 use cw_files::segments::Segment;
 use cw_files::{Segments, compile_text};
 use cw_word::NoMemory;

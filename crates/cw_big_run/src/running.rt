@@ -67,7 +67,15 @@ fn run_program<I: Source, O: Sink, S: Sink>(
 {
     linked_units();
     match line_with(alloc, copies, linked.map.end) {
-        Ok(line) => load_and_run(alloc, line.as_slice(), &linked.image, steps, input, out, say),
+        Ok(line) => load_and_run(
+            alloc,
+            line.as_slice(),
+            &linked.image,
+            steps,
+            input,
+            out,
+            say,
+        ),
         Err(_) => Status::NoMemory,
     }
 }

@@ -122,7 +122,10 @@ fn actions(rt: HostRuntime) -> Result<(), Fail> {
         ("big 20", "0|3212\n|big 20 words 2181\n"),
         ("big 20", "0|3212\n|big 20 words 2181\n"),
         ("big 100", "0|3708\n|big 100 words 10901\n"),
-        ("--data 109 --frames 0 big 1", "3||link: P1 DataTooBig 110\n"),
+        (
+            "--data 109 --frames 0 big 1",
+            "3||link: P1 DataTooBig 110\n",
+        ),
         (
             "--steps 1000 big 1",
             "5||big 1 words 110\nunfinished: 1000\n",

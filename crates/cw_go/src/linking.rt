@@ -15,11 +15,7 @@ use cw_unit::layout::Limits;
 use std::alloc::Global;
 
 /// Links the objects of the units, or answers with the status where they have no image.
-pub fn link_segments(
-    alloc: Global,
-    segments: &Segments,
-    limits: &Limits,
-) -> Result<Linked, Status>
+pub fn link_segments(alloc: Global, segments: &Segments, limits: &Limits) -> Result<Linked, Status>
     ghost us: { Sequence SourceUnit }
     requires segments { AreSegmentsOf us segments.now }
     requires compiled { All IsCompilable us }

@@ -109,13 +109,19 @@ module _ (before after : Surroundings) where
     of_action Migrate told is = asked Migrate parts before after NoMemory is (over_any (call Migrate) NoMemory (λ input. idles.migrate (call Migrate) (is_idle Migrate)))
     of_action Big told is =
         let (input, is_input, runs) = idles.texts (program_line parts.copies) Big (limits_of parts) parts.steps (large_program parts.copies) (in_memory before) (in_memory after) (in_memory_closes (large_program parts.copies)) in
-        asked Big parts before after NoMemory is (input, is_input, parts.copies, told, record {
-          runs = runs;
-          none_of_files = tt;
-          store_faults = closes.store_faults;
-          absences = closes.absences;
-          stays = λ name. ap (λ files. files name) closes.files;
-        })
+        asked Big parts before after NoMemory is (
+          input,
+          is_input,
+          parts.copies,
+          told,
+          record {
+            runs = runs;
+            none_of_files = tt;
+            store_faults = closes.store_faults;
+            absences = closes.absences;
+            stays = λ name. ap (λ files. files name) closes.files;
+          },
+        )
 
 pub may_quit : Idles → TellsCopies → MayQuit
 may_quit idles tells words before after closes = by (parts_of words) refl
