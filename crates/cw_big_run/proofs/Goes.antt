@@ -111,7 +111,7 @@ module _ (copies : ℕ) (limits : Limits) (steps : ℕ) (before between : Surrou
         let (input, is_input, runs) = promise (program_line copies) Big limits steps (large_program copies) segments (in_memory before) (in_memory between) (in_memory (after_line between say say_faults)) status within
         (omega (arith, length_is, some)) (omega (arith, length_is, few)) (λ name. refl) goes closes in
         subst (IsCorrectCall (call_as Big limits steps names before (after_line between say say_faults))) (sym same)
-        (input, is_input, copies, is_number, record { runs = runs; none_of_files = none; store_faults = store_faults; absences = absences; stays = λ name. ap (λ f. f name) files })
+        (input, is_input, (copies, is_number, record { runs = runs; none_of_files = none; store_faults = store_faults; absences = absences; stays = λ name. ap (λ f. f name) files }))
 
   -- nothing was done, for want of memory
   pub idle : (say : Option (List ℕ)) (say_faults : ℕ) (names : List (List ℕ)) → copies_in (first_name (call_as Big limits steps names before (after_line before say say_faults))) ≡ Some copies
@@ -120,4 +120,4 @@ module _ (copies : ℕ) (limits : Limits) (steps : ℕ) (before between : Surrou
       let closes = closes_by (in_memory before) say say_faults (large_program copies) [] NoMemory says (λ e. absurd (cc e)) in
       let (input, is_input, runs) = right (program_line copies) Big limits steps (large_program copies) (in_memory before) (in_memory (after_line before say say_faults)) closes in
       subst (IsCorrectCall (call_as Big limits steps names before (after_line before say say_faults))) (sym same)
-      (input, is_input, copies, is_number, record { runs = runs; none_of_files = tt; store_faults = refl; absences = refl; stays = λ name. refl })
+      (input, is_input, (copies, is_number, record { runs = runs; none_of_files = tt; store_faults = refl; absences = refl; stays = λ name. refl }))

@@ -12,8 +12,10 @@ ghost use Rattle.cw_correct.specs.Correct.{IsCorrectCall};
 ghost use Rattle.cw_go.specs.Runs.{streams_at, Runs};
 
 use crate::making::make_segments;
+use cw_big::laws::short_texts;
 use cw_build::laws::linked_units;
 use cw_files::Segments;
+use cw_files::laws::compiled_units;
 use cw_go::laws::promises;
 use cw_go::{close, link_segments, load_and_run};
 use cw_io::{Sink, Source};
@@ -97,6 +99,8 @@ pub fn big<I: Source, O: Sink, S: Sink>(
     ensures { (names : List (List ℕ)) (files : List ℕ → Told) (store_faults absences : ℕ) → copies_in (slice_index_or names 0 []) ≡ Some copies → IsCorrectCall (call_as Big limits.now steps names (surroundings_of files store_faults absences (I.left input.old) (I.faults input.old) (O.held out.old) (O.faults out.old) (S.held say.old) (S.faults say.old)) (surroundings_of files store_faults absences (I.left input.new) (I.faults input.new) (O.held out.new) (O.faults out.new) (S.held say.new) (S.faults say.new))) result }
 {
     promises();
+    short_texts();
+    compiled_units();
     match make_segments(alloc, copies) {
         Ok(segments) => match link_segments(alloc, &segments, limits) {
             Ok(linked) => {

@@ -140,7 +140,10 @@ fn compiled(alloc: Global, text: &str) -> Result<Option<List<u8>>, AllocError> {
         return Ok(None);
     }
     match compile_text(alloc, text.as_bytes(), 0) {
-        Ok(segment) => Ok(Some(segment.made.object)),
+        Ok(segment) => {
+            let made = segment.made;
+            Ok(Some(made.object))
+        }
         Err(_) => Ok(None),
     }
 }

@@ -9,10 +9,10 @@ use Rattle.cw_compile.specs.Texts.{text_limit}
 use Rattle.cw_build.specs.Compiled.{object_of}
 use Rattle.cw_files.specs.Texts.{HasUnit}
 use Rattle.cw_files.specs.Reading.{HaveBytes, HaveValues, AllTaken, Stopped, StopsTexts, SameCounts}
-use Rattle.cw_correct.specs.Calls.{Call, told_files, NoFault, IsUntouched, IsUnwritten}
+use Rattle.cw_correct.specs.Calls.{Call, told_files, NoFault, IsUntouched, IsUnwritten, first_name}
 use Rattle.cw_correct.specs.Files.{counts_before, counts_after, AllAccepted}
 use Rattle.cw_correct.specs.Meaning.{TellBytes}
-use Rattle.cw_correct.specs.Results.{WritesFile, IsDone, first_name, CompileComes, first_object, CompilesRight}
+use Rattle.cw_correct.specs.Results.{WritesFile, IsDone, CompileComes, first_object, CompilesRight}
 use Rattle.cw_results.specs.Closed.{Files, files_at}
 use Rattle.cw_results.specs.Written.{GivesFile}
 use Rattle.cw_say.specs.declared.status.Status.{Status}

@@ -8,10 +8,10 @@ use Rattle.cw_view.specs.ObjectFormat.{IsObject}
 use Rattle.cw_obj.specs.Migration.{IsMigrated}
 use Rattle.cw_files.specs.Texts.{HasObject, object_limit}
 use Rattle.cw_files.specs.Reading.{HaveBytes, HaveValues, AllTaken, Stopped, StopsObjects, SameCounts}
-use Rattle.cw_correct.specs.Calls.{Call, told_files, NoFault, IsUntouched, IsUnwritten}
+use Rattle.cw_correct.specs.Calls.{Call, told_files, NoFault, IsUntouched, IsUnwritten, first_name}
 use Rattle.cw_correct.specs.Files.{counts_before, counts_after, AllAccepted}
 use Rattle.cw_correct.specs.Meaning.{TellBytes}
-use Rattle.cw_correct.specs.Results.{WritesFile, IsDone, first_name, MigrateComes, MigratesTo, MigratesRight}
+use Rattle.cw_correct.specs.Results.{WritesFile, IsDone, MigrateComes, MigratesTo, MigratesRight}
 use Rattle.cw_results.specs.Closed.{Files, files_at}
 use Rattle.cw_results.specs.Written.{GivesFile}
 use Rattle.cw_results.specs.Results.{MigratesObject}

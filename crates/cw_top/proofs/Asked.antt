@@ -1,14 +1,19 @@
 -- What is done for an action is what the words ask for.
-use Rattle.std.proofs.Common.{◌≡◌, ℕ, ◌<◌, List, [], Option, Some, None, sym, subst}
+use Rattle.std.proofs.Common.{◌≡◌, ℕ, ◌<◌, List, [], slice_index_or, Option, Some, None, sym, subst}
 use Rattle.std.proofs.lemmas.List.Elements.{All-nil}
 use Rattle.cw_ports.specs.Running.{IsInput}
-use Rattle.cw_words.specs.Parts.{Parts}
+use Rattle.cw_words.specs.Parts.{Parts, copies_in, copies_of}
 use Rattle.cw_words.specs.declared.action.Action.{Action}
 use Rattle.cw_correct.specs.Calls.{Surroundings, Call, limits_of, call_as, call_of}
-use Rattle.cw_words.specs.declared.action.Action.TheVariants.{Compile, Link, List as Show, Map, Migrate}
+use Rattle.cw_words.specs.declared.action.Action.TheVariants.{Compile, Link, List as Show, Map, Migrate, Big}
 use Rattle.cw_correct.specs.Correct.{Correct, IsCorrectCall, IsCorrectRequest}
 use Rattle.cw_correct.specs.Results.{MapsRight, ShowsRight, CompilesRight, LinksRight, MigratesRight}
 use Rattle.cw_say.specs.declared.status.Status.{Status}
+
+-- the number of texts of `big` is told by its first WORD
+pub copies_told : (names : List (List ℕ)) (copies : ℕ) → copies_of Big names ≡ Some copies → copies_in (slice_index_or names 0 []) ≡ Some copies
+unfolding copies_of
+copies_told names copies e = e
 
 -- an input of a call that does not use it
 pub some_input : (left : Option (List ℕ)) → (input : List ℕ) × IsInput left input

@@ -21,7 +21,7 @@ use Rattle.cw_go.specs.Laws as going
 use Rattle.cw_exec.specs.Laws as executing
 use Rattle.cw_results.specs.Idle.{IsIdle, AllowsIdle}
 use Rattle.cw_top.specs.Quits.{MayQuit}
-use Rattle.cw_top.proofs.Asked.{over_any, asked}
+use Rattle.cw_top.proofs.Asked.{over_any, asked, copies_told}
 
 after_nothing : (told : Option (List ℕ)) → after_told told [] ≡ told
 after_nothing None = refl
@@ -109,19 +109,14 @@ module _ (before after : Surroundings) where
     of_action Migrate told is = asked Migrate parts before after NoMemory is (over_any (call Migrate) NoMemory (λ input. idles.migrate (call Migrate) (is_idle Migrate)))
     of_action Big told is =
         let (input, is_input, runs) = idles.texts (program_line parts.copies) Big (limits_of parts) parts.steps (large_program parts.copies) (in_memory before) (in_memory after) (in_memory_closes (large_program parts.copies)) in
-        asked Big parts before after NoMemory is (
-          input,
-          is_input,
-          parts.copies,
-          told,
-          record {
-            runs = runs;
-            none_of_files = tt;
-            store_faults = closes.store_faults;
-            absences = closes.absences;
-            stays = λ name. ap (λ files. files name) closes.files;
-          },
-        )
+        let right = record {
+          runs = runs;
+          none_of_files = tt;
+          store_faults = closes.store_faults;
+          absences = closes.absences;
+          stays = λ name. ap (λ files. files name) closes.files;
+        } in
+        asked Big parts before after NoMemory is (input, is_input, (parts.copies, copies_told parts.names parts.copies told, right))
 
 pub may_quit : Idles → TellsCopies → MayQuit
 may_quit idles tells words before after closes = by (parts_of words) refl

@@ -5,5 +5,5 @@ mod command;
 pub mod laws;
 mod top;
 
-pub use cw_say::{Bad, LinkFault, Long, Refused, Status, Which};
+pub use cw_say::{Bad, LinkFault, Long, Status, Which};
 pub use top::coral66;

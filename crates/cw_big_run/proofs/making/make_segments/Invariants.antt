@@ -6,7 +6,7 @@ use Rattle.cw_big_run.proofs.making.make_segments.Given as goal
 
 abbrev pub invariant-loop-before : goal.invariant-loop-before
 invariant-loop-before l = record {
-  units : HaveValues HasUnit (first_texts l.fn.copies l.before-index) l.segments.units;
-  so_far : length l.segments.units ≡ l.before-index;
+  units : HaveValues HasUnit (first_texts l.fn.copies l.before) l.segments.units;
+  so_far : length l.segments.units ≡ l.before;
   segments : AreSegmentsOf l.segments.units l.segments;
 }

@@ -20,4 +20,4 @@ load_and_run-requires g c =
 
 pub returns-in-Ok : goal.returns-in-Ok
 returns-in-Ok g c =
-    runs_as _ _ _ _ _ _ _ _ (c.as_slice.ensures ∙ c.in-Ok.ensures ∙ ap (λ (m : Map). line_with c.args.copies m.end) c.requires.linked.map) c.requires.linked.image c.load_and_run.ensures
+    runs_as _ _ _ _ _ _ _ _ (c.as_slice.ensures.value ∙ c.in-Ok.ensures ∙ ap (λ (m : Map). line_with c.args.copies m.end) c.requires.linked.map) c.requires.linked.image c.load_and_run.ensures

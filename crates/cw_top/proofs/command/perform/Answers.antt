@@ -1,8 +1,7 @@
-use Rattle.std.proofs.Common.{refl, ap, ◌∙◌}
-use Rattle.cw_words.specs.Parts.{command_parts}
-use Rattle.cw_correct.specs.Calls.{surroundings_of, unless_big}
-use Rattle.cw_top.proofs.Asked.{asked_map, asked_list, asked_compile, asked_link, asked_migrate}
-use Rattle.cw_top.proofs.Called.{big}
+use Rattle.std.proofs.Common.{◌≡◌, ℕ, List, map, Some, Bor, subst}
+use Rattle.cw_words.specs.Parts.{command_parts, copies_of}
+use Rattle.cw_words.specs.declared.action.Action.TheVariants.{Big}
+use Rattle.cw_top.proofs.Asked.{asked, copies_told, asked_map, asked_list, asked_compile, asked_link, asked_migrate}
 use Rattle.cw_top.proofs.command.perform.Goals as goal
 
 pub returns-in-Compile : goal.returns-in-Compile
@@ -21,4 +20,8 @@ pub returns-in-Migrate : goal.returns-in-Migrate
 returns-in-Migrate g c = asked_migrate (command_parts c.args.command.now) _ _ _ c.in-Migrate.is (rw c.as_slice-names.ensures.value at (c.migrate.ensures (g.I.Source.left c.args.input.now) (g.I.Source.faults c.args.input.now) (g.O.Sink.held c.args.out.now) (g.O.Sink.faults c.args.out.now)))
 
 pub returns-in-Big : goal.returns-in-Big
-returns-in-Big g c = big (surroundings_of (g.F.Store.file c.args.files.now) (g.F.Store.faults c.args.files.now) (g.F.Store.absences c.args.files.now) (g.I.Source.left c.args.input.now) (g.I.Source.faults c.args.input.now) (g.O.Sink.held c.args.out.now) (g.O.Sink.faults c.args.out.now) (g.S.Sink.held c.args.say.now) (g.S.Sink.faults c.args.say.now)) _ _ (command_parts c.args.command.now) (ap (λ action. unless_big action (command_parts c.args.command.now)) c.in-Big.is) c.quit.ensures.line c.quit.ensures.ended _ c.quit.ensures.same
+returns-in-Big g c =
+    let names = map (λ (name : Bor (List ℕ)). name.now) c.args.command.now.names.items in
+    asked Big (command_parts c.args.command.now) _ _ _ c.in-Big.is
+    (c.big.ensures names (g.F.Store.file c.args.files.now) (g.F.Store.faults c.args.files.now) (g.F.Store.absences c.args.files.now)
+    (copies_told names c.args.command.now.copies (subst (λ action. copies_of action names ≡ Some c.args.command.now.copies) c.in-Big.is c.requires.copies)))
