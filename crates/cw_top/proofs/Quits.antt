@@ -10,7 +10,7 @@ use Rattle.cw_say.specs.Closing.{closing_line}
 use Rattle.cw_build.specs.Linking.{map_text}
 use Rattle.cw_big.specs.LargeProgram.{large_program}
 use Rattle.cw_correct.specs.Calls.{Surroundings, Call, limits_of, call_as}
-use Rattle.cw_correct.specs.Making.{program_line, in_memory}
+use Rattle.cw_correct.specs.Making.{program_line, in_memory, MakesRight}
 use Rattle.cw_correct.specs.Closing.{Closes}
 use Rattle.cw_correct.specs.Saying.{IsFirstPart, SaysLast}
 use Rattle.cw_correct.specs.Correct.{DoesNothing, IsCorrectRequest}
@@ -109,7 +109,7 @@ module _ (before after : Surroundings) where
     of_action Migrate told is = asked Migrate parts before after NoMemory is (over_any (call Migrate) NoMemory (λ input. idles.migrate (call Migrate) (is_idle Migrate)))
     of_action Big told is =
         let (input, is_input, runs) = idles.texts (program_line parts.copies) Big (limits_of parts) parts.steps (large_program parts.copies) (in_memory before) (in_memory after) (in_memory_closes (large_program parts.copies)) in
-        let right = record {
+        let right : MakesRight parts.copies (call Big) input NoMemory = record {
           runs = runs;
           none_of_files = tt;
           store_faults = closes.store_faults;
