@@ -1,0 +1,146 @@
+//! Benchmark of the compiler: how many bytes of code small programs take, beside those that bcc makes of the same in C, and how long a text takes by its size.
+#![tactic(auto)]
+
+use cw_files::compile_text;
+use cw_view::View;
+use std::alloc::{AllocError, Global};
+use std::io;
+use std::rt::Clock;
+use std::time::Instant;
+
+/// A text, and how many bytes bcc makes of the same in C: Debian's bcc with `-0 -O`, which tests neither overflow nor the places of elements.
+#[derive(Drop)]
+struct Sample {
+    name: &'static str,
+    text: &'static str,
+    by_bcc: u32,
+}
+
+const FIRST: &str =
+    "LIBRARY (PROCEDURE WRITEBYTE(VALUE INTEGER)); SEGMENT A BEGIN INTEGER X; X := 1+2; WRITEBYTE(X+64) END FINISH";
+
+const LOOPS: &str = "SEGMENT A BEGIN INTEGER TOTAL, J; INTEGER ARRAY A[0:99];
+FOR J := 0 STEP 1 UNTIL 99 DO A[J] := J * 7;
+FOR J := 0 STEP 1 UNTIL 99 DO TOTAL := (TOTAL + A[J]) MASK 4095
+END FINISH";
+
+const FACTORIAL: &str = "LIBRARY (PROCEDURE WRITEBYTE(VALUE INTEGER)); SEGMENT A BEGIN
+INTEGER RECURSIVE F(VALUE INTEGER N); IF N < 2 THEN ANSWER 1 ELSE ANSWER N * F(N - 1);
+WRITEBYTE(F(7) / 256); WRITEBYTE(F(7))
+END FINISH";
+
+const FILTER: &str =
+    "COMMON (FIXED(16,4) LEVEL; INTEGER PROCEDURE ALARM(VALUE INTEGER)); SEGMENT FILTER BEGIN
+INTEGER PROCEDURE ALARM(VALUE INTEGER X);
+BEGIN LEVEL := LEVEL + (X - LEVEL) * 0.5; IF LEVEL >= 60 THEN ANSWER 1 ELSE ANSWER 0 END;
+LEVEL := 0
+END FINISH";
+
+const CONTROL: &str = "COMMON (FIXED(16,4) LEVEL; INTEGER PROCEDURE ALARM(VALUE INTEGER));
+LIBRARY (INTEGER PROCEDURE READBYTE; PROCEDURE WRITEBYTE(VALUE INTEGER)); SEGMENT CONTROL BEGIN
+INTEGER C, STATE, N; TABLE LOG[1,4][SEEN UNSIGNED(8,0)0,0; KIND(8,0)0,8]; SWITCH ACT := IDLE, BUSY;
+STATE := 1;
+NEXT: C := READBYTE; IF C < 0 THEN GOTO DONE;
+IF ALARM(C) = 1 THEN STATE := 2;
+GOTO ACT[STATE];
+IDLE: SEEN[0] := SEEN[0] + 1; GOTO NEXT;
+BUSY: SEEN[1] := SEEN[1] + 1; KIND[1] := -1; GOTO NEXT;
+DONE: WRITEBYTE(SEEN[0]); WRITEBYTE(SEEN[1]); WRITEBYTE(KIND[1])
+END FINISH";
+
+// The bytes of code of a text, without the library, where it is compiled.
+fn code_of(alloc: Global, text: &str) -> Option<usize> {
+    if text.len() > 1_048_576 {
+        return None;
+    }
+    let Ok(segment) = compile_text(alloc, text.as_bytes(), 0) else {
+        return None;
+    };
+    let made = segment.made;
+    match View::open(made.object.as_slice()) {
+        Ok(view) => Some(view.code().len()),
+        Err(_) => None,
+    }
+}
+
+fn measure(rt: &impl Print, alloc: Global, sample: &Sample) -> anyhow::Result<()> {
+    match code_of(alloc, sample.text) {
+        Some(bytes) => println!(rt;
+            "{}: {bytes} bytes of code, {} by bcc",
+            sample.name, sample.by_bcc
+        )?,
+        None => println!(rt; "{}: not compiled", sample.name)?,
+    }
+    Ok(())
+}
+
+// A text of so many statements, of twelve bytes and six tokens each.
+fn long_text(alloc: Global, statements: u32) -> Result<String, AllocError> {
+    let mut text = String::from_str(alloc, "SEGMENT A BEGIN INTEGER X;\n")?;
+    for _ in 0..statements {
+        text.push_str("X := X + 1;\n")?;
+    }
+    text.push_str("END FINISH\n")?;
+    Ok(text)
+}
+
+// Compiles a text of so many statements again and again, and tells how long each token took.
+fn time(
+    rt: &(impl Print + Eprint + Clock),
+    alloc: Global,
+    statements: u32,
+    times: u32,
+) -> anyhow::Result<()> {
+    let text = long_text(alloc, statements)?;
+    let mut bytes = 0_usize;
+    let start = Instant::now(rt)?;
+    for _ in 0..times {
+        bytes = code_of(alloc, text.as_str()).unwrap_or(0);
+    }
+    let took = start.elapsed(rt)?.as_micros();
+    println!(rt; "{statements} statements, {bytes} bytes of code")?;
+    let of_text = u128::from(times) * text.len() as u128;
+    if took > 0 {
+        eprintln!(rt;
+            "{statements} statements: {} kilobytes of source a second",
+            of_text * 1000 / took
+        )?;
+    }
+    Ok(())
+}
+
+fn main(rt: HostRuntime) -> anyhow::Result<()> {
+    let samples = [
+        Sample {
+            name: "first",
+            text: FIRST,
+            by_bcc: 23,
+        },
+        Sample {
+            name: "loops",
+            text: LOOPS,
+            by_bcc: 91,
+        },
+        Sample {
+            name: "factorial",
+            text: FACTORIAL,
+            by_bcc: 73,
+        },
+        Sample {
+            name: "filter",
+            text: FILTER,
+            by_bcc: 54,
+        },
+        Sample {
+            name: "control",
+            text: CONTROL,
+            by_bcc: 138,
+        },
+    ];
+    for sample in &samples {
+        measure(&rt, rt.alloc(), sample)?;
+    }
+    time(&rt, rt.alloc(), 166, 640)?;
+    time(&rt, rt.alloc(), 10_900, 10)?;
+    Ok(())
+}
