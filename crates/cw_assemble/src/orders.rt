@@ -204,9 +204,9 @@ fn put_order(code: &mut Assembly, order: &Order, names: &Names) -> Result<(), No
         Order::Return { arguments, answers } => put_return(code, *arguments, *answers),
         Order::ReadByte => put_read_byte(code),
         Order::WriteByte => put_write_byte(code),
-        Order::Line(line) => put_line(code, *line),
+        Order::Line(line) | Order::Start(line) => put_line(code, *line),
         Order::NextBody => put_next_body(code),
-        Order::Mark | Order::Start(_) => Ok(()),
+        Order::Mark => Ok(()),
     }
 }
 

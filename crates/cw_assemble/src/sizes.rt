@@ -71,12 +71,12 @@ fn order_size(order: &Order) -> Result<u32, NoMemory>
     ensures { IfOk result (λ n. n ≡ order_size order.now) }
 {
     let size = match order {
-        Order::Mark | Order::Start(_) => 0,
+        Order::Mark => 0,
         Order::Drop => 1,
         Order::Jump(_) | Order::GoCommon(_) | Order::WriteByte => 3,
         Order::And | Order::Or | Order::Xor => 3,
         Order::Const(_) | Order::Home { .. } | Order::CallProc(_) | Order::CallCommon(_) => 4,
-        Order::Line(_) | Order::NextBody | Order::Less => 5,
+        Order::Line(_) | Order::Start(_) | Order::NextBody | Order::Less => 5,
         Order::LabelOut(_) | Order::SwitchOut(_) | Order::ProcOut(_) => 5,
         Order::LabelCommon(_) | Order::SwitchCommon(_) | Order::ProcCommon(_) => 5,
         Order::GoSwitch(_) | Order::GoSwitchCommon(_) => 5,

@@ -150,7 +150,10 @@ module _ (us : List SourceUnit) (m : Map) (limits : Limits) (room : ℕ) where
     codes g place o e = coded-order o (coded-at g place o e)
 
     pub lines : LinesFit p
-    lines g place line e = ltb-true line 65536 (coded-at g place (order.Line line) e)
+    lines = record {
+      within = λ g place line e. ltb-true line 65536 (coded-at g place (order.Line line) e);
+      begun = λ g place line e. ltb-true line 65536 (coded-at g place (order.Start line) e);
+    }
 
     switch-by : (g n : ℕ) (o : Orders) (gs : List Goal) (v : Option SourceUnit) → slice_get us g ≡ v → option_map unit_orders v ≡ Some o → slice_get o.switches n ≡ Some gs → length gs < 32768
     switch-by g n o gs None here e f = absurd (none-some o e)

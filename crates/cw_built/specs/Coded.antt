@@ -16,6 +16,7 @@ is_part t b = nat_le 1 t && nat_le (t + b) 16
 -- the numbers of an order are those that its code can hold, and its line is a word
 abbrev pub has_code : Order → Bool
 has_code (order.Line n) = nat_lt n 65536
+has_code (order.Start n) = nat_lt n 65536
 has_code (order.Rescale from to) = nat_le from 15 && nat_le to 15
 has_code (order.Mul (pos n)) = nat_le n 15
 has_code (order.Mul (negsuc n)) = nat_lt n 30

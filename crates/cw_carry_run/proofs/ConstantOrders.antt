@@ -167,7 +167,7 @@ depth-is = fold_out-Stmt ℕ depth_step
 
 module _ (s : Scope) (who : Option ℕ) (answer : ℕ) where
   begun : (line : ℕ) (p : Piece) → Fits p → Fits (followed_by (plain (begin_orders line)) p)
-  begun line p h = both_fit (plain (begin_orders line)) p (plain_fit (begin_orders line) (tt, (tt, tt))) h
+  begun line p h = both_fit (plain (begin_orders line)) p (plain_fit (begin_orders line) (tt, tt)) h
 
   jump_fit : (d : Dest) → Fits (jump_piece s who d)
   jump_fit (dest.Goal g) = λ place next. (goal_word s.unit who g, tt)

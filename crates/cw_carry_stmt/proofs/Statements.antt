@@ -53,17 +53,15 @@ module _ (c : Compiled) (at_sites : (g : ℕ) (u : SourceUnit) (who : Option ℕ
   wide : (j n l : ℕ) (k : Work) → j ≤ most_levels → After j n k → Leads_to c t n l false k
   wide j n l k le after = let v = after l in (v.0, wider (code c t) (marks c t) j most_levels n v.0 le v.1, v.2)
 
-  -- a statement starts, and sets its line
-  begun : (now k : Work) (line q l : ℕ) (w : Words) → slice_get (code c t) q ≡ Some (order.Start line) → slice_get (code c t) (q + 1) ≡ Some (order.Line line) → next c t now w ≡ config c t k w → At c t (q + 1 + 1) line false k → Steps c t now q l w
-  begun now k line q l w start line_at e carried =
+  -- a statement starts, which sets its line
+  begun : (now k : Work) (line q l : ℕ) (w : Words) → slice_get (code c t) q ≡ Some (order.Start line) → next c t now w ≡ config c t k w → At c t (q + 1) line false k → Steps c t now q l w
+  begun now k line q l w start e carried =
       let at_q = order_here c t.segment t.acts t.calls_below t.unit t.unit_is q (order.Start line) start in
-      let at_next = order_here c t.segment t.acts t.calls_below t.unit t.unit_is (q + 1) (order.Line line) line_at in
       let g = here_in c t in
-      lands c t.segment t.acts t.calls_below t.unit t.unit_is t.calls now k q (q + 1 + 1) l line false w w 1 e
-      (move (inl refl) (ap (λ x. carry_out (target c) x g q l t.calls_below w) at_q) (let z : 1 ≡ weight_at (order_at (target c) g q) + 1 = omega (arith, ap weight_at at_q) in z)
-      (move (inl refl) (ap (λ x. carry_out (target c) x g (q + 1) l t.calls_below w) at_next) (let z : 1 ≡ weight_at (order_at (target c) g (q + 1)) + 0 = omega (arith, ap weight_at at_next) in z) (stay refl refl)))
+      lands c t.segment t.acts t.calls_below t.unit t.unit_is t.calls now k q (q + 1) l line false w w 1 e
+      (move (inl refl) (ap (λ x. carry_out (target c) x g q l t.calls_below w) at_q) (let z : 1 ≡ weight_at (order_at (target c) g q) + 0 = omega (arith, ap weight_at at_q) in z) (stay refl refl))
       (let z : 1 ≤ 160 = omega arith in z) tt
-      (at_once c t (q + 1 + 1) line false k carried)
+      (at_once c t (q + 1) line false k carried)
       (inl (let z : 0 < 1 = omega arith in z))
 
   -- the scale of an answer
@@ -75,10 +73,10 @@ module _ (c : Compiled) (at_sites : (g : ℕ) (u : SourceUnit) (who : Option ℕ
   becomes_work s x k w is = ap₂ (λ f y. config c t (statement_work f y k) w) (answers_at t.acts t.unit t.unit_is) is
 
   -- the start and the rest of a statement
-  started : (line : ℕ) (p : Piece) (q n free last : ℕ) → Made (code c t) (marks c t) (followed_by (plain (begin_orders line)) p q free) q n free last → (m : ℕ) × (slice_get (code c t) q ≡ Some (order.Start line)) × (slice_get (code c t) (q + 1) ≡ Some (order.Line line)) × Made (code c t) (marks c t) (p (q + 1 + 1) m) (q + 1 + 1) n m last
+  started : (line : ℕ) (p : Piece) (q n free last : ℕ) → Made (code c t) (marks c t) (followed_by (plain (begin_orders line)) p q free) q n free last → (m : ℕ) × (slice_get (code c t) q ≡ Some (order.Start line)) × Made (code c t) (marks c t) (p (q + 1) m) (q + 1) n m last
   started line p q n free last made =
       let parts = both_made (code c t) (marks c t) (plain (begin_orders line)) p q n free last made in
-      (parts.1, parts.2.0.0, parts.2.0.1.0, subst (λ z. Made (code c t) (marks c t) (p z parts.1) z n parts.1 last) (sym parts.2.0.1.1) parts.3)
+      (parts.1, parts.2.0.0, subst (λ z. Made (code c t) (marks c t) (p z parts.1) z n parts.1 last) (sym parts.2.0.1) parts.3)
 
   one_value : (e : Expr) (f line q n free last : ℕ) (p : Piece) (k : Work) → IsTrue (is_expression t.unit (has_words c t) e f most_levels) → Made (code c t) (marks c t) (followed_by (expression_piece (scope c t) e f) p q free) q n free last → ((x m : ℕ) → Made (code c t) (marks c t) (p x m) x n m last → At c t x line false k) → At c t q line false (Eval e f line k)
   one_value e f line q n free last p k b made carried =
@@ -124,25 +122,25 @@ module _ (c : Compiled) (at_sites : (g : ℕ) (u : SourceUnit) (who : Option ℕ
   gone : (s : Stmt) (k : Work) (line : ℕ) (d : Dest) (q n free last l : ℕ) (w : Words) → out-Stmt s ≡ statement.Go line d → IsTrue (is_jump t.unit (has_words c t) who answer d) → Made (code c t) (marks c t) (followed_by (plain (begin_orders line)) (jump_piece (scope c t) who d) q free) q n free last → Steps c t (Run s k) q l w
   gone s k line (dest.Goal g) q n free last l w is b made =
       let at = started line (jump_piece (scope c t) who (dest.Goal g)) q n free last made in
-      begun (Run s k) (Jump (dest.Goal g) line) line q l w at.1 at.2 (becomes_work s (statement.Go line (dest.Goal g)) k w is) (jump_site (q + 1 + 1) line (dest.Goal g) at.3.0.0)
+      begun (Run s k) (Jump (dest.Goal g) line) line q l w at.1 (becomes_work s (statement.Go line (dest.Goal g)) k w is) (jump_site (q + 1) line (dest.Goal g) at.2.0.0)
   gone s k line (dest.Special m) q n free last l w is b made =
       let at = started line (jump_piece (scope c t) who (dest.Special m)) q n free last made in
-      begun (Run s k) (Jump (dest.Special m) line) line q l w at.1 at.2 (becomes_work s (statement.Go line (dest.Special m)) k w is) (jump_site (q + 1 + 1) line (dest.Special m) at.3.0.0)
+      begun (Run s k) (Jump (dest.Special m) line) line q l w at.1 (becomes_work s (statement.Go line (dest.Special m)) k w is) (jump_site (q + 1) line (dest.Special m) at.2.0.0)
   gone s k line (dest.Switch m e) q n free last l w is b made =
       let d = dest.Switch m e in
       let at = started line (jump_piece (scope c t) who d) q n free last made in
-      begun (Run s k) (Eval e 0 line (Jump d line)) line q l w at.1 at.2 (becomes_work s (statement.Go line d) k w is)
-      (one_value e 0 line (q + 1 + 1) n at.0 last (plain (jump_order (scope c t) who d ∷ [])) (Jump d line) b at.3 (λ x y m'. jump_site x line d m'.0.0))
+      begun (Run s k) (Eval e 0 line (Jump d line)) line q l w at.1 (becomes_work s (statement.Go line d) k w is)
+      (one_value e 0 line (q + 1) n at.0 last (plain (jump_order (scope c t) who d ∷ [])) (Jump d line) b at.2 (λ x y m'. jump_site x line d m'.0.0))
   gone s k line (dest.CommonSwitch m e) q n free last l w is b made =
       let d = dest.CommonSwitch m e in
       let at = started line (jump_piece (scope c t) who d) q n free last made in
-      begun (Run s k) (Eval e 0 line (Jump d line)) line q l w at.1 at.2 (becomes_work s (statement.Go line d) k w is)
-      (one_value e 0 line (q + 1 + 1) n at.0 last (plain (jump_order (scope c t) who d ∷ [])) (Jump d line) b at.3 (λ x y m'. jump_site x line d m'.0.0))
+      begun (Run s k) (Eval e 0 line (Jump d line)) line q l w at.1 (becomes_work s (statement.Go line d) k w is)
+      (one_value e 0 line (q + 1) n at.0 last (plain (jump_order (scope c t) who d ∷ [])) (Jump d line) b at.2 (λ x y m'. jump_site x line d m'.0.0))
   gone s k line (dest.SpecialSwitch m e) q n free last l w is b made =
       let d = dest.SpecialSwitch m e in
       let at = started line (jump_piece (scope c t) who d) q n free last made in
-      begun (Run s k) (Eval e 0 line (Jump d line)) line q l w at.1 at.2 (becomes_work s (statement.Go line d) k w is)
-      (one_value e 0 line (q + 1 + 1) n at.0 last (plain (jump_order (scope c t) who d ∷ [])) (Jump d line) b at.3 (λ x y m'. jump_site x line d m'.0.0))
+      begun (Run s k) (Eval e 0 line (Jump d line)) line q l w at.1 (becomes_work s (statement.Go line d) k w is)
+      (one_value e 0 line (q + 1) n at.0 last (plain (jump_order (scope c t) who d ∷ [])) (Jump d line) b at.2 (λ x y m'. jump_site x line d m'.0.0))
 
   -- a FOR's elements stand where its ring does
   abbrev Rings : Type 0
@@ -160,33 +158,33 @@ module _ (c : Compiled) (at_sites : (g : ℕ) (u : SourceUnit) (who : Option ℕ
         let rest = followed_by (reference_of (scope c t) r).address (plain (store_orders (out-Ref r).field)) in
         let at = started line (followed_by (expression_piece (scope c t) e f) rest) q n free last made in
         let k1 = Do (Store (out-Ref r).field) line k in
-        begun (Run s k) (Eval e (scale_of r) line (Address r line k1)) line q l w at.1 at.2 (becomes_work s (statement.Put line r e) k w is)
-        (one_value e f line (q + 1 + 1) n at.0 last rest (Address r line k1) bs.1 at.3
+        begun (Run s k) (Eval e (scale_of r) line (Address r line k1)) line q l w at.1 (becomes_work s (statement.Put line r e) k w is)
+        (one_value e f line (q + 1) n at.0 last rest (Address r line k1) bs.1 at.2
         (λ y m made'. stored_at r line y n m last j (store_orders (out-Ref r).field) k k1 bs.0 made' (λ z stands. (n, refl, stands, refl, wide j n line k (let v : j ≤ 64 = omega (arith, le) in v) after))))
     runs s (statement.PutBits line d b' r e) k q n free last levels j l w is b made le after =
         let bs = both (built_reference t.unit (has_words c t) r).good (is_expression t.unit (has_words c t) e 0 most_levels) b in
         let rest = followed_by (reference_of (scope c t) r).address (plain (order.StorePart d b' ∷ [])) in
         let at = started line (followed_by (expression_piece (scope c t) e 0) rest) q n free last made in
         let k1 = Do (StoreBits d b') line k in
-        begun (Run s k) (Eval e 0 line (Address r line k1)) line q l w at.1 at.2 (becomes_work s (statement.PutBits line d b' r e) k w is)
-        (one_value e 0 line (q + 1 + 1) n at.0 last rest (Address r line k1) bs.1 at.3
+        begun (Run s k) (Eval e 0 line (Address r line k1)) line q l w at.1 (becomes_work s (statement.PutBits line d b' r e) k w is)
+        (one_value e 0 line (q + 1) n at.0 last rest (Address r line k1) bs.1 at.2
         (λ y m made'. stored_at r line y n m last j (order.StorePart d b' ∷ []) k k1 bs.0 made' (λ z stands. (n, refl, stands, refl, wide j n line k (let v : j ≤ 64 = omega (arith, le) in v) after))))
     runs s (statement.Go line d) k q n free last levels j l w is b made le after = gone s k line d q n free last l w is b made
     runs s (statement.Call line tg args) k q n free last levels j l w is b made le after =
         let os = call_order (scope c t) tg ∷ after_statement_call tg in
         let given = sequence (map (argument_piece (scope c t)) args) in
         let at = started line (followed_by given (plain os)) q n free last made in
-        let parts = one_made (code c t) (marks c t) given os (q + 1 + 1) n at.0 last at.3 in
+        let parts = one_made (code c t) (marks c t) given os (q + 1) n at.0 last at.2 in
         let stands = subst (λ xs. Stands (code c t) parts.0 (call_order (scope c t) tg ∷ xs) n) (after_is tg) parts.3 in
-        begun (Run s k) (give_all args line (Enter tg line false k)) line q l w at.1 at.2 (becomes_work s (statement.Call line tg args) k w is)
-        (given_at c t args line (q + 1 + 1) parts.0 at.0 parts.1 line (Enter tg line false k) false b parts.2 refl
+        begun (Run s k) (give_all args line (Enter tg line false k)) line q l w at.1 (becomes_work s (statement.Call line tg args) k w is)
+        (given_at c t args line (q + 1) parts.0 at.0 parts.1 line (Enter tg line false k) false b parts.2 refl
         (λ r. (n, stands, refl, wide j n line k (let v : j ≤ 64 = omega (arith, le) in v) after)))
     runs s (statement.Answer line e) k q n free last levels j l w is b made le after =
         let bs = both (is_some who) (is_expression t.unit (has_words c t) e answer most_levels) b in
         let rest = plain (order.Return (argument_words (scope c t).parameters) true ∷ []) in
         let at = started line (followed_by (expression_piece (scope c t) e answer) rest) q n free last made in
-        begun (Run s k) (Eval e answer line Return) line q l w at.1 at.2 (becomes_work s (statement.Answer line e) k w is)
-        (one_value e answer line (q + 1 + 1) n at.0 last rest Return bs.1 at.3 (λ y m made'. made'.0.0))
+        begun (Run s k) (Eval e answer line Return) line q l w at.1 (becomes_work s (statement.Answer line e) k w is)
+        (one_value e answer line (q + 1) n at.0 last rest Return bs.1 at.2 (λ y m made'. made'.0.0))
     runs s (statement.If line d a b) k q n free last levels j l w is built made le after =
         let sa = is_statement t.unit (has_words c t) who answer a in
         let sb = is_statement t.unit (has_words c t) who answer b in
@@ -197,10 +195,10 @@ module _ (c : Compiled) (at_sites : (g : ℕ) (u : SourceUnit) (who : Option ℕ
         let pb = statement_piece (scope c t) who answer b in
         let at = started line (choice_piece (condition_piece (scope c t) d) pa pb) q n free last made in
         let m = at.0 in
-        let ch = choice_made (code c t) (marks c t) (condition_piece (scope c t) d) pa pb (q + 1 + 1) n m last at.3 in
+        let ch = choice_made (code c t) (marks c t) (condition_piece (scope c t) d) pa pb (q + 1) n m last at.2 in
         let end : After j ch.end k = λ l'. let v = after l' in (v.0, past ch.end_marks (subst (λ x. Leads (code c t) (marks c t) j x v.0) (sym ch.next_is) v.1), v.2) in
         let behind_first : After (suc j) ch.jump k = λ l'. let v = end l' in (v.0, leap ch.jumps ch.end_is refl v.1, v.2) in
-        begun (Run s k) (Test d line (Run a k) (Run b k)) line q l w at.1 at.2 (becomes_work s (statement.If line d a b) k w is) (
+        begun (Run s k) (Test d line (Run a k) (Run b k)) line q l w at.1 (becomes_work s (statement.If line d a b) k w is) (
           false,
           m + 1,
           ch.other,
@@ -226,11 +224,11 @@ module _ (c : Compiled) (at_sites : (g : ℕ) (u : SourceUnit) (who : Option ℕ
         let keep = item_order (layout c t) item 0 ∷ order.Store ∷ [] in
         let ring = ring_piece (scope c t) line item f es (statement_piece (scope c t) who answer body) in
         let at = started line (followed_by (reference_of (scope c t) r).address (followed_by (plain keep) ring)) q n free last made in
-        let address = both_made (code c t) (marks c t) (reference_of (scope c t) r).address (followed_by (plain keep) ring) (q + 1 + 1) n at.0 last at.3 in
+        let address = both_made (code c t) (marks c t) (reference_of (scope c t) r).address (followed_by (plain keep) ring) (q + 1) n at.0 last at.2 in
         let kept = both_made (code c t) (marks c t) (plain keep) ring address.0 n address.1 last address.3 in
         let site = rings line item r es body kept.0 n kept.1 last b2.0 (ltb-true (length es) 32767 b3.0) b4.0 b5.1 kept.3 in
         let x = loop_of line item r es body in
-        begun (Run s k) (Address r line (KeepAt 0 x (Element 1 x k))) line q l w at.1 at.2 (becomes_work s (statement.For line item r es body) k w is)
+        begun (Run s k) (Address r line (KeepAt 0 x (Element 1 x k))) line q l w at.1 (becomes_work s (statement.For line item r es body) k w is)
         (address.0, at.0, address.1, b1.0, address.2, refl, (address.0, here refl, (kept.0, b2.0, (let v : 0 < 4 = omega arith in v), kept.2.0, refl, (kept.0, here refl, element_site line item r es body kept.0 n j k site.0 site.1 (let v : suc j ≤ 64 = omega (arith, le, level.1) in v) after))))
     runs s (statement.Seq ss) k q n free last levels j l w is b made le after =
         Rattle.cw_carry.proofs.Stepping.silent c t.segment t.acts t.calls_below t.unit t.unit_is t.calls (Run s k) (run_all ss k) q l false w (becomes_work s (statement.Seq ss) k w is) tt

@@ -40,7 +40,7 @@ fn has_code(order: &Order) -> bool
     ensures { result ≡ has_code order.now }
 {
     match order {
-        Order::Line(line) => is_word(*line),
+        Order::Line(line) | Order::Start(line) => is_word(*line),
         Order::Rescale { from, to } => *from <= 15 && *to <= 15,
         Order::Mul(scale) => -30 <= *scale && *scale <= 15,
         Order::Div(scale) => -15 <= *scale && *scale <= 16,

@@ -58,9 +58,9 @@ pub fn bytes_of(alloc: Global, numbers: &str) -> Result<Vec<u8>, AllocError> {
 
 // A row a line: the orders, the bytes of the input, those that are written, and the stop's kind, segment and line where the run does not come to its end.
 const PROGRAMS: &str = "Line:1 Const:72 WriteByte End||72|
-Start:1 Line:1 Const:72 WriteByte Start:2 Line:2 Const:32767 Const:1 Add WriteByte End||72|1 1 2
+Start:1 Const:72 WriteByte Start:2 Const:32767 Const:1 Add WriteByte End||72|1 1 2
 Line:1 Const:30 Home:0:5 Store Home:0:5 Load Home:0:5 Load Add WriteByte Const:40 Const:2 Add WriteByte Const:1 Const:2 Const:3 Add Add WriteByte End||60 42 6|
-Start:7 Line:7 Const:20000 Home:1:2 Store Const:20000 Home:1:2 Load Add WriteByte End|||1 1 7
+Start:7 Const:20000 Home:1:2 Store Const:20000 Home:1:2 Load Add WriteByte End|||1 1 7
 Line:1 Const:32768 Const:20000 Const:45535 Add Add WriteByte End|||1 1 1
 Line:1 Const:5 Const:7 Sub WriteByte Const:7 Home:0:0 Store Const:9 Home:0:0 Load Sub WriteByte Const:50 Const:9 Const:1 Add Sub WriteByte End||254 2 40|
 Line:3 Const:32768 Const:1 Sub WriteByte End|||1 1 3

@@ -25,11 +25,10 @@ names_well n fs (order.Start line) = false
 names_well n fs _ = true
 
 module _ (n : ℕ) (fs : List Family) where
-  -- the start of a statement stands before its line
   pub data Fit : List Order → Type 0 where
     none : Fit []
     next : (o : Order) (os : List Order) → IsTrue (names_well n fs o) → Fit os → Fit (o ∷ os)
-    begun : (line : ℕ) (os : List Order) → 1 ≤ line → Fit os → Fit (order.Start line ∷ order.Line line ∷ os)
+    begun : (line : ℕ) (os : List Order) → 1 ≤ line → Fit os → Fit (order.Start line ∷ os)
 
 pub fit-all : (n : ℕ) (fs : List Family) (os : List Order) → IsTrue (list_all (names_well n fs) os) → Fit n fs os
 fit-all n fs [] h = none
@@ -59,7 +58,7 @@ ended_good {n} {fs} body h = record { at = λ place next. fit-both n fs (body ne
 pub labels_good : {n : ℕ} {fs : List Family} (ls : List ℕ) → Good n fs (with_labels ls)
 labels_good {n} {fs} ls = record { at = λ place next. fit-all n fs (order.Mark ∷ []) refl }
 
-pub begin_good : {n : ℕ} {fs : List Family} (line : ℕ) → 1 ≤ line → Good n fs (plain (order.Start line ∷ order.Line line ∷ []))
+pub begin_good : {n : ℕ} {fs : List Family} (line : ℕ) → 1 ≤ line → Good n fs (plain (order.Start line ∷ []))
 begin_good line h = record { at = λ place next. begun line [] h none }
 
 pub passed : (n : ℕ) (fs : List Family) (xs ys : List Order) → IsTrue (list_all (names_well n fs) xs) → IsTrue (list_all (names_well n fs) ys) → IsTrue (list_all (names_well n fs) (xs ++ ys))

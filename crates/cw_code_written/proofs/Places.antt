@@ -113,21 +113,19 @@ module _ (n : ℕ) (fs : List Family) (places : List ℕ) (size : ℕ) (small : 
       subst (λ xs. IsTrue (are_begun size low (xs ++ statements_from (k + 1) places os))) (sym (no-statement n fs (slice_index places k) o h)) rest
   begun-from _ (begun line os h r) (suc left) at low k l le end here c = no l
   begun-from _ (begun line os h r) zero at low k l le end here c =
-      let five : block_size block.Single (order.Line line) ≡ 5 = refl in
-      let none-yet : block_size block.Single (order.Start line) ≡ 0 = refl in
+      let five : block_size block.Single (order.Start line) ≡ 5 = refl in
       let p = slice_index places k in
       let e : k + 0 ≡ k = omega arith in
-      let place : p ≡ at = ap (slice_index places) (sym e) ∙ here 0 (let z : 0 ≤ suc (suc (length os)) = omega arith in z) ∙ (let z : at + 0 ≡ at = omega arith in z) in
-      let a = parts (has_code (order.Start line)) (has_code (order.Line line) && list_all has_code os) c in
-      let b = parts (has_code (order.Line line)) (list_all has_code os) a.1 in
-      let inside : p < size = omega (arith, place, end, five, none-yet) in
+      let place : p ≡ at = ap (slice_index places) (sym e) ∙ here 0 (let z : 0 ≤ suc (length os) = omega arith in z) ∙ (let z : at + 0 ≡ at = omega arith in z) in
+      let a = parts (has_code (order.Start line)) (list_all has_code os) c in
+      let inside : p < size = omega (arith, place, end, five) in
       let long : p < 4294967296 = omega (arith, inside, small) in
       let above : low ≤ p = omega (arith, place, le) in
-      let rest = begun-from os r 0 (at + 5) (p + 1) (k + 1 + 1) refl (let z : p + 1 ≤ at + 5 = omega (arith, place) in z) (let z : at + 5 + size_to 0 os (length os) ≤ size = omega (arith, end, five, none-yet) in z)
-      (λ j lt. let f : k + 1 + 1 + j ≡ k + suc (suc j) = omega arith in let z : at + size_to 0 (order.Start line ∷ order.Line line ∷ os) (suc (suc j)) ≡ at + 5 + size_to 0 os j = omega (arith, five, none-yet) in ap (slice_index places) f ∙ here (suc (suc j)) (let y : suc (suc j) ≤ suc (suc (length os)) = omega (arith, lt) in y) ∙ z)
-      b.1 in
-      both (is_begun size low (p, line)) (are_begun size (p + 1) (statements_from (k + 1 + 1) places os))
-      (both (fits_statement (p, line)) (nat_le low p && nat_lt p size) (both (is_long p) (is_word line && nat_le 1 line) (lt_true p 4294967296 long) (both (is_word line) (nat_le 1 line) b.0 (le_true 1 line h)))
+      let rest = begun-from os r 0 (at + 5) (p + 1) (k + 1) refl (let z : p + 1 ≤ at + 5 = omega (arith, place) in z) (let z : at + 5 + size_to 0 os (length os) ≤ size = omega (arith, end, five) in z)
+      (λ j lt. let f : k + 1 + j ≡ k + suc j = omega arith in let z : at + size_to 0 (order.Start line ∷ os) (suc j) ≡ at + 5 + size_to 0 os j = omega (arith, five) in ap (slice_index places) f ∙ here (suc j) (let y : suc j ≤ suc (length os) = omega (arith, lt) in y) ∙ z)
+      a.1 in
+      both (is_begun size low (p, line)) (are_begun size (p + 1) (statements_from (k + 1) places os))
+      (both (fits_statement (p, line)) (nat_le low p && nat_lt p size) (both (is_long p) (is_word line && nat_le 1 line) (lt_true p 4294967296 long) (both (is_word line) (nat_le 1 line) a.0 (le_true 1 line h)))
       (both (nat_le low p) (nat_lt p size) (le_true low p above) (lt_true p size inside)))
       rest
 

@@ -169,12 +169,8 @@ module _ (n : ℕ) (fs : List Family) where
       let b = block_at left (o ∷ os) in
       sound-both (block_pieces names place b o) (templates names (place + block_size b o) (orders_left b) os) (block-sound names place left o os h) (templates-sound names (place + block_size b o) (orders_left b) os r)
   templates-sound names place left _ (begun line os h r) =
-      let b = block_at left (order.Start line ∷ order.Line line ∷ os) in
-      let at = place + block_size b (order.Start line) in
-      let c = block_at (orders_left b) (order.Line line ∷ os) in
-      let on = at + block_size c (order.Line line) in
-      sound-both (block_pieces names place b (order.Start line)) (templates names at (orders_left b) (order.Line line ∷ os)) (start-sound names place left line (order.Line line ∷ os))
-      (sound-both (block_pieces names at c (order.Line line)) (templates names on (orders_left c) os) (block-sound names at (orders_left b) (order.Line line) os refl) (templates-sound names on (orders_left c) os r))
+      let b = block_at left (order.Start line ∷ os) in
+      sound-both (block_pieces names place b (order.Start line)) (templates names (place + block_size b (order.Start line)) (orders_left b) os) (start-sound names place left line os) (templates-sound names (place + block_size b (order.Start line)) (orders_left b) os r)
 
   -- ---- the segment
 

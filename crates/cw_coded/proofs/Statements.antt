@@ -66,7 +66,7 @@ statement-size = fold_out-Stmt ℕ size_step
 -- ---- lists of orders
 
 begin-coded : (line : ℕ) → IsTrue (is_line line) → IsTrue (list_all has_code (begin_orders line))
-begin-coded line h = first (order.Line line) [] h refl
+begin-coded line h = first (order.Start line) [] h refl
 
 begin_good : (line : ℕ) → IsTrue (is_line line) → Good (plain (begin_orders line))
 begin_good line h = plainly (begin_orders line) (begin-coded line h)

@@ -146,11 +146,15 @@ module _ (known : Given) where
         tells known s (perform p.limits.area WriteByte w) 2 (begins_next known s a order.WriteByte e) (step_is known s (Some order.WriteByte) e) (weight_is known s order.WriteByte e)
         (writes rows p image g line acts (order_place (base_of p g) s.orders.list (place + 1)) w.operands w.memory w.input w.output (behind known s a order.WriteByte e) (code known s a order.WriteByte e) a.landed)
     follow_order (order.Line n) e =
-        let small : n < 65536 = coded.lines g place n (order_is known s (Some (order.Line n)) e) in
+        let small : n < 65536 = coded.lines.within g place n (order_is known s (Some (order.Line n)) e) in
         let goes : step p (at g place line acts w Running) ≡ at g (place + 1) n acts w Running = step_is known s (Some (order.Line n)) e in
         leads_to known g place line acts w (at g (place + 1) n acts w Running) 1 goes (weight_is known s (order.Line n) e)
         (onward known (λ r l. inl (sound_at known s (place + 1) n w r (begins_next known s a (order.Line n) e) s.room goes l)) (sets_line rows p image g line acts (order_place (base_of p g) s.orders.list (place + 1)) n w (behind known s a (order.Line n) e) small (code known s a (order.Line n) e).0 a.landed))
-    follow_order (order.Start n) e = silent known s a (order.Start n) e refl refl
+    follow_order (order.Start n) e =
+        let small : n < 65536 = coded.lines.begun g place n (order_is known s (Some (order.Start n)) e) in
+        let goes : step p (at g place line acts w Running) ≡ at g (place + 1) n acts w Running = step_is known s (Some (order.Start n)) e in
+        leads_to known g place line acts w (at g (place + 1) n acts w Running) 1 goes (weight_is known s (order.Start n) e)
+        (onward known (λ r l. inl (sound_at known s (place + 1) n w r (begins_next known s a (order.Start n) e) s.room goes l)) (sets_line rows p image g line acts (order_place (base_of p g) s.orders.list (place + 1)) n w (behind known s a (order.Start n) e) small (code known s a (order.Start n) e).0 a.landed))
     follow_order order.Mark e = silent known s a order.Mark e refl refl
     follow_order (order.Jump m) e =
         let own = own_place s.orders.list place in

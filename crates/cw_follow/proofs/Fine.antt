@@ -140,6 +140,7 @@ pieces_there image before behind place value (p ∷ ps) fine at e =
 abbrev pub NumberFits : Order → Type 0
 NumberFits (order.Const w) = w < 65536
 NumberFits (order.Line n) = n < 65536
+NumberFits (order.Start n) = n < 65536
 NumberFits _ = Unit {0}
 
 abbrev pub OrderFits : Order → Type 0
@@ -501,7 +502,7 @@ module _ (p : OrderProgram) (segment next : ℕ) (value : Filling) (fills : Fill
   template_fine names place (order.GoSwitchCommon d) fits = ((lit< tt, lit< tt), (ahead_filled d, tt))
   template_fine names place (order.GoSwitchSpecial k) fits = (argument_fine 7 (k + 1) (lit< tt) (few_next k fits.1), (argument_fine 3 k is_bx (few_more k fits.1), (is_bx, tt)))
   template_fine names place order.Mark fits = tt
-  template_fine names place (order.Start n) fits = tt
+  template_fine names place (order.Start n) fits = (((lit< tt, lit< tt), fits.0), tt)
 
   operation_fine : (op : ℕ) (s : Simple) → op < 8 → SimpleFits s → IsFine value (operation op s)
   operation_fine op (simple.Number w) lt fits = (lt, fits)

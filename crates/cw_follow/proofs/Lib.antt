@@ -40,4 +40,5 @@ pub mod Jumping
 pub mod Switching
 pub mod Loops
 pub mod Within
+pub mod Passed
 pub mod Following

@@ -427,7 +427,8 @@ order_fits p codable g k o it is e = (numbers it (ap (λ u. order_in u k) is ∙
   where
     numbers : (it : Order) → order_at p g k ≡ Some it → NumberFits it
     numbers (order.Const w) at = codable.constants g k w at
-    numbers (order.Line n) at = codable.lines g k n at
+    numbers (order.Line n) at = codable.lines.within g k n at
+    numbers (order.Start n) at = codable.lines.begun g k n at
     numbers _ at = tt
 
 way_last : (os : List Orders) (n end : ℕ) → slice_get os n ≡ None → place_after (drop n os) end ≡ entry_place 0

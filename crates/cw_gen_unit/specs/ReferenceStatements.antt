@@ -22,9 +22,9 @@ use Rattle.cw_gen_expr.specs.Pieces.{Piece, plain, followed_by, sequence, with_e
 use Rattle.cw_gen_expr.specs.ReferenceExpressions.{Scope, argument_words, control_place, item_order, store_orders, choice_piece, number_order, call_order, condition_piece, argument_piece, reference_of, expression_piece}
 use Rattle.cw_gen_expr.specs.UnitTables.{label_mark}
 
--- the start of a statement, and its line
+-- the start of a statement, which sets its line
 abbrev pub begin_orders : ℕ → List Order
-begin_orders line = order.Start line ∷ order.Line line ∷ []
+begin_orders line = order.Start line ∷ []
 
 -- every procedure answers, one without a type 0; a call statement drops the answer
 abbrev pub after_statement_call : Target → List Order

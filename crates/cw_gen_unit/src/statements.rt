@@ -20,12 +20,11 @@ use cw_unit::unit::{Arg, Dest, Expr, Field, Goal, Param, Ref, Stmt, Target, Unit
 use cw_word::NoMemory;
 use std::alloc::Global;
 
-/// Adds the start of a statement and its line.
+/// Adds the start of a statement, which sets its line.
 fn emit_begin(out: &mut Output, line: u16) -> Result<(), NoMemory>
     ensures { OnOk result (made out.new ≡ added (plain (begin_orders line)) (made out.old)) }
 {
-    out.push(Order::Start(line))?;
-    out.push(Order::Line(line))
+    out.push(Order::Start(line))
 }
 
 /// Adds the order that stores a word at an address, or a part of it.

@@ -1,1 +1,2 @@
 pub mod ImageFormat
+pub mod Begun

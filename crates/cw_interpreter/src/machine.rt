@@ -507,8 +507,8 @@ impl<'a> Machine<'a> {
     // Ways within a body.
     fn go(&mut self, order: &Order) -> Result<(), End> {
         match order {
-            Order::Mark | Order::Start(_) => Ok(()),
-            Order::Line(line) => {
+            Order::Mark => Ok(()),
+            Order::Line(line) | Order::Start(line) => {
                 self.line = *line;
                 Ok(())
             }

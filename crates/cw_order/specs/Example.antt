@@ -16,11 +16,9 @@ overflowing = record {
       record {
         list =
             order.Start 1
-            ∷ order.Line 1
             ∷ order.Const 72
             ∷ order.WriteByte
             ∷ order.Start 2
-            ∷ order.Line 2
             ∷ order.Const 32767
             ∷ order.Const 1
             ∷ order.Add

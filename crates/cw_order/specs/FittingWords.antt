@@ -29,6 +29,7 @@ pub record StateFits (s : OrderState) : Type 0 where
 abbrev pub ConstantsFit : OrderProgram → Type 0
 ConstantsFit p = (g place w : ℕ) → order_at p g place ≡ Some (order.Const w) → w < 65536
 
--- and each line
-abbrev pub LinesFit : OrderProgram → Type 0
-LinesFit p = (g place line : ℕ) → order_at p g place ≡ Some (order.Line line) → line < 65536
+-- and each line that is set
+pub record LinesFit (p : OrderProgram) : Type 0 where
+  pub within : (g place line : ℕ) → order_at p g place ≡ Some (order.Line line) → line < 65536
+  pub begun : (g place line : ℕ) → order_at p g place ≡ Some (order.Start line) → line < 65536

@@ -4,6 +4,7 @@ pub mod OrderChanges
 pub mod OrderActions
 pub mod OrderCosts
 pub mod OrderMachine
+pub mod Starting
 pub mod HasCode
 pub mod Example
 pub mod FittingWords

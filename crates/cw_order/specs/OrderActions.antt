@@ -88,7 +88,7 @@ module _ (p : OrderProgram) where
   action_of g acts (order.LoopWay marks) = Branch (λ w. way_of_one (λ i v. to_mark_in (mark_of_number marks i) v) w.operands w)
   action_of g acts order.Mark = Pass
   action_of g acts (order.Line n) = SetLine n
-  action_of g acts (order.Start n) = Pass
+  action_of g acts (order.Start n) = SetLine n
   action_of g acts order.NextBody = EndBody
   -- control arguments
   action_of g acts (order.LabelOut l) = Alter (held (Some (LabelControl g l (length acts))))

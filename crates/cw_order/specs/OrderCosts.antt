@@ -62,7 +62,7 @@ weight_of order.AddStep = 28
 weight_of (order.LoopWay marks) = 12
 weight_of order.Mark = 0
 weight_of (order.Line n) = 1
-weight_of (order.Start n) = 0
+weight_of (order.Start n) = 1
 weight_of order.NextBody = 22
 -- control arguments: a place and a record
 weight_of (order.LabelOut l) = 6

@@ -178,9 +178,9 @@ pub enum Order {
     ReadByte,
     /// Takes a word and writes its low byte to the output.
     WriteByte,
-    /// Sets the line that a stop tells.
+    /// Sets the line that a stop tells, within a statement.
     Line(u16),
-    /// The place where a statement of this line begins. Does nothing; the statement's `Line` follows it.
+    /// Begins a statement of this line, which it sets as `Line` does: the place where that statement begins.
     Start(u16),
     /// Goes on with the body of the next segment; where there is none, the program ends.
     NextBody,

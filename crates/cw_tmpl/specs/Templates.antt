@@ -1,4 +1,4 @@
--- The code of blocks of orders. Each order has code, but for Mark and Start, which only name a place.
+-- The code of blocks of orders. Each order has code, but for Mark, which only names a place.
 --
 -- The top operand is in AX and the others are on the stack of the processor, below them a word of no meaning; where there is no operand, AX
 -- itself has no meaning and the stack no word. So a word is put by PUSH AX before it comes to AX, and POP AX takes the top one after its
@@ -335,7 +335,7 @@ template names place (order.GoSwitchSpecial k) =
     coded.Whole (load di (argument (k + 1))) ∷ coded.Whole (load bx (argument k)) ∷ coded.Whole (jump_to bx) ∷ []
 -- without code
 template names place order.Mark = []
-template names place (order.Start n) = []
+template names place (order.Start n) = coded.Whole (i86.MovRm (slot line_slot) (imm.Word n)) ∷ []
 
 -- ---- blocks
 
@@ -442,7 +442,7 @@ listed_size (order.GoSwitch n) = 5
 listed_size (order.GoSwitchCommon d) = 5
 listed_size (order.GoSwitchSpecial k) = 10
 listed_size order.Mark = 0
-listed_size (order.Start n) = 0
+listed_size (order.Start n) = 5
 
 -- the same behind an order: a load or a store behind the address of a word is in its block
 abbrev pub size_behind : Option Order → Order → ℕ

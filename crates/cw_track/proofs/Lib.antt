@@ -3,3 +3,4 @@ pub mod Simulations
 pub mod Composition
 pub mod Budgets
 pub mod Clocks
+pub mod Watching

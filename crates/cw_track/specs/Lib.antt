@@ -1,3 +1,4 @@
 pub mod Machine
 pub mod Tracking
+pub mod Watching
 pub mod Clocks

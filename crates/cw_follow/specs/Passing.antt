@@ -1,0 +1,33 @@
+-- The statements that the processor begins in the image of a program of orders.
+use Rattle.std.specs.Prelude.{◌≡◌, ℕ, ◌+◌, ℤ, Bool, true, false, List, [], ◌∷◌, ◌++◌, map, Some, slice_get}
+use Rattle.cw_i86.specs.declared.instr.Instr.{Instr}
+use Rattle.cw_i86.specs.declared.instr.Instr.TheVariants.{MovRm}
+use Rattle.cw_i86.specs.MachineRun.{End, Running}
+use Rattle.cw_image.specs.Begun.{StatementPlace, lines_at, beginning}
+use Rattle.cw_run86.specs.Processor.{Processor}
+use Rattle.cw_order.specs.declared.order.Order.TheVariants as order
+use Rattle.cw_order.specs.declared.order.Orders.{Orders}
+use Rattle.cw_order.specs.OrderProgram.{OrderProgram}
+use Rattle.cw_tmpl.specs.ReferenceCode.{orders_code}
+use Rattle.cw_follow.specs.Placing.{base_of}
+
+-- at a processor that has halted, nothing begins
+abbrev pub at_work : End → List (ℕ × ℕ × List ℤ) → List (ℕ × ℕ × List ℤ)
+at_work Running begun = begun
+at_work _ begun = []
+
+abbrev pub passes : List StatementPlace → (area : ℕ) → Processor → List (ℕ × ℕ × List ℤ)
+passes places area p = at_work p.end (beginning places area p.state)
+
+-- the places of a segment's code, moved to where it begins
+abbrev pub moved_places : (base number : ℕ) → List (ℕ × ℕ) → List StatementPlace
+moved_places base n statements = map (λ x. record { place = base + x.0; segment = n; line = x.1 }) statements
+
+module _ (p : OrderProgram) where
+  abbrev pub places_from : (segment : ℕ) → List Orders → List StatementPlace
+  places_from g [] = []
+  places_from g (o ∷ os) = moved_places (base_of p g) (g + 1) (orders_code o).statements ++ places_from (g + 1) os
+
+  -- those of all segments
+  abbrev pub statement_places : List StatementPlace
+  statement_places = places_from 0 p.units
