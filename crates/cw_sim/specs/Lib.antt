@@ -1,1 +1,2 @@
 pub mod Preservation
+pub mod Statements

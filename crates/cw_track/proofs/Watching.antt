@@ -1,10 +1,15 @@
 -- A simulation of machines that are watched: the one notes what the other notes.
-use Rattle.std.proofs.Common.{◌≡◌, ◌⊎◌, inl, inr, ⊎_elim, ℕ, suc, ◌+◌, ◌<◌, ◌≤◌, Bool, true, false, List, [], ◌++◌, refl, sym, ap, ap₂, ◌∙◌, subst, arith}
+use Rattle.std.proofs.Common.{◌≡◌, ◌⊎◌, inl, inr, ⊎_elim, ℕ, zero, suc, ◌+◌, ◌<◌, ◌≤◌, Bool, true, false, List, [], ◌++◌, refl, sym, ap, ap₂, ◌∙◌, subst}
 use Rattle.std.proofs.lemmas.List.{append-nil}
-use Rattle.cw_track.specs.Machine.{Machine}
+use Rattle.cw_track.specs.Machine.{Machine, shown_after}
 use Rattle.cw_track.specs.Watching.{watched, noted}
 use Rattle.cw_track.proofs.Paths.{Path, stay, next}
 use Rattle.cw_track.proofs.Simulations.{Quiet, Simulation}
+
+-- watching changes nothing of what a machine shows
+pub shown_unwatched : {O E : Type 0} (M : Machine O) (notes : M.State → List E) (k : ℕ) (s : M.State) (es : List E) → (shown_after (watched M notes) k (s, es)).0 ≡ shown_after M k s
+shown_unwatched M notes zero s es = refl
+shown_unwatched M notes (suc k) s es = shown_unwatched M notes k (M.step s) (es ++ notes s)
 
 -- nothing is noted where a state shows this
 abbrev pub Unnoted : {O E : Type 0} → (O → Type 0) → O × List E → Type 0
