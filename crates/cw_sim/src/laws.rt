@@ -6,26 +6,33 @@ ghost use Rattle.cw_unit.specs.declared.unit.Unit.{Unit as SourceUnit};
 ghost use Rattle.cw_unit.specs.declared.layout.Limits.{Limits};
 ghost use Rattle.cw_unit.specs.declared.layout.Map.{Map};
 ghost use Rattle.cw_unit.specs.Program.{program_at};
+ghost use Rattle.cw_unit.specs.Begun.{Begun};
+ghost use Rattle.cw_image.specs.Begun.{Begins};
 ghost use Rattle.cw_sim.specs.Preservation.{IsLoaded, Preserves, Completes};
+ghost use Rattle.cw_sim.specs.Statements.{image_places, BeginsStatements};
 
 use cw_carry_run::laws::orders_follow_meaning;
 use cw_cpu86::laws::one_observation;
-use cw_follow::laws::code_follows_orders;
+use cw_follow::laws::{code_follows_orders, places_stand};
 use cw_run86::laws::shows_the_run;
 use cw_safety::never_stuck;
 
 /// Semantic preservation. Begun with the image of a program, the 8086 shows after each number of instructions what the source
 /// means after some number of its steps, and all that the source means, within 256 instructions a step. So it never meets bad
-/// code or a division that faults.
+/// code or a division that faults. After as many steps the source has begun the same statements, in the same order, at the same
+/// words of memory: those of the image begin at the places that its segments' code tells.
 pub fn preservation()
     ensures preserves { (us : List SourceUnit) (m : Map) (limits : Limits) (input : List ℕ) (s : State) (k : ℕ) (shown : Observed) →
         IsLoaded us m limits input s → Shows s input k shown → Preserves (program_at us m limits) input k shown }
     ensures completes { (us : List SourceUnit) (m : Map) (limits : Limits) (input : List ℕ) (s : State) (steps : ℕ) →
         IsLoaded us m limits input s → Completes (program_at us m limits) input steps s }
+    ensures statements { (us : List SourceUnit) (m : Map) (limits : Limits) (input : List ℕ) (s : State) (k : ℕ) (shown : Observed) (started : List Begun) →
+        IsLoaded us m limits input s → Shows s input k shown → Begins (image_places us m limits) limits.area s input k started → BeginsStatements (program_at us m limits) input k shown started }
 {
     one_observation();
     never_stuck();
     orders_follow_meaning();
     shows_the_run();
     code_follows_orders();
+    places_stand();
 }
