@@ -64,7 +64,7 @@ statement-size = fold_out-Stmt ℕ size_step
 -- ---- lists of orders
 
 begin_short : (line : ℕ) → Short (plain (begin_orders line)) 0 5
-begin_short line = plainly (begin_orders line) 5 (let z : 0 + (5 + 0) ≤ 5 = omega arith in z)
+begin_short line = plainly (begin_orders line) 5 (let z : 5 + 0 ≤ 5 = omega arith in z)
 
 kept_short : (y : Layout) (item word : ℕ) (os : List Order) (most : ℕ) → listed_sizes os ≤ most → Short (plain (item_order y item word ∷ order.Store ∷ os)) 0 (10 + most)
 kept_short y item word os most h = plainly (item_order y item word ∷ order.Store ∷ os) (10 + most) (item-store y item word os most h)

@@ -294,6 +294,7 @@ template names place (order.InBounds lower upper) = in_bounds lower upper
 template names place order.ReadByte = read_byte
 template names place order.WriteByte = coded.Whole (i86.Out 0x12) ∷ coded.Whole (i86.Pop ax) ∷ []
 template names place (order.Line n) = coded.Whole (i86.MovRm (slot line_slot) (imm.Word n)) ∷ []
+template names place (order.Start n) = coded.Whole (i86.MovRm (slot line_slot) (imm.Word n)) ∷ []
 template names place order.NextBody = coded.Move ax target.NextSegment ∷ coded.Whole (jump_to ax) ∷ []
 template names place (order.Jump mark) = jump_near (place + 3) (mark_place names mark) ∷ []
 template names place (order.JumpIf c mark) = jump_where c place (mark_place names mark)
@@ -335,7 +336,6 @@ template names place (order.GoSwitchSpecial k) =
     coded.Whole (load di (argument (k + 1))) ∷ coded.Whole (load bx (argument k)) ∷ coded.Whole (jump_to bx) ∷ []
 -- without code
 template names place order.Mark = []
-template names place (order.Start n) = coded.Whole (i86.MovRm (slot line_slot) (imm.Word n)) ∷ []
 
 -- ---- blocks
 
