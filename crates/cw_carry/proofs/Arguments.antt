@@ -213,7 +213,7 @@ module _ (c : Compiled) where
         let v : Words = record { operands = rest; memory = memory; input = input; output = output ++ byte_of z ∷ [] } in
         let less = stack_less z rest t.calls_below in
         let fits : stack_words rest t.calls_below ≤ c.room = omega (arith, less, facts.room) in
-        acts_once c t (Enter target_of.Write line wanted k) k order.WriteByte q (q + 1) l false w v stands.0 (omega arith) (omega arith) refl
+        acts_once c t (Enter target_of.Write line wanted k) k order.WriteByte q (q + 1) l false w v (λ g x. refl) stands.0 (omega arith) (omega arith) refl
         (ap (λ b. go_on b (here_in c t) q l t.calls_below w v) (le-leb (stack_words rest t.calls_below) c.room fits))
         tt
         (subst (λ x. Leads_to c t x l false k) (sym (at_end wanted stands)) carried)

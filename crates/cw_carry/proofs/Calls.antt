@@ -4,7 +4,6 @@ use Rattle.std.specs.Prelude.{slice_get, slice_index, slice_index_or, IsTrue, na
 use Rattle.std.proofs.lemmas.Bool.{le-leb}
 use Rattle.std.proofs.lemmas.Option.{none-some, same_Some, slice_get-map}
 use Rattle.cw_track.proofs.Paths.{Path, stay, next as move, join, weaken}
-use Rattle.cw_track.proofs.Simulations.{Quiet}
 use Rattle.cw_unit.specs.declared.unit.Unit.{Unit as SourceUnit}
 use Rattle.cw_unit.specs.declared.unit.Proc.{Proc}
 use Rattle.cw_unit.specs.declared.unit.Target.{Target}
@@ -24,14 +23,15 @@ use Rattle.cw_order.specs.OrderState.{OrderActivation, OrderState, at as state, 
 use Rattle.cw_order.specs.OrderActions.{action_of}
 use Rattle.cw_order.specs.OrderCosts.{weight_of, weight_at}
 use Rattle.cw_order.specs.OrderMachine.{act, carry_out, call, called, call_at, call_entry, enter, enter_with}
+use Rattle.cw_order.specs.Starting.{started_by}
 use Rattle.cw_gen_expr.specs.ReferenceExpressions.{argument_words, call_order}
 use Rattle.cw_gen_expr.specs.UnitTables.{tables_of, procedure_mark, procedure_entry}
 use Rattle.cw_carry.proofs.Standing.{Stands}
-use Rattle.cw_carry.proofs.Effects.{effect, all_silent, total_weight, total_growth, run_orders, run_through}
+use Rattle.cw_carry.proofs.Effects.{BeginsNone, effect, all_silent, total_weight, total_growth, run_orders, run_through}
 use Rattle.cw_carry.proofs.Carried.{here, after_call, going, over}
 use Rattle.cw_gen_expr.specs.ReferenceEntries.{parameters_in, parameters_of}
 use Rattle.cw_carry.proofs.Operations.{words}
-use Rattle.cw_carry.proofs.Stepping.{Compiled, source, target, B, AllCalls, Belong, Seen, IsSane, order_here}
+use Rattle.cw_carry.proofs.Stepping.{Quiet, Compiled, source, target, B, AllCalls, Belong, Seen, IsSane, order_here}
 use Rattle.cw_carry.proofs.Moments.{Moment, here_in, code, Leads_to, Steps, config, next, Facts, one_order}
 use Rattle.cw_carry.proofs.Arguments.{same_length}
 use Rattle.cw_carry.proofs.Binding.{all_bound, bind_light, bind_flat, reversed_words, reversed_back}
@@ -86,7 +86,7 @@ module _ (c : Compiled) where
   entry_is h p v proc is h' =
       ap (λ x. order_procedure_in x p) (slice_get-map (tables_of c.units) c.units h ∙ ap (option_map (tables_of c.units)) is) ∙ ap (option_map (procedure_entry v p)) h'
 
-  module _ (t : Moment c) (tg : Target) (line : ℕ) (wanted : Bool) (k : Work) (q n l : ℕ) (w : Words) (h p : ℕ) (v : SourceUnit) (proc : Proc) (o : Order) (v_is : slice_get c.units h ≡ Some v) (proc_is : slice_get v.procs p ≡ Some proc) (stands : ProcedureAt h v p proc) (call_here : slice_get (code c t) q ≡ Some o) (cheap : weight_of o ≤ 16) (some : 0 < weight_of o) (calls_it : act (target c) (action_of (target c) (here_in c t) t.calls_below o) (here_in c t) q l t.calls_below w ≡ call (target c) (Some (ProcedureControl h p)) (here_in c t) q l t.calls_below w) (goes_in : next c t (Enter tg line wanted k) w ≡ enter_step (source c) (Calling h p) t.segment line wanted (Enter tg line wanted k) k t.acts w) (same : line ≡ l) (behind : Stands (code c t) (q + 1) (after_call (target_of.Own 0) wanted) n) (carried : Leads_to c t n l false k) (facts : Facts c t (Enter tg line wanted k) w) (enough : length proc.params ≤ length w.operands) (binds : frame_top (source c) t.acts + frame_size_of (source c) h p ≤ c.limits.area → (b : OrderActivation) (j i : ℕ) (z : ℤ) (x : Words) → b.frame_base ≡ frame_top (source c) t.acts → IsTrue (c.has_words h v (Some p) i 1) → argument_behind j b.arguments ≡ Some (Word z) → effect (target c) h (b ∷ t.calls_below) (bound_order (layout_of v) j i) x ≡ Changed (with_memory x (set x.memory (item_address (source c) h i (frame_top (source c) t.acts)) z))) where
+  module _ (t : Moment c) (tg : Target) (line : ℕ) (wanted : Bool) (k : Work) (q n l : ℕ) (w : Words) (h p : ℕ) (v : SourceUnit) (proc : Proc) (o : Order) (v_is : slice_get c.units h ≡ Some v) (proc_is : slice_get v.procs p ≡ Some proc) (stands : ProcedureAt h v p proc) (call_here : slice_get (code c t) q ≡ Some o) (cheap : weight_of o ≤ 16) (some : 0 < weight_of o) (none_begins : BeginsNone o) (calls_it : act (target c) (action_of (target c) (here_in c t) t.calls_below o) (here_in c t) q l t.calls_below w ≡ call (target c) (Some (ProcedureControl h p)) (here_in c t) q l t.calls_below w) (goes_in : next c t (Enter tg line wanted k) w ≡ enter_step (source c) (Calling h p) t.segment line wanted (Enter tg line wanted k) k t.acts w) (same : line ≡ l) (behind : Stands (code c t) (q + 1) (after_call (target_of.Own 0) wanted) n) (carried : Leads_to c t n l false k) (facts : Facts c t (Enter tg line wanted k) w) (enough : length proc.params ≤ length w.operands) (binds : frame_top (source c) t.acts + frame_size_of (source c) h p ≤ c.limits.area → (b : OrderActivation) (j i : ℕ) (z : ℤ) (x : Words) → b.frame_base ≡ frame_top (source c) t.acts → IsTrue (c.has_words h v (Some p) i 1) → argument_behind j b.arguments ≡ Some (Word z) → effect (target c) h (b ∷ t.calls_below) (bound_order (layout_of v) j i) x ≡ Changed (with_memory x (set x.memory (item_address (source c) h i (frame_top (source c) t.acts)) z))) where
     arguments : ℕ
     arguments = length proc.params
 
@@ -134,7 +134,7 @@ module _ (c : Compiled) where
     -- the call
     calls_on : Path (Seen c t.segment t.acts bs t.unit t.unit_is w) (B c) (weight_of o) (state g q l bs w Running) (state h stands.entry 0 (begins ∷ bs) empty Running)
     calls_on =
-        one_order c t o q l w (state h stands.entry 0 (begins ∷ bs) empty Running) call_here
+        one_order c t o q l w (state h stands.entry 0 (begins ∷ bs) empty Running) none_begins call_here
         (calls_it ∙ ap (λ e. call_entry (target c) e h g q l bs w) (entry_is h p v proc v_is proc_is)
         ∙ ap₂ (λ a b. call_at (a && b) (place_of (target c) h (procedure_mark v p)) h begins g q l bs w) (le-leb (length proc.params) (length w.operands) enough) room
         ∙ ap (λ x. call_at true x h begins g q l bs w) placed)
@@ -143,7 +143,7 @@ module _ (c : Compiled) where
     enter_one : (b : Bound) (u : OrderState) → enter (target c) size h stands.entry 0 (begins ∷ bs) empty ≡ u → Path (Seen c t.segment t.acts bs t.unit t.unit_is w) (B c) 28 (state h stands.entry 0 (begins ∷ bs) empty Running) u
     enter_one b u e =
         let at_q = order_here c t.segment (activation b ∷ t.acts) (begins ∷ bs) v v_is stands.entry (order.Enter size) stands.enters.0 in
-        move refl (ap (λ x. carry_out (target c) x h stands.entry 0 (begins ∷ bs) empty) at_q ∙ e) (let z : 28 ≡ weight_at (Rattle.cw_order.specs.OrderProgram.order_at (target c) h stands.entry) + 0 = omega (arith, ap weight_at at_q) in z) (stay refl refl)
+        move (refl, ap (λ x. started_by x h empty) at_q) (ap (λ x. carry_out (target c) x h stands.entry 0 (begins ∷ bs) empty) at_q ∙ e) (let z : 28 ≡ weight_at (Rattle.cw_order.specs.OrderProgram.order_at (target c) h stands.entry) + 0 = omega (arith, ap weight_at at_q) in z) (stay refl refl)
 
     no_bound : Bound
     no_bound = record { memory = []; controls = [] }
@@ -156,7 +156,7 @@ module _ (c : Compiled) where
         record {
           spent = weight_of o + 28;
           reached = u;
-          path = weaken (Seen c t.segment t.acts bs t.unit t.unit_is w) (Quiet (shown (config c t now w)) (shown (next c t now w))) (B c) (weight_of o + 28) (state g q l bs w Running) u (λ x y. inl y) path;
+          path = weaken (Seen c t.segment t.acts bs t.unit t.unit_is w) (Quiet (shown (config c t now w)) (shown (next c t now w))) (B c) (weight_of o + 28) (state g q l bs w Running) u (λ x y. (inl y.0, y.1)) path;
           within = (let z : weight_of o + 28 ≤ 224 = omega (arith, cheap) in z);
           belongs = subst (λ d. Belong c d u) (sym e) (subst (λ m. Belong c (configuration t.segment now t.acts w (Stopped kind (g + 1) m)) u) (sym same) (over refl refl));
           progress = inl (let z : 0 < weight_of o + 28 = omega arith in z);
@@ -187,7 +187,7 @@ module _ (c : Compiled) where
         record {
           spent = weight_of o + (28 + weight);
           reached = u;
-          path = weaken seen (Quiet (shown (config c t now w)) (shown (next c t now w))) (B c) (weight_of o + (28 + weight)) (state g q l bs w Running) u (λ x y. inl y) path;
+          path = weaken seen (Quiet (shown (config c t now w)) (shown (next c t now w))) (B c) (weight_of o + (28 + weight)) (state g q l bs w Running) u (λ x y. (inl y.0, y.1)) path;
           within = (let z : weight_of o + (28 + weight) ≤ 224 = omega (arith, cheap, light.1, stands.few) in z);
           belongs = subst (λ d. Belong c d u) (sym e)
               (going v v_is false tt

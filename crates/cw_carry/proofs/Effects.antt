@@ -3,7 +3,9 @@ use Rattle.std.proofs.Common.{◌≡◌, ℕ, zero, suc, ◌+◌, ◌-◌, ◌*�
 use Rattle.std.specs.Prelude.{slice_get, int_le, not, IsTrue, ◌&&◌}
 use Rattle.std.proofs.lemmas.Bool.{false≢true, le-leb}
 use Rattle.cw_track.specs.Machine.{Machine}
+use Rattle.cw_track.specs.Watching.{noted}
 use Rattle.cw_track.proofs.Paths.{Path, stay, next as move}
+use Rattle.cw_track.proofs.Watching.{Unnoted}
 use Rattle.cw_unit.specs.Stop.{StopKind, AddressRange, IndexRange, Running, Stopped}
 use Rattle.cw_word.specs.FixedPoint.{fits_word, rescaled, scaled_product}
 use Rattle.cw_word.specs.BitField.{unsigned_field}
@@ -13,6 +15,7 @@ use Rattle.cw_unit.specs.Operation.{Operation, Constant, Rescale, Fetch, Store, 
 use Rattle.cw_unit.specs.declared.unit.LogicOp.TheVariants as logic
 use Rattle.cw_unit.specs.Step.{held}
 use Rattle.cw_unit.specs.Behaviour.{Observation}
+use Rattle.cw_unit.specs.Begun.{Begun}
 use Rattle.cw_order.specs.declared.order.Order.{Order}
 use Rattle.cw_order.specs.declared.order.Order.TheVariants as order
 use Rattle.cw_order.specs.OrderProgram.{OrderProgram, order_at}
@@ -21,6 +24,7 @@ use Rattle.cw_order.specs.OrderActions.{Action, Perform, Access, Alter, AlterWit
 use Rattle.cw_order.specs.OrderChanges.{bind, put_address, put_index, if_fits, if_inside}
 use Rattle.cw_order.specs.OrderCosts.{weight_of, weight_at}
 use Rattle.cw_order.specs.OrderMachine.{go_on, after, unrefused, act, carry_out, order_machine}
+use Rattle.cw_order.specs.Starting.{started_by, starts}
 use Rattle.cw_carry.proofs.Standing.{Stands}
 
 -- ---- outcomes
@@ -55,6 +59,14 @@ is_silent _ = true
 abbrev pub all_silent : List Order → Bool
 all_silent [] = true
 all_silent (o ∷ os) = is_silent o && all_silent os
+
+-- an order at which no statement begins
+abbrev pub BeginsNone : Order → Type 0
+BeginsNone o = (g : ℕ) (w : Words) → started_by (Some o) g w ≡ []
+
+begins_none : (o : Order) → IsTrue (is_silent o) → BeginsNone o
+begins_none (order.Start n) h = absurd (false≢true h)
+begins_none _ h = λ g w. refl
 
 -- by how many words an order may grow the operand stack
 abbrev pub growth : Order → ℕ
@@ -411,13 +423,18 @@ module _ (p : OrderProgram) (g : ℕ) (acts : List OrderActivation) where
   beneath xs ys n [] le = le
   beneath xs ys n (b ∷ bs) le = let l : stack_words ys (b ∷ bs) ≤ n + stack_words xs (b ∷ bs) = omega (arith, le) in l
 
-  abbrev B : Machine Observation
-  B = order_machine p
+  -- the machine of orders, where each state shows with it the statement that begins there
+  abbrev B : Machine (Observation × List Begun)
+  B = noted (order_machine p) (starts p)
 
-  abbrev Seen : Words → Observation → Type 0
-  Seen w o = o ≡ record { output = w.output; end = Running }
+  -- this is shown, and no statement begins
+  abbrev Shows : List ℕ → Observation × List Begun → Type 0
+  Shows xs = Unnoted (λ o. o ≡ record { output = xs; end = Running })
 
-  -- orders that stand at a place run on to the next one, or to a stop, and show nothing new on the way
+  abbrev Seen : Words → Observation × List Begun → Type 0
+  Seen w = Shows w.output
+
+  -- orders that stand at a place run on to the next one, or to a stop; they show nothing new on the way, and no statement begins
   abbrev pub Ran : (q next l : ℕ) → List Order → Words → Outcome → Type 0
   Ran q next l os w (Changed v) = Path (Seen w) B (total_weight os) (state g q l acts w Running) (state g next l acts v Running) × (v.output ≡ w.output)
   Ran q next l os w (Refused kind) =
@@ -425,36 +442,36 @@ module _ (p : OrderProgram) (g : ℕ) (acts : List OrderActivation) where
   Ran q next l os w Impossible = Unit {0}
 
   module _ (code : List Order) (at_code : (q : ℕ) (o : Order) → slice_get code q ≡ Some o → order_at p g q ≡ Some o) where
-    further : (o : Order) (os : List Order) (q next l : ℕ) (w v : Words) (out : Outcome) → order_at p g q ≡ Some o → B.step (state g q l acts w Running) ≡ state g (q + 1) l acts v Running → v.output ≡ w.output → Ran (q + 1) next l os v out → Ran q next l (o ∷ os) w out
-    further o os q next l w v (Changed u) h e kept (path, same) =
-        (move refl e (let z : weight_of o + total_weight os ≡ weight_at (order_at p g q) + total_weight os = omega (arith, ap weight_at h) in z) (subst (λ x. Path (λ s. s ≡ record { output = x; end = Running }) B (total_weight os) (state g (q + 1) l acts v Running) (state g next l acts u Running)) kept path), same ∙ kept)
-    further o os q next l w v (Refused kind) h e kept (n, place, u, some, le, path, same) =
-        (weight_of o + n, place, u, (let z : 0 < weight_of o + n = omega (arith, some) in z), (let z : weight_of o + n ≤ weight_of o + total_weight os = omega (arith, le) in z), move refl e (let z : weight_of o + n ≡ weight_at (order_at p g q) + n = omega (arith, ap weight_at h) in z) (subst (λ x. Path (λ s. s ≡ record { output = x; end = Running }) B n (state g (q + 1) l acts v Running) (state g place l acts u (Stopped kind (g + 1) l))) kept path), same ∙ kept)
-    further o os q next l w v Impossible h e kept ran = tt
+    further : (o : Order) (os : List Order) (q next l : ℕ) (w v : Words) (out : Outcome) → BeginsNone o → order_at p g q ≡ Some o → B.step (state g q l acts w Running) ≡ state g (q + 1) l acts v Running → v.output ≡ w.output → Ran (q + 1) next l os v out → Ran q next l (o ∷ os) w out
+    further o os q next l w v (Changed u) none h e kept (path, same) =
+        (move (refl, ap (λ x. started_by x g w) h ∙ none g w) e (let z : weight_of o + total_weight os ≡ weight_at (order_at p g q) + total_weight os = omega (arith, ap weight_at h) in z) (subst (λ x. Path (Shows x) B (total_weight os) (state g (q + 1) l acts v Running) (state g next l acts u Running)) kept path), same ∙ kept)
+    further o os q next l w v (Refused kind) none h e kept (n, place, u, some, le, path, same) =
+        (weight_of o + n, place, u, (let z : 0 < weight_of o + n = omega (arith, some) in z), (let z : weight_of o + n ≤ weight_of o + total_weight os = omega (arith, le) in z), move (refl, ap (λ x. started_by x g w) h ∙ none g w) e (let z : weight_of o + n ≡ weight_at (order_at p g q) + n = omega (arith, ap weight_at h) in z) (subst (λ x. Path (Shows x) B n (state g (q + 1) l acts v Running) (state g place l acts u (Stopped kind (g + 1) l))) kept path), same ∙ kept)
+    further o os q next l w v Impossible none h e kept ran = tt
 
-    ran_one : (o : Order) (os : List Order) (q next l : ℕ) (w : Words) (e : Outcome) → order_at p g q ≡ Some o → effect o w ≡ e → 0 < weight_of o → Fine (operand_words w.operands) w.output e → growth o + total_growth os + stack_words w.operands acts ≤ p.room → ((v : Words) → e ≡ Changed v → operand_words v.operands ≤ growth o + operand_words w.operands) → ((v : Words) → total_growth os + stack_words v.operands acts ≤ p.room → Ran (q + 1) next l os v (run_orders os v)) → Ran q next l (o ∷ os) w (then_do e (λ v. run_orders os v))
-    ran_one o os q next l w (Changed v) at_q e some (le, kept) room little rest =
+    ran_one : (o : Order) (os : List Order) (q next l : ℕ) (w : Words) (e : Outcome) → BeginsNone o → order_at p g q ≡ Some o → effect o w ≡ e → 0 < weight_of o → Fine (operand_words w.operands) w.output e → growth o + total_growth os + stack_words w.operands acts ≤ p.room → ((v : Words) → e ≡ Changed v → operand_words v.operands ≤ growth o + operand_words w.operands) → ((v : Words) → total_growth os + stack_words v.operands acts ≤ p.room → Ran (q + 1) next l os v (run_orders os v)) → Ran q next l (o ∷ os) w (then_do e (λ v. run_orders os v))
+    ran_one o os q next l w (Changed v) none at_q e some (le, kept) room little rest =
         let grown = beneath w.operands v.operands (growth o) acts (little v refl) in
         let fits : stack_words v.operands acts ≤ p.room = omega (arith, grown, room) in
-        further o os q next l w v (run_orders os v) at_q
+        further o os q next l w v (run_orders os v) none at_q
         (ap (λ x. carry_out p x g q l acts w) at_q ∙ acts_as (action_of p g acts o) q l w (subst IsPossible (sym e) tt) ∙ ap (λ x. after p.room x g q l acts w) e ∙ ap (λ b. go_on b g q l acts w v) (le-leb (stack_words v.operands acts) p.room fits))
         kept
         (rest v (let l : total_growth os + stack_words v.operands acts ≤ p.room = omega (arith, grown, room) in l))
-    ran_one o os q next l w (Refused kind) at_q e some fine room little rest = (
+    ran_one o os q next l w (Refused kind) none at_q e some fine room little rest = (
       weight_of o,
       q,
       w,
       some,
       (let z : weight_of o ≤ weight_of o + total_weight os = omega arith in z),
-      move refl (ap (λ x. carry_out p x g q l acts w) at_q ∙ acts_as (action_of p g acts o) q l w (subst IsPossible (sym e) tt) ∙ ap (λ x. after p.room x g q l acts w) e)
+      move (refl, ap (λ x. started_by x g w) at_q ∙ none g w) (ap (λ x. carry_out p x g q l acts w) at_q ∙ acts_as (action_of p g acts o) q l w (subst IsPossible (sym e) tt) ∙ ap (λ x. after p.room x g q l acts w) e)
           (let z : weight_of o ≡ weight_at (order_at p g q) + 0 = omega (arith, ap weight_at at_q) in z)
           (stay refl refl),
       refl,
     )
-    ran_one o os q next l w Impossible at_q e some fine room little rest = tt
+    ran_one o os q next l w Impossible none at_q e some fine room little rest = tt
 
     pub run_through : (os : List Order) (q next l : ℕ) (w : Words) → Stands code q os next → IsTrue (all_silent os) → total_growth os + stack_words w.operands acts ≤ p.room → Ran q next l os w (run_orders os w)
     run_through [] q next l w stands s room = (stay (ap (λ x. state g x l acts w Running) stands) refl, refl)
     run_through (o ∷ os) q next l w (h, stands) s room =
         let silent = both_true (is_silent o) (all_silent os) s in
-        ran_one o os q next l w (effect o w) (at_code q o h) refl (costs_some o silent.0) (fine_order o w silent.0) room (λ v e. grows o w v silent.0 e) (λ v small. run_through os (q + 1) next l v stands silent.1 small)
+        ran_one o os q next l w (effect o w) (begins_none o silent.0) (at_code q o h) refl (costs_some o silent.0) (fine_order o w silent.0) room (λ v e. grows o w v silent.0 e) (λ v small. run_through os (q + 1) next l v stands silent.1 small)

@@ -3,7 +3,6 @@ use Rattle.std.proofs.Common.{◌≡◌, inl, ℕ, zero, suc, ◌+◌, ◌-◌, 
 use Rattle.std.specs.Prelude.{slice_get, is_some, option_map}
 use Rattle.std.proofs.lemmas.Option.{slice_get-map}
 use Rattle.cw_track.proofs.Paths.{join, weaken}
-use Rattle.cw_track.proofs.Simulations.{Quiet}
 use Rattle.cw_unit.specs.declared.unit.Unit.{Unit as SourceUnit}
 use Rattle.cw_unit.specs.declared.unit.Proc.{Proc}
 use Rattle.cw_unit.specs.declared.unit.Label.{Label}
@@ -21,8 +20,9 @@ use Rattle.cw_order.specs.OrderActions.{action_of}
 use Rattle.cw_order.specs.OrderCosts.{weight_of}
 use Rattle.cw_order.specs.OrderMachine.{act, line_below, leave_for, dropped_by, go_to_entry, go_to}
 use Rattle.cw_gen_expr.specs.UnitTables.{tables_of, label_mark, label_entry}
+use Rattle.cw_carry.proofs.Effects.{BeginsNone}
 use Rattle.cw_carry.proofs.Carried.{Via, who_of, CarriedIn, going}
-use Rattle.cw_carry.proofs.Stepping.{Compiled, source, target, B, AllCalls, Belong, Seen, IsSane, walk}
+use Rattle.cw_carry.proofs.Stepping.{Quiet, Compiled, source, target, B, AllCalls, Belong, Seen, IsSane, walk}
 use Rattle.cw_carry.proofs.Moments.{Moment, here_in, code, Steps, config, next, one_order}
 use Rattle.cw_carry.proofs.Arguments.{same_length}
 
@@ -50,7 +50,7 @@ module _ (c : Compiled) where
   all_dropped [] = refl
   all_dropped (b ∷ bs) = all_dropped bs
 
-  module _ (t : Moment c) (reach : LabelsReach) (now : Work) (o : Order) (q l : ℕ) (w : Words) (at_q : slice_get (code c t) q ≡ Some o) (cheap : weight_of o ≤ 48) (some : 0 < weight_of o) (sane : IsSane (next c t now w)) where
+  module _ (t : Moment c) (reach : LabelsReach) (now : Work) (o : Order) (q l : ℕ) (w : Words) (at_q : slice_get (code c t) q ≡ Some o) (cheap : weight_of o ≤ 48) (some : 0 < weight_of o) (none_begins : BeginsNone o) (sane : IsSane (next c t now w)) where
     abbrev g : ℕ
     g = here_in c t
 
@@ -70,12 +70,12 @@ module _ (c : Compiled) where
         let u0 = state g q l bs w Running in
         let u1 = state (segment_of s' acts') at.place line' bs' v0 Running in
         let u2 = state (segment_of s' acts') to.0 line' bs' v0 Running in
-        let all = join seen (B c) (weight_of o) on.0 (weight_of o + on.0) u0 u1 u2 refl (one_order c t o q l w u1 at_q (f ∙ ap (λ z. state z at.place line' bs' v0 Running) (sym seg))) on.2 in
+        let all = join seen (B c) (weight_of o) on.0 (weight_of o + on.0) u0 u1 u2 refl (one_order c t o q l w u1 none_begins at_q (f ∙ ap (λ z. state z at.place line' bs' v0 Running) (sym seg))) on.2 in
         let there = subst (λ z. CarriedIn c.units c.addresses c.limits c.orders_for c.places c.has_words z v (who_of acts') to.0 line' false k) (sym seg) (subst (λ z. CarriedIn c.units c.addresses c.limits c.orders_for c.places c.has_words h v z to.0 line' false k) (sym whose) to.2) in
         record {
           spent = weight_of o + on.0;
           reached = u2;
-          path = weaken seen (Quiet (shown (config c t now w)) (shown (next c t now w))) (B c) (weight_of o + on.0) u0 u2 (λ x y. inl y) all;
+          path = weaken seen (Quiet (shown (config c t now w)) (shown (next c t now w))) (B c) (weight_of o + on.0) u0 u2 (λ x y. (inl y.0, y.1)) all;
           within = (let z : weight_of o + on.0 ≤ 224 = omega (arith, cheap, on.1) in z);
           belongs = subst (λ d. Belong c d u2) (sym e) (going v v_here false tt there calls);
           progress = inl (let z : 0 < weight_of o + on.0 = omega (arith, some) in z);

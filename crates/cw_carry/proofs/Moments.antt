@@ -15,21 +15,21 @@ use Rattle.cw_unit.specs.Configuration.{Configuration, at as configuration, Acti
 use Rattle.cw_unit.specs.Step.{after as source_after}
 use Rattle.cw_order.specs.declared.order.Order.{Order}
 use Rattle.cw_track.proofs.Paths.{Path, stay, next as move, weaken}
-use Rattle.cw_track.proofs.Simulations.{Quiet}
 use Rattle.cw_unit.specs.Behaviour.{shown}
 use Rattle.cw_order.specs.OrderProgram.{order_at}
 use Rattle.cw_order.specs.OrderState.{OrderActivation, OrderState, at as state, stack_words}
 use Rattle.cw_order.specs.OrderActions.{action_of}
 use Rattle.cw_order.specs.OrderMachine.{act, carry_out}
+use Rattle.cw_order.specs.Starting.{started_by}
 use Rattle.cw_order.specs.OrderCosts.{weight_of, weight_at}
 use Rattle.cw_order.specs.FittingWords.{WordsFit}
 use Rattle.cw_gen_expr.specs.ReferenceExpressions.{Scope, placed_by, placed_in, item_order}
 use Rattle.cw_carry.proofs.Standing.{Stands}
-use Rattle.cw_carry.proofs.Effects.{IsPossible, is_silent, all_silent, total_weight, run_orders}
+use Rattle.cw_carry.proofs.Effects.{IsPossible, BeginsNone, is_silent, all_silent, total_weight, run_orders}
 use Rattle.cw_carry.proofs.Carried.{here, Ready, who_of}
 use Rattle.cw_gen_expr.specs.ReferenceEntries.{scope_of}
 use Rattle.cw_carry.proofs.Operations.{ItemsStand}
-use Rattle.cw_carry.proofs.Stepping.{Compiled, source, target, A, B, AllCalls, work_size, Carried, Leading, From, IsSane, Seen, order_here, lands, silent, straight}
+use Rattle.cw_carry.proofs.Stepping.{Quiet, Compiled, source, target, A, B, AllCalls, work_size, Carried, Leading, From, FromNoting, IsSane, Seen, order_here, lands, silent, straight}
 
 pub both : (a b : Bool) → IsTrue (a && b) → IsTrue a × IsTrue b
 both true b h = (refl, h)
@@ -114,6 +114,9 @@ module _ (c : Compiled) where
     abbrev pub Steps : Work → (q l : ℕ) → Words → Type 0
     Steps = From c t.segment t.acts t.calls_below t.unit t.unit_is
 
+    abbrev pub StepsNoting : Work → (q l : ℕ) → Words → Type 0
+    StepsNoting = FromNoting c t.segment t.acts t.calls_below t.unit t.unit_is
+
     abbrev pub config : Work → Words → Configuration
     config k w = configuration t.segment k t.acts w Running
 
@@ -142,15 +145,15 @@ module _ (c : Compiled) where
     done_by now k line q n l os w r out same stands light facts e runs ready carried =
         straight c t.segment t.acts t.calls_below t.unit t.unit_is t.calls now k line q n l os w r same stands light.quiet light.light light.some (let z : 2 * length os + stack_words w.operands t.calls_below ≤ c.room = omega (arith, light.short, facts.room) in z) out e runs ready carried facts.sane
 
-    -- one order, whatever it does
-    pub one_order : (o : Order) (q l : ℕ) (w : Words) (u : OrderState) → slice_get code q ≡ Some o → act (target c) (action_of (target c) here_in t.calls_below o) here_in q l t.calls_below w ≡ u → Path (Seen c t.segment t.acts t.calls_below t.unit t.unit_is w) (B c) (weight_of o) (state here_in q l t.calls_below w Running) u
-    one_order o q l w u h f =
+    -- one order, whatever it does, where no statement begins
+    pub one_order : (o : Order) (q l : ℕ) (w : Words) (u : OrderState) → BeginsNone o → slice_get code q ≡ Some o → act (target c) (action_of (target c) here_in t.calls_below o) here_in q l t.calls_below w ≡ u → Path (Seen c t.segment t.acts t.calls_below t.unit t.unit_is w) (B c) (weight_of o) (state here_in q l t.calls_below w Running) u
+    one_order o q l w u none h f =
         let at_q = order_here c t.segment t.acts t.calls_below t.unit t.unit_is q o h in
-        move refl (ap (λ x. carry_out (target c) x here_in q l t.calls_below w) at_q ∙ f) (let z : weight_of o ≡ weight_at (order_at (target c) here_in q) + 0 = omega (arith, ap weight_at at_q) in z) (stay refl refl)
+        move (refl, ap (λ x. started_by x here_in w) at_q ∙ none here_in w) (ap (λ x. carry_out (target c) x here_in q l t.calls_below w) at_q ∙ f) (let z : weight_of o ≡ weight_at (order_at (target c) here_in q) + 0 = omega (arith, ap weight_at at_q) in z) (stay refl refl)
 
     -- by one order, which changes words and place
-    pub acts_once : (now k : Work) (o : Order) (q p l : ℕ) (r : Bool) (w v : Words) → slice_get code q ≡ Some o → 0 < weight_of o → weight_of o ≤ 160 → next now w ≡ configuration t.segment k t.acts v Running → act (target c) (action_of (target c) here_in t.calls_below o) here_in q l t.calls_below w ≡ state here_in p l t.calls_below v Running → Ready c.limits.area r v.operands → Leads_to p l r k → Steps now q l w
-    acts_once now k o q p l r w v h some light e f ready carried =
+    pub acts_once : (now k : Work) (o : Order) (q p l : ℕ) (r : Bool) (w v : Words) → BeginsNone o → slice_get code q ≡ Some o → 0 < weight_of o → weight_of o ≤ 160 → next now w ≡ configuration t.segment k t.acts v Running → act (target c) (action_of (target c) here_in t.calls_below o) here_in q l t.calls_below w ≡ state here_in p l t.calls_below v Running → Ready c.limits.area r v.operands → Leads_to p l r k → Steps now q l w
+    acts_once now k o q p l r w v none h some light e f ready carried =
         lands c t.segment t.acts t.calls_below t.unit t.unit_is t.calls now k q p l l r w v (weight_of o) e
-        (weaken (Seen c t.segment t.acts t.calls_below t.unit t.unit_is w) (Quiet (shown (config now w)) (shown (configuration t.segment k t.acts v Running))) (B c) (weight_of o) (state here_in q l t.calls_below w Running) (state here_in p l t.calls_below v Running) (λ x y. inl y) (one_order o q l w (state here_in p l t.calls_below v Running) h f))
+        (weaken (Seen c t.segment t.acts t.calls_below t.unit t.unit_is w) (Quiet (shown (config now w)) (shown (configuration t.segment k t.acts v Running))) (B c) (weight_of o) (state here_in q l t.calls_below w Running) (state here_in p l t.calls_below v Running) (λ x y. (inl y.0, y.1)) (one_order o q l w (state here_in p l t.calls_below v Running) none h f))
         light ready carried (inl some)

@@ -5,7 +5,7 @@ use Rattle.std.proofs.lemmas.Bool.{le-leb}
 use Rattle.std.proofs.lemmas.Bool.Decides.{nat_tests}
 use Rattle.std.proofs.lemmas.Option.{same_Some}
 use Rattle.cw_track.proofs.Paths.{Path, stay, next as move, join, weaken}
-use Rattle.cw_track.proofs.Simulations.{Quiet}
+use Rattle.cw_track.proofs.Watching.{Unnoted}
 use Rattle.cw_unit.specs.declared.unit.Unit.{Unit as SourceUnit}
 use Rattle.cw_unit.specs.declared.unit.Target.TheVariants as target_of
 use Rattle.cw_unit.specs.Stop.{Running}
@@ -14,17 +14,19 @@ use Rattle.cw_unit.specs.Work.{Work, Return, Leave}
 use Rattle.cw_unit.specs.Configuration.{at as configuration, Activation, segment_of}
 use Rattle.cw_unit.specs.Step.{handed, come_back}
 use Rattle.cw_unit.specs.Behaviour.{Observation, shown}
+use Rattle.cw_unit.specs.Begun.{Begun}
 use Rattle.cw_order.specs.declared.order.Order.{Order}
 use Rattle.cw_order.specs.declared.order.Order.TheVariants as order
 use Rattle.cw_order.specs.OrderProgram.{order_at}
 use Rattle.cw_order.specs.OrderState.{OrderActivation, OrderState, at as state, operand_words, stack_words}
 use Rattle.cw_order.specs.OrderCosts.{weight_at}
 use Rattle.cw_order.specs.OrderMachine.{go_on, carry_out, return_with}
+use Rattle.cw_order.specs.Starting.{started_by}
 use Rattle.cw_gen_expr.specs.ReferenceExpressions.{argument_words}
 use Rattle.cw_carry.proofs.Standing.{Stands}
 use Rattle.cw_carry.proofs.Carried.{after_call, going}
 use Rattle.cw_gen_expr.specs.ReferenceEntries.{parameters_of}
-use Rattle.cw_carry.proofs.Stepping.{Compiled, target, A, B, AllCalls, Belong, Goes, IsSane, order_here, walk}
+use Rattle.cw_carry.proofs.Stepping.{Quiet, Compiled, target, A, B, AllCalls, Belong, Goes, IsSane, order_here, walk}
 
 same_number : (m n : ℕ) → m ≡ n → nat_eq m n ≡ true
 same_number m n e = grind (arith, nat_tests)
@@ -33,9 +35,9 @@ module _ (c : Compiled) (s : ℕ) (a : Activation) (acts : List Activation) (b :
   abbrev code : List Order
   code = (c.orders_for u).list
 
-  -- all states on the way show the same
-  abbrev Same : Observation → Type 0
-  Same o = o ≡ record { output = w.output; end = Running }
+  -- all states on the way show the same, and no statement begins
+  abbrev Same : Observation × List Begun → Type 0
+  Same = Unnoted (λ o. o ≡ record { output = w.output; end = Running })
 
   words_are : operand_words b.arguments ≡ argument_words (parameters_of u (Some a.procedure))
   words_are =
@@ -50,7 +52,7 @@ module _ (c : Compiled) (s : ℕ) (a : Activation) (acts : List Activation) (b :
       let n = argument_words (parameters_of u (Some a.procedure)) in
       let v = with_operands w (Word z ∷ rest) in
       let at_p = order_here c s (a ∷ acts) (b ∷ bs) u unit_is p (order.Return n true) h in
-      move refl
+      move (refl, ap (λ x. started_by x a.segment v) at_p)
       (ap (λ x. carry_out (target c) x a.segment p l (b ∷ bs) v) at_p
       ∙ ap (λ t. return_with t true (Word z ∷ rest) b a.segment p l bs v) (same_number (operand_words b.arguments) n words_are)
       ∙ ap₂ (λ x y. state x b.place b.line bs (with_operands w (Word z ∷ y)) Running) calls.0.segment calls.0.operands)
@@ -65,7 +67,7 @@ module _ (c : Compiled) (s : ℕ) (a : Activation) (acts : List Activation) (b :
       let v = with_operands w (Word z ∷ a.operands) in (
         1,
         omega arith,
-        move refl
+        move (refl, ap (λ x. started_by x (segment_of s acts) v) at_q)
             (ap (λ x. carry_out (target c) x (segment_of s acts) b.place b.line bs v) at_q
             ∙ ap (λ t. go_on t (segment_of s acts) b.place b.line bs v (with_operands w a.operands)) (le-leb (stack_words a.operands bs) c.room fits)
             ∙ ap (λ x. state (segment_of s acts) x b.line bs (with_operands w a.operands) Running) stands.1)
@@ -90,7 +92,7 @@ module _ (c : Compiled) (s : ℕ) (a : Activation) (acts : List Activation) (b :
       record {
         spent = n0 + (12 + (drop_it.0 + on.0));
         reached = u4;
-        path = weaken Same (Quiet (shown (configuration s now (a ∷ acts) w Running)) (shown ((A c).step (configuration s now (a ∷ acts) w Running)))) (B c) (n0 + (12 + (drop_it.0 + on.0))) u0 u4 (λ x y. inl y) all;
+        path = weaken Same (Quiet (shown (configuration s now (a ∷ acts) w Running)) (shown ((A c).step (configuration s now (a ∷ acts) w Running)))) (B c) (n0 + (12 + (drop_it.0 + on.0))) u0 u4 (λ x y. (inl y.0, y.1)) all;
         within = (let x : n0 + (12 + (drop_it.0 + on.0)) ≤ 224 = omega (arith, few, drop_it.1, on.1) in x);
         belongs = subst (λ d. Belong c d u4) (sym e) (going calls.0.unit calls.0.unit_is false tt calls.0.carried.2 calls.1);
         progress = inl (let x : 0 < n0 + (12 + (drop_it.0 + on.0)) = omega arith in x);
@@ -109,6 +111,6 @@ module _ (c : Compiled) (s : ℕ) (a : Activation) (acts : List Activation) (b :
       let v = with_operands w (Word (pos 0) ∷ w.operands) in
       let fits : stack_words (Word (pos 0) ∷ w.operands) (b ∷ bs) ≤ c.room = omega (arith, room) in
       comes_back Leave q (q + 1) l (pos 0) w.operands 2 (omega arith)
-      (move refl (ap (λ x. carry_out (target c) x a.segment q l (b ∷ bs) w) at_q ∙ ap (λ t. go_on t a.segment q l (b ∷ bs) w v) (le-leb (stack_words (Word (pos 0) ∷ w.operands) (b ∷ bs)) c.room fits))
+      (move (refl, ap (λ x. started_by x a.segment w) at_q) (ap (λ x. carry_out (target c) x a.segment q l (b ∷ bs) w) at_q ∙ ap (λ t. go_on t a.segment q l (b ∷ bs) w v) (le-leb (stack_words (Word (pos 0) ∷ w.operands) (b ∷ bs)) c.room fits))
       (let e : 2 ≡ weight_at (order_at (target c) a.segment q) + 0 = omega (arith, ap weight_at at_q) in e) (stay refl refl))
       h refl room

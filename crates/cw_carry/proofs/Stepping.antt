@@ -4,8 +4,10 @@ use Rattle.std.specs.Prelude.{slice_get, option_map, IsTrue}
 use Rattle.std.proofs.lemmas.Option.{slice_get-map}
 use Rattle.cw_track.specs.Machine.{Machine}
 use Rattle.cw_track.specs.Tracking.{step_budget}
+use Rattle.cw_track.specs.Watching.{noted}
 use Rattle.cw_track.proofs.Paths.{Path, stay, next as move, join, weaken}
-use Rattle.cw_track.proofs.Simulations.{Quiet}
+use Rattle.cw_track.proofs.Simulations as simulation
+use Rattle.cw_track.proofs.Watching.{Unnoted, Notes, nothing}
 use Rattle.cw_unit.specs.declared.unit.Unit.{Unit as SourceUnit}
 use Rattle.cw_unit.specs.declared.unit.Stmt.{Stmt}
 use Rattle.cw_unit.specs.declared.layout.Limits.{Limits}
@@ -17,6 +19,7 @@ use Rattle.cw_unit.specs.Work.{Work, Run, Eval, Address, Do, Test, Give, Element
 use Rattle.cw_unit.specs.Configuration.{Configuration, at as configuration, Activation, segment_of}
 use Rattle.cw_unit.specs.Step.{after as source_after, step as source_step}
 use Rattle.cw_unit.specs.Behaviour.{Observation, shown}
+use Rattle.cw_unit.specs.Begun.{Begun, begins}
 use Rattle.cw_order.specs.declared.order.Order.{Order}
 use Rattle.cw_order.specs.declared.order.Order.TheVariants as order
 use Rattle.cw_order.specs.declared.order.Orders.{Orders}
@@ -24,6 +27,7 @@ use Rattle.cw_order.specs.OrderProgram.{OrderProgram, order_in, order_at, mark_i
 use Rattle.cw_order.specs.OrderState.{OrderActivation, OrderState, at as state, stack_words}
 use Rattle.cw_order.specs.OrderCosts.{weight_at}
 use Rattle.cw_order.specs.OrderMachine.{go_at, carry_out, order_machine}
+use Rattle.cw_order.specs.Starting.{started_by, starts}
 use Rattle.cw_gen_expr.specs.UnitTables.{tables_of}
 use Rattle.cw_gen_expr.specs.BuiltExpressions.{most_levels}
 use Rattle.cw_gen_expr.proofs.Layers.{expression_size, reference_size, condition_size, argument_size}
@@ -51,6 +55,10 @@ IsSane (configuration s k acts w _) = Unit {0}
 abbrev pub meaning : Program → Machine Observation
 meaning p = record { State = Configuration; step = source_step p; shown = shown; weight = λ c. step_budget }
 
+-- what may be seen during a step: what was shown before it or what is shown after it, where no statement begins
+abbrev pub Quiet : (before after : Observation) → Observation × List Begun → Type 0
+Quiet before after = Unnoted (simulation.Quiet before after)
+
 module _ (c : Compiled) where
   abbrev pub source : Program
   source = program_at c.units c.addresses c.limits
@@ -61,8 +69,12 @@ module _ (c : Compiled) where
   abbrev pub A : Machine Observation
   A = meaning source
 
-  abbrev pub B : Machine Observation
-  B = order_machine target
+  abbrev pub orders : Machine Observation
+  orders = order_machine target
+
+  -- the machine of orders, where each state shows with it the statement that begins there
+  abbrev pub B : Machine (Observation × List Begun)
+  B = noted orders (starts target)
 
   abbrev pub Belong : Configuration → OrderState → Type 0
   Belong = Together c.units c.addresses c.limits c.orders_for c.places c.has_words
@@ -84,7 +96,7 @@ module _ (c : Compiled) where
   abbrev pub rank : Configuration → ℕ
   rank (configuration s k acts w e) = work_size k
 
-  -- how the orders go on while the source makes a step
+  -- how the orders go on while the source makes a step, where no statement begins
   pub record Goes (x : Configuration) (t : OrderState) : Type 0 where
     pub spent : ℕ
     pub reached : OrderState
@@ -92,6 +104,25 @@ module _ (c : Compiled) where
     pub within : spent ≤ step_budget
     pub belongs : Belong (A.step x) reached
     pub progress : (0 < spent) ⊎ (rank (A.step x) < rank x)
+
+  -- the same where a statement may begin: the orders begin the same one
+  pub record GoesNoting (x : Configuration) (t : OrderState) : Type 0 where
+    pub spent : ℕ
+    pub reached : OrderState
+    pub notes : Notes A orders begins (starts target) x t spent reached
+    pub within : spent ≤ step_budget
+    pub belongs : Belong (A.step x) reached
+    pub progress : (0 < spent) ⊎ (rank (A.step x) < rank x)
+
+  pub quietly : {x : Configuration} {t : OrderState} → Goes x t → begins x ≡ [] → GoesNoting x t
+  quietly goes none = record {
+    spent = goes.spent;
+    reached = goes.reached;
+    notes = nothing none goes.path;
+    within = goes.within;
+    belongs = goes.belongs;
+    progress = goes.progress;
+  }
 
   module _ (s : ℕ) (acts : List Activation) (bs : List OrderActivation) (u : SourceUnit) (unit_is : slice_get c.units (segment_of s acts) ≡ Some u) where
     abbrev pub g : ℕ
@@ -112,14 +143,18 @@ module _ (c : Compiled) where
     abbrev pub From : Work → (q l : ℕ) → Words → Type 0
     From k q l w = Goes (configuration s k acts w Running) (state g q l bs w Running)
 
+    abbrev pub FromNoting : Work → (q l : ℕ) → Words → Type 0
+    FromNoting k q l w = GoesNoting (configuration s k acts w Running) (state g q l bs w Running)
+
     pub order_here : (q : ℕ) (o : Order) → slice_get code q ≡ Some o → order_at target g q ≡ Some o
     order_here q o h = ap (λ v. order_in v q) (slice_get-map c.orders_for c.units g ∙ ap (option_map c.orders_for) unit_is) ∙ h
 
     pub mark_here : (mark to : ℕ) → slice_get marks mark ≡ Some to → place_of target g mark ≡ Some to
     mark_here mark to h = ap (λ v. mark_in v mark) (slice_get-map c.orders_for c.units g ∙ ap (option_map c.orders_for) unit_is) ∙ h
 
-    abbrev pub Seen : Words → Observation → Type 0
-    Seen w o = o ≡ record { output = w.output; end = Running }
+    -- the output so far is shown, and no statement begins
+    abbrev pub Seen : Words → Observation × List Begun → Type 0
+    Seen w = Unnoted (λ o. o ≡ record { output = w.output; end = Running })
 
     -- a way over marks and jumps
     pub walk : (n p q l : ℕ) (w : Words) → Leads code marks n p q → (j : ℕ) × (j ≤ n) × Path (Seen w) B j (state g p l bs w Running) (state g q l bs w Running)
@@ -127,11 +162,11 @@ module _ (c : Compiled) where
     walk n p q l w (past h way) =
         let rest = walk n (p + 1) q l w way in
         let at_p = order_here p order.Mark h in
-        (rest.0, rest.1, move refl (ap (λ x. carry_out target x g p l bs w) at_p) (let z : rest.0 ≡ weight_at (order_at target g p) + rest.0 = omega (arith, ap weight_at at_p) in z) rest.2)
+        (rest.0, rest.1, move (refl, ap (λ x. started_by x g w) at_p) (ap (λ x. carry_out target x g p l bs w) at_p) (let z : rest.0 ≡ weight_at (order_at target g p) + rest.0 = omega (arith, ap weight_at at_p) in z) rest.2)
     walk n p q l w (leap {n' = n'} {r = r} {m = mark} h t e way) =
         let rest = walk n' r q l w way in
         let at_p = order_here p (order.Jump mark) h in
-        (suc rest.0, (let z : suc rest.0 ≤ n = omega (arith, rest.1, e) in z), move refl (ap (λ x. carry_out target x g p l bs w) at_p ∙ ap (λ o. go_at o g p l bs w w) (mark_here mark r t)) (let z : suc rest.0 ≡ weight_at (order_at target g p) + rest.0 = omega (arith, ap weight_at at_p) in z) rest.2)
+        (suc rest.0, (let z : suc rest.0 ≤ n = omega (arith, rest.1, e) in z), move (refl, ap (λ x. started_by x g w) at_p) (ap (λ x. carry_out target x g p l bs w) at_p ∙ ap (λ o. go_at o g p l bs w w) (mark_here mark r t)) (let z : suc rest.0 ≡ weight_at (order_at target g p) + rest.0 = omega (arith, ap weight_at at_p) in z) rest.2)
 
     module _ (calls : AllCalls s acts bs) where
       -- behind some orders, which show nothing new, or what the source shows after its step, the way goes on to what carries out the work
@@ -140,7 +175,7 @@ module _ (c : Compiled) where
           let on = walk most_levels p x l' v way in
           let before = shown (configuration s now acts w Running) in
           let behind = shown (configuration s k acts v Running) in
-          let all = join (Quiet before behind) B spent on.0 (spent + on.0) (state g q l bs w Running) (state g p l' bs v Running) (state g x l' bs v Running) refl path (weaken (Seen v) (Quiet before behind) B on.0 (state g p l' bs v Running) (state g x l' bs v Running) (λ o h. inr h) on.2) in
+          let all = join (Quiet before behind) B spent on.0 (spent + on.0) (state g q l bs w Running) (state g p l' bs v Running) (state g x l' bs v Running) refl path (weaken (Seen v) (Quiet before behind) B on.0 (state g p l' bs v Running) (state g x l' bs v Running) (λ o h. (inr h.0, h.1)) on.2) in
           record {
             spent = spent + on.0;
             reached = state g x l' bs v Running;
@@ -162,7 +197,7 @@ module _ (c : Compiled) where
           record {
             spent = spent;
             reached = t;
-            path = weaken (Seen w) (Quiet before (shown (A.step (configuration s now acts w Running)))) B spent (state g q l bs w Running) t (λ o h. inl h) path;
+            path = weaken (Seen w) (Quiet before (shown (A.step (configuration s now acts w Running)))) B spent (state g q l bs w Running) t (λ o h. (inl h.0, h.1)) path;
             within = le;
             belongs = subst (λ d. Belong d t) (sym e) (over refl same);
             progress = inl some;
@@ -172,7 +207,7 @@ module _ (c : Compiled) where
       module _ (now k : Work) (line q next l : ℕ) (os : List Order) (w : Words) (r : Bool) (same : line ≡ l) (stands : Stands code q os next) (quiet : IsTrue (all_silent os)) (light : total_weight os ≤ 160) (some : 0 < total_weight os) (roomy : 2 * length os + stack_words w.operands bs ≤ c.room) where
         did : (out : Outcome) → A.step (configuration s now acts w Running) ≡ source_after out s line now k acts w → Ran target g bs q next l os w out → ((v : Words) → out ≡ Changed v → Ready c.limits.area r v.operands) → Leading next l r k → IsSane (A.step (configuration s now acts w Running)) → From now q l w
         did (Changed v) e (path, kept) ready carried sane =
-            lands now k q next l l r w v (total_weight os) e (weaken (Seen w) (Quiet (shown (configuration s now acts w Running)) (shown (configuration s k acts v Running))) B (total_weight os) (state g q l bs w Running) (state g next l bs v Running) (λ o h. inl h) path) light (ready v refl) carried (inl some)
+            lands now k q next l l r w v (total_weight os) e (weaken (Seen w) (Quiet (shown (configuration s now acts w Running)) (shown (configuration s k acts v Running))) B (total_weight os) (state g q l bs w Running) (state g next l bs v Running) (λ o h. (inl h.0, h.1)) path) light (ready v refl) carried (inl some)
         did (Refused kind) e (n, place, v, positive, le, path, kept) ready carried sane =
             stops now q place l w v kind line n e
             (subst (λ x. Path (Seen w) B n (state g q l bs w Running) (state g place l bs v (Stopped kind (g + 1) x))) (sym same) path)

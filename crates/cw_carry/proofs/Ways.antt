@@ -22,6 +22,7 @@ use Rattle.cw_order.specs.OrderActions.{action_of}
 use Rattle.cw_order.specs.OrderCosts.{weight_of}
 use Rattle.cw_order.specs.OrderMachine.{act, line_below, go_at, leave_for, go_to, go_to_goal, go_by_list, go_through}
 use Rattle.cw_gen_expr.specs.UnitTables.{tables_of, label_mark}
+use Rattle.cw_carry.proofs.Effects.{BeginsNone}
 use Rattle.cw_carry.proofs.Carried.{who_of}
 use Rattle.cw_carry.proofs.Stepping.{Compiled, source, target, IsSane, stops}
 use Rattle.cw_carry.proofs.Moments.{Moment, here_in, code, Steps, next, one_order}
@@ -60,7 +61,7 @@ module _ (c : Compiled) where
     pub clean : (g : Goal) → d ≡ dest.Goal g → w.operands ≡ []
     pub owned : (h label owner : ℕ) → Names s acts d h label owner → Owned s acts h label owner
 
-  module _ (t : Moment c) (reach : LabelsReach c) (now : Work) (o : Order) (q l line : ℕ) (w : Words) (at_q : slice_get (code c t) q ≡ Some o) (cheap : weight_of o ≤ 48) (some : 0 < weight_of o) (same : line ≡ l) (sane : IsSane (next c t now w)) where
+  module _ (t : Moment c) (reach : LabelsReach c) (now : Work) (o : Order) (q l line : ℕ) (w : Words) (at_q : slice_get (code c t) q ≡ Some o) (cheap : weight_of o ≤ 48) (some : 0 < weight_of o) (none_begins : BeginsNone o) (same : line ≡ l) (sane : IsSane (next c t now w)) where
     abbrev g : ℕ
     g = here_in c t
 
@@ -74,7 +75,7 @@ module _ (c : Compiled) where
     by_label : (owner : ℕ) (x : Option (ℕ × ℕ)) → next c t now w ≡ jump_to (source c) x owner t.segment now t.acts w → act (target c) (action_of (target c) g bs o) g q l bs w ≡ go_to (target c) (with_label_owner owner x) g q l bs w → ((h label : ℕ) → x ≡ Some (h, label) → Owned t.segment t.acts h label owner) → Steps c t now q l w
     by_label owner None e f owned = lost e
     by_label owner (Some (h, label)) e f owned =
-        label_follows c t reach now o q l w at_q cheap some sane h label owner e (owned h label refl) (by_control c t reach now o q l w at_q cheap some sane h label owner e (owned h label refl) f)
+        label_follows c t reach now o q l w at_q cheap some none_begins sane h label owner e (owned h label refl) (by_control c t reach now o q l w at_q cheap some none_begins sane h label owner e (owned h label refl) f)
 
     pub label_control : (x : Option Control) → next c t now w ≡ jump_to_control (source c) x t.segment now t.acts w → act (target c) (action_of (target c) g bs o) g q l bs w ≡ go_to (target c) x g q l bs w → ((h label owner : ℕ) → x ≡ Some (LabelControl h label owner) → Owned t.segment t.acts h label owner) → Steps c t now q l w
     label_control None e f owned = lost e
@@ -87,7 +88,7 @@ module _ (c : Compiled) where
       by_goal : (v : SourceUnit) (gs : List Goal) (z : ℤ) → slice_get c.units h0 ≡ Some v → switch_in (slice_get c.units h0) n0 ≡ Some gs → (x : Option Goal) → goal_at gs z ≡ x → next c t now w ≡ jump_to_goal (source c) x h0 owner t.segment line now t.acts w → act (target c) (action_of (target c) g bs o) g q l bs w ≡ go_to_goal (target c) x h0 owner g q l bs w → Steps c t now q l w
       by_goal v gs z v_is gs_is None x_is e' f' =
           stops c t.segment t.acts bs t.unit t.unit_is t.calls now q q l w w SwitchRange line (weight_of o) e'
-          (one_order c t o q l w (state g q l bs w (Stopped SwitchRange (g + 1) line)) at_q (f' ∙ ap (λ m. state g q l bs w (Stopped SwitchRange (g + 1) m)) (sym same)))
+          (one_order c t o q l w (state g q l bs w (Stopped SwitchRange (g + 1) line)) none_begins at_q (f' ∙ ap (λ m. state g q l bs w (Stopped SwitchRange (g + 1) m)) (sym same)))
           refl (let y : weight_of o ≤ 224 = omega (arith, cheap) in y) some
       by_goal v gs z v_is gs_is (Some x) x_is e' f' =
           by_label owner (label_of_goal (source c) h0 x) e' (f' ∙ ap (λ y. go_to (target c) (with_label_owner owner y) g q l bs w) (label_is h0 v v_is x)) (λ h label is. owned gs x z h label gs_is x_is is)
@@ -115,10 +116,10 @@ module _ (c : Compiled) where
     -- a plain jump stays in the body, with nothing in hand
     pub plain_jump : (label : ℕ) → o ≡ order.Jump (label_mark t.unit label) → w.operands ≡ [] → next c t now w ≡ jump_to (source c) (Some (g, label)) (length t.acts) t.segment now t.acts w → Owned t.segment t.acts g label (length t.acts) → ((v : SourceUnit) (m : Label) → slice_get c.units g ≡ Some v → slice_get v.labels label ≡ Some m → m.proc ≡ None → bs ≡ []) → Steps c t now q l w
     plain_jump label is empty e owned alone =
-        label_follows c t reach now o q l w at_q cheap some sane g label (length t.acts) e owned
+        label_follows c t reach now o q l w at_q cheap some none_begins sane g label (length t.acts) e owned
         (record {
-          to_body = λ v m k v_is m_is none at. (l, by_mark v (λ z. z) v_is at.place (marked c t reach now o q l w at_q cheap some sane g label v None k v_is at) ∙ ap (λ x. state g at.place l x w Running) (alone v m v_is m_is none) ∙ ap (λ x. state g at.place l [] x Running) no_hand);
-          to_procedure = λ v m p k v_is m_is own at. (l, by_mark v (λ z. z) v_is at.place (marked c t reach now o q l w at_q cheap some sane g label v (Some p) k v_is at) ∙ ap (λ x. state g at.place l x w Running) none_dropped ∙ ap (λ x. state g at.place l (drop (length bs - length t.acts) bs) x Running) no_hand);
+          to_body = λ v m k v_is m_is none at. (l, by_mark v (λ z. z) v_is at.place (marked c t reach now o q l w at_q cheap some none_begins sane g label v None k v_is at) ∙ ap (λ x. state g at.place l x w Running) (alone v m v_is m_is none) ∙ ap (λ x. state g at.place l [] x Running) no_hand);
+          to_procedure = λ v m p k v_is m_is own at. (l, by_mark v (λ z. z) v_is at.place (marked c t reach now o q l w at_q cheap some none_begins sane g label v (Some p) k v_is at) ∙ ap (λ x. state g at.place l x w Running) none_dropped ∙ ap (λ x. state g at.place l (drop (length bs - length t.acts) bs) x Running) no_hand);
         })
       where
         no_hand : w ≡ with_operands w []
@@ -139,9 +140,9 @@ module _ (c : Compiled) where
     -- a label of the segment's body is left for from a procedure
     pub main_jump : (label : ℕ) → o ≡ order.GoMain (label_mark t.unit label) → next c t now w ≡ jump_to (source c) (Some (g, label)) (length t.acts) t.segment now t.acts w → Owned t.segment t.acts g label (length t.acts) → ((v : SourceUnit) (m : Label) (p : ℕ) → slice_get c.units g ≡ Some v → slice_get v.labels label ≡ Some m → m.proc ≡ Some p → ⊥) → Steps c t now q l w
     main_jump label is e owned never =
-        label_follows c t reach now o q l w at_q cheap some sane g label (length t.acts) e owned
+        label_follows c t reach now o q l w at_q cheap some none_begins sane g label (length t.acts) e owned
         (record {
-          to_body = λ v m k v_is m_is none at. (line_below (length bs) l bs, by_mark v v_is at.place (marked c t reach now o q l w at_q cheap some sane g label v None k v_is at) ∙ ap (λ x. state g at.place (line_below (length bs) l bs) x (with_operands w []) Running) (all_dropped c bs));
+          to_body = λ v m k v_is m_is none at. (line_below (length bs) l bs, by_mark v v_is at.place (marked c t reach now o q l w at_q cheap some none_begins sane g label v None k v_is at) ∙ ap (λ x. state g at.place (line_below (length bs) l bs) x (with_operands w []) Running) (all_dropped c bs));
           to_procedure = λ v m p k v_is m_is own at. absurd (never v m p v_is m_is own);
         })
       where
