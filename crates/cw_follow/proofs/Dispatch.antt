@@ -3,8 +3,9 @@ use Rattle.std.proofs.Common.{◌≡◌, inl, inr, ℕ, zero, suc, ◌+◌, ◌-
 use Rattle.cw_order.specs.Starting.{starts, started_by}
 use Rattle.std.specs.Prelude.{slice_get, slice_index, nat_le, ◌==◌, bit_and, bit_or, bit_xor}
 use Rattle.cw_run86.specs.Processor.{Processor, processor_machine, processor_step, observed}
-use Rattle.cw_track.proofs.Paths.{stay, weaken}
-use Rattle.cw_track.proofs.Watching.{Unnoted, nothing, same, FollowedNoting, SimulationNoting}
+use Rattle.cw_track.specs.Watching.{watched}
+use Rattle.cw_track.proofs.Paths.{Path, stay, weaken}
+use Rattle.cw_track.proofs.Watching.{Unnoted, unnoted, nothing, same, FollowedNoting, SimulationNoting}
 use Rattle.cw_i86.specs.declared.instr.Instr.TheVariants as i86
 use Rattle.cw_i86.specs.declared.instr.Imm.TheVariants as imm
 use Rattle.cw_i86.specs.MachineRun.{End}
@@ -39,12 +40,12 @@ use Rattle.cw_follow.specs.Showing.{shown_as}
 use Rattle.cw_follow.specs.Placing.{base_of}
 use Rattle.cw_tmpl.proofs.Sizes.{own_place, jump_arrives}
 use Rattle.cw_follow.proofs.Standing.{order_place}
-use Rattle.cw_follow.proofs.Chains.{below, shows}
+use Rattle.cw_follow.proofs.Chains.{Leads, at_work as works, below, shows}
 use Rattle.cw_follow.proofs.Orders.{line_set, sets_line, writes, adds, subtracts, negates, loads, stores, jumps, chooses}
 use Rattle.cw_follow.proofs.States.{Given, Sound, Matches, left}
 use Rattle.std.proofs.lemmas.Bool.{true≢false, false≢true}
 use Rattle.cw_track.proofs.Simulations.{Quiet}
-use Rattle.cw_unit.specs.Behaviour.{is_running}
+use Rattle.cw_unit.specs.Behaviour.{Observation, is_running}
 use Rattle.cw_follow.proofs.InBlocks.{Shape, shape, order_of, slice_drop}
 use Rattle.cw_follow.proofs.Straight.{Both, Either, One}
 use Rattle.cw_follow.proofs.Bits.{drops, combines, differs, ands, ors, xors, lesses, takes, loads_signed, loads_unsigned, stores_part}
@@ -365,3 +366,15 @@ module _ (known : Given) where
 
   pub simulates : SimulationNoting is_running (order_machine p) (processor_machine shown_as) (starts p) (passes places p.limits.area) MatchesWatched (left p)
   simulates = record { agrees = agrees; rests = rests; idle = idle; follows = follows }
+
+  -- a way to a state that matches, on which nothing is noted, as one of the machine that is watched
+  pub watched_way : {output : List ℕ} {n : ℕ} (q : Processor) (s : OrderState) → Leads output n (watch q) (Matches p image s)
+      → (r : Processor) × Path (λ o. o ≡ works output) (watched (processor_machine shown_as) (passes places p.limits.area)) n (q, []) (r, []) × MatchesWatched s r
+  watched_way {output} {n} q s l =
+      let shown : Observation = record { output = output; end = Running } in
+      let silent = matched_silent s l.reached l.there in (
+        l.reached.processor,
+        unnoted (λ o. o ≡ shown) (λ o. o ≡ works output) (processor_machine shown_as) (passes places p.limits.area) [] (λ o e. ap (λ x. (x, [])) e) n q l.reached.processor
+            (unwatched (λ o. o ≡ shown) n (watch q) l.reached (weaken (λ o. o ≡ works output) (Unnoted (λ o. o ≡ shown)) watched_machine n (watch q) l.reached (λ o e. (ap (λ x. x.0) e, ap (λ x. x.1) e)) l.path) silent),
+        subst (Matches p image s) (still_fresh (λ o. o ≡ works output) n (watch q) l.reached l.path silent) l.there,
+      )

@@ -6,9 +6,8 @@ use Rattle.std.proofs.lemmas.List.{get_or_default}
 use Rattle.std.proofs.lemmas.List.Elements.{All-head, All-nil, All-tail}
 use Rattle.cw_track.specs.Tracking.{TracksAfter}
 use Rattle.cw_track.specs.Watching.{watched}
-use Rattle.cw_track.proofs.Paths.{weaken}
 use Rattle.cw_track.proofs.Simulations.{tracks}
-use Rattle.cw_track.proofs.Watching.{Unnoted, unnoted, simulation_watched}
+use Rattle.cw_track.proofs.Watching.{simulation_watched}
 use Rattle.cw_track.proofs.Budgets.{starts_up}
 use Rattle.cw_i86.specs.State.{State}
 use Rattle.cw_i86.specs.MachineRun.{IsStart}
@@ -18,7 +17,7 @@ use Rattle.cw_word.specs.FixedPoint.{FitsWord}
 use Rattle.cw_word.specs.Word.{unsigned}
 use Rattle.cw_follow.proofs.WordLaws.{WordLaws}
 use Rattle.cw_unit.specs.Stop.{Running, Stuck}
-use Rattle.cw_unit.specs.Behaviour.{Observation, is_running}
+use Rattle.cw_unit.specs.Behaviour.{is_running}
 use Rattle.cw_unit.specs.Words.{Words, word_at}
 use Rattle.cw_order.specs.declared.order.Orders.{Orders}
 use Rattle.cw_order.specs.OrderProgram.{OrderProgram, order_in}
@@ -32,12 +31,12 @@ use Rattle.cw_follow.specs.Passing.{passes, PlacesStand}
 use Rattle.cw_follow.specs.Placing.{IsImage, Codable, BeginsWith, NeverStuck, startup_cost, base_of}
 use Rattle.cw_follow.proofs.Standing.{order_place, AllStand}
 use Rattle.cw_follow.proofs.Rows.{Rows}
-use Rattle.cw_follow.proofs.Watched.{Watched, watched_machine, unwatched, still_fresh}
-use Rattle.cw_follow.proofs.Chains.{Is, at_work, Leads, view, seen, near, more}
+use Rattle.cw_follow.proofs.Watched.{Watched}
+use Rattle.cw_follow.proofs.Chains.{Is, Leads, view, seen, near, more}
 use Rattle.cw_follow.proofs.Routines.{Begun, enters, leads_on}
 use Rattle.cw_order.specs.Activations.{OperandStands}
 use Rattle.cw_follow.proofs.States.{Given, Sound, left, not_stuck, never_on}
-use Rattle.cw_follow.proofs.Dispatch.{watch, MatchesWatched, simulates}
+use Rattle.cw_follow.proofs.Dispatch.{watch, MatchesWatched, simulates, watched_way}
 
 -- ---- the start
 
@@ -119,13 +118,8 @@ following rows p image words memory input s places all is stand coded begins nev
         more rows {to = base_of p 0} {w = view 0 0 0 0 0 0 0 0 false (slice_index words) (λ k. 0) input nothing_told} from refl (seen base_is refl (near rows 367 all.library.0 from)) (λ q t.
         leads_on at_entry
         (enters rows p 0 su.next_place su.value (base_of p 0) 0 0 0 0 0 0 0 32767 false (slice_index words) (λ k. 0) input nothing_told all.library su.fills su.entry (lit< tt) (lit< tt) area coded.frames coded.depth 0 refl t)) in
-        let silent = way.there.landed.stacked.is.silent in
-        let there = subst (Sound p image 0 first 0 [] begun) (still_fresh (λ o. o ≡ at_work []) 20 begin way.reached way.path silent) way.there in
+        let start = watched_way known (processor_start s input) (at 0 first 0 [] begun Running) (leads_on (λ q m. inl m) way) in
         let A = watched (order_machine p) (starts p) in
         let B = watched (processor_machine shown_as) (passes places p.limits.area) in
-        let shows : Observation = record { output = []; end = Running } in
-        let path =
-        unnoted (λ o. o ≡ shows) (λ o. o ≡ at_work []) (processor_machine shown_as) (passes places p.limits.area) [] (λ o e. ap (λ x. (x, [])) e) 20 (processor_start s input) way.reached.processor
-        (unwatched (λ o. o ≡ shows) 20 begin way.reached (weaken (λ o. o ≡ at_work []) (Unnoted (λ o. o ≡ shows)) watched_machine 20 begin way.reached (λ o e. (ap (λ x. x.0) e, ap (λ x. x.1) e)) way.path) silent) in
-        starts_up (λ o. is_running o.0) A B (order_start p memory input, []) 0 20 20 (processor_start s input, []) (way.reached.processor, []) refl path
-        (tracks (λ o. is_running o.0) A B _ _ (simulation_watched is_running (order_machine p) (processor_machine shown_as) (starts p) (passes places p.limits.area) (MatchesWatched known) (left p) (simulates known)) (order_start p memory input, []) (way.reached.processor, []) (inl there, refl))
+        starts_up (λ o. is_running o.0) A B (order_start p memory input, []) 0 20 20 (processor_start s input, []) (start.0, []) refl start.1
+        (tracks (λ o. is_running o.0) A B _ _ (simulation_watched is_running (order_machine p) (processor_machine shown_as) (starts p) (passes places p.limits.area) (MatchesWatched known) (left p) (simulates known)) (order_start p memory input, []) (start.0, []) (start.2, refl))

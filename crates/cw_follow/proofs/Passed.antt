@@ -1,16 +1,14 @@
 -- What the observer of the processor notes at a Start.
-use Rattle.std.proofs.Common.{◌≡◌, ℕ, zero, suc, ◌+◌, ◌*◌, ◌%◌, ◌<◌, ◌≤◌, ℤ, pos, List, [], ◌∷◌, length, Some, refl, sym, ap, ap₂, ◌∙◌, arith, lit<}
+use Rattle.std.proofs.Common.{◌≡◌, ℕ, suc, ◌+◌, ◌*◌, ◌%◌, ◌<◌, ◌≤◌, ℤ, List, [], ◌∷◌, length, Some, refl, sym, ap, ap₂, ◌∙◌, arith}
 use Rattle.std.specs.Prelude.{map, slice_get, slice_index}
 use Rattle.std.specs.List.{All}
 use Rattle.std.proofs.lemmas.List.Elements.{All-head, All-tail}
 use Rattle.std.proofs.lemmas.Option.{slice_get_within}
 use Rattle.cw_i86.specs.State.{State, data_segment, word_at as word_in}
-use Rattle.cw_i86.specs.MachineRun.{End, Running}
-use Rattle.cw_image.specs.Begun.{StatementPlace, lines_at, data_words}
-use Rattle.cw_run86.specs.Processor.{Processor}
+use Rattle.cw_i86.specs.MachineRun.{End}
+use Rattle.cw_image.specs.Begun.{lines_at, data_words}
 use Rattle.cw_word.specs.FixedPoint.{FitsWord}
 use Rattle.cw_word.specs.Word.{signed, unsigned}
-use Rattle.cw_unit.specs.Begun.{Begun}
 use Rattle.cw_unit.specs.Words.{Words, word_at}
 use Rattle.cw_order.specs.declared.order.Order.{Order}
 use Rattle.cw_order.specs.OrderState.{OrderActivation}
