@@ -1,14 +1,16 @@
 -- The statements that the processor begins in the image of a program of orders.
-use Rattle.std.specs.Prelude.{◌≡◌, ℕ, ◌+◌, ℤ, Bool, true, false, List, [], ◌∷◌, ◌++◌, map, Some, slice_get}
+use Rattle.std.specs.Prelude.{◌≡◌, ℕ, ◌+◌, ◌<◌, ℤ, Bool, true, false, List, [], ◌∷◌, ◌++◌, length, map, Some, slice_get, slice_index}
 use Rattle.cw_i86.specs.declared.instr.Instr.{Instr}
-use Rattle.cw_i86.specs.declared.instr.Instr.TheVariants.{MovRm}
+use Rattle.cw_i86.specs.declared.instr.Instr.TheVariants as i86
 use Rattle.cw_i86.specs.MachineRun.{End, Running}
 use Rattle.cw_image.specs.Begun.{StatementPlace, lines_at, beginning}
 use Rattle.cw_run86.specs.Processor.{Processor}
+use Rattle.cw_run86.specs.Views.{Has}
 use Rattle.cw_order.specs.declared.order.Order.TheVariants as order
 use Rattle.cw_order.specs.declared.order.Orders.{Orders}
 use Rattle.cw_order.specs.OrderProgram.{OrderProgram}
-use Rattle.cw_tmpl.specs.ReferenceCode.{orders_code}
+use Rattle.cw_tmpl.specs.Library.{library_bytes}
+use Rattle.cw_tmpl.specs.ReferenceCode.{order_places, orders_code}
 use Rattle.cw_follow.specs.Placing.{base_of}
 
 -- at a processor that has halted, nothing begins
@@ -31,3 +33,19 @@ module _ (p : OrderProgram) where
   -- those of all segments
   abbrev pub statement_places : List StatementPlace
   statement_places = places_from 0 p.units
+
+-- the instruction stores a number, as that of a Line or a Start does, and of all others only the one of the library that begins a record
+abbrev pub stores_number : Instr → Bool
+stores_number (i86.MovRm rm imm) = true
+stores_number _ = false
+
+-- at no place of the library does a statement begin, and at no place of the code where an instruction stands that stores no number
+pub record Ignores (image : List ℕ) (places : List StatementPlace) : Type 0 where
+  pub library : (place : ℕ) → place < length library_bytes → lines_at places place ≡ []
+  pub others : (place : ℕ) (i : Instr) → Has image place i → stores_number i ≡ false → lines_at places place ≡ []
+
+-- the list of places is one of the image: where the code of a Start is its statement begins, and nowhere else does any
+pub record PlacesStand (p : OrderProgram) (image : List ℕ) (places : List StatementPlace) : Type 0 where
+  pub starts : (g k line : ℕ) (o : Orders) → slice_get p.units g ≡ Some o → slice_get o.list k ≡ Some (order.Start line) → lines_at places (base_of p g + slice_index (order_places o.list) k) ≡ (g + 1, line) ∷ []
+  pub lines : (g k line : ℕ) (o : Orders) → slice_get p.units g ≡ Some o → slice_get o.list k ≡ Some (order.Line line) → lines_at places (base_of p g + slice_index (order_places o.list) k) ≡ []
+  pub ignores : Ignores image places
