@@ -4,7 +4,7 @@ use Rattle.std.specs.Prelude.{slice_get, nat_eq}
 use borrow.Author.Tests.{eqb-true}
 use Rattle.cw_i86.specs.declared.instr.Instr.TheVariants as i86
 use Rattle.cw_i86.specs.declared.instr.Imm.TheVariants as imm
-use Rattle.cw_run86.specs.Processor.{Processor}
+use Rattle.cw_follow.proofs.Watched.{Watched}
 use Rattle.cw_run86.specs.Views.{Has}
 use Rattle.cw_word.specs.Word.{signed}
 use Rattle.cw_unit.specs.Stop.{Running}
@@ -32,7 +32,7 @@ module _ (known : Given) where
 
   -- ---- in an activation
 
-  pub comes_back_false : {q : Processor} {g place line : ℕ} {a : OrderActivation} {acts : List OrderActivation} {w : Words} (s : Sound p image g place line (a ∷ acts) w q) (by_itself : Alone p image g place line (a ∷ acts) w q s.orders.list) (n : ℕ) → slice_get s.orders.list place ≡ Some (order.Return n false)
+  pub comes_back_false : {q : Watched} {g place line : ℕ} {a : OrderActivation} {acts : List OrderActivation} {w : Words} (s : Sound p image g place line (a ∷ acts) w q) (by_itself : Alone p image g place line (a ∷ acts) w q s.orders.list) (n : ℕ) → slice_get s.orders.list place ≡ Some (order.Return n false)
       → (b : Bool) → nat_eq (operand_words a.arguments) n ≡ b → Follow known (at g place line (a ∷ acts) w Running) q
   comes_back_false {q} {g} {place} {line} {a} {acts} {w} s by_itself n e false is = absurd (stuck_here known s (step_is known s (Some (order.Return n false)) e ∙ ap (λ b. return_with b false w.operands a g place line acts w) is))
   comes_back_false {q} {g} {place} {line} {a} {acts} {w} s by_itself n e true is =
@@ -46,7 +46,7 @@ module _ (known : Given) where
       (onward known (λ r l. inl (sound_in known s by_itself a.segment a.place a.line acts (with_operands w a.operands) r u.orders u.unit (s.comes_back.0 u.orders u.unit) goes s.working.5 s.comes_back.1 l))
       (returns rows p image g line a acts n w.memory w.input w.output to w.operands (eqb-true (operand_words a.arguments) n is) small there (code known s by_itself (order.Return n false) e) by_itself.landed))
 
-  pub comes_back_true : {q : Processor} {g place line : ℕ} {a : OrderActivation} {acts : List OrderActivation} (operands : List Operand) (w : Words) → w.operands ≡ operands → (s : Sound p image g place line (a ∷ acts) w q) (by_itself : Alone p image g place line (a ∷ acts) w q s.orders.list) (n : ℕ) → slice_get s.orders.list place ≡ Some (order.Return n true)
+  pub comes_back_true : {q : Watched} {g place line : ℕ} {a : OrderActivation} {acts : List OrderActivation} (operands : List Operand) (w : Words) → w.operands ≡ operands → (s : Sound p image g place line (a ∷ acts) w q) (by_itself : Alone p image g place line (a ∷ acts) w q s.orders.list) (n : ℕ) → slice_get s.orders.list place ≡ Some (order.Return n true)
       → (b : Bool) → nat_eq (operand_words a.arguments) n ≡ b → Follow known (at g place line (a ∷ acts) w Running) q
   comes_back_true {q} {g} {place} {line} {a} {acts} operands w same s by_itself n e false is = absurd (stuck_here known s (step_is known s (Some (order.Return n true)) e ∙ ap (λ b. return_with b true w.operands a g place line acts w) is))
   comes_back_true {q} {g} {place} {line} {a} {acts} [] w same s by_itself n e true is = absurd (stuck_here known s (step_is known s (Some (order.Return n true)) e ∙ ap (λ b. return_with b true w.operands a g place line acts w) is ∙ ap (λ xs. return_with true true xs a g place line acts w) same))
@@ -64,14 +64,14 @@ module _ (known : Given) where
       (onward known (λ r l. inl (sound_in known s by_itself a.segment a.place a.line acts v r u.orders u.unit (s.comes_back.0 u.orders u.unit) goes s.working.5 s.comes_back.1 l))
       (answers rows p image g line a acts n w.memory w.input w.output to z rest (eqb-true (operand_words a.arguments) n is) small there (code known s by_itself (order.Return n true) e) l))
 
-  pub frames_home : {q : Processor} {g place line : ℕ} {a : OrderActivation} {acts : List OrderActivation} {w : Words} (s : Sound p image g place line (a ∷ acts) w q) (by_itself : Alone p image g place line (a ∷ acts) w q s.orders.list) (n : ℕ) → slice_get s.orders.list place ≡ Some (order.FrameHome n) → Follow known (at g place line (a ∷ acts) w Running) q
+  pub frames_home : {q : Watched} {g place line : ℕ} {a : OrderActivation} {acts : List OrderActivation} {w : Words} (s : Sound p image g place line (a ∷ acts) w q) (by_itself : Alone p image g place line (a ∷ acts) w q s.orders.list) (n : ℕ) → slice_get s.orders.list place ≡ Some (order.FrameHome n) → Follow known (at g place line (a ∷ acts) w Running) q
   frames_home {q} {g} {place} {line} {a} {acts} {w} s by_itself n e =
       let word = (a.frame_base + n) % 65536 in
       let small : word < 65536 = omega arith in
       puts_with known s by_itself (order.FrameHome n) (put (signed word) w) 3 e (step_is known s (Some (order.FrameHome n)) e) (cheap known s (order.FrameHome n) 3 (lit≤ tt) e) (λ room.
       frame_homes rows p image g line (order_place (base_of p g) s.orders.list (place + 1)) n a acts (signed word) w (behind known s by_itself (order.FrameHome n) e) (sym (rows.words.forth word small)) (low_room known s) (code known s by_itself (order.FrameHome n) e) by_itself.landed)
 
-  pub binds_static : {q : Processor} {g place line : ℕ} {a : OrderActivation} {acts : List OrderActivation} {w : Words} (s : Sound p image g place line (a ∷ acts) w q) (by_itself : Alone p image g place line (a ∷ acts) w q s.orders.list) (k family offset : ℕ) → slice_get s.orders.list place ≡ Some (order.Bind k family offset) → Follow known (at g place line (a ∷ acts) w Running) q
+  pub binds_static : {q : Watched} {g place line : ℕ} {a : OrderActivation} {acts : List OrderActivation} {w : Words} (s : Sound p image g place line (a ∷ acts) w q) (by_itself : Alone p image g place line (a ∷ acts) w q s.orders.list) (k family offset : ℕ) → slice_get s.orders.list place ≡ Some (order.Bind k family offset) → Follow known (at g place line (a ∷ acts) w Running) q
   binds_static {q} {g} {place} {line} {a} {acts} {w} s by_itself k family offset e =
       let o = order.Bind k family offset in
       let here = order_place (base_of p g) s.orders.list place in
@@ -84,7 +84,7 @@ module _ (known : Given) where
       (binds rows p image g line (order_place (base_of p g) s.orders.list (place + 1)) k home a acts (argument_behind k a.arguments) w low refl (behind known s by_itself o e)
       (i.0, (subst (λ n. Has image (here + 4) (i86.MovImm 3 (imm.Word n))) filled at_bx', (i.1.1.0, tt))) by_itself.landed)
 
-  pub binds_in_frame : {q : Processor} {g place line : ℕ} {a : OrderActivation} {acts : List OrderActivation} {w : Words} (s : Sound p image g place line (a ∷ acts) w q) (by_itself : Alone p image g place line (a ∷ acts) w q s.orders.list) (k offset : ℕ) → slice_get s.orders.list place ≡ Some (order.BindFrame k offset) → Follow known (at g place line (a ∷ acts) w Running) q
+  pub binds_in_frame : {q : Watched} {g place line : ℕ} {a : OrderActivation} {acts : List OrderActivation} {w : Words} (s : Sound p image g place line (a ∷ acts) w q) (by_itself : Alone p image g place line (a ∷ acts) w q s.orders.list) (k offset : ℕ) → slice_get s.orders.list place ≡ Some (order.BindFrame k offset) → Follow known (at g place line (a ∷ acts) w Running) q
   binds_in_frame {q} {g} {place} {line} {a} {acts} {w} s by_itself k offset e =
       let o = order.BindFrame k offset in
       let fits = has_code known s o e in
@@ -92,7 +92,7 @@ module _ (known : Given) where
       (binds_frame rows p image g line (order_place (base_of p g) s.orders.list (place + 1)) k offset a acts (argument_behind k a.arguments) w low s.working.1 refl (behind known s by_itself o e) fits.1 (code known s by_itself o e) by_itself.landed)
 
   -- a control parameter that is handed on
-  pub hands_special : {q : Processor} {g place line : ℕ} {a : OrderActivation} {acts : List OrderActivation} {w : Words} (s : Sound p image g place line (a ∷ acts) w q) (by_itself : Alone p image g place line (a ∷ acts) w q s.orders.list) (k : ℕ) → slice_get s.orders.list place ≡ Some (order.SpecialOut k)
+  pub hands_special : {q : Watched} {g place line : ℕ} {a : OrderActivation} {acts : List OrderActivation} {w : Words} (s : Sound p image g place line (a ∷ acts) w q) (by_itself : Alone p image g place line (a ∷ acts) w q s.orders.list) (k : ℕ) → slice_get s.orders.list place ≡ Some (order.SpecialOut k)
       → (x : Option Operand) → argument_behind k a.arguments ≡ x → Follow known (at g place line (a ∷ acts) w Running) q
   hands_special {q} {g} {place} {line} {a} {acts} {w} s by_itself k e None is = absurd (stuck_here known s (step_is known s (Some (order.SpecialOut k)) e ∙ ap (λ x. after p.room (held (control_in x) w) g place line (a ∷ acts) w) is))
   hands_special {q} {g} {place} {line} {a} {acts} {w} s by_itself k e (Some (Word z)) is = absurd (stuck_here known s (step_is known s (Some (order.SpecialOut k)) e ∙ ap (λ x. after p.room (held (control_in x) w) g place line (a ∷ acts) w) is))
@@ -101,7 +101,7 @@ module _ (known : Given) where
       holds_control known s by_itself o e c 4 (step_is known s (Some o) e ∙ ap (λ x. after p.room (held (control_in x) w) g place line (a ∷ acts) w) is) (let x = weight_is known s o e in let y : 4 ≤ weight p (at g place line (a ∷ acts) w Running) = omega arith in y) (λ room.
       hands_on rows p image g line (order_place (base_of p g) s.orders.list (place + 1)) k a acts c w room (behind known s by_itself o e) is (argument_stands p a.segment acts k a.arguments c s.working.3 is) (code known s by_itself o e) by_itself.landed)
 
-  pub calls_parameter : {q : Processor} {g place line : ℕ} {a : OrderActivation} {acts : List OrderActivation} {w : Words} (s : Sound p image g place line (a ∷ acts) w q) (by_itself : Alone p image g place line (a ∷ acts) w q s.orders.list) (k : ℕ) → slice_get s.orders.list place ≡ Some (order.CallSpecial k)
+  pub calls_parameter : {q : Watched} {g place line : ℕ} {a : OrderActivation} {acts : List OrderActivation} {w : Words} (s : Sound p image g place line (a ∷ acts) w q) (by_itself : Alone p image g place line (a ∷ acts) w q s.orders.list) (k : ℕ) → slice_get s.orders.list place ≡ Some (order.CallSpecial k)
       → (x : Option Operand) → argument_behind k a.arguments ≡ x → Follow known (at g place line (a ∷ acts) w Running) q
   calls_parameter {q} {g} {place} {line} {a} {acts} {w} s by_itself k e None is = absurd (stuck_here known s (step_is known s (Some (order.CallSpecial k)) e ∙ ap (λ x. call p (control_in x) g place line (a ∷ acts) w) is))
   calls_parameter {q} {g} {place} {line} {a} {acts} {w} s by_itself k e (Some (Word z)) is = absurd (stuck_here known s (step_is known s (Some (order.CallSpecial k)) e ∙ ap (λ x. call p (control_in x) g place line (a ∷ acts) w) is))

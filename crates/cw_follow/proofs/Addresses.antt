@@ -11,7 +11,8 @@ use Rattle.cw_i86.specs.declared.instr.Instr.TheVariants as i86
 use Rattle.cw_i86.specs.declared.instr.Imm.TheVariants as imm
 use Rattle.cw_i86.specs.declared.instr.Rm.TheVariants as rms
 use Rattle.cw_i86.specs.Sums.{overflows}
-use Rattle.cw_run86.specs.Processor.{Processor, Told}
+use Rattle.cw_run86.specs.Processor.{Told}
+use Rattle.cw_follow.proofs.Watched.{Watched}
 use Rattle.cw_run86.specs.Views.{put_word, compare as compare_of, word_sum, word_difference, sum_overflows, difference_overflows, product_low, product_high, product_overflows, Comparison, NotLess, AtMost, words_compare, compares}
 use Rattle.cw_word.specs.FixedPoint.{FitsWord, fits_word}
 use Rattle.cw_word.specs.Word.{unsigned, low_word}
@@ -57,10 +58,10 @@ module _ (rows : Rows) (x y : ℤ) (fx : FitsWord x) (fy : FitsWord y) where
 
 module _ (c : Setting) (memory : List ℤ) (input output : List ℕ) where
   -- AX times a number, as far as the test
-  pub times_tested : {p : Processor} {at cx dx bx si di : ℕ} {overflow : Bool} {cells stack : ℕ → ℕ} {left : List ℕ} {told : Told} (b : Bool) (to n top by limit bound : ℕ) (x : ℤ) (o : Outcome) → (n == 32768) ≡ b → n ≤ 32768 → FitsWord x → told.output ≡ output → 3 + limit ≤ bound
+  pub times_tested : {p : Watched} {at cx dx bx si di : ℕ} {overflow : Bool} {cells stack : ℕ → ℕ} {left : List ℕ} {told : Told} (b : Bool) (to n top by limit bound : ℕ) (x : ℤ) (o : Outcome) → (n == 32768) ≡ b → n ≤ 32768 → FitsWord x → told.output ≡ output → 3 + limit ≤ bound
       → HasAll c.image at (times_code b n by)
       → Is c.image at (view (unsigned x) cx dx bx (2 * suc top) (record_of c.acts) si di overflow cells stack left told) p
-      → ((a d f : ℕ) (overflow : Bool) (q : Processor) → overflow ≡ not (fits_word (x *ℤ pos n)) → (FitsWord (x *ℤ pos n) → a ≡ unsigned (x *ℤ pos n))
+      → ((a d f : ℕ) (overflow : Bool) (q : Watched) → overflow ≡ not (fits_word (x *ℤ pos n)) → (FitsWord (x *ℤ pos n) → a ≡ unsigned (x *ℤ pos n))
       → Is c.image (test_place b at) (view a cx d f (2 * suc top) (record_of c.acts) si di overflow cells stack left told) q → HasAll c.image (test_place b at) (i86.JumpIf 1 3 ∷ i86.Call by ∷ []) → DoesHere c memory input output limit to q o)
       → DoesHere c memory input output bound to p o
   times_tested {p} {at} {cx} {dx} {bx} {si} {di} {overflow} {cells} {stack} {left} {told} true to n top by limit bound x o is most fx wrote le i s on =
@@ -87,11 +88,11 @@ module _ (c : Setting) (memory : List ℤ) (input output : List ℕ) where
       (λ q t. on (product_low (unsigned x) n) (product_high (unsigned x) n) n (product_overflows (unsigned x) n) q tests low t ps.1)
 
   -- AX times a number, where that fits
-  pub multiplies : {p : Processor} {at cx dx bx si di : ℕ} {overflow : Bool} {cells stack : ℕ → ℕ} {left : List ℕ} {told : Told} (b : Bool) (kind : StopKind) (to n top by m bound : ℕ) (x : ℤ) (o : Outcome) → (n == 32768) ≡ b → n ≤ 32768 → FitsWord x → top < level c.acts
+  pub multiplies : {p : Watched} {at cx dx bx si di : ℕ} {overflow : Bool} {cells stack : ℕ → ℕ} {left : List ℕ} {told : Told} (b : Bool) (kind : StopKind) (to n top by m bound : ℕ) (x : ℤ) (o : Outcome) → (n == 32768) ≡ b → n ≤ 32768 → FitsWord x → top < level c.acts
       → (behind_times b at + by) % 65536 ≡ stop_place kind % 65536 → 4 + m ≤ bound → 15 ≤ bound → Kept c.program c.g c.line c.acts memory input output cells stack left told
       → HasAll c.image at (times_code b n by)
       → Is c.image at (view (unsigned x) cx dx bx (2 * suc top) (record_of c.acts) si di overflow cells stack left told) p
-      → (FitsWord (x *ℤ pos n) → (d f : ℕ) (overflow : Bool) (q : Processor) → Is c.image (behind_times b at) (view (unsigned (x *ℤ pos n)) cx d f (2 * suc top) (record_of c.acts) si di overflow cells stack left told) q → DoesHere c memory input output m to q o)
+      → (FitsWord (x *ℤ pos n) → (d f : ℕ) (overflow : Bool) (q : Watched) → Is c.image (behind_times b at) (view (unsigned (x *ℤ pos n)) cx d f (2 * suc top) (record_of c.acts) si di overflow cells stack left told) q → DoesHere c memory input output m to q o)
       → DoesHere c memory input output bound to p (allowed (fits_word (x *ℤ pos n)) kind o)
   multiplies {p} {at} {cx} {dx} {bx} {si} {di} {overflow} {cells} {stack} {left} {told} b kind to n top by m bound x o is most fx small arrives le le' k i s on =
       times_tested b to n top by (bound - 3) bound x (allowed (fits_word (x *ℤ pos n)) kind o) is most fx k.wrote (omega arith) i s
@@ -103,7 +104,7 @@ module _ (c : Setting) (memory : List ℤ) (input output : List ℕ) where
   put_allowed false kind z w = refl
 
   -- the top operand times a number
-  pub multiplied : {p : Processor} {at : ℕ} (b : Bool) (kind : StopKind) (to n by bound : ℕ) (x : ℤ) (rest : List Operand) → (n == 32768) ≡ b → n ≤ 32768 → FitsWord x → behind_times b at ≡ to
+  pub multiplied : {p : Watched} {at : ℕ} (b : Bool) (kind : StopKind) (to n by bound : ℕ) (x : ℤ) (rest : List Operand) → (n == 32768) ≡ b → n ≤ 32768 → FitsWord x → behind_times b at ≡ to
       → (behind_times b at + by) % 65536 ≡ stop_place kind % 65536 → 15 ≤ bound
       → HasAll c.image at (times_code b n by)
       → One c memory input output at x rest p
@@ -116,7 +117,7 @@ module _ (c : Setting) (memory : List ℤ) (input output : List ℕ) where
 
   -- ---- sums
 
-  pub sums : {p : Processor} {at : ℕ} (kind : StopKind) (to by : ℕ) (operands : List Operand) → at + 8 ≡ to → (at + 1 + 2 + 2 + 3 + by) % 65536 ≡ stop_place kind % 65536 → operand_words operands < level c.acts → All OperandFits operands
+  pub sums : {p : Watched} {at : ℕ} (kind : StopKind) (to by : ℕ) (operands : List Operand) → at + 8 ≡ to → (at + 1 + 2 + 2 + 3 + by) % 65536 ≡ stop_place kind % 65536 → operand_words operands < level c.acts → All OperandFits operands
       → HasAll c.image at (i86.Pop 3 ∷ i86.AluRm 0 true true 0 (rms.Reg 3) ∷ i86.JumpIf 1 3 ∷ i86.Call by ∷ []) → LandedWith c memory input output at operands p
       → DoesHere c memory input output 14 to p (on_two (λ x y v. put_if (fits_word (x +ℤ y)) kind (x +ℤ y) v) operands (words operands memory input output))
   sums {p} {at} kind to by operands e arrives roomy fits i = taking_two c memory input output 14 to (λ x y v. put_if (fits_word (x +ℤ y)) kind (x +ℤ y) v) does operands roomy fits
@@ -136,7 +137,7 @@ module _ (c : Setting) (memory : List ℤ) (input output : List ℕ) where
 
   -- ---- an index and a number
 
-  pub indexes_less : {p : Processor} {at : ℕ} (to by : ℕ) (lower : ℤ) (operands : List Operand) → at + 10 ≡ to → (at + 3 + 2 + 2 + 3 + by) % 65536 ≡ stop_place AddressRange % 65536 → FitsWord lower → operand_words operands < level c.acts → All OperandFits operands
+  pub indexes_less : {p : Watched} {at : ℕ} (to by : ℕ) (lower : ℤ) (operands : List Operand) → at + 10 ≡ to → (at + 3 + 2 + 2 + 3 + by) % 65536 ≡ stop_place AddressRange % 65536 → FitsWord lower → operand_words operands < level c.acts → All OperandFits operands
       → HasAll c.image at (i86.MovImm 3 (imm.Word (unsigned lower)) ∷ i86.AluRm 5 true true 0 (rms.Reg 3) ∷ i86.JumpIf 1 3 ∷ i86.Call by ∷ []) → LandedWith c memory input output at operands p
       → DoesHere c memory input output 14 to p (index (λ i. i -ℤ lower) (words operands memory input output))
   indexes_less {p} {at} to by lower operands e arrives fl roomy fits i = taking_one c memory input output 14 to (λ x v. put_index (x -ℤ lower) v) does operands roomy fits
@@ -151,7 +152,7 @@ module _ (c : Setting) (memory : List ℤ) (input output : List ℕ) where
           (straight c.rows acts l.kept.wrote ps.0 (tt, (tt, tt)) l.is (λ q t. done t))
           (λ q t. checks c.rows c.program c.image c.g c.line c.acts AddressRange to (suc l.top) by (x -ℤ lower) rest memory input output c.library c.few some e' arrives (difference_overflows_is c.rows.words x lower fx fl) (difference_is c.rows.words x lower fx fl) l.under l.kept ps.1 t)
 
-  pub indexes_plus : {p : Processor} {at : ℕ} (to by n : ℕ) (operands : List Operand) → at + 10 ≡ to → (at + 3 + 2 + 2 + 3 + by) % 65536 ≡ stop_place AddressRange % 65536 → n < 32768 → operand_words operands < level c.acts → All OperandFits operands
+  pub indexes_plus : {p : Watched} {at : ℕ} (to by n : ℕ) (operands : List Operand) → at + 10 ≡ to → (at + 3 + 2 + 2 + 3 + by) % 65536 ≡ stop_place AddressRange % 65536 → n < 32768 → operand_words operands < level c.acts → All OperandFits operands
       → HasAll c.image at (i86.MovImm 3 (imm.Word n) ∷ i86.AluRm 0 true true 0 (rms.Reg 3) ∷ i86.JumpIf 1 3 ∷ i86.Call by ∷ []) → LandedWith c memory input output at operands p
       → DoesHere c memory input output 14 to p (index (λ i. i +ℤ pos n) (words operands memory input output))
   indexes_plus {p} {at} to by n operands e arrives small roomy fits i = taking_one c memory input output 14 to (λ x v. put_index (x +ℤ pos n) v) does operands roomy fits
@@ -170,7 +171,7 @@ module _ (c : Setting) (memory : List ℤ) (input output : List ℕ) where
           (straight c.rows acts l.kept.wrote ps.0 (tt, (tt, tt)) l.is (λ q t. done t))
           (λ q t. checks c.rows c.program c.image c.g c.line c.acts AddressRange to (suc l.top) by (x +ℤ pos n) rest memory input output c.library c.few some e' arrives tests value l.under l.kept ps.1 t)
 
-  pub indexes_times : {p : Processor} {at : ℕ} (b : Bool) (to by n : ℕ) (operands : List Operand) → (n == 32768) ≡ b → n ≤ 32768 → behind_times b at ≡ to
+  pub indexes_times : {p : Watched} {at : ℕ} (b : Bool) (to by n : ℕ) (operands : List Operand) → (n == 32768) ≡ b → n ≤ 32768 → behind_times b at ≡ to
       → (behind_times b at + by) % 65536 ≡ stop_place AddressRange % 65536 → operand_words operands < level c.acts → All OperandFits operands
       → HasAll c.image at (times_code b n by) → LandedWith c memory input output at operands p
       → DoesHere c memory input output 15 to p (index (λ i. i *ℤ pos n) (words operands memory input output))
@@ -188,7 +189,7 @@ module _ (c : Setting) (memory : List ℤ) (input output : List ℕ) where
       HasAll c.image at (i86.Mov true true 1 (rms.Reg 0) ∷ i86.Pop 0 ∷ i86.MovImm 3 (imm.Word (unsigned lower)) ∷ i86.AluRm 5 true true 0 (rms.Reg 3) ∷ i86.JumpIf 1 3 ∷ i86.Call by1
       ∷ (times_code b n by2 ++ (i86.AluRm 0 true true 0 (rms.Reg 1) ∷ i86.JumpIf 1 3 ∷ i86.Call by3 ∷ [])))
 
-  pub indexes_row : {p : Processor} {at : ℕ} (b : Bool) (to by1 by2 by3 : ℕ) (lower : ℤ) (n : ℕ) (operands : List Operand) → (n == 32768) ≡ b → n ≤ 32768 → FitsWord lower
+  pub indexes_row : {p : Watched} {at : ℕ} (b : Bool) (to by1 by2 by3 : ℕ) (lower : ℤ) (n : ℕ) (operands : List Operand) → (n == 32768) ≡ b → n ≤ 32768 → FitsWord lower
       → behind_times b (at + 2 + 1 + 3 + 2 + 2 + 3) + 2 + 2 + 3 ≡ to
       → (at + 2 + 1 + 3 + 2 + 2 + 3 + by1) % 65536 ≡ stop_place AddressRange % 65536
       → (behind_times b (at + 2 + 1 + 3 + 2 + 2 + 3) + by2) % 65536 ≡ stop_place AddressRange % 65536
@@ -239,7 +240,7 @@ module _ (c : Setting) (memory : List ℤ) (input output : List ℕ) where
   outside (negsuc n) fx is = let low = c.low in omega (arith, fx.sfits)
 
   -- the routine comes back with an address, and stops at another word
-  in_area_comes : (x : ℤ) (b : Bool) → FitsWord x → is_below x c.program.limits.area ≡ b → {p : Processor} {cx bx si di : ℕ} {overflow : Bool} {cells stack : ℕ → ℕ} {left : List ℕ} {told : Told} (n back : ℕ) → suc n < level c.acts → back < 65536 → stack (suc n) ≡ back
+  in_area_comes : (x : ℤ) (b : Bool) → FitsWord x → is_below x c.program.limits.area ≡ b → {p : Watched} {cx bx si di : ℕ} {overflow : Bool} {cells stack : ℕ → ℕ} {left : List ℕ} {told : Told} (n back : ℕ) → suc n < level c.acts → back < 65536 → stack (suc n) ≡ back
       → Kept c.program c.g c.line c.acts memory input output cells stack left told
       → Is c.image in_area_place (view (unsigned x) cx c.program.limits.area bx (2 * suc n) (record_of c.acts) si di overflow cells stack left told) p
       → Comes c memory input output b AddressRange x 13 back (suc (suc n)) cells stack left told p
@@ -266,7 +267,7 @@ module _ (c : Setting) (memory : List ℤ) (input output : List ℕ) where
   AreaCode at d by = HasAll c.image at (i86.MovImm 2 (imm.Word d) ∷ i86.Call by ∷ [])
 
   -- the stop inside the routine takes a word more of the stack
-  pub in_areas : {p : Processor} {at : ℕ} (to by d : ℕ) (operands : List Operand) → at + 6 ≡ to → (at + 3 + 3 + by) % 65536 ≡ in_area_place % 65536 → d ≡ c.program.limits.area % 65536 → suc (operand_words operands) < level c.acts → All OperandFits operands
+  pub in_areas : {p : Watched} {at : ℕ} (to by d : ℕ) (operands : List Operand) → at + 6 ≡ to → (at + 3 + 3 + by) % 65536 ≡ in_area_place % 65536 → d ≡ c.program.limits.area % 65536 → suc (operand_words operands) < level c.acts → All OperandFits operands
       → AreaCode at d by → LandedWith c memory input output at operands p
       → DoesHere c memory input output 15 to p (perform c.program.limits.area (Form Taken) (words operands memory input output))
   in_areas to by d [] e arrives area_is room fits i l = tt
@@ -313,7 +314,7 @@ module _ (c : Setting) (memory : List ℤ) (input output : List ℕ) where
   compares_as cmp x y fx fy = ap₂ (compares cmp) (left c.rows.words x y fx fy) (right c.rows.words x y fx fy)
 
   -- the operand on top stays, where it is not below one number and not above another; a stop else
-  pub in_bounds : {p : Processor} {at : ℕ} (kind : StopKind) (to by1 by2 : ℕ) (lower upper x : ℤ) (rest : List Operand) (b d : Bool) → int_le lower x ≡ b → int_le x upper ≡ d → at + 20 ≡ to
+  pub in_bounds : {p : Watched} {at : ℕ} (kind : StopKind) (to by1 by2 : ℕ) (lower upper x : ℤ) (rest : List Operand) (b d : Bool) → int_le lower x ≡ b → int_le x upper ≡ d → at + 20 ≡ to
       → (at + 3 + 2 + 2 + 3 + by1) % 65536 ≡ stop_place kind % 65536 → (at + 3 + 2 + 2 + 3 + 3 + 2 + 2 + 3 + by2) % 65536 ≡ stop_place kind % 65536 → FitsWord lower → FitsWord upper → FitsWord x
       → BoundsCode at lower upper by1 by2 → One c memory input output at x rest p
       → DoesHere c memory input output 17 to p (allowed b kind (put_if d kind x (words rest memory input output)))
@@ -383,7 +384,7 @@ module _ (c : Setting) (memory : List ℤ) (input output : List ℕ) where
   both_bounds true d kind x w = refl
   both_bounds false d kind x w = refl
 
-  pub bounds_kept : {p : Processor} {at : ℕ} (to by1 by2 : ℕ) (lower upper : ℤ) (operands : List Operand) → at + 20 ≡ to
+  pub bounds_kept : {p : Watched} {at : ℕ} (to by1 by2 : ℕ) (lower upper : ℤ) (operands : List Operand) → at + 20 ≡ to
       → (at + 3 + 2 + 2 + 3 + by1) % 65536 ≡ stop_place IndexRange % 65536 → (at + 3 + 2 + 2 + 3 + 3 + 2 + 2 + 3 + by2) % 65536 ≡ stop_place IndexRange % 65536 → FitsWord lower → FitsWord upper → operand_words operands < level c.acts → All OperandFits operands
       → BoundsCode at lower upper by1 by2 → LandedWith c memory input output at operands p
       → DoesHere c memory input output 17 to p (perform c.program.limits.area (InBounds lower upper) (words operands memory input output))

@@ -3,7 +3,7 @@ use Rattle.std.proofs.Common.{ap₂, ◌≡◌, inl, ℕ, suc, ◌+◌, ◌-◌,
 use Rattle.std.specs.Prelude.{slice_get, nat_le, nat_lt}
 use Rattle.std.proofs.lemmas.Bool.{leb-true}
 use Rattle.std.proofs.lemmas.Option.{slice_get_within}
-use Rattle.cw_run86.specs.Processor.{Processor}
+use Rattle.cw_follow.proofs.Watched.{Watched}
 use Rattle.cw_unit.specs.Stop.{FramesFull, DepthReached, Running, Stopped}
 use Rattle.cw_unit.specs.Words.{Words}
 use Rattle.cw_order.specs.declared.order.Order.{Order}
@@ -30,7 +30,7 @@ use Rattle.cw_follow.proofs.Steps.{Follow, leads_to, onward, order_next}
 module _ (known : Given) where
   open known use {rows, p, image, all, coded, few, low}
 
-  module _ {q : Processor} {g place line : ℕ} {a : OrderActivation} {acts : List OrderActivation} {w : Words} (s : Starting p image g place line a acts w q) where
+  module _ {q : Watched} {g place line : ℕ} {a : OrderActivation} {acts : List OrderActivation} {w : Words} (s : Starting p image g place line a acts w q) where
     abbrev pub T : OrderState
     T = at g place line (a ∷ acts) w Running
 

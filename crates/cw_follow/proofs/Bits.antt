@@ -11,7 +11,8 @@ use Rattle.cw_i86.specs.Encoding.{bytes_of}
 use Rattle.cw_i86.specs.declared.instr.Instr.TheVariants as i86
 use Rattle.cw_i86.specs.declared.instr.Imm.TheVariants as imm
 use Rattle.cw_i86.specs.declared.instr.Rm.TheVariants as rms
-use Rattle.cw_run86.specs.Processor.{Processor, Told}
+use Rattle.cw_run86.specs.Processor.{Told}
+use Rattle.cw_follow.proofs.Watched.{Watched}
 use Rattle.cw_run86.specs.Views.{View, put_word, word_difference, word_up, word_down_signed}
 use Rattle.cw_word.specs.BitField.{unsigned_field, signed_field, with_field, field_mask}
 use Rattle.cw_word.specs.FixedPoint.{FitsWord}
@@ -44,7 +45,7 @@ below_base : (c : Setting) (ax : ℕ) (stack : ℕ → ℕ) (n : ℕ) (rest : Li
 below_base c ax stack n rest h = let t = top_is c.program c.acts ax stack (suc n) rest h in omega arith
 
 module _ (c : Setting) (memory : List ℤ) (input output : List ℕ) where
-  pub drops : {p : Processor} {at : ℕ} (to : ℕ) (operands : List Operand) → at + 1 ≡ to → operand_words operands < level c.acts → All OperandFits operands → HasAll c.image at (i86.Pop 0 ∷ []) → LandedWith c memory input output at operands p
+  pub drops : {p : Watched} {at : ℕ} (to : ℕ) (operands : List Operand) → at + 1 ≡ to → operand_words operands < level c.acts → All OperandFits operands → HasAll c.image at (i86.Pop 0 ∷ []) → LandedWith c memory input output at operands p
       → DoesHere c memory input output 1 to p (without_top (words operands memory input output))
   drops {p} {at} to operands e roomy fits i = taking_one c memory input output 1 to (λ x v. Changed v) does operands roomy fits
     where
@@ -55,7 +56,7 @@ module _ (c : Setting) (memory : List ℤ) (input output : List ℕ) where
 
   -- ---- logic
 
-  pub combines : {p : Processor} {at : ℕ} (to : ℕ) (act : Act) (value : ℕ → ℕ → ℕ) (flag : ℕ → ℕ → Bool → Bool) (f : ℤ → ℤ → ℤ) (operands : List Operand) → at + 3 ≡ to → length (bytes_of (instruction act)) ≡ 2
+  pub combines : {p : Watched} {at : ℕ} (to : ℕ) (act : Act) (value : ℕ → ℕ → ℕ) (flag : ℕ → ℕ → Bool → Bool) (f : ℤ → ℤ → ℤ) (operands : List Operand) → at + 3 ≡ to → length (bytes_of (instruction act)) ≡ 2
       → Sets act value flag → ((v : View) → Needs act v) → ((x y : ℤ) → FitsWord x → FitsWord y → value (unsigned y) (unsigned x) ≡ unsigned (f x y))
       → operand_words operands < level c.acts → All OperandFits operands → HasAll c.image at (i86.Pop 3 ∷ instruction act ∷ []) → LandedWith c memory input output at operands p
       → DoesHere c memory input output 2 to p (on_two (λ x y v. Changed (put (f x y) v)) operands (words operands memory input output))
@@ -72,7 +73,7 @@ module _ (c : Setting) (memory : List ℤ) (input output : List ℕ) where
           (subst (λ v. Is c.image (at + 1 + length (bytes_of (instruction act))) v q) (sets (unsigned y) s.cx s.dx (unsigned x) (2 * suc (suc l.top)) (record_of c.acts) s.si s.di s.overflow l.cells l.stack l.left l.told) t))))
 
   -- a difference, which is not the same either way round
-  pub differs : {p : Processor} {at : ℕ} (to : ℕ) (f : ℤ → ℤ → ℤ) (operands : List Operand) → at + 5 ≡ to → ((x y : ℤ) → FitsWord x → FitsWord y → word_difference (unsigned x) (unsigned y) ≡ unsigned (f x y))
+  pub differs : {p : Watched} {at : ℕ} (to : ℕ) (f : ℤ → ℤ → ℤ) (operands : List Operand) → at + 5 ≡ to → ((x y : ℤ) → FitsWord x → FitsWord y → word_difference (unsigned x) (unsigned y) ≡ unsigned (f x y))
       → operand_words operands < level c.acts → All OperandFits operands → HasAll c.image at (i86.Mov true true 3 (rms.Reg 0) ∷ i86.Pop 0 ∷ i86.AluRm 5 true true 0 (rms.Reg 3) ∷ []) → LandedWith c memory input output at operands p
       → DoesHere c memory input output 3 to p (on_two (λ x y v. Changed (put (f x y) v)) operands (words operands memory input output))
   differs {p} {at} to f operands e gives roomy fits i = taking_two c memory input output 3 to (λ x y v. Changed (put (f x y) v)) does operands roomy fits
@@ -115,7 +116,7 @@ module _ (c : Setting) (memory : List ℤ) (input output : List ℕ) where
       let small : unsigned_field w t b < 65536 = omega (arith, mod-le (w / 2 ^ b) (2 ^ t), div-le_self w (2 ^ b)) in
       ap (λ n. bit_and (w / 2 ^ n) (2 ^ t - 1)) e ∙ sym (c.rows.words.taken w t b) ∙ sym (c.rows.words.forth (unsigned_field w t b) small)
 
-  pub takes : {p : Processor} {at : ℕ} (to t b : ℕ) (operands : List Operand) → at + 10 ≡ to → t + b ≤ 16 → operand_words operands < level c.acts → All OperandFits operands
+  pub takes : {p : Watched} {at : ℕ} (to t b : ℕ) (operands : List Operand) → at + 10 ≡ to → t + b ≤ 16 → operand_words operands < level c.acts → All OperandFits operands
       → HasAll c.image at (i86.MovImm 1 (imm.Word b) ∷ i86.Shift 5 true true (rms.Reg 0) ∷ i86.MovImm 3 (imm.Word (2 ^ t - 1)) ∷ i86.AluRm 4 true true 0 (rms.Reg 3) ∷ [])
       → LandedWith c memory input output at operands p
       → DoesHere c memory input output 4 to p (perform c.program.limits.area (Extract t b) (words operands memory input output))
@@ -172,7 +173,7 @@ module _ (c : Setting) (memory : List ℤ) (input output : List ℕ) where
     fits_at : (n : ℕ) → n < c.program.limits.area → FitsWord (word_at memory n)
     fits_at n lt = all n (pos 0) (omega arith)
 
-    pub loads_unsigned : {p : Processor} {at : ℕ} (to t b : ℕ) (operands : List Operand) → at + 16 ≡ to → t + b ≤ 16 → operand_words operands < level c.acts → All OperandFits operands
+    pub loads_unsigned : {p : Watched} {at : ℕ} (to t b : ℕ) (operands : List Operand) → at + 16 ≡ to → t + b ≤ 16 → operand_words operands < level c.acts → All OperandFits operands
         → HasAll c.image at (i86.Mov true true 3 (rms.Reg 0) ∷ i86.Shift 4 true false (rms.Reg 3) ∷ i86.Mov true true 0 at_bx ∷ i86.MovImm 1 (imm.Word b) ∷ i86.Shift 5 true true (rms.Reg 0) ∷ i86.MovImm 3 (imm.Word (2 ^ t - 1)) ∷ i86.AluRm 4 true true 0 (rms.Reg 3) ∷ [])
         → LandedWith c memory input output at operands p
         → DoesHere c memory input output 7 to p (unrefused (perform c.program.limits.area (Fetch (Some (record { t = t; b = b; unsigned = true }))) (words operands memory input output)))
@@ -197,7 +198,7 @@ module _ (c : Setting) (memory : List ℤ) (input output : List ℕ) where
         does : (x : ℤ) (rest : List Operand) → FitsWord x → One c memory input output at x rest p → DoesHere c memory input output 7 to p (unrefused (at_address c.program.limits.area (λ i v. Changed (put (field_value (Some (record { t = t; b = b; unsigned = true })) (word_at v.memory i)) v)) x (words rest memory input output)))
         does x rest fx l = reached x (is_below x c.program.limits.area) rest refl l
 
-    pub loads_signed : {p : Processor} {at : ℕ} (to t b : ℕ) (operands : List Operand) → at + 16 ≡ to → 1 ≤ t → t + b ≤ 16 → operand_words operands < level c.acts → All OperandFits operands
+    pub loads_signed : {p : Watched} {at : ℕ} (to t b : ℕ) (operands : List Operand) → at + 16 ≡ to → 1 ≤ t → t + b ≤ 16 → operand_words operands < level c.acts → All OperandFits operands
         → HasAll c.image at (i86.Mov true true 3 (rms.Reg 0) ∷ i86.Shift 4 true false (rms.Reg 3) ∷ i86.Mov true true 0 at_bx ∷ i86.MovImm 1 (imm.Word (16 - (t + b))) ∷ i86.Shift 4 true true (rms.Reg 0) ∷ i86.MovImm 1 (imm.Word (16 - t)) ∷ i86.Shift 7 true true (rms.Reg 0) ∷ [])
         → LandedWith c memory input output at operands p
         → DoesHere c memory input output 7 to p (unrefused (perform c.program.limits.area (Fetch (Some (record { t = t; b = b; unsigned = false }))) (words operands memory input output)))
@@ -234,7 +235,7 @@ module _ (c : Setting) (memory : List ℤ) (input output : List ℕ) where
         ap (λ n. bit_or (bit_and w (65535 - field_mask t b)) (bit_and (word_up (unsigned z) n) (field_mask t b))) e ∙ sym (c.rows.words.stored w t b (unsigned z) f room)
         ∙ sym (c.rows.words.forth (with_field w t b (unsigned z)) (c.rows.words.field_fits w t b (unsigned z) f room))
 
-    pub stores_part : {p : Processor} {at : ℕ} (to t b : ℕ) (operands : List Operand) → at + 27 ≡ to → t + b ≤ 16 → operand_words operands < level c.acts → All OperandFits operands
+    pub stores_part : {p : Watched} {at : ℕ} (to t b : ℕ) (operands : List Operand) → at + 27 ≡ to → t + b ≤ 16 → operand_words operands < level c.acts → All OperandFits operands
         → HasAll c.image at (i86.Mov true true 3 (rms.Reg 0) ∷ i86.Pop 0 ∷ i86.Shift 4 true false (rms.Reg 3) ∷ i86.MovImm 1 (imm.Word b) ∷ i86.Shift 4 true true (rms.Reg 0) ∷ i86.MovImm 1 (imm.Word (field_mask t b)) ∷ i86.AluRm 4 true true 0 (rms.Reg 1)
         ∷ i86.Mov true true 2 at_bx ∷ i86.MovImm 1 (imm.Word (65535 - field_mask t b)) ∷ i86.AluRm 4 true true 2 (rms.Reg 1) ∷ i86.AluRm 1 true true 2 (rms.Reg 0) ∷ i86.Mov true false 2 at_bx ∷ i86.Pop 0 ∷ [])
         → LandedWith c memory input output at operands p

@@ -1,7 +1,7 @@
 -- Blocks of several orders.
 use Rattle.std.proofs.Common.{◌≡◌, ℕ, zero, suc, ◌+◌, ◌%◌, ◌<◌, ◌≤◌, Bool, true, false, pos, List, ◌∷◌, drop, Some, None, refl, sym, ap, ◌∙◌, arith}
 use Rattle.std.specs.Prelude.{slice_get}
-use Rattle.cw_run86.specs.Processor.{Processor}
+use Rattle.cw_follow.proofs.Watched.{Watched}
 use Rattle.cw_word.specs.FixedPoint.{FitsWord}
 use Rattle.cw_word.specs.Word.{signed}
 use Rattle.cw_unit.specs.Stop.{Running}
@@ -35,7 +35,7 @@ use Rattle.cw_follow.proofs.Steps.{Follow, few_segments, step_is, weight_is, blo
 module _ (known : Given) where
   open known use {rows, p, image, all, coded, few, low}
 
-  module _ {q : Processor} {g place line : ℕ} {acts : List OrderActivation} {w : Words} (s : Sound p image g place line acts w q) where
+  module _ {q : Watched} {g place line : ℕ} {acts : List OrderActivation} {w : Words} (s : Sound p image g place line acts w q) where
     pub room_in : operand_words s.before.operands < level acts
     room_in = let room = s.room_before in let most = coded.room in let split = words_split s.before.operands acts in omega arith
 

@@ -1,7 +1,7 @@
 -- The way from the body of a segment to the next one, or to the end.
 use Rattle.std.proofs.Common.{◌≡◌, inl, ℕ, suc, ◌+◌, ◌-◌, ◌*◌, ◌%◌, ◌<◌, ◌≤◌, List, [], ◌∷◌, length, Option, Some, None, refl, sym, ap, ◌∙◌, subst, arith, lit<, lit≤}
 use Rattle.std.specs.Prelude.{slice_get}
-use Rattle.cw_run86.specs.Processor.{Processor}
+use Rattle.cw_follow.proofs.Watched.{Watched}
 use Rattle.cw_unit.specs.Stop.{Running, Ended, Stuck}
 use Rattle.cw_unit.specs.Words.{Words, with_operands}
 use Rattle.cw_order.specs.declared.order.Order.TheVariants as order
@@ -24,7 +24,7 @@ use Rattle.cw_follow.proofs.Steps.{Follow, leads_to, few_segments, step_is, weig
 module _ (known : Given) where
   open known use {rows, p, image, all, coded, few, low}
 
-  module _ {q : Processor} {g place line : ℕ} {acts : List OrderActivation} {w : Words} (s : Sound p image g place line acts w q) (a : Alone p image g place line acts w q s.orders.list) where
+  module _ {q : Watched} {g place line : ℕ} {acts : List OrderActivation} {w : Words} (s : Sound p image g place line acts w q) (a : Alone p image g place line acts w q s.orders.list) where
     -- the next body, or the end
     pub ends_body : slice_get s.orders.list place ≡ Some order.NextBody → acts ≡ [] → (u : Option Orders) → slice_get p.units (g + 1) ≡ u → Follow known (at g place line acts w Running) q
     ends_body e none None is =
@@ -69,7 +69,7 @@ module _ (known : Given) where
         (leads_on (λ r b. inl (begins goes is b))
         (enters rows p (g + 1) su.next_place su.value (base_of p (g + 1)) n r.cx r.dx r.bx (record_of acts) r.si r.di (under l.top) r.overflow l.cells l.stack l.input l.told all.library su.fills su.entry few' (under_low l.top most) low coded.frames coded.depth (2 * l.top) (under_is l.top most) t))))))
       where
-        begins : {r : Processor} → step p (at g place line acts w Running) ≡ at (g + 1) u.entry 0 [] (with_operands w []) Running → slice_get p.units (g + 1) ≡ Some u → Begun image (base_of p (g + 1) + 15) (suc (g + 1)) p.limits.depth (p.limits.area - p.limits.frames) a.landed.cells a.landed.input a.landed.told r → Sound p image (g + 1) u.entry 0 [] (with_operands w []) r
+        begins : {r : Watched} → step p (at g place line acts w Running) ≡ at (g + 1) u.entry 0 [] (with_operands w []) Running → slice_get p.units (g + 1) ≡ Some u → Begun image (base_of p (g + 1) + 15) (suc (g + 1)) p.limits.depth (p.limits.area - p.limits.frames) a.landed.cells a.landed.input a.landed.told r → Sound p image (g + 1) u.entry 0 [] (with_operands w []) r
         begins {r} goes is b =
             let k = a.landed.kept in
             let first : u.entry ≡ 0 = coded.entries (g + 1) u is in

@@ -4,7 +4,7 @@ use Rattle.std.specs.Prelude.{slice_get, nat_le, ◌&&◌}
 use Rattle.std.proofs.lemmas.Bool.{leb-true, false≢true}
 use Rattle.cw_i86.specs.declared.instr.Instr.TheVariants as i86
 use Rattle.cw_i86.specs.declared.instr.Imm.TheVariants as imm
-use Rattle.cw_run86.specs.Processor.{Processor}
+use Rattle.cw_follow.proofs.Watched.{Watched}
 use Rattle.cw_unit.specs.declared.unit.Def.{Def}
 use Rattle.cw_unit.specs.declared.unit.Def.TheVariants as def
 use Rattle.cw_unit.specs.Stop.{Running}
@@ -37,7 +37,7 @@ use Rattle.cw_follow.proofs.Steps.{Follow, leads_to, onward, few_segments, step_
 module _ (known : Given) where
   open known use {rows, p, image, all, coded, few, low}
 
-  module _ {q : Processor} {g place line : ℕ} {acts : List OrderActivation} {w : Words} (s : Sound p image g place line acts w q) (by_itself : Alone p image g place line acts w q s.orders.list) where
+  module _ {q : Watched} {g place line : ℕ} {acts : List OrderActivation} {w : Words} (s : Sound p image g place line acts w q) (by_itself : Alone p image g place line acts w q s.orders.list) where
     abbrev S : OrderState
     S = at g place line acts w Running
 
@@ -45,7 +45,7 @@ module _ (known : Given) where
     here = order_place (base_of p g) s.orders.list place
 
     -- before another block, of any segment
-    pub sound_in : (g' to line' : ℕ) (acts' : List OrderActivation) (v : Words) (r : Processor) (o : Orders) → slice_get p.units g' ≡ Some o → left_at 0 o.list to ≡ 0 → step p S ≡ at g' to line' acts' v Running → ActivationsStand p g' acts' → ComesBack p acts'
+    pub sound_in : (g' to line' : ℕ) (acts' : List OrderActivation) (v : Words) (r : Watched) (o : Orders) → slice_get p.units g' ≡ Some o → left_at 0 o.list to ≡ 0 → step p S ≡ at g' to line' acts' v Running → ActivationsStand p g' acts' → ComesBack p acts'
         → Landed p image (order_place (base_of p g') o.list to) g' line' acts' v r → Sound p image g' to line' acts' v r
     sound_in g' to line' acts' v r o unit begins e working comes_back l =
         let t = at g' to line' acts' v Running in
@@ -127,7 +127,7 @@ module _ (known : Given) where
                   never = never_next known s t goes;
                 })) (d (c x) refl refl refl (taken_dropped x.arguments w.operands) room))
               where
-                arrived : (r : Processor) → {to' : ℕ} {place' : ℕ} → CalledAt p image place' (c x) acts w r → place' ≡ to' % 65536 → CalledAt p image to' (c x) acts (with_operands w []) r
+                arrived : (r : Watched) → {to' : ℕ} {place' : ℕ} → CalledAt p image place' (c x) acts w r → place' ≡ to' % 65536 → CalledAt p image to' (c x) acts (with_operands w []) r
                 arrived r l e =
                     let z = l.stacked in
                     record {

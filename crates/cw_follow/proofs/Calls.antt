@@ -6,7 +6,8 @@ use Rattle.std.proofs.lemmas.Bool.{leb-true}
 use Rattle.std.proofs.lemmas.Bool.Decides.{nat_tests}
 use Rattle.cw_i86.specs.declared.instr.Instr.TheVariants as i86
 use Rattle.cw_i86.specs.declared.instr.Imm.TheVariants as imm
-use Rattle.cw_run86.specs.Processor.{Processor, Told, processor_step}
+use Rattle.cw_run86.specs.Processor.{Told}
+use Rattle.cw_follow.proofs.Watched.{Watched, watched_step}
 use Rattle.cw_run86.specs.Views.{View, put_word, word_sum, word_difference, sum_overflows, difference_overflows}
 use Rattle.cw_unit.specs.Stop.{FramesFull, DepthReached, Stopped}
 use Rattle.cw_unit.specs.Words.{Words}
@@ -23,7 +24,7 @@ use Rattle.cw_follow.proofs.Called.{leading_later}
 
 -- The processor stands before the Enter of a procedure: the place behind the call lies on top of the arguments, which are all on the stack, and
 -- the caller's record is at work.
-pub record CalledAt (p : OrderProgram) (image : List ℕ) (to : ℕ) (a : OrderActivation) (acts : List OrderActivation) (w : Words) (q : Processor) : Type 0 where
+pub record CalledAt (p : OrderProgram) (image : List ℕ) (to : ℕ) (a : OrderActivation) (acts : List OrderActivation) (w : Words) (q : Watched) : Type 0 where
   pub top : ℕ
   pub cells : ℕ → ℕ
   pub stack : ℕ → ℕ
@@ -43,7 +44,7 @@ not_within a b e = grind (arith, nat_tests)
 module _ (rows : Rows) (prog : OrderProgram) (image : List ℕ) where
   -- ---- the call
 
-  calls_from : {q : Processor} {at ax cx dx bx si di : ℕ} {overflow : Bool} {cells stack : ℕ → ℕ} {left : List ℕ} {told : Told} (to by n : ℕ) (a : OrderActivation) (acts : List OrderActivation) (w : Words)
+  calls_from : {q : Watched} {at ax cx dx bx si di : ℕ} {overflow : Bool} {cells stack : ℕ → ℕ} {left : List ℕ} {told : Told} (to by n : ℕ) (a : OrderActivation) (acts : List OrderActivation) (w : Words)
       → (at + 1 + 3 + by) % 65536 ≡ to % 65536 → (at + 1 + 3) % 65536 ≡ code_place prog a.segment a.place → StackIs prog acts ax stack (suc (suc n)) (a.arguments ++ a.operands)
       → Kept prog a.segment a.line acts w.memory w.input w.output cells stack left told → HasAll image at (i86.Push 0 ∷ i86.Call by ∷ [])
       → Is image at (view ax cx dx bx (2 * suc (suc n)) (record_of acts) si di overflow cells stack left told) q → Leads w.output 2 q (CalledAt prog image to a acts w)
@@ -73,7 +74,7 @@ module _ (rows : Rows) (prog : OrderProgram) (image : List ℕ) where
         kept = kept_under n place (omega arith) (kept_under (suc n) ax (omega arith) k);
       }))
 
-  pub calls : {q : Processor} {at : ℕ} (to by : ℕ) (a : OrderActivation) (acts : List OrderActivation) (w : Words) → stack_words [] (a ∷ acts) ≤ 32000 → w.operands ≡ a.arguments ++ a.operands
+  pub calls : {q : Watched} {at : ℕ} (to by : ℕ) (a : OrderActivation) (acts : List OrderActivation) (w : Words) → stack_words [] (a ∷ acts) ≤ 32000 → w.operands ≡ a.arguments ++ a.operands
       → (at + 1 + 3 + by) % 65536 ≡ to % 65536 → (at + 1 + 3) % 65536 ≡ code_place prog a.segment a.place → HasAll image at (i86.Push 0 ∷ i86.Call by ∷ []) → Landed prog image at a.segment a.line acts w q
       → Leading w.output 2 q (CalledAt prog image to a acts w)
   calls {q} {at} to by a acts w room same arrives back i l = from l.top refl
@@ -104,7 +105,7 @@ module _ (rows : Rows) (prog : OrderProgram) (image : List ℕ) where
     begun = record a { entered = true; frame_top = a.frame_base + size }
 
     -- the record is made, below the place behind the call
-    builds : {q : Processor} {ax cx bx : ℕ} {overflow : Bool} (r back : ℕ) (cells stack : ℕ → ℕ) (input : List ℕ) (told : Told) → r ≡ level (begun ∷ acts) → back < 65536
+    builds : {q : Watched} {ax cx bx : ℕ} {overflow : Bool} (r back : ℕ) (cells stack : ℕ → ℕ) (input : List ℕ) (told : Told) → r ≡ level (begun ∷ acts) → back < 65536
         → a.frame_base + size < 65536 → ax ≡ size → cx ≡ prog.limits.depth - length (begun ∷ acts)
         → stack (r + 6) ≡ code_place prog a.segment a.place → StackIs prog acts (stack (r + 7)) stack (r + 8) (a.arguments ++ a.operands) → Kept prog a.segment a.line acts w.memory w.input w.output cells stack input told → w.operands ≡ [] → LibraryStands image
         → Is image 93 (view ax cx (g + 1) bx (2 * (r + 6)) (record_of acts) back a.frame_base overflow cells stack input told) q
@@ -164,7 +165,7 @@ module _ (rows : Rows) (prog : OrderProgram) (image : List ℕ) where
         let b1 : r + 1 < 32768 = omega arith in
         let b0 : r < 32768 = omega arith in
         straight rows first {n = 6} k.wrote (e.0, (e.1.0, (e.1.1.0, (e.1.1.1.0, tt)))) (tt, ((b5, t6), (tt, ((b4, t5), tt)))) s (λ q s.
-        more rows {to = 104} {w = view sum cx (g + 1) bx (2 * (r + 4)) (2 * (r + 5)) back a.frame_base (sum_overflows ax a.frame_base) cells l4 input told} s k.wrote (set_slot rows 0xFE 0 (r + 4) b4 slot_line e.1.1.1.1.0 s) (λ q s.
+        more rows {to = 104} {w = view sum cx (g + 1) bx (2 * (r + 4)) (2 * (r + 5)) back a.frame_base (sum_overflows ax a.frame_base) cells l4 input told} s k.wrote (set_slot rows 0xFE 0 (r + 4) b4 slot_line e.1.1.1.1.0 (s.ignores.library 99 (lit< tt)) s) (λ q s.
         straight rows second {n = 1} k.wrote (e.1.1.1.1.1.0, (e.1.1.1.1.1.1.0, (e.1.1.1.1.1.1.1.0, (e.1.1.1.1.1.1.1.1.0, tt)))) ((b3, t4), ((b2, t3), ((b1, t2), ((b0, t1), tt)))) s (λ q s.
         last rows s k.wrote (record {
           top = r;
@@ -197,19 +198,19 @@ module _ (rows : Rows) (prog : OrderProgram) (image : List ℕ) where
         }))))
 
     -- what Enter does, where there are calls left or not, and the frame fits or not
-    abbrev pub Entered : (shallow fits : Bool) → (limit to : ℕ) → Processor → Type 0
+    abbrev pub Entered : (shallow fits : Bool) → (limit to : ℕ) → Watched → Type 0
     Entered false fits limit to q = Leading w.output limit q (Over (record { output = w.output; end = Stopped DepthReached (a.segment + 1) a.line }))
     Entered true false limit to q = Leading w.output limit q (Over (record { output = w.output; end = Stopped FramesFull (a.segment + 1) a.line }))
     Entered true true limit to q = Leading w.output limit q (Landed prog image to g 0 (begun ∷ acts) w)
 
-    entered_later : {q : Processor} {T : Processor → Type 0} (shallow fits : Bool) (n limit bound to : ℕ) → n + limit ≤ bound → Leads w.output n q T → ((t : Processor) → T t → Entered shallow fits limit to t) → Entered shallow fits bound to q
+    entered_later : {q : Watched} {T : Watched → Type 0} (shallow fits : Bool) (n limit bound to : ℕ) → n + limit ≤ bound → Leads w.output n q T → ((t : Watched) → T t → Entered shallow fits limit to t) → Entered shallow fits bound to q
     entered_later false fits n limit bound to le l on = leading_later n limit bound le l on
     entered_later true false n limit bound to le l on = leading_later n limit bound le l on
     entered_later true true n limit bound to le l on = leading_later n limit bound le l on
 
     module _ (library : LibraryStands image) (none : w.operands ≡ []) (area_low : prog.limits.area ≤ 32768) (base_low : a.frame_base ≤ prog.limits.area) (small : size < 65536) where
       -- the frame, from the first comparison on
-      frames : {q : Processor} {overflow : Bool} (fits : Bool) (r back : ℕ) (cells stack : ℕ → ℕ) (input : List ℕ) (told : Told) → nat_le (a.frame_base + size) prog.limits.area ≡ fits
+      frames : {q : Watched} {overflow : Bool} (fits : Bool) (r back : ℕ) (cells stack : ℕ → ℕ) (input : List ℕ) (told : Told) → nat_le (a.frame_base + size) prog.limits.area ≡ fits
           → r ≡ level (begun ∷ acts) → back < 65536 → a.frame_base ≡ frame_end prog acts → prog.limits.depth < 65536 → 0 < prog.limits.depth - length acts
           → stack (r + 6) ≡ code_place prog a.segment a.place → StackIs prog acts (stack (r + 7)) stack (r + 8) (a.arguments ++ a.operands) → Kept prog a.segment a.line acts w.memory w.input w.output cells stack input told
           → Is image 82 (view size (prog.limits.depth - length acts) (g + 1) prog.limits.area (2 * (r + 6)) (record_of acts) back 1 overflow cells stack input told) q
@@ -229,7 +230,7 @@ module _ (rows : Rows) (prog : OrderProgram) (image : List ℕ) where
           V : View
           V = view size (word_difference (prog.limits.depth - length acts) 1) (g + 1) (word_difference prog.limits.area a.frame_base) (2 * (r + 6)) (record_of acts) back a.frame_base (difference_overflows prog.limits.area a.frame_base) cells stack input told
 
-          cases : (t : Processor) (f : Bool) → nat_le (a.frame_base + size) prog.limits.area ≡ f → Is image 89 V t → Entered true f 12 back t
+          cases : (t : Watched) (f : Bool) → nat_le (a.frame_base + size) prog.limits.area ≡ f → Is image 89 V t → Entered true f 12 back t
           cases t true b u =
               let e = (enter_stands library).1.1.1.1.1.1.1.1 in
               let within : a.frame_base + size ≤ prog.limits.area = leb-true (a.frame_base + size) prog.limits.area b in
@@ -249,11 +250,11 @@ module _ (rows : Rows) (prog : OrderProgram) (image : List ℕ) where
               let o : told.output ≡ w.output = k.wrote in
               further 12 (lit≤ tt) (lit< tt)
               (compared rows {v = V} 3 0 k.wrote e.0 u
-              (subst (λ x. Leads x 10 (processor_step (processor_step t)) (Over (record { output = x; end = Stopped FramesFull (a.segment + 1) a.line }))) o
+              (subst (λ x. Leads x 10 (watched_step (watched_step t)) (Over (record { output = x; end = Stopped FramesFull (a.segment + 1) a.line }))) o
               (stops_at rows FramesFull (level acts) size (word_difference (prog.limits.depth - length acts) 1) (g + 1) (word_difference prog.limits.area a.frame_base) (2 * (r + 6)) back a.frame_base (a.segment + 1) a.line
               (difference_overflows (word_difference prog.limits.area a.frame_base) size) cells stack input told library low k.piled.0.number_is few' k.piled.0.line_is k.piled.0.small (to_place refl (jumps_below rows {v = V} 3 0 0xCD lt e.0 e.1.0 u)))))
 
-      lands : (f : Bool) (limit back to : ℕ) (t : Processor) → back % 65536 ≡ to % 65536 → Entered true f limit back t → Entered true f limit to t
+      lands : (f : Bool) (limit back to : ℕ) (t : Watched) → back % 65536 ≡ to % 65536 → Entered true f limit back t → Entered true f limit to t
       lands true limit back to t e d = record {
         spent = d.spent;
         some = d.some;
@@ -272,7 +273,7 @@ module _ (rows : Rows) (prog : OrderProgram) (image : List ℕ) where
       lands false limit back to t e d = d
 
       -- the first comparison
-      tests : {t : Processor} {overflow : Bool} (shallow : Bool) (r back : ℕ) (cells stack : ℕ → ℕ) (input : List ℕ) (told : Told) → nat_lt (length acts) prog.limits.depth ≡ shallow
+      tests : {t : Watched} {overflow : Bool} (shallow : Bool) (r back : ℕ) (cells stack : ℕ → ℕ) (input : List ℕ) (told : Told) → nat_lt (length acts) prog.limits.depth ≡ shallow
           → r ≡ level (begun ∷ acts) → back < 65536 → a.frame_base ≡ frame_end prog acts → prog.limits.depth < 65536
           → stack (r + 6) ≡ code_place prog a.segment a.place → StackIs prog acts (stack (r + 7)) stack (r + 8) (a.arguments ++ a.operands) → Kept prog a.segment a.line acts w.memory w.input w.output cells stack input told
           → Is image 78 (view size (prog.limits.depth - length acts) (g + 1) prog.limits.area (2 * (r + 6)) (record_of acts) back 1 overflow cells stack input told) t
@@ -289,7 +290,7 @@ module _ (rows : Rows) (prog : OrderProgram) (image : List ℕ) where
           let o : told.output ≡ w.output = k.wrote in
           further 12 (lit≤ tt) (lit< tt)
           (compared rows {v = V} 1 7 k.wrote e.0 s
-          (subst (λ x. Leads x 10 (processor_step (processor_step t)) (Over (record { output = x; end = Stopped DepthReached (a.segment + 1) a.line }))) o
+          (subst (λ x. Leads x 10 (watched_step (watched_step t)) (Over (record { output = x; end = Stopped DepthReached (a.segment + 1) a.line }))) o
           (stops_at rows DepthReached (level acts) size L (g + 1) prog.limits.area (2 * (r + 6)) back 1 (a.segment + 1) a.line (difference_overflows L 1) cells stack input told library low k.piled.0.number_is few' k.piled.0.line_is k.piled.0.small
           (to_place refl (jumps_below rows {v = V} 1 7 0xDC lt e.0 e.1.0 s)))))
       tests {t} {overflow} true r back cells stack input told b er back_small base_is depth_low return h k s =
@@ -303,7 +304,7 @@ module _ (rows : Rows) (prog : OrderProgram) (image : List ℕ) where
           (λ u s'. frames {q = u} {overflow = difference_overflows L 1} (nat_le (a.frame_base + size) prog.limits.area) r back cells stack input told refl er back_small base_is depth_low some return h k s')
 
       -- the code of Enter, in the called procedure
-      pub begins : {q : Processor} (at by segment words : ℕ) → segment ≡ g + 1 → words ≡ prog.limits.area → (at + 3 + 3 + 3 + 3 + by) % 65536 ≡ 71 % 65536 → a.frame_base ≡ frame_end prog acts → prog.limits.depth < 65536 → stack_words [] (a ∷ acts) ≤ 32000
+      pub begins : {q : Watched} (at by segment words : ℕ) → segment ≡ g + 1 → words ≡ prog.limits.area → (at + 3 + 3 + 3 + 3 + by) % 65536 ≡ 71 % 65536 → a.frame_base ≡ frame_end prog acts → prog.limits.depth < 65536 → stack_words [] (a ∷ acts) ≤ 32000
           → HasAll image at (i86.MovImm 0 (imm.Word size) ∷ i86.MovImm 2 (imm.Word segment) ∷ i86.MovImm 3 (imm.Word words) ∷ i86.Call by ∷ []) → CalledAt prog image at a acts w q
           → Entered (nat_lt (length acts) prog.limits.depth) (nat_le (a.frame_base + size) prog.limits.area) 24 (at + 12) q
       begins {q} at by segment words number_is area_is arrives base_is depth_low room i c =

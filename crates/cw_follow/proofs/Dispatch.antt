@@ -1,8 +1,21 @@
 -- The processor follows the machine of the orders.
-use Rattle.std.proofs.Common.{◌≡◌, inl, inr, ℕ, ◌+◌, ◌-◌, ◌^◌, ◌<◌, ◌≤◌, true, false, pos, ◌+ℤ◌, ◌-ℤ◌, List, [], ◌∷◌, length, drop, Option, Some, None, refl, sym, ap, ◌∙◌, arith, lit<, lit≤}
-use Rattle.std.specs.Prelude.{slice_get, nat_le, ◌==◌, bit_and, bit_or, bit_xor}
+use Rattle.std.proofs.Common.{◌≡◌, inl, inr, ℕ, zero, suc, ◌+◌, ◌-◌, ◌^◌, ◌<◌, ◌≤◌, Bool, true, false, pos, ◌+ℤ◌, ◌-ℤ◌, List, [], ◌∷◌, length, drop, Option, Some, None, refl, sym, ap, ◌∙◌, subst, arith, lit<, lit≤}
+use Rattle.cw_order.specs.Starting.{starts, started_by}
+use Rattle.std.specs.Prelude.{slice_get, slice_index, nat_le, ◌==◌, bit_and, bit_or, bit_xor}
 use Rattle.cw_run86.specs.Processor.{Processor, processor_machine, processor_step, observed}
+use Rattle.cw_track.specs.Watching.{watched}
+use Rattle.cw_track.proofs.Paths.{Path, stay, weaken}
+use Rattle.cw_track.proofs.Watching.{Unnoted, unnoted, nothing, same, FollowedNoting, SimulationNoting}
+use Rattle.cw_i86.specs.declared.instr.Instr.TheVariants as i86
+use Rattle.cw_i86.specs.declared.instr.Imm.TheVariants as imm
+use Rattle.cw_i86.specs.MachineRun.{End}
+use Rattle.cw_i86.specs.MachineRun as run
+use Rattle.cw_image.specs.Begun.{lines_at, beginning}
+use Rattle.cw_follow.specs.Passing.{at_work, passes}
+use Rattle.cw_follow.proofs.Watched.{Watched, watched_machine, fresh, unwatched, still_fresh}
+use Rattle.cw_follow.proofs.Passed.{listed_place, notes_one}
 use Rattle.cw_word.specs.Word.{signed, unsigned, word_difference}
+use Rattle.cw_unit.specs.Begun.{Begun}
 use Rattle.cw_unit.specs.Stop.{Running, Ended, Stopped, Stuck, AddressRange}
 use Rattle.cw_unit.specs.Words.{Words, LabelControl, SwitchControl, ProcedureControl}
 use Rattle.cw_unit.specs.Operation.{Fetch, Store, Add, Subtract, Negate, WriteByte, perform, holds, StoreBits, Combine, Extract, Form, Taken, InBounds}
@@ -16,21 +29,24 @@ use Rattle.cw_order.specs.OrderMachine.{unrefused, step, weight, shown, order_ma
 use Rattle.cw_tmpl.specs.declared.blocks.Simple.TheVariants as simple
 use Rattle.cw_tmpl.specs.declared.blocks.Block.{Block}
 use Rattle.cw_tmpl.specs.declared.blocks.Block.TheVariants as block
-use Rattle.cw_tmpl.specs.Blocks.{block_at}
+use Rattle.cw_tmpl.specs.declared.blocks.Use.{Use}
+use Rattle.cw_tmpl.specs.declared.blocks.Use.TheVariants as uses
+use Rattle.cw_tmpl.specs.Mnemonics.{slot, line_slot}
+use Rattle.cw_tmpl.specs.Blocks.{block_at, orders_left}
 use Rattle.cw_tmpl.specs.Library.{in_area_entry}
 use Rattle.cw_tmpl.specs.Templates.{distance}
-use Rattle.cw_tmpl.specs.ReferenceCode.{mark_starts, names_of}
+use Rattle.cw_tmpl.specs.ReferenceCode.{mark_starts, names_of, order_places}
 use Rattle.cw_follow.specs.Showing.{shown_as}
 use Rattle.cw_follow.specs.Placing.{base_of}
 use Rattle.cw_tmpl.proofs.Sizes.{own_place, jump_arrives}
 use Rattle.cw_follow.proofs.Standing.{order_place}
-use Rattle.cw_follow.proofs.Chains.{at_work, shows}
-use Rattle.cw_follow.proofs.Orders.{sets_line, writes, adds, subtracts, negates, loads, stores, jumps, chooses}
+use Rattle.cw_follow.proofs.Chains.{Leads, at_work as works, below, shows}
+use Rattle.cw_follow.proofs.Orders.{line_set, sets_line, writes, adds, subtracts, negates, loads, stores, jumps, chooses}
 use Rattle.cw_follow.proofs.States.{Given, Sound, Matches, left}
 use Rattle.std.proofs.lemmas.Bool.{true≢false, false≢true}
-use Rattle.cw_track.proofs.Simulations.{Simulation}
-use Rattle.cw_unit.specs.Behaviour.{is_running}
-use Rattle.cw_follow.proofs.InBlocks.{Shape, shape}
+use Rattle.cw_track.proofs.Simulations.{Quiet}
+use Rattle.cw_unit.specs.Behaviour.{Observation, is_running}
+use Rattle.cw_follow.proofs.InBlocks.{Shape, shape, order_of, slice_drop}
 use Rattle.cw_follow.proofs.Straight.{Both, Either, One}
 use Rattle.cw_follow.proofs.Bits.{drops, combines, differs, ands, ors, xors, lesses, takes, loads_signed, loads_unsigned, stores_part}
 use Rattle.cw_follow.proofs.Addresses.{sums, indexes_less, indexes_plus, in_areas, bounds_kept}
@@ -48,11 +64,98 @@ use Rattle.cw_follow.proofs.BlockOrders.{fetch_follows, assign_follows, number_f
 use Rattle.cw_follow.proofs.FrameBlocks.{fetch_frame_follows, assign_frame_follows}
 use Rattle.cw_follow.proofs.Steps.{Follow, leads_to, onward, few_segments, order_is, step_is, weight_is, stuck_here, sound_at, does, tells, arrives, by, calls, setting, cheap, has_code, start, chosen, low_room, more_room, Alone, alone, code, behind, begins_next, silent, two_roomy}
 
-module _ (known : Given) where
-  open known use {rows, p, image, all, coded, few, low}
+-- ---- orders at which nothing is noted
 
-  module _ {q : Processor} {g place line : ℕ} {acts : List OrderActivation} {w : Words} (s : Sound p image g place line acts w q) (a : Alone p image g place line acts w q s.orders.list) where
-    follow_order : (o : Order) → slice_get s.orders.list place ≡ Some o → Follow known (at g place line acts w Running) q
+abbrev plain : Order → Bool
+plain (order.Start n) = false
+plain _ = true
+
+-- the orders of a list up to one are so
+abbrev PlainTo : ℕ → List Order → Type 0
+PlainTo n [] = Unit {0}
+PlainTo zero (o ∷ os) = plain o ≡ true
+PlainTo (suc n) (o ∷ os) = (plain o ≡ true) × PlainTo n os
+
+plain_at : (n k : ℕ) (os : List Order) (o : Order) → PlainTo n os → k ≤ n → slice_get os k ≡ Some o → plain o ≡ true
+plain_at n k [] o h le e = absurd (cc)
+plain_at zero zero (x ∷ xs) o h le e = let same : x ≡ o = cc in subst (λ y. plain y ≡ true) same h
+plain_at zero (suc k) (x ∷ xs) o h le e = absurd (omega arith)
+plain_at (suc n) zero (x ∷ xs) o h le e = let same : x ≡ o = cc in subst (λ y. plain y ≡ true) same h.0
+plain_at (suc n) (suc k) (x ∷ xs) o h le e = plain_at n k xs o h.1 (omega arith) e
+
+use_plain : (u : Use) → plain (order_of u) ≡ true
+use_plain uses.Add = refl
+use_plain _ = refl
+
+quiet_parts : {O E : Type 0} (a b : O) (o : O × List E) → Quiet (a, []) (b, []) o → Unnoted (Quiet a b) o
+quiet_parts a b o (inl e) = (inl (ap (λ x. x.0) e), ap (λ x. x.1) e)
+quiet_parts a b o (inr e) = (inr (ap (λ x. x.0) e), ap (λ x. x.1) e)
+
+-- where the processor rests nothing begins
+rests_over : (e : End) (output : List ℕ) (begun : List Begun) → is_running (shown_as (record { output = output; end = e })) ≡ false → at_work e begun ≡ []
+rests_over run.Running output begun off = absurd (true≢false off)
+rests_over _ output begun off = refl
+
+module _ (known : Given) where
+  open known use {rows, p, image, all, coded, few, low, places, places_stand}
+
+  -- the processor with the observer who is told these places
+  abbrev pub watch : Processor → Watched
+  watch q = fresh places p.limits.area q
+
+  abbrev pub MatchesWatched : OrderState → Processor → Type 0
+  MatchesWatched s q = Matches p image s (watch q)
+
+  abbrev Noting : OrderState → Processor → Type 0
+  Noting s q = FollowedNoting (order_machine p) (processor_machine shown_as) (starts p) (passes places p.limits.area) MatchesWatched (left p) s q
+
+  -- a Start is followed with its note, and each other order where nothing is noted
+  abbrev Carried : OrderState → Processor → Order → Type 0
+  Carried s q (order.Start n) = Noting s q
+  Carried s q _ = Follow known s (watch q)
+
+  carried : (s : OrderState) (q : Processor) (o : Order) → plain o ≡ true → Follow known s (watch q) → Carried s q o
+  carried s q (order.Start n) h f = absurd (false≢true h)
+  carried s q _ h f = f
+
+  matched_silent : (s : OrderState) (t : Watched) → Matches p image s t → t.begun ≡ []
+  matched_silent (at g place line acts w Running) t (inl m) = m.landed.stacked.is.silent
+  matched_silent (at g place line [] w Running) t (inr m) = absurd m
+  matched_silent (at g place line (a ∷ acts) w Running) t (inr m) = m.called_at.stacked.is.silent
+  matched_silent (at g place line acts w Ended) t m = m.silent
+  matched_silent (at g place line acts w (Stopped kind s l)) t m = m.silent
+  matched_silent (at g place line acts w Stuck) t m = absurd m
+
+  quietly : (s : OrderState) (q : Processor) → starts p s ≡ [] → Follow known s (watch q) → Noting s q
+  quietly s q none f =
+      let before = shown s in
+      let behind = shown (step p s) in
+      let silent = matched_silent (step p s) f.reached f.matched in
+      record {
+        spent = f.spent;
+        reached = f.reached.processor;
+        notes =
+            nothing none
+            (unwatched (Quiet before behind) f.spent (watch q) f.reached (weaken (Quiet (before, []) (behind, [])) (Unnoted (Quiet before behind)) watched_machine f.spent (watch q) f.reached (quiet_parts before behind) f.path) silent);
+        within = f.within;
+        matched = subst (Matches p image (step p s)) (still_fresh (Quiet (before, []) (behind, [])) f.spent (watch q) f.reached f.path silent) f.matched;
+        progress = f.progress;
+      }
+
+  module _ {q : Processor} {g place line : ℕ} {acts : List OrderActivation} {w : Words} (s : Sound p image g place line acts w (watch q)) where
+    -- what the list of places has at an order
+    listed : (o : Order) (ls : List (ℕ × ℕ)) → slice_get s.orders.list place ≡ Some o → lines_at places (base_of p g + slice_index (order_places s.orders.list) place) ≡ ls → lines_at places (order_place (base_of p g) s.orders.list place) ≡ ls
+    listed o ls e is = ap (lines_at places) (sym (listed_place (base_of p g) s.orders.list place o e)) ∙ is
+
+    noted_order : (o : Order) → slice_get s.orders.list place ≡ Some o → Carried (at g place line acts w Running) q o → Noting (at g place line acts w Running) q
+    noted_order (order.Start n) e f = f
+    noted_order o e f = quietly (at g place line acts w Running) q (ap (λ x. started_by x g w) (order_is known s (Some o) e)) f
+
+    in_block : (n : ℕ) (os : List Order) (o : Order) → slice_get s.orders.list place ≡ Some o → drop s.from s.orders.list ≡ os → PlainTo n os → s.done ≤ n → plain o ≡ true
+    in_block n os o e is h le = plain_at n s.done os o h le (ap (λ l. slice_get l s.done) (sym is) ∙ slice_drop s.orders.list s.from s.done ∙ ap (slice_get s.orders.list) s.place_is ∙ e)
+
+  module _ {q : Processor} {g place line : ℕ} {acts : List OrderActivation} {w : Words} (s : Sound p image g place line acts w (watch q)) (a : Alone p image g place line acts w (watch q) s.orders.list) where
+    follow_order : (o : Order) → slice_get s.orders.list place ≡ Some o → Carried (at g place line acts w Running) q o
     follow_order (order.Const n) e =
         let small : n < 65536 = coded.constants g place n (order_is known s (Some (order.Const n)) e) in
         put_is known s a (order.Const n) n (signed n) e refl (lit≤ tt) (sym (rows.words.forth n small)) (behind known s a (order.Const n) e) (code known s a (order.Const n) e)
@@ -149,12 +252,28 @@ module _ (known : Given) where
         let small : n < 65536 = coded.lines.within g place n (order_is known s (Some (order.Line n)) e) in
         let goes : step p (at g place line acts w Running) ≡ at g (place + 1) n acts w Running = step_is known s (Some (order.Line n)) e in
         leads_to known g place line acts w (at g (place + 1) n acts w Running) 1 goes (weight_is known s (order.Line n) e)
-        (onward known (λ r l. inl (sound_at known s (place + 1) n w r (begins_next known s a (order.Line n) e) s.room goes l)) (sets_line rows p image g line acts (order_place (base_of p g) s.orders.list (place + 1)) n w (behind known s a (order.Line n) e) small (code known s a (order.Line n) e).0 a.landed))
+        (onward known (λ r l. inl (sound_at known s (place + 1) n w r (begins_next known s a (order.Line n) e) s.room goes l)) (sets_line rows p image g line acts (order_place (base_of p g) s.orders.list (place + 1)) n w (behind known s a (order.Line n) e) small (code known s a (order.Line n) e).0
+        (listed s (order.Line n) [] e (places_stand.lines g place n s.orders s.unit e)) a.landed))
     follow_order (order.Start n) e =
         let small : n < 65536 = coded.lines.begun g place n (order_is known s (Some (order.Start n)) e) in
         let goes : step p (at g place line acts w Running) ≡ at g (place + 1) n acts w Running = step_is known s (Some (order.Start n)) e in
-        leads_to known g place line acts w (at g (place + 1) n acts w Running) 1 goes (weight_is known s (order.Start n) e)
-        (onward known (λ r l. inl (sound_at known s (place + 1) n w r (begins_next known s a (order.Start n) e) s.room goes l)) (sets_line rows p image g line acts (order_place (base_of p g) s.orders.list (place + 1)) n w (behind known s a (order.Start n) e) small (code known s a (order.Start n) e).0 a.landed))
+        let to = order_place (base_of p g) s.orders.list (place + 1) in
+        let here = code known s a (order.Start n) e in
+        let short = below (i86.MovRm (slot line_slot) (imm.Word n)) (omega arith) here.0 a.landed.stacked.is in
+        let begun = listed s (order.Start n) ((g + 1, n) ∷ []) e (places_stand.starts g place n s.orders s.unit e) in
+        record {
+          spent = 1;
+          reached = processor_step q;
+          notes =
+              same (ap shown goes) (notes_one rows.words p (g + 1) n short low refl begun s.fits.memory a.landed ∙ sym (ap (λ x. started_by x g w) (order_is known s (Some (order.Start n)) e)))
+              (let c : 1 ≡ 1 + 0 = omega arith in c) (stay refl refl);
+          within = weight_is known s (order.Start n) e;
+          matched =
+              subst (λ t. MatchesWatched t (processor_step q)) (sym goes)
+              (inl (sound_at known s (place + 1) n w (watch (processor_step q)) (begins_next known s a (order.Start n) e) s.room goes
+              (line_set rows p image g line acts places p.limits.area [] to n w places_stand.ignores refl (behind known s a (order.Start n) e) small here.0 a.landed)));
+          progress = inl (lit< tt);
+        }
     follow_order order.Mark e = silent known s a order.Mark e refl refl
     follow_order (order.Jump m) e =
         let own = own_place s.orders.list place in
@@ -194,44 +313,68 @@ module _ (known : Given) where
     follow_order (order.GoSwitchCommon d) e = switches_by_descriptor known s a d e (defined_at p g d) refl
     follow_order (order.GoSwitchSpecial k) e = switch_special known acts s a k e
 
-  module _ {q : Processor} {g place line : ℕ} {acts : List OrderActivation} {w : Words} (s : Sound p image g place line acts w q) where
-    follow_block : (b : Block) (o : Order) → slice_get s.orders.list place ≡ Some o → block_at 0 (drop s.from s.orders.list) ≡ b → Shape b (drop s.from s.orders.list) → Follow known (at g place line acts w Running) q
+  module _ {q : Processor} {g place line : ℕ} {acts : List OrderActivation} {w : Words} (s : Sound p image g place line acts w (watch q)) where
+    within : (b : Block) (n : ℕ) (os : List Order) (o : Order) → slice_get s.orders.list place ≡ Some o → block_at 0 (drop s.from s.orders.list) ≡ b → orders_left b ≡ n → drop s.from s.orders.list ≡ os → PlainTo n os → (s.done ≤ n → Follow known (at g place line acts w Running) (watch q)) → Carried (at g place line acts w Running) q o
+    within b n os o e is left shaped h f = let le = within_block known s b n is left in carried (at g place line acts w Running) q o (in_block s n os o e shaped h le) (f le)
+
+    follow_block : (b : Block) (o : Order) → slice_get s.orders.list place ≡ Some o → block_at 0 (drop s.from s.orders.list) ≡ b → Shape b (drop s.from s.orders.list) → Carried (at g place line acts w Running) q o
     follow_block (block.Within n) o e is sh = absurd sh
     follow_block block.Single o e is sh = follow_order s (alone known s is) o e
-    follow_block (block.Fetch f n) o e is sh = fetch_follows known s f n s.done sh.0 refl (within_block known s (block.Fetch f n) 1 is refl) sh.1 is
-    follow_block (block.Assign f n) o e is sh = assign_follows known s f n s.done sh.0 refl (within_block known s (block.Assign f n) 1 is refl) sh.1 is
-    follow_block (block.FetchFrame n) o e is sh = fetch_frame_follows known s n s.done sh.0 refl (within_block known s (block.FetchFrame n) 1 is refl) sh.1 is
-    follow_block (block.AssignFrame n) o e is sh = assign_frame_follows known s n s.done sh.0 refl (within_block known s (block.AssignFrame n) 1 is refl) sh.1 is
-    follow_block (block.Operate (simple.Number x) u) o e is sh = number_follows known s x u s.done sh.0 refl (within_block known s (block.Operate (simple.Number x) u) 1 is refl) sh.1 is
-    follow_block (block.Operate (simple.Variable f n) u) o e is sh = variable_follows known s f n u s.done sh.0 refl (within_block known s (block.Operate (simple.Variable f n) u) 2 is refl) sh.1 is
+    follow_block (block.Fetch f n) o e is sh = within (block.Fetch f n) 1 (order.Home f n ∷ order.Load ∷ sh.0) o e is refl sh.1 (refl, refl) (λ le. fetch_follows known s f n s.done sh.0 refl le sh.1 is)
+    follow_block (block.Assign f n) o e is sh = within (block.Assign f n) 1 (order.Home f n ∷ order.Store ∷ sh.0) o e is refl sh.1 (refl, refl) (λ le. assign_follows known s f n s.done sh.0 refl le sh.1 is)
+    follow_block (block.FetchFrame n) o e is sh = within (block.FetchFrame n) 1 (order.FrameHome n ∷ order.Load ∷ sh.0) o e is refl sh.1 (refl, refl) (λ le. fetch_frame_follows known s n s.done sh.0 refl le sh.1 is)
+    follow_block (block.AssignFrame n) o e is sh = within (block.AssignFrame n) 1 (order.FrameHome n ∷ order.Store ∷ sh.0) o e is refl sh.1 (refl, refl) (λ le. assign_frame_follows known s n s.done sh.0 refl le sh.1 is)
+    follow_block (block.Operate (simple.Number x) u) o e is sh = within (block.Operate (simple.Number x) u) 1 (order.Const x ∷ order_of u ∷ sh.0) o e is refl sh.1 (refl, use_plain u) (λ le. number_follows known s x u s.done sh.0 refl le sh.1 is)
+    follow_block (block.Operate (simple.Variable f n) u) o e is sh = within (block.Operate (simple.Variable f n) u) 2 (order.Home f n ∷ order.Load ∷ order_of u ∷ sh.0) o e is refl sh.1 (refl, (refl, use_plain u)) (λ le. variable_follows known s f n u s.done sh.0 refl le sh.1 is)
 
-    follow_place : (o : Option Order) → slice_get s.orders.list place ≡ o → Follow known (at g place line acts w Running) q
+    follow_place : (o : Option Order) → slice_get s.orders.list place ≡ o → Noting (at g place line acts w Running) q
     follow_place None e = absurd (stuck_here known s (step_is known s None e))
-    follow_place (Some o) e = follow_block (block_at 0 (drop s.from s.orders.list)) o e refl (shape (drop s.from s.orders.list))
+    follow_place (Some o) e = noted_order s o e (follow_block (block_at 0 (drop s.from s.orders.list)) o e refl (shape (drop s.from s.orders.list)))
 
   -- ---- the simulation
 
-  agrees : (s : OrderState) (q : Processor) → Matches p image s q → shown_as (observed q) ≡ shown s
-  agrees (at g place line acts w Running) q (inl m) = shows rows m.landed.stacked.is m.landed.kept.wrote ∙ ap at_work m.wrote
+  agrees : (s : OrderState) (q : Processor) → MatchesWatched s q → shown_as (observed q) ≡ shown s
+  agrees (at g place line acts w Running) q (inl m) = ap (λ o. o.0) (shows rows m.landed.stacked.is m.landed.kept.wrote) ∙ ap (λ o. record { output = o; end = Running }) m.wrote
   agrees (at g place line [] w Running) q (inr m) = absurd m
-  agrees (at g place line (a ∷ acts) w Running) q (inr m) = shows rows m.called_at.stacked.is m.called_at.kept.wrote
+  agrees (at g place line (a ∷ acts) w Running) q (inr m) = ap (λ o. o.0) (shows rows m.called_at.stacked.is m.called_at.kept.wrote)
   agrees (at g place line acts w Ended) q m = m.shows
   agrees (at g place line acts w (Stopped kind s l)) q m = m.shows
   agrees (at g place line acts w Stuck) q m = absurd m
 
-  rests : (s : OrderState) (q : Processor) → Matches p image s q → is_running (shown s) ≡ false → (step p s ≡ s) × (processor_step q ≡ q)
+  rests : (s : OrderState) (q : Processor) → MatchesWatched s q → is_running (shown s) ≡ false → (step p s ≡ s) × (processor_step q ≡ q)
   rests (at g place line acts w Running) q m off = absurd (true≢false off)
   rests (at g place line acts w Ended) q m off = (refl, m.still)
   rests (at g place line acts w (Stopped kind s l)) q m off = (refl, m.still)
   rests (at g place line acts w Stuck) q m off = absurd m
 
-  follows : (s : OrderState) (q : Processor) → Matches p image s q → is_running (shown s) ≡ true → Follow known s q
+  starts_over : (s : OrderState) → is_running (shown s) ≡ false → starts p s ≡ []
+  starts_over (at g place line acts w Running) off = absurd (true≢false off)
+  starts_over (at g place line acts w Ended) off = refl
+  starts_over (at g place line acts w (Stopped kind s l)) off = refl
+  starts_over (at g place line acts w Stuck) off = refl
+
+  idle : (s : OrderState) (q : Processor) → MatchesWatched s q → is_running (shown s) ≡ false → (starts p s ≡ []) × (passes places p.limits.area q ≡ [])
+  idle s q m off = (starts_over s off, rests_over q.end q.told.output (beginning places p.limits.area q.state) (ap is_running (agrees s q m) ∙ off))
+
+  follows : (s : OrderState) (q : Processor) → MatchesWatched s q → is_running (shown s) ≡ true → Noting s q
   follows (at g place line acts w Running) q (inl m) on = follow_place m (slice_get m.orders.list place) refl
   follows (at g place line [] w Running) q (inr m) on = absurd m
-  follows (at g place line (a ∷ acts) w Running) q (inr m) on = begins_activation known m
+  follows (at g place line (a ∷ acts) w Running) q (inr m) on = quietly (at g place line (a ∷ acts) w Running) q (ap (λ x. started_by x g w) m.beginning.order) (begins_activation known m)
   follows (at g place line acts w Ended) q m on = absurd (false≢true on)
   follows (at g place line acts w (Stopped kind s l)) q m on = absurd (false≢true on)
   follows (at g place line acts w Stuck) q m on = absurd m
 
-  pub simulates : Simulation is_running (order_machine p) (processor_machine shown_as) (Matches p image) (left p)
-  simulates = record { agrees = agrees; rests = rests; follows = follows }
+  pub simulates : SimulationNoting is_running (order_machine p) (processor_machine shown_as) (starts p) (passes places p.limits.area) MatchesWatched (left p)
+  simulates = record { agrees = agrees; rests = rests; idle = idle; follows = follows }
+
+  -- a way to a state that matches, on which nothing is noted, as one of the machine that is watched
+  pub watched_way : {output : List ℕ} {n : ℕ} (q : Processor) (s : OrderState) → Leads output n (watch q) (Matches p image s)
+      → (r : Processor) × Path (λ o. o ≡ works output) (watched (processor_machine shown_as) (passes places p.limits.area)) n (q, []) (r, []) × MatchesWatched s r
+  watched_way {output} {n} q s l =
+      let shown : Observation = record { output = output; end = Running } in
+      let silent = matched_silent s l.reached l.there in (
+        l.reached.processor,
+        unnoted (λ o. o ≡ shown) (λ o. o ≡ works output) (processor_machine shown_as) (passes places p.limits.area) [] (λ o e. ap (λ x. (x, [])) e) n q l.reached.processor
+            (unwatched (λ o. o ≡ shown) n (watch q) l.reached (weaken (λ o. o ≡ works output) (Unnoted (λ o. o ≡ shown)) watched_machine n (watch q) l.reached (λ o e. (ap (λ x. x.0) e, ap (λ x. x.1) e)) l.path) silent),
+        subst (Matches p image s) (still_fresh (λ o. o ≡ works output) n (watch q) l.reached l.path silent) l.there,
+      )

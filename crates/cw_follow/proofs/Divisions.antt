@@ -9,7 +9,8 @@ use Rattle.cw_i86.specs.declared.instr.Instr.{Instr}
 use Rattle.cw_i86.specs.declared.instr.Instr.TheVariants as i86
 use Rattle.cw_i86.specs.declared.instr.Imm.TheVariants as imm
 use Rattle.cw_i86.specs.declared.instr.Rm.TheVariants as rms
-use Rattle.cw_run86.specs.Processor.{Processor, Told}
+use Rattle.cw_run86.specs.Processor.{Told}
+use Rattle.cw_follow.proofs.Watched.{Watched}
 use Rattle.cw_run86.specs.Views.{compare as compare_of, Unequal, words_compare, word_difference, difference_overflows, word_up, word_down, shift_overflow, sign_of}
 use Rattle.cw_word.specs.FixedPoint.{FitsWord, fits_word, scaled_quotient}
 use Rattle.cw_word.specs.Word.{signed, unsigned, magnitude, signs_differ, negative_if, word_difference as difference_of_words}
@@ -102,9 +103,9 @@ module _ (c : Setting) (memory : List ℤ) (input output : List ℕ) where
     middle = Quotient 3 ∷ Number 2 32768 ∷ Difference 2 6 ∷ []
 
     -- to the second test
-    divided : {p : Processor} {cx di : ℕ} {overflow : Bool} {cells stack : ℕ → ℕ} {left : List ℕ} {told : Told} (n m : ℕ) (Target : Processor → Type 0) → told.output ≡ output → high < d
+    divided : {p : Watched} {cx di : ℕ} {overflow : Bool} {cells stack : ℕ → ℕ} {left : List ℕ} {told : Told} (n m : ℕ) (Target : Watched → Type 0) → told.output ≡ output → high < d
         → Is c.image end_place (view low cx high d (2 * suc n) (record_of c.acts) (mask negative) di overflow cells stack left told) p
-        → ((o : Bool) (q : Processor) → Is c.image 238 (view result cx (word_difference 32768 (mask negative)) d (2 * suc n) (record_of c.acts) (mask negative) di o cells stack left told) q → Leads output m q Target)
+        → ((o : Bool) (q : Watched) → Is c.image 238 (view result cx (word_difference 32768 (mask negative)) d (2 * suc n) (record_of c.acts) (mask negative) di o cells stack left told) q → Leads output m q Target)
         → Leads output (5 + m) p Target
     divided {p} {cx} {di} {overflow} {cells} {stack} {left} {told} n m Target wrote lt s on =
         let h = end_stands in
@@ -113,7 +114,7 @@ module _ (c : Setting) (memory : List ℤ) (input output : List ℕ) where
         let e : suc (suc (3 + m)) ≡ 5 + m = omega arith in
         subst (λ x. Leads output x p Target) e (compared c.rows {v = view low cx high d (2 * suc n) (record_of c.acts) (mask negative) di overflow cells stack left told} 2 3 wrote h.0 s l)
 
-    end_comes : (b : Bool) → fits_word number ≡ b → {p : Processor} {cx di : ℕ} {overflow : Bool} {cells stack : ℕ → ℕ} {left : List ℕ} {told : Told} (n back : ℕ) → suc n < level c.acts → back < 65536 → stack (suc n) ≡ back
+    end_comes : (b : Bool) → fits_word number ≡ b → {p : Watched} {cx di : ℕ} {overflow : Bool} {cells stack : ℕ → ℕ} {left : List ℕ} {told : Told} (n back : ℕ) → suc n < level c.acts → back < 65536 → stack (suc n) ≡ back
         → Kept c.program c.g c.line c.acts memory input output cells stack left told
         → Is c.image end_place (view low cx high d (2 * suc n) (record_of c.acts) (mask negative) di overflow cells stack left told) p
         → Comes c memory input output b Overflow number 18 back (suc (suc n)) cells stack left told p
@@ -170,7 +171,7 @@ module _ (c : Setting) (memory : List ℤ) (input output : List ℕ) where
     negative = signs_differ a d
 
     -- a divisor of 0 stops
-    zero_stops : {p : Processor} {at k dx si di : ℕ} {overflow : Bool} {cells stack : ℕ → ℕ} {left : List ℕ} {told : Told} (by n back : ℕ) (z : ℤ) → (at + 3 + 2 + 2 + 3 + by) % 65536 ≡ 30 % 65536 → d ≡ 0 → suc n < level c.acts
+    zero_stops : {p : Watched} {at k dx si di : ℕ} {overflow : Bool} {cells stack : ℕ → ℕ} {left : List ℕ} {told : Told} (by n back : ℕ) (z : ℤ) → (at + 3 + 2 + 2 + 3 + by) % 65536 ≡ 30 % 65536 → d ≡ 0 → suc n < level c.acts
         → Kept c.program c.g c.line c.acts memory input output cells stack left told
         → HasAll c.image at (i86.MovImm 6 (imm.Word 0) ∷ compare_of 3 6 ∷ i86.JumpIf 5 3 ∷ i86.Call by ∷ [])
         → Is c.image at (view a k dx d (2 * suc n) (record_of c.acts) si di overflow cells stack left told) p
@@ -185,10 +186,10 @@ module _ (c : Setting) (memory : List ℤ) (input output : List ℕ) where
         (compare_passes c.rows {v = view a k dx d (2 * suc n) (record_of c.acts) 0 di overflow cells stack left told} Unequal 3 6 3 d_fits (lit< tt) same h.1.0 h.1.1.0 t))))
 
     -- the magnitudes, and whether the quotient is negative
-    found : {p : Processor} {at k dx si di : ℕ} {overflow : Bool} {cells stack : ℕ → ℕ} {left : List ℕ} {told : Told} (by : ℕ) (rest : List Instr) (n m : ℕ) (Target : Processor → Type 0) → told.output ≡ output → d ≢ 0
+    found : {p : Watched} {at k dx si di : ℕ} {overflow : Bool} {cells stack : ℕ → ℕ} {left : List ℕ} {told : Told} (by : ℕ) (rest : List Instr) (n m : ℕ) (Target : Watched → Type 0) → told.output ≡ output → d ≢ 0
         → HasAll c.image at (i86.MovImm 6 (imm.Word 0) ∷ compare_of 3 6 ∷ i86.JumpIf 5 3 ∷ i86.Call by ∷ (codes front ++ rest))
         → Is c.image at (view a k dx d (2 * suc n) (record_of c.acts) si di overflow cells stack left told) p
-        → ((e : ℕ) (o : Bool) (q : Processor) → Is c.image (behind front (at + 3 + 2 + 2 + 3)) (view (magnitude a) k e (magnitude d) (2 * suc n) (record_of c.acts) (mask negative) (magnitude a) o cells stack left told) q → Leads output m q Target)
+        → ((e : ℕ) (o : Bool) (q : Watched) → Is c.image (behind front (at + 3 + 2 + 2 + 3)) (view (magnitude a) k e (magnitude d) (2 * suc n) (record_of c.acts) (mask negative) (magnitude a) o cells stack left told) q → Leads output m q Target)
         → Leads output (15 + m) p Target
     found {p} {at} {k} {dx} {si} {di} {overflow} {cells} {stack} {left} {told} by rest n m Target wrote some h s on =
         let other : words_compare Unequal d 0 ≡ true = unequal_words d 0 d_fits (lit< tt) ∙ ap (λ t. if t then false else true) (ne_eqb d 0 some) in
@@ -208,7 +209,7 @@ module _ (c : Setting) (memory : List ℤ) (input output : List ℕ) where
     -- ---- the whole routines
 
     -- at the common end
-    record Reached (n k low high : ℕ) (cells stack : ℕ → ℕ) (left : List ℕ) (told : Told) (p : Processor) : Type 0 where
+    record Reached (n k low high : ℕ) (cells stack : ℕ → ℕ) (left : List ℕ) (told : Told) (p : Watched) : Type 0 where
       cx : ℕ
       di : ℕ
       overflow : Bool
@@ -220,7 +221,7 @@ module _ (c : Setting) (memory : List ℤ) (input output : List ℕ) where
     abbrev D : ℕ
     D = magnitude d
 
-    down_comes : (j k : ℕ) → k ≡ suc j → k ≤ 15 → d ≢ 0 → (b : Bool) → fits_word (scaled_quotient x y (negsuc j)) ≡ b → {p : Processor} {dx si di : ℕ} {overflow : Bool} {cells stack : ℕ → ℕ} {left : List ℕ} {told : Told} (n back : ℕ) → suc n < level c.acts → back < 65536
+    down_comes : (j k : ℕ) → k ≡ suc j → k ≤ 15 → d ≢ 0 → (b : Bool) → fits_word (scaled_quotient x y (negsuc j)) ≡ b → {p : Watched} {dx si di : ℕ} {overflow : Bool} {cells stack : ℕ → ℕ} {left : List ℕ} {told : Told} (n back : ℕ) → suc n < level c.acts → back < 65536
         → stack (suc n) ≡ back → Kept c.program c.g c.line c.acts memory input output cells stack left told
         → Is c.image quotient_down_place (view a k dx d (2 * suc n) (record_of c.acts) si di overflow cells stack left told) p
         → Comes c memory input output b Overflow (scaled_quotient x y (negsuc j)) 39 back (suc (suc n)) cells stack left told p
@@ -249,7 +250,7 @@ module _ (c : Setting) (memory : List ℤ) (input output : List ℕ) where
         (λ q r. subst (λ z. Comes c memory input output b Overflow z 18 back (suc (suc n)) cells stack left told q) value
         (end_comes negative 0 low D some' ll b (ap fits_word value ∙ is) n back small fits there kept r.is))
 
-    up_comes : (k : ℕ) → k ≤ 16 → d ≢ 0 → (b : Bool) → fits_word (scaled_quotient x y (pos k)) ≡ b → {p : Processor} {dx si di : ℕ} {overflow : Bool} {cells stack : ℕ → ℕ} {left : List ℕ} {told : Told} (n back : ℕ) → suc n < level c.acts → back < 65536
+    up_comes : (k : ℕ) → k ≤ 16 → d ≢ 0 → (b : Bool) → fits_word (scaled_quotient x y (pos k)) ≡ b → {p : Watched} {dx si di : ℕ} {overflow : Bool} {cells stack : ℕ → ℕ} {left : List ℕ} {told : Told} (n back : ℕ) → suc n < level c.acts → back < 65536
         → stack (suc n) ≡ back → Kept c.program c.g c.line c.acts memory input output cells stack left told
         → Is c.image quotient_up_place (view a k dx d (2 * suc n) (record_of c.acts) si di overflow cells stack left told) p
         → Comes c memory input output b Overflow (scaled_quotient x y (pos k)) 39 back (suc (suc n)) cells stack left told p
@@ -294,7 +295,7 @@ module _ (c : Setting) (memory : List ℤ) (input output : List ℕ) where
   zero_up : (x y : ℤ) → FitsWord x → FitsWord y → y ≡ pos 0 → (k : ℕ) → Routine c memory input output quotient_up_place k x y false ZeroDivisor (pos 0) 39
   zero_up x y fx fy none k = record { comes = comes }
     where
-      comes : {p : Processor} {dx si di : ℕ} {overflow : Bool} {cells stack : ℕ → ℕ} {left : List ℕ} {told : Told} (n back : ℕ) → suc n < level c.acts → back < 65536 → stack (suc n) ≡ back → Kept c.program c.g c.line c.acts memory input output cells stack left told
+      comes : {p : Watched} {dx si di : ℕ} {overflow : Bool} {cells stack : ℕ → ℕ} {left : List ℕ} {told : Told} (n back : ℕ) → suc n < level c.acts → back < 65536 → stack (suc n) ≡ back → Kept c.program c.g c.line c.acts memory input output cells stack left told
           → Is c.image quotient_up_place (view (unsigned x) k dx (unsigned y) (2 * suc n) (record_of c.acts) si di overflow cells stack left told) p
           → Comes c memory input output false ZeroDivisor (pos 0) 39 back (suc (suc n)) cells stack left told p
       comes n back small fits there kept s =
@@ -304,7 +305,7 @@ module _ (c : Setting) (memory : List ℤ) (input output : List ℕ) where
   zero_down : (x y : ℤ) → FitsWord x → FitsWord y → y ≡ pos 0 → (k : ℕ) → Routine c memory input output quotient_down_place k x y false ZeroDivisor (pos 0) 39
   zero_down x y fx fy none k = record { comes = comes }
     where
-      comes : {p : Processor} {dx si di : ℕ} {overflow : Bool} {cells stack : ℕ → ℕ} {left : List ℕ} {told : Told} (n back : ℕ) → suc n < level c.acts → back < 65536 → stack (suc n) ≡ back → Kept c.program c.g c.line c.acts memory input output cells stack left told
+      comes : {p : Watched} {dx si di : ℕ} {overflow : Bool} {cells stack : ℕ → ℕ} {left : List ℕ} {told : Told} (n back : ℕ) → suc n < level c.acts → back < 65536 → stack (suc n) ≡ back → Kept c.program c.g c.line c.acts memory input output cells stack left told
           → Is c.image quotient_down_place (view (unsigned x) k dx (unsigned y) (2 * suc n) (record_of c.acts) si di overflow cells stack left told) p
           → Comes c memory input output false ZeroDivisor (pos 0) 39 back (suc (suc n)) cells stack left told p
       comes n back small fits there kept s =
@@ -319,7 +320,7 @@ module _ (c : Setting) (memory : List ℤ) (input output : List ℕ) where
   abbrev DivideCode : ℕ → (count by : ℕ) → Type 0
   DivideCode at count by = HasAll c.image at (i86.Mov true true 3 (rms.Reg 0) ∷ i86.Pop 0 ∷ i86.MovImm 1 (imm.Word count) ∷ i86.Call by ∷ [])
 
-  pub divides_up : {p : Processor} {at : ℕ} (to by k : ℕ) (operands : List Operand) → at + 9 ≡ to → k ≤ 16 → (at + 2 + 1 + 3 + 3 + by) % 65536 ≡ quotient_up_place % 65536 → operand_words operands < level c.acts → All OperandFits operands → DivideCode at k by
+  pub divides_up : {p : Watched} {at : ℕ} (to by k : ℕ) (operands : List Operand) → at + 9 ≡ to → k ≤ 16 → (at + 2 + 1 + 3 + 3 + by) % 65536 ≡ quotient_up_place % 65536 → operand_words operands < level c.acts → All OperandFits operands → DivideCode at k by
       → LandedWith c memory input output at operands p → DoesHere c memory input output 43 to p (perform c.program.limits.area (Divide (pos k)) (words operands memory input output))
   divides_up {p} {at} to by k operands e few arrives roomy fits i = taking_two c memory input output 43 to (divide (pos k)) does operands roomy fits
     where
@@ -335,7 +336,7 @@ module _ (c : Setting) (memory : List ℤ) (input output : List ℕ) where
       does x (pos (suc n)) rest fx fy l = by_number x (pos (suc n)) rest (λ q. absurd (cc)) fx fy l
       does x (negsuc n) rest fx fy l = by_number x (negsuc n) rest (λ q. absurd (cc)) fx fy l
 
-  pub divides_down : {p : Processor} {at : ℕ} (to by j : ℕ) (operands : List Operand) → at + 9 ≡ to → j < 15 → (at + 2 + 1 + 3 + 3 + by) % 65536 ≡ quotient_down_place % 65536 → operand_words operands < level c.acts → All OperandFits operands → DivideCode at (j + 1) by
+  pub divides_down : {p : Watched} {at : ℕ} (to by j : ℕ) (operands : List Operand) → at + 9 ≡ to → j < 15 → (at + 2 + 1 + 3 + 3 + by) % 65536 ≡ quotient_down_place % 65536 → operand_words operands < level c.acts → All OperandFits operands → DivideCode at (j + 1) by
       → LandedWith c memory input output at operands p → DoesHere c memory input output 43 to p (perform c.program.limits.area (Divide (negsuc j)) (words operands memory input output))
   divides_down {p} {at} to by j operands e few arrives roomy fits i = taking_two c memory input output 43 to (divide (negsuc j)) does operands roomy fits
     where

@@ -5,11 +5,14 @@ use Rattle.std.specs.List.{All}
 use Rattle.std.proofs.lemmas.List.{get_or_default}
 use Rattle.std.proofs.lemmas.List.Elements.{All-head, All-nil, All-tail}
 use Rattle.cw_track.specs.Tracking.{TracksAfter}
+use Rattle.cw_track.specs.Watching.{watched}
 use Rattle.cw_track.proofs.Simulations.{tracks}
+use Rattle.cw_track.proofs.Watching.{simulation_watched}
 use Rattle.cw_track.proofs.Budgets.{starts_up}
 use Rattle.cw_i86.specs.State.{State}
 use Rattle.cw_i86.specs.MachineRun.{IsStart}
-use Rattle.cw_run86.specs.Processor.{Processor, nothing_told, processor_machine, processor_start}
+use Rattle.cw_run86.specs.Processor.{nothing_told, processor_machine, processor_start}
+use Rattle.cw_image.specs.Begun.{StatementPlace}
 use Rattle.cw_word.specs.FixedPoint.{FitsWord}
 use Rattle.cw_word.specs.Word.{unsigned}
 use Rattle.cw_follow.proofs.WordLaws.{WordLaws}
@@ -23,14 +26,17 @@ use Rattle.cw_order.specs.OrderMachine.{carry_out, step, order_machine, entry_of
 use Rattle.cw_order.specs.FittingWords.{OperandFits, ActivationFits}
 use Rattle.cw_tmpl.specs.Blocks.{left_at}
 use Rattle.cw_follow.specs.Showing.{shown_as}
+use Rattle.cw_order.specs.Starting.{starts}
+use Rattle.cw_follow.specs.Passing.{passes, PlacesStand}
 use Rattle.cw_follow.specs.Placing.{IsImage, Codable, BeginsWith, NeverStuck, startup_cost, base_of}
 use Rattle.cw_follow.proofs.Standing.{order_place, AllStand}
 use Rattle.cw_follow.proofs.Rows.{Rows}
+use Rattle.cw_follow.proofs.Watched.{Watched}
 use Rattle.cw_follow.proofs.Chains.{Is, Leads, view, seen, near, more}
 use Rattle.cw_follow.proofs.Routines.{Begun, enters, leads_on}
 use Rattle.cw_order.specs.Activations.{OperandStands}
-use Rattle.cw_follow.proofs.States.{Sound, Matches, left, not_stuck, never_on}
-use Rattle.cw_follow.proofs.Dispatch.{simulates}
+use Rattle.cw_follow.proofs.States.{Given, Sound, left, not_stuck, never_on}
+use Rattle.cw_follow.proofs.Dispatch.{watch, MatchesWatched, simulates, watched_way}
 
 -- ---- the start
 
@@ -50,12 +56,12 @@ module _ (laws : WordLaws) (p : OrderProgram) (words : List ℕ) (memory : List 
       subst FitsWord (sym (get_or_default memory k d (pos 0) lt ∙ begins.same k within)) (laws.signed_fits (slice_index words k) (small_words words k begins.are_words))
 
 -- from the first instruction of an image on
-pub following : Rows → (p : OrderProgram) (image words : List ℕ) (memory : List ℤ) (input : List ℕ) (s : State)
-    → AllStand p image → IsImage p image → Codable p → BeginsWith p memory words → NeverStuck p memory input → IsStart image words s → All (λ b. b < 256) input
-    → TracksAfter is_running startup_cost (order_machine p) (order_start p memory input) (processor_machine shown_as) (processor_start s input)
-following rows p image words memory input s all is coded begins never starts bytes = cases (slice_get p.units 0) refl
+pub following : Rows → (p : OrderProgram) (image words : List ℕ) (memory : List ℤ) (input : List ℕ) (s : State) (places : List StatementPlace)
+    → AllStand p image → IsImage p image → PlacesStand p image places → Codable p → BeginsWith p memory words → NeverStuck p memory input → IsStart image words s → All (λ b. b < 256) input
+    → TracksAfter (λ o. is_running o.0) startup_cost (watched (order_machine p) (starts p)) (order_start p memory input, []) (watched (processor_machine shown_as) (passes places p.limits.area)) (processor_start s input, [])
+following rows p image words memory input s places all is stand coded begins never starts_so bytes = cases (slice_get p.units 0) refl
   where
-    cases : (u : Option Orders) → slice_get p.units 0 ≡ u → TracksAfter is_running startup_cost (order_machine p) (order_start p memory input) (processor_machine shown_as) (processor_start s input)
+    cases : (u : Option Orders) → slice_get p.units 0 ≡ u → TracksAfter (λ o. is_running o.0) startup_cost (watched (order_machine p) (starts p)) (order_start p memory input, []) (watched (processor_machine shown_as) (passes places p.limits.area)) (processor_start s input, [])
     cases None none =
         let begun : Words = record { operands = []; memory = memory; input = input; output = [] } in
         let first = entry_of (slice_get p.units 0) in
@@ -69,8 +75,10 @@ following rows p image words memory input s all is coded begins never starts byt
         let area = begins.area in
         let short_words : length words ≤ 32768 = let f = begins.few in omega arith in
         let su = all.stands 0 u some in
-        let from : Is image 0 (view 0 0 0 0 0 0 0 0 false (slice_index words) (λ k. 0) input nothing_told) (processor_start s input) = record { sees = rows.starts image words input s is.fits short_words starts } in
-        let at_entry : (q : Processor) → Begun image (base_of p 0 + 15) 1 p.limits.depth (p.limits.area - p.limits.frames) (slice_index words) input nothing_told q → Sound p image 0 first 0 [] begun q = λ q b.
+        let known : Given = record { rows = rows; p = p; image = image; all = all; coded = coded; few = few; low = area; places = places; places_stand = stand } in
+        let begin = watch known (processor_start s input) in
+        let from : Is image 0 (view 0 0 0 0 0 0 0 0 false (slice_index words) (λ k. 0) input nothing_told) begin = record { sees = rows.starts image words input s is.fits short_words starts_so; ignores = stand.ignores; silent = refl } in
+        let at_entry : (q : Watched) → Begun image (base_of p 0 + 15) 1 p.limits.depth (p.limits.area - p.limits.frames) (slice_index words) input nothing_told q → Sound p image 0 first 0 [] begun q = λ q b.
         let z = b.stacked in
         let place_is : base_of p 0 + 15 ≡ order_place (base_of p 0) u.list 0 = omega arith in
         let there : base_of p 0 + 15 ≡ order_place (base_of p 0) u.list first = place_is ∙ ap (order_place (base_of p 0) u.list) (sym is_zero) in
@@ -106,9 +114,12 @@ following rows p image words memory input s all is coded begins never starts byt
           never = never;
         } in
         let base_is : 370 ≡ base_of p 0 = refl in
-        let way : Leads [] 20 (processor_start s input) (Sound p image 0 first 0 [] begun) =
+        let way : Leads [] 20 begin (Sound p image 0 first 0 [] begun) =
         more rows {to = base_of p 0} {w = view 0 0 0 0 0 0 0 0 false (slice_index words) (λ k. 0) input nothing_told} from refl (seen base_is refl (near rows 367 all.library.0 from)) (λ q t.
         leads_on at_entry
         (enters rows p 0 su.next_place su.value (base_of p 0) 0 0 0 0 0 0 0 32767 false (slice_index words) (λ k. 0) input nothing_told all.library su.fills su.entry (lit< tt) (lit< tt) area coded.frames coded.depth 0 refl t)) in
-        starts_up is_running (order_machine p) (processor_machine shown_as) (order_start p memory input) 0 20 20 (processor_start s input) way.reached refl way.path
-        (tracks is_running (order_machine p) (processor_machine shown_as) (Matches p image) (left p) (simulates (record { rows = rows; p = p; image = image; all = all; coded = coded; few = few; low = area })) (order_start p memory input) way.reached (inl way.there))
+        let start = watched_way known (processor_start s input) (at 0 first 0 [] begun Running) (leads_on (λ q m. inl m) way) in
+        let A = watched (order_machine p) (starts p) in
+        let B = watched (processor_machine shown_as) (passes places p.limits.area) in
+        starts_up (λ o. is_running o.0) A B (order_start p memory input, []) 0 20 20 (processor_start s input, []) (start.0, []) refl start.1
+        (tracks (λ o. is_running o.0) A B _ _ (simulation_watched is_running (order_machine p) (processor_machine shown_as) (starts p) (passes places p.limits.area) (MatchesWatched known) (left p) (simulates known)) (order_start p memory input, []) (start.0, []) (start.2, refl))

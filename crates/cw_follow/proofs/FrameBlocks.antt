@@ -1,7 +1,7 @@
 -- Blocks of a word of the frame at work.
 use Rattle.std.proofs.Common.{◌≡◌, ℕ, zero, suc, ◌+◌, ◌*◌, ◌%◌, ◌<◌, ◌≤◌, ◌≢◌, Bool, true, false, ℤ, List, [], ◌∷◌, drop, set, Some, None, refl, ap, ◌∙◌, subst, arith, lit<, lit≤}
 use Rattle.cw_i86.specs.declared.instr.Instr.TheVariants as i86
-use Rattle.cw_run86.specs.Processor.{Processor}
+use Rattle.cw_follow.proofs.Watched.{Watched}
 use Rattle.cw_word.specs.Word.{signed, unsigned}
 use Rattle.cw_unit.specs.Stop.{Running}
 use Rattle.cw_unit.specs.Words.{Operand, Word, Held, Words, Changed, with_memory, put, through, is_below, number_of, word_at}
@@ -30,7 +30,7 @@ use Rattle.cw_follow.proofs.BlockOrders.{room_in}
 
 module _ (rows : Rows) (prog : OrderProgram) (image : List ℕ) where
   -- the word comes to AX
-  fetches_frame : {q : Processor} {at : ℕ} (g line to n : ℕ) (a : OrderActivation) (acts : List OrderActivation) (w : Words) → prog.limits.area ≤ 32768 → at + 10 ≡ to → operand_words w.operands < level (a ∷ acts)
+  fetches_frame : {q : Watched} {at : ℕ} (g line to n : ℕ) (a : OrderActivation) (acts : List OrderActivation) (w : Words) → prog.limits.area ≤ 32768 → at + 10 ≡ to → operand_words w.operands < level (a ∷ acts)
       → HasAll image at (i86.Push 0 ∷ load 3 (slot base_slot) ∷ double 3 ∷ load 0 (field (2 * n % 65536)) ∷ []) → Landed prog image at g line (a ∷ acts) w q
       → Does prog image 4 to g line (a ∷ acts) w.output q (unrefused (perform prog.limits.area (Fetch None) (put (signed ((a.frame_base + n) % 65536)) w)))
   fetches_frame {q} {at} g line to n a acts w low e room i l = cases (is_below (signed m) prog.limits.area) refl
@@ -67,7 +67,7 @@ module _ (rows : Rows) (prog : OrderProgram) (image : List ℕ) where
       cases true is = let f = below_area rows.words prog.limits.area m low (omega arith) is in found (number_of (signed m)) f.within f.same l.top refl
 
   -- the top operand goes to the word
-  assigns_frame : {q : Processor} {at : ℕ} (g line to n : ℕ) (a : OrderActivation) (acts : List OrderActivation) (operands : List Operand) (memory : List ℤ) (input output : List ℕ) → prog.limits.area ≤ 32768 → at + 10 ≡ to
+  assigns_frame : {q : Watched} {at : ℕ} (g line to n : ℕ) (a : OrderActivation) (acts : List OrderActivation) (operands : List Operand) (memory : List ℤ) (input output : List ℕ) → prog.limits.area ≤ 32768 → at + 10 ≡ to
       → HasAll image at (load 3 (slot base_slot) ∷ double 3 ∷ store (field (2 * n % 65536)) 0 ∷ i86.Pop 0 ∷ []) → Landed prog image at g line (a ∷ acts) (record { operands = operands; memory = memory; input = input; output = output }) q
       → Does prog image 4 to g line (a ∷ acts) output q (unrefused (perform prog.limits.area (Store None) (record { operands = Word (signed ((a.frame_base + n) % 65536)) ∷ operands; memory = memory; input = input; output = output })))
   assigns_frame g line to n a acts [] memory input output low e i l = tt
@@ -102,13 +102,13 @@ module _ (rows : Rows) (prog : OrderProgram) (image : List ℕ) where
           done (landed rows prog image g line (a ∷ acts) to (suc l.top) rest (set memory k z) input output end l.operands.1 (kept_stored k z within c) u)))
 
   -- a segment's body has no frame
-  fetches_word : {q : Processor} {at : ℕ} (g line to n : ℕ) (acts : List OrderActivation) (w : Words) → prog.limits.area ≤ 32768 → at + 10 ≡ to → operand_words w.operands < level acts
+  fetches_word : {q : Watched} {at : ℕ} (g line to n : ℕ) (acts : List OrderActivation) (w : Words) → prog.limits.area ≤ 32768 → at + 10 ≡ to → operand_words w.operands < level acts
       → HasAll image at (i86.Push 0 ∷ load 3 (slot base_slot) ∷ double 3 ∷ load 0 (field (2 * n % 65536)) ∷ []) → Landed prog image at g line acts w q
       → Does prog image 4 to g line acts w.output q (chain (chain (put_address (frame_word acts n) w) Changed) (λ v. unrefused (perform prog.limits.area (Fetch None) v)))
   fetches_word g line to n [] w low e room i l = tt
   fetches_word g line to n (a ∷ acts) w low e room i l = fetches_frame g line to n a acts w low e room i l
 
-  assigns_word : {q : Processor} {at : ℕ} (g line to n : ℕ) (acts : List OrderActivation) (w : Words) → prog.limits.area ≤ 32768 → at + 10 ≡ to
+  assigns_word : {q : Watched} {at : ℕ} (g line to n : ℕ) (acts : List OrderActivation) (w : Words) → prog.limits.area ≤ 32768 → at + 10 ≡ to
       → HasAll image at (load 3 (slot base_slot) ∷ double 3 ∷ store (field (2 * n % 65536)) 0 ∷ i86.Pop 0 ∷ []) → Landed prog image at g line acts w q
       → Does prog image 4 to g line acts w.output q (chain (chain (put_address (frame_word acts n) w) Changed) (λ v. unrefused (perform prog.limits.area (Store None) v)))
   assigns_word g line to n [] w low e i l = tt
@@ -117,7 +117,7 @@ module _ (rows : Rows) (prog : OrderProgram) (image : List ℕ) where
 module _ (known : Given) where
   open known use {rows, p, image, all, coded, few, low}
 
-  module _ {q : Processor} {g place line : ℕ} {acts : List OrderActivation} {w : Words} (s : Sound p image g place line acts w q) where
+  module _ {q : Watched} {g place line : ℕ} {acts : List OrderActivation} {w : Words} (s : Sound p image g place line acts w q) where
     pub fetch_frame_follows : (n done : ℕ) (more : List Order) → s.done ≡ done → done ≤ 1 → drop s.from s.orders.list ≡ order.FrameHome n ∷ order.Load ∷ more → block_at 0 (drop s.from s.orders.list) ≡ block.FetchFrame n → Follow known (at g place line acts w Running) q
     fetch_frame_follows n zero more is_done le e is =
         let left : orders_left (block_at 0 (drop s.from s.orders.list)) ≡ 1 = ap orders_left is in

@@ -8,7 +8,8 @@ use Rattle.cw_i86.specs.MachineRun.{taken}
 use Rattle.cw_i86.specs.declared.instr.Instr.TheVariants as i86
 use Rattle.cw_i86.specs.declared.instr.Imm.TheVariants as imm
 use Rattle.cw_i86.specs.declared.instr.Rm.TheVariants as rms
-use Rattle.cw_run86.specs.Processor.{Processor, Told}
+use Rattle.cw_run86.specs.Processor.{Told}
+use Rattle.cw_follow.proofs.Watched.{Watched}
 use Rattle.cw_run86.specs.Views.{put_word, difference_overflows, compare as compare_of, Unequal}
 use Rattle.cw_word.specs.Word.{unsigned}
 use Rattle.cw_unit.specs.Words.{Operand, Word, read_byte}
@@ -24,12 +25,12 @@ use Rattle.cw_follow.proofs.Operands.{Setting, words, LandedWith, DoesHere}
 use Rattle.cw_follow.proofs.Facts.{unequal_words}
 use Rattle.cw_follow.proofs.Numbers.{unsigned_pos}
 
-with_input : {image : List ℕ} {at ax bx cx dx sp bp si di : ℕ} {overflow : Bool} {cells stack : ℕ → ℕ} {input input' : List ℕ} {told : Told} {p : Processor} → input ≡ input'
+with_input : {image : List ℕ} {at ax bx cx dx sp bp si di : ℕ} {overflow : Bool} {cells stack : ℕ → ℕ} {input input' : List ℕ} {told : Told} {p : Watched} → input ≡ input'
     → Is image at (view ax cx dx bx sp bp si di overflow cells stack input told) p → Is image at (view ax cx dx bx sp bp si di overflow cells stack input' told) p
 with_input {image} {at} {ax} {bx} {cx} {dx} {sp} {bp} {si} {di} {overflow} {cells} {stack} {input} {input'} {told} {p} e s =
     subst (λ x. Is image at (view ax cx dx bx sp bp si di overflow cells stack x told) p) e s
 
-with_sp : {image : List ℕ} {at ax bx cx dx sp sp' bp si di : ℕ} {overflow : Bool} {cells stack : ℕ → ℕ} {input : List ℕ} {told : Told} {p : Processor} → sp ≡ sp'
+with_sp : {image : List ℕ} {at ax bx cx dx sp sp' bp si di : ℕ} {overflow : Bool} {cells stack : ℕ → ℕ} {input : List ℕ} {told : Told} {p : Watched} → sp ≡ sp'
     → Is image at (view ax cx dx bx sp bp si di overflow cells stack input told) p → Is image at (view ax cx dx bx sp' bp si di overflow cells stack input told) p
 with_sp {image} {at} {ax} {bx} {cx} {dx} {sp} {sp'} {bp} {si} {di} {overflow} {cells} {stack} {input} {told} {p} e s =
     subst (λ x. Is image at (view ax cx dx bx x bp si di overflow cells stack input told) p) e s
@@ -41,7 +42,7 @@ module _ (c : Setting) (memory : List ℤ) (output : List ℕ) where
   more_bytes : (b : ℕ) (rest : List ℕ) → taken 0x11 (b ∷ rest) ≡ 0
   more_bytes b rest = ap (λ (t : Bool). if◌then◌else◌ {A = ℕ} t 1 0) (ne_eqb (length (b ∷ rest)) 0 (λ e. omega arith))
 
-  reads_from : {p : Processor} {at : ℕ} (to n : ℕ) (operands : List Operand) (input : List ℕ) → at + 19 ≡ to → InputCode at → All (λ b. b < 256) input
+  reads_from : {p : Watched} {at : ℕ} (to n : ℕ) (operands : List Operand) (input : List ℕ) → at + 19 ≡ to → InputCode at → All (λ b. b < 256) input
       → (l : LandedWith c memory input output at operands p) → l.top ≡ suc n
       → Leading output 12 p (Landed c.program c.image to c.g c.line c.acts (read_byte input (words operands memory input output)))
   reads_from {p} {at} to n operands [] e i bytes l top =
@@ -97,7 +98,7 @@ module _ (c : Setting) (memory : List ℤ) (output : List ℕ) where
       more c.rows {to = at + 1 + 3 + 3 + 2 + 2 + 2 + 2 + 2 + 2} {w = view (unsigned (pos b)) s.cx s.dx 0 (2 * n) (record_of c.acts) s.si s.di (difference_overflows 0 0) l.cells stack' rest l.told} t k.wrote (short c.rows 2 h.1.1.1.1.0 t) (λ q t.
       done (landed c.rows c.program c.image c.g c.line c.acts to n (Word (pos b) ∷ operands) memory rest output e' (refl, pushed) kept t)))))))
 
-  pub reads : {p : Processor} {at : ℕ} (to : ℕ) (operands : List Operand) (input : List ℕ) → at + 19 ≡ to → operand_words operands < level c.acts → InputCode at → All (λ b. b < 256) input
+  pub reads : {p : Watched} {at : ℕ} (to : ℕ) (operands : List Operand) (input : List ℕ) → at + 19 ≡ to → operand_words operands < level c.acts → InputCode at → All (λ b. b < 256) input
       → LandedWith c memory input output at operands p
       → DoesHere c memory input output 12 to p (perform c.program.limits.area ReadByte (words operands memory input output))
   reads {p} {at} to operands input e room i bytes l =

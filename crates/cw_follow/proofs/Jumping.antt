@@ -2,7 +2,8 @@
 use Rattle.std.proofs.Common.{◌≡◌, ℕ, zero, suc, ◌+◌, ◌-◌, ◌*◌, ◌%◌, ◌<◌, ◌≤◌, Bool, true, false, ℤ, List, [], ◌∷◌, length, drop, Option, Some, None, refl, sym, ap, ◌∙◌, subst, arith, lit<, lit≤}
 use Rattle.std.specs.Prelude.{slice_get}
 use Rattle.std.proofs.lemmas.Option.{slice_get_within}
-use Rattle.cw_run86.specs.Processor.{Processor, Told}
+use Rattle.cw_run86.specs.Processor.{Told}
+use Rattle.cw_follow.proofs.Watched.{Watched}
 use Rattle.cw_unit.specs.declared.unit.Def.{Def}
 use Rattle.cw_unit.specs.declared.unit.Def.TheVariants as def
 use Rattle.cw_unit.specs.Stop.{Running}
@@ -30,7 +31,7 @@ use Rattle.cw_follow.proofs.Calling.{left_for}
 use Rattle.cw_follow.proofs.Naming.{argument_stands, label_listed, label_start_is, mark_listed, start_is}
 use Rattle.cw_follow.proofs.Steps.{Follow, step_is, weight_is, stuck_here, Alone, code}
 
-pub landed_at : {p : OrderProgram} {image : List ℕ} {at to g line : ℕ} {acts : List OrderActivation} {w : Words} {q : Processor} → at % 65536 ≡ to % 65536 → Landed p image at g line acts w q → Landed p image to g line acts w q
+pub landed_at : {p : OrderProgram} {image : List ℕ} {at to g line : ℕ} {acts : List OrderActivation} {w : Words} {q : Watched} → at % 65536 ≡ to % 65536 → Landed p image at g line acts w q → Landed p image to g line acts w q
 landed_at e l =
     let s = l.stacked in
     record {
@@ -54,7 +55,7 @@ module _ (known : Given) where
   open known use {rows, p, image, all, coded, few, low}
 
   -- the landing of a label of the body of a segment
-  pub lands : {q : Processor} {ax cx dx bx sp bp si di : ℕ} {overflow : Bool} {cells stack : ℕ → ℕ} {input : List ℕ} {told : Told} (to l k g' line : ℕ) (o : Orders) (e : LabelEntry) (acts : List OrderActivation) (memory : List ℤ) (left output : List ℕ) → acts ≡ []
+  pub lands : {q : Watched} {ax cx dx bx sp bp si di : ℕ} {overflow : Bool} {cells stack : ℕ → ℕ} {input : List ℕ} {told : Told} (to l k g' line : ℕ) (o : Orders) (e : LabelEntry) (acts : List OrderActivation) (memory : List ℤ) (left output : List ℕ) → acts ≡ []
       → slice_get p.units to ≡ Some o → label_at p to l ≡ Some e → e.in_procedure ≡ false → place_of p to e.mark ≡ Some k → k ≤ length o.list → Kept p g' line acts memory left output cells stack input told
       → Is image (label_place p to l) (view ax cx dx bx sp bp si di overflow cells stack input told) q
       → Leads output 5 q (Landed p image (order_place (base_of p to) o.list k) to line acts (record { operands = []; memory = memory; input = left; output = output }))
@@ -75,7 +76,7 @@ module _ (known : Given) where
       (restores rows p image to g' line (base_of p to + mark_starts o e.mark) by number acts memory left output none is_number few' (jump_arrives (base_of p to) (landing_start (names_of o) l) 15 (mark_starts o e.mark)) kept i here)
 
   -- a label of the body of a segment
-  pub goes_to_landing : {q : Processor} {g place line : ℕ} {acts : List OrderActivation} {w : Words} (s : Sound p image g place line acts w q) (by_itself : Alone p image g place line acts w q s.orders.list) (steps to l owner n : ℕ) (e : LabelEntry) → e.in_procedure ≡ false → label_at p to l ≡ Some e
+  pub goes_to_landing : {q : Watched} {g place line : ℕ} {acts : List OrderActivation} {w : Words} (s : Sound p image g place line acts w q) (by_itself : Alone p image g place line acts w q s.orders.list) (steps to l owner n : ℕ) (e : LabelEntry) → e.in_procedure ≡ false → label_at p to l ≡ Some e
       → step p (at g place line acts w Running) ≡ leave_for (place_of p to e.mark) to (length acts) g place line acts w → steps + 5 ≤ weight p (at g place line acts w Running)
       → Leads w.output steps q (Landed p image (label_place p to l) (segment_below n g acts) (line_below n line acts) (drop n acts) (with_operands w [])) → Follow known (at g place line acts w Running) q
   goes_to_landing {q} {g} {place} {line} {acts} {w} s by_itself steps to l owner n e body is goes paid way =
@@ -93,7 +94,7 @@ module _ (known : Given) where
       (subst (λ ys. Kept p g' (line_below m (line_below n line acts) (drop n acts)) ys w.memory w.input w.output d.cells d.stack d.input d.told) ending kept)) z.is)))
 
   -- a label that stands in a procedure
-  pub goes_to_owner : {q : Processor} {g place line : ℕ} {acts : List OrderActivation} {w : Words} (s : Sound p image g place line acts w q) (by_itself : Alone p image g place line acts w q s.orders.list) (steps to l owner n : ℕ) (e : LabelEntry) → e.in_procedure ≡ true → label_at p to l ≡ Some e → segment_below n g acts ≡ to
+  pub goes_to_owner : {q : Watched} {g place line : ℕ} {acts : List OrderActivation} {w : Words} (s : Sound p image g place line acts w q) (by_itself : Alone p image g place line acts w q s.orders.list) (steps to l owner n : ℕ) (e : LabelEntry) → e.in_procedure ≡ true → label_at p to l ≡ Some e → segment_below n g acts ≡ to
       → step p (at g place line acts w Running) ≡ leave_for (place_of p to e.mark) to n g place line acts w → 0 < steps → steps ≤ weight p (at g place line acts w Running)
       → Leads w.output steps q (Landed p image (label_place p to l) (segment_below n g acts) (line_below n line acts) (drop n acts) (with_operands w [])) → Follow known (at g place line acts w Running) q
   goes_to_owner {q} {g} {place} {line} {acts} {w} s by_itself steps to l owner n e inside is same goes some paid way =
@@ -105,7 +106,7 @@ module _ (known : Given) where
       (leads_on (λ r d. landed_at arrives (subst (λ m. Landed p image (label_place p to l) m (line_below n line acts) (drop n acts) (with_operands w []) r) same d)) way))
 
   -- by an entry of the labels
-  pub goes_by_entry : {q : Processor} {g place line : ℕ} {acts : List OrderActivation} {w : Words} (s : Sound p image g place line acts w q) (by_itself : Alone p image g place line acts w q s.orders.list) (steps to l owner : ℕ) → 0 < steps → OwnsLabel p owner g acts to l
+  pub goes_by_entry : {q : Watched} {g place line : ℕ} {acts : List OrderActivation} {w : Words} (s : Sound p image g place line acts w q) (by_itself : Alone p image g place line acts w q s.orders.list) (steps to l owner : ℕ) → 0 < steps → OwnsLabel p owner g acts to l
       → step p (at g place line acts w Running) ≡ go_to p (Some (LabelControl to l owner)) g place line acts w → steps + 5 ≤ weight p (at g place line acts w Running)
       → Leads w.output steps q (Landed p image (label_place p to l) (segment_below (length acts - owner) g acts) (line_below (length acts - owner) line acts) (drop (length acts - owner) acts) (with_operands w [])) → Follow known (at g place line acts w Running) q
   goes_by_entry {q} {g} {place} {line} {acts} {w} s by_itself steps to l owner some owns goes paid way = cases (label_at p to l) refl
@@ -123,7 +124,7 @@ module _ (known : Given) where
       cases (Some e) is = inside e is e.in_procedure refl
 
   -- a label parameter
-  pub goes_by_parameter : {q : Processor} {g place line : ℕ} {a : OrderActivation} {acts : List OrderActivation} {w : Words} (s : Sound p image g place line (a ∷ acts) w q) (by_itself : Alone p image g place line (a ∷ acts) w q s.orders.list) (k : ℕ) → slice_get s.orders.list place ≡ Some (order.GoSpecial k)
+  pub goes_by_parameter : {q : Watched} {g place line : ℕ} {a : OrderActivation} {acts : List OrderActivation} {w : Words} (s : Sound p image g place line (a ∷ acts) w q) (by_itself : Alone p image g place line (a ∷ acts) w q s.orders.list) (k : ℕ) → slice_get s.orders.list place ≡ Some (order.GoSpecial k)
       → (x : Option Operand) → argument_behind k a.arguments ≡ x → Follow known (at g place line (a ∷ acts) w Running) q
   goes_by_parameter {q} {g} {place} {line} {a} {acts} {w} s by_itself k e None is = absurd (stuck_here known s (step_is known s (Some (order.GoSpecial k)) e ∙ ap (λ x. go_to p (control_in x) g place line (a ∷ acts) w) is))
   goes_by_parameter {q} {g} {place} {line} {a} {acts} {w} s by_itself k e (Some (Word z)) is = absurd (stuck_here known s (step_is known s (Some (order.GoSpecial k)) e ∙ ap (λ x. go_to p (control_in x) g place line (a ∷ acts) w) is))
@@ -141,7 +142,7 @@ module _ (known : Given) where
       (goes_special rows p image g line k to l owner (length (a ∷ acts) - owner) a acts w is stands refl (code known s by_itself o e) by_itself.landed)
 
   -- a label of a descriptor
-  pub goes_common : {q : Processor} {g place line : ℕ} {acts : List OrderActivation} {w : Words} (s : Sound p image g place line acts w q) (by_itself : Alone p image g place line acts w q s.orders.list) (d : ℕ) → slice_get s.orders.list place ≡ Some (order.GoCommon d) → (x : Option (ℕ × Def)) → defined_at p g d ≡ x → Follow known (at g place line acts w Running) q
+  pub goes_common : {q : Watched} {g place line : ℕ} {acts : List OrderActivation} {w : Words} (s : Sound p image g place line acts w q) (by_itself : Alone p image g place line acts w q s.orders.list) (d : ℕ) → slice_get s.orders.list place ≡ Some (order.GoCommon d) → (x : Option (ℕ × Def)) → defined_at p g d ≡ x → Follow known (at g place line acts w Running) q
   goes_common {q} {g} {place} {line} {acts} {w} s by_itself d e None is = absurd (stuck_here known s (step_is known s (Some (order.GoCommon d)) e ∙ ap (λ x. go_to p (with_label_owner (length acts) (label_of_def x)) g place line acts w) is))
   goes_common {q} {g} {place} {line} {acts} {w} s by_itself d e (Some (to, def.Proc n)) is = absurd (stuck_here known s (step_is known s (Some (order.GoCommon d)) e ∙ ap (λ x. go_to p (with_label_owner (length acts) (label_of_def x)) g place line acts w) is))
   goes_common {q} {g} {place} {line} {acts} {w} s by_itself d e (Some (to, def.Switch n)) is = absurd (stuck_here known s (step_is known s (Some (order.GoCommon d)) e ∙ ap (λ x. go_to p (with_label_owner (length acts) (label_of_def x)) g place line acts w) is))

@@ -4,7 +4,8 @@ use Rattle.cw_i86.specs.declared.instr.Instr.TheVariants as i86
 use Rattle.cw_i86.specs.declared.instr.Imm.TheVariants as imm
 use Rattle.cw_i86.specs.declared.instr.Rm.TheVariants as rms
 use Rattle.cw_track.proofs.Paths.{join}
-use Rattle.cw_run86.specs.Processor.{Processor, Told, processor_machine, processor_step}
+use Rattle.cw_run86.specs.Processor.{Told}
+use Rattle.cw_follow.proofs.Watched.{Watched, watched_step, watched_machine}
 use Rattle.cw_run86.specs.Views.{Has, put_word, word_difference, difference_overflows}
 use Rattle.cw_unit.specs.Words.{Control, LabelControl, Operand, Held, Words, with_operands}
 use Rattle.cw_order.specs.OrderProgram.{OrderProgram}
@@ -12,7 +13,6 @@ use Rattle.cw_order.specs.OrderState.{OrderActivation, operand_words, stack_word
 use Rattle.cw_order.specs.OrderMachine.{line_below}
 use Rattle.cw_order.specs.Activations.{segment_below, ControlStands}
 use Rattle.cw_tmpl.specs.Mnemonics.{slot, segment_slot, argument}
-use Rattle.cw_follow.specs.Showing.{shown_as}
 use Rattle.cw_follow.proofs.Standing.{HasAll}
 use Rattle.cw_follow.proofs.Rows.{Rows}
 use Rattle.cw_follow.proofs.Chains.{Is, Leads, view, seen, to_place, store_slot, jump_to, near, more, last, done}
@@ -23,10 +23,10 @@ use Rattle.cw_follow.proofs.Orders.{Kept, kept_under, Landed, landed, Leading, f
 use Rattle.cw_follow.proofs.Calls.{CalledAt}
 
 -- one way after another
-pub past : {output : List ℕ} {q : Processor} {T U : Processor → Type 0} {m n : ℕ} → Leads output m q T → ((r : Processor) → T r → Leads output n r U) → Leads output (m + n) q U
+pub past : {output : List ℕ} {q : Watched} {T U : Watched → Type 0} {m n : ℕ} → Leads output m q T → ((r : Watched) → T r → Leads output n r U) → Leads output (m + n) q U
 past {m = m} {n = n} l on =
     let d = on l.reached l.there in
-    record { reached = d.reached; path = join _ (processor_machine shown_as) m n (m + n) _ l.reached d.reached refl l.path d.path; there = d.there }
+    record { reached = d.reached; path = join _ watched_machine m n (m + n) _ l.reached d.reached refl l.path d.path; there = d.there }
 
 -- what is kept without the last activations
 pub kept_below : {p : OrderProgram} {g line : ℕ} {acts : List OrderActivation} {memory : List ℤ} {input output : List ℕ} {cells stack : ℕ → ℕ} {left : List ℕ} {told : Told} (n : ℕ)
@@ -46,7 +46,7 @@ module _ (rows : Rows) (prog : OrderProgram) (image : List ℕ) where
   -- ---- control arguments
 
   -- the record at work, and a place
-  pub controls : {q : Processor} {at : ℕ} (g line to place : ℕ) (acts : List OrderActivation) (c : Control) (w : Words) → stack_words (Held c ∷ w.operands) acts ≤ 32000 → at + 5 ≡ to → place ≡ control_place prog c → OwnerIs prog acts c (record_of acts)
+  pub controls : {q : Watched} {at : ℕ} (g line to place : ℕ) (acts : List OrderActivation) (c : Control) (w : Words) → stack_words (Held c ∷ w.operands) acts ≤ 32000 → at + 5 ≡ to → place ≡ control_place prog c → OwnerIs prog acts c (record_of acts)
       → HasAll image at (i86.Push 0 ∷ i86.Push 5 ∷ i86.MovImm 0 (imm.Word place) ∷ []) → Landed prog image at g line acts w q
       → Leading w.output 3 q (Landed prog image to g line acts (with_operands w (Held c ∷ w.operands)))
   controls {q} {at} g line to place acts c w room e is owner i l = from l.top refl
@@ -77,7 +77,7 @@ module _ (rows : Rows) (prog : OrderProgram) (image : List ℕ) where
           done (landed rows prog image g line acts to n (Held c ∷ w.operands) w.memory w.input w.output end (is, owner_same prog acts c bp (s2 n) (put_at s1 n bp) owner, held') (kept_under n bp (omega arith) (kept_under (suc n) s.ax (omega arith) k)) u)))
 
   -- a control parameter that is handed on
-  pub hands_on : {q : Processor} {at : ℕ} (g line to k : ℕ) (a : OrderActivation) (acts : List OrderActivation) (c : Control) (w : Words) → stack_words (Held c ∷ w.operands) (a ∷ acts) ≤ 32000 → at + 10 ≡ to → argument_behind k a.arguments ≡ Some (Held c)
+  pub hands_on : {q : Watched} {at : ℕ} (g line to k : ℕ) (a : OrderActivation) (acts : List OrderActivation) (c : Control) (w : Words) → stack_words (Held c ∷ w.operands) (a ∷ acts) ≤ 32000 → at + 10 ≡ to → argument_behind k a.arguments ≡ Some (Held c)
       → ControlStands prog a.segment acts c
       → HasAll image at (i86.Push 0 ∷ i86.Mov true true 0 (argument (k + 1)) ∷ i86.Push 0 ∷ i86.Mov true true 0 (argument k) ∷ []) → Landed prog image at g line (a ∷ acts) w q
       → Leading w.output 4 q (Landed prog image to g line (a ∷ acts) (with_operands w (Held c ∷ w.operands)))
@@ -125,7 +125,7 @@ module _ (rows : Rows) (prog : OrderProgram) (image : List ℕ) where
   -- ---- jumps to the body of a segment
 
   -- the base record is the one at work, for this segment, whatever was there
-  pub restores : {q : Processor} {at ax cx dx bx sp bp si di : ℕ} {overflow : Bool} {cells stack : ℕ → ℕ} {left : List ℕ} {told : Told} (g g' line to by segment : ℕ) (acts : List OrderActivation) (memory : List ℤ) (input output : List ℕ) → acts ≡ []
+  pub restores : {q : Watched} {at ax cx dx bx sp bp si di : ℕ} {overflow : Bool} {cells stack : ℕ → ℕ} {left : List ℕ} {told : Told} (g g' line to by segment : ℕ) (acts : List OrderActivation) (memory : List ℤ) (input output : List ℕ) → acts ≡ []
       → segment ≡ g + 1 → g < 255 → (at + 15 + by) % 65536 ≡ to % 65536 → Kept prog g' line acts memory input output cells stack left told
       → HasAll image at (i86.MovImm 5 (imm.Word 0xFFFC) ∷ i86.MovImm 4 (imm.Word 0xFFF2) ∷ i86.MovImm 0 (imm.Word segment) ∷ i86.Mov true false 0 (slot segment_slot) ∷ i86.Jump by ∷ [])
       → Is image at (view ax cx dx bx sp bp si di overflow cells stack left told) q → Leads output 5 q (Landed prog image to g line acts (record { operands = []; memory = memory; input = input; output = output }))
@@ -137,7 +137,7 @@ module _ (rows : Rows) (prog : OrderProgram) (image : List ℕ) where
       let there : (at + 3 + 3 + 3 + 3 + 3 + by) % 65536 ≡ to % 65536 = omega arith in
       straight rows (Number 5 0xFFFC ∷ Number 4 0xFFF2 ∷ Number 0 segment ∷ []) {n = 2} k.wrote (i.0, (i.1.0, (i.1.1.0, tt))) (tt, (tt, (tt, tt))) s (λ q s.
       more rows {to = at + 3 + 3 + 3 + 3} {w = view segment cx dx bx 65522 65532 si di overflow cells new left told} s k.wrote (store_slot rows 0 0xFC 32764 (lit< tt) refl i.1.1.1.0 s) (λ q s.
-      last rows s k.wrote (subst (λ (xs : List OrderActivation). Landed prog image to g line xs (record { operands = []; memory = memory; input = input; output = output }) (processor_step q)) (sym none) (record {
+      last rows s k.wrote (subst (λ (xs : List OrderActivation). Landed prog image to g line xs (record { operands = []; memory = memory; input = input; output = output }) (watched_step q)) (sym none) (record {
         top = 32761;
         cells = cells;
         stack = new;
@@ -166,7 +166,7 @@ module _ (rows : Rows) (prog : OrderProgram) (image : List ℕ) where
         };
       }))))
 
-  pub goes_main : {q : Processor} {at : ℕ} (g line to by segment : ℕ) (acts : List OrderActivation) (w : Words) → segment ≡ g + 1 → g < 255 → (at + 15 + by) % 65536 ≡ to % 65536
+  pub goes_main : {q : Watched} {at : ℕ} (g line to by segment : ℕ) (acts : List OrderActivation) (w : Words) → segment ≡ g + 1 → g < 255 → (at + 15 + by) % 65536 ≡ to % 65536
       → HasAll image at (i86.MovImm 5 (imm.Word 0xFFFC) ∷ i86.MovImm 4 (imm.Word 0xFFF2) ∷ i86.MovImm 0 (imm.Word segment) ∷ i86.Mov true false 0 (slot segment_slot) ∷ i86.Jump by ∷ [])
       → Landed prog image at g line acts w q → Leading w.output 16 q (Landed prog image to g (line_below (length acts) line acts) (drop (length acts) acts) (with_operands w []))
   goes_main g line to by segment acts w is few arrives i l =
@@ -176,7 +176,7 @@ module _ (rows : Rows) (prog : OrderProgram) (image : List ℕ) where
   -- ---- jumps to the owner of a label
 
   -- the operands of a record are dropped
-  pub drops_operands : {q : Processor} {at ax cx dx bx sp si di : ℕ} {overflow : Bool} {cells stack : ℕ → ℕ} {left : List ℕ} {told : Told} {output : List ℕ} (acts : List OrderActivation) → told.output ≡ output
+  pub drops_operands : {q : Watched} {at ax cx dx bx sp si di : ℕ} {overflow : Bool} {cells stack : ℕ → ℕ} {left : List ℕ} {told : Told} {output : List ℕ} (acts : List OrderActivation) → told.output ≡ output
       → HasAll image at (i86.Mov true true 4 (rms.Reg 5) ∷ i86.MovImm 0 (imm.Word 10) ∷ i86.AluRm 5 true true 4 (rms.Reg 0) ∷ [])
       → Is image at (view ax cx dx bx sp (record_of acts) si di overflow cells stack left told) q
       → Leads output 3 q (Is image (at + 7) (view 10 cx dx bx (2 * level acts) (record_of acts) si di (difference_overflows (record_of acts) 10) cells stack left told))
@@ -191,7 +191,7 @@ module _ (rows : Rows) (prog : OrderProgram) (image : List ℕ) where
       done (seen end (ap (λ x. view 10 cx dx bx x bp si di o cells stack left told) sum) u))
 
   -- a label parameter: the processor comes to the place with the record of the owner at work
-  pub goes_special : {q : Processor} {at : ℕ} (g line k to l owner n : ℕ) (a : OrderActivation) (acts : List OrderActivation) (w : Words) → argument_behind k a.arguments ≡ Some (Held (LabelControl to l owner)) → ControlStands prog a.segment acts (LabelControl to l owner)
+  pub goes_special : {q : Watched} {at : ℕ} (g line k to l owner n : ℕ) (a : OrderActivation) (acts : List OrderActivation) (w : Words) → argument_behind k a.arguments ≡ Some (Held (LabelControl to l owner)) → ControlStands prog a.segment acts (LabelControl to l owner)
       → n ≡ length (a ∷ acts) - owner
       → HasAll image at (i86.Mov true true 3 (argument k) ∷ i86.Mov true true 5 (argument (k + 1)) ∷ i86.Mov true true 4 (rms.Reg 5) ∷ i86.MovImm 0 (imm.Word 10) ∷ i86.AluRm 5 true true 4 (rms.Reg 0) ∷ i86.JumpRm (rms.Reg 3) ∷ [])
       → Landed prog image at g line (a ∷ acts) w q
@@ -238,7 +238,7 @@ module _ (rows : Rows) (prog : OrderProgram) (image : List ℕ) where
 
   -- ---- a procedure parameter
 
-  pub calls_special : {q : Processor} {at : ℕ} (k place : ℕ) (b : OrderActivation) (acts : List OrderActivation) (a : OrderActivation) (c : Control) (w : Words) → stack_words [] (a ∷ b ∷ acts) ≤ 32000 → argument_behind k b.arguments ≡ Some (Held c)
+  pub calls_special : {q : Watched} {at : ℕ} (k place : ℕ) (b : OrderActivation) (acts : List OrderActivation) (a : OrderActivation) (c : Control) (w : Words) → stack_words [] (a ∷ b ∷ acts) ≤ 32000 → argument_behind k b.arguments ≡ Some (Held c)
       → w.operands ≡ a.arguments ++ a.operands → place ≡ code_place prog a.segment a.place
       → HasAll image at (i86.Push 0 ∷ i86.Mov true true 0 (argument k) ∷ i86.MovImm 3 (imm.Word place) ∷ i86.Push 3 ∷ i86.JumpRm (rms.Reg 0) ∷ []) → Landed prog image at a.segment a.line (b ∷ acts) w q
       → Leading w.output 16 q (CalledAt prog image (control_place prog c) a (b ∷ acts) w)

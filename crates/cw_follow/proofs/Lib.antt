@@ -4,6 +4,7 @@ pub mod Placement
 pub mod WordLaws
 pub mod Fields
 pub mod Rows
+pub mod Watched
 pub mod Chains
 pub mod Routines
 pub mod Numbers

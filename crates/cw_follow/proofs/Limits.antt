@@ -8,7 +8,7 @@ use Rattle.std.proofs.lemmas.Bool.Decides.{nat_tests}
 use Rattle.std.proofs.lemmas.Int.{ints}
 use Rattle.std.proofs.lemmas.List.Elements.{All-head, All-tail}
 use Rattle.cw_i86.specs.declared.instr.Instr.TheVariants as i86
-use Rattle.cw_run86.specs.Processor.{Processor}
+use Rattle.cw_follow.proofs.Watched.{Watched}
 use Rattle.cw_run86.specs.Views.{View, put_word, word_sum, Equal, AtMost, words_compare, sign_of, difference_overflows}
 use Rattle.cw_word.specs.FixedPoint.{FitsWord}
 use Rattle.cw_word.specs.Word.{unsigned}
@@ -102,7 +102,7 @@ module _ (c : Setting) (memory : List ℤ) (input output : List ℕ) where
   LimitCode at by way = HasAll c.image at (i86.Call by ∷ i86.Jump way ∷ [])
 
   -- the words of a loop at an address, and the value of its variable below it
-  module _ {q : Processor} {at : ℕ} (by way n : ℕ) (x : ℤ) (rest : List Operand) (within : n + 2 < c.program.limits.area) (arrives : (at + 3 + by) % 65536 ≡ exhausted_place % 65536) (i : LimitCode at by way)
+  module _ {q : Watched} {at : ℕ} (by way n : ℕ) (x : ℤ) (rest : List Operand) (within : n + 2 < c.program.limits.area) (arrives : (at + 3 + by) % 65536 ≡ exhausted_place % 65536) (i : LimitCode at by way)
       (l : OneOn c memory input output at (pos n) (Word x ∷ rest) q) where
     abbrev s : ℤ
     s = word_at memory (n + 1)
@@ -159,12 +159,12 @@ module _ (c : Setting) (memory : List ℤ) (input output : List ℕ) where
     g = h.1.1.1.1.1.1.1.1.1
 
     -- both operands are taken
-    lands : {r : Processor} {cx bx si : ℕ} {o : Bool} (to : ℕ) → Is c.image to (view (stacked (suc (suc l.top))) cx (sign_of (unsigned s)) bx (2 * top) (record_of c.acts) si l.di o l.cells stacked l.left l.told) r
+    lands : {r : Watched} {cx bx si : ℕ} {o : Bool} (to : ℕ) → Is c.image to (view (stacked (suc (suc l.top))) cx (sign_of (unsigned s)) bx (2 * top) (record_of c.acts) si l.di o l.cells stacked l.left l.told) r
         → Landed c.program c.image to c.g c.line c.acts (words rest memory input output) r
     lands to t = landed c.rows c.program c.image c.g c.line c.acts to top rest memory input output refl held.1 (kept_under l.top back l.low l.kept) t
 
     -- past the jump, where the value is not past the limit
-    passes_on : {r : Processor} {cx bx : ℕ} {o : Bool} (to : ℕ) → at + 6 ≡ to → Is c.image 363 (seen_with (stacked (suc (suc l.top))) cx bx o) r → Leads output 3 r (Landed c.program c.image to c.g c.line c.acts (words rest memory input output))
+    passes_on : {r : Watched} {cx bx : ℕ} {o : Bool} (to : ℕ) → at + 6 ≡ to → Is c.image 363 (seen_with (stacked (suc (suc l.top))) cx bx o) r → Leads output 3 r (Landed c.program c.image to c.g c.line c.acts (words rest memory input output))
     passes_on to e t =
         let there : word_sum back 3 ≡ to % 65536 = omega arith in
         let i = g.1.1.1.1.1.1 in
@@ -172,7 +172,7 @@ module _ (c : Setting) (memory : List ℤ) (input output : List ℕ) where
         last c.rows t l.kept.wrote (lands to (goes_to c.rows 6 to there i.1.1.0 t)))
 
     -- through the jump, where it is
-    jumps_on : {r : Processor} {cx bx : ℕ} {o : Bool} (to : ℕ) → (at + 6 + way) % 65536 ≡ to % 65536 → Is c.image 361 (seen_with (stacked (suc (suc l.top))) cx bx o) r → Leads output 2 r (Landed c.program c.image to c.g c.line c.acts (words rest memory input output))
+    jumps_on : {r : Watched} {cx bx : ℕ} {o : Bool} (to : ℕ) → (at + 6 + way) % 65536 ≡ to % 65536 → Is c.image 361 (seen_with (stacked (suc (suc l.top))) cx bx o) r → Leads output 2 r (Landed c.program c.image to c.g c.line c.acts (words rest memory input output))
     jumps_on {r} {cx} {bx} {o} to e t =
         let there : (at + 3 + 3 + way) % 65536 ≡ to % 65536 = omega arith in
         let whole : back ≡ (at + 3) % 65536 = refl in
@@ -227,7 +227,7 @@ module _ (c : Setting) (memory : List ℤ) (input output : List ℕ) where
             passes_on to e t))))
 
   -- the order: where there are no such operands, or the words of the loop are not in the area, nothing is asked
-  pub exhausts : {q : Processor} {at : ℕ} (to by way m : ℕ) (start : ℕ → ℕ) (operands : List Operand) → at + 6 ≡ to → (at + 3 + by) % 65536 ≡ exhausted_place % 65536 → (at + 6 + way) % 65536 ≡ start m % 65536 → operand_words operands < level c.acts → All OperandFits operands → All FitsWord memory
+  pub exhausts : {q : Watched} {at : ℕ} (to by way m : ℕ) (start : ℕ → ℕ) (operands : List Operand) → at + 6 ≡ to → (at + 3 + by) % 65536 ≡ exhausted_place % 65536 → (at + 6 + way) % 65536 ≡ start m % 65536 → operand_words operands < level c.acts → All OperandFits operands → All FitsWord memory
       → LimitCode at by way → LandedWith c memory input output at operands q
       → Chooses c.program c.image 20 to start c.g c.line c.acts output q (way_of_two (λ x a v. way_past_limit (is_below a (c.program.limits.area - 2)) m x (number_of a) v) (words operands memory input output))
   exhausts to by way m start [] e arrives goes roomy fits all i l = tt

@@ -1,7 +1,7 @@
 -- Control variables, tests and ways of loops.
 use Rattle.std.proofs.Common.{◌≡◌, ℕ, ◌+◌, ◌-◌, ◌*◌, ◌%◌, ◌<◌, ◌≤◌, Bool, true, false, ℤ, List, [], ◌∷◌, length, Option, Some, None, subst, arith, lit<, lit≤}
 use Rattle.std.specs.Prelude.{slice_get}
-use Rattle.cw_run86.specs.Processor.{Processor}
+use Rattle.cw_follow.proofs.Watched.{Watched}
 use Rattle.cw_unit.specs.Stop.{Running}
 use Rattle.cw_unit.specs.Words.{Operand, Word, Held, Words, with_operands, word_at, is_below, number_of}
 use Rattle.cw_order.specs.declared.order.Order.TheVariants as order
@@ -48,7 +48,7 @@ loop_roomy acts room marks (Word y ∷ rest) w le =
 module _ (known : Given) where
   open known use {rows, p, image, all, coded, few, low}
 
-  module _ {q : Processor} {g place line : ℕ} {acts : List OrderActivation} {w : Words} (s : Sound p image g place line acts w q) (a : Alone p image g place line acts w q s.orders.list) where
+  module _ {q : Watched} {g place line : ℕ} {acts : List OrderActivation} {w : Words} (s : Sound p image g place line acts w q) (a : Alone p image g place line acts w q s.orders.list) where
     -- the words of the area, in the code of an order that tests an address
     abbrev area_word : ℕ
     area_word = (all.stands g s.orders s.unit).value 8 0 0 (here known s a + 3)

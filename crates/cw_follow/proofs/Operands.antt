@@ -3,7 +3,8 @@ use Rattle.std.proofs.Common.{◌≡◌, ℕ, zero, suc, ◌+◌, ◌*◌, ◌%�
 use Rattle.std.specs.List.{All}
 use Rattle.std.proofs.lemmas.List.Elements.{All-head, All-tail}
 use Rattle.cw_i86.specs.declared.instr.Instr.TheVariants as i86
-use Rattle.cw_run86.specs.Processor.{Processor, Told}
+use Rattle.cw_run86.specs.Processor.{Told}
+use Rattle.cw_follow.proofs.Watched.{Watched}
 use Rattle.cw_run86.specs.Views.{Has}
 use Rattle.cw_word.specs.FixedPoint.{FitsWord}
 use Rattle.cw_word.specs.Word.{unsigned}
@@ -41,20 +42,20 @@ abbrev pub allowed : Bool → StopKind → Outcome → Outcome
 allowed true kind o = o
 allowed false kind o = Refused kind
 
-pub with_cells : {image : List ℕ} {at ax bx cx dx sp bp si di : ℕ} {overflow : Bool} {cells cells' stack : ℕ → ℕ} {input : List ℕ} {told : Told} {p : Processor} → cells ≡ cells'
+pub with_cells : {image : List ℕ} {at ax bx cx dx sp bp si di : ℕ} {overflow : Bool} {cells cells' stack : ℕ → ℕ} {input : List ℕ} {told : Told} {p : Watched} → cells ≡ cells'
     → Is image at (view ax cx dx bx sp bp si di overflow cells stack input told) p → Is image at (view ax cx dx bx sp bp si di overflow cells' stack input told) p
 with_cells {image} {at} {ax} {bx} {cx} {dx} {sp} {bp} {si} {di} {overflow} {cells} {cells'} {stack} {input} {told} {p} e s =
     subst (λ x. Is image at (view ax cx dx bx sp bp si di overflow x stack input told) p) e s
 
 module _ (c : Setting) (memory : List ℤ) (input output : List ℕ) where
-  abbrev pub LandedWith : ℕ → List Operand → Processor → Type 0
+  abbrev pub LandedWith : ℕ → List Operand → Watched → Type 0
   LandedWith at operands p = Landed c.program c.image at c.g c.line c.acts (words operands memory input output) p
 
-  abbrev pub DoesHere : (limit to : ℕ) → Processor → Outcome → Type 0
+  abbrev pub DoesHere : (limit to : ℕ) → Watched → Outcome → Type 0
   DoesHere limit to p o = Does c.program c.image limit to c.g c.line c.acts output p o
 
   -- The top operand is in AX, and above the word of this number are the others.
-  pub record One (at : ℕ) (x : ℤ) (rest : List Operand) (p : Processor) : Type 0 where
+  pub record One (at : ℕ) (x : ℤ) (rest : List Operand) (p : Watched) : Type 0 where
     pub cx : ℕ
     pub dx : ℕ
     pub bx : ℕ
@@ -72,7 +73,7 @@ module _ (c : Setting) (memory : List ℤ) (input output : List ℕ) where
     pub kept : Kept c.program c.g c.line c.acts memory input output cells stack left told
 
   -- The top operand is in AX, the next one in the word behind this number, and above it are the others.
-  pub record Two (at : ℕ) (x y : ℤ) (rest : List Operand) (p : Processor) : Type 0 where
+  pub record Two (at : ℕ) (x y : ℤ) (rest : List Operand) (p : Watched) : Type 0 where
     pub cx : ℕ
     pub dx : ℕ
     pub bx : ℕ
@@ -90,7 +91,7 @@ module _ (c : Setting) (memory : List ℤ) (input output : List ℕ) where
     pub under : StackIs c.program c.acts (stack (suc (suc top))) stack (suc (suc (suc top))) rest
     pub kept : Kept c.program c.g c.line c.acts memory input output cells stack left told
 
-  pub one_there : {p : Processor} {at : ℕ} (x : ℤ) (rest : List Operand) → operand_words (Word x ∷ rest) < level c.acts → LandedWith at (Word x ∷ rest) p → One at x rest p
+  pub one_there : {p : Watched} {at : ℕ} (x : ℤ) (rest : List Operand) → operand_words (Word x ∷ rest) < level c.acts → LandedWith at (Word x ∷ rest) p → One at x rest p
   one_there {p} {at} x rest room l = from l.top refl
     where
       from : (top : ℕ) → l.top ≡ top → One at x rest p
@@ -116,7 +117,7 @@ module _ (c : Setting) (memory : List ℤ) (input output : List ℕ) where
             kept = l.kept;
           }
 
-  two_there : {p : Processor} {at : ℕ} (x y : ℤ) (rest : List Operand) → operand_words (Word y ∷ Word x ∷ rest) < level c.acts → LandedWith at (Word y ∷ Word x ∷ rest) p → Two at x y rest p
+  two_there : {p : Watched} {at : ℕ} (x y : ℤ) (rest : List Operand) → operand_words (Word y ∷ Word x ∷ rest) < level c.acts → LandedWith at (Word y ∷ Word x ∷ rest) p → Two at x y rest p
   two_there {p} {at} x y rest room l = from l.top refl
     where
       from : (top : ℕ) → l.top ≡ top → Two at x y rest p
@@ -144,13 +145,13 @@ module _ (c : Setting) (memory : List ℤ) (input output : List ℕ) where
           }
 
   -- where there is no operand, or one of the wrong sort, nothing is asked
-  pub taking_one : {p : Processor} {at : ℕ} (limit to : ℕ) (f : ℤ → Words → Outcome) → ((x : ℤ) (rest : List Operand) → FitsWord x → One at x rest p → DoesHere limit to p (f x (words rest memory input output)))
+  pub taking_one : {p : Watched} {at : ℕ} (limit to : ℕ) (f : ℤ → Words → Outcome) → ((x : ℤ) (rest : List Operand) → FitsWord x → One at x rest p → DoesHere limit to p (f x (words rest memory input output)))
       → (operands : List Operand) → operand_words operands < level c.acts → All OperandFits operands → LandedWith at operands p → DoesHere limit to p (on_one f operands (words operands memory input output))
   taking_one limit to f does [] room fits l = tt
   taking_one limit to f does (Held d ∷ rest) room fits l = tt
   taking_one limit to f does (Word x ∷ rest) room fits l = does x rest (All-head OperandFits (Word x) rest fits) (one_there x rest room l)
 
-  pub taking_two : {p : Processor} {at : ℕ} (limit to : ℕ) (f : ℤ → ℤ → Words → Outcome)
+  pub taking_two : {p : Watched} {at : ℕ} (limit to : ℕ) (f : ℤ → ℤ → Words → Outcome)
       → ((x y : ℤ) (rest : List Operand) → FitsWord x → FitsWord y → Two at x y rest p → DoesHere limit to p (f x y (words rest memory input output)))
       → (operands : List Operand) → operand_words operands < level c.acts → All OperandFits operands → LandedWith at operands p → DoesHere limit to p (on_two f operands (words operands memory input output))
   taking_two limit to f does [] room fits l = tt
@@ -161,13 +162,13 @@ module _ (c : Setting) (memory : List ℤ) (input output : List ℕ) where
       does x y rest (All-head OperandFits (Word x) rest (All-tail OperandFits (Word y) (Word x ∷ rest) fits)) (All-head OperandFits (Word y) (Word x ∷ rest) fits) (two_there x y rest room l)
 
   -- the same at an address that has been tested
-  pub accessing_one : {p : Processor} {at : ℕ} (limit to : ℕ) (f : ℤ → Words → Outcome) → ((x : ℤ) (rest : List Operand) → FitsWord x → One at x rest p → DoesHere limit to p (unrefused (f x (words rest memory input output))))
+  pub accessing_one : {p : Watched} {at : ℕ} (limit to : ℕ) (f : ℤ → Words → Outcome) → ((x : ℤ) (rest : List Operand) → FitsWord x → One at x rest p → DoesHere limit to p (unrefused (f x (words rest memory input output))))
       → (operands : List Operand) → operand_words operands < level c.acts → All OperandFits operands → LandedWith at operands p → DoesHere limit to p (unrefused (on_one f operands (words operands memory input output)))
   accessing_one limit to f does [] room fits l = tt
   accessing_one limit to f does (Held d ∷ rest) room fits l = tt
   accessing_one limit to f does (Word x ∷ rest) room fits l = does x rest (All-head OperandFits (Word x) rest fits) (one_there x rest room l)
 
-  pub accessing_two : {p : Processor} {at : ℕ} (limit to : ℕ) (f : ℤ → ℤ → Words → Outcome)
+  pub accessing_two : {p : Watched} {at : ℕ} (limit to : ℕ) (f : ℤ → ℤ → Words → Outcome)
       → ((x y : ℤ) (rest : List Operand) → FitsWord x → FitsWord y → Two at x y rest p → DoesHere limit to p (unrefused (f x y (words rest memory input output))))
       → (operands : List Operand) → operand_words operands < level c.acts → All OperandFits operands → LandedWith at operands p → DoesHere limit to p (unrefused (on_two f operands (words operands memory input output)))
   accessing_two limit to f does [] room fits l = tt
@@ -178,13 +179,13 @@ module _ (c : Setting) (memory : List ℤ) (input output : List ℕ) where
       does x y rest (All-head OperandFits (Word x) rest (All-tail OperandFits (Word y) (Word x ∷ rest) fits)) (All-head OperandFits (Word y) (Word x ∷ rest) fits) (two_there x y rest room l)
 
   -- a result in AX, and the operands below it
-  pub result : {p : Processor} {at ax cx dx bx si di : ℕ} {overflow : Bool} {cells stack : ℕ → ℕ} {left : List ℕ} {told : Told} (to n : ℕ) (z : ℤ) (rest : List Operand) → at ≡ to → ax ≡ unsigned z
+  pub result : {p : Watched} {at ax cx dx bx si di : ℕ} {overflow : Bool} {cells stack : ℕ → ℕ} {left : List ℕ} {told : Told} (to n : ℕ) (z : ℤ) (rest : List Operand) → at ≡ to → ax ≡ unsigned z
       → StackIs c.program c.acts (stack (suc n)) stack (suc (suc n)) rest → Kept c.program c.g c.line c.acts memory input output cells stack left told
       → Is c.image at (view ax cx dx bx (2 * suc n) (record_of c.acts) si di overflow cells stack left told) p → LandedWith to (Word z ∷ rest) p
   result to n z rest e value under kept s = landed c.rows c.program c.image c.g c.line c.acts to (suc n) (Word z ∷ rest) memory input output e (value, under) kept s
 
   -- a stop is called
-  pub calls_stop : {p : Processor} {at ax cx dx bx si di : ℕ} {overflow : Bool} {cells stack : ℕ → ℕ} {left : List ℕ} {told : Told} (kind : StopKind) (n by : ℕ) → n < level c.acts
+  pub calls_stop : {p : Watched} {at ax cx dx bx si di : ℕ} {overflow : Bool} {cells stack : ℕ → ℕ} {left : List ℕ} {told : Told} (kind : StopKind) (n by : ℕ) → n < level c.acts
       → (at + 3 + by) % 65536 ≡ stop_place kind % 65536 → Kept c.program c.g c.line c.acts memory input output cells stack left told → Has c.image at (i86.Call by)
       → Is c.image at (view ax cx dx bx (2 * suc n) (record_of c.acts) si di overflow cells stack left told) p
       → Leads output 11 p (Over (record { output = output; end = Stopped kind (c.g + 1) c.line }))
@@ -198,11 +199,11 @@ module _ (c : Setting) (memory : List ℤ) (input output : List ℕ) where
       (stops c.rows kind (level c.acts) ax cx dx bx si di n at by (c.g + 1) c.line overflow cells stack left told c.library i arrives high small (2 * suc n) top k.piled.0.number_is few' k.piled.0.line_is k.piled.0.small s)
 
   -- a stop is called where the overflow flag is set
-  pub guards : {p : Processor} {at ax cx dx bx si di : ℕ} {overflow : Bool} {cells stack : ℕ → ℕ} {left : List ℕ} {told : Told} (kind : StopKind) (to n by m bound : ℕ) (b : Bool) (o : Outcome) → n < level c.acts
+  pub guards : {p : Watched} {at ax cx dx bx si di : ℕ} {overflow : Bool} {cells stack : ℕ → ℕ} {left : List ℕ} {told : Told} (kind : StopKind) (to n by m bound : ℕ) (b : Bool) (o : Outcome) → n < level c.acts
       → (at + 2 + 3 + by) % 65536 ≡ stop_place kind % 65536 → overflow ≡ not b → 1 + m ≤ bound → 12 ≤ bound → Kept c.program c.g c.line c.acts memory input output cells stack left told
       → HasAll c.image at (i86.JumpIf 1 3 ∷ i86.Call by ∷ [])
       → Is c.image at (view ax cx dx bx (2 * suc n) (record_of c.acts) si di overflow cells stack left told) p
-      → (b ≡ true → (q : Processor) → Is c.image (at + 2 + 3) (view ax cx dx bx (2 * suc n) (record_of c.acts) si di overflow cells stack left told) q → DoesHere m to q o)
+      → (b ≡ true → (q : Watched) → Is c.image (at + 2 + 3) (view ax cx dx bx (2 * suc n) (record_of c.acts) si di overflow cells stack left told) q → DoesHere m to q o)
       → DoesHere bound to p (allowed b kind o)
   guards {p} {at} {ax} {cx} {dx} {bx} {si} {di} {overflow} {cells} {stack} {left} {told} kind to n by m bound true o small arrives tests le le' k i s on =
       later c.program c.image m to c.g c.line c.acts 1 bound o le (more c.rows {to = at + 2 + 3} {w = view ax cx dx bx (2 * suc n) (record_of c.acts) si di overflow cells stack left told} s k.wrote (no_overflow c.rows 3 tests i.0 s) (λ q t. done t)) (λ q t. on refl q t)

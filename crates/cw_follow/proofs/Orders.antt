@@ -8,8 +8,11 @@ use Rattle.std.proofs.lemmas.List.Elements.{All-head, All-tail}
 use Rattle.std.proofs.lemmas.List.{get_or-set_same, get_or-set_other}
 use Rattle.cw_track.proofs.Paths.{Path, stay, next, join}
 use Rattle.std.proofs.lemmas.Int.{ints}
-use Rattle.cw_run86.specs.Processor.{processor_machine, Processor, Told, with_given, processor_step}
-use Rattle.cw_follow.specs.Showing.{shown_as}
+use Rattle.cw_run86.specs.Processor.{processor_step, Told, with_given}
+use Rattle.cw_image.specs.Begun.{StatementPlace, lines_at}
+use Rattle.cw_unit.specs.Begun.{Begun}
+use Rattle.cw_follow.specs.Passing.{Ignores}
+use Rattle.cw_follow.proofs.Watched.{Watched, watched_step, watched_machine}
 use Rattle.cw_order.specs.FittingWords.{OperandFits}
 use Rattle.cw_i86.specs.declared.instr.Instr.TheVariants as i86
 use Rattle.cw_i86.specs.declared.instr.Imm.TheVariants as imm
@@ -32,7 +35,7 @@ use Rattle.cw_tmpl.specs.Templates.{opposite_of}
 use Rattle.cw_follow.proofs.Standing.{HasAll}
 use Rattle.cw_follow.proofs.WordLaws.{WordLaws}
 use Rattle.cw_follow.proofs.Rows.{Rows}
-use Rattle.cw_follow.proofs.Chains.{Is, IsCompared, Leads, at_work, view, seen, to_place, move, push, pop, load, store, load_at, store_at, set_slot, add, subtract, negate, double, no_overflow, passes, near, compare, compared_pop, compared_jumps, compared_passes, out, shows, more, compared_more, last, done}
+use Rattle.cw_follow.proofs.Chains.{Is, IsCompared, Leads, at_work, view, seen, to_place, move, push, pop, load, store, load_at, store_at, slot_set, silent_at, add, subtract, negate, double, no_overflow, passes, near, compare, compared_pop, compared_jumps, compared_passes, out, shows, more, compared_more, last, done}
 use Rattle.cw_follow.proofs.Routines.{LibraryStands, Stacked, Over, stops, put_at, put_off, with_ax}
 use Rattle.cw_follow.proofs.Numbers.{sum_overflows_is, difference_overflows_is, negative_overflows_is, sum_is, difference_is, negative_is, opposite_is, fits_tested, unsigned_pos}
 
@@ -90,7 +93,7 @@ kept_stored {prog} {memory = memory} {cells = cells} n z lt k =
     }
 
 -- the processor at a place of the code, with these words
-pub record Landed (prog : OrderProgram) (image : List ℕ) (at g line : ℕ) (acts : List OrderActivation) (w : Words) (p : Processor) : Type 0 where
+pub record Landed (prog : OrderProgram) (image : List ℕ) (at g line : ℕ) (acts : List OrderActivation) (w : Words) (p : Watched) : Type 0 where
   pub top : ℕ
   pub cells : ℕ → ℕ
   pub stack : ℕ → ℕ
@@ -101,19 +104,19 @@ pub record Landed (prog : OrderProgram) (image : List ℕ) (at g line : ℕ) (ac
   pub kept : Kept prog g line acts w.memory w.input w.output cells stack input told
 
 -- an order does within so many instructions what its operation does: it goes on at a place, or stops
-pub record Leading (output : List ℕ) (limit : ℕ) (p : Processor) (Target : Processor → Type 0) : Type 0 where
+pub record Leading (output : List ℕ) (limit : ℕ) (p : Watched) (Target : Watched → Type 0) : Type 0 where
   pub spent : ℕ
   pub some : 0 < spent
   pub within : spent ≤ limit
   pub leads : Leads output spent p Target
 
-abbrev pub Does : (prog : OrderProgram) (image : List ℕ) (limit to g line : ℕ) (acts : List OrderActivation) (output : List ℕ) (p : Processor) → Outcome → Type 0
+abbrev pub Does : (prog : OrderProgram) (image : List ℕ) (limit to g line : ℕ) (acts : List OrderActivation) (output : List ℕ) (p : Watched) → Outcome → Type 0
 Does prog image limit to g line acts output p (Changed v) = Leading output limit p (Landed prog image to g line acts v)
 Does prog image limit to g line acts output p (Refused kind) = Leading output limit p (Over (record { output = output; end = Stopped kind (g + 1) line }))
 Does prog image limit to g line acts output p Impossible = Unit {0}
 
 -- what an order does after so many instructions
-pub later : (prog : OrderProgram) (image : List ℕ) (limit to g line : ℕ) (acts : List OrderActivation) {output : List ℕ} {p : Processor} {T : Processor → Type 0} (n bound : ℕ) (o : Outcome) → n + limit ≤ bound → Leads output n p T → ((q : Processor) → T q → Does prog image limit to g line acts output q o) → Does prog image bound to g line acts output p o
+pub later : (prog : OrderProgram) (image : List ℕ) (limit to g line : ℕ) (acts : List OrderActivation) {output : List ℕ} {p : Watched} {T : Watched → Type 0} (n bound : ℕ) (o : Outcome) → n + limit ≤ bound → Leads output n p T → ((q : Watched) → T q → Does prog image limit to g line acts output q o) → Does prog image bound to g line acts output p o
 later prog image limit to g line acts {output = output} {p = p} n bound (Changed v) le l on =
     let d = on l.reached l.there in
     let some = d.some in
@@ -122,7 +125,7 @@ later prog image limit to g line acts {output = output} {p = p} n bound (Changed
       spent = n + d.spent;
       some = omega arith;
       within = omega arith;
-      leads = record { reached = d.leads.reached; path = join _ (processor_machine shown_as) n d.spent (n + d.spent) p l.reached d.leads.reached refl l.path d.leads.path; there = d.leads.there };
+      leads = record { reached = d.leads.reached; path = join _ watched_machine n d.spent (n + d.spent) p l.reached d.leads.reached refl l.path d.leads.path; there = d.leads.there };
     }
 later prog image limit to g line acts {output = output} {p = p} n bound (Refused kind) le l on =
     let d = on l.reached l.there in
@@ -132,45 +135,45 @@ later prog image limit to g line acts {output = output} {p = p} n bound (Refused
       spent = n + d.spent;
       some = omega arith;
       within = omega arith;
-      leads = record { reached = d.leads.reached; path = join _ (processor_machine shown_as) n d.spent (n + d.spent) p l.reached d.leads.reached refl l.path d.leads.path; there = d.leads.there };
+      leads = record { reached = d.leads.reached; path = join _ watched_machine n d.spent (n + d.spent) p l.reached d.leads.reached refl l.path d.leads.path; there = d.leads.there };
     }
 later prog image limit to g line acts n bound Impossible le l on = tt
 
-pub further : {output : List ℕ} {limit : ℕ} {p : Processor} {Target : Processor → Type 0} (n : ℕ) → n ≤ limit → 0 < n → Leads output n p Target → Leading output limit p Target
+pub further : {output : List ℕ} {limit : ℕ} {p : Watched} {Target : Watched → Type 0} (n : ℕ) → n ≤ limit → 0 < n → Leads output n p Target → Leading output limit p Target
 further n le some l = record { spent = n; some = some; within = le; leads = l }
 
-with_bx : {image : List ℕ} {at ax bx x cx dx sp bp si di : ℕ} {overflow : Bool} {cells stack : ℕ → ℕ} {input : List ℕ} {told : Told} {p : Processor} → bx ≡ x
+with_bx : {image : List ℕ} {at ax bx x cx dx sp bp si di : ℕ} {overflow : Bool} {cells stack : ℕ → ℕ} {input : List ℕ} {told : Told} {p : Watched} → bx ≡ x
     → Is image at (view ax cx dx bx sp bp si di overflow cells stack input told) p → Is image at (view ax cx dx x sp bp si di overflow cells stack input told) p
 with_bx {image} {at} {ax} {bx} {x} {cx} {dx} {sp} {bp} {si} {di} {overflow} {cells} {stack} {input} {told} {p} e s =
     subst (λ b. Is image at (view ax cx dx b sp bp si di overflow cells stack input told) p) e s
 
-with_overflow : {image : List ℕ} {at ax bx cx dx sp bp si di : ℕ} {o o' : Bool} {cells stack : ℕ → ℕ} {input : List ℕ} {told : Told} {p : Processor} → o ≡ o'
+with_overflow : {image : List ℕ} {at ax bx cx dx sp bp si di : ℕ} {o o' : Bool} {cells stack : ℕ → ℕ} {input : List ℕ} {told : Told} {p : Watched} → o ≡ o'
     → Is image at (view ax cx dx bx sp bp si di o cells stack input told) p → Is image at (view ax cx dx bx sp bp si di o' cells stack input told) p
 with_overflow {image} {at} {ax} {bx} {cx} {dx} {sp} {bp} {si} {di} {o} {o'} {cells} {stack} {input} {told} {p} e s =
     subst (λ b. Is image at (view ax cx dx bx sp bp si di b cells stack input told) p) e s
 
 -- an order leads within so many instructions on its way: to the next order, or to where the code of a mark starts
-abbrev pub Chooses : (prog : OrderProgram) (image : List ℕ) (limit to : ℕ) (start : ℕ → ℕ) (g line : ℕ) (acts : List OrderActivation) (output : List ℕ) (p : Processor) → Way → Type 0
+abbrev pub Chooses : (prog : OrderProgram) (image : List ℕ) (limit to : ℕ) (start : ℕ → ℕ) (g line : ℕ) (acts : List OrderActivation) (output : List ℕ) (p : Watched) → Way → Type 0
 Chooses prog image limit to start g line acts output p (Onward v) = Leading output limit p (Landed prog image to g line acts v)
 Chooses prog image limit to start g line acts output p (ToMark m v) = Leading output limit p (Landed prog image (start m) g line acts v)
 Chooses prog image limit to start g line acts output p Nowhere = Unit {0}
 
 -- what an order does that writes: on its way the old output is shown and then the new one
-pub record Telling (before after : List ℕ) (limit : ℕ) (p : Processor) (Target : Processor → Type 0) : Type 0 where
+pub record Telling (before after : List ℕ) (limit : ℕ) (p : Watched) (Target : Watched → Type 0) : Type 0 where
   pub spent : ℕ
   pub some : 0 < spent
   pub within : spent ≤ limit
-  pub reached : Processor
-  pub path : Path (λ o. (o ≡ at_work before) ⊎ (o ≡ at_work after)) (processor_machine shown_as) spent p reached
+  pub reached : Watched
+  pub path : Path (λ o. (o ≡ at_work before) ⊎ (o ≡ at_work after)) watched_machine spent p reached
   pub there : Target reached
 
-abbrev pub Tells : (prog : OrderProgram) (image : List ℕ) (limit to g line : ℕ) (acts : List OrderActivation) (output : List ℕ) (p : Processor) → Outcome → Type 0
+abbrev pub Tells : (prog : OrderProgram) (image : List ℕ) (limit to g line : ℕ) (acts : List OrderActivation) (output : List ℕ) (p : Watched) → Outcome → Type 0
 Tells prog image limit to g line acts output p (Changed v) = Telling output v.output limit p (Landed prog image to g line acts v)
 Tells prog image limit to g line acts output p (Refused kind) = ⊥
 Tells prog image limit to g line acts output p Impossible = Unit {0}
 
 -- the way after so many instructions
-further_on : {output : List ℕ} {p : Processor} {T U : Processor → Type 0} (n limit bound : ℕ) → n + limit ≤ bound → Leads output n p T → ((q : Processor) → T q → Leading output limit q U) → Leading output bound p U
+further_on : {output : List ℕ} {p : Watched} {T U : Watched → Type 0} (n limit bound : ℕ) → n + limit ≤ bound → Leads output n p T → ((q : Watched) → T q → Leading output limit q U) → Leading output bound p U
 further_on {p = p} n limit bound le l on =
     let d = on l.reached l.there in
     let some = d.some in
@@ -179,10 +182,10 @@ further_on {p = p} n limit bound le l on =
       spent = n + d.spent;
       some = omega arith;
       within = omega arith;
-      leads = record { reached = d.leads.reached; path = join _ (processor_machine shown_as) n d.spent (n + d.spent) p l.reached d.leads.reached refl l.path d.leads.path; there = d.leads.there };
+      leads = record { reached = d.leads.reached; path = join _ watched_machine n d.spent (n + d.spent) p l.reached d.leads.reached refl l.path d.leads.path; there = d.leads.there };
     }
 
-sooner : (prog : OrderProgram) (image : List ℕ) (limit to : ℕ) (start : ℕ → ℕ) (g line : ℕ) (acts : List OrderActivation) {output : List ℕ} {p : Processor} {T : Processor → Type 0} (n bound : ℕ) (way : Way) → n + limit ≤ bound → Leads output n p T → ((q : Processor) → T q → Chooses prog image limit to start g line acts output q way) → Chooses prog image bound to start g line acts output p way
+sooner : (prog : OrderProgram) (image : List ℕ) (limit to : ℕ) (start : ℕ → ℕ) (g line : ℕ) (acts : List OrderActivation) {output : List ℕ} {p : Watched} {T : Watched → Type 0} (n bound : ℕ) (way : Way) → n + limit ≤ bound → Leads output n p T → ((q : Watched) → T q → Chooses prog image limit to start g line acts output q way) → Chooses prog image bound to start g line acts output p way
 sooner prog image limit to start g line acts n bound (Onward v) le l on = further_on n limit bound le l on
 sooner prog image limit to start g line acts n bound (ToMark m v) le l on = further_on n limit bound le l on
 sooner prog image limit to start g line acts n bound Nowhere le l on = tt
@@ -216,16 +219,16 @@ below_area laws area n low small is = cases (signed n) refl
 
 module _ (rows : Rows) (prog : OrderProgram) (image : List ℕ) (g line : ℕ) (acts : List OrderActivation) where
   -- the word on the stack into AX, and into BX
-  pub pop_ax : {p : Processor} {at ax cx dx bx bp si di : ℕ} {overflow : Bool} {cells stack : ℕ → ℕ} {input : List ℕ} {told : Told} (top : ℕ) → top < 32761 → Has image at (i86.Pop 0)
-      → Is image at (view ax cx dx bx (2 * top) bp si di overflow cells stack input told) p → Is image (at + 1) (view (stack top) cx dx bx (2 * suc top) bp si di overflow cells stack input told) (processor_step p)
+  pub pop_ax : {p : Watched} {at ax cx dx bx bp si di : ℕ} {overflow : Bool} {cells stack : ℕ → ℕ} {input : List ℕ} {told : Told} (top : ℕ) → top < 32761 → Has image at (i86.Pop 0)
+      → Is image at (view ax cx dx bx (2 * top) bp si di overflow cells stack input told) p → Is image (at + 1) (view (stack top) cx dx bx (2 * suc top) bp si di overflow cells stack input told) (watched_step p)
   pop_ax top lt i s = pop rows 0 top (2 * suc top) (top_low top lt) (top_whole top lt) (top_next top lt) i s
 
-  pub pop_bx : {p : Processor} {at ax cx dx bx bp si di : ℕ} {overflow : Bool} {cells stack : ℕ → ℕ} {input : List ℕ} {told : Told} (top : ℕ) → top < 32761 → Has image at (i86.Pop 3)
-      → Is image at (view ax cx dx bx (2 * top) bp si di overflow cells stack input told) p → Is image (at + 1) (view ax cx dx (stack top) (2 * suc top) bp si di overflow cells stack input told) (processor_step p)
+  pub pop_bx : {p : Watched} {at ax cx dx bx bp si di : ℕ} {overflow : Bool} {cells stack : ℕ → ℕ} {input : List ℕ} {told : Told} (top : ℕ) → top < 32761 → Has image at (i86.Pop 3)
+      → Is image at (view ax cx dx bx (2 * top) bp si di overflow cells stack input told) p → Is image (at + 1) (view ax cx dx (stack top) (2 * suc top) bp si di overflow cells stack input told) (watched_step p)
   pop_bx top lt i s = pop rows 3 top (2 * suc top) (top_low top lt) (top_whole top lt) (top_next top lt) i s
 
   -- the processor is there, with these operands and other words
-  pub landed : {p : Processor} {at ax cx dx bx si di : ℕ} {overflow : Bool} {cells stack : ℕ → ℕ} {left : List ℕ} {told : Told} (to top : ℕ) (operands : List Operand) (memory : List ℤ) (input output : List ℕ) → at ≡ to
+  pub landed : {p : Watched} {at ax cx dx bx si di : ℕ} {overflow : Bool} {cells stack : ℕ → ℕ} {left : List ℕ} {told : Told} (to top : ℕ) (operands : List Operand) (memory : List ℤ) (input output : List ℕ) → at ≡ to
       → StackIs prog acts ax stack top operands → Kept prog g line acts memory input output cells stack left told
       → Is image at (view ax cx dx bx (2 * top) (record_of acts) si di overflow cells stack left told) p → Landed prog image to g line acts (record { operands = operands; memory = memory; input = input; output = output }) p
   landed {p} {at} {ax} {cx} {dx} {bx} {si} {di} {overflow} {cells} {stack} {left} {told} to top operands memory input output e h k s = record {
@@ -242,8 +245,8 @@ module _ (rows : Rows) (prog : OrderProgram) (image : List ℕ) (g line : ℕ) (
   -- ---- words that are put
 
   -- AX goes on the stack, and by a second instruction a word comes into AX
-  pub puts : {p : Processor} {at : ℕ} (to x : ℕ) (z : ℤ) (w : Words) → x ≡ unsigned z → operand_words w.operands < level acts → Has image at (i86.Push 0) → (l : Landed prog image at g line acts w p)
-      → ((q : Processor) (ax cx dx bx sp si di : ℕ) (overflow : Bool) (stack : ℕ → ℕ) → Is image (at + 1) (view ax cx dx bx sp (record_of acts) si di overflow l.cells stack l.input l.told) q → Is image to (view x cx dx bx sp (record_of acts) si di overflow l.cells stack l.input l.told) (processor_step q))
+  pub puts : {p : Watched} {at : ℕ} (to x : ℕ) (z : ℤ) (w : Words) → x ≡ unsigned z → operand_words w.operands < level acts → Has image at (i86.Push 0) → (l : Landed prog image at g line acts w p)
+      → ((q : Watched) (ax cx dx bx sp si di : ℕ) (overflow : Bool) (stack : ℕ → ℕ) → Is image (at + 1) (view ax cx dx bx sp (record_of acts) si di overflow l.cells stack l.input l.told) q → Is image to (view x cx dx bx sp (record_of acts) si di overflow l.cells stack l.input l.told) (watched_step q))
       → Leading w.output 2 p (Landed prog image to g line acts (put z w))
   puts {p} {at} to x z w value room i l brings = from l.top refl
     where
@@ -264,7 +267,7 @@ module _ (rows : Rows) (prog : OrderProgram) (image : List ℕ) (g line : ℕ) (
           last rows b l.kept.wrote (landed to n (Word z ∷ w.operands) w.memory w.input w.output refl (value, stack_pushed prog acts s.ax l.stack n w.operands h) (kept_under n s.ax low l.kept) (brings q s.ax s.cx s.dx s.bx (2 * n) s.si s.di s.overflow (put_word l.stack n s.ax) b))))
 
   -- a word of the data prog.limits.area
-  pub fetches : {p : Processor} {at : ℕ} (to offset n : ℕ) (w : Words) → prog.limits.area ≤ 32768 → n < 65536 → offset ≡ 2 * n % 65536 → at + 4 ≡ to → operand_words w.operands < level acts
+  pub fetches : {p : Watched} {at : ℕ} (to offset n : ℕ) (w : Words) → prog.limits.area ≤ 32768 → n < 65536 → offset ≡ 2 * n % 65536 → at + 4 ≡ to → operand_words w.operands < level acts
       → HasAll image at (i86.Push 0 ∷ i86.MovAcc false true false offset ∷ []) → Landed prog image at g line acts w p
       → Does prog image 2 to g line acts w.output p (unrefused (perform prog.limits.area (Fetch None) (put (signed n) w)))
   fetches {p} {at} to offset n w low small there e room i l = cases (is_below (signed n) prog.limits.area) refl
@@ -284,7 +287,7 @@ module _ (rows : Rows) (prog : OrderProgram) (image : List ℕ) (g line : ℕ) (
   -- ---- results in AX
 
   -- one that may have overflowed
-  pub checks : {p : Processor} {at ax cx dx bx si di : ℕ} {overflow : Bool} {cells stack : ℕ → ℕ} {left : List ℕ} {told : Told} (kind : StopKind) (to top by : ℕ) (z : ℤ) (operands : List Operand) (memory : List ℤ) (input output : List ℕ) → LibraryStands image → g < 255 → 0 < top
+  pub checks : {p : Watched} {at ax cx dx bx si di : ℕ} {overflow : Bool} {cells stack : ℕ → ℕ} {left : List ℕ} {told : Told} (kind : StopKind) (to top by : ℕ) (z : ℤ) (operands : List Operand) (memory : List ℤ) (input output : List ℕ) → LibraryStands image → g < 255 → 0 < top
       → at + 2 + 3 ≡ to → (at + 2 + 3 + by) % 65536 ≡ stop_place kind % 65536 → overflow ≡ not (fits_word z) → (FitsWord z → ax ≡ unsigned z)
       → StackIs prog acts (stack top) stack (suc top) operands → Kept prog g line acts memory input output cells stack left told → HasAll image at (i86.JumpIf 1 3 ∷ i86.Call by ∷ [])
       → Is image at (view ax cx dx bx (2 * top) (record_of acts) si di overflow cells stack left told) p
@@ -311,12 +314,12 @@ module _ (rows : Rows) (prog : OrderProgram) (image : List ℕ) (g line : ℕ) (
   -- ---- sums, differences and negatives
 
   -- AX with the sum or the difference of what it had and a number, the operands below unchanged
-  abbrev Operated : {at : ℕ} {w : Words} {p : Processor} → (l : Landed prog image at g line acts w p) → (at' a : ℕ) → Bool → Processor → Type 0
+  abbrev Operated : {at : ℕ} {w : Words} {p : Watched} → (l : Landed prog image at g line acts w p) → (at' a : ℕ) → Bool → Watched → Type 0
   Operated l at' a o q = Is image at' (view a l.stacked.cx l.stacked.dx l.stacked.bx (2 * l.top) (record_of acts) l.stacked.si l.stacked.di o l.cells l.stack l.input l.told) q
 
-  pub adds_simple : {p : Processor} {at : ℕ} (size to by n : ℕ) (y : ℤ) (w : Words) → n ≡ unsigned y → FitsWord y → LibraryStands image → g < 255 → operand_words w.operands < level acts
+  pub adds_simple : {p : Watched} {at : ℕ} (size to by n : ℕ) (y : ℤ) (w : Words) → n ≡ unsigned y → FitsWord y → LibraryStands image → g < 255 → operand_words w.operands < level acts
       → at + size + 2 + 3 ≡ to → (at + size + 2 + 3 + by) % 65536 ≡ 26 % 65536 → All OperandFits w.operands → HasAll image (at + size) (i86.JumpIf 1 3 ∷ i86.Call by ∷ []) → (l : Landed prog image at g line acts w p)
-      → Operated l (at + size) (word_sum l.stacked.ax n) (sum_overflows l.stacked.ax n) (processor_step p) → Does prog image 13 to g line acts w.output p (perform prog.limits.area Add (put y w))
+      → Operated l (at + size) (word_sum l.stacked.ax n) (sum_overflows l.stacked.ax n) (watched_step p) → Does prog image 13 to g line acts w.output p (perform prog.limits.area Add (put y w))
   adds_simple {p} {at} size to by n y w value fy library few room e arrives fits i l made = from w.operands refl l.operands fits room
     where
       from : (operands : List Operand) → w.operands ≡ operands → StackIs prog acts l.stacked.ax l.stack l.top operands → All OperandFits operands → operand_words operands < level acts
@@ -334,9 +337,9 @@ module _ (rows : Rows) (prog : OrderProgram) (image : List ℕ) (g line : ℕ) (
           (last rows s.is l.kept.wrote made)
           (λ q t. checks {p = q} {at = at + size} {ax = word_sum s.ax n} {cx = s.cx} {dx = s.dx} {bx = s.bx} {si = s.si} {di = s.di} {overflow = sum_overflows s.ax n} {cells = l.cells} {stack = l.stack} {left = l.input} {told = l.told} Overflow to l.top by (x +ℤ y) rest w.memory w.input w.output library few some e arrives o v h.1 l.kept i t)
 
-  pub subtracts_simple : {p : Processor} {at : ℕ} (size to by n : ℕ) (y : ℤ) (w : Words) → n ≡ unsigned y → FitsWord y → LibraryStands image → g < 255 → operand_words w.operands < level acts
+  pub subtracts_simple : {p : Watched} {at : ℕ} (size to by n : ℕ) (y : ℤ) (w : Words) → n ≡ unsigned y → FitsWord y → LibraryStands image → g < 255 → operand_words w.operands < level acts
       → at + size + 2 + 3 ≡ to → (at + size + 2 + 3 + by) % 65536 ≡ 26 % 65536 → All OperandFits w.operands → HasAll image (at + size) (i86.JumpIf 1 3 ∷ i86.Call by ∷ []) → (l : Landed prog image at g line acts w p)
-      → Operated l (at + size) (word_difference l.stacked.ax n) (difference_overflows l.stacked.ax n) (processor_step p) → Does prog image 13 to g line acts w.output p (perform prog.limits.area Subtract (put y w))
+      → Operated l (at + size) (word_difference l.stacked.ax n) (difference_overflows l.stacked.ax n) (watched_step p) → Does prog image 13 to g line acts w.output p (perform prog.limits.area Subtract (put y w))
   subtracts_simple {p} {at} size to by n y w value fy library few room e arrives fits i l made = from w.operands refl l.operands fits room
     where
       from : (operands : List Operand) → w.operands ≡ operands → StackIs prog acts l.stacked.ax l.stack l.top operands → All OperandFits operands → operand_words operands < level acts
@@ -354,7 +357,7 @@ module _ (rows : Rows) (prog : OrderProgram) (image : List ℕ) (g line : ℕ) (
           (last rows s.is l.kept.wrote made)
           (λ q t. checks {p = q} {at = at + size} {ax = word_difference s.ax n} {cx = s.cx} {dx = s.dx} {bx = s.bx} {si = s.si} {di = s.di} {overflow = difference_overflows s.ax n} {cells = l.cells} {stack = l.stack} {left = l.input} {told = l.told} Overflow to l.top by (x -ℤ y) rest w.memory w.input w.output library few some e arrives o v h.1 l.kept i t)
 
-  pub adds : {p : Processor} {at : ℕ} (to by : ℕ) (operands : List Operand) (memory : List ℤ) (input output : List ℕ) → LibraryStands image → g < 255 → at + 8 ≡ to → (at + 1 + 2 + 2 + 3 + by) % 65536 ≡ 26 % 65536
+  pub adds : {p : Watched} {at : ℕ} (to by : ℕ) (operands : List Operand) (memory : List ℤ) (input output : List ℕ) → LibraryStands image → g < 255 → at + 8 ≡ to → (at + 1 + 2 + 2 + 3 + by) % 65536 ≡ 26 % 65536
       → All OperandFits operands → HasAll image at (i86.Pop 3 ∷ i86.AluRm 0 true true 0 (rms.Reg 3) ∷ i86.JumpIf 1 3 ∷ i86.Call by ∷ [])
       → Landed prog image at g line acts (record { operands = operands; memory = memory; input = input; output = output }) p
       → Does prog image 14 to g line acts output p (perform prog.limits.area Add (record { operands = operands; memory = memory; input = input; output = output }))
@@ -382,7 +385,7 @@ module _ (rows : Rows) (prog : OrderProgram) (image : List ℕ) (g line : ℕ) (
       done t)))
       (λ q t. checks Overflow to (suc l.top) by (x +ℤ y) rest memory input output library few some e' arrives o v h.1.1 k i.1.1 t)
 
-  pub subtracts : {p : Processor} {at : ℕ} (to by : ℕ) (operands : List Operand) (memory : List ℤ) (input output : List ℕ) → LibraryStands image → g < 255 → at + 10 ≡ to → (at + 2 + 1 + 2 + 2 + 3 + by) % 65536 ≡ 26 % 65536
+  pub subtracts : {p : Watched} {at : ℕ} (to by : ℕ) (operands : List Operand) (memory : List ℤ) (input output : List ℕ) → LibraryStands image → g < 255 → at + 10 ≡ to → (at + 2 + 1 + 2 + 2 + 3 + by) % 65536 ≡ 26 % 65536
       → All OperandFits operands → HasAll image at (i86.Mov true true 3 (rms.Reg 0) ∷ i86.Pop 0 ∷ i86.AluRm 5 true true 0 (rms.Reg 3) ∷ i86.JumpIf 1 3 ∷ i86.Call by ∷ [])
       → Landed prog image at g line acts (record { operands = operands; memory = memory; input = input; output = output }) p
       → Does prog image 15 to g line acts output p (perform prog.limits.area Subtract (record { operands = operands; memory = memory; input = input; output = output }))
@@ -410,7 +413,7 @@ module _ (rows : Rows) (prog : OrderProgram) (image : List ℕ) (g line : ℕ) (
       done t))))
       (λ q t. checks Overflow to (suc l.top) by (x -ℤ y) rest memory input output library few some e' arrives o v h.1.1 k i.1.1.1 t)
 
-  pub negates : {p : Processor} {at : ℕ} (to by : ℕ) (operands : List Operand) (memory : List ℤ) (input output : List ℕ) → LibraryStands image → g < 255 → operand_words operands < level acts → at + 7 ≡ to → (at + 2 + 2 + 3 + by) % 65536 ≡ 26 % 65536
+  pub negates : {p : Watched} {at : ℕ} (to by : ℕ) (operands : List Operand) (memory : List ℤ) (input output : List ℕ) → LibraryStands image → g < 255 → operand_words operands < level acts → at + 7 ≡ to → (at + 2 + 2 + 3 + by) % 65536 ≡ 26 % 65536
       → All OperandFits operands → HasAll image at (i86.Unary 3 true (rms.Reg 0) ∷ i86.JumpIf 1 3 ∷ i86.Call by ∷ [])
       → Landed prog image at g line acts (record { operands = operands; memory = memory; input = input; output = output }) p
       → Does prog image 13 to g line acts output p (perform prog.limits.area Negate (record { operands = operands; memory = memory; input = input; output = output }))
@@ -433,7 +436,7 @@ module _ (rows : Rows) (prog : OrderProgram) (image : List ℕ) (g line : ℕ) (
 
   -- ---- words of the data prog.limits.area
 
-  loads_word : {p : Processor} {at : ℕ} (to : ℕ) (a : ℤ) (b : Bool) (rest : List Operand) (memory : List ℤ) (input output : List ℕ) → prog.limits.area ≤ 32768 → is_below a prog.limits.area ≡ b → at + 6 ≡ to
+  loads_word : {p : Watched} {at : ℕ} (to : ℕ) (a : ℤ) (b : Bool) (rest : List Operand) (memory : List ℤ) (input output : List ℕ) → prog.limits.area ≤ 32768 → is_below a prog.limits.area ≡ b → at + 6 ≡ to
       → HasAll image at (i86.Mov true true 3 (rms.Reg 0) ∷ i86.Shift 4 true false (rms.Reg 3) ∷ i86.Mov true true 0 at_bx ∷ [])
       → Landed prog image at g line acts (record { operands = Word a ∷ rest; memory = memory; input = input; output = output }) p
       → Does prog image 3 to g line acts output p (unrefused (through b (λ i v. Changed (put (word_at v.memory i) v)) a (record { operands = rest; memory = memory; input = input; output = output })))
@@ -453,7 +456,7 @@ module _ (rows : Rows) (prog : OrderProgram) (image : List ℕ) (g line : ℕ) (
       more rows {to = at + 2 + 2} {w = view s.ax s.cx s.dx (2 * n) (2 * l.top) (record_of acts) s.si s.di (double_overflows n) l.cells l.stack l.input l.told} t k.wrote (double rows 3 lt i.1.0 t) (λ q t.
       last rows t k.wrote (landed to l.top (Word (word_at memory n) ∷ rest) memory input output e' (k.words n within, h.1) k (load rows 0 n lt refl i.1.1.0 t)))))
 
-  pub loads : {p : Processor} {at : ℕ} (to : ℕ) (operands : List Operand) (memory : List ℤ) (input output : List ℕ) → prog.limits.area ≤ 32768 → at + 6 ≡ to
+  pub loads : {p : Watched} {at : ℕ} (to : ℕ) (operands : List Operand) (memory : List ℤ) (input output : List ℕ) → prog.limits.area ≤ 32768 → at + 6 ≡ to
       → HasAll image at (i86.Mov true true 3 (rms.Reg 0) ∷ i86.Shift 4 true false (rms.Reg 3) ∷ i86.Mov true true 0 at_bx ∷ [])
       → Landed prog image at g line acts (record { operands = operands; memory = memory; input = input; output = output }) p
       → Does prog image 3 to g line acts output p (unrefused (perform prog.limits.area (Fetch None) (record { operands = operands; memory = memory; input = input; output = output })))
@@ -461,7 +464,7 @@ module _ (rows : Rows) (prog : OrderProgram) (image : List ℕ) (g line : ℕ) (
   loads to (Held c ∷ rest) memory input output low e i l = tt
   loads to (Word a ∷ rest) memory input output low e i l = loads_word to a (is_below a prog.limits.area) rest memory input output low refl e i l
 
-  stores_word : {p : Processor} {at : ℕ} (to : ℕ) (a : ℤ) (b : Bool) (z : ℤ) (rest : List Operand) (memory : List ℤ) (input output : List ℕ) → prog.limits.area ≤ 32768 → is_below a prog.limits.area ≡ b → at + 8 ≡ to
+  stores_word : {p : Watched} {at : ℕ} (to : ℕ) (a : ℤ) (b : Bool) (z : ℤ) (rest : List Operand) (memory : List ℤ) (input output : List ℕ) → prog.limits.area ≤ 32768 → is_below a prog.limits.area ≡ b → at + 8 ≡ to
       → HasAll image at (i86.Mov true true 3 (rms.Reg 0) ∷ i86.Shift 4 true false (rms.Reg 3) ∷ i86.Pop 0 ∷ i86.Mov true false 0 at_bx ∷ i86.Pop 0 ∷ [])
       → Landed prog image at g line acts (record { operands = Word a ∷ Word z ∷ rest; memory = memory; input = input; output = output }) p
       → Does prog image 5 to g line acts output p (unrefused (through b (λ i t. Changed (with_memory t (set t.memory i z))) a (record { operands = rest; memory = memory; input = input; output = output })))
@@ -486,7 +489,7 @@ module _ (rows : Rows) (prog : OrderProgram) (image : List ℕ) (g line : ℕ) (
       more rows {to = at + 2 + 2 + 1 + 2} {w = view (unsigned z) s.cx s.dx (2 * n) (2 * suc l.top) (record_of acts) s.si s.di (double_overflows n) (put_word l.cells n (unsigned z)) l.stack l.input l.told} t k.wrote (store rows 0 n lt refl i.1.1.1.0 t) (λ q t.
       last rows t k.wrote (landed to (suc (suc l.top)) rest (set memory n z) input output e' h.1.1 (kept_stored n z within k) (pop_ax (suc l.top) next i.1.1.1.1.0 t)))))))
 
-  pub stores : {p : Processor} {at : ℕ} (to : ℕ) (operands : List Operand) (memory : List ℤ) (input output : List ℕ) → prog.limits.area ≤ 32768 → at + 8 ≡ to
+  pub stores : {p : Watched} {at : ℕ} (to : ℕ) (operands : List Operand) (memory : List ℤ) (input output : List ℕ) → prog.limits.area ≤ 32768 → at + 8 ≡ to
       → HasAll image at (i86.Mov true true 3 (rms.Reg 0) ∷ i86.Shift 4 true false (rms.Reg 3) ∷ i86.Pop 0 ∷ i86.Mov true false 0 at_bx ∷ i86.Pop 0 ∷ [])
       → Landed prog image at g line acts (record { operands = operands; memory = memory; input = input; output = output }) p
       → Does prog image 5 to g line acts output p (unrefused (perform prog.limits.area (Store None) (record { operands = operands; memory = memory; input = input; output = output })))
@@ -497,7 +500,7 @@ module _ (rows : Rows) (prog : OrderProgram) (image : List ℕ) (g line : ℕ) (
   stores to (Word a ∷ Word z ∷ rest) memory input output low e i l = stores_word to a (is_below a prog.limits.area) z rest memory input output low refl e i l
 
   -- the top operand goes to a word of the data prog.limits.area
-  pub assigns : {p : Processor} {at : ℕ} (to offset n : ℕ) (operands : List Operand) (memory : List ℤ) (input output : List ℕ) → prog.limits.area ≤ 32768 → n < 65536 → offset ≡ 2 * n % 65536 → at + 4 ≡ to
+  pub assigns : {p : Watched} {at : ℕ} (to offset n : ℕ) (operands : List Operand) (memory : List ℤ) (input output : List ℕ) → prog.limits.area ≤ 32768 → n < 65536 → offset ≡ 2 * n % 65536 → at + 4 ≡ to
       → HasAll image at (i86.MovAcc false true true offset ∷ i86.Pop 0 ∷ []) → Landed prog image at g line acts (record { operands = operands; memory = memory; input = input; output = output }) p
       → Does prog image 2 to g line acts output p (unrefused (perform prog.limits.area (Store None) (record { operands = Word (signed n) ∷ operands; memory = memory; input = input; output = output })))
   assigns to offset n [] memory input output low small there e i l = tt
@@ -525,9 +528,10 @@ module _ (rows : Rows) (prog : OrderProgram) (image : List ℕ) (g line : ℕ) (
 
   -- ---- lines
 
-  pub sets_line : {p : Processor} {at : ℕ} (to n : ℕ) (w : Words) → at + 5 ≡ to → n < 65536 → Has image at (i86.MovRm (slot line_slot) (imm.Word n)) → Landed prog image at g line acts w p
-      → Leading w.output 1 p (Landed prog image to g n acts w)
-  sets_line {p} {at} to n w e small i l =
+  -- whatever the observer has noted
+  pub line_set : {p : Watched} {at : ℕ} (places : List StatementPlace) (area : ℕ) (begun : List Begun) (to n : ℕ) (w : Words) → Ignores image places → begun ≡ [] → at + 5 ≡ to → n < 65536 → Has image at (i86.MovRm (slot line_slot) (imm.Word n)) → Landed prog image at g line acts w p
+      → Landed prog image to g n acts w (record { places = places; area = area; processor = processor_step p.processor; begun = begun })
+  line_set {p} {at} places area begun to n w ignores silent e small i l =
       let s = l.stacked in
       let k = l.kept in
       let r = level acts in
@@ -536,14 +540,13 @@ module _ (rows : Rows) (prog : OrderProgram) (image : List ℕ) (g line : ℕ) (
       let new : ℕ → ℕ = put_word l.stack (r + 4) n in
       let same : (j : ℕ) → j ≢ r + 4 → new j ≡ l.stack j = put_off l.stack (r + 4) n in
       let rest : SameFrom (r + 5) l.stack new = λ j le. same j (λ e. omega arith) in
-      further 1 (lit< tt) (lit< tt)
-      (last rows s.is k.wrote (record {
+      record {
         top = l.top;
         cells = l.cells;
         stack = new;
         input = l.input;
         told = l.told;
-        stacked = record { ax = s.ax; cx = s.cx; dx = s.dx; bx = s.bx; si = s.si; di = s.di; overflow = s.overflow; is = seen e refl (set_slot rows 0xFE n (r + 4) (omega arith) is_slot i s.is) };
+        stacked = record { ax = s.ax; cx = s.cx; dx = s.dx; bx = s.bx; si = s.si; di = s.di; overflow = s.overflow; is = seen e refl (slot_set rows places area begun 0xFE n (r + 4) ignores silent (omega arith) is_slot i s.is) };
         operands = stack_below prog acts s.ax l.stack new l.top w.operands (λ j le lt. same j (λ e. omega arith)) l.operands;
         kept = record {
           words = k.words;
@@ -564,12 +567,20 @@ module _ (rows : Rows) (prog : OrderProgram) (image : List ℕ) (g line : ℕ) (
           wrote = k.wrote;
           kind = k.kind;
         };
-      }))
+      }
+
+  -- where no statement begins
+  pub sets_line : {p : Watched} {at : ℕ} (to n : ℕ) (w : Words) → at + 5 ≡ to → n < 65536 → Has image at (i86.MovRm (slot line_slot) (imm.Word n)) → lines_at p.places at ≡ [] → Landed prog image at g line acts w p
+      → Leading w.output 1 p (Landed prog image to g n acts w)
+  unfolding watched_step
+  sets_line {p} to n w e small i none l =
+      let s = l.stacked in
+      further 1 (lit< tt) (lit< tt) (last rows s.is l.kept.wrote (line_set p.places p.area (watched_step p).begun to n w s.is.ignores (silent_at (i86.MovRm (slot line_slot) (imm.Word n)) (omega arith) i none s.is) e small i l))
 
   -- ---- output
 
   -- the byte is written, and then the next operand comes to AX
-  pub writes : {p : Processor} {at : ℕ} (to : ℕ) (operands : List Operand) (memory : List ℤ) (input output : List ℕ) → at + 3 ≡ to → HasAll image at (i86.Out 0x12 ∷ i86.Pop 0 ∷ [])
+  pub writes : {p : Watched} {at : ℕ} (to : ℕ) (operands : List Operand) (memory : List ℤ) (input output : List ℕ) → at + 3 ≡ to → HasAll image at (i86.Out 0x12 ∷ i86.Pop 0 ∷ [])
       → Landed prog image at g line acts (record { operands = operands; memory = memory; input = input; output = output }) p
       → Tells prog image 2 to g line acts output p (perform prog.limits.area WriteByte (record { operands = operands; memory = memory; input = input; output = output }))
   writes to [] memory input output e i l = tt
@@ -584,27 +595,27 @@ module _ (rows : Rows) (prog : OrderProgram) (image : List ℕ) (g line : ℕ) (
       let after = output ++ byte_of x ∷ [] in
       let told : Told = with_given 0x12 (unsigned x % 256) l.told in
       let wrote : told.output ≡ after = ap (λ o. o ++ byte_of x ∷ []) k.wrote in
-      let first : Is image (at + 2) (view (unsigned x) s.cx s.dx s.bx (2 * l.top) (record_of acts) s.si s.di s.overflow l.cells l.stack l.input told) (processor_step p) = out rows 0x12 i.0 (with_ax h.0 s.is) in
-      let second : Is image (at + 2 + 1) (view (l.stack l.top) s.cx s.dx s.bx (2 * suc l.top) (record_of acts) s.si s.di s.overflow l.cells l.stack l.input told) (processor_step (processor_step p)) = pop_ax l.top lt i.1.0 first in
+      let first : Is image (at + 2) (view (unsigned x) s.cx s.dx s.bx (2 * l.top) (record_of acts) s.si s.di s.overflow l.cells l.stack l.input told) (watched_step p) = out rows 0x12 i.0 (with_ax h.0 s.is) in
+      let second : Is image (at + 2 + 1) (view (l.stack l.top) s.cx s.dx s.bx (2 * suc l.top) (record_of acts) s.si s.di s.overflow l.cells l.stack l.input told) (watched_step (watched_step p)) = pop_ax l.top lt i.1.0 first in
       record {
         spent = 2;
         some = lit< tt;
         within = lit≤ tt;
-        reached = processor_step (processor_step p);
+        reached = watched_step (watched_step p);
         path = next (inl (shows rows s.is k.wrote)) refl (let c : 2 ≡ 1 + 1 = omega arith in c) (next (inr (shows rows first wrote)) refl (let c : 1 ≡ 1 + 0 = omega arith in c) (stay refl refl));
         there = landed to (suc l.top) rest memory input after e' h.1 (record { words = k.words; long = k.long; piled = k.piled; read = k.read; wrote = wrote; kind = k.kind }) second;
       }
 
   -- ---- jumps
 
-  pub jumps : {p : Processor} {at : ℕ} (to by : ℕ) (w : Words) → (at + 3 + by) % 65536 ≡ to % 65536 → Has image at (i86.Jump by) → Landed prog image at g line acts w p
+  pub jumps : {p : Watched} {at : ℕ} (to by : ℕ) (w : Words) → (at + 3 + by) % 65536 ≡ to % 65536 → Has image at (i86.Jump by) → Landed prog image at g line acts w p
       → Leading w.output 1 p (Landed prog image to g line acts w)
   jumps {p} {at} to by w arrives i l =
       let s = l.stacked in
       further 1 (lit≤ tt) (lit< tt) (last rows s.is l.kept.wrote (landed to l.top w.operands w.memory w.input w.output refl l.operands l.kept (to_place arrives (near rows by i s.is))))
 
   -- behind a comparison
-  branches : {p : Processor} {at ax cx dx bx si di a b : ℕ} {overflow : Bool} {cells stack : ℕ → ℕ} {left : List ℕ} {told : Told} (to top by : ℕ) (start : ℕ → ℕ) (c : Comparator) (m : ℕ) (x y : ℤ) (operands : List Operand) (memory : List ℤ) (input output : List ℕ)
+  branches : {p : Watched} {at ax cx dx bx si di a b : ℕ} {overflow : Bool} {cells stack : ℕ → ℕ} {left : List ℕ} {told : Told} (to top by : ℕ) (start : ℕ → ℕ) (c : Comparator) (m : ℕ) (x y : ℤ) (operands : List Operand) (memory : List ℤ) (input output : List ℕ)
       → at + 1 + 2 + 3 ≡ to → (at + 1 + 2 + 3 + by) % 65536 ≡ start m % 65536 → FitsWord x → FitsWord y → a ≡ unsigned x → b ≡ unsigned y
       → StackIs prog acts (stack top) stack (suc top) operands → Kept prog g line acts memory input output cells stack left told → HasAll image at (i86.Pop 0 ∷ i86.JumpIf (condition_of (opposite_of c)) 3 ∷ i86.Jump by ∷ [])
       → IsCompared image at (view ax cx dx bx (2 * top) (record_of acts) si di overflow cells stack left told) a b p
@@ -617,7 +628,7 @@ module _ (rows : Rows) (prog : OrderProgram) (image : List ℕ) (g line : ℕ) (
       V : View
       V = view (stack top) cx dx bx (2 * suc top) (record_of acts) si di overflow cells stack left told
 
-      popped : IsCompared image (at + 1) V a b (processor_step p)
+      popped : IsCompared image (at + 1) V a b (watched_step p)
       popped = compared_pop rows 0 top (2 * suc top) (top_low top lt) (top_whole top lt) (top_next top lt) i.0 s
 
       la : a < 65536
@@ -640,7 +651,7 @@ module _ (rows : Rows) (prog : OrderProgram) (image : List ℕ) (g line : ℕ) (
           (compared_more rows {Between = IsCompared image (at + 1) V a b} s.is k.wrote popped (λ q u.
           last rows u.is k.wrote (landed to (suc top) operands memory input output e h k (compared_jumps rows (opposite_of c) 3 la lb (turned ∙ ap not t) i.1.0 u))))
 
-  pub chooses : {p : Processor} {at : ℕ} (to by : ℕ) (start : ℕ → ℕ) (c : Comparator) (m : ℕ) (operands : List Operand) (memory : List ℤ) (input output : List ℕ) → at + 9 ≡ to → (at + 9 + by) % 65536 ≡ start m % 65536
+  pub chooses : {p : Watched} {at : ℕ} (to by : ℕ) (start : ℕ → ℕ) (c : Comparator) (m : ℕ) (operands : List Operand) (memory : List ℤ) (input output : List ℕ) → at + 9 ≡ to → (at + 9 + by) % 65536 ≡ start m % 65536
       → All OperandFits operands → HasAll image at (i86.Pop 3 ∷ with_other 7 3 0 ∷ i86.Pop 0 ∷ i86.JumpIf (condition_of (opposite_of c)) 3 ∷ i86.Jump by ∷ [])
       → Landed prog image at g line acts (record { operands = operands; memory = memory; input = input; output = output }) p
       → Chooses prog image 5 to start g line acts output p (way_of_two (λ x y v. to_mark_if (holds (comparison c) x y) m v) (record { operands = operands; memory = memory; input = input; output = output }))
@@ -659,16 +670,16 @@ module _ (rows : Rows) (prog : OrderProgram) (image : List ℕ) (g line : ℕ) (
       let lt : l.top < 32761 = omega arith in
       let e' : at + 1 + 2 + 1 + 2 + 3 ≡ to = omega arith in
       let a' : (at + 1 + 2 + 1 + 2 + 3 + by) % 65536 ≡ start m % 65536 = omega arith in
-      let Between : Processor → Type 0 = IsCompared image (at + 1 + 2) (view s.ax s.cx s.dx n (2 * suc l.top) (record_of acts) s.si s.di (difference_overflows n s.ax) l.cells l.stack l.input l.told) n s.ax in
+      let Between : Watched → Type 0 = IsCompared image (at + 1 + 2) (view s.ax s.cx s.dx n (2 * suc l.top) (record_of acts) s.si s.di (difference_overflows n s.ax) l.cells l.stack l.input l.told) n s.ax in
       sooner prog image 3 to start g line acts {T = Between} 2 5 (to_mark_if (holds (comparison c) x y) m (record { operands = rest; memory = memory; input = input; output = output })) (lit≤ tt)
       (more rows {to = at + 1} {w = view s.ax s.cx s.dx n (2 * suc l.top) (record_of acts) s.si s.di s.overflow l.cells l.stack l.input l.told} s.is k.wrote (pop_bx l.top lt i.0 s.is) (λ q u.
       compared_more rows {Between = Between} u k.wrote (compare rows 3 0 i.1.0 u) (λ q u. done u)))
       (λ q u. branches to (suc l.top) by start c m x y rest memory input output e' a' fx fy h.1.0 h.0 h.1.1 k i.1.1 u)
 
   -- a comparison with a simple operand
-  pub chooses_simple : {p : Processor} {at : ℕ} (size to by n : ℕ) (y : ℤ) (start : ℕ → ℕ) (c : Comparator) (m : ℕ) (w : Words) → n ≡ unsigned y → FitsWord y
+  pub chooses_simple : {p : Watched} {at : ℕ} (size to by n : ℕ) (y : ℤ) (start : ℕ → ℕ) (c : Comparator) (m : ℕ) (w : Words) → n ≡ unsigned y → FitsWord y
       → at + size + 6 ≡ to → (at + size + 6 + by) % 65536 ≡ start m % 65536 → All OperandFits w.operands → HasAll image (at + size) (i86.Pop 0 ∷ i86.JumpIf (condition_of (opposite_of c)) 3 ∷ i86.Jump by ∷ []) → (l : Landed prog image at g line acts w p)
-      → IsCompared image (at + size) (view l.stacked.ax l.stacked.cx l.stacked.dx l.stacked.bx (2 * l.top) (record_of acts) l.stacked.si l.stacked.di (difference_overflows l.stacked.ax n) l.cells l.stack l.input l.told) l.stacked.ax n (processor_step p)
+      → IsCompared image (at + size) (view l.stacked.ax l.stacked.cx l.stacked.dx l.stacked.bx (2 * l.top) (record_of acts) l.stacked.si l.stacked.di (difference_overflows l.stacked.ax n) l.cells l.stack l.input l.told) l.stacked.ax n (watched_step p)
       → Chooses prog image 4 to start g line acts w.output p (way_of_two (λ x y v. to_mark_if (holds (comparison c) x y) m v) (put y w))
   chooses_simple {p} {at} size to by n y start c m w value fy e arrives fits i l made = from w.operands l.operands fits
     where
@@ -682,7 +693,7 @@ module _ (rows : Rows) (prog : OrderProgram) (image : List ℕ) (g line : ℕ) (
           let fx : FitsWord x = All-head OperandFits (Word x) rest fits in
           let e' : at + size + 1 + 2 + 3 ≡ to = omega arith in
           let a' : (at + size + 1 + 2 + 3 + by) % 65536 ≡ start m % 65536 = omega arith in
-          let Between : Processor → Type 0 = IsCompared image (at + size) (view s.ax s.cx s.dx s.bx (2 * l.top) (record_of acts) s.si s.di (difference_overflows s.ax n) l.cells l.stack l.input l.told) s.ax n in
+          let Between : Watched → Type 0 = IsCompared image (at + size) (view s.ax s.cx s.dx s.bx (2 * l.top) (record_of acts) s.si s.di (difference_overflows s.ax n) l.cells l.stack l.input l.told) s.ax n in
           sooner prog image 3 to start g line acts {T = Between} 1 4 (to_mark_if (holds (comparison c) x y) m (record { operands = rest; memory = w.memory; input = w.input; output = w.output })) (lit≤ tt)
           (last rows s.is k.wrote made)
           (λ q u. branches to l.top by start c m x y rest w.memory w.input w.output e' a' fx fy h.0 value h.1 k i u)

@@ -5,7 +5,8 @@ use Rattle.cw_i86.specs.declared.instr.Instr.TheVariants as i86
 use Rattle.cw_i86.specs.declared.instr.Imm.TheVariants as imm
 use Rattle.cw_i86.specs.declared.instr.Rm.TheVariants as rms
 use Rattle.cw_i86.specs.declared.instr.Place.TheVariants as places
-use Rattle.cw_run86.specs.Processor.{Processor, Told}
+use Rattle.cw_run86.specs.Processor.{Told}
+use Rattle.cw_follow.proofs.Watched.{Watched}
 use Rattle.cw_run86.specs.Views.{with_number, word_sum, sum_overflows}
 use Rattle.cw_word.specs.Word.{unsigned}
 use Rattle.cw_unit.specs.Words.{Operand, Word, Held, Words, Changed, put, with_memory, through, is_below}
@@ -32,7 +33,7 @@ module _ (rows : Rows) (prog : OrderProgram) (image : List ℕ) where
     behind = level (a ∷ acts) + 7 + n
 
     -- the record and the arguments are dropped, with the place to go to in SI
-    record Dropped (at ax : ℕ) (q : Processor) : Type 0 where
+    record Dropped (at ax : ℕ) (q : Watched) : Type 0 where
       cells : ℕ → ℕ
       stack : ℕ → ℕ
       left : List ℕ
@@ -47,7 +48,7 @@ module _ (rows : Rows) (prog : OrderProgram) (image : List ℕ) where
       operands : StackIs prog acts (stack (level (a ∷ acts) + 7 + n)) stack (suc (level (a ∷ acts) + 7 + n)) a.operands
       kept : Kept prog a.segment a.line acts memory input output cells stack left told
 
-    drops : {q : Processor} {at ax cx dx bx sp si di : ℕ} {overflow : Bool} {cells stack : ℕ → ℕ} {left : List ℕ} {told : Told} → operand_words a.arguments ≡ n → n < 256 → Kept prog g line (a ∷ acts) memory input output cells stack left told
+    drops : {q : Watched} {at ax cx dx bx sp si di : ℕ} {overflow : Bool} {cells stack : ℕ → ℕ} {left : List ℕ} {told : Told} → operand_words a.arguments ≡ n → n < 256 → Kept prog g line (a ∷ acts) memory input output cells stack left told
         → HasAll image at (i86.Mov true true 4 (rms.Reg 5) ∷ i86.Pop 5 ∷ i86.Pop 6 ∷ i86.MovImm 3 (imm.Word (2 * n)) ∷ i86.AluRm 0 true true 4 (rms.Reg 3) ∷ [])
         → Is image at (view ax cx dx bx sp (record_of (a ∷ acts)) si di overflow cells stack left told) q → Leads output 5 q (Dropped (at + 2 + 1 + 1 + 3 + 2) ax)
     drops {q} {at} {ax} {cx} {dx} {bx} {sp} {si} {di} {overflow} {cells} {stack} {left} {told} words few k i s =
@@ -83,7 +84,7 @@ module _ (rows : Rows) (prog : OrderProgram) (image : List ℕ) where
         }))
 
     -- back in the caller, without an answer: the next of its operands comes to AX
-    pub returns : {q : Processor} {at : ℕ} (to : ℕ) (operands : List Operand) → operand_words a.arguments ≡ n → n < 256 → code_place prog a.segment a.place ≡ to % 65536
+    pub returns : {q : Watched} {at : ℕ} (to : ℕ) (operands : List Operand) → operand_words a.arguments ≡ n → n < 256 → code_place prog a.segment a.place ≡ to % 65536
         → HasAll image at (i86.Mov true true 4 (rms.Reg 5) ∷ i86.Pop 5 ∷ i86.Pop 6 ∷ i86.MovImm 3 (imm.Word (2 * n)) ∷ i86.AluRm 0 true true 4 (rms.Reg 3) ∷ i86.Pop 0 ∷ i86.JumpRm (rms.Reg 6) ∷ [])
         → Landed prog image at g line (a ∷ acts) (record { operands = operands; memory = memory; input = input; output = output }) q
         → Leading output 7 q (Landed prog image to a.segment a.line acts (record { operands = a.operands; memory = memory; input = input; output = output }))
@@ -106,7 +107,7 @@ module _ (rows : Rows) (prog : OrderProgram) (image : List ℕ) where
         }))))
 
     -- with an answer, which stays in AX
-    pub answers : {q : Processor} {at : ℕ} (to : ℕ) (z : ℤ) (rest : List Operand) → operand_words a.arguments ≡ n → n < 256 → code_place prog a.segment a.place ≡ to % 65536
+    pub answers : {q : Watched} {at : ℕ} (to : ℕ) (z : ℤ) (rest : List Operand) → operand_words a.arguments ≡ n → n < 256 → code_place prog a.segment a.place ≡ to % 65536
         → HasAll image at (i86.Mov true true 4 (rms.Reg 5) ∷ i86.Pop 5 ∷ i86.Pop 6 ∷ i86.MovImm 3 (imm.Word (2 * n)) ∷ i86.AluRm 0 true true 4 (rms.Reg 3) ∷ i86.JumpRm (rms.Reg 6) ∷ [])
         → Landed prog image at g line (a ∷ acts) (record { operands = Word z ∷ rest; memory = memory; input = input; output = output }) q
         → Leading output 6 q (Landed prog image to a.segment a.line acts (record { operands = Word z ∷ a.operands; memory = memory; input = input; output = output }))
@@ -127,7 +128,7 @@ module _ (rows : Rows) (prog : OrderProgram) (image : List ℕ) where
 
   -- ---- the words of the frame
 
-  pub frame_homes : {q : Processor} {at : ℕ} (g line to n : ℕ) (a : OrderActivation) (acts : List OrderActivation) (z : ℤ) (w : Words) → at + 7 ≡ to → (a.frame_base + n) % 65536 ≡ unsigned z → operand_words w.operands < level (a ∷ acts)
+  pub frame_homes : {q : Watched} {at : ℕ} (g line to n : ℕ) (a : OrderActivation) (acts : List OrderActivation) (z : ℤ) (w : Words) → at + 7 ≡ to → (a.frame_base + n) % 65536 ≡ unsigned z → operand_words w.operands < level (a ∷ acts)
       → HasAll image at (i86.Push 0 ∷ i86.Mov true true 0 (slot base_slot) ∷ with_number 0 n ∷ []) → Landed prog image at g line (a ∷ acts) w q
       → Leading w.output 3 q (Landed prog image to g line (a ∷ acts) (put z w))
   frame_homes {q} {at} g line to n a acts z w e value room i l = from l.top refl
@@ -157,7 +158,7 @@ module _ (rows : Rows) (prog : OrderProgram) (image : List ℕ) where
   -- ---- arguments
 
   -- a word of the arguments goes to a word of the data area; AX stays, which has the top operand
-  pub binds : {q : Processor} {at : ℕ} (g line to k n : ℕ) (a : OrderActivation) (acts : List OrderActivation) (x : Option Operand) (w : Words) → prog.limits.area ≤ 32768 → argument_behind k a.arguments ≡ x → at + 9 ≡ to
+  pub binds : {q : Watched} {at : ℕ} (g line to k n : ℕ) (a : OrderActivation) (acts : List OrderActivation) (x : Option Operand) (w : Words) → prog.limits.area ≤ 32768 → argument_behind k a.arguments ≡ x → at + 9 ≡ to
       → HasAll image at (i86.Mov true true 1 (rms.Mem (record { cs = false; place = places.Far 6 (4 + 2 * k) })) ∷ i86.MovImm 3 (imm.Word (2 * n % 65536)) ∷ i86.Mov true false 1 at_bx ∷ []) → Landed prog image at g line (a ∷ acts) w q
       → Does prog image 3 to g line (a ∷ acts) w.output q (unrefused (bind prog.limits.area x (Some n) w))
   binds g line to k n a acts None w low is e i l = tt
@@ -187,7 +188,7 @@ module _ (rows : Rows) (prog : OrderProgram) (image : List ℕ) where
           done (landed rows prog image g line (a ∷ acts) to l.top w.operands (set w.memory n z) w.input w.output end l.operands (kept_stored n z within c) u)))
 
   -- or to a word of the frame
-  pub binds_frame : {q : Processor} {at : ℕ} (g line to k offset : ℕ) (a : OrderActivation) (acts : List OrderActivation) (x : Option Operand) (w : Words) → prog.limits.area ≤ 32768 → a.frame_base ≤ prog.limits.area → argument_behind k a.arguments ≡ x → at + 13 ≡ to → offset < 32768
+  pub binds_frame : {q : Watched} {at : ℕ} (g line to k offset : ℕ) (a : OrderActivation) (acts : List OrderActivation) (x : Option Operand) (w : Words) → prog.limits.area ≤ 32768 → a.frame_base ≤ prog.limits.area → argument_behind k a.arguments ≡ x → at + 13 ≡ to → offset < 32768
       → HasAll image at (i86.Mov true true 1 (argument k) ∷ i86.Mov true true 3 (slot base_slot) ∷ i86.Shift 4 true false (rms.Reg 3) ∷ i86.Mov true false 1 (field (2 * offset % 65536)) ∷ []) → Landed prog image at g line (a ∷ acts) w q
       → Does prog image 4 to g line (a ∷ acts) w.output q (unrefused (bind prog.limits.area x (Some ((a.frame_base + offset) % 65536)) w))
   binds_frame g line to k offset a acts None w low base is e short i l = tt

@@ -5,7 +5,8 @@ use Rattle.std.proofs.lemmas.Bool.Decides.{nat_tests}
 use Rattle.cw_i86.specs.State.{sign_extended}
 use Rattle.cw_i86.specs.declared.instr.Instr.TheVariants as i86
 use Rattle.cw_i86.specs.MachineRun.{end_told}
-use Rattle.cw_run86.specs.Processor.{Processor, Told, processor_step, observed}
+use Rattle.cw_run86.specs.Processor.{Told, processor_step, observed}
+use Rattle.cw_follow.proofs.Watched.{Watched, watched_step}
 use Rattle.cw_run86.specs.Views.{View, Has, put_word, word_difference, difference_overflows}
 use Rattle.cw_unit.specs.Stop.{StopKind, Overflow, ZeroDivisor, SwitchRange, AddressRange, FramesFull, DepthReached, IndexRange, stop_number, Stopped, Ended}
 use Rattle.cw_unit.specs.Behaviour.{Observation}
@@ -17,7 +18,7 @@ use Rattle.cw_tmpl.specs.Templates.{entry_pieces}
 use Rattle.cw_follow.specs.Placing.{Fills}
 use Rattle.cw_follow.proofs.Standing.{HasAll, HasPieces, has_front, has_back}
 use Rattle.cw_follow.proofs.Rows.{Rows}
-use Rattle.cw_follow.proofs.Chains.{Is, Leads, view, placed, number, low_byte, move, high_byte, push, pop, load_slot, subtract, short, jump_to, call, to_place, out, more, last, seen}
+use Rattle.cw_follow.proofs.Chains.{Is, Leads, view, placed, number, low_byte, move, high_byte, push, pop, load_slot, subtract, short, jump_to, call, to_place, out, silently, more, last, seen}
 
 -- ---- where the routines stand
 
@@ -143,10 +144,11 @@ line_parts line lt = omega arith
 
 -- ---- the end of a run
 
--- the processor rests, and shows this
-pub record Over (shown : Observation) (p : Processor) : Type 0 where
-  pub shows : shown_as (observed p) ≡ shown
-  pub still : processor_step p ≡ p
+-- the processor rests, and shows this; nothing has been noted
+pub record Over (shown : Observation) (p : Watched) : Type 0 where
+  pub shows : shown_as (observed p.processor) ≡ shown
+  pub still : processor_step p.processor ≡ p.processor
+  pub silent : p.begun ≡ []
 
 kind_shows : (kind : StopKind) (output : List ℕ) (segment line : ℕ) → shown_as (record { output = output; end = end_told (stop_number kind) segment line }) ≡ record { output = output; end = Stopped kind segment line }
 kind_shows Overflow output segment line = refl
@@ -170,7 +172,7 @@ end_shows o output k s l eo ek =
     ap (λ x. shown_as (record { output = x; end = end_told k s l })) eo
     ∙ ap (λ x. shown_as (record { output = output; end = end_told x s l })) ek
 
-pub with_ax : {image : List ℕ} {at ax x cx dx bx sp bp si di : ℕ} {overflow : Bool} {cells stack : ℕ → ℕ} {input : List ℕ} {told : Told} {p : Processor} → ax ≡ x
+pub with_ax : {image : List ℕ} {at ax x cx dx bx sp bp si di : ℕ} {overflow : Bool} {cells stack : ℕ → ℕ} {input : List ℕ} {told : Told} {p : Watched} → ax ≡ x
     → Is image at (view ax cx dx bx sp bp si di overflow cells stack input told) p → Is image at (view x cx dx bx sp bp si di overflow cells stack input told) p
 with_ax {image} {at} {ax} {x} {cx} {dx} {bx} {sp} {bp} {si} {di} {overflow} {cells} {stack} {input} {told} {p} e s =
     subst (λ a. Is image at (view a cx dx bx sp bp si di overflow cells stack input told) p) e s
@@ -178,7 +180,7 @@ with_ax {image} {at} {ax} {x} {cx} {dx} {bx} {sp} {bp} {si} {di} {overflow} {cel
 -- ---- records
 
 -- the processor with BP at a record, and SP at a word of the stack
-pub record Stacked (image : List ℕ) (at top bp : ℕ) (cells stack : ℕ → ℕ) (input : List ℕ) (told : Told) (p : Processor) : Type 0 where
+pub record Stacked (image : List ℕ) (at top bp : ℕ) (cells stack : ℕ → ℕ) (input : List ℕ) (told : Told) (p : Watched) : Type 0 where
   pub ax : ℕ
   pub cx : ℕ
   pub dx : ℕ
@@ -189,7 +191,7 @@ pub record Stacked (image : List ℕ) (at top bp : ℕ) (cells stack : ℕ → �
   pub is : Is image at (view ax cx dx bx (2 * top) bp si di overflow cells stack input told) p
 
 -- a base record for a segment, at no line
-pub record Begun (image : List ℕ) (at segment calls frame : ℕ) (cells : ℕ → ℕ) (input : List ℕ) (told : Told) (p : Processor) : Type 0 where
+pub record Begun (image : List ℕ) (at segment calls frame : ℕ) (cells : ℕ → ℕ) (input : List ℕ) (told : Told) (p : Watched) : Type 0 where
   pub stack : ℕ → ℕ
   pub line : stack 32765 ≡ 0
   pub number : stack 32764 ≡ segment
@@ -198,18 +200,24 @@ pub record Begun (image : List ℕ) (at segment calls frame : ℕ) (cells : ℕ 
   pub top : stack 32761 ≡ frame
   pub stacked : Stacked image at 32761 65532 cells stack input told p
 
-pub leads_on : {output : List ℕ} {n : ℕ} {p : Processor} {T U : Processor → Type 0} → ((q : Processor) → T q → U q) → Leads output n p T → Leads output n p U
+pub leads_on : {output : List ℕ} {n : ℕ} {p : Watched} {T U : Watched → Type 0} → ((q : Watched) → T q → U q) → Leads output n p T → Leads output n p U
 leads_on f l = record { reached = l.reached; path = l.path; there = f l.reached l.there }
 
-stacked_at : {image : List ℕ} {at to top bp : ℕ} {cells stack : ℕ → ℕ} {input : List ℕ} {told : Told} {p : Processor} → at % 65536 ≡ to % 65536 → Stacked image at top bp cells stack input told p → Stacked image to top bp cells stack input told p
+stacked_at : {image : List ℕ} {at to top bp : ℕ} {cells stack : ℕ → ℕ} {input : List ℕ} {told : Told} {p : Watched} → at % 65536 ≡ to % 65536 → Stacked image at top bp cells stack input told p → Stacked image to top bp cells stack input told p
 stacked_at e s = record { ax = s.ax; cx = s.cx; dx = s.dx; bx = s.bx; si = s.si; di = s.di; overflow = s.overflow; is = to_place e s.is }
 
-begun_at : {image : List ℕ} {at to m n c d f g : ℕ} {cells : ℕ → ℕ} {input : List ℕ} {told : Told} {p : Processor} → at % 65536 ≡ to % 65536 → m ≡ n → c ≡ d → f ≡ g → Begun image at m c f cells input told p → Begun image to n d g cells input told p
+begun_at : {image : List ℕ} {at to m n c d f g : ℕ} {cells : ℕ → ℕ} {input : List ℕ} {told : Told} {p : Watched} → at % 65536 ≡ to % 65536 → m ≡ n → c ≡ d → f ≡ g → Begun image at m c f cells input told p → Begun image to n d g cells input told p
 begun_at e number calls frame b = record { stack = b.stack; line = b.line; number = b.number ∙ number; left = b.left ∙ calls; base = b.base ∙ frame; top = b.top ∙ frame; stacked = stacked_at e b.stacked }
 
 module _ (rows : Rows) where
+  -- behind HLT
+  halted : {image : List ℕ} {at : ℕ} {v : View} {p : Watched} {shown : Observation} → Has image (at % 65536) i86.Hlt → Is image at v p
+      → shown_as (record { output = v.told.output; end = end_told v.told.kind v.told.segment (v.told.line_low + 256 * v.told.line_high) }) ≡ shown → Over shown (watched_step p)
+  unfolding watched_step
+  halted {image} {at} {v} {p} h s e = record { shows = ap shown_as (rows.halts image (placed at v) p.processor h s.sees) ∙ e; still = rows.rests image (placed at v) p.processor h s.sees; silent = silently i86.Hlt refl h s }
+
   -- the start routine, from its first instruction, for a return address on the stack
-  starts_base : {image : List ℕ} {p : Processor} (ax cx dx bx bp si di n back : ℕ) (overflow : Bool) (cells stack : ℕ → ℕ) (input : List ℕ) (told : Told)
+  starts_base : {image : List ℕ} {p : Watched} (ax cx dx bx bp si di n back : ℕ) (overflow : Bool) (cells stack : ℕ → ℕ) (input : List ℕ) (told : Told)
       → HasAll image 4 start_routine → n < 32768 → back < 65536 → Is image 4 (view ax cx dx bx (2 * n) bp si di overflow cells (put_word stack n back) input told) p → Leads told.output 14 p (Begun image back dx cx (word_difference ax bx) cells input told)
   starts_base {image} {p} ax cx dx bx bp si di n back overflow cells stack input told h lt small s =
       let m = 2 * suc n % 65536 in
@@ -241,7 +249,7 @@ module _ (rows : Rows) where
       last rows s refl (record { stack = stack7; line = refl; number = refl; left = refl; base = refl; top = refl; stacked = record { ax = ax; cx = cx; dx = dx; bx = bx; si = way; di = frame; overflow = (difference_overflows ax bx); is = jump_to rows 6 back (put_at stack n back ∙ whole) h.1.1.1.1.1.1.1.1.1.1.1.1.1.0 s } }))))))))))))))
 
   -- the entry of a segment's code
-  pub enters : {image : List ℕ} {p : Processor} (program : OrderProgram) (g next_place : ℕ) (value : Filling) (base ax cx dx bx bp si di n : ℕ) (overflow : Bool) (cells stack : ℕ → ℕ) (input : List ℕ) (told : Told)
+  pub enters : {image : List ℕ} {p : Watched} (program : OrderProgram) (g next_place : ℕ) (value : Filling) (base ax cx dx bx bp si di n : ℕ) (overflow : Bool) (cells stack : ℕ → ℕ) (input : List ℕ) (told : Told)
       → LibraryStands image → Fills program g next_place value → HasPieces image value base entry_pieces → g < 65535 → n < 32768 → program.limits.area ≤ 32768 → program.limits.frames ≤ program.limits.area → program.limits.depth < 65536
       → (sp : ℕ) → sp ≡ 2 * suc n % 65536 → Is image base (view ax cx dx bx sp bp si di overflow cells stack input told) p → Leads told.output 19 p (Begun image (base + 15) (suc g) program.limits.depth (program.limits.area - program.limits.frames) cells input told)
   enters {image} {p} program g next_place value base ax cx dx bx bp si di n overflow cells stack input told library fills h few lt low within deep sp top s =
@@ -261,7 +269,7 @@ module _ (rows : Rows) where
       let depth_is = fills.depth (base + 3 + 3 + 3) in
       let calls_is : c ≡ program.limits.depth = omega arith in
       let frame_is : word_difference d f ≡ program.limits.area - program.limits.frames = omega arith in
-      let on : (q : Processor) → Begun image back m c (word_difference d f) cells input told q → Begun image (base + 15) (suc g) program.limits.depth (program.limits.area - program.limits.frames) cells input told q =
+      let on : (q : Watched) → Begun image back m c (word_difference d f) cells input told q → Begun image (base + 15) (suc g) program.limits.depth (program.limits.area - program.limits.frames) cells input told q =
       λ q b. begun_at (let e : back % 65536 ≡ (base + 15) % 65536 = omega arith in e) number_is calls_is frame_is b in
       leads_on on
       (more rows {to = base + 3} {w = view d cx dx bx sp bp si di overflow cells stack input told} s refl (number rows 0 d h.0 s) (λ q s.
@@ -272,7 +280,7 @@ module _ (rows : Rows) where
       starts_base d c m f bp si di n back overflow cells stack input told (start_stands library) lt small s))))))
 
   -- a stop, from its first instruction
-  pub stops_at : {image : List ℕ} {p : Processor} (kind : StopKind) (r ax cx dx bx sp si di segment line : ℕ) (overflow : Bool) (cells stack : ℕ → ℕ) (input : List ℕ) (told : Told)
+  pub stops_at : {image : List ℕ} {p : Watched} (kind : StopKind) (r ax cx dx bx sp si di segment line : ℕ) (overflow : Bool) (cells stack : ℕ → ℕ) (input : List ℕ) (told : Told)
       → LibraryStands image → r ≤ 32761 → stack (r + 3) ≡ segment → segment < 256 → stack (r + 4) ≡ line → line < 65536
       → Is image (stop_place kind) (view ax cx dx bx sp (2 * r + 10) si di overflow cells stack input told) p → Leads told.output 10 p (Over (record { output = told.output; end = Stopped kind segment line }))
   stops_at {image} {p} kind r ax cx dx bx sp si di segment line overflow cells stack input told library high segment_is few line_is small s =
@@ -307,15 +315,11 @@ module _ (rows : Rows) where
       more rows {to = 66} {w = view line cx dx bx sp (2 * r + 10) si di overflow cells stack input t3} s e2 (out rows 0x15 t.1.1.1.1.0 s) (λ q s.
       more rows {to = 68} {w = view a4 cx dx bx sp (2 * r + 10) si di overflow cells stack input t3} s e3 (high_byte rows t.1.1.1.1.1.0 s) (λ q s.
       more rows {to = 70} {w = view a4 cx dx bx sp (2 * r + 10) si di overflow cells stack input t4} s e3 (out rows 0x16 t.1.1.1.1.1.1.0 s) (λ q s.
-      last rows s e4 (record {
-        shows =
-            ap shown_as (rows.halts image (placed 70 (view a4 cx dx bx sp (2 * r + 10) si di overflow cells stack input t4)) q t.1.1.1.1.1.1.1.0 s.sees)
-            ∙ stop_shows kind o4 told.output (a1 % 256) (segment % 256) segment (line % 256 + 256 * (a4 % 256)) line e4 (low_is ax number_of_kind (few_kinds kind)) (let e : segment % 256 ≡ segment = omega arith in e) (line_parts line small);
-        still = rows.rests image (placed 70 (view a4 cx dx bx sp (2 * r + 10) si di overflow cells stack input t4)) q t.1.1.1.1.1.1.1.0 s.sees;
-      }))))))))))
+      last rows s e4
+      (halted t.1.1.1.1.1.1.1.0 s (stop_shows kind o4 told.output (a1 % 256) (segment % 256) segment (line % 256 + 256 * (a4 % 256)) line e4 (low_is ax number_of_kind (few_kinds kind)) (let e : segment % 256 ≡ segment = omega arith in e) (line_parts line small))))))))))))
 
   -- a call of a stop
-  pub stops : {image : List ℕ} {p : Processor} (kind : StopKind) (r ax cx dx bx si di n at by segment line : ℕ) (overflow : Bool) (cells stack : ℕ → ℕ) (input : List ℕ) (told : Told)
+  pub stops : {image : List ℕ} {p : Watched} (kind : StopKind) (r ax cx dx bx si di n at by segment line : ℕ) (overflow : Bool) (cells stack : ℕ → ℕ) (input : List ℕ) (told : Told)
       → LibraryStands image → Has image at (i86.Call by) → (at + 3 + by) % 65536 ≡ stop_place kind % 65536 → r ≤ 32761 → n < r → (sp : ℕ) → sp ≡ 2 * suc n % 65536
       → stack (r + 3) ≡ segment → segment < 256 → stack (r + 4) ≡ line → line < 65536
       → Is image at (view ax cx dx bx sp (2 * r + 10) si di overflow cells stack input told) p → Leads told.output 11 p (Over (record { output = told.output; end = Stopped kind segment line }))
@@ -329,11 +333,8 @@ module _ (rows : Rows) where
       stops_at kind r ax cx dx bx (2 * n) si di segment line overflow cells stack1 input told library high (put_off stack n back (r + 3) not_segment ∙ segment_is) few (put_off stack n back (r + 4) not_line ∙ line_is) small s)
 
   -- the end of the program
-  pub ends : {image : List ℕ} {p : Processor} {at : ℕ} {v : View} {output : List ℕ} → LibraryStands image → at % 65536 ≡ 3 % 65536 → v.told.kind ≡ 0 → v.told.output ≡ output → Is image at v p → Leads output 1 p (Over (record { output = output; end = Ended }))
+  pub ends : {image : List ℕ} {p : Watched} {at : ℕ} {v : View} {output : List ℕ} → LibraryStands image → at % 65536 ≡ 3 % 65536 → v.told.kind ≡ 0 → v.told.output ≡ output → Is image at v p → Leads output 1 p (Over (record { output = output; end = Ended }))
   ends {image} {p} {at} {v} {output} library there kind wrote s' =
       let s : Is image 3 v p = to_place there s' in
       let h = end_stands library in
-      last rows s wrote (record {
-        shows = ap shown_as (rows.halts image (placed 3 v) p h s.sees) ∙ end_shows v.told.output output v.told.kind v.told.segment (v.told.line_low + 256 * v.told.line_high) wrote kind;
-        still = rows.rests image (placed 3 v) p h s.sees;
-      })
+      last rows s wrote (halted h s (end_shows v.told.output output v.told.kind v.told.segment (v.told.line_low + 256 * v.told.line_high) wrote kind))

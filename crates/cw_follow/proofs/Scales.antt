@@ -8,7 +8,8 @@ use Rattle.std.specs.Prelude.{◌==◌}
 use Rattle.cw_i86.specs.declared.instr.Instr.TheVariants as i86
 use Rattle.cw_i86.specs.declared.instr.Imm.TheVariants as imm
 use Rattle.cw_i86.specs.declared.instr.Rm.TheVariants as rms
-use Rattle.cw_run86.specs.Processor.{Processor, Told}
+use Rattle.cw_run86.specs.Processor.{Told}
+use Rattle.cw_follow.proofs.Watched.{Watched}
 use Rattle.cw_run86.specs.Views.{compare as compare_of, Equal, words_compare, word_sum, word_difference, sum_overflows, word_up, word_down, word_down_signed, sign_of, product_low, product_high, product_overflows}
 use Rattle.cw_word.specs.FixedPoint.{FitsWord, fits_word, floor_div, floor_scaled, rescaled, scaled_product}
 use Rattle.cw_word.specs.Word.{signed, unsigned, signed_pair, sign_word}
@@ -39,7 +40,7 @@ down_is from to lt = omega (arith, ints)
 module _ (c : Setting) (memory : List ℤ) (input output : List ℕ) where
   -- ---- scales
 
-  pub rescales_up : {p : Processor} {at : ℕ} (b : Bool) (to by from scale : ℕ) (operands : List Operand) → from ≤ scale → scale ≤ 15 → (2 ^ (scale - from) == 32768) ≡ b → behind_times b at ≡ to
+  pub rescales_up : {p : Watched} {at : ℕ} (b : Bool) (to by from scale : ℕ) (operands : List Operand) → from ≤ scale → scale ≤ 15 → (2 ^ (scale - from) == 32768) ≡ b → behind_times b at ≡ to
       → (behind_times b at + by) % 65536 ≡ stop_place Overflow % 65536 → operand_words operands < level c.acts → All OperandFits operands
       → HasAll c.image at (times_code b (2 ^ (scale - from)) by) → LandedWith c memory input output at operands p
       → DoesHere c memory input output 15 to p (perform c.program.limits.area (Rescale from scale) (words operands memory input output))
@@ -55,7 +56,7 @@ module _ (c : Setting) (memory : List ℤ) (input output : List ℕ) where
           (multiplied c memory input output b Overflow to n by 15 x rest is most fx e arrives (lit≤ tt) i l)
 
   -- a word rounded down to another scale always fits
-  put_shifted : (limit to : ℕ) {p : Processor} (z : ℤ) (w : Words) → FitsWord z → DoesHere c memory input output limit to p (Changed (put z w)) → DoesHere c memory input output limit to p (put_value z w)
+  put_shifted : (limit to : ℕ) {p : Watched} (z : ℤ) (w : Words) → FitsWord z → DoesHere c memory input output limit to p (Changed (put z w)) → DoesHere c memory input output limit to p (put_value z w)
   put_shifted limit to {p} z w f d = subst (λ b. DoesHere c memory input output limit to p (put_if b Overflow z w)) (sym (fits_true z f)) d
 
   -- a word shifted down
@@ -67,7 +68,7 @@ module _ (c : Setting) (memory : List ℤ) (input output : List ℕ) where
   shifted_fits : (a j : ℕ) → a < 65536 → FitsWord (floor_div (signed a) (2 ^ j))
   shifted_fits a j lt = subst FitsWord (c.rows.words.down a j lt) (c.rows.words.signed_fits (word_down_signed a j) (c.rows.words.down_fits a j lt))
 
-  pub rescales_down : {p : Processor} {at : ℕ} (to from scale : ℕ) (operands : List Operand) → scale < from → from ≤ 15 → at + 5 ≡ to → operand_words operands < level c.acts → All OperandFits operands
+  pub rescales_down : {p : Watched} {at : ℕ} (to from scale : ℕ) (operands : List Operand) → scale < from → from ≤ 15 → at + 5 ≡ to → operand_words operands < level c.acts → All OperandFits operands
       → HasAll c.image at (i86.MovImm 1 (imm.Word (from - scale)) ∷ i86.Shift 7 true true (rms.Reg 0) ∷ []) → LandedWith c memory input output at operands p
       → DoesHere c memory input output 2 to p (perform c.program.limits.area (Rescale from scale) (words operands memory input output))
   rescales_down {p} {at} to from scale operands lt few e roomy fits i = taking_one c memory input output 2 to (λ x v. put_value (rescaled x from scale) v) does operands roomy fits
@@ -101,7 +102,7 @@ module _ (c : Setting) (memory : List ℤ) (input output : List ℕ) where
   turned_is : (x y : ℤ) → FitsWord x → FitsWord y → FitsWord (x *ℤ y) → product_low (unsigned y) (unsigned x) ≡ unsigned (x *ℤ y)
   turned_is x y fx fy f = product_is c.rows y x fy fx (subst FitsWord (sym (other_way x y)) f) ∙ ap unsigned (other_way x y)
 
-  pub products : {p : Processor} {at : ℕ} (to by : ℕ) (operands : List Operand) → at + 8 ≡ to → (at + 1 + 2 + 2 + 3 + by) % 65536 ≡ stop_place Overflow % 65536 → operand_words operands < level c.acts → All OperandFits operands
+  pub products : {p : Watched} {at : ℕ} (to by : ℕ) (operands : List Operand) → at + 8 ≡ to → (at + 1 + 2 + 2 + 3 + by) % 65536 ≡ stop_place Overflow % 65536 → operand_words operands < level c.acts → All OperandFits operands
       → HasAll c.image at (i86.Pop 3 ∷ i86.Unary 5 true (rms.Reg 3) ∷ i86.JumpIf 1 3 ∷ i86.Call by ∷ []) → LandedWith c memory input output at operands p
       → DoesHere c memory input output 14 to p (perform c.program.limits.area (Multiply (pos 0)) (words operands memory input output))
   products {p} {at} to by operands e arrives roomy fits i = taking_two c memory input output 14 to (λ x y v. put_value (scaled_product x y (pos 0)) v) does operands roomy fits
@@ -125,7 +126,7 @@ module _ (c : Setting) (memory : List ℤ) (input output : List ℕ) where
   both_fit true false z w h = refl
   both_fit false d z w h = sym (ap (λ e. put_if e Overflow z w) (h refl))
 
-  pub products_up : {p : Processor} {at : ℕ} (b : Bool) (to by1 by2 k : ℕ) (operands : List Operand) → suc k ≤ 15 → (2 ^ suc k == 32768) ≡ b
+  pub products_up : {p : Watched} {at : ℕ} (b : Bool) (to by1 by2 k : ℕ) (operands : List Operand) → suc k ≤ 15 → (2 ^ suc k == 32768) ≡ b
       → behind_times b (at + 1 + 2 + 2 + 3) ≡ to → (at + 1 + 2 + 2 + 3 + by1) % 65536 ≡ stop_place Overflow % 65536 → (behind_times b (at + 1 + 2 + 2 + 3) + by2) % 65536 ≡ stop_place Overflow % 65536 → operand_words operands < level c.acts → All OperandFits operands
       → HasAll c.image at (i86.Pop 3 ∷ i86.Unary 5 true (rms.Reg 3) ∷ i86.JumpIf 1 3 ∷ i86.Call by1 ∷ times_code b (2 ^ suc k) by2) → LandedWith c memory input output at operands p
       → DoesHere c memory input output 18 to p (perform c.program.limits.area (Multiply (pos (suc k))) (words operands memory input output))
@@ -178,7 +179,7 @@ module _ (c : Setting) (memory : List ℤ) (input output : List ℕ) where
     pair_is : signed_pair (product_high (unsigned x) (unsigned y)) (product_low (unsigned x) (unsigned y)) ≡ x *ℤ y
     pair_is = c.rows.words.halves whole whole_fits ∙ whole_is
 
-  pub products_far_down : {p : Processor} {at : ℕ} (to k : ℕ) (operands : List Operand) → at + 10 ≡ to → 15 ≤ k → k < 30 → operand_words operands < level c.acts → All OperandFits operands
+  pub products_far_down : {p : Watched} {at : ℕ} (to k : ℕ) (operands : List Operand) → at + 10 ≡ to → 15 ≤ k → k < 30 → operand_words operands < level c.acts → All OperandFits operands
       → HasAll c.image at (i86.Pop 3 ∷ i86.Unary 5 true (rms.Reg 3) ∷ i86.Mov true true 0 (rms.Reg 2) ∷ i86.MovImm 1 (imm.Word (k - 15)) ∷ i86.Shift 7 true true (rms.Reg 0) ∷ []) → LandedWith c memory input output at operands p
       → DoesHere c memory input output 5 to p (perform c.program.limits.area (Multiply (negsuc k)) (words operands memory input output))
   products_far_down {p} {at} to k operands e far few roomy fits i = taking_two c memory input output 5 to (λ x y v. put_value (scaled_product x y (negsuc k)) v) does operands roomy fits
@@ -257,9 +258,9 @@ module _ (c : Setting) (memory : List ℤ) (input output : List ℕ) where
     acts = Product 3 ∷ Down 0 ∷ Move 3 2 ∷ DownSigned 2 ∷ Number 7 16 ∷ Difference 7 1 ∷ Move 1 7 ∷ Up 3 ∷ Sum 0 3 ∷ Move 3 2 ∷ Sign ∷ []
 
     -- from the entry to the test
-    shifts : {p : Processor} {dx si di : ℕ} {overflow : Bool} {cells stack : ℕ → ℕ} {left : List ℕ} {told : Told} (n m : ℕ) (Target : Processor → Type 0) → told.output ≡ output
+    shifts : {p : Watched} {dx si di : ℕ} {overflow : Bool} {cells stack : ℕ → ℕ} {left : List ℕ} {told : Told} (n m : ℕ) (Target : Watched → Type 0) → told.output ≡ output
         → Is c.image 110 (view (unsigned x) k dx (unsigned y) (2 * suc n) (record_of c.acts) si di overflow cells stack left told) p
-        → ((o : Bool) (q : Processor) → Is c.image 132 (view value turned (sign_of value) above (2 * suc n) (record_of c.acts) si turned o cells stack left told) q → Leads output m q Target)
+        → ((o : Bool) (q : Watched) → Is c.image 132 (view value turned (sign_of value) above (2 * suc n) (record_of c.acts) si turned o cells stack left told) q → Leads output m q Target)
         → Leads output (11 + m) p Target
     shifts {p} {dx} {si} {di} {overflow} {cells} {stack} {left} {told} n m Target wrote s on =
         let h = product_stands c.library in
@@ -271,7 +272,7 @@ module _ (c : Setting) (memory : List ℤ) (input output : List ℕ) where
         (λ q t. on _ q (subst (λ v. Is c.image 132 v q)
         (ap₂ (λ i j. view (word_sum (word_down L i) (word_up H j)) turned (sign_of (word_sum (word_down L i) (word_up H j))) (word_down_signed H i) (2 * suc n) (record_of c.acts) si turned (sum_overflows (word_down L i) (word_up H j)) cells stack left told) first second) t))
 
-    product_comes : (b : Bool) → fits_word (scaled_product x y (negsuc j)) ≡ b → {p : Processor} {dx si di : ℕ} {overflow : Bool} {cells stack : ℕ → ℕ} {left : List ℕ} {told : Told} (n back : ℕ) → suc n < level c.acts → back < 65536 → stack (suc n) ≡ back
+    product_comes : (b : Bool) → fits_word (scaled_product x y (negsuc j)) ≡ b → {p : Watched} {dx si di : ℕ} {overflow : Bool} {cells stack : ℕ → ℕ} {left : List ℕ} {told : Told} (n back : ℕ) → suc n < level c.acts → back < 65536 → stack (suc n) ≡ back
         → Kept c.program c.g c.line c.acts memory input output cells stack left told
         → Is c.image product_place (view (unsigned x) k dx (unsigned y) (2 * suc n) (record_of c.acts) si di overflow cells stack left told) p
         → Comes c memory input output b Overflow (scaled_product x y (negsuc j)) 24 back (suc (suc n)) cells stack left told p
@@ -293,7 +294,7 @@ module _ (c : Setting) (memory : List ℤ) (input output : List ℕ) where
         (calls_stop c memory input output Overflow n (26 + (65536 - 139)) room refl kept ps.1.1.1.0
         (compare_passes c.rows {v = view value turned (sign_of value) above (2 * suc n) (record_of c.acts) si turned o cells stack left told} Equal 2 3 3 (sign_fits value) above_fits (sign_missing is) ps.1.0 ps.1.1.0 t))))
 
-  pub products_down : {p : Processor} {at : ℕ} (to by j : ℕ) (operands : List Operand) → at + 9 ≡ to → j < 15 → (at + 2 + 1 + 3 + 3 + by) % 65536 ≡ product_place % 65536 → operand_words operands < level c.acts → All OperandFits operands
+  pub products_down : {p : Watched} {at : ℕ} (to by j : ℕ) (operands : List Operand) → at + 9 ≡ to → j < 15 → (at + 2 + 1 + 3 + 3 + by) % 65536 ≡ product_place % 65536 → operand_words operands < level c.acts → All OperandFits operands
       → HasAll c.image at (i86.Mov true true 3 (rms.Reg 0) ∷ i86.Pop 0 ∷ i86.MovImm 1 (imm.Word (j + 1)) ∷ i86.Call by ∷ []) → LandedWith c memory input output at operands p
       → DoesHere c memory input output 28 to p (perform c.program.limits.area (Multiply (negsuc j)) (words operands memory input output))
   products_down {p} {at} to by j operands e few arrives roomy fits i = taking_two c memory input output 28 to (λ x y v. put_value (scaled_product x y (negsuc j)) v) does operands roomy fits

@@ -5,7 +5,7 @@ use Rattle.std.specs.List.{All}
 use Rattle.std.proofs.lemmas.Bool.{leb-true}
 use Rattle.std.proofs.lemmas.Option.{slice_get_within}
 use Rattle.cw_track.specs.Machine.{shown_after}
-use Rattle.cw_run86.specs.Processor.{Processor}
+use Rattle.cw_follow.proofs.Watched.{Watched}
 use Rattle.cw_unit.specs.Stop.{Running, Ended, Stopped, Stuck}
 use Rattle.cw_unit.specs.Words.{Words, Changed}
 use Rattle.cw_order.specs.declared.order.Order.{Order}
@@ -16,7 +16,9 @@ use Rattle.cw_order.specs.OrderMachine.{go_on, after, carry_out, step, order_mac
 use Rattle.cw_order.specs.FittingWords.{WordsFit, ActivationFits, StateFits}
 use Rattle.cw_order.specs.Activations.{ActivationsStand, Beginning, StateStands}
 use Rattle.cw_tmpl.specs.Blocks.{block_at, orders_left, left_at}
+use Rattle.cw_image.specs.Begun.{StatementPlace}
 use Rattle.cw_follow.specs.Placing.{base_of, Codable}
+use Rattle.cw_follow.specs.Passing.{PlacesStand}
 use Rattle.cw_follow.proofs.Standing.{order_place, AllStand}
 use Rattle.cw_follow.proofs.InBlocks.{silently}
 use Rattle.cw_follow.proofs.Rows.{Rows}
@@ -24,7 +26,7 @@ use Rattle.cw_follow.proofs.Routines.{Over}
 use Rattle.cw_follow.proofs.Orders.{Landed}
 use Rattle.cw_follow.proofs.Calls.{CalledAt}
 
--- what is known of a program and its image
+-- what is known of a program and its image, and of the places of its statements
 pub record Given : Type 0 where
   pub rows : Rows
   pub p : OrderProgram
@@ -33,6 +35,8 @@ pub record Given : Type 0 where
   pub coded : Codable p
   pub few : length p.units ≤ 255
   pub low : p.limits.area ≤ 32768
+  pub places : List StatementPlace
+  pub places_stand : PlacesStand p image places
 
 -- ---- states that match
 
@@ -46,7 +50,7 @@ ComesBack p (a ∷ acts) = ((o : Orders) → slice_get p.units a.segment ≡ Som
 
 -- The processor stands before a block, with the words that are there before it, and the first orders of the block are done. All activations
 -- have been begun, and the orders do not get stuck.
-pub record Sound (p : OrderProgram) (image : List ℕ) (g place line : ℕ) (acts : List OrderActivation) (w : Words) (q : Processor) : Type 0 where
+pub record Sound (p : OrderProgram) (image : List ℕ) (g place line : ℕ) (acts : List OrderActivation) (w : Words) (q : Watched) : Type 0 where
   pub orders : Orders
   pub unit : slice_get p.units g ≡ Some orders
   pub from : ℕ
@@ -69,7 +73,7 @@ pub record Sound (p : OrderProgram) (image : List ℕ) (g place line : ℕ) (act
   pub never : Never p (at g place line acts w Running)
 
 -- The processor stands before the Enter of a call.
-pub record Starting (p : OrderProgram) (image : List ℕ) (g place line : ℕ) (a : OrderActivation) (acts : List OrderActivation) (w : Words) (q : Processor) : Type 0 where
+pub record Starting (p : OrderProgram) (image : List ℕ) (g place line : ℕ) (a : OrderActivation) (acts : List OrderActivation) (w : Words) (q : Watched) : Type 0 where
   pub orders : Orders
   pub unit : slice_get p.units g ≡ Some orders
   pub begins : left_at 0 orders.list place ≡ 0
@@ -80,11 +84,11 @@ pub record Starting (p : OrderProgram) (image : List ℕ) (g place line : ℕ) (
   pub comes_back : ComesBack p (a ∷ acts)
   pub never : Never p (at g place line (a ∷ acts) w Running)
 
-abbrev pub LastStarts : OrderProgram → List ℕ → (g place line : ℕ) → List OrderActivation → Words → Processor → Type 0
+abbrev pub LastStarts : OrderProgram → List ℕ → (g place line : ℕ) → List OrderActivation → Words → Watched → Type 0
 LastStarts p image g place line [] w q = ⊥
 LastStarts p image g place line (a ∷ acts) w q = Starting p image g place line a acts w q
 
-abbrev pub Matches : OrderProgram → List ℕ → OrderState → Processor → Type 0
+abbrev pub Matches : OrderProgram → List ℕ → OrderState → Watched → Type 0
 Matches p image (at g place line acts w Running) q = Sound p image g place line acts w q ⊎ LastStarts p image g place line acts w q
 Matches p image (at g place line acts w Ended) q = Over (record { output = w.output; end = Ended }) q
 Matches p image (at g place line acts w (Stopped kind s l)) q = Over (record { output = w.output; end = Stopped kind s l }) q

@@ -3,9 +3,13 @@ use Rattle.std.proofs.Common.{◌≡◌, inl, inr, ℕ, zero, suc, ◌+◌, ◌-
 use Rattle.std.specs.Prelude.{slice_get, nat_le}
 use Rattle.std.proofs.lemmas.Bool.{false≢true, le-leb, cases_lt}
 use Rattle.std.proofs.lemmas.Option.{slice_get_within}
+use Rattle.cw_track.specs.Machine.{Machine}
+use Rattle.cw_track.specs.Watching.{noted}
 use Rattle.cw_track.proofs.Paths.{stay, weaken}
 use Rattle.cw_track.proofs.Simulations.{Quiet, Followed}
-use Rattle.cw_run86.specs.Processor.{Processor, processor_machine}
+use Rattle.cw_follow.proofs.Watched.{Watched, watched_machine}
+use Rattle.cw_unit.specs.Begun.{Begun}
+use Rattle.cw_unit.specs.Behaviour.{Observation}
 use Rattle.cw_unit.specs.Stop.{Running, Stopped, Stuck}
 use Rattle.cw_unit.specs.Words.{Operand, Word, Held, Words, Outcome, Changed, Refused, Impossible, with_operands}
 use Rattle.cw_unit.specs.Operation.{holds}
@@ -25,7 +29,6 @@ use Rattle.cw_tmpl.specs.Blocks.{block_at, orders_left, left_at}
 use Rattle.cw_tmpl.specs.Library.{routines, entry_place}
 use Rattle.cw_tmpl.specs.Templates.{template, block_pieces, block_size, order_size, distance}
 use Rattle.cw_tmpl.specs.ReferenceCode.{mark_starts, names_of}
-use Rattle.cw_follow.specs.Showing.{shown_as}
 use Rattle.cw_follow.specs.Placing.{base_of}
 use Rattle.cw_tmpl.proofs.Sizes.{size_to, size_next, left_next, own_place, mark_start}
 use Rattle.cw_follow.proofs.Standing.{HasPieces, order_place}
@@ -70,7 +73,7 @@ above a b h = elim (cases_lt b a) as (λ _. b < a) [
 ]
 
 -- before an order that is a block of its own
-pub record Alone (p : OrderProgram) (image : List ℕ) (g place line : ℕ) (acts : List OrderActivation) (w : Words) (q : Processor) (list : List Order) : Type 0 where
+pub record Alone (p : OrderProgram) (image : List ℕ) (g place line : ℕ) (acts : List OrderActivation) (w : Words) (q : Watched) (list : List Order) : Type 0 where
   pub begins : left_at 0 list place ≡ 0
   pub single : block_at 0 (drop place list) ≡ block.Single
   pub landed : Landed p image (order_place (base_of p g) list place) g line acts w q
@@ -99,27 +102,31 @@ way_after _ f = Nowhere
 module _ (known : Given) where
   open known use {rows, p, image, all, coded, few, low}
 
-  abbrev pub Follow : OrderState → Processor → Type 0
-  Follow s q = Followed (order_machine p) (processor_machine shown_as) (Matches p image) (left p) s q
+  -- the machine of the orders, where nothing is noted
+  abbrev pub unnoted_orders : Machine (Observation × List Begun)
+  unnoted_orders = noted (order_machine p) (λ s. [])
+
+  abbrev pub Follow : OrderState → Watched → Type 0
+  Follow s q = Followed unnoted_orders watched_machine (Matches p image) (left p) s q
 
   -- a way on that is paid for
-  pub leads_to : {q : Processor} (g place line : ℕ) (acts : List OrderActivation) (w : Words) (t : OrderState) (limit : ℕ) → step p (at g place line acts w Running) ≡ t → limit ≤ weight p (at g place line acts w Running) → Leading w.output limit q (Matches p image t) → Follow (at g place line acts w Running) q
+  pub leads_to : {q : Watched} (g place line : ℕ) (acts : List OrderActivation) (w : Words) (t : OrderState) (limit : ℕ) → step p (at g place line acts w Running) ≡ t → limit ≤ weight p (at g place line acts w Running) → Leading w.output limit q (Matches p image t) → Follow (at g place line acts w Running) q
   leads_to {q} g place line acts w t limit e paid l =
       let s = at g place line acts w Running in
       let within = l.within in
       record {
         spent = l.spent;
         reached = l.leads.reached;
-        path = weaken (λ o. o ≡ at_work w.output) (Quiet (shown s) (shown (step p s))) (processor_machine shown_as) l.spent q l.leads.reached (λ o x. inl x) l.leads.path;
+        path = weaken (λ o. o ≡ at_work w.output) (Quiet (shown s, []) (shown (step p s), [])) watched_machine l.spent q l.leads.reached (λ o x. inl x) l.leads.path;
         within = omega arith;
         matched = subst (λ x. Matches p image x l.leads.reached) (sym e) l.leads.there;
         progress = inl l.some;
       }
 
-  pub onward : {output : List ℕ} {limit : ℕ} {q : Processor} {T U : Processor → Type 0} → ((r : Processor) → T r → U r) → Leading output limit q T → Leading output limit q U
+  pub onward : {output : List ℕ} {limit : ℕ} {q : Watched} {T U : Watched → Type 0} → ((r : Watched) → T r → U r) → Leading output limit q T → Leading output limit q U
   onward f l = record { spent = l.spent; some = l.some; within = l.within; leads = leads_on f l.leads }
 
-  module _ {q : Processor} {g place line : ℕ} {acts : List OrderActivation} {w : Words} (s : Sound p image g place line acts w q) where
+  module _ {q : Watched} {g place line : ℕ} {acts : List OrderActivation} {w : Words} (s : Sound p image g place line acts w q) where
     pub few_segments : g < 255
     few_segments = let lt = slice_get_within p.units g s.orders s.unit in omega arith
 
@@ -146,7 +153,7 @@ module _ (known : Given) where
     stuck_here e = not_stuck p g place line acts w (never_next (at g place line acts w Stuck) e)
 
     -- before another block
-    pub sound_at : (to line' : ℕ) (v : Words) (r : Processor) → left_at 0 s.orders.list to ≡ 0 → stack_words v.operands acts ≤ p.room → step p (at g place line acts w Running) ≡ at g to line' acts v Running → Landed p image (order_place (base_of p g) s.orders.list to) g line' acts v r → Sound p image g to line' acts v r
+    pub sound_at : (to line' : ℕ) (v : Words) (r : Watched) → left_at 0 s.orders.list to ≡ 0 → stack_words v.operands acts ≤ p.room → step p (at g place line acts w Running) ≡ at g to line' acts v Running → Landed p image (order_place (base_of p g) s.orders.list to) g line' acts v r → Sound p image g to line' acts v r
     sound_at to line' v r begins room e l = record {
       orders = s.orders;
       unit = s.unit;
@@ -183,11 +190,11 @@ module _ (known : Given) where
         let here = at g place line acts w Running in
         let on = went_on p g place line acts w v e s.never in
         let within = d.within in
-        let shows_next : shown (step p here) ≡ at_work v.output = ap shown on.goes in
+        let shows_next : unnoted_orders.shown (step p here) ≡ at_work v.output = ap unnoted_orders.shown on.goes in
         record {
           spent = d.spent;
           reached = d.reached;
-          path = weaken (λ o. (o ≡ at_work w.output) ⊎ (o ≡ at_work v.output)) (Quiet (shown here) (shown (step p here))) (processor_machine shown_as) d.spent q d.reached
+          path = weaken (λ o. (o ≡ at_work w.output) ⊎ (o ≡ at_work v.output)) (Quiet (shown here, []) (shown (step p here), [])) watched_machine d.spent q d.reached
               (λ o x. elim x [ inl before ↦ inl before | inr after ↦ inr (after ∙ sym shows_next) ]) d.path;
           within = omega arith;
           matched = subst (λ x. Matches p image x d.reached) (sym on.goes) (inl (sound_at (place + 1) line v d.reached begins on.room on.goes d.there));

@@ -1,5 +1,5 @@
 -- Straight pieces of code: instructions that go on at the next one, and what they leave of a view.
-use Rattle.std.proofs.Common.{◌≡◌, ℕ, suc, ◌+◌, ◌*◌, ◌/◌, ◌%◌, ◌<◌, true, false, List, [], ◌∷◌, ◌++◌, length, refl, ap, ◌∙◌, subst, arith}
+use Rattle.std.proofs.Common.{◌≡◌, ℕ, suc, ◌+◌, ◌*◌, ◌/◌, ◌%◌, ◌<◌, true, false, List, [], ◌∷◌, ◌++◌, length, refl, ap, ◌∙◌, subst, arith, lit<}
 use Rattle.std.specs.Prelude.{bit_and, bit_or, bit_xor}
 use Rattle.cw_i86.specs.Encoding.{bytes_of}
 use Rattle.cw_i86.specs.State.{sign_extended}
@@ -9,6 +9,8 @@ use Rattle.cw_i86.specs.declared.instr.Imm.TheVariants as imm
 use Rattle.cw_i86.specs.declared.instr.Rm.TheVariants as rms
 use Rattle.cw_i86.specs.declared.instr.Place.TheVariants as places
 use Rattle.cw_run86.specs.Processor.{Processor, processor_step}
+use Rattle.cw_follow.specs.Passing.{stores_number}
+use Rattle.cw_follow.proofs.Watched.{Watched, watched_step}
 use Rattle.cw_run86.specs.Views.{View, Sees, Has, IsTop, register, with_place, with_register, with_result, with_pair, with_overflow, with_cell, with_stack, double_overflows, sum_overflows, difference_overflows, word_sum, word_difference, word_up, word_down, word_down_signed, shift_overflow, product_low, product_high, product_overflows, sign_of, with_number}
 use Rattle.cw_tmpl.specs.Mnemonics.{at_bx, near_field, slot}
 use Rattle.cw_follow.proofs.Standing.{HasAll}
@@ -148,63 +150,53 @@ piece image at [] rest h = (tt, h)
 piece image at (a ∷ acts) rest h = let r = piece image (at + length (bytes_of (instruction a))) acts rest h.1 in ((h.0, r.0), r.1)
 
 module _ (rows : Rows) where
-  -- one of them
-  step : (a : Act) {image : List ℕ} {at : ℕ} {v : View} {p : Processor} → Has image at (instruction a) → Needs a v → Is image at v p → Is image (at + length (bytes_of (instruction a))) (after a v) (processor_step p)
-  step (Number r w) {image} {at} {v} {p} h n s = moved at (instruction (Number r w)) (after (Number r w) v) (processor_step p) (rows.number image (placed at v) r w (has (instruction (Number r w)) (omega arith) h s) p s.sees)
-  step (Move r q) {image} {at} {v} {p} h n s = moved at (instruction (Move r q)) (after (Move r q) v) (processor_step p) (rows.move image (placed at v) r q (has (instruction (Move r q)) (omega arith) h s) p s.sees)
-  step (Pop r n w) {image} {at} {v} {p} h needs s =
-      let a = Pop r n w in
+  -- one of them takes up some bytes, and stores no number
+  takes_bytes : (a : Act) → 0 < length (bytes_of (instruction a))
+  takes_bytes (Number r w) = lit< tt
+  takes_bytes _ = lit< tt
+
+  no_number : (a : Act) → stores_number (instruction a) ≡ false
+  no_number (Number r w) = refl
+  no_number _ = refl
+
+  effect : (a : Act) {image : List ℕ} (at : ℕ) (v : View) {p : Processor} → Has image (at % 65536) (instruction a) → Needs a v → Sees image (placed at v) p → Sees image (with_place ((at % 65536 + length (bytes_of (instruction a))) % 65536) (after a v)) (processor_step p)
+  effect (Number r w) {image} at v {p} h n s = rows.number image (placed at v) r w h p s
+  effect (Move r q) {image} at v {p} h n s = rows.move image (placed at v) r q h p s
+  effect (Pop r n w) {image} at v {p} h needs s =
       let lt = needs.0 in
       let below : n < 32768 = omega arith in
       let m : 2 * suc n % 65536 ≡ 2 * suc n = omega arith in
-      moved at (i86.Pop r) (after a v) (processor_step p)
-      (subst (λ x. Sees image (with_place ((at % 65536 + 1) % 65536) (with_register r w (with_register 4 x v))) (processor_step p)) m
-      (subst (λ x. Sees image (with_place ((at % 65536 + 1) % 65536) (with_register r x (with_register 4 (2 * suc n % 65536) v))) (processor_step p)) needs.2
-      (rows.pop image (placed at v) r n (has (i86.Pop r) (omega arith) h s) below needs.1 p s.sees)))
-  step (Push r n) {image} {at} {v} {p} h needs s = moved at (i86.Push r) (after (Push r n) v) (processor_step p) (rows.push image (placed at v) r n (has (i86.Push r) (omega arith) h s) needs.0 needs.1 p s.sees)
-  step (Load r k w) {image} {at} {v} {p} h needs s =
-      let i = instruction (Load r k w) in
-      moved at i (with_register r w v) (processor_step p)
-      (subst (λ x. Sees image (with_place ((at % 65536 + 2) % 65536) (with_register r x v)) (processor_step p)) needs.2
-      (rows.load image (placed at v) r k (has i (omega arith) h s) needs.0 needs.1 p s.sees))
-  step (Store r k) {image} {at} {v} {p} h needs s = moved at (instruction (Store r k)) (after (Store r k) v) (processor_step p) (rows.store image (placed at v) r k (has (instruction (Store r k)) (omega arith) h s) needs.0 needs.1 p s.sees)
-  step (LoadSlot r by k w) {image} {at} {v} {p} h needs s =
-      let i = instruction (LoadSlot r by k w) in
-      moved at i (with_register r w v) (processor_step p)
-      (subst (λ x. Sees image (with_place ((at % 65536 + 3) % 65536) (with_register r x v)) (processor_step p)) needs.2
-      (rows.load_slot image (placed at v) r by k (has i (omega arith) h s) needs.0 needs.1 p s.sees))
-  step (LoadArgument r by k w) {image} {at} {v} {p} h needs s =
-      let i = instruction (LoadArgument r by k w) in
-      moved at i (with_register r w v) (processor_step p)
-      (subst (λ x. Sees image (with_place ((at % 65536 + 4) % 65536) (with_register r x v)) (processor_step p)) needs.2
-      (rows.load_argument image (placed at v) r by k (has i (omega arith) h s) needs.0 needs.1 p s.sees))
-  step (StoreField r by k) {image} {at} {v} {p} h needs s = moved at (instruction (StoreField r by k)) (after (StoreField r by k) v) (processor_step p) (rows.store_field image (placed at v) r by k (has (instruction (StoreField r by k)) (omega arith) h s) needs.0 needs.1 p s.sees)
-  step (LoadField r by k w) {image} {at} {v} {p} h needs s =
-      let i = instruction (LoadField r by k w) in
-      moved at i (with_register r w v) (processor_step p)
-      (subst (λ x. Sees image (with_place ((at % 65536 + 3) % 65536) (with_register r x v)) (processor_step p)) needs.2
-      (rows.load_field image (placed at v) r by k (has i (omega arith) h s) needs.0 needs.1 p s.sees))
-  step (LoadWord r by k w) {image} {at} {v} {p} h needs s =
-      let i = instruction (LoadWord r by k w) in
-      moved at i (with_register r w v) (processor_step p)
-      (subst (λ x. Sees image (with_place ((at % 65536 + 4) % 65536) (with_register r x v)) (processor_step p)) needs.2
-      (rows.load_word image (placed at v) r by k (has i (omega arith) h s) needs.0 needs.1 p s.sees))
-  step (SumNumber w) {image} {at} {v} {p} h n s = moved at (with_number 0 w) (after (SumNumber w) v) (processor_step p) (rows.add_number image (placed at v) w (has (with_number 0 w) (omega arith) h s) p s.sees)
-  step (DifferenceNumber w) {image} {at} {v} {p} h n s = moved at (with_number 5 w) (after (DifferenceNumber w) v) (processor_step p) (rows.subtract_number image (placed at v) w (has (with_number 5 w) (omega arith) h s) p s.sees)
-  step (Sum r q) {image} {at} {v} {p} h n s = moved at (instruction (Sum r q)) (after (Sum r q) v) (processor_step p) (rows.add image (placed at v) r q (has (instruction (Sum r q)) (omega arith) h s) p s.sees)
-  step (Difference r q) {image} {at} {v} {p} h n s = moved at (instruction (Difference r q)) (after (Difference r q) v) (processor_step p) (rows.subtract image (placed at v) r q (has (instruction (Difference r q)) (omega arith) h s) p s.sees)
-  step (Negative r) {image} {at} {v} {p} h n s = moved at (instruction (Negative r)) (after (Negative r) v) (processor_step p) (rows.negate image (placed at v) r (has (instruction (Negative r)) (omega arith) h s) p s.sees)
-  step (Double r) {image} {at} {v} {p} h n s = moved at (instruction (Double r)) (after (Double r) v) (processor_step p) (rows.double image (placed at v) r (has (instruction (Double r)) (omega arith) h s) n p s.sees)
-  step (DoubleWord r) {image} {at} {v} {p} h n s = moved at (instruction (DoubleWord r)) (after (DoubleWord r) v) (processor_step p) (rows.double_word image (placed at v) r (has (instruction (DoubleWord r)) (omega arith) h s) p s.sees)
-  step (Both r q) {image} {at} {v} {p} h n s = moved at (instruction (Both r q)) (after (Both r q) v) (processor_step p) (rows.both image (placed at v) r q (has (instruction (Both r q)) (omega arith) h s) p s.sees)
-  step (Either r q) {image} {at} {v} {p} h n s = moved at (instruction (Either r q)) (after (Either r q) v) (processor_step p) (rows.either image (placed at v) r q (has (instruction (Either r q)) (omega arith) h s) p s.sees)
-  step (One r q) {image} {at} {v} {p} h n s = moved at (instruction (One r q)) (after (One r q) v) (processor_step p) (rows.one image (placed at v) r q (has (instruction (One r q)) (omega arith) h s) p s.sees)
-  step (Up r) {image} {at} {v} {p} h n s = moved at (instruction (Up r)) (after (Up r) v) (processor_step p) (rows.shift_up image (placed at v) r (has (instruction (Up r)) (omega arith) h s) n p s.sees)
-  step (Down r) {image} {at} {v} {p} h n s = moved at (instruction (Down r)) (after (Down r) v) (processor_step p) (rows.shift_down image (placed at v) r (has (instruction (Down r)) (omega arith) h s) p s.sees)
-  step (DownSigned r) {image} {at} {v} {p} h n s = moved at (instruction (DownSigned r)) (after (DownSigned r) v) (processor_step p) (rows.shift_down_signed image (placed at v) r (has (instruction (DownSigned r)) (omega arith) h s) n p s.sees)
-  step (Product r) {image} {at} {v} {p} h n s = moved at (instruction (Product r)) (after (Product r) v) (processor_step p) (rows.multiply image (placed at v) r (has (instruction (Product r)) (omega arith) h s) p s.sees)
-  step (Quotient r) {image} {at} {v} {p} h n s = moved at (instruction (Quotient r)) (after (Quotient r) v) (processor_step p) (rows.divide image (placed at v) r (has (instruction (Quotient r)) (omega arith) h s) n.0 n.1 p s.sees)
-  step Sign {image} {at} {v} {p} h n s = moved at i86.Cwd (after Sign v) (processor_step p) (rows.extend image (placed at v) (has i86.Cwd (omega arith) h s) p s.sees)
+      subst (λ x. Sees image (with_place ((at % 65536 + 1) % 65536) (with_register r w (with_register 4 x v))) (processor_step p)) m
+      (subst (λ x. Sees image (with_place ((at % 65536 + 1) % 65536) (with_register r x (with_register 4 (2 * suc n % 65536) v))) (processor_step p)) needs.2 (rows.pop image (placed at v) r n h below needs.1 p s))
+  effect (Push r n) {image} at v {p} h needs s = rows.push image (placed at v) r n h needs.0 needs.1 p s
+  effect (Load r k w) {image} at v {p} h needs s = subst (λ x. Sees image (with_place ((at % 65536 + 2) % 65536) (with_register r x v)) (processor_step p)) needs.2 (rows.load image (placed at v) r k h needs.0 needs.1 p s)
+  effect (Store r k) {image} at v {p} h needs s = rows.store image (placed at v) r k h needs.0 needs.1 p s
+  effect (LoadSlot r by k w) {image} at v {p} h needs s = subst (λ x. Sees image (with_place ((at % 65536 + 3) % 65536) (with_register r x v)) (processor_step p)) needs.2 (rows.load_slot image (placed at v) r by k h needs.0 needs.1 p s)
+  effect (LoadArgument r by k w) {image} at v {p} h needs s = subst (λ x. Sees image (with_place ((at % 65536 + 4) % 65536) (with_register r x v)) (processor_step p)) needs.2 (rows.load_argument image (placed at v) r by k h needs.0 needs.1 p s)
+  effect (StoreField r by k) {image} at v {p} h needs s = rows.store_field image (placed at v) r by k h needs.0 needs.1 p s
+  effect (LoadField r by k w) {image} at v {p} h needs s = subst (λ x. Sees image (with_place ((at % 65536 + 3) % 65536) (with_register r x v)) (processor_step p)) needs.2 (rows.load_field image (placed at v) r by k h needs.0 needs.1 p s)
+  effect (LoadWord r by k w) {image} at v {p} h needs s = subst (λ x. Sees image (with_place ((at % 65536 + 4) % 65536) (with_register r x v)) (processor_step p)) needs.2 (rows.load_word image (placed at v) r by k h needs.0 needs.1 p s)
+  effect (SumNumber w) {image} at v {p} h n s = rows.add_number image (placed at v) w h p s
+  effect (DifferenceNumber w) {image} at v {p} h n s = rows.subtract_number image (placed at v) w h p s
+  effect (Sum r q) {image} at v {p} h n s = rows.add image (placed at v) r q h p s
+  effect (Difference r q) {image} at v {p} h n s = rows.subtract image (placed at v) r q h p s
+  effect (Negative r) {image} at v {p} h n s = rows.negate image (placed at v) r h p s
+  effect (Double r) {image} at v {p} h n s = rows.double image (placed at v) r h n p s
+  effect (DoubleWord r) {image} at v {p} h n s = rows.double_word image (placed at v) r h p s
+  effect (Both r q) {image} at v {p} h n s = rows.both image (placed at v) r q h p s
+  effect (Either r q) {image} at v {p} h n s = rows.either image (placed at v) r q h p s
+  effect (One r q) {image} at v {p} h n s = rows.one image (placed at v) r q h p s
+  effect (Up r) {image} at v {p} h n s = rows.shift_up image (placed at v) r h n p s
+  effect (Down r) {image} at v {p} h n s = rows.shift_down image (placed at v) r h p s
+  effect (DownSigned r) {image} at v {p} h n s = rows.shift_down_signed image (placed at v) r h n p s
+  effect (Product r) {image} at v {p} h n s = rows.multiply image (placed at v) r h p s
+  effect (Quotient r) {image} at v {p} h n s = rows.divide image (placed at v) r h n.0 n.1 p s
+  effect Sign {image} at v {p} h n s = rows.extend image (placed at v) h p s
+
+  step : (a : Act) {image : List ℕ} {at : ℕ} {v : View} {p : Watched} → Has image at (instruction a) → Needs a v → Is image at v p → Is image (at + length (bytes_of (instruction a))) (after a v) (watched_step p)
+  step a {image} {at} {v} h needs s =
+      let here = has (instruction a) (takes_bytes a) h s in
+      moved at (instruction a) (after a v) (no_number a) here s (effect a at v here needs s.sees)
 
   -- none of them tells anything
   quiet : (a : Act) (v : View) → (after a v).told ≡ v.told
@@ -213,8 +205,8 @@ module _ (rows : Rows) where
   quiet _ v = refl
 
   -- all of them, and the way on
-  pub straight : (acts : List Act) {image : List ℕ} {at n : ℕ} {v : View} {p : Processor} {output : List ℕ} {Target : Processor → Type 0} → v.told.output ≡ output → HasAll image at (codes acts) → NeedsAll acts v → Is image at v p
-      → ((q : Processor) → Is image (behind acts at) (after_all acts v) q → Leads output n q Target) → Leads output (length acts + n) p Target
+  pub straight : (acts : List Act) {image : List ℕ} {at n : ℕ} {v : View} {p : Watched} {output : List ℕ} {Target : Watched → Type 0} → v.told.output ≡ output → HasAll image at (codes acts) → NeedsAll acts v → Is image at v p
+      → ((q : Watched) → Is image (behind acts at) (after_all acts v) q → Leads output n q Target) → Leads output (length acts + n) p Target
   straight [] {n = n} {p = p} {output = output} {Target = Target} wrote h needs s on = let e : n ≡ 0 + n = omega arith in subst (λ m. Leads output m p Target) e (on p s)
   straight (a ∷ acts) {n = n} {v = v} {p = p} {output = output} {Target = Target} wrote h needs s on =
       let t = step a h.0 needs.0 s in

@@ -7,7 +7,8 @@ use Rattle.std.proofs.lemmas.Option.{slice_get_within}
 use Rattle.cw_i86.specs.declared.instr.Instr.TheVariants as i86
 use Rattle.cw_i86.specs.declared.instr.Imm.TheVariants as imm
 use Rattle.cw_i86.specs.declared.instr.Rm.TheVariants as rms
-use Rattle.cw_run86.specs.Processor.{Processor, Told}
+use Rattle.cw_run86.specs.Processor.{Told}
+use Rattle.cw_follow.proofs.Watched.{Watched}
 use Rattle.cw_run86.specs.Views.{with_number, word_difference}
 use Rattle.cw_word.specs.FixedPoint.{FitsWord}
 use Rattle.cw_word.specs.Word.{unsigned}
@@ -50,7 +51,7 @@ module _ (known : Given) where
   open known use {rows, p, image, all, coded, few, low}
 
   -- the processor comes to the routine of a switch, with an index in AX and the record of the owner in DI
-  pub record AtSwitch (place g line : ℕ) (acts : List OrderActivation) (owner : ℕ) (z : ℤ) (w : Words) (q : Processor) : Type 0 where
+  pub record AtSwitch (place g line : ℕ) (acts : List OrderActivation) (owner : ℕ) (z : ℤ) (w : Words) (q : Watched) : Type 0 where
     pub cx : ℕ
     pub dx : ℕ
     pub bx : ℕ
@@ -67,7 +68,7 @@ module _ (known : Given) where
     pub low_top : suc below_top ≤ level acts
     pub kept : Kept p g line acts w.memory w.input w.output cells stack left_input told
 
-  pub goes_through_switch : {q : Processor} {g place line : ℕ} {acts : List OrderActivation} {w : Words} (s : Sound p image g place line acts w q) (by_itself : Alone p image g place line acts w q s.orders.list) (steps to n owner : ℕ) (z : ℤ) (rest : List Operand) → w.operands ≡ Word z ∷ rest → FitsWord z
+  pub goes_through_switch : {q : Watched} {g place line : ℕ} {acts : List OrderActivation} {w : Words} (s : Sound p image g place line acts w q) (by_itself : Alone p image g place line acts w q s.orders.list) (steps to n owner : ℕ) (z : ℤ) (rest : List Operand) → w.operands ≡ Word z ∷ rest → FitsWord z
       → ControlStands p g acts (SwitchControl to n owner) → step p (at g place line acts w Running) ≡ go_through p (Some (SwitchControl to n owner)) g place line acts w → steps + 15 ≤ weight p (at g place line acts w Running)
       → Leads w.output steps q (AtSwitch (switch_place p to n) g line acts owner z w) → Follow known (at g place line acts w Running) q
   goes_through_switch {q} {g} {place} {line} {acts} {w} s by_itself steps to n owner z rest operands fits stands goes paid way = lists (switch_at p to n) refl
@@ -142,7 +143,7 @@ module _ (known : Given) where
                   k.0 (length acts - owner) (label_place p l.0 l.1) k.1 (slice_get_within gs k.0 x k.2) short table_is word a.owner_is))
 
   -- the way to the routine by a near jump
-  pub near_switch : {q : Processor} {g place line : ℕ} {acts : List OrderActivation} {w : Words} (s : Sound p image g place line acts w q) (by_itself : Alone p image g place line acts w q s.orders.list) (to n by : ℕ) (z : ℤ) (rest : List Operand) → w.operands ≡ Word z ∷ rest
+  pub near_switch : {q : Watched} {g place line : ℕ} {acts : List OrderActivation} {w : Words} (s : Sound p image g place line acts w q) (by_itself : Alone p image g place line acts w q s.orders.list) (to n by : ℕ) (z : ℤ) (rest : List Operand) → w.operands ≡ Word z ∷ rest
       → (order_place (base_of p g) s.orders.list place + 5 + by) % 65536 ≡ switch_place p to n % 65536
       → HasAll image (order_place (base_of p g) s.orders.list place) (i86.Mov true true 7 (rms.Reg 5) ∷ i86.Jump by ∷ [])
       → Leads w.output 2 q (AtSwitch (switch_place p to n) g line acts (length acts) z w)
@@ -185,7 +186,7 @@ module _ (known : Given) where
   no_word (Some gs) (Word z ∷ rest) to owner g place line acts w h = absurd (h z rest refl)
 
   -- a switch by itself, wherever it is: the processor comes to its routine in so many instructions, where there is an index
-  pub goes_with : {q : Processor} {g place line : ℕ} {acts : List OrderActivation} {w : Words} (s : Sound p image g place line acts w q) (by_itself : Alone p image g place line acts w q s.orders.list) (steps to n owner : ℕ) (operands : List Operand) → w.operands ≡ operands
+  pub goes_with : {q : Watched} {g place line : ℕ} {acts : List OrderActivation} {w : Words} (s : Sound p image g place line acts w q) (by_itself : Alone p image g place line acts w q s.orders.list) (steps to n owner : ℕ) (operands : List Operand) → w.operands ≡ operands
       → ControlStands p g acts (SwitchControl to n owner) → step p (at g place line acts w Running) ≡ go_through p (Some (SwitchControl to n owner)) g place line acts w → steps + 15 ≤ weight p (at g place line acts w Running)
       → ((z : ℤ) (rest : List Operand) → w.operands ≡ Word z ∷ rest → Leads w.output steps q (AtSwitch (switch_place p to n) g line acts owner z w)) → Follow known (at g place line acts w Running) q
   goes_with {q} {g} {place} {line} {acts} {w} s by_itself steps to n owner [] same stands goes paid way =
@@ -196,7 +197,7 @@ module _ (known : Given) where
       let fits : FitsWord z = All-head OperandFits (Word z) rest (subst (All OperandFits) same s.fits.operands) in
       goes_through_switch s by_itself steps to n owner z rest same fits stands goes paid (way z rest same)
 
-  pub switches_own : {q : Processor} {g place line : ℕ} {acts : List OrderActivation} {w : Words} (s : Sound p image g place line acts w q) (by_itself : Alone p image g place line acts w q s.orders.list) (n : ℕ) → slice_get s.orders.list place ≡ Some (order.GoSwitch n) → Follow known (at g place line acts w Running) q
+  pub switches_own : {q : Watched} {g place line : ℕ} {acts : List OrderActivation} {w : Words} (s : Sound p image g place line acts w q) (by_itself : Alone p image g place line acts w q s.orders.list) (n : ℕ) → slice_get s.orders.list place ≡ Some (order.GoSwitch n) → Follow known (at g place line acts w Running) q
   switches_own {q} {g} {place} {line} {acts} {w} s by_itself n e =
       let o = order.GoSwitch n in
       let own = own_place s.orders.list place in
@@ -207,7 +208,7 @@ module _ (known : Given) where
       let paid = weight_is known s o e in
       goes_with s by_itself 2 g n (length acts) w.operands refl (switch_stands p coded.callable g n acts) (step_is known s (Some o) e) (omega arith) (λ z rest same. near_switch s by_itself g n by z rest same arrives (code known s by_itself o e))
 
-  pub switches_by_descriptor : {q : Processor} {g place line : ℕ} {acts : List OrderActivation} {w : Words} (s : Sound p image g place line acts w q) (by_itself : Alone p image g place line acts w q s.orders.list) (d : ℕ) → slice_get s.orders.list place ≡ Some (order.GoSwitchCommon d) → (x : Option (ℕ × Def)) → defined_at p g d ≡ x → Follow known (at g place line acts w Running) q
+  pub switches_by_descriptor : {q : Watched} {g place line : ℕ} {acts : List OrderActivation} {w : Words} (s : Sound p image g place line acts w q) (by_itself : Alone p image g place line acts w q s.orders.list) (d : ℕ) → slice_get s.orders.list place ≡ Some (order.GoSwitchCommon d) → (x : Option (ℕ × Def)) → defined_at p g d ≡ x → Follow known (at g place line acts w Running) q
   switches_by_descriptor {q} {g} {place} {line} {acts} {w} s by_itself d e None is = absurd (stuck_here known s (step_is known s (Some (order.GoSwitchCommon d)) e ∙ ap (λ x. go_through p (with_switch_owner (length acts) (switch_of_def x)) g place line acts w) is))
   switches_by_descriptor {q} {g} {place} {line} {acts} {w} s by_itself d e (Some (to, def.Label l)) is = absurd (stuck_here known s (step_is known s (Some (order.GoSwitchCommon d)) e ∙ ap (λ x. go_through p (with_switch_owner (length acts) (switch_of_def x)) g place line acts w) is))
   switches_by_descriptor {q} {g} {place} {line} {acts} {w} s by_itself d e (Some (to, def.Proc n)) is = absurd (stuck_here known s (step_is known s (Some (order.GoSwitchCommon d)) e ∙ ap (λ x. go_through p (with_switch_owner (length acts) (switch_of_def x)) g place line acts w) is))
@@ -223,7 +224,7 @@ module _ (known : Given) where
       goes_with s by_itself 2 to n (length acts) w.operands refl (switches_stand p coded.callable g d acts (Some (to, def.Switch n)) is)
       (step_is known s (Some o) e ∙ ap (λ x. go_through p (with_switch_owner (length acts) (switch_of_def x)) g place line acts w) is) (omega arith) (λ z rest same. near_switch s by_itself to n by z rest same arrives (code known s by_itself o e))
 
-  pub switches_by_parameter : {q : Processor} {g place line : ℕ} {a : OrderActivation} {acts : List OrderActivation} {w : Words} (s : Sound p image g place line (a ∷ acts) w q) (by_itself : Alone p image g place line (a ∷ acts) w q s.orders.list) (k : ℕ) → slice_get s.orders.list place ≡ Some (order.GoSwitchSpecial k)
+  pub switches_by_parameter : {q : Watched} {g place line : ℕ} {a : OrderActivation} {acts : List OrderActivation} {w : Words} (s : Sound p image g place line (a ∷ acts) w q) (by_itself : Alone p image g place line (a ∷ acts) w q s.orders.list) (k : ℕ) → slice_get s.orders.list place ≡ Some (order.GoSwitchSpecial k)
       → (x : Option Operand) → argument_behind k a.arguments ≡ x → Follow known (at g place line (a ∷ acts) w Running) q
   switches_by_parameter {q} {g} {place} {line} {a} {acts} {w} s by_itself k e None is = absurd (stuck_here known s (step_is known s (Some (order.GoSwitchSpecial k)) e ∙ ap (λ x. go_through p (control_in x) g place line (a ∷ acts) w) is))
   switches_by_parameter {q} {g} {place} {line} {a} {acts} {w} s by_itself k e (Some (Word z)) is = absurd (stuck_here known s (step_is known s (Some (order.GoSwitchSpecial k)) e ∙ ap (λ x. go_through p (control_in x) g place line (a ∷ acts) w) is))

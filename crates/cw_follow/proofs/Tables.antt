@@ -8,7 +8,8 @@ use Rattle.std.proofs.lemmas.Option.{slice_get_within}
 use Rattle.cw_i86.specs.declared.instr.Instr.TheVariants as i86
 use Rattle.cw_i86.specs.declared.instr.Imm.TheVariants as imm
 use Rattle.cw_i86.specs.declared.instr.Rm.TheVariants as rms
-use Rattle.cw_run86.specs.Processor.{Processor, Told}
+use Rattle.cw_run86.specs.Processor.{Told}
+use Rattle.cw_follow.proofs.Watched.{Watched}
 use Rattle.cw_run86.specs.Views.{with_number, word_difference, difference_overflows, double_overflows}
 use Rattle.cw_word.specs.FixedPoint.{FitsWord}
 use Rattle.cw_word.specs.Word.{unsigned}
@@ -106,7 +107,7 @@ module _ (rows : Rows) (prog : OrderProgram) (image : List ℕ) where
   -- ---- the number
 
   -- a number in AX, counted from 1, is compared as one counted from 0
-  compares : {q : Processor} {at cx dx bx sp bp si di : ℕ} {overflow : Bool} {cells stack : ℕ → ℕ} {left : List ℕ} {told : Told} {output : List ℕ} (u n : ℕ) → told.output ≡ output
+  compares : {q : Watched} {at cx dx bx sp bp si di : ℕ} {overflow : Bool} {cells stack : ℕ → ℕ} {left : List ℕ} {told : Told} {output : List ℕ} (u n : ℕ) → told.output ≡ output
       → HasAll image at (with_number 5 1 ∷ i86.Mov true true 3 (rms.Reg 0) ∷ with_number 7 n ∷ []) → Is image at (view u cx dx bx sp bp si di overflow cells stack left told) q
       → Leads output 3 q (IsCompared image (at + 3 + 2 + 3) (view (word_difference u 1) cx dx (word_difference u 1) sp bp si di (difference_overflows (word_difference u 1) n) cells stack left told) (word_difference u 1) n)
   compares {q} {at} u n wrote i s =
@@ -115,7 +116,7 @@ module _ (rows : Rows) (prog : OrderProgram) (image : List ℕ) where
 
   -- ---- the way of a loop
 
-  module _ {q : Processor} {at : ℕ} (g line : ℕ) (acts : List OrderActivation) (n : ℕ) (z : ℤ) (rest : List Operand) (memory : List ℤ) (input output : List ℕ)
+  module _ {q : Watched} {at : ℕ} (g line : ℕ) (acts : List OrderActivation) (n : ℕ) (z : ℤ) (rest : List Operand) (memory : List ℤ) (input output : List ℕ)
       (l : Landed prog image at g line acts (record { operands = Word z ∷ rest; memory = memory; input = input; output = output }) q) where
     abbrev v : ℕ
     v = word_difference (unsigned z) 1
@@ -162,7 +163,7 @@ module _ (rows : Rows) (prog : OrderProgram) (image : List ℕ) where
         compared_more rows {Between = Is image (at + 3 + 2 + 3 + 1 + 2) (view (l.stack l.top) l.stacked.cx l.stacked.dx v (2 * suc l.top) (record_of acts) l.stacked.si l.stacked.di (difference_overflows v n) l.cells l.stack l.input l.told)} c.is kept.wrote (pass_above rows 3 le i.1.1.1.1.0 c) (λ r t.
         last rows t kept.wrote (landed rows prog image g line acts to (suc l.top) rest memory input output refl l.operands.1 kept (to_place there (near rows by i.1.1.1.1.1.0 t)))))
 
-  pub loops : {q : Processor} {at : ℕ} (g line : ℕ) (acts : List OrderActivation) (to by table : ℕ) (start : ℕ → ℕ) (marks : List ℕ) (operands : List Operand) (memory : List ℤ) (input output : List ℕ) → length marks < 32768 → table ≡ (at + 21) % 65536 → (at + 14 + by) % 65536 ≡ to % 65536
+  pub loops : {q : Watched} {at : ℕ} (g line : ℕ) (acts : List OrderActivation) (to by table : ℕ) (start : ℕ → ℕ) (marks : List ℕ) (operands : List Operand) (memory : List ℤ) (input output : List ℕ) → length marks < 32768 → table ≡ (at + 21) % 65536 → (at + 14 + by) % 65536 ≡ to % 65536
       → ((k m : ℕ) → slice_get marks k ≡ Some m → HasWord image (at + 21 + 2 * k) (start m % 65536)) → All OperandFits operands
       → HasAll image at (with_number 5 1 ∷ i86.Mov true true 3 (rms.Reg 0) ∷ with_number 7 (length marks) ∷ i86.Pop 0 ∷ i86.JumpIf 2 3 ∷ i86.Jump by ∷ i86.Shift 4 true false (rms.Reg 3) ∷ i86.JumpRm (entry_of_table table) ∷ [])
       → Landed prog image at g line acts (record { operands = operands; memory = memory; input = input; output = output }) q
@@ -187,7 +188,7 @@ module _ (rows : Rows) (prog : OrderProgram) (image : List ℕ) where
   -- ---- switches
 
   -- the routine of a switch, with the index in AX and the record of the owner in DI
-  module _ {q : Processor} {at cx dx bx si di : ℕ} {overflow : Bool} {cells stack : ℕ → ℕ} {left : List ℕ} {told : Told} (top g line : ℕ) (acts : List OrderActivation) (n table by : ℕ) (z : ℤ) (memory : List ℤ) (input output : List ℕ)
+  module _ {q : Watched} {at cx dx bx si di : ℕ} {overflow : Bool} {cells stack : ℕ → ℕ} {left : List ℕ} {told : Told} (top g line : ℕ) (acts : List OrderActivation) (n table by : ℕ) (z : ℤ) (memory : List ℤ) (input output : List ℕ)
       (kept : Kept prog g line acts memory input output cells stack left told)
       (i : HasAll image at (with_number 5 1 ∷ i86.Mov true true 3 (rms.Reg 0) ∷ with_number 7 n ∷ i86.JumpIf 2 3 ∷ i86.Call by ∷ i86.Shift 4 true false (rms.Reg 3) ∷ i86.Mov true true 5 (rms.Reg 7)
       ∷ i86.Mov true true 4 (rms.Reg 5) ∷ i86.MovImm 0 (imm.Word 10) ∷ i86.AluRm 5 true true 4 (rms.Reg 0) ∷ i86.JumpRm (entry_of_table table) ∷ []))

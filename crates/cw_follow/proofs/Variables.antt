@@ -4,7 +4,8 @@ use Rattle.std.specs.List.{All}
 use Rattle.std.specs.Prelude.{nat_lt}
 use borrow.Author.Tests.{ltb-true}
 use Rattle.cw_i86.specs.declared.instr.Instr.TheVariants as i86
-use Rattle.cw_run86.specs.Processor.{Processor, Told}
+use Rattle.cw_run86.specs.Processor.{Told}
+use Rattle.cw_follow.proofs.Watched.{Watched}
 use Rattle.cw_run86.specs.Views.{Has, put_word, compare as compare_of, difference_overflows, double_overflows}
 use Rattle.cw_word.specs.FixedPoint.{FitsWord, fits_word}
 use Rattle.cw_word.specs.Word.{unsigned}
@@ -30,7 +31,7 @@ module _ (c : Setting) (memory : List ℤ) (input output : List ℕ) where
   -- ---- a loop and its variable
 
   -- a routine of a loop takes its way back into SI, and has BX at the words of the loop in AX
-  pub enters : {p : Processor} {at cx dx bx si di : ℕ} {overflow : Bool} {cells stack : ℕ → ℕ} {left : List ℕ} {told : Told} (place by n : ℕ) (a : ℤ) → unsigned a < 32768 → n < level c.acts → (at + 3 + by) % 65536 ≡ place % 65536 → told.output ≡ output
+  pub enters : {p : Watched} {at cx dx bx si di : ℕ} {overflow : Bool} {cells stack : ℕ → ℕ} {left : List ℕ} {told : Told} (place by n : ℕ) (a : ℤ) → unsigned a < 32768 → n < level c.acts → (at + 3 + by) % 65536 ≡ place % 65536 → told.output ≡ output
       → Has c.image at (i86.Call by) → HasAll c.image place loop_reached
       → Is c.image at (view (unsigned a) cx dx bx (2 * suc n) (record_of c.acts) si di overflow cells stack left told) p
       → Leads output 4 p (Is c.image (place + 1 + 2 + 2) (view (unsigned a) cx dx (2 * unsigned a) (2 * suc n) (record_of c.acts) ((at + 3) % 65536) di (double_overflows (unsigned a)) cells (put_word stack n ((at + 3) % 65536)) left told))
@@ -44,11 +45,11 @@ module _ (c : Setting) (memory : List ℤ) (input output : List ℕ) where
       straight c.rows (Pop 6 n back ∷ Move 3 0 ∷ Double 3 ∷ []) {n = 0} wrote h ((lt', top, put_at stack n back), (tt, (small, tt))) t (λ q t. done t))
 
   -- the same, with the words of the area in DX
-  abbrev Reached : (place at : ℕ) (a : ℤ) (rest : List Operand) {p : Processor} → One c memory input output at a rest p → Processor → Type 0
+  abbrev Reached : (place at : ℕ) (a : ℤ) (rest : List Operand) {p : Watched} → One c memory input output at a rest p → Watched → Type 0
   Reached place at a rest l =
       Is c.image (place + 1 + 2 + 2) (view (unsigned a) l.cx c.program.limits.area (2 * unsigned a) (2 * suc l.top) (record_of c.acts) ((at + 3 + 3) % 65536) l.di (double_overflows (unsigned a)) l.cells (put_word l.stack l.top ((at + 3 + 3) % 65536)) l.left l.told)
 
-  reaches : {p : Processor} {at : ℕ} (place by d : ℕ) (a : ℤ) (rest : List Operand) → unsigned a < 32768 → d ≡ c.program.limits.area % 65536 → (at + 3 + 3 + by) % 65536 ≡ place % 65536 → AreaCode c memory input output at d by → HasAll c.image place loop_reached → (l : One c memory input output at a rest p)
+  reaches : {p : Watched} {at : ℕ} (place by d : ℕ) (a : ℤ) (rest : List Operand) → unsigned a < 32768 → d ≡ c.program.limits.area % 65536 → (at + 3 + 3 + by) % 65536 ≡ place % 65536 → AreaCode c memory input output at d by → HasAll c.image place loop_reached → (l : One c memory input output at a rest p)
       → Leads output 5 p (Reached place at a rest l)
   reaches {p} {at} place by d a rest small area_is arrives i h l =
       let low = c.low in
@@ -58,7 +59,7 @@ module _ (c : Setting) (memory : List ℤ) (input output : List ℕ) where
       enters place by l.top a small l.low arrives l.kept.wrote code.1.0 h t)
 
   -- where the loop's words are in the area
-  at_loop : (p : Processor) (limit to most : ℕ) (f : ℕ → Outcome) (a : ℤ) → most ≤ 32768 → ((n : ℕ) → n < most → unsigned a ≡ n → DoesHere c memory input output limit to p (f n)) → DoesHere c memory input output limit to p (if_inside (is_below a most) (f (number_of a)))
+  at_loop : (p : Watched) (limit to most : ℕ) (f : ℕ → Outcome) (a : ℤ) → most ≤ 32768 → ((n : ℕ) → n < most → unsigned a ≡ n → DoesHere c memory input output limit to p (f n)) → DoesHere c memory input output limit to p (if_inside (is_below a most) (f (number_of a)))
   at_loop p limit to most f (negsuc n) low does = tt
   at_loop p limit to most f (pos n) low does = cases (nat_lt n most) refl
     where
@@ -67,10 +68,10 @@ module _ (c : Setting) (memory : List ℤ) (input output : List ℕ) where
       cases false is = tt
 
   -- the address of the variable, in BX, is tested
-  tests : {p : Processor} {at ax cx si di : ℕ} {overflow : Bool} {cells stack : ℕ → ℕ} {left : List ℕ} {told : Told} (f : ℕ → Words → Outcome) (z : ℤ) (w : Words) (to n by m bound : ℕ) → FitsWord z → n < level c.acts → (at + 2 + 2 + 3 + by) % 65536 ≡ stop_place AddressRange % 65536 → 2 + m ≤ bound → 13 ≤ bound
+  tests : {p : Watched} {at ax cx si di : ℕ} {overflow : Bool} {cells stack : ℕ → ℕ} {left : List ℕ} {told : Told} (f : ℕ → Words → Outcome) (z : ℤ) (w : Words) (to n by m bound : ℕ) → FitsWord z → n < level c.acts → (at + 2 + 2 + 3 + by) % 65536 ≡ stop_place AddressRange % 65536 → 2 + m ≤ bound → 13 ≤ bound
       → Kept c.program c.g c.line c.acts memory input output cells stack left told → HasAll c.image at (compare_of 3 2 ∷ i86.JumpIf 2 3 ∷ i86.Call by ∷ [])
       → Is c.image at (view ax cx c.program.limits.area (unsigned z) (2 * suc n) (record_of c.acts) si di overflow cells stack left told) p
-      → ((k : ℕ) → k < c.program.limits.area → unsigned z ≡ k → (o : Bool) (q : Processor) → Is c.image (at + 2 + 2 + 3) (view ax cx c.program.limits.area (unsigned z) (2 * suc n) (record_of c.acts) si di o cells stack left told) q → DoesHere c memory input output m to q (f k w))
+      → ((k : ℕ) → k < c.program.limits.area → unsigned z ≡ k → (o : Bool) (q : Watched) → Is c.image (at + 2 + 2 + 3) (view ax cx c.program.limits.area (unsigned z) (2 * suc n) (record_of c.acts) si di o cells stack left told) q → DoesHere c memory input output m to q (f k w))
       → DoesHere c memory input output bound to p (at_address c.program.limits.area f z w)
   tests {p} {at} {ax} {cx} {si} {di} {overflow} {cells} {stack} {left} {told} f z w to n by m bound fz low arrives le le' kept h s on = cases (is_below z c.program.limits.area) refl
     where
@@ -96,7 +97,7 @@ module _ (c : Setting) (memory : List ℤ) (input output : List ℕ) where
 
   -- ---- the three orders
 
-  pub sets_variable : {p : Processor} {at : ℕ} (to by d : ℕ) (operands : List Operand) → at + 6 ≡ to → (at + 3 + 3 + by) % 65536 ≡ set_variable_place % 65536 → d ≡ c.program.limits.area % 65536 → All FitsWord memory → operand_words operands < level c.acts → All OperandFits operands
+  pub sets_variable : {p : Watched} {at : ℕ} (to by d : ℕ) (operands : List Operand) → at + 6 ≡ to → (at + 3 + 3 + by) % 65536 ≡ set_variable_place % 65536 → d ≡ c.program.limits.area % 65536 → All FitsWord memory → operand_words operands < level c.acts → All OperandFits operands
       → AreaCode c memory input output at d by → LandedWith c memory input output at operands p
       → DoesHere c memory input output 19 to p (set_variable c.program.limits.area (words operands memory input output))
   sets_variable {p} {at} to by d operands e arrives area_is all roomy fits i = taking_one c memory input output 19 to (λ a v. if_inside (is_below a c.program.limits.area) (perform c.program.limits.area (SetVariable (number_of a)) v)) does operands roomy fits
@@ -144,7 +145,7 @@ module _ (c : Setting) (memory : List ℤ) (input output : List ℕ) where
   sum_allowed true k z w = refl
   sum_allowed false k z w = refl
 
-  pub adds_step : {p : Processor} {at : ℕ} (to by d : ℕ) (operands : List Operand) → at + 6 ≡ to → (at + 3 + 3 + by) % 65536 ≡ add_step_place % 65536 → d ≡ c.program.limits.area % 65536 → All FitsWord memory → operand_words operands < level c.acts → All OperandFits operands
+  pub adds_step : {p : Watched} {at : ℕ} (to by d : ℕ) (operands : List Operand) → at + 6 ≡ to → (at + 3 + 3 + by) % 65536 ≡ add_step_place % 65536 → d ≡ c.program.limits.area % 65536 → All FitsWord memory → operand_words operands < level c.acts → All OperandFits operands
       → AreaCode c memory input output at d by → LandedWith c memory input output at operands p
       → DoesHere c memory input output 24 to p (add_step c.program.limits.area (words operands memory input output))
   adds_step {p} {at} to by d operands e arrives area_is all roomy fits i = taking_one c memory input output 24 to (λ a v. if_inside (is_below a (c.program.limits.area - 1)) (perform c.program.limits.area (AddStep (number_of a)) v)) does operands roomy fits
@@ -199,7 +200,7 @@ module _ (c : Setting) (memory : List ℤ) (input output : List ℕ) where
   abbrev variable_put : (a : ℤ) → (loop : ℕ) → Words → Outcome
   variable_put a n w = at_address c.program.limits.area (λ k v. Changed (put a (put (word_at v.memory k) v))) (word_at w.memory n) w
 
-  pub puts_variable : {p : Processor} {at : ℕ} (to by d : ℕ) (operands : List Operand) → at + 6 ≡ to → (at + 3 + 3 + by) % 65536 ≡ put_variable_place % 65536 → d ≡ c.program.limits.area % 65536 → All FitsWord memory → operand_words operands < level c.acts → All OperandFits operands
+  pub puts_variable : {p : Watched} {at : ℕ} (to by d : ℕ) (operands : List Operand) → at + 6 ≡ to → (at + 3 + 3 + by) % 65536 ≡ put_variable_place % 65536 → d ≡ c.program.limits.area % 65536 → All FitsWord memory → operand_words operands < level c.acts → All OperandFits operands
       → AreaCode c memory input output at d by → LandedWith c memory input output at operands p
       → DoesHere c memory input output 19 to p (put_variable c.program.limits.area (words operands memory input output))
   puts_variable {p} {at} to by d operands e arrives area_is all roomy fits i = taking_one c memory input output 19 to (λ a v. if_inside (is_below a c.program.limits.area) (variable_put a (number_of a) v)) does operands roomy fits

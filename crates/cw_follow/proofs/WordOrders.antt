@@ -3,7 +3,7 @@ use Rattle.std.proofs.Common.{◌≡◌, ℕ, zero, suc, ◌+◌, ◌-◌, ◌^�
 use Rattle.std.specs.Prelude.{slice_get, nat_le, nat_lt, ◌==◌}
 use Rattle.cw_i86.specs.declared.instr.Instr.TheVariants as i86
 use Rattle.cw_i86.specs.declared.instr.Imm.TheVariants as imm
-use Rattle.cw_run86.specs.Processor.{Processor}
+use Rattle.cw_follow.proofs.Watched.{Watched}
 use Rattle.cw_word.specs.Word.{unsigned}
 use Rattle.cw_unit.specs.Stop.{Running}
 use Rattle.cw_unit.specs.Words.{Words, Changed, put}
@@ -44,7 +44,7 @@ row_code lower n t = row_start lower ++ (times_if t address_entry n ++ row_end)
 module _ (known : Given) where
   open known use {rows, p, image, all, coded, few, low}
 
-  module _ {q : Processor} {g place line : ℕ} {acts : List OrderActivation} {w : Words} (s : Sound p image g place line acts w q) (a : Alone p image g place line acts w q s.orders.list) where
+  module _ {q : Watched} {g place line : ℕ} {acts : List OrderActivation} {w : Words} (s : Sound p image g place line acts w q) (a : Alone p image g place line acts w q s.orders.list) where
     pub put_is : (o : Order) (x : ℕ) (z : ℤ) → slice_get s.orders.list place ≡ Some o → carry_out p (Some o) g place line acts w ≡ after p.room (Changed (put z w)) g place line acts w → 2 ≤ weight_of o → x ≡ unsigned z → order_place (base_of p g) s.orders.list place + 4 ≡ order_place (base_of p g) s.orders.list (place + 1)
         → HasAll image (order_place (base_of p g) s.orders.list place) (i86.Push 0 ∷ i86.MovImm 0 (imm.Word x) ∷ []) → Follow known (at g place line acts w Running) q
     put_is o x z e goes_so cheap' value there i =

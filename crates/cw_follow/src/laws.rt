@@ -1,14 +1,17 @@
 //! The law that joins the machine of orders and the processor.
-ghost use Rattle.std.specs.Prelude.{ℕ, ℤ, ◌<◌, List, All};
+ghost use Rattle.std.specs.Prelude.{ℕ, ℤ, ◌<◌, List, [], All};
 ghost use Rattle.cw_track.specs.Tracking.{TracksAfter};
+ghost use Rattle.cw_track.specs.Watching.{watched};
 ghost use Rattle.cw_i86.specs.State.{State};
 ghost use Rattle.cw_i86.specs.MachineRun.{IsStart};
 ghost use Rattle.cw_run86.specs.Processor.{processor_machine, processor_start};
+ghost use Rattle.cw_image.specs.Begun.{StatementPlace};
 ghost use Rattle.cw_unit.specs.Behaviour.{is_running};
 ghost use Rattle.cw_order.specs.OrderProgram.{OrderProgram};
 ghost use Rattle.cw_order.specs.OrderMachine.{order_machine, order_start};
+ghost use Rattle.cw_order.specs.Starting.{starts};
 ghost use Rattle.cw_follow.specs.Showing.{shown_as};
-ghost use Rattle.cw_follow.specs.Passing.{statement_places, PlacesStand};
+ghost use Rattle.cw_follow.specs.Passing.{passes, statement_places, PlacesStand};
 ghost use Rattle.cw_follow.specs.Placing.{IsImage, Codable, BeginsWith, NeverStuck, startup_cost};
 
 use cw_dec86::no_instruction_begins_another;
@@ -19,13 +22,14 @@ use cw_run86::laws::{
 };
 use cw_word::laws::{fields, many_places, masks, products, quotients, readings, scaling, sums};
 
-/// Started with the image of a program of orders, the processor shows what the machine of the orders shows: nothing else, and all
-/// of it, where each order pays for the instructions that carry it out. For every way of filling the relocated words that gives
-/// each what the orders mean by it, and every input of bytes.
+/// Started with the image of a program of orders, the processor shows what the machine of the orders shows, and begins the statements
+/// that it begins, with the words of the data area: nothing else, and all of it, where each order pays for the instructions that carry
+/// it out. For every way of filling the relocated words that gives each what the orders mean by it, the places of the statements in
+/// that image, and every input of bytes.
 pub fn code_follows_orders()
-    ensures { (p : OrderProgram) (image words : List ℕ) (memory : List ℤ) (input : List ℕ) (s : State) →
-        IsImage p image → Codable p → BeginsWith p memory words → NeverStuck p memory input → IsStart image words s → All (λ b. b < 256) input →
-        TracksAfter is_running startup_cost (order_machine p) (order_start p memory input) (processor_machine shown_as) (processor_start s input) }
+    ensures { (p : OrderProgram) (image words : List ℕ) (memory : List ℤ) (input : List ℕ) (s : State) (places : List StatementPlace) →
+        IsImage p image → PlacesStand p image places → Codable p → BeginsWith p memory words → NeverStuck p memory input → IsStart image words s → All (λ b. b < 256) input →
+        TracksAfter (λ o. is_running o.0) startup_cost (watched (order_machine p) (starts p)) (order_start p memory input, []) (watched (processor_machine shown_as) (passes places p.limits.area)) (processor_start s input, []) }
 {
     readings();
     sums();

@@ -14,10 +14,10 @@ over p (at g place line acts w Ended) (suc k) h = over p (at g place line acts w
 over p (at g place line acts w (Stopped kind s l)) (suc k) h = over p (at g place line acts w (Stopped kind s l)) k h
 over p (at g place line acts w Stuck) (suc k) h = over p (at g place line acts w Stuck) k h
 
-pub costs : cost (order_machine overflowing) 9 overflowing_start ≡ 25
+pub costs : cost (order_machine overflowing) 7 overflowing_start ≡ 25
 costs = refl
 
-pub stops : shown_after (order_machine overflowing) 9 overflowing_start ≡ overflowing_shows
+pub stops : shown_after (order_machine overflowing) 7 overflowing_start ≡ overflowing_shows
 stops = refl
 
 pub returns : shown_after (order_machine calling) 11 calling_start ≡ calling_shows

@@ -102,4 +102,4 @@ returns c =
       rests = c.ports.ensures.rests;
       runs = c.ports.ensures.runs;
     } in
-    λ p image words memory input s is codable begins never start bytes. following rows p image words memory input s (all_stand p image is codable) is codable begins never start bytes
+    λ p image words memory input s places is stand codable begins never start bytes. following rows p image words memory input s places (all_stand p image is codable) is stand codable begins never start bytes

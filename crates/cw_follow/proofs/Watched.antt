@@ -1,0 +1,65 @@
+-- A processor that is watched by an observer who is told at which places of the code statements begin.
+use Rattle.std.proofs.Common.{◌≡◌, ℕ, List, [], ◌++◌, refl, sym, ap, ◌∙◌, subst}
+use Rattle.std.specs.Prelude.{map}
+use Rattle.cw_track.specs.Machine.{Machine}
+use Rattle.cw_track.specs.Watching.{noted}
+use Rattle.cw_track.proofs.Paths.{Path, stay, next}
+use Rattle.cw_track.proofs.Watching.{Unnoted}
+use Rattle.cw_i86.specs.MachineRun.{End, Running}
+use Rattle.cw_image.specs.Begun.{StatementPlace, lines_at, data_words}
+use Rattle.cw_run86.specs.Processor.{Processor, processor_machine, processor_step, observed}
+use Rattle.cw_unit.specs.Begun.{Begun}
+use Rattle.cw_unit.specs.Behaviour.{Observation}
+use Rattle.cw_follow.specs.Showing.{shown_as}
+use Rattle.cw_follow.specs.Passing.{at_work, passes}
+
+-- the processor, the places that the observer is told and the words of the data area, and what was noted
+pub record Watched : Type 0 where
+  pub places : List StatementPlace
+  pub area : ℕ
+  pub processor : Processor
+  pub begun : List Begun
+
+-- before an instruction is noted what begins
+unfoldable pub watched_step : Watched → Watched
+watched_step t = record { places = t.places; area = t.area; processor = processor_step t.processor; begun = t.begun ++ passes t.places t.area t.processor }
+
+abbrev pub watched_machine : Machine (Observation × List Begun)
+watched_machine = record { State = Watched; step = watched_step; shown = λ t. (shown_as (observed t.processor), t.begun); weight = λ t. 1 }
+
+-- where nothing has been noted
+abbrev pub fresh : List StatementPlace → (area : ℕ) → Processor → Watched
+fresh places area q = record { places = places; area = area; processor = q; begun = [] }
+
+nothing_begins : (e : End) → at_work e [] ≡ []
+nothing_begins Running = refl
+nothing_begins _ = refl
+
+-- where no statement begins nothing is noted
+pub step_silent : (t : Watched) → lines_at t.places t.processor.state.instruction_pointer ≡ [] → t.begun ≡ [] → (watched_step t).begun ≡ []
+unfolding watched_step
+step_silent t none silent =
+    ap (λ es. es ++ passes t.places t.area t.processor) silent
+    ∙ ap (λ ls. at_work t.processor.end (map (λ x. (x.0, x.1, data_words 0 t.area t.processor.state)) ls)) none
+    ∙ nothing_begins t.processor.end
+
+-- ---- paths on which nothing is noted
+
+start_silent : (P : Observation → Type 0) (w : ℕ) (t u : Watched) → Path (Unnoted P) watched_machine w t u → u.begun ≡ [] → t.begun ≡ []
+start_silent P w t u (stay tu z) silent = ap (λ x. x.begun) tu ∙ silent
+start_silent P w t u (next a st we p) silent = a.1
+
+-- they are paths of the processor
+pub unwatched : (P : Observation → Type 0) (w : ℕ) (t u : Watched) → Path (Unnoted P) watched_machine w t u → u.begun ≡ [] → Path (Unnoted P) (noted (processor_machine shown_as) (passes t.places t.area)) w t.processor u.processor
+unfolding watched_step
+unwatched P w t u (stay tu z) silent = stay (ap (λ x. x.processor) tu) z
+unwatched P w t u (next {w' = w'} {t' = t'} a st we p) silent =
+    let none : passes t.places t.area t.processor ≡ [] = sym (ap (λ es. es ++ passes t.places t.area t.processor) a.1) ∙ ap (λ x. x.begun) st ∙ start_silent P w' t' u p silent in
+    next (a.0, none) (ap (λ x. x.processor) st) we
+    (subst (λ x. Path (Unnoted P) (noted (processor_machine shown_as) (passes x.places x.area)) w' t'.processor u.processor) (sym st) (unwatched P w' t' u p silent))
+
+-- and the observer stays the same
+pub still_fresh : (P : Observation × List Begun → Type 0) (w : ℕ) (t u : Watched) → Path P watched_machine w t u → u.begun ≡ [] → u ≡ fresh t.places t.area u.processor
+unfolding watched_step
+still_fresh P w t u (stay tu z) silent = subst (λ x. u ≡ fresh x.places x.area u.processor) (sym tu) (ap (λ es. record { places = u.places; area = u.area; processor = u.processor; begun = es }) silent)
+still_fresh P w t u (next {w' = w'} {t' = t'} a st we p) silent = subst (λ x. u ≡ fresh x.places x.area u.processor) (sym st) (still_fresh P w' t' u p silent)
