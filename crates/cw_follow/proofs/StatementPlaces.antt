@@ -42,7 +42,7 @@ first_there : (x : StatementPlace) (xs : List StatementPlace) (at : ℕ) → x.p
 first_there x xs at is = ap (λ b. if b then (x.segment, x.line) ∷ lines_at xs at else lines_at xs at) (eq-eqb x.place at is)
 
 first_elsewhere : (x : StatementPlace) (xs : List StatementPlace) (at : ℕ) → (x.place ≡ at → ⊥) → lines_at (x ∷ xs) at ≡ lines_at xs at
-first_elsewhere x xs at no = ap (λ b. if b then (x.segment, x.line) ∷ lines_at xs at else lines_at xs at) (ne_eqb x.place at no)
+first_elsewhere x xs at other = ap (λ b. if b then (x.segment, x.line) ∷ lines_at xs at else lines_at xs at) (ne_eqb x.place at other)
 
 -- ---- the statements of one segment
 
@@ -217,15 +217,15 @@ module _ (p : OrderProgram) where
     | inr (inr gt) ↦ absurd (let x = segment_below t s gt in omega arith)
   ]
 
-  order_below : {g k m : ℕ} (o : Orders) (a b : Order) → slice_get o.list k ≡ Some a → slice_get o.list m ≡ Some b → SetsLine a → k < m → code_place g o k < code_place g o m
-  order_below {g} {k} {m} o a b ea eb sets lt =
+  order_below : (g : ℕ) {k m : ℕ} (o : Orders) (a b : Order) → slice_get o.list k ≡ Some a → slice_get o.list m ≡ Some b → SetsLine a → k < m → code_place g o k < code_place g o m
+  order_below g {k} {m} o a b ea eb sets lt =
       omega (arith, own_is o.list k a ea, own_is o.list m b eb, size_behind o.list k a ea sets, sizes_rise o.list (suc k) m lt)
 
-  same_order : {g k m : ℕ} (o : Orders) (a b : Order) → slice_get o.list k ≡ Some a → slice_get o.list m ≡ Some b → SetsLine a → SetsLine b → code_place g o k ≡ code_place g o m → k ≡ m
-  same_order {g} {k} {m} o a b ea eb sa sb e = elim (cases_order k m) [
+  same_order : (g : ℕ) {k m : ℕ} (o : Orders) (a b : Order) → slice_get o.list k ≡ Some a → slice_get o.list m ≡ Some b → SetsLine a → SetsLine b → code_place g o k ≡ code_place g o m → k ≡ m
+  same_order g {k} {m} o a b ea eb sa sb e = elim (cases_order k m) [
     | inl same ↦ same
-    | inr (inl lt) ↦ absurd (let x = order_below {g = g} o a b ea eb sa lt in omega arith)
-    | inr (inr gt) ↦ absurd (let x = order_below {g = g} o b a eb ea sb gt in omega arith)
+    | inr (inl lt) ↦ absurd (let x = order_below g o a b ea eb sa lt in omega arith)
+    | inr (inr gt) ↦ absurd (let x = order_below g o b a eb ea sb gt in omega arith)
   ]
 
   -- at one place of the image the line is set once
@@ -239,7 +239,7 @@ module _ (p : OrderProgram) where
       let orders : u ≡ o = cc in
       let there : slice_get o.list m ≡ Some b = ap (λ x. slice_get x.list m) (sym orders) ∙ listed' in
       let at : code_place g o k ≡ code_place g o m = e ∙ ap (λ x. code_place x u m) (sym segments) ∙ ap (λ x. code_place g x m) orders in
-      let places : k ≡ m = same_order {g = g} o a b listed there sets sets' at in
+      let places : k ≡ m = same_order g o a b listed there sets sets' at in
       let both : slice_get o.list k ≡ Some b = ap (slice_get o.list) places ∙ there in
       let same : a ≡ b = cc in
       (segments, places, same)
