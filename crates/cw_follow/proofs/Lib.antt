@@ -42,4 +42,5 @@ pub mod Switching
 pub mod Loops
 pub mod Within
 pub mod Passed
+pub mod StatementPlaces
 pub mod Following

@@ -11,9 +11,10 @@ ghost use Rattle.cw_order.specs.OrderProgram.{OrderProgram};
 ghost use Rattle.cw_order.specs.OrderMachine.{order_machine, order_start};
 ghost use Rattle.cw_order.specs.Starting.{starts};
 ghost use Rattle.cw_follow.specs.Showing.{shown_as};
-ghost use Rattle.cw_follow.specs.Passing.{passes, PlacesStand};
+ghost use Rattle.cw_follow.specs.Passing.{passes, statement_places, PlacesStand};
 ghost use Rattle.cw_follow.specs.Placing.{IsImage, Codable, BeginsWith, NeverStuck, startup_cost};
 
+use cw_dec86::no_instruction_begins_another;
 use cw_order::laws::{activations, words};
 use cw_run86::laws::{
     arithmetic, comparing, comparing_below, fetching, fields as stack_fields, jumps, logic, memory,
@@ -57,4 +58,12 @@ pub fn code_follows_orders()
     jumps();
     tables();
     ports();
+}
+
+/// The places of statements that the code of orders tells stand in their image: at a Start begins its statement, and nowhere else
+/// does any.
+pub fn places_stand()
+    ensures { (p : OrderProgram) (image : List ℕ) → IsImage p image → Codable p → PlacesStand p image (statement_places p) }
+{
+    no_instruction_begins_another();
 }

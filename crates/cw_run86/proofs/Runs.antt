@@ -10,6 +10,7 @@ use Rattle.cw_i86.specs.MachineRun.{Event, Silent, Takes, Gives, Outcome, GoesOn
 use Rattle.cw_i86.specs.declared.instr.Instr.{Instr}
 use Rattle.cw_i86.specs.declared.instr.Instr.TheVariants.{In, Out, Hlt}
 use Rattle.cw_run86.specs.Fetching.{instruction_at}
+use Rattle.cw_run86.specs.Reaching.{IsReached}
 use Rattle.cw_run86.specs.Processor.{Processor, Told, behind, does, fetched, completed, step_at, processor_step, processor_after, processor_start, observed}
 use Rattle.cw_run86.proofs.Tests.{Finds, Only}
 use Rattle.cw_run86.proofs.Told.{told_by, after_event, told_more, left_behind-more, fits_more}
@@ -188,3 +189,10 @@ shown_after s input n p (inr over) = record { events = over.events; fits = over.
 
 pub shows : Finds → Only → (s : State) (input : List ℕ) (n : ℕ) → Bytes input → Shows s input n (observed (processor_after n (processor_start s input)))
 shows finds only s input n bytes = shown_after s input n _ (runs_so finds only s input n bytes)
+
+reached : (s : State) (input : List ℕ) (n : ℕ) (p : Processor) → After s input n p → IsReached s input n p
+reached s input n p (inl g) = record { events = g.events; fits = g.fits; is = inl (g.runs, g.at_work) }
+reached s input n p (inr over) = record { events = over.events; fits = over.fits; is = inr over.over }
+
+pub reaches : Finds → Only → (s : State) (input : List ℕ) (n : ℕ) → Bytes input → IsReached s input n (processor_after n (processor_start s input))
+reaches finds only s input n bytes = reached s input n _ (runs_so finds only s input n bytes)

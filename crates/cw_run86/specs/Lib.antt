@@ -1,3 +1,4 @@
 pub mod Fetching
 pub mod Processor
+pub mod Reaching
 pub mod Views

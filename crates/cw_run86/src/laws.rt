@@ -10,6 +10,7 @@ ghost use Rattle.cw_i86.specs.declared.instr.Rm.TheVariants as rms;
 ghost use Rattle.cw_i86.specs.declared.instr.Place.TheVariants as places;
 ghost use Rattle.cw_run86.specs.Fetching.{instruction_at};
 ghost use Rattle.cw_run86.specs.Processor.{Processor, processor_step, processor_after, processor_start, observed, with_given};
+ghost use Rattle.cw_run86.specs.Reaching.{IsReached};
 ghost use Rattle.cw_run86.specs.Views.{View, Sees, Has, Goes, IsTop, starting_view, register, on, with_place, with_register, with_result, with_cell, with_stack, with_told, sum_overflows, difference_overflows, word_sum, word_difference, with_other, with_memory, with_number, at_offset, Compared, Compares, Comparison, condition_of, words_compare, double_overflows, word_up, word_down, word_down_signed, product_low, product_high, product_overflows, sign_of, with_pair, with_overflow, with_input, shift_overflow};
 
 use cw_dec86::rows_read_back;
@@ -25,6 +26,13 @@ pub fn fetching()
 /// After each number of steps the machine shows what the 8086 shows.
 pub fn shows_the_run()
     ensures { (s : State) (input : List ℕ) (n : ℕ) → All (λ b. b < 256) input → Shows s input n (observed (processor_after n (processor_start s input))) }
+{
+    fetching();
+}
+
+/// After each number of steps the machine is where the run of the 8086 is.
+pub fn keeps_to_the_run()
+    ensures { (s : State) (input : List ℕ) (n : ℕ) → All (λ b. b < 256) input → IsReached s input n (processor_after n (processor_start s input)) }
 {
     fetching();
 }
