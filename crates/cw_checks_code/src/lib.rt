@@ -8,4 +8,6 @@ mod orders;
 #[cfg(test)]
 mod processor;
 #[cfg(test)]
+mod statements;
+#[cfg(test)]
 mod texts;

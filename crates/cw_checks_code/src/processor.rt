@@ -122,6 +122,17 @@ impl Run {
         self.out.held()
     }
 
+    /// IP.
+    pub fn place(&self) -> u16 {
+        self.cpu.regs().ip
+    }
+
+    /// A word of the data area.
+    pub fn word(&self, number: u16) -> i16 {
+        let at = u32::from(number).wrapping_mul(2).wrapping_add(0x2_0000);
+        i16::from_le_bytes([self.cpu.byte_at(at), self.cpu.byte_at(at.wrapping_add(1))])
+    }
+
     /// Goes on by so many instructions at a time until so many bytes are written.
     pub fn go_until(&mut self, count: usize, stride: u64) {
         for _ in 0..100_000 {

@@ -12,7 +12,8 @@ use cw_view::View;
 use std::alloc::{AllocError, Global};
 use std::test::Fail;
 
-const LIMITS: Limits = Limits {
+/// The limits of every run.
+pub const LIMITS: Limits = Limits {
     area: 1000,
     frames: 100,
     depth: 20,
@@ -295,5 +296,33 @@ fn sizes(rt: HostRuntime) -> Result<(), Fail> {
         );
         assert_eq!(rt; run.go_on(1), ImageEnd::Ended, "{body}");
     }
+    Ok(())
+}
+
+// Four FORs in one another run their body 256 times, and their code is short.
+#[test]
+fn fourfold(rt: HostRuntime) -> Result<(), Fail> {
+    let alloc = rt.alloc();
+    let body = "INTEGER I; FOR I := 1, 2, 3, 4 DO FOR I := I, I, I, I DO FOR I := I, I, I, I DO FOR I := I, I, I, I DO W(I)";
+    let text = text_of(alloc, "", body)?;
+    if text.len() > 1_048_576 {
+        panic!(&rt; "too long");
+    }
+    let Ok(segment) = compile_text(alloc, &text, 0) else {
+        panic!(&rt; "refused");
+    };
+    let Some(linked) = link_one(alloc, segment.made.object.as_slice()) else {
+        panic!(&rt; "not linked");
+    };
+    let size = linked.image.code.as_slice().len();
+    let own = size.wrapping_sub(base_code().len());
+    assert!(rt; own <= (segment.unit.tokens as usize).wrapping_mul(32), "{own}");
+    let Some(mut run) = run_of(alloc, &linked, b"") else {
+        panic!(&rt; "no run");
+    };
+    assert_eq!(rt; run.go_on(STEPS), ImageEnd::Ended);
+    assert_eq!(rt; run.output().len(), 256);
+    assert_eq!(rt; run.output().first(), Some(&1));
+    assert_eq!(rt; run.output().last(), Some(&4));
     Ok(())
 }

@@ -133,10 +133,10 @@ prim_kept = then_kept _ _ _ as_mask (λ t. sole (out-RawMask t).operands) mask_k
 
 -- ---- what stands in a bracket
 
-abbrev PrimaryLayer : Type 0
+abbrev pub PrimaryLayer : Type 0
 PrimaryLayer = RawPrimary-F RawExpr RawPrimary RawRef RawCand RawCmp RawCond RawDiffer RawMask RawPrim RawSum RawTerm RawUnion
 
-abbrev inside : PrimaryLayer → Option RawExpr
+abbrev pub inside : PrimaryLayer → Option RawExpr
 inside y = elim y [
   | layer.Number n ↦ None
   | layer.Octal n ↦ None

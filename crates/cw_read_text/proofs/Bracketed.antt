@@ -5,7 +5,7 @@ use Rattle.cw_tree.specs.declared.leaf.RawSign.{RawSign}
 use Rattle.cw_tree.specs.declared.leaf.RawFactorSign.{RawFactorSign}
 use Rattle.cw_tree.specs.declared.expression.RawBits.{RawBits}
 use Rattle.cw_tree.specs.declared.expression.RawExpr.TheOpen as layer
-use Rattle.cw_tree.specs.declared.expression.RawExpr.TheOpen.{RawExpr-F, RawPrimary-F}
+use Rattle.cw_tree.specs.declared.expression.RawExpr.TheOpen.{RawExpr-F}
 use Rattle.cw_tree.specs.declared.expression.RawExpr.TheViews.{roll-out-RawExpr, roll-out-RawPrimary, roll-out-RawPrim, roll-out-RawMask, roll-out-RawUnion, roll-out-RawDiffer, roll-out-RawTerm, roll-out-RawSum}
 use Rattle.cw_tree.specs.declared.expression.RawExpr.{RawExpr, roll-RawExpr, out-RawExpr}
 use Rattle.cw_tree.specs.declared.expression.RawExpr.TheVariants as expr_tree
@@ -27,6 +27,7 @@ use Rattle.cw_show.specs.Spelling.{word}
 use Rattle.cw_show.specs.Canonical.{add_symbol, multiply_symbol, sign_tokens, operation, joined}
 use Rattle.cw_show.specs.ExpressionTokens.{bits_tokens, expr_tokens, primary_tokens, differ_tokens, mask_tokens, prim_tokens, sum_tokens, term_tokens, union_tokens}
 use Rattle.cw_read_back_expr.proofs.Reading.{Each}
+use Rattle.cw_read_back_expr.proofs.Stays.{PrimaryLayer, inside}
 use Rattle.cw_read_back_expr.proofs.ExpressionLayers.{sum_expr-tokens, bracket-tokens, differ-tokens, mask-tokens, union-tokens, prim-tokens, sum-tokens, term-tokens}
 use Rattle.cw_read_text.proofs.Spelled.{Spelled, rest_of, out_of_brackets, between_parts, operation_parts}
 
@@ -125,23 +126,7 @@ as_prim_in e d h q = elim (both_of (as_mask e) (λ y. sole (out-RawMask y).opera
 
 -- ---- what a bracket alone holds
 
-abbrev PrimaryLayer : Type 0
-PrimaryLayer = RawPrimary-F RawExpr RawPrimary RawRef RawCand RawCmp RawCond RawDiffer RawMask RawPrim RawSum RawTerm RawUnion
-
-abbrev held : PrimaryLayer → Option RawExpr
-held y = elim y [
-  | layer.Number n ↦ None
-  | layer.Octal n ↦ None
-  | layer.Literal c ↦ None
-  | layer.Text at cs ↦ None
-  | layer.Location at r ↦ None
-  | layer.Forced t e ↦ None
-  | layer.Bracket at e ↦ Some e
-  | layer.Ref r ↦ None
-  | layer.Call f xs ↦ None
-]
-
-layer_held : (l : PrimaryLayer) (e : RawExpr) → Spelled (primary_tokens (roll-RawPrimary l)) → held l ≡ Some e → Spelled (expr_tokens e)
+layer_held : (l : PrimaryLayer) (e : RawExpr) → Spelled (primary_tokens (roll-RawPrimary l)) → inside l ≡ Some e → Spelled (expr_tokens e)
 layer_held (layer.Number n) e h q = absurd (not_none q)
 layer_held (layer.Octal n) e h q = absurd (not_none q)
 layer_held (layer.Literal c) e h q = absurd (not_none q)

@@ -6,7 +6,6 @@ use Rattle.cw_tree.specs.declared.leaf.RawSign.{RawSign}
 use Rattle.cw_tree.specs.declared.leaf.RawFactorSign.{RawFactorSign}
 use Rattle.cw_tree.specs.declared.expression.RawBits.{RawBits}
 use Rattle.cw_tree.specs.declared.expression.RawExpr.TheOpen as layer
-use Rattle.cw_tree.specs.declared.expression.RawExpr.TheOpen.{RawPrimary-F}
 use Rattle.cw_tree.specs.declared.expression.RawExpr.TheVariants as expr_tree
 use Rattle.cw_tree.specs.declared.expression.RawPrimary.TheVariants as primary_tree
 use Rattle.cw_tree.specs.declared.expression.RawExpr.TheViews.{roll-out-RawExpr, roll-out-RawPrimary, roll-out-RawDiffer, roll-out-RawMask, roll-out-RawPrim, roll-out-RawSum, roll-out-RawTerm, roll-out-RawUnion}
@@ -26,6 +25,7 @@ use Rattle.cw_grammar.specs.Trees.{sole, ◌>>-◌, Operands, extended, as_sum, 
 use Rattle.cw_show.specs.Spelling.{Spelling, word}
 use Rattle.cw_show.specs.Canonical.{add_symbol, multiply_symbol, sign_tokens, between, operation, joined, bracketed}
 use Rattle.cw_show.specs.ExpressionTokens.{bits_tokens, expr_tokens, primary_tokens, differ_tokens, mask_tokens, prim_tokens, sum_tokens, term_tokens, union_tokens}
+use Rattle.cw_read_back_expr.proofs.Stays.{PrimaryLayer, inside}
 use Rattle.cw_read_back_expr.proofs.ExpressionLayers.{sum_expr-tokens, bracket-tokens, differ-tokens, mask-tokens, prim-tokens, sum-tokens, term-tokens, union-tokens}
 use Rattle.cw_tokens.specs.LeastTokens.{separated}
 use Rattle.cw_tokens.specs.TreeTokens.{total}
@@ -118,23 +118,7 @@ as_prim_falls e t q = then_falls (length (expr_tokens e)) mask_tokens prim_token
 
 -- ---- what a bracket alone holds
 
-abbrev PrimaryLayer : Type 0
-PrimaryLayer = RawPrimary-F RawExpr RawPrimary RawRef RawCand RawCmp RawCond RawDiffer RawMask RawPrim RawSum RawTerm RawUnion
-
-abbrev held : PrimaryLayer → Option RawExpr
-held y = elim y [
-  | layer.Number n ↦ None
-  | layer.Octal n ↦ None
-  | layer.Literal c ↦ None
-  | layer.Text at cs ↦ None
-  | layer.Location at r ↦ None
-  | layer.Forced t e ↦ None
-  | layer.Bracket at e ↦ Some e
-  | layer.Ref r ↦ None
-  | layer.Call f xs ↦ None
-]
-
-held_in_layer : (x : PrimaryLayer) (e : RawExpr) → held x ≡ Some e → length (expr_tokens e) ≤ length (primary_tokens (roll-RawPrimary x))
+held_in_layer : (x : PrimaryLayer) (e : RawExpr) → inside x ≡ Some e → length (expr_tokens e) ≤ length (primary_tokens (roll-RawPrimary x))
 held_in_layer (layer.Number n) e q = absurd (not_none q)
 held_in_layer (layer.Octal n) e q = absurd (not_none q)
 held_in_layer (layer.Literal c) e q = absurd (not_none q)

@@ -1,13 +1,13 @@
 -- A call of the command, by what its parts answer.
-use Rattle.std.proofs.Common.{◌≡◌, ℕ, List, [], Option, Some, None, refl, sym, subst}
+use Rattle.std.proofs.Common.{◌≡◌, ℕ, List, [], Option, Some, None, sym, subst}
 use Rattle.cw_words.specs.Parts.{Parts, parts_of}
 use Rattle.cw_say.specs.Said.{Says}
 use Rattle.cw_say.specs.Closing.{closing_line}
-use Rattle.cw_correct.specs.Calls.{Surroundings, surroundings_of}
-use Rattle.cw_correct.specs.Closing.{Closes}
+use Rattle.cw_correct.specs.Calls.{Surroundings}
 use Rattle.cw_correct.specs.Correct.{IsCorrectRequest, IsCorrect}
 use Rattle.cw_say.specs.declared.status.Status.{Status}
 use Rattle.cw_say.specs.declared.status.Status.TheVariants.{Ended, Usage, NoMemory}
+use Rattle.cw_go.proofs.Called.{after_line, closes_by}
 use Rattle.cw_top.specs.Quits.{MayQuit}
 use Rattle.cw_top.proofs.Quits as quits
 
@@ -15,29 +15,12 @@ use Rattle.cw_top.proofs.Quits as quits
 pub performed : (words : List (List ℕ)) (parts : Parts) (before after : Surroundings) (status : Status) → parts_of words ≡ Some parts → IsCorrectRequest (Some parts) before after status → IsCorrect words before after status
 performed words parts before after status is right = subst (λ o. IsCorrectRequest o before after status) (sym is) right
 
--- what stands after the closing line, where this is said by then
-abbrev pub after_line : Surroundings → (say : Option (List ℕ)) → (say_faults : ℕ) → Surroundings
-after_line a say say_faults = surroundings_of a.files a.store_faults a.absences a.left a.input_faults a.out a.out_faults say say_faults
-
 module _ (a : Surroundings) (say : Option (List ℕ)) (say_faults : ℕ) where
-  closes : (status : Status) → Says a.say say a.say_faults say_faults (closing_line [] [] status) → (status ≡ Ended → say_faults ≡ a.say_faults) → Closes a (after_line a say say_faults) [] [] status
-  closes status says ended = record {
-    says = says;
-    ended = ended;
-    files = refl;
-    store_faults = refl;
-    absences = refl;
-    left = refl;
-    input_faults = refl;
-    out = refl;
-    out_faults = refl;
-  }
-
   -- where the words are no command
   pub usage : (words : List (List ℕ)) → parts_of words ≡ None → Says a.say say a.say_faults say_faults (closing_line [] [] Usage) → (Usage ≡ Ended → say_faults ≡ a.say_faults) → (status : Status) → status ≡ Usage → IsCorrect words a (after_line a say say_faults) status
   usage words none says ended status same =
       subst (λ s. IsCorrect words a (after_line a say say_faults) s) (sym same)
-      (subst (λ o. IsCorrectRequest o a (after_line a say say_faults) Usage) (sym none) (quits.usage a (after_line a say say_faults) (closes Usage says ended)))
+      (subst (λ o. IsCorrectRequest o a (after_line a say say_faults) Usage) (sym none) (quits.usage a (after_line a say say_faults) (closes_by a say say_faults [] [] Usage says ended)))
 
   pub no_memory : MayQuit → (words : List (List ℕ)) → Says a.say say a.say_faults say_faults (closing_line [] [] NoMemory) → (NoMemory ≡ Ended → say_faults ≡ a.say_faults) → (status : Status) → status ≡ NoMemory → IsCorrect words a (after_line a say say_faults) status
-  no_memory may words says ended status same = subst (λ s. IsCorrect words a (after_line a say say_faults) s) (sym same) (may words a (after_line a say say_faults) (closes NoMemory says ended))
+  no_memory may words says ended status same = subst (λ s. IsCorrect words a (after_line a say say_faults) s) (sym same) (may words a (after_line a say say_faults) (closes_by a say say_faults [] [] NoMemory says ended))

@@ -1,5 +1,5 @@
 -- Two statuses never come of one call, by its action.
-use Rattle.std.proofs.Common.{◌≡◌, ◌≢◌, ◌⊎◌, ℕ, List, [], ◌∷◌, map, Option, Some, refl, sym, ap, ◌∙◌, subst, arith}
+use Rattle.std.proofs.Common.{◌≡◌, ◌≢◌, ◌⊎◌, ℕ, List, map, Option, Some, sym, subst, arith}
 use Rattle.std.specs.Prelude.{All}
 use Rattle.cw_words.specs.declared.action.Action.{Action}
 use Rattle.cw_words.specs.declared.action.Action.TheVariants.{Go, Compile, Link, Exec, List as Show, Map, Migrate, Big}
@@ -13,6 +13,7 @@ use Rattle.cw_say.specs.declared.status.Status.{Status}
 use Rattle.cw_say.specs.declared.status.Status.TheVariants.{NoMemory, TooLong}
 use Rattle.cw_say.specs.declared.status.Long.TheVariants as long
 use Rattle.cw_go.specs.Laws as going
+use Rattle.cw_go.proofs.Called.{map_twice}
 use Rattle.cw_exec.specs.Laws as executing
 use Rattle.cw_results.specs.OneStatus.{AllowsOneStatus}
 
@@ -31,10 +32,6 @@ module _ (each : OneEach) (c : Call) (input : List ℕ) (a b : Status) (found : 
   number_of : {m n : ℕ} → ◌≡◌ {A = Option ℕ} (Some m) (Some n) → m ≡ n
   number_of e = cc e
 
-  map_twice : (texts : List (List ℕ)) → map (λ text. Some (Some text)) texts ≡ map Some (map Some texts)
-  map_twice [] = refl
-  map_twice (t ∷ ts) = ap (λ rest. Some (Some t) ∷ rest) (map_twice ts)
-
   -- what `big` runs is in no files
   in_memory_quiet : NoFault (in_memory c.before) (in_memory c.after)
   in_memory_quiet = record { store = λ r. absurd (omega (arith, r)); absences = λ r. absurd (omega (arith, r)); input = quiet.input; out = quiet.out; say = quiet.say }
@@ -50,7 +47,7 @@ module _ (each : OneEach) (c : Call) (input : List ℕ) (a b : Status) (found : 
   one_of Big (m, is, x) (n, also_is, y) =
       let same : n ≡ m = number_of (sym also_is ∙ is) in
       let again = subst (λ k. MakesRight k c input b) same y in
-      each.texts (program_line m) (over_program m c) input a b (map Some (large_program m)) (map_twice (large_program m)) in_memory_quiet other also telling x.runs again.runs
+      each.texts (program_line m) (over_program m c) input a b (map Some (large_program m)) (map_twice Some Some (large_program m)) in_memory_quiet other also telling x.runs again.runs
 
 pub one_status : OneEach → HasOneStatus
 one_status each c input a b found told bytes quiet other also telling x y = one_of each c input a b found told bytes quiet other also telling c.action x y
