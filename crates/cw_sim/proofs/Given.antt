@@ -31,7 +31,7 @@ pub record Given : Type 0 where
       → Tracks (λ o. is_running o.0) (watched (meaning (program_at us m limits)) begins) (initial_configuration (program_at us m limits) input, [])
       (watched (order_machine (orders_program us m limits room)) (starts (orders_program us m limits room))) (first_order us m limits room input, [])
   pub lower : (p : OrderProgram) (image words : List ℕ) (memory : List ℤ) (input : List ℕ) (s : State) (places : List StatementPlace)
-      → IsImage p image → Codable p → BeginsWith p memory words → PlacesStand p image places → NeverStuck p memory input → IsStart image words s → All (λ b. b < 256) input
+      → IsImage p image → PlacesStand p image places → Codable p → BeginsWith p memory words → NeverStuck p memory input → IsStart image words s → All (λ b. b < 256) input
       → TracksAfter (λ o. is_running o.0) startup_cost (watched (order_machine p) (starts p)) (order_start p memory input, []) (watched (processor_machine shown_as) (passes places p.limits.area)) (processor_start s input, [])
   pub places : (p : OrderProgram) (image : List ℕ) → IsImage p image → Codable p → PlacesStand p image (statement_places p)
   pub runs : (s : State) (input : List ℕ) (n : ℕ) → All (λ b. b < 256) input → Shows s input n (observed (processor_after n (processor_start s input)))

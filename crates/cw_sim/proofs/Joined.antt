@@ -86,8 +86,8 @@ module _ (given : Given) (us : List SourceUnit) (m : Map) (limits : Limits) (inp
 
   lower : TracksAfter (λ o. is_running o.0) startup_cost B (first_order us m limits loaded.room input, []) C (first, [])
   lower =
-      given.lower q loaded.image loaded.words (initial_memory us m limits.area) input s (statement_places q) loaded.is_image loaded.codable loaded.begins
-      (given.places q loaded.image loaded.is_image loaded.codable) orders_never_stuck loaded.starts loaded.bytes
+      given.lower q loaded.image loaded.words (initial_memory us m limits.area) input s (statement_places q) loaded.is_image
+      (given.places q loaded.image loaded.is_image loaded.codable) loaded.codable loaded.begins orders_never_stuck loaded.starts loaded.bytes
 
   whole : TracksAfter (λ o. is_running o.0) 20 A (initial_configuration p input, []) C (first, [])
   whole = tracks_through (λ o. is_running o.0) A B C 0 20 20 _ _ _ refl upper lower
