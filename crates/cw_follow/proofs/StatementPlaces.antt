@@ -1,7 +1,8 @@
 -- The places of the statements of an image: at a Start begins its statement, and at no other instruction any.
-use Rattle.std.proofs.Common.{◌≡◌, ℕ, zero, suc, ◌+◌, ◌-◌, ◌<◌, ◌≤◌, Bool, true, false, List, [], ◌∷◌, ◌++◌, length, take, drop, drop-cons, map, Option, Some, None, refl, sym, ap, ap₂, ◌∙◌, subst, inl, inr, arith, length-append}
+use Rattle.std.proofs.Common.{◌≡◌, ℕ, zero, suc, ◌+◌, ◌-◌, ◌<◌, ◌≤◌, Bool, true, false, List, [], ◌∷◌, ◌++◌, length, take, drop, drop-cons, Some, refl, sym, ap, ap₂, ◌∙◌, subst, inl, inr, arith, length-append}
 use Rattle.std.proofs.lemmas.Bool.{cases_order, eq-eqb, ne_eqb, false≢true}
 use Rattle.std.proofs.lemmas.List.{append-nil}
+use Rattle.std.proofs.lemmas.Option.{slice_get_within}
 use Rattle.std.specs.Prelude.{◌==◌, if◌then◌else◌, slice_get, slice_index}
 use Rattle.cw_i86.specs.Encoding.{bytes_of, IsInstr, BeginsWith}
 use Rattle.cw_i86.specs.declared.instr.Instr.{Instr}
@@ -15,13 +16,12 @@ use Rattle.cw_order.specs.declared.order.Orders.{Orders}
 use Rattle.cw_order.specs.OrderProgram.{OrderProgram}
 use Rattle.cw_tmpl.specs.declared.blocks.Block.TheVariants as block
 use Rattle.cw_tmpl.specs.Mnemonics.{slot, line_slot}
-use Rattle.cw_tmpl.specs.Library.{library_bytes}
 use Rattle.cw_tmpl.specs.Pieces.{blanks}
 use Rattle.cw_tmpl.specs.Blocks.{block_at, left_at}
 use Rattle.cw_tmpl.specs.Templates.{block_pieces, block_size, entry_pieces}
-use Rattle.cw_tmpl.specs.ReferenceCode.{templates, landings, switches, entry_size, order_places, landings_place, switches_place, names_of, pieces_of, orders_code, statement_at, statements_from}
+use Rattle.cw_tmpl.specs.ReferenceCode.{templates, landings, switches, entry_size, order_places, landings_place, switches_place, names_of, pieces_of, orders_code, statements_from}
 use Rattle.cw_follow.specs.Placing.{total_size, base_of}
-use Rattle.cw_follow.specs.Passing.{moved_places, places_from, statement_places, stores_number, Ignores, PlacesStand}
+use Rattle.cw_follow.specs.Passing.{moved_places, places_from, statement_places, stores_number, PlacesStand}
 use Rattle.cw_tmpl.proofs.Growing.{blanks-append}
 use Rattle.cw_tmpl.proofs.Sizes.{size_to, size_next, places_are, own_place, size_of_templates}
 use Rattle.cw_follow.proofs.Standing.{HasPieces, order_place, AllStand}
@@ -112,12 +112,14 @@ module _ (p : OrderProgram) where
   begun_next : (at : ℕ) (o : Orders) (g j : ℕ) → begun_in at o (g + 1 + j) ≡ begun_in at o (g + suc j)
   begun_next at o g j = let e : g + 1 + j ≡ g + suc j = omega arith in ap (begun_in at o) e
 
+  -- where those of no segment are there
   none_in : (at g : ℕ) (os : List Orders) → ((j : ℕ) (o : Orders) → slice_get os j ≡ Some o → begun_in at o (g + j) ≡ []) → lines_at (places_from p g os) at ≡ []
   none_in at g [] none = refl
   none_in at g (o ∷ os) none =
       lines_at-append (moved_places (base_of p g) (g + 1) (orders_code o).statements) (places_from p (g + 1) os) at
       ∙ ap₂ (λ x y. x ++ y) (begun_zero at o g ∙ none 0 o refl) (none_in at (g + 1) os (λ j o' e. begun_next at o' g j ∙ none (suc j) o' e))
 
+  -- where those of one segment alone are
   one_in : (at g : ℕ) (os : List Orders) (j : ℕ) (o : Orders) (found : List (ℕ × ℕ)) → slice_get os j ≡ Some o → begun_in at o (g + j) ≡ found
       → ((i : ℕ) (o' : Orders) → slice_get os i ≡ Some o' → (i ≡ j → ⊥) → begun_in at o' (g + i) ≡ []) → lines_at (places_from p g os) at ≡ found
   one_in at g [] j o found e is none = absurd (cc)
@@ -162,13 +164,8 @@ sizes_rise list k m le =
     let same = ap (size_to 0 list) e in
     omega (arith, size_split 0 list k (m - k))
 
-within : (os : List Order) (k : ℕ) (a : Order) → slice_get os k ≡ Some a → k < length os
-within [] k a e = absurd (cc)
-within (x ∷ xs) zero a e = omega arith
-within (x ∷ xs) (suc k) a e = omega (arith, within xs k a e)
-
 own_is : (list : List Order) (k : ℕ) (a : Order) → slice_get list k ≡ Some a → slice_index (order_places list) k ≡ own_place list k
-own_is list k a e = let inside = within list k a e in places_are entry_size 0 list k (omega arith)
+own_is list k a e = let inside = slice_get_within list k a e in places_are entry_size 0 list k (omega arith)
 
 -- the code of the orders lies in that of their segment
 orders_within : (o : Orders) → own_place o.list (length o.list) ≤ length (blanks (pieces_of o))
@@ -204,7 +201,7 @@ module _ (p : OrderProgram) where
 
   before_next : {g k : ℕ} (s : SetsLineAt p g k) → place_of s < base_of p (suc g)
   before_next {g} {k} s =
-      let inside = within s.orders.list k s.sets s.listed in
+      let inside = slice_get_within s.orders.list k s.sets s.listed in
       omega (arith, own_is s.orders.list k s.sets s.listed, size_behind s.orders.list k s.sets s.listed s.sets_line, sizes_rise s.orders.list (suc k) (length s.orders.list) inside, orders_within s.orders, total_next p.units g s.orders s.unit)
 
   segment_below : {g k h m : ℕ} (s : SetsLineAt p g k) (t : SetsLineAt p h m) → g < h → place_of s < place_of t

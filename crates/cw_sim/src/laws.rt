@@ -1,5 +1,7 @@
 //! The joined law.
-ghost use Rattle.std.specs.Prelude.{ℕ, List};
+ghost use Rattle.std.specs.Prelude.{◌≡◌, ◌<◌, ℕ, ℤ, List, [], All};
+ghost use Rattle.cw_track.specs.Machine.{shown_after};
+ghost use Rattle.cw_track.specs.Watching.{watched};
 ghost use Rattle.cw_i86.specs.State.{State};
 ghost use Rattle.cw_i86.specs.MachineRun.{Observed, Shows};
 ghost use Rattle.cw_unit.specs.declared.unit.Unit.{Unit as SourceUnit};
@@ -7,14 +9,18 @@ ghost use Rattle.cw_unit.specs.declared.layout.Limits.{Limits};
 ghost use Rattle.cw_unit.specs.declared.layout.Map.{Map};
 ghost use Rattle.cw_unit.specs.Program.{program_at};
 ghost use Rattle.cw_unit.specs.Begun.{Begun};
-ghost use Rattle.cw_image.specs.Begun.{Begins};
+ghost use Rattle.cw_run86.specs.Processor.{processor_machine, processor_start};
+ghost use Rattle.cw_image.specs.Begun.{StatementPlace, Begins};
+ghost use Rattle.cw_follow.specs.Showing.{shown_as};
+ghost use Rattle.cw_follow.specs.Passing.{passes};
 ghost use Rattle.cw_sim.specs.Preservation.{IsLoaded, Preserves, Completes};
 ghost use Rattle.cw_sim.specs.Statements.{image_places, BeginsStatements};
 
 use cw_carry_run::laws::orders_follow_meaning;
 use cw_cpu86::laws::one_observation;
+use cw_dec86::no_instruction_begins_another;
 use cw_follow::laws::{code_follows_orders, places_stand};
-use cw_run86::laws::shows_the_run;
+use cw_run86::laws::{keeps_to_the_run, shows_the_run};
 use cw_safety::never_stuck;
 
 /// Semantic preservation. Begun with the image of a program, the 8086 shows after each number of instructions what the source
@@ -35,4 +41,19 @@ pub fn preservation()
     shows_the_run();
     code_follows_orders();
     places_stand();
+    beginnings();
+}
+
+/// The statements that a run begins are those that the processor passes. There are such for each number of instructions.
+pub fn beginnings()
+    ensures are { (places : List StatementPlace) (area : ℕ) (s : State) (input : List ℕ) (n : ℕ) (begun : List (ℕ × ℕ × List ℤ)) →
+        All (λ b. b < 256) input → Begins places area s input n begun →
+        begun ≡ (shown_after (watched (processor_machine shown_as) (passes places area)) n (processor_start s input, [])).1 }
+    ensures some { (places : List StatementPlace) (area : ℕ) (s : State) (input : List ℕ) (n : ℕ) →
+        All (λ b. b < 256) input → (begun : List (ℕ × ℕ × List ℤ)) × Begins places area s input n begun }
+{
+    no_instruction_begins_another();
+    one_observation();
+    shows_the_run();
+    keeps_to_the_run();
 }

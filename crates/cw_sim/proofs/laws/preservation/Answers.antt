@@ -9,6 +9,7 @@ returns c =
       upper = c.orders_follow_meaning.ensures;
       lower = c.code_follows_orders.ensures;
       places = c.places_stand.ensures;
+      began = c.beginnings.ensures.are;
       runs = c.shows_the_run.ensures;
       once = c.one_observation.ensures;
     } in
