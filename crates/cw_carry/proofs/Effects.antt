@@ -49,7 +49,7 @@ word_effect area (Alter f) w = f w
 word_effect area (AlterWithin f) w = unrefused (f w)
 word_effect area _ w = Impossible
 
--- an order that costs something and writes nothing
+-- an order that costs something, writes nothing and begins no statement
 abbrev pub is_silent : Order → Bool
 is_silent order.WriteByte = false
 is_silent order.Mark = false

@@ -3,6 +3,7 @@ use Rattle.std.proofs.Common.{◌≡◌, ◌≢◌, ℕ, zero, suc, ◌+◌, ◌
 use Rattle.std.specs.Prelude.{All, slice_get}
 use Rattle.std.proofs.lemmas.Option.{none-some, same_Some}
 use Rattle.cw_track.specs.Tracking.{Tracks}
+use Rattle.cw_track.specs.Watching.{watched}
 use Rattle.cw_unit.specs.declared.unit.Unit.{Unit as SourceUnit}
 use Rattle.cw_unit.specs.declared.unit.Proc.{Proc}
 use Rattle.cw_unit.specs.declared.unit.Param.{Param}
@@ -20,8 +21,10 @@ use Rattle.cw_unit.specs.Configuration.{Configuration, at as configuration, Acti
 use Rattle.cw_unit.specs.StackBound.{control_need}
 use Rattle.cw_unit.specs.Step.{kept, step, steps}
 use Rattle.cw_unit.specs.Behaviour.{is_running, shown, initial_configuration, configuration_after, observed}
+use Rattle.cw_unit.specs.Begun.{begins}
 use Rattle.cw_order.specs.OrderState.{OrderActivation, OrderState, operand_words}
 use Rattle.cw_order.specs.OrderMachine.{order_machine, step as order_step}
+use Rattle.cw_order.specs.Starting.{starts}
 use Rattle.cw_order.specs.FittingWords.{StateFits}
 use Rattle.cw_gen_expr.specs.ReferenceExpressions.{argument_words}
 use Rattle.cw_gen_expr.specs.ReferenceEntries.{parameters_in}
@@ -165,6 +168,6 @@ module _ (us : List SourceUnit) (m : Map) (limits : Limits) (room : ℕ) (suits 
     some-units : IsTrue (is_some (slice_get us 0)) → us ≢ []
     some-units h e = no (subst (λ vs. IsTrue (is_some (slice_get vs 0))) e h)
 
-    pub orders-follow : AllBuilt us → WellFormed p → All (λ b. b < 256) input → ((t : OrderState) → StateFits t → StateFits (order_step (orders_program us m limits room) t)) → Tracks is_running (meaning p) (initial_configuration p input) (order_machine (orders_program us m limits room)) (first_order us m limits room input)
+    pub orders-follow : AllBuilt us → WellFormed p → All (λ b. b < 256) input → ((t : OrderState) → StateFits t → StateFits (order_step (orders_program us m limits room) t)) → Tracks (λ o. is_running o.0) (watched (meaning p) begins) (initial_configuration p input, []) (watched (order_machine (orders_program us m limits room)) (starts (orders_program us m limits room))) (first_order us m limits room input, [])
     orders-follow built wf bytes keeps =
         orders_track us m limits room (λ g u who. has_words u who) built input (some-units wf.segments) suits.area all-sound (memory-fits us m limits.area) bytes keeps

@@ -1,12 +1,15 @@
 //! The orders of a program do what its source means.
-ghost use Rattle.std.specs.Prelude.{◌<◌, ℕ, List, All, IsTrue};
+ghost use Rattle.std.specs.Prelude.{◌<◌, ℕ, List, [], All, IsTrue};
 ghost use Rattle.cw_track.specs.Tracking.{Tracks};
+ghost use Rattle.cw_track.specs.Watching.{watched};
 ghost use Rattle.cw_unit.specs.declared.unit.Unit.{Unit as SourceUnit};
 ghost use Rattle.cw_unit.specs.declared.layout.Limits.{Limits};
 ghost use Rattle.cw_unit.specs.declared.layout.Map.{Map};
 ghost use Rattle.cw_unit.specs.Program.{program_at};
 ghost use Rattle.cw_unit.specs.Behaviour.{is_running, initial_configuration};
+ghost use Rattle.cw_unit.specs.Begun.{begins};
 ghost use Rattle.cw_order.specs.OrderMachine.{order_machine};
+ghost use Rattle.cw_order.specs.Starting.{starts};
 ghost use Rattle.cw_order.specs.FittingWords.{ConstantsFit};
 ghost use Rattle.cw_safety.specs.WellFormed.{WellFormed};
 ghost use Rattle.cw_gen_unit.specs.BuiltUnits.{AllBuilt, Suits, are_built};
@@ -17,12 +20,13 @@ use cw_safety::{coherent, never_stuck, words_within_need};
 use cw_unit::laws::configurations;
 
 /// The machine of the orders of well-formed units shows what they mean, where the checks of each unit hold and storage map, limits
-/// and room suit them: nothing else, and all of it, where each step of the source pays for the orders that carry it out. At every
-/// input of bytes.
+/// and room suit them: nothing else, and all of it, where each step of the source pays for the orders that carry it out. Beside what
+/// is shown stand the statements that have begun so far: the same ones begin, in the same order, and each at the same words of memory.
+/// At every input of bytes.
 pub fn orders_follow_meaning()
     ensures { (us : List SourceUnit) (m : Map) (limits : Limits) (room : ℕ) (input : List ℕ) → WellFormed (program_at us m limits) → AllBuilt us → Suits us m limits room → All (λ b. b < 256) input →
-        Tracks is_running (meaning (program_at us m limits)) (initial_configuration (program_at us m limits) input)
-        (order_machine (orders_program us m limits room)) (first_order us m limits room input) }
+        Tracks (λ o. is_running o.0) (watched (meaning (program_at us m limits)) begins) (initial_configuration (program_at us m limits) input, [])
+        (watched (order_machine (orders_program us m limits room)) (starts (orders_program us m limits room))) (first_order us m limits room input, []) }
 {
     words();
     never_stuck();

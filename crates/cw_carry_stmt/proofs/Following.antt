@@ -5,6 +5,7 @@ use Rattle.std.proofs.lemmas.Option.{slice_get-map}
 use Rattle.std.proofs.lemmas.List.Elements.{All-nil}
 use Rattle.cw_word.specs.FixedPoint.{FitsWord}
 use Rattle.cw_track.specs.Tracking.{Tracks}
+use Rattle.cw_track.specs.Watching.{watched}
 use Rattle.cw_unit.specs.declared.unit.Unit.{Unit as SourceUnit}
 use Rattle.cw_unit.specs.declared.unit.Label.{Label}
 use Rattle.cw_unit.specs.declared.unit.Proc.{Proc}
@@ -18,9 +19,11 @@ use Rattle.cw_unit.specs.Configuration.{at as configuration}
 use Rattle.cw_unit.specs.Step.{steps}
 use Rattle.cw_unit.specs.InitialMemory.{initial_memory}
 use Rattle.cw_unit.specs.Behaviour.{is_running, first_body, initial_configuration}
+use Rattle.cw_unit.specs.Begun as begun
 use Rattle.cw_order.specs.declared.order.Order.TheVariants as order
 use Rattle.cw_order.specs.OrderState.{OrderState, at as state}
 use Rattle.cw_order.specs.OrderMachine.{entry_of, order_start, step as order_step}
+use Rattle.cw_order.specs.Starting.{starts}
 use Rattle.cw_order.specs.FittingWords.{OperandFits, ActivationFits, StateFits}
 use Rattle.cw_gen_expr.specs.UnitTables.{label_mark, procedure_mark, first_mark}
 use Rattle.cw_carry.proofs.Standing.{ends_at, behind, before, both_made}
@@ -29,7 +32,7 @@ use Rattle.cw_gen_expr.specs.ReferenceEntries.{parameters_in, parameters_of, sco
 use Rattle.cw_gen_expr.specs.ReferenceExpressions.{argument_words}
 use Rattle.cw_gen_unit.specs.ReferenceStatements.{statement_piece}
 use Rattle.cw_order.specs.declared.order.Order.{Order}
-use Rattle.cw_carry.proofs.Stepping.{Compiled, source, target, A, B}
+use Rattle.cw_carry.proofs.Stepping.{Compiled, source, target, orders, A}
 use Rattle.cw_carry.proofs.Calls.{ProcedureAt}
 use Rattle.cw_carry.proofs.Jumps.{LabelsReach}
 use Rattle.cw_carry.proofs.Whole.{SoundAt, tracked}
@@ -173,17 +176,17 @@ module _ (us : List SourceUnit) (m : Map) (limits : Limits) (room : ℕ) (h : Ha
   first [] none = absurd (none refl)
   first (u ∷ vs) none = (u, refl)
 
-  -- The theorem: for units whose memory fits and has positive addresses, and each configuration of whose run
-  -- is sound
-  pub orders_track : (input : List ℕ) → us ≢ [] → limits.area ≤ 32768 → ((n : ℕ) → SoundAt c (steps (source c) n (initial_configuration (source c) input))) → All FitsWord (initial_memory us m limits.area) → All (λ b. b < 256) input → ((t : OrderState) → StateFits t → StateFits (order_step (target c) t)) → Tracks is_running (A c) (initial_configuration (source c) input) (B c) (order_start (target c) (initial_memory us m limits.area) input)
+  -- The theorem: for units whose memory fits and has positive addresses, and each configuration of whose run is sound, the orders show
+  -- what the source shows, and begin the statements that it begins
+  pub orders_track : (input : List ℕ) → us ≢ [] → limits.area ≤ 32768 → ((n : ℕ) → SoundAt c (steps (source c) n (initial_configuration (source c) input))) → All FitsWord (initial_memory us m limits.area) → All (λ b. b < 256) input → ((t : OrderState) → StateFits t → StateFits (order_step (target c) t)) → Tracks (λ o. is_running o.0) (watched (A c) begun.begins) (initial_configuration (source c) input, []) (watched (orders c) (starts (target c))) (order_start (target c) (initial_memory us m limits.area) input, [])
   orders_track input not_empty in_words sound fits bytes keeps =
       let body = first us not_empty in
       let w : Words = record { operands = []; memory = initial_memory us m limits.area; input = input; output = [] } in
-      let starts : initial_configuration (source c) input ≡ configuration 0 (Run body.0.body Nothing) [] w Running = ap (λ v. configuration 0 (first_body v) [] w Running) body.1 in
-      let enters : order_start (target c) (initial_memory us m limits.area) input ≡ state 0 0 0 [] w Running = ap (λ v. state 0 (entry_of v) 0 [] w Running) (slice_get-map unit_orders us 0 ∙ ap (option_map unit_orders) body.1) in
+      let first_work : initial_configuration (source c) input ≡ configuration 0 (Run body.0.body Nothing) [] w Running = ap (λ v. configuration 0 (first_body v) [] w Running) body.1 in
+      let first_place : order_start (target c) (initial_memory us m limits.area) input ≡ state 0 0 0 [] w Running = ap (λ v. state 0 (entry_of v) 0 [] w Running) (slice_get-map unit_orders us 0 ∙ ap (option_map unit_orders) body.1) in
       tracked c (rules c (λ g u who. refl) refl reaches begins procedures) in_words keeps (initial_configuration (source c) input) (order_start (target c) (initial_memory us m limits.area) input)
       (record {
-        belongs = subst (λ x. Rattle.cw_carry.proofs.Stepping.Belong c x (order_start (target c) (initial_memory us m limits.area) input)) (sym starts) (subst (Rattle.cw_carry.proofs.Stepping.Belong c (configuration 0 (Run body.0.body Nothing) [] w Running)) (sym enters) (going body.0 body.1 false tt (begins 0 body.0 0 body.1) tt));
+        belongs = subst (λ x. Rattle.cw_carry.proofs.Stepping.Belong c x (order_start (target c) (initial_memory us m limits.area) input)) (sym first_work) (subst (Rattle.cw_carry.proofs.Stepping.Belong c (configuration 0 (Run body.0.body Nothing) [] w Running)) (sym first_place) (going body.0 body.1 false tt (begins 0 body.0 0 body.1) tt));
         sound = sound;
         words_fit = record {
           words = record { operands = All-nil OperandFits; memory = fits; input = bytes };

@@ -62,10 +62,10 @@ module _ (c : Compiled) where
       -- by the order that the generator chooses
       by_proc : (a : Option ℕ) (x : Option Label) → who ≡ a → slice_get t.unit.labels label ≡ x → slice_get (code c t) q ≡ Some (own_order a x (label_mark t.unit label)) → Steps c t (Jump d line) q l w
       by_proc None x who_is x_is h =
-          plain_jump c t reach (Jump d line) (order.Jump (label_mark t.unit label)) q l line w h (omega arith) (omega arith) same facts.sane label refl (sound.clean (goal.Own label) refl) refl owned
+          plain_jump c t reach (Jump d line) (order.Jump (label_mark t.unit label)) q l line w h (omega arith) (omega arith) (λ h x. refl) same facts.sane label refl (sound.clean (goal.Own label) refl) refl owned
           (λ v m v_is m_is none. no_calls t.acts bs t.calls who_is)
       by_proc (Some p) None who_is x_is h =
-          plain_jump c t reach (Jump d line) (order.Jump (label_mark t.unit label)) q l line w h (omega arith) (omega arith) same facts.sane label refl (sound.clean (goal.Own label) refl) refl owned
+          plain_jump c t reach (Jump d line) (order.Jump (label_mark t.unit label)) q l line w h (omega arith) (omega arith) (λ h x. refl) same facts.sane label refl (sound.clean (goal.Own label) refl) refl owned
           (λ v m v_is m_is none. absurd (none-some m (sym x_is ∙ ap (λ u. slice_get u.labels label) (unit_is v v_is) ∙ m_is)))
       by_proc (Some p) (Some m0) who_is x_is h = by_owner m0.proc refl (h ∙ ap (λ y. Some y) refl)
         where
@@ -74,10 +74,10 @@ module _ (c : Compiled) where
 
           by_owner : (r : Option ℕ) → m0.proc ≡ r → slice_get (code c t) q ≡ Some (from_procedure (Some m0) (label_mark t.unit label)) → Steps c t (Jump d line) q l w
           by_owner None none h' =
-              main_jump c t reach (Jump d line) (order.GoMain (label_mark t.unit label)) q l line w (h' ∙ ap (λ z. Some (elim z [ None ↦ order.GoMain (label_mark t.unit label) | Some r ↦ order.Jump (label_mark t.unit label) ])) none) (omega arith) (omega arith) same facts.sane label refl refl owned
+              main_jump c t reach (Jump d line) (order.GoMain (label_mark t.unit label)) q l line w (h' ∙ ap (λ z. Some (elim z [ None ↦ order.GoMain (label_mark t.unit label) | Some r ↦ order.Jump (label_mark t.unit label) ])) none) (omega arith) (omega arith) (λ h x. refl) same facts.sane label refl refl owned
               (λ v m p' v_is m_is own. none-some p' (sym none ∙ ap (λ y. y.proc) (same_label v m v_is m_is) ∙ own))
           by_owner (Some r) some_proc h' =
-              plain_jump c t reach (Jump d line) (order.Jump (label_mark t.unit label)) q l line w (h' ∙ ap (λ z. Some (elim z [ None ↦ order.GoMain (label_mark t.unit label) | Some r' ↦ order.Jump (label_mark t.unit label) ])) some_proc) (omega arith) (omega arith) same facts.sane label refl (sound.clean (goal.Own label) refl) refl owned
+              plain_jump c t reach (Jump d line) (order.Jump (label_mark t.unit label)) q l line w (h' ∙ ap (λ z. Some (elim z [ None ↦ order.GoMain (label_mark t.unit label) | Some r' ↦ order.Jump (label_mark t.unit label) ])) some_proc) (omega arith) (omega arith) (λ h x. refl) same facts.sane label refl (sound.clean (goal.Own label) refl) refl owned
               (λ v m v_is m_is none. absurd (none-some r (sym none ∙ sym (ap (λ y. y.proc) (same_label v m v_is m_is)) ∙ some_proc)))
 
       own_follows : Steps c t (Jump d line) q l w
@@ -86,7 +86,7 @@ module _ (c : Compiled) where
     pub jump_follows : (d : Dest) → slice_get (code c t) q ≡ Some (jump_order (scope c t) who d) → Facts c t (Jump d line) w → JumpSound c t.segment t.acts w d → Steps c t (Jump d line) q l w
     jump_follows (dest.Goal (goal.Own label)) at_q facts sound = own_follows label at_q facts sound
     jump_follows (dest.Goal (goal.Common d)) at_q facts sound =
-        label_control c t reach (Jump (dest.Goal (goal.Common d)) line) (order.GoCommon d) q l line w at_q (omega arith) (omega arith) same facts.sane
+        label_control c t reach (Jump (dest.Goal (goal.Common d)) line) (order.GoCommon d) q l line w at_q (omega arith) (omega arith) (λ h x. refl) same facts.sane
         (with_label_owner (length t.acts) (label_of_def (definition_of (source c) g d))) (by_common (label_of_def (definition_of (source c) g d)) refl)
         (ap₂ (λ m z. go_to (target c) (with_label_owner m (label_of_def z)) g q l bs w) (sym lengths) (defined_is c t d))
         (λ h label owner is. of_common (label_of_def (definition_of (source c) g d)) refl h label owner is)
@@ -106,12 +106,12 @@ module _ (c : Compiled) where
         by_control : (x : Option Control) → control_at t.acts k ≡ x → Steps c t (Jump (dest.Special k) line) q l w
         by_control None e = absurd (subst IsSane (ap (λ x. jump_to_control (source c) x t.segment (Jump (dest.Special k) line) t.acts w) e) facts.sane)
         by_control (Some x) e =
-            label_control c t reach (Jump (dest.Special k) line) (order.GoSpecial at) q l line w at_q (omega arith) (omega arith) same facts.sane (Some x)
+            label_control c t reach (Jump (dest.Special k) line) (order.GoSpecial at) q l line w at_q (omega arith) (omega arith) (λ h x. refl) same facts.sane (Some x)
             (ap (λ y. jump_to_control (source c) y t.segment (Jump (dest.Special k) line) t.acts w) e)
             (ap (λ y. go_to (target c) y g q l bs w) (control_is c t.segment t.acts bs t.unit t.unit_is t.calls k x e))
             (λ h label owner is. sound.owned h label owner (e ∙ is))
     jump_follows (dest.Switch n e) at_q facts sound =
-        switch_follows c t reach (Jump (dest.Switch n e) line) (order.GoSwitch n) q l line w at_q (omega arith) (omega arith) same facts.sane g n (length t.acts) refl
+        switch_follows c t reach (Jump (dest.Switch n e) line) (order.GoSwitch n) q l line w at_q (omega arith) (omega arith) (λ h x. refl) same facts.sane g n (length t.acts) refl
         (ap (λ m. go_through (target c) (Some (SwitchControl g n m)) g q l bs w) (sym lengths))
         (λ gs x z h label gs_is x_is is. sound.owned h label (length t.acts) (gs, x, z, gs_is, x_is, is, refl))
     jump_follows (dest.CommonSwitch d e) at_q facts sound = by_switch (switch_of_def (definition_of (source c) g d)) refl
@@ -119,7 +119,7 @@ module _ (c : Compiled) where
         by_switch : (x : Option (ℕ × ℕ)) → switch_of_def (definition_of (source c) g d) ≡ x → Steps c t (Jump (dest.CommonSwitch d e) line) q l w
         by_switch None is = absurd (subst IsSane (ap (λ z. jump_by_switch (source c) z (length t.acts) t.segment line (Jump (dest.CommonSwitch d e) line) t.acts w) is) facts.sane)
         by_switch (Some y) is =
-            switch_follows c t reach (Jump (dest.CommonSwitch d e) line) (order.GoSwitchCommon d) q l line w at_q (omega arith) (omega arith) same facts.sane y.0 y.1 (length t.acts)
+            switch_follows c t reach (Jump (dest.CommonSwitch d e) line) (order.GoSwitchCommon d) q l line w at_q (omega arith) (omega arith) (λ h x. refl) same facts.sane y.0 y.1 (length t.acts)
             (ap (λ z. jump_by_switch (source c) z (length t.acts) t.segment line (Jump (dest.CommonSwitch d e) line) t.acts w) is)
             (ap₂ (λ m z. go_through (target c) (with_switch_owner m (switch_of_def z)) g q l bs w) (sym lengths) (defined_is c t d) ∙ ap (λ z. go_through (target c) (with_switch_owner (length t.acts) z) g q l bs w) is)
             (λ gs x z h label gs_is x_is to_is. sound.owned h label (length t.acts) (y.0, y.1, gs, x, z, is, gs_is, x_is, to_is, refl))
@@ -133,7 +133,7 @@ module _ (c : Compiled) where
         by_control (Some (LabelControl h label owner)) is = absurd (subst IsSane (ap (λ x. jump_by_control (source c) x t.segment line (Jump (dest.SpecialSwitch k e) line) t.acts w) is) facts.sane)
         by_control (Some (ProcedureControl h p)) is = absurd (subst IsSane (ap (λ x. jump_by_control (source c) x t.segment line (Jump (dest.SpecialSwitch k e) line) t.acts w) is) facts.sane)
         by_control (Some (SwitchControl h0 n0 owner)) is =
-            switch_follows c t reach (Jump (dest.SpecialSwitch k e) line) (order.GoSwitchSpecial at) q l line w at_q (omega arith) (omega arith) same facts.sane h0 n0 owner
+            switch_follows c t reach (Jump (dest.SpecialSwitch k e) line) (order.GoSwitchSpecial at) q l line w at_q (omega arith) (omega arith) (λ h x. refl) same facts.sane h0 n0 owner
             (ap (λ x. jump_by_control (source c) x t.segment line (Jump (dest.SpecialSwitch k e) line) t.acts w) is)
             (ap (λ x. go_through (target c) x g q l bs w) (control_is c t.segment t.acts bs t.unit t.unit_is t.calls k (SwitchControl h0 n0 owner) is))
             (λ gs x z h label gs_is x_is to_is. sound.owned h label owner (h0, n0, gs, x, z, is, gs_is, x_is, to_is))

@@ -5,7 +5,6 @@ use Rattle.std.proofs.lemmas.Bool.{lt-ltb}
 use Rattle.std.proofs.lemmas.Option.{none-some, same_Some, slice_get_within}
 use Rattle.std.proofs.lemmas.Int.{ints}
 use Rattle.cw_track.proofs.Paths.{Path, next as move, join, weaken}
-use Rattle.cw_track.proofs.Simulations.{Quiet}
 use Rattle.cw_word.specs.Word.{signed}
 use Rattle.cw_unit.specs.declared.unit.Felem.{Felem}
 use Rattle.cw_unit.specs.declared.unit.Felem.TheVariants as element
@@ -26,6 +25,7 @@ use Rattle.cw_order.specs.OrderState.{OrderState, at as state, stack_words}
 use Rattle.cw_order.specs.OrderActions.{action_of}
 use Rattle.cw_order.specs.OrderCosts.{weight_of, weight_at}
 use Rattle.cw_order.specs.OrderMachine.{act, branch, go_at, carry_out}
+use Rattle.cw_order.specs.Starting.{started_by}
 use Rattle.cw_gen_expr.specs.Pieces.{Piece, plain, followed_by, with_end}
 use Rattle.cw_gen_expr.specs.ReferenceExpressions.{Scope, item_order, expression_piece, condition_piece}
 use Rattle.cw_gen_expr.specs.BuiltExpressions.{is_expression, is_condition, most_levels}
@@ -33,7 +33,7 @@ use Rattle.cw_carry.proofs.Standing.{Stands, Made, both_made, one_made, end_made
 use Rattle.cw_carry.proofs.Effects.{then_do, is_silent, all_silent, total_weight, total_growth, growth_within, Ran, run_through}
 use Rattle.cw_carry.proofs.Carried.{Leads, here, past, over as leap, Via, wider, who_of}
 use Rattle.cw_carry.proofs.Operations.{keeps, bumps, behind_word, variable_put}
-use Rattle.cw_carry.proofs.Stepping.{Compiled, source, target, B, work_size, Seen, order_here, mark_here, lands, silent, stops}
+use Rattle.cw_carry.proofs.Stepping.{Quiet, Compiled, source, target, B, work_size, Seen, order_here, mark_here, lands, silent, stops}
 use Rattle.cw_carry.proofs.Addresses.{item_and}
 use Rattle.cw_carry.proofs.Moments.{both, item_silent, item_light, IsLight, silent_and, Moment, here_in, layout, scope, has_words, code, marks, At, Leads_to, Steps, config, next, run, Facts, at_once, done_by, one_order}
 use Rattle.cw_gen_unit.specs.ReferenceStatements.{number_orders, set_orders, bump_orders, element_piece, way_mark}
@@ -270,7 +270,7 @@ module _ (c : Compiled) (at_sites : (g : ℕ) (u : Rattle.cw_unit.specs.declared
       record {
         spent = goes.spent;
         reached = goes.reached;
-        path = move (inl refl) (ap (λ o. carry_out (target c) o (here_in c t) q l t.calls_below w) at_q) (let z : goes.spent ≡ weight_at (order_at (target c) (here_in c t) q) + goes.spent = omega (arith, ap weight_at at_q) in z) goes.path;
+        path = move (inl refl, ap (λ o. started_by o (here_in c t) w) at_q) (ap (λ o. carry_out (target c) o (here_in c t) q l t.calls_below w) at_q) (let z : goes.spent ≡ weight_at (order_at (target c) (here_in c t) q) + goes.spent = omega (arith, ap weight_at at_q) in z) goes.path;
         within = goes.within;
         belongs = goes.belongs;
         progress = goes.progress;
@@ -467,7 +467,7 @@ module _ (c : Compiled) (at_sites : (g : ℕ) (u : Rattle.cw_unit.specs.declared
       weight = weight_of (item_order (layout c t) x.item 3) + (4 + 0)
 
       line_set : Path (Seen c t.segment t.acts t.calls_below t.unit t.unit_is w) (B c) 1 (at_state site.on l w) (at_state (site.on + 1) x.line w)
-      line_set = one_order c t (order.Line x.line) site.on l w (at_state (site.on + 1) x.line w) site.goes_on.0 refl
+      line_set = one_order c t (order.Line x.line) site.on l w (at_state (site.on + 1) x.line w) (λ h y. refl) site.goes_on.0 refl
 
       loaded : Path (Seen c t.segment t.acts t.calls_below t.unit t.unit_is w) (B c) weight (at_state (site.on + 1) x.line w) (at_state p x.line v)
       loaded = (subst (Ran (target c) g t.calls_below (site.on + 1) p x.line (item_order (layout c t) x.item 3 ∷ order.Load ∷ []) w) read (run_on (item_order (layout c t) x.item 3 ∷ order.Load ∷ []) (site.on + 1) p x.line w (site.goes_on.1.0, (site.goes_on.1.1.0, refl)) (silent_and (is_silent (item_order (layout c t) x.item 3)) true (item_silent (layout c t) x.item 3) refl) (let y : 2 * 2 + stack_words w.operands t.calls_below ≤ c.room = omega (arith, facts.room) in y))).0
@@ -475,12 +475,12 @@ module _ (c : Compiled) (at_sites : (g : ℕ) (u : Rattle.cw_unit.specs.declared
       goes : (y : ℕ) (k' : Work) → next_element (element_at x.elements i) i x k ≡ k' → act (target c) (action_of (target c) g t.calls_below (order.LoopWay site.ways)) g p x.line t.calls_below v ≡ at_state y x.line w → Leads_to c t y x.line false k' → Steps c t (On x k) site.on l w
       goes y k' e f carried =
           let seen = Seen c t.segment t.acts t.calls_below t.unit t.unit_is w in
-          let chosen = one_order c t (order.LoopWay site.ways) p x.line v (at_state y x.line w) site.goes_on.1.1.1.0 f in
+          let chosen = one_order c t (order.LoopWay site.ways) p x.line v (at_state y x.line w) (λ h z. refl) site.goes_on.1.1.1.0 f in
           let heavy = item_light (layout c t) x.item 3 in
           let all = join seen (B c) 1 (weight + 12) (1 + (weight + 12)) (at_state site.on l w) (at_state (site.on + 1) x.line w) (at_state y x.line w) refl line_set
           (join seen (B c) weight 12 (weight + 12) (at_state (site.on + 1) x.line w) (at_state p x.line v) (at_state y x.line w) refl loaded chosen) in
           lands c t.segment t.acts t.calls_below t.unit t.unit_is t.calls (On x k) k' site.on y l x.line false w w (1 + (weight + 12)) (ap (λ m. configuration t.segment m t.acts w Running) e)
-          (weaken seen (Quiet (shown (config c t (On x k) w)) (shown (configuration t.segment k' t.acts w Running))) (B c) (1 + (weight + 12)) (at_state site.on l w) (at_state y x.line w) (λ o h. inl h) all)
+          (weaken seen (Quiet (shown (config c t (On x k) w)) (shown (configuration t.segment k' t.acts w Running))) (B c) (1 + (weight + 12)) (at_state site.on l w) (at_state y x.line w) (λ o h. (inl h.0, h.1)) all)
           (let y' : 1 + (weight + 12) ≤ 160 = omega (arith, heavy.1) in y') tt carried (inl (let y' : 0 < 1 + (weight + 12) = omega arith in y'))
 
       way : (o : Option ℕ) → mark_of_number site.ways (pos i) ≡ o → act (target c) (action_of (target c) g t.calls_below (order.LoopWay site.ways)) g p x.line t.calls_below v ≡ branch (target c) (to_mark_in o w) g p x.line t.calls_below v
@@ -554,10 +554,10 @@ module _ (c : Compiled) (at_sites : (g : ℕ) (u : Rattle.cw_unit.specs.declared
       goes : (y' : ℕ) (k' : Work) → is_below z c.limits.area ≡ true → next c t (Turn i x k) w ≡ config c t k' w → act (target c) (action_of (target c) g t.calls_below (order.Exhausted mark)) g p l t.calls_below u ≡ at_state y' l w → Leads_to c t y' l false k' → Steps c t (Turn i x k) q l w
       goes y' k' is e f carried =
           let seen = Seen c t.segment t.acts t.calls_below t.unit t.unit_is w in
-          let chosen = one_order c t (order.Exhausted mark) p l u (at_state y' l w) stands.1.1.0 f in
+          let chosen = one_order c t (order.Exhausted mark) p l u (at_state y' l w) (λ h z. refl) stands.1.1.0 f in
           let all = join seen (B c) cost 20 (cost + 20) (at_state q l w) (at_state p l u) (at_state y' l w) refl (to_way is) chosen in
           lands c t.segment t.acts t.calls_below t.unit t.unit_is t.calls (Turn i x k) k' q y' l l false w w (cost + 20) e
-          (weaken seen (Quiet (shown (config c t (Turn i x k) w)) (shown (configuration t.segment k' t.acts w Running))) (B c) (cost + 20) (at_state q l w) (at_state y' l w) (λ o h. inl h) all)
+          (weaken seen (Quiet (shown (config c t (Turn i x k) w)) (shown (configuration t.segment k' t.acts w Running))) (B c) (cost + 20) (at_state q l w) (at_state y' l w) (λ o h. (inl h.0, h.1)) all)
           light tt carried (inl (let v : 0 < cost + 20 = omega arith in v))
 
       past_is : Bool
