@@ -7,7 +7,8 @@ ghost use Rattle.cw_files.specs.Reading.{HaveValues, AreSegmentsOf};
 
 use cw_big::large_text;
 use cw_big::laws::short_texts;
-use cw_files::{Segment, Segments, compile_text};
+use cw_files::{Segment, Segments};
+use cw_texts::compile_text;
 use cw_word::NoMemory;
 use std::alloc::Global;
 

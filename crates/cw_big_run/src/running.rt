@@ -15,7 +15,7 @@ use crate::making::make_segments;
 use cw_big::laws::short_texts;
 use cw_build::laws::linked_units;
 use cw_files::Segments;
-use cw_files::laws::compiled_units;
+use cw_texts::laws::compiled_units;
 use cw_go::laws::promises;
 use cw_go::{close, link_segments, load_and_run};
 use cw_io::{Sink, Source};

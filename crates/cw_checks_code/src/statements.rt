@@ -2,7 +2,7 @@
 use crate::orders::{STEPS, told_of_code};
 use crate::processor::Run;
 use crate::texts::LIMITS;
-use cw_files::compile_text;
+use cw_texts::compile_text;
 use cw_link::link;
 use cw_ports::ImageEnd;
 use cw_tmpl::base_code;

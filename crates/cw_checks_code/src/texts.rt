@@ -1,7 +1,8 @@
 //! Small texts, with what they write and how they end, by hand from the rules of the language.
 use crate::orders::{ORDER_STEPS, STEPS, bytes_of, told_of_code, told_of_orders};
 use crate::processor::Run;
-use cw_files::{Segment as Compiled, compile_text};
+use cw_files::Segment as Compiled;
+use cw_texts::compile_text;
 use cw_gen_unit::orders;
 use cw_interpreter::{Machine, Program, Segment};
 use cw_link::{Linked, link};

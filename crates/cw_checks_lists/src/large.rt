@@ -1,6 +1,6 @@
 //! The texts of the large program, which all have a unit.
 use cw_big::large_text;
-use cw_files::compile_text;
+use cw_texts::compile_text;
 use std::alloc::Global;
 use std::test::Fail;
 

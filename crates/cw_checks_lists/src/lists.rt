@@ -4,7 +4,7 @@ ghost use Rattle.std.specs.List.{All};
 ghost use Rattle.cw_link.specs.Views.{IsOpened};
 
 use crate::spelling::spelled;
-use cw_files::compile_text;
+use cw_texts::compile_text;
 use cw_io::MemSink;
 use cw_link::{LinkFault, link};
 use cw_say::{Status, write_last};

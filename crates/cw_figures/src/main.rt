@@ -1,7 +1,7 @@
 //! Benchmark of the compiler: how many bytes of code small programs take, beside those that bcc makes of the same in C, and how long a text takes by its size.
 #![tactic(auto)]
 
-use cw_files::compile_text;
+use cw_texts::compile_text;
 use cw_view::View;
 use std::alloc::{AllocError, Global};
 use std::io;

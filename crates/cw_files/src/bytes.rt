@@ -11,7 +11,7 @@ use std::alloc::Global;
 pub(crate) const OBJECT_LIMIT: usize = 16_777_216;
 
 /// Reads a file of a call, which has this number among them, or the status where it is not read.
-pub(crate) fn read_bytes<F: Store>(
+pub fn read_bytes<F: Store>(
     alloc: Global,
     files: &mut F,
     name: &str,

@@ -1,14 +1,12 @@
-//! The files of a call, taken in order: their texts compiled, their objects opened, an image read.
+//! The files of a call, taken in order: their bytes, their objects opened, an image read; and what their texts are compiled to.
 #![tactic(auto)]
 
 mod bytes;
 mod images;
-pub mod laws;
 mod objects;
 pub mod segments;
-mod texts;
 
+pub use bytes::read_bytes;
 pub use images::read_image_file;
 pub use objects::read_objects;
 pub use segments::{Segment, Segments};
-pub use texts::{compile_text, read_text, read_units};

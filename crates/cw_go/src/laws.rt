@@ -6,7 +6,7 @@ use cw_build_laws::laws::loaded;
 use cw_built_laws::laws::built_units;
 use cw_compile::laws::one_outcome;
 use cw_cpu86::laws::{one_observation, one_start};
-use cw_files::laws::compiled_units;
+use cw_texts::laws::compiled_units;
 use cw_sim::laws::preservation;
 use cw_unit::laws::storage_maps;
 

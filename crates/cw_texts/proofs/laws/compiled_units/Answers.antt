@@ -5,7 +5,7 @@ use Rattle.cw_unit.specs.declared.unit.Unit.{Unit as SourceUnit}
 use Rattle.cw_build.specs.Compiled.{IsCompilable}
 use Rattle.cw_files.specs.Texts.{HasUnit}
 use Rattle.cw_files.specs.Reading.{HaveValues}
-use Rattle.cw_files.proofs.laws.compiled_units.Goals as goal
+use Rattle.cw_texts.proofs.laws.compiled_units.Goals as goal
 
 all_compilable : ((text : List ℕ) (u : SourceUnit) → HasUnit text u → IsCompilable u) → (texts : List (List ℕ)) (us : List SourceUnit) → HaveValues HasUnit texts us → All IsCompilable us
 all_compilable one texts [] have = All-nil IsCompilable

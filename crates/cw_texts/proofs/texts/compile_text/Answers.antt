@@ -2,7 +2,7 @@ use Rattle.std.proofs.Common.{◌<◌, All, arith}
 use Rattle.std.proofs.lemmas.List.Elements.{All-from_get_or}
 use Rattle.std.proofs.lemmas.Result.{IfOk-weaker}
 use Rattle.cw_files.proofs.Next.{made_unit, unit_no_memory}
-use Rattle.cw_files.proofs.texts.compile_text.Goals as goal
+use Rattle.cw_texts.proofs.texts.compile_text.Goals as goal
 
 pub compile_unit-requires : goal.compile_unit-requires
 compile_unit-requires c =

@@ -7,7 +7,7 @@ use Rattle.cw_files.specs.Reading.{counts_at}
 use Rattle.cw_files.specs.Taking.{Takes}
 use Rattle.cw_files.proofs.Taking.{told_of, told_now, one_more, takes_none, takes_all, all_names}
 use Rattle.cw_files.proofs.Next.{units_stopped, units_no_memory, segments_more, no_segments}
-use Rattle.cw_files.proofs.texts.read_units.Goals as goal
+use Rattle.cw_texts.proofs.texts.read_units.Goals as goal
 
 pub loop-name-init : goal.loop-name-init
 loop-name-init g c =

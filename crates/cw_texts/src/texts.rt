@@ -9,10 +9,9 @@ ghost use Rattle.cw_files.specs.Texts.{HasUnit};
 ghost use Rattle.cw_files.specs.Reading.{Counts, counts_at, SameCounts, IsUnread, StopsTexts, AnswersUnits};
 ghost use Rattle.cw_files.specs.Taking.{Takes, AnswersUnit};
 
-use crate::bytes::read_bytes;
-use crate::segments::{Segment, Segments};
 use cw_build::compile;
 use cw_compile::{UnitFault, unit};
+use cw_files::{Segment, Segments, read_bytes};
 use cw_io::Store;
 use cw_say::Status;
 use cw_sound_text::laws::text_units;

@@ -4,7 +4,7 @@ use Rattle.cw_compile.specs.Texts.{text_limit}
 use Rattle.cw_files.specs.Texts.{HasUnit}
 use Rattle.cw_files.specs.Reading.{counts_at, SameCounts, AreSegmentsOf}
 use Rattle.cw_files.specs.Taking.{Takes}
-use Rattle.cw_files.proofs.texts.read_units.Given as goal
+use Rattle.cw_texts.proofs.texts.read_units.Given as goal
 
 abbrev pub invariant-loop-name : goal.invariant-loop-name
 invariant-loop-name g l = record {

@@ -2,7 +2,7 @@ use Rattle.std.proofs.Common.{List, ℕ, ◌≤◌, length, sym, subst}
 use Rattle.cw_io.specs.File.{Is}
 use Rattle.cw_files.specs.Reading.{counts_at}
 use Rattle.cw_files.proofs.Next.{unit_taken, unit_unread}
-use Rattle.cw_files.proofs.texts.read_unit.Goals as goal
+use Rattle.cw_texts.proofs.texts.read_unit.Goals as goal
 
 pub returns-in-Ok-clause-taken : goal.returns-in-Ok-clause-taken
 returns-in-Ok-clause-taken g c =

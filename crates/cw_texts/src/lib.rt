@@ -1,0 +1,7 @@
+//! The texts of a call, taken in order and compiled.
+#![tactic(auto)]
+
+pub mod laws;
+mod texts;
+
+pub use texts::{compile_text, read_text, read_units};
