@@ -44,7 +44,8 @@ pub record Ignores (image : List ℕ) (places : List StatementPlace) : Type 0 wh
   pub library : (place : ℕ) → place < length library_bytes → lines_at places place ≡ []
   pub others : (place : ℕ) (i : Instr) → Has image place i → stores_number i ≡ false → lines_at places place ≡ []
 
--- the list of places is one of the image: where the code of a Start is its statement begins, and nowhere else does any
+-- The list of places is one of the image. At the code of a Start its statement begins, and none at that of a Line, whose instruction stores a
+-- number too, nor at another instruction.
 pub record PlacesStand (p : OrderProgram) (image : List ℕ) (places : List StatementPlace) : Type 0 where
   pub starts : (g k line : ℕ) (o : Orders) → slice_get p.units g ≡ Some o → slice_get o.list k ≡ Some (order.Start line) → lines_at places (base_of p g + slice_index (order_places o.list) k) ≡ (g + 1, line) ∷ []
   pub lines : (g k line : ℕ) (o : Orders) → slice_get p.units g ≡ Some o → slice_get o.list k ≡ Some (order.Line line) → lines_at places (base_of p g + slice_index (order_places o.list) k) ≡ []
