@@ -1,11 +1,16 @@
 -- The texts of the large program, as those of files that hold them.
-use Rattle.std.proofs.Common.{◌≡◌, ℕ, zero, suc, ◌+◌, ◌≤◌, ◌==◌, Bool, List, [], ◌∷◌, ◌++◌, length, length-append, map, Option, Some, refl, ap, ◌∙◌, arith}
+use Rattle.std.proofs.Common.{◌≡◌, ℕ, zero, suc, ◌+◌, ◌≤◌, ◌==◌, Bool, List, [], ◌∷◌, ◌++◌, length, length-append, map, slice_get, Option, Some, refl, ap, ◌∙◌, subst, arith}
 use Rattle.cw_io.specs.File.{Told}
 use Rattle.cw_unit.specs.declared.unit.Unit.{Unit as SourceUnit}
-use Rattle.cw_compile.specs.Texts.{text_limit}
+use Rattle.cw_compile.specs.Texts.{text_limit, IsUnitOf}
+use Rattle.cw_compile.specs.Outcomes.{HasNotBoth}
 use Rattle.cw_big.specs.LargeProgram.{large_text, first_texts}
 use Rattle.cw_files.specs.Texts.{HasUnit}
-use Rattle.cw_files.specs.Reading.{HaveBytes, HaveValues}
+use Rattle.cw_files.specs.Reading.{HaveBytes, HaveValues, IsRefusedAt, counts_at, StopsTexts}
+use Rattle.cw_say.specs.declared.status.Status.{Status}
+use Rattle.cw_say.specs.declared.status.Status.TheVariants.{Ended, Usage, Refused, Unlinked, Stopped, Unfinished, NoFile, Outside, NoMemory, BadFile, TooLong, BadCode, Divided}
+use Rattle.cw_say.specs.declared.status.Which.TheVariants.{Store, Input, Out, Say}
+use Rattle.cw_say.specs.declared.status.Long.TheVariants.{File, Input as LongInput}
 
 abbrev pub Short : Type 0
 Short = (number : ℕ) (is_last : Bool) → number ≤ 100 → length (large_text number is_last) ≤ 1000
@@ -44,3 +49,23 @@ have-more [] [] t u same h k = (k, tt)
 have-more [] (v ∷ us) t u same h k = absurd h
 have-more (x ∷ ts) [] t u same h k = absurd (omega (arith, same))
 have-more (x ∷ ts) (v ∷ us) t u same h k = (h.0, have-more ts us t u (omega (arith, same)) h.1 k)
+
+-- a text that has a unit is refused by no fault, and no file of it is read
+pub compiled : HasNotBoth → (text : List ℕ) (u : SourceUnit) → IsUnitOf text u → (status : Status) → StopsTexts [] (text ∷ []) 0 (counts_at 0 0) (counts_at 0 0) status → status ≡ NoMemory
+compiled both text u has NoMemory h = refl
+compiled both text u has (Refused number fault) h = absurd (both text u fault has (subst (λ n. IsRefusedAt (slice_get (text ∷ []) n) fault) h.0 h.1))
+compiled both text u has (NoFile number) h = absurd (omega (arith, h.2))
+compiled both text u has (Outside Store) h = absurd (omega (arith, h))
+compiled both text u has (Outside Input) h = absurd h
+compiled both text u has (Outside Out) h = absurd h
+compiled both text u has (Outside Say) h = absurd h
+compiled both text u has (TooLong (File number)) h = absurd h.1
+compiled both text u has (TooLong LongInput) h = absurd h
+compiled both text u has Ended h = absurd h
+compiled both text u has Usage h = absurd h
+compiled both text u has (Unlinked fault) h = absurd h
+compiled both text u has (Stopped kind segment line) h = absurd h
+compiled both text u has (Unfinished steps) h = absurd h
+compiled both text u has (BadFile number fault) h = absurd h
+compiled both text u has (BadCode offset) h = absurd h
+compiled both text u has (Divided offset) h = absurd h

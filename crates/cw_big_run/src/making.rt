@@ -7,13 +7,15 @@ ghost use Rattle.cw_files.specs.Reading.{HaveValues, AreSegmentsOf};
 
 use cw_big::large_text;
 use cw_big::laws::short_texts;
+use cw_big_units::laws::large_units;
+use cw_compile::laws::one_outcome;
 use cw_files::{Segment, Segments};
+use cw_say::Status;
 use cw_texts::compile_text;
 use cw_word::NoMemory;
 use std::alloc::Global;
 
-// The segment of a number, of so many. No text of the program is refused: that each of the two hundred has a unit is tested, so the other statuses of
-// compiling a text never come, and are told as want of memory.
+// The segment of a number, of so many. Each text has a unit, so only memory may be wanted.
 fn make_segment(alloc: Global, number: u8, copies: u8) -> Result<Segment, NoMemory>
     requires first { 1 ≤ number }
     requires last { number ≤ 100 }
@@ -21,10 +23,13 @@ fn make_segment(alloc: Global, number: u8, copies: u8) -> Result<Segment, NoMemo
     ensures made { IfOk result (λ segment. IsMadeOf segment.unit segment.made) }
 {
     short_texts();
+    large_units();
+    one_outcome();
     let text = large_text(alloc, number, number == copies)?;
     match compile_text(alloc, text.as_slice(), 0) {
         Ok(segment) => Ok(segment),
-        Err(_) => Err(NoMemory),
+        Err(Status::NoMemory) => Err(NoMemory),
+        Err(_) => unreachable!(),
     }
 }
 
