@@ -1,35 +1,19 @@
 -- The names of the texts.
-use Rattle.std.proofs.Common.{◌≡◌, ℕ, Bool, true, false, List, [], ◌∷◌, ◌++◌, None, Ok, refl, sym, ap, ◌∙◌}
+use Rattle.std.proofs.Common.{◌≡◌, ℕ, Bool, true, false, List, [], ◌∷◌, map, Option, None, Ok, refl, sym, ap, ◌∙◌}
 use Rattle.cw_table.specs.declared.table.Row.{Row}
-use Rattle.cw_tree.specs.declared.segment.Raw.{Raw}
 use Rattle.cw_facts.specs.declared.fact.Declaration.{Declaration}
 use Rattle.cw_facts.specs.declared.fact.Signature.{Signature}
+use Rattle.cw_scope.specs.declared.fault.Fault.{Fault}
 use Rattle.cw_scope.specs.declared.resolve.Named.{Named}
-use Rattle.cw_scope.specs.Text.{text_fault, first_name_fault, resolutions_of, declarations_of, signatures_of}
-use Rattle.cw_scope.specs.NameRules.{name_faults, name_resolutions}
-use Rattle.cw_scope.specs.Definitions.{definitions_judged}
+use Rattle.cw_scope.specs.Text.{text_fault, first_name_fault}
+use Rattle.cw_scope.specs.NameRules.{said, all_declared, name_faults, name_resolutions}
+use Rattle.cw_scope.specs.Definitions.{each_listed, defined, definitions_judged}
 use Rattle.cw_scope.specs.Resolved.{text_declarations, text_signatures}
 use Rattle.cw_scope.specs.Outcome.{Resolves}
 use Rattle.cw_big_units.proofs.TreeText.{tree_text}
 use Rattle.cw_big_units.proofs.FactsText.{total, write_byte, write_byte_takes, counter, cells, facts_text}
 use Rattle.cw_big_units.proofs.FactSteps.{declares-step, uses-step, specifies-step, loop-step, block-step}
 use Rattle.cw_big_units.proofs.TreeFacts.{facts_are}
-
--- ---- no rule of names is broken
-
-names_fine : (is_last : Bool) → name_faults (facts_text is_last) None ≡ None
-names_fine true = simp (declares-step, uses-step, specifies-step, loop-step, block-step) refl
-names_fine false = simp (declares-step, uses-step, specifies-step, loop-step, block-step) refl
-
-definitions_fine : (is_last : Bool) → definitions_judged (facts_text is_last) None ≡ None
-definitions_fine true = simp (declares-step, uses-step, specifies-step, loop-step, block-step) refl
-definitions_fine false = simp (declares-step, uses-step, specifies-step, loop-step, block-step) refl
-
-facts_fine : (is_last : Bool) → text_fault (facts_text is_last) ≡ None
-facts_fine is_last = ap (definitions_judged (facts_text is_last)) (names_fine is_last) ∙ definitions_fine is_last
-
-pub no_name_fault : (is_last : Bool) (w : List ℕ) → first_name_fault (tree_text is_last w) ≡ None
-no_name_fault is_last w = ap text_fault (facts_are is_last w) ∙ facts_fine is_last
 
 -- ---- what the names refer to, written out
 
@@ -86,6 +70,26 @@ signatures_are false = simp (declares-step, uses-step, specifies-step, loop-step
 uses_are : (is_last : Bool) → name_resolutions (facts_text is_last) ≡ uses_text is_last
 uses_are true = simp (declares-step, uses-step, specifies-step, loop-step, block-step) refl
 uses_are false = simp (declares-step, uses-step, specifies-step, loop-step, block-step) refl
+
+-- ---- no rule of names is broken
+
+names_fine : (is_last : Bool) → name_faults (facts_text is_last) None ≡ None
+names_fine true = simp (declares-step, uses-step, specifies-step, loop-step, block-step) refl
+names_fine false = simp (declares-step, uses-step, specifies-step, loop-step, block-step) refl
+
+-- with the specifications written out
+abbrev definitions_by : Bool → List (Row Signature) → Option Fault
+definitions_by is_last rows = each_listed rows (all_declared (map said (facts_text is_last))) (map (defined rows) (facts_text is_last)) None
+
+definitions_fine : (is_last : Bool) → definitions_by is_last signatures_text ≡ None
+definitions_fine true = simp (declares-step, uses-step, specifies-step, loop-step, block-step) refl
+definitions_fine false = simp (declares-step, uses-step, specifies-step, loop-step, block-step) refl
+
+pub no_name_fault : (is_last : Bool) (w : List ℕ) → first_name_fault (tree_text is_last w) ≡ None
+no_name_fault is_last w =
+    ap text_fault (facts_are is_last w) ∙ ap (definitions_judged (facts_text is_last)) (names_fine is_last) ∙ ap (definitions_by is_last) (signatures_are is_last) ∙ definitions_fine is_last
+
+-- ---- the texts
 
 -- a tree with its names, at place 0 of memory
 abbrev pub named_of : Bool → List ℕ → Named

@@ -3,6 +3,9 @@ use Rattle.std.proofs.Common.{◌≡◌, ℕ, Bool, true, false, List, refl, Opt
 use Rattle.cw_tree.specs.declared.leaf.Position.{Position}
 use Rattle.cw_tree.specs.declared.leaf.RawName.{RawName}
 use Rattle.cw_tree.specs.declared.leaf.RawNumber.{RawNumber}
+use Rattle.cw_tree.specs.declared.leaf.RawSign.{RawSign}
+use Rattle.cw_tree.specs.declared.leaf.RawFactorSign.{RawFactorSign}
+use Rattle.cw_tree.specs.declared.expression.RawBits.{RawBits}
 use Rattle.cw_tree.specs.declared.expression.RawExpr.TheOpen as layer
 use Rattle.cw_tree.specs.declared.expression.RawExpr.{RawExpr, fold-roll-RawExpr}
 use Rattle.cw_tree.specs.declared.expression.RawExpr.TheVariants as expr_tree
@@ -25,11 +28,8 @@ use Rattle.cw_tree.specs.declared.statement.RawForm.{RawForm, fold-roll-RawForm}
 use Rattle.cw_tree.specs.declared.statement.RawForm.TheVariants as form_tree
 use Rattle.cw_tree.specs.declared.statement.RawSimple.{RawSimple, fold-roll-RawSimple}
 use Rattle.cw_tree.specs.declared.statement.RawSimple.TheVariants as simple_tree
-use Rattle.cw_tree.specs.declared.statement.RawBlock.{RawBlock, roll-RawBlock, fold-roll-RawBlock}
+use Rattle.cw_tree.specs.declared.statement.RawBlock.{roll-RawBlock, fold-roll-RawBlock}
 use Rattle.cw_tree.specs.declared.statement.RawStmt.{RawStmt, roll-RawStmt, fold-roll-RawStmt}
-use Rattle.cw_tree.specs.declared.leaf.RawSign.{RawSign}
-use Rattle.cw_tree.specs.declared.leaf.RawFactorSign.{RawFactorSign}
-use Rattle.cw_tree.specs.declared.expression.RawBits.{RawBits}
 use Rattle.cw_facts.specs.declared.fact.Fact.{Fact}
 use Rattle.cw_facts.specs.declared.fact.Reading.{Reading}
 use Rattle.cw_facts.specs.Uses.{Uses, expression_step, primary_step, reference_step, conjunction_step, comparison_step, condition_step, differ_step, mask_step, prim_step, sum_step, term_step, union_step, expression_uses, primary_uses, reference_uses, sum_uses, term_uses, differ_uses, union_uses, mask_uses, prim_uses}

@@ -1,5 +1,5 @@
 -- The trees of the texts, written out.
-use Rattle.std.proofs.Common.{ℕ, Bool, true, false, List, [], ◌∷◌, Some, None, codes}
+use Rattle.std.proofs.Common.{ℕ, Bool, true, false, List, [], ◌∷◌, None, codes}
 use Rattle.cw_tree.specs.declared.leaf.Position.{Position}
 use Rattle.cw_tree.specs.declared.leaf.RawName.{RawName}
 use Rattle.cw_tree.specs.declared.leaf.RawInt.TheVariants as int_tree
@@ -12,10 +12,10 @@ use Rattle.cw_tree.specs.declared.leaf.RawFactorSign.{RawFactorSign}
 use Rattle.cw_tree.specs.declared.leaf.MulOp.TheVariants as muls
 use Rattle.cw_tree.specs.declared.expression.RawExpr.{RawExpr}
 use Rattle.cw_tree.specs.declared.expression.RawExpr.TheVariants as expr_tree
-use Rattle.cw_tree.specs.declared.expression.RawSum.{RawSum, roll-RawSum}
+use Rattle.cw_tree.specs.declared.expression.RawSum.{roll-RawSum}
 use Rattle.cw_tree.specs.declared.expression.RawTerm.{RawTerm, roll-RawTerm}
 use Rattle.cw_tree.specs.declared.expression.RawDiffer.{RawDiffer, roll-RawDiffer}
-use Rattle.cw_tree.specs.declared.expression.RawUnion.{RawUnion, roll-RawUnion}
+use Rattle.cw_tree.specs.declared.expression.RawUnion.{roll-RawUnion}
 use Rattle.cw_tree.specs.declared.expression.RawMask.{RawMask, roll-RawMask}
 use Rattle.cw_tree.specs.declared.expression.RawPrim.{RawPrim, roll-RawPrim}
 use Rattle.cw_tree.specs.declared.expression.RawPrimary.{RawPrimary}
@@ -31,7 +31,7 @@ use Rattle.cw_tree.specs.declared.statement.RawForm.TheVariants as form_tree
 use Rattle.cw_tree.specs.declared.statement.RawSimple.{RawSimple}
 use Rattle.cw_tree.specs.declared.statement.RawSimple.TheVariants as simple_tree
 use Rattle.cw_tree.specs.declared.statement.RawStmt.{RawStmt, roll-RawStmt}
-use Rattle.cw_tree.specs.declared.statement.RawBlock.{RawBlock, roll-RawBlock}
+use Rattle.cw_tree.specs.declared.statement.RawBlock.{roll-RawBlock}
 use Rattle.cw_tree.specs.declared.segment.RawIps.TheVariants as ips_tree
 use Rattle.cw_tree.specs.declared.segment.RawPs.TheVariants as ps_tree
 use Rattle.cw_tree.specs.declared.segment.RawCitem.TheVariants as citem_tree
@@ -125,14 +125,14 @@ counted at variable from step until body = roll-RawStmt (record { labels = []; f
 
 abbrev pub communicators : List RawComm
 communicators =
-    comm_tree.Common (at 1 1) (citem_tree.Data (data_tree.Singles (integer 1 3) ((name 1 4 (codes "TOTAL")) ∷ []) None) ∷ [])
-    ∷ comm_tree.Library (at 2 7) (record { answer = None; tag = ptag_tree.Procedure (at 2 9); name = (name 2 10 (codes "WRITEBYTE")); params = ps_tree.Plain (ips_tree.Value (at 2 12) (integer 2 13)) ∷ [] } ∷ [])
+    comm_tree.Common (at 1 1) (citem_tree.Data (data_tree.Singles (integer 1 3) (name 1 4 (codes "TOTAL") ∷ []) None) ∷ [])
+    ∷ comm_tree.Library (at 2 7) (record { answer = None; tag = ptag_tree.Procedure (at 2 9); name = name 2 10 (codes "WRITEBYTE"); params = ps_tree.Plain (ips_tree.Value (at 2 12) (integer 2 13)) ∷ [] } ∷ [])
     ∷ []
 
 abbrev pub declarations : List RawDecl
 declarations =
-    decl_tree.Data (data_tree.Singles (integer 5 20) ((name 5 21 (codes "J")) ∷ []) None)
-    ∷ decl_tree.Data (data_tree.Arrays (integer 6 23) (record { names = (name 6 25 (codes "A")) ∷ []; bounds = record { first = record { lower = bound 6 27 0; upper = bound 6 29 99 }; second = None } } ∷ []) None)
+    decl_tree.Data (data_tree.Singles (integer 5 20) (name 5 21 (codes "J") ∷ []) None)
+    ∷ decl_tree.Data (data_tree.Arrays (integer 6 23) (record { names = name 6 25 (codes "A") ∷ []; bounds = record { first = record { lower = bound 6 27 0; upper = bound 6 29 99 }; second = None } } ∷ []) None)
     ∷ []
 
 abbrev pub filled : List ℕ → RawStmt
@@ -143,23 +143,31 @@ filled w =
 abbrev pub added : RawStmt
 added =
     counted (at 8 50) (name 8 51 (codes "J")) (alone (number 8 53 0)) (alone (number 8 55 1)) (alone (number 8 57 99))
-    (assigned (ref_tree.Name (name 8 59 (codes "TOTAL"))) (of_term (masked (primary_tree.Bracket (at 8 61) (sum_of ((factor (value 8 62 (codes "TOTAL"))) ∷ (factor (primary_tree.Ref (element 8 64 (codes "A") (alone (value 8 66 (codes "J")))))) ∷ []) (plus 8 63 ∷ []))) (at 8 69) (number 8 70 4095))))
+    (assigned (ref_tree.Name (name 8 59 (codes "TOTAL"))) (of_term (masked (primary_tree.Bracket (at 8 61) (sum_of (factor (value 8 62 (codes "TOTAL")) ∷ factor (primary_tree.Ref (element 8 64 (codes "A") (alone (value 8 66 (codes "J"))))) ∷ []) (plus 8 63 ∷ []))) (at 8 69) (number 8 70 4095))))
 
 abbrev pub thousands : RawStmt
 thousands =
-    called 9 72 (codes "WRITEBYTE") (sum_of ((factor (number 9 74 48)) ∷ (product (value 9 76 (codes "TOTAL")) (divide 9 77) (number 9 78 1000)) ∷ []) (plus 9 75 ∷ []))
+    called 9 72 (codes "WRITEBYTE")
+    (sum_of (factor (number 9 74 48) ∷ product (value 9 76 (codes "TOTAL")) (divide 9 77) (number 9 78 1000) ∷ [])
+    (plus 9 75 ∷ []))
 
 abbrev pub hundreds : RawStmt
 hundreds =
-    called 10 81 (codes "WRITEBYTE") (sum_of ((factor (number 10 83 48)) ∷ (product (value 10 85 (codes "TOTAL")) (divide 10 86) (number 10 87 100)) ∷ (product (number 10 89 10) (times 10 90) (primary_tree.Bracket (at 10 91) (of_term (product (value 10 92 (codes "TOTAL")) (divide 10 93) (number 10 94 1000))))) ∷ []) (plus 10 84 ∷ minus 10 88 ∷ []))
+    called 10 81 (codes "WRITEBYTE")
+    (sum_of (factor (number 10 83 48) ∷ product (value 10 85 (codes "TOTAL")) (divide 10 86) (number 10 87 100) ∷ product (number 10 89 10) (times 10 90) (primary_tree.Bracket (at 10 91) (of_term (product (value 10 92 (codes "TOTAL")) (divide 10 93) (number 10 94 1000)))) ∷ [])
+    (plus 10 84 ∷ minus 10 88 ∷ []))
 
 abbrev pub tens : RawStmt
 tens =
-    called 11 98 (codes "WRITEBYTE") (sum_of ((factor (number 11 100 48)) ∷ (product (value 11 102 (codes "TOTAL")) (divide 11 103) (number 11 104 10)) ∷ (product (number 11 106 10) (times 11 107) (primary_tree.Bracket (at 11 108) (of_term (product (value 11 109 (codes "TOTAL")) (divide 11 110) (number 11 111 100))))) ∷ []) (plus 11 101 ∷ minus 11 105 ∷ []))
+    called 11 98 (codes "WRITEBYTE")
+    (sum_of (factor (number 11 100 48) ∷ product (value 11 102 (codes "TOTAL")) (divide 11 103) (number 11 104 10) ∷ product (number 11 106 10) (times 11 107) (primary_tree.Bracket (at 11 108) (of_term (product (value 11 109 (codes "TOTAL")) (divide 11 110) (number 11 111 100)))) ∷ [])
+    (plus 11 101 ∷ minus 11 105 ∷ []))
 
 abbrev pub ones : RawStmt
 ones =
-    called 12 115 (codes "WRITEBYTE") (sum_of ((factor (number 12 117 48)) ∷ (factor (value 12 119 (codes "TOTAL"))) ∷ (product (number 12 121 10) (times 12 122) (primary_tree.Bracket (at 12 123) (of_term (product (value 12 124 (codes "TOTAL")) (divide 12 125) (number 12 126 10))))) ∷ []) (plus 12 118 ∷ minus 12 120 ∷ []))
+    called 12 115 (codes "WRITEBYTE")
+    (sum_of (factor (number 12 117 48) ∷ factor (value 12 119 (codes "TOTAL")) ∷ product (number 12 121 10) (times 12 122) (primary_tree.Bracket (at 12 123) (of_term (product (value 12 124 (codes "TOTAL")) (divide 12 125) (number 12 126 10)))) ∷ [])
+    (plus 12 118 ∷ minus 12 120 ∷ []))
 
 abbrev pub line_end : RawStmt
 line_end =
