@@ -2,3 +2,10 @@ pub mod Scanning
 pub mod Digits
 pub mod Tokens
 pub mod Reading
+pub mod TreeText
+pub mod Written
+pub mod FactsText
+pub mod FactSteps
+pub mod TreeFacts
+pub mod Names
+pub mod Texts

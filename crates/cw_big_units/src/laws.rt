@@ -1,7 +1,8 @@
 //! Laws of the texts of a large program: each is a function without a body, whose contract is the law.
 ghost use Rattle.std.specs.Prelude.{ℕ, ◌≤◌, Bool};
 ghost use Rattle.cw_tree.specs.declared.segment.Raw.{Raw};
-ghost use Rattle.cw_compile.specs.Texts.{HasTree};
+ghost use Rattle.cw_scope.specs.declared.resolve.Named.{Named};
+ghost use Rattle.cw_compile.specs.Texts.{HasTree, HasNames};
 ghost use Rattle.cw_big.specs.LargeProgram.{large_text};
 
 use cw_plain::laws::expands_to_itself;
@@ -9,6 +10,13 @@ use cw_plain::laws::expands_to_itself;
 /// Each text of a large program is a text of the grammar.
 pub fn large_trees()
     ensures { (i : ℕ) (is_last : Bool) → 1 ≤ i → i ≤ 100 → (raw : Raw) × HasTree (large_text i is_last) raw }
+{
+    expands_to_itself();
+}
+
+/// Each text of a large program breaks no rule of names.
+pub fn large_names()
+    ensures { (i : ℕ) (is_last : Bool) → 1 ≤ i → i ≤ 100 → (named : Named) × HasNames (large_text i is_last) named }
 {
     expands_to_itself();
 }
