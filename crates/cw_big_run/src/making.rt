@@ -28,8 +28,10 @@ fn make_segment(alloc: Global, number: u8, copies: u8) -> Result<Segment, NoMemo
     let text = large_text(alloc, number, number == copies)?;
     match compile_text(alloc, text.as_slice(), 0) {
         Ok(segment) => Ok(segment),
-        Err(Status::NoMemory) => Err(NoMemory),
-        Err(_) => unreachable!(),
+        Err(status) => {
+            prove!(matches!(&status, Status::NoMemory));
+            Err(NoMemory)
+        }
     }
 }
 
