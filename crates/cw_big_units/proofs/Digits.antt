@@ -9,11 +9,11 @@ use Rattle.cw_lex.specs.declared.token.Word.{Word}
 use Rattle.cw_lex.specs.Items.{word_of}
 
 -- a test of each number from 1
-abbrev each : (ℕ → Bool) → ℕ → Bool
+abbrev pub each : (ℕ → Bool) → ℕ → Bool
 each p zero = true
 each p (suc n) = p (suc n) && each p n
 
-each_at : (p : ℕ → Bool) (n i : ℕ) → each p n ≡ true → 1 ≤ i → i ≤ n → p i ≡ true
+pub each_at : (p : ℕ → Bool) (n i : ℕ) → each p n ≡ true → 1 ≤ i → i ≤ n → p i ≡ true
 each_at p zero i e l h = absurd (omega arith)
 each_at p (suc n) i e l h =
     let q = and_parts (p (suc n)) (each p n) e in

@@ -9,3 +9,6 @@ pub mod FactSteps
 pub mod TreeFacts
 pub mod Names
 pub mod Texts
+pub mod TypeSteps
+pub mod Stored
+pub mod Types

@@ -40,65 +40,67 @@ use Rattle.cw_big_units.proofs.FactsText.{facts_text}
 
 -- ---- expressions
 
-sum-expression : (s : RawSum) (r : Reading) → expression_uses (expr_tree.Sum s) r ≡ expression_step (layer.Sum (sum_uses s)) r
+pub sum-expression : (s : RawSum) (r : Reading) → expression_uses (expr_tree.Sum s) r ≡ expression_step (layer.Sum (sum_uses s)) r
 sum-expression s r =
     ap (λ f. f r) (ap expression_uses (sym (expr_tree.rolls-Sum s)) ∙ fold-roll-RawExpr Uses Uses Uses Uses Uses Uses Uses Uses Uses Uses Uses Uses
     expression_step primary_step reference_step conjunction_step comparison_step condition_step differ_step mask_step prim_step sum_step term_step union_step (layer.Sum s))
 
-number-primary : (n : RawNumber) (r : Reading) → primary_uses (primary_tree.Number n) r ≡ primary_step (layer.Number n) r
+pub number-primary : (n : RawNumber) (r : Reading) → primary_uses (primary_tree.Number n) r ≡ primary_step (layer.Number n) r
 number-primary n r =
     ap (λ f. f r) (ap primary_uses (sym (primary_tree.rolls-Number n)) ∙ fold-roll-RawPrimary Uses Uses Uses Uses Uses Uses Uses Uses Uses Uses Uses Uses
     expression_step primary_step reference_step conjunction_step comparison_step condition_step differ_step mask_step prim_step sum_step term_step union_step (layer.Number n))
 
-bracket-primary : (p : Position) (e : RawExpr) (r : Reading) → primary_uses (primary_tree.Bracket p e) r ≡ primary_step (layer.Bracket p (expression_uses e)) r
+pub bracket-primary : (p : Position) (e : RawExpr) (r : Reading) → primary_uses (primary_tree.Bracket p e) r ≡ primary_step (layer.Bracket p (expression_uses e)) r
 bracket-primary p e r =
     ap (λ f. f r) (ap primary_uses (sym (primary_tree.rolls-Bracket p e)) ∙ fold-roll-RawPrimary Uses Uses Uses Uses Uses Uses Uses Uses Uses Uses Uses Uses
     expression_step primary_step reference_step conjunction_step comparison_step condition_step differ_step mask_step prim_step sum_step term_step union_step (layer.Bracket p e))
 
-reference-primary : (x : RawRef) (r : Reading) → primary_uses (primary_tree.Ref x) r ≡ primary_step (layer.Ref (reference_uses x)) r
+pub reference-primary : (x : RawRef) (r : Reading) → primary_uses (primary_tree.Ref x) r ≡ primary_step (layer.Ref (reference_uses x)) r
 reference-primary x r =
     ap (λ f. f r) (ap primary_uses (sym (primary_tree.rolls-Ref x)) ∙ fold-roll-RawPrimary Uses Uses Uses Uses Uses Uses Uses Uses Uses Uses Uses Uses
     expression_step primary_step reference_step conjunction_step comparison_step condition_step differ_step mask_step prim_step sum_step term_step union_step (layer.Ref x))
 
-name-reference : (n : RawName) (r : Reading) → reference_uses (ref_tree.Name n) r ≡ reference_step (layer.Name n) r
+pub name-reference : (n : RawName) (r : Reading) → reference_uses (ref_tree.Name n) r ≡ reference_step (layer.Name n) r
 name-reference n r =
     ap (λ f. f r) (ap reference_uses (sym (ref_tree.rolls-Name n)) ∙ fold-roll-RawRef Uses Uses Uses Uses Uses Uses Uses Uses Uses Uses Uses Uses
     expression_step primary_step reference_step conjunction_step comparison_step condition_step differ_step mask_step prim_step sum_step term_step union_step (layer.Name n))
 
-element-reference : (n : RawName) (e : RawExpr) (r : Reading) → reference_uses (ref_tree.One n e) r ≡ reference_step (layer.One n (expression_uses e)) r
+pub element-reference : (n : RawName) (e : RawExpr) (r : Reading) → reference_uses (ref_tree.One n e) r ≡ reference_step (layer.One n (expression_uses e)) r
 element-reference n e r =
     ap (λ f. f r) (ap reference_uses (sym (ref_tree.rolls-One n e)) ∙ fold-roll-RawRef Uses Uses Uses Uses Uses Uses Uses Uses Uses Uses Uses Uses
     expression_step primary_step reference_step conjunction_step comparison_step condition_step differ_step mask_step prim_step sum_step term_step union_step (layer.One n e))
 
-terms : (sign : Option RawSign) (operands : List RawTerm) (operators : List RawSign) (r : Reading) → sum_uses (roll-RawSum (record { sign = sign; operands = operands; operators = operators })) r ≡ sum_step (record { sign = sign; operands = map term_uses operands; operators = operators }) r
+pub terms : (sign : Option RawSign) (operands : List RawTerm) (operators : List RawSign) (r : Reading) → sum_uses (roll-RawSum (record { sign = sign; operands = operands; operators = operators })) r ≡ sum_step (record { sign = sign; operands = map term_uses operands; operators = operators }) r
 terms sign operands operators r =
     ap (λ f. f r) (fold-roll-RawSum Uses Uses Uses Uses Uses Uses Uses Uses Uses Uses Uses Uses
     expression_step primary_step reference_step conjunction_step comparison_step condition_step differ_step mask_step prim_step sum_step term_step union_step (record { sign = sign; operands = operands; operators = operators }))
 
-factors : (operands : List RawDiffer) (operators : List RawFactorSign) (r : Reading) → term_uses (roll-RawTerm (record { operands = operands; operators = operators })) r ≡ term_step (record { operands = map differ_uses operands; operators = operators }) r
+pub factors : (operands : List RawDiffer) (operators : List RawFactorSign) (r : Reading) → term_uses (roll-RawTerm (record { operands = operands; operators = operators })) r ≡ term_step (record { operands = map differ_uses operands; operators = operators }) r
 factors operands operators r =
     ap (λ f. f r) (fold-roll-RawTerm Uses Uses Uses Uses Uses Uses Uses Uses Uses Uses Uses Uses
     expression_step primary_step reference_step conjunction_step comparison_step condition_step differ_step mask_step prim_step sum_step term_step union_step (record { operands = operands; operators = operators }))
 
-differs : (operands : List RawUnion) (operators : List Position) (r : Reading) → differ_uses (roll-RawDiffer (record { operands = operands; operators = operators })) r ≡ differ_step (record { operands = map union_uses operands; operators = operators }) r
+pub differs : (operands : List RawUnion) (operators : List Position) (r : Reading) → differ_uses (roll-RawDiffer (record { operands = operands; operators = operators })) r ≡ differ_step (record { operands = map union_uses operands; operators = operators }) r
 differs operands operators r =
     ap (λ f. f r) (fold-roll-RawDiffer Uses Uses Uses Uses Uses Uses Uses Uses Uses Uses Uses Uses
     expression_step primary_step reference_step conjunction_step comparison_step condition_step differ_step mask_step prim_step sum_step term_step union_step (record { operands = operands; operators = operators }))
 
-unions : (operands : List RawMask) (operators : List Position) (r : Reading) → union_uses (roll-RawUnion (record { operands = operands; operators = operators })) r ≡ union_step (record { operands = map mask_uses operands; operators = operators }) r
+pub unions : (operands : List RawMask) (operators : List Position) (r : Reading) → union_uses (roll-RawUnion (record { operands = operands; operators = operators })) r ≡ union_step (record { operands = map mask_uses operands; operators = operators }) r
 unions operands operators r =
     ap (λ f. f r) (fold-roll-RawUnion Uses Uses Uses Uses Uses Uses Uses Uses Uses Uses Uses Uses
     expression_step primary_step reference_step conjunction_step comparison_step condition_step differ_step mask_step prim_step sum_step term_step union_step (record { operands = operands; operators = operators }))
 
-masks : (operands : List RawPrim) (operators : List Position) (r : Reading) → mask_uses (roll-RawMask (record { operands = operands; operators = operators })) r ≡ mask_step (record { operands = map prim_uses operands; operators = operators }) r
+pub masks : (operands : List RawPrim) (operators : List Position) (r : Reading) → mask_uses (roll-RawMask (record { operands = operands; operators = operators })) r ≡ mask_step (record { operands = map prim_uses operands; operators = operators }) r
 masks operands operators r =
     ap (λ f. f r) (fold-roll-RawMask Uses Uses Uses Uses Uses Uses Uses Uses Uses Uses Uses Uses
     expression_step primary_step reference_step conjunction_step comparison_step condition_step differ_step mask_step prim_step sum_step term_step union_step (record { operands = operands; operators = operators }))
 
-primaries : (bits : List RawBits) (primary : RawPrimary) (r : Reading) → prim_uses (roll-RawPrim (record { bits = bits; primary = primary })) r ≡ prim_step (record { bits = bits; primary = primary_uses primary }) r
+pub primaries : (bits : List RawBits) (primary : RawPrimary) (r : Reading) → prim_uses (roll-RawPrim (record { bits = bits; primary = primary })) r ≡ prim_step (record { bits = bits; primary = primary_uses primary }) r
 primaries bits primary r =
     ap (λ f. f r) (fold-roll-RawPrim Uses Uses Uses Uses Uses Uses Uses Uses Uses Uses Uses Uses
     expression_step primary_step reference_step conjunction_step comparison_step condition_step differ_step mask_step prim_step sum_step term_step union_step (record { bits = bits; primary = primary }))
+
+pub ruleset uses_steps = (sum-expression, number-primary, bracket-primary, reference-primary, name-reference, element-reference, terms, factors, differs, unions, masks, primaries)
 
 -- ---- statements
 
@@ -141,8 +143,8 @@ statement-layer labels form =
 
 pub facts_are : (is_last : Bool) (w : List ℕ) → text_facts (tree_text is_last w) ≡ facts_text is_last
 facts_are true w =
-    simp (sum-expression, number-primary, bracket-primary, reference-primary, name-reference, element-reference, terms, factors, differs, unions, masks, primaries, data-declaration, simple-form, for-form, assignment, call-statement, block-layer, statement-layer)
+    simp (uses_steps, data-declaration, simple-form, for-form, assignment, call-statement, block-layer, statement-layer)
     refl
 facts_are false w =
-    simp (sum-expression, number-primary, bracket-primary, reference-primary, name-reference, element-reference, terms, factors, differs, unions, masks, primaries, data-declaration, simple-form, for-form, assignment, block-layer, statement-layer)
+    simp (uses_steps, data-declaration, simple-form, for-form, assignment, block-layer, statement-layer)
     refl
