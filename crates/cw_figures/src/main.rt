@@ -1,8 +1,14 @@
-//! Benchmark of the compiler: how many bytes of code small programs take, beside those that bcc makes of the same in C, and how long a text takes by its size.
+//! Benchmark of the compiler: how many bytes of code small programs take and how many instructions their runs, beside those of what bcc makes of the same in C, and how long a text takes by its size.
 #![tactic(auto)]
 
+use cw_cpu86::Cpu;
+use cw_io::{MemSink, MemSource};
+use cw_link::{Linked, link};
+use cw_ports::{ImageEnd, run_image};
 use cw_texts::compile_text;
+use cw_unit::layout::Limits;
 use cw_view::View;
+use cw_word::List;
 use std::alloc::{AllocError, Global};
 use std::io;
 use std::rt::Clock;
@@ -74,6 +80,83 @@ fn measure(rt: &impl Print, alloc: Global, sample: &Sample) -> anyhow::Result<()
     Ok(())
 }
 
+/// The texts of a program, the bytes that it reads, and how many instructions run of what bcc makes of the same in C, without the routines
+/// that read and write a byte.
+#[derive(Drop)]
+struct Program {
+    name: &'static str,
+    texts: &'static [&'static str],
+    input: &'static [u8],
+    by_bcc: u32,
+}
+
+const LIMITS: Limits = Limits {
+    area: 1000,
+    frames: 100,
+    depth: 20,
+};
+
+/// How many bytes are read and written at most.
+const MOST: usize = 64;
+
+// The objects of texts, where they are compiled.
+fn objects_of(alloc: Global, texts: &[&str]) -> Option<Vec<Vec<u8>>> {
+    let mut objects = Vec::new(alloc);
+    for text in texts {
+        if text.len() > 1_048_576 {
+            return None;
+        }
+        let segment = compile_text(alloc, text.as_bytes(), 0).ok()?;
+        let object = segment.made.object.as_slice().to_vec(alloc).ok()?;
+        objects.push(object).ok()?;
+    }
+    Some(objects)
+}
+
+// These texts, compiled and linked.
+fn linked(alloc: Global, texts: &[&str]) -> Option<Linked> {
+    let objects = objects_of(alloc, texts)?;
+    let mut views = Vec::new(alloc);
+    for object in objects.iter() {
+        views.push(View::open(object).ok()?).ok()?;
+    }
+    if views.len() > 200 {
+        return None;
+    }
+    link(alloc, &views, &LIMITS).ok()
+}
+
+// How many instructions a program runs to its end.
+fn instructions_of(alloc: Global, program: &Program) -> Option<u32> {
+    let linked = linked(alloc, program.texts)?;
+    let code = linked.image.code.as_slice();
+    let words = linked.image.words.as_slice();
+    if code.is_empty() || code.len() > 65_536 || words.len() > 32_768 {
+        return None;
+    }
+    let mut cpu = Cpu::start(alloc, code, words).ok()?;
+    let bytes = List::of(program.input.to_vec(alloc).ok()?);
+    let mut input = MemSource::new(bytes, MOST, List::new(alloc));
+    let mut out = MemSink::new(alloc, MOST, MOST, List::new(alloc)).ok()?;
+    for count in 1..100_000 {
+        if run_image(&mut cpu, &mut input, &mut out, 1) != ImageEnd::Unfinished {
+            return Some(count);
+        }
+    }
+    None
+}
+
+fn run(rt: &impl Print, alloc: Global, program: &Program) -> anyhow::Result<()> {
+    match instructions_of(alloc, program) {
+        Some(count) => println!(rt;
+            "{}: {count} instructions run, {} by bcc",
+            program.name, program.by_bcc
+        )?,
+        None => println!(rt; "{}: not run", program.name)?,
+    }
+    Ok(())
+}
+
 // A text of so many statements, of twelve bytes and six tokens each.
 fn long_text(alloc: Global, statements: u32) -> Result<String, AllocError> {
     let mut text = String::from_str(alloc, "SEGMENT A BEGIN INTEGER X;\n")?;
@@ -139,6 +222,35 @@ fn main(rt: HostRuntime) -> anyhow::Result<()> {
     ];
     for sample in &samples {
         measure(&rt, rt.alloc(), sample)?;
+    }
+    let programs = [
+        Program {
+            name: "first",
+            texts: &[FIRST],
+            input: b"",
+            by_bcc: 11,
+        },
+        Program {
+            name: "loops",
+            texts: &[LOOPS],
+            input: b"",
+            by_bcc: 2418,
+        },
+        Program {
+            name: "factorial",
+            texts: &[FACTORIAL],
+            input: b"",
+            by_bcc: 206,
+        },
+        Program {
+            name: "filter and control",
+            texts: &[FILTER, CONTROL],
+            input: b"\x28\x78\xC8\xC8",
+            by_bcc: 181,
+        },
+    ];
+    for program in &programs {
+        run(&rt, rt.alloc(), program)?;
     }
     time(&rt, rt.alloc(), 166, 640)?;
     time(&rt, rt.alloc(), 10_900, 10)?;
