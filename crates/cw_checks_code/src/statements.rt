@@ -2,9 +2,9 @@
 use crate::orders::{STEPS, told_of_code};
 use crate::processor::Run;
 use crate::texts::LIMITS;
-use cw_texts::compile_text;
 use cw_link::link;
 use cw_ports::ImageEnd;
+use cw_texts::compile_text;
 use cw_tmpl::base_code;
 use cw_view::{View, read_statement};
 use std::alloc::{AllocError, Global};
@@ -93,8 +93,12 @@ fn traced(alloc: Global, mut run: Run, places: &[Place]) -> Result<String, Alloc
         for place in places {
             if place.at == u32::from(run.place()) {
                 let gap = if trace.as_str().is_empty() { "" } else { " " };
-                let begun =
-                    format!(in alloc; "{gap}{}:{}:{}", place.segment, place.line, run.word(0))?;
+                let begun = format!(in alloc;
+                    "{gap}{}:{}:{}",
+                    place.segment,
+                    place.line,
+                    run.word(0)
+                )?;
                 trace.push_str(&begun)?;
             }
         }

@@ -2,11 +2,11 @@
 use crate::orders::{ORDER_STEPS, STEPS, bytes_of, told_of_code, told_of_orders};
 use crate::processor::Run;
 use cw_files::Segment as Compiled;
-use cw_texts::compile_text;
 use cw_gen_unit::orders;
 use cw_interpreter::{Machine, Program, Segment};
 use cw_link::{Linked, link};
 use cw_ports::ImageEnd;
+use cw_texts::compile_text;
 use cw_tmpl::base_code;
 use cw_unit::layout::Limits;
 use cw_view::View;
@@ -304,7 +304,8 @@ fn sizes(rt: HostRuntime) -> Result<(), Fail> {
 #[test]
 fn fourfold(rt: HostRuntime) -> Result<(), Fail> {
     let alloc = rt.alloc();
-    let body = "INTEGER I; FOR I := 1, 2, 3, 4 DO FOR I := I, I, I, I DO FOR I := I, I, I, I DO FOR I := I, I, I, I DO W(I)";
+    let body =
+        "INTEGER I; FOR I := 1, 2, 3, 4 DO FOR I := I, I, I, I DO FOR I := I, I, I, I DO FOR I := I, I, I, I DO W(I)";
     let text = text_of(alloc, "", body)?;
     if text.len() > 1_048_576 {
         panic!(&rt; "too long");
@@ -317,7 +318,10 @@ fn fourfold(rt: HostRuntime) -> Result<(), Fail> {
     };
     let size = linked.image.code.as_slice().len();
     let own = size.wrapping_sub(base_code().len());
-    assert!(rt; own <= (segment.unit.tokens as usize).wrapping_mul(32), "{own}");
+    assert!(rt;
+        own <= (segment.unit.tokens as usize).wrapping_mul(32),
+        "{own}"
+    );
     let Some(mut run) = run_of(alloc, &linked, b"") else {
         panic!(&rt; "no run");
     };

@@ -4,10 +4,10 @@ ghost use Rattle.std.specs.List.{All};
 ghost use Rattle.cw_link.specs.Views.{IsOpened};
 
 use crate::spelling::spelled;
-use cw_texts::compile_text;
 use cw_io::MemSink;
 use cw_link::{LinkFault, link};
 use cw_say::{Status, write_last};
+use cw_texts::compile_text;
 use cw_unit::layout::Limits;
 use cw_view::View;
 use cw_word::{List, NoMemory};

@@ -9,10 +9,10 @@ use crate::closing::close;
 use crate::laws::promises;
 use crate::linking::link_segments;
 use crate::running::run_segments;
-use cw_texts::laws::compiled_units;
-use cw_texts::read_units;
 use cw_io::{Sink, Source, Store};
 use cw_say::Status;
+use cw_texts::laws::compiled_units;
+use cw_texts::read_units;
 use cw_unit::layout::Limits;
 use std::alloc::Global;
 

@@ -6,8 +6,8 @@ use cw_build_laws::laws::loaded;
 use cw_built_laws::laws::built_units;
 use cw_compile::laws::one_outcome;
 use cw_cpu86::laws::{one_observation, one_start};
-use cw_texts::laws::compiled_units;
 use cw_sim::laws::preservation;
+use cw_texts::laws::compiled_units;
 use cw_unit::laws::storage_maps;
 
 /// A call that goes so up to its closing line, and is closed so, keeps its promise. So does one that did nothing else, for want of memory.

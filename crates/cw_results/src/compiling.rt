@@ -10,9 +10,9 @@ use crate::closing::close;
 use crate::first::{first_name, first_object};
 use crate::saving::save_beside;
 use cw_compile::laws::one_outcome;
-use cw_texts::read_units;
 use cw_io::{Sink, Store};
 use cw_say::Status;
+use cw_texts::read_units;
 use cw_unit::layout::Limits;
 use std::alloc::Global;
 

@@ -20,13 +20,13 @@ use crate::unlinked::unlinked;
 use cw_build::laws::linked_units;
 use cw_build::link_units;
 use cw_compile::laws::one_outcome;
-use cw_texts::laws::compiled_units;
 use cw_files::Segments;
-use cw_texts::read_units;
 use cw_io::{Sink, Store};
 use cw_link::Linked;
 use cw_list::map_text;
 use cw_say::Status;
+use cw_texts::laws::compiled_units;
+use cw_texts::read_units;
 use cw_unit::layout::Limits;
 use std::alloc::Global;
 

@@ -13,9 +13,9 @@ use crate::first::first_name;
 use crate::output::write_text;
 use cw_compile::laws::one_outcome;
 use cw_compile::{UnitFault, canonical};
-use cw_texts::read_text;
 use cw_io::{Sink, Store};
 use cw_say::Status;
+use cw_texts::read_text;
 use cw_unit::layout::Limits;
 use std::alloc::Global;
 
