@@ -1,8 +1,8 @@
 //! The statements that the code of texts begins, in order, by the places that their objects tell.
 use crate::orders::{STEPS, told_of_code};
 use crate::processor::Run;
-use crate::texts::LIMITS;
-use cw_link::link;
+use crate::texts::{LIMITS, link_one};
+use cw_link::{Linked, link};
 use cw_ports::ImageEnd;
 use cw_texts::compile_text;
 use cw_tmpl::base_code;
@@ -62,19 +62,24 @@ fn objects_of(alloc: Global, texts: &[&str]) -> Option<Vec<Vec<u8>>> {
     Some(objects)
 }
 
-fn views_of<'a>(alloc: Global, objects: &'a [Vec<u8>]) -> Option<Vec<View<'a>>> {
-    let mut views = Vec::new(alloc);
-    for object in objects {
-        views.push(View::open(object).ok()?).ok()?;
+// One object or two, linked.
+fn linked(alloc: Global, objects: &[Vec<u8>]) -> Option<Linked> {
+    match objects {
+        [object] => link_one(alloc, object),
+        [first, second] => match (View::open(first), View::open(second)) {
+            (Ok(first), Ok(second)) => link(alloc, &[first, second], &LIMITS).ok(),
+            _ => None,
+        },
+        _ => None,
     }
-    Some(views)
 }
 
 // The places that objects tell, each moved to where the code of its segment begins.
-fn places_of(alloc: Global, views: &[View]) -> Option<Vec<Place>> {
+fn places_of(alloc: Global, objects: &[Vec<u8>]) -> Option<Vec<Place>> {
     let mut places = Vec::new(alloc);
     let mut start = base_code().len();
-    for (k, view) in views.iter().enumerate() {
+    for (k, object) in objects.iter().enumerate() {
+        let view = View::open(object).ok()?;
         for payload in view.records(10) {
             let (place, line) = read_statement(payload)?;
             let at = u32::try_from(start).ok()?.checked_add(place)?;
@@ -116,16 +121,10 @@ fn statements_begun(rt: HostRuntime) -> Result<(), Fail> {
         let Some(objects) = objects_of(alloc, texts) else {
             panic!(&rt; "refused: {wanted}");
         };
-        let Some(views) = views_of(alloc, &objects) else {
-            panic!(&rt; "no objects: {wanted}");
-        };
-        if views.len() > 200 {
-            panic!(&rt; "too many");
-        }
-        let Some(places) = places_of(alloc, &views) else {
+        let Some(places) = places_of(alloc, &objects) else {
             panic!(&rt; "no places: {wanted}");
         };
-        let Ok(linked) = link(alloc, &views, &LIMITS) else {
+        let Some(linked) = linked(alloc, &objects) else {
             panic!(&rt; "not linked: {wanted}");
         };
         let image = &linked.image;

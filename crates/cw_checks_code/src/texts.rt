@@ -137,7 +137,8 @@ fn text_of(alloc: Global, communicators: &str, body: &str) -> Result<Vec<u8>, Al
     Ok(bytes)
 }
 
-fn link_one(alloc: Global, object: &[u8]) -> Option<Linked> {
+/// An object by itself, linked.
+pub fn link_one(alloc: Global, object: &[u8]) -> Option<Linked> {
     match View::open(object) {
         Ok(view) => link(alloc, &[view], &LIMITS).ok(),
         Err(_) => None,

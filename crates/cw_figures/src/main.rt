@@ -80,7 +80,7 @@ fn measure(rt: &impl Print, alloc: Global, sample: &Sample) -> anyhow::Result<()
     Ok(())
 }
 
-/// The texts of a program, the bytes that it reads, and how many instructions run of what bcc makes of the same in C, without the routines
+/// The texts of a program, one or two, the bytes that it reads, and how many instructions run of what bcc makes of the same in C, without the routines
 /// that read and write a byte.
 #[derive(Drop)]
 struct Program {
@@ -113,22 +113,25 @@ fn objects_of(alloc: Global, texts: &[&str]) -> Option<Vec<Vec<u8>>> {
     Some(objects)
 }
 
-// These texts, compiled and linked.
-fn linked(alloc: Global, texts: &[&str]) -> Option<Linked> {
-    let objects = objects_of(alloc, texts)?;
-    let mut views = Vec::new(alloc);
-    for object in objects.iter() {
-        views.push(View::open(object).ok()?).ok()?;
+// One object or two, linked.
+fn linked(alloc: Global, objects: &[Vec<u8>]) -> Option<Linked> {
+    match objects {
+        [object] => match View::open(object) {
+            Ok(view) => link(alloc, &[view], &LIMITS).ok(),
+            Err(_) => None,
+        },
+        [first, second] => match (View::open(first), View::open(second)) {
+            (Ok(first), Ok(second)) => link(alloc, &[first, second], &LIMITS).ok(),
+            _ => None,
+        },
+        _ => None,
     }
-    if views.len() > 200 {
-        return None;
-    }
-    link(alloc, &views, &LIMITS).ok()
 }
 
 // How many instructions a program runs to its end.
 fn instructions_of(alloc: Global, program: &Program) -> Option<u32> {
-    let linked = linked(alloc, program.texts)?;
+    let objects = objects_of(alloc, program.texts)?;
+    let linked = linked(alloc, &objects)?;
     let code = linked.image.code.as_slice();
     let words = linked.image.words.as_slice();
     if code.is_empty() || code.len() > 65_536 || words.len() > 32_768 {
