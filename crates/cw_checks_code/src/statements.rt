@@ -79,7 +79,9 @@ fn places_of(alloc: Global, objects: &[Vec<u8>]) -> Option<Vec<Place>> {
     let mut places = Vec::new(alloc);
     let mut start = base_code().len();
     for (k, object) in objects.iter().enumerate() {
-        let view = View::open(object).ok()?;
+        let Ok(view) = View::open(object) else {
+            return None;
+        };
         for payload in view.records(10) {
             let (place, line) = read_statement(payload)?;
             let at = u32::try_from(start).ok()?.checked_add(place)?;
