@@ -23,7 +23,7 @@ use Rattle.cw_comm.specs.declared.face.Face.{Face}
 use Rattle.cw_comm.specs.Clashes.{Agree, agreed_of}
 use Rattle.cw_place.specs.declared.space.Space.{Space}
 use Rattle.cw_place.specs.Segments.{names_of, segment_storage}
-use Rattle.cw_place.specs.Placement.{IsLimits, AnswersPlace}
+use Rattle.cw_place.specs.Placement.{AnswersPlace}
 use Rattle.cw_link.specs.LinkedImage.{linked_map, linked_size}
 use Rattle.cw_obj.specs.Writable.{IsWritable}
 use Rattle.cw_object.specs.IsWritable.{is_writable}
@@ -40,7 +40,7 @@ pub record Given : Type 0 where
   pub defined : (u : SourceUnit) (k d : ℕ) (def : Def) → IsTrue (is_built u) → slice_get u.defined k ≡ Some (d, def) → Defines u d def
   pub codable : (us : List SourceUnit) (m : Map) (limits : Limits) (room : ℕ) → All (λ u. IsTrue (is_built u)) us → All (λ u. IsTrue (have_code (unit_orders u))) us → Agree (faces_of us) → limits.frames ≤ limits.area → limits.depth < 65536 → room ≤ 32000 → Codable (orders_program us m limits room)
   pub writable : (u : SourceUnit) (l : Layout) (c : Code) (need : ℕ) → IsTrue (is_writable u l c need) → IsWritable u l c need c.statements
-  pub valid : (agreed : Agreed) (spaces : List Space) (us : List SourceUnit) (limits : Limits) (m : Map) → segment_storage agreed spaces ≡ map storage_of us → All IsStorable us → IsLimits limits → AnswersPlace (segment_storage agreed spaces) spaces limits (Ok m) → ValidStorageMap us limits m
+  pub valid : (agreed : Agreed) (spaces : List Space) (us : List SourceUnit) (limits : Limits) (m : Map) → segment_storage agreed spaces ≡ map storage_of us → All IsStorable us → AnswersPlace (segment_storage agreed spaces) spaces limits (Ok m) → ValidStorageMap us limits m
   pub names : (faces : List Face) (g : ℕ) (f : Face) → slice_get faces g ≡ Some f → names_of (agreed_of faces) g ≡ map (λ (d : Desc). d.name) f.descs
   pub gives : (value : Filling) (pieces : List Coded) (before behind : List ℕ) → fill value (length before) (relocations 0 pieces) (before ++ (blanks pieces ++ behind)) ≡ before ++ (filled value (length before) pieces ++ behind)
   pub long : (value : Filling) (at : ℕ) (pieces : List Coded) → length (filled value at pieces) ≡ length (blanks pieces)

@@ -17,6 +17,7 @@ use Rattle.cw_unit.specs.Storage.{layout_of}
 use Rattle.cw_unit.specs.StackBound.{unit_need}
 use Rattle.cw_unit.specs.Allocation.{storage_map}
 use Rattle.cw_unit.specs.InitialMemory.{filled_words, initial_memory}
+use Rattle.cw_unit.specs.ValidStorage.{ValidStorageMap}
 use Rattle.cw_order.specs.OrderProgram.{OrderProgram}
 use Rattle.cw_gen_unit.specs.BuiltUnits.{Suits}
 use Rattle.cw_gen_unit.specs.ReferenceUnits.{unit_orders, orders_program}
@@ -69,6 +70,13 @@ module _ (given : Given) where
 
 -- ---- units that link
 
+all-built : (us : List SourceUnit) → All IsCompilable us → All (λ u. IsTrue (is_built u)) us
+all-built us compiled = All-weaker IsCompilable (λ u. IsTrue (is_built u)) (λ u e. e.built) us compiled
+
+-- their storage map is valid
+pub valid_storage : Given → (us : List SourceUnit) (limits : Limits) → All IsCompilable us → Links us limits → ValidStorageMap us limits (storage_map us)
+valid_storage given us limits compiled links = valid given us limits (all-built us compiled) links.words.place
+
 module _ (given : Given) (us : List SourceUnit) (limits : Limits) (input : List ℕ) (some : us ≢ []) (most : length us ≤ 200) (compiled : All IsCompilable us) (in_limits : IsLimits limits) (links : Links us limits) where
   abbrev m : Map
   m = storage_map us
@@ -77,7 +85,7 @@ module _ (given : Given) (us : List SourceUnit) (limits : Limits) (input : List 
   orders = orders_program us m limits 32000
 
   built : All (λ u. IsTrue (is_built u)) us
-  built = All-weaker IsCompilable (λ u. IsTrue (is_built u)) (λ u e. e.built) us compiled
+  built = all-built us compiled
 
   coded : All (λ u. IsTrue (have_code (unit_orders u))) us
   coded = All-weaker IsCompilable (λ u. IsTrue (have_code (unit_orders u))) (λ u e. e.coded) us compiled
@@ -90,7 +98,7 @@ module _ (given : Given) (us : List SourceUnit) (limits : Limits) (input : List 
 
   suits : Suits us m limits 32000
   suits = record {
-    valid = valid given us limits built in_limits links.words.place;
+    valid = valid_storage given us limits compiled links;
     area = in_limits.1;
     has_room = room-by us limits links.words.place.2;
   }

@@ -18,7 +18,7 @@ use Rattle.cw_comm.specs.Clashes.{agreed_of}
 use Rattle.cw_place.specs.declared.space.Space.{Space}
 use Rattle.cw_place.specs.Fitting as fitting
 use Rattle.cw_place.specs.Segments.{names_of, storage_from, segment_storage}
-use Rattle.cw_place.specs.Placement.{IsLimits, AnswersPlace, NoneOutside, FitsData, FitsControl}
+use Rattle.cw_place.specs.Placement.{AnswersPlace, NoneOutside, FitsData, FitsControl}
 use Rattle.cw_link.specs.Contents.{Contents}
 use Rattle.cw_link.specs.LinkedImage.{spaces_of}
 use Rattle.cw_link.specs.LinkedImage as linked
@@ -103,5 +103,5 @@ module _ (given : Given) (us : List SourceUnit) (limits : Limits) where
   storable (v ∷ vs) h =
       All-cons IsStorable v vs (given.layout v (All-head (λ u. IsTrue (is_built u)) v vs h)).storable (storable vs (All-tail (λ u. IsTrue (is_built u)) v vs h))
 
-  pub valid : All (λ u. IsTrue (is_built u)) us → IsLimits limits → HavePlace (contents_of_units us) limits → ValidStorageMap us limits (storage_map us)
-  valid built in_limits place = given.valid agreed spaces us limits (storage_map us) storage-same (storable us built) in_limits (has-place place)
+  pub valid : All (λ u. IsTrue (is_built u)) us → HavePlace (contents_of_units us) limits → ValidStorageMap us limits (storage_map us)
+  valid built place = given.valid agreed spaces us limits (storage_map us) storage-same (storable us built) (has-place place)

@@ -5,6 +5,7 @@ ghost use Rattle.cw_i86.specs.MachineRun.{IsStart};
 ghost use Rattle.cw_unit.specs.declared.unit.Unit.{Unit as SourceUnit};
 ghost use Rattle.cw_unit.specs.declared.layout.Limits.{Limits};
 ghost use Rattle.cw_unit.specs.Allocation.{storage_map};
+ghost use Rattle.cw_unit.specs.ValidStorage.{ValidStorageMap};
 ghost use Rattle.cw_place.specs.Placement.{IsLimits};
 ghost use Rattle.cw_sim.specs.Preservation.{IsLoaded};
 ghost use Rattle.cw_build.specs.Compiled.{IsCompilable};
@@ -16,10 +17,11 @@ use cw_object::laws::writable;
 use cw_place::laws::{agreed_segments, valid_maps};
 use cw_tmpl::laws::filling;
 
-/// The processor that begins with the image and the first words of units that can be compiled and link, 200 at most, is loaded with them,
-/// at every input of bytes.
+/// Units that can be compiled and link, 200 at most: their storage map is valid, and the processor that begins with their image and their first words is loaded
+/// with them, at every input of bytes.
 pub fn loaded()
-    ensures { (us : List SourceUnit) (limits : Limits) (input : List ℕ) (s : State) → us ≢ [] → length us ≤ 200 → All IsCompilable us → IsLimits limits → Links us limits → All (λ b. b < 256) input →
+    ensures valid_storage { (us : List SourceUnit) (limits : Limits) → All IsCompilable us → Links us limits → ValidStorageMap us limits (storage_map us) }
+    ensures started { (us : List SourceUnit) (limits : Limits) (input : List ℕ) (s : State) → us ≢ [] → length us ≤ 200 → All IsCompilable us → IsLimits limits → Links us limits → All (λ b. b < 256) input →
         IsStart (image_of us limits).code (image_of us limits).words s → IsLoaded us (storage_map us) limits input s }
 {
     built_units();

@@ -11,7 +11,7 @@ use Rattle.cw_files.specs.Reading.{HaveBytes, HaveValues, AllTaken, StopsImages}
 use Rattle.cw_correct.specs.Calls.{Call, told_files, NoFault}
 use Rattle.cw_correct.specs.Files.{counts_before, counts_after, AllAccepted}
 use Rattle.cw_correct.specs.Saying.{SaysLast}
-use Rattle.cw_correct.specs.Running.{RunsImage, ReadsInput}
+use Rattle.cw_correct.specs.Running.{begins_as, RunsImage, ReadsInput}
 use Rattle.cw_correct.specs.Meaning.{TellBytes}
 use Rattle.cw_say.specs.declared.status.Status.{Status}
 use Rattle.cw_say.specs.declared.status.Status.TheVariants.{Ended, Usage, Refused, Unlinked, Stopped, Unfinished, NoFile, Outside, NoMemory, BadFile, TooLong, BadCode, Divided}
@@ -67,8 +67,8 @@ pub record ExecutesRight (c : Call) (input : List ℕ) (status : Status) : Type 
   pub have_images : HaveValues HasImage texts images
   pub comes : ExecComes c texts images status
   pub says : SaysLast c.before c.after c.names (first_image images).names status
-  pub runs_image : RunsImage c input (first_image images) instructions shown status
-  pub read_ahead : ReadsInput c input (first_image images) instructions shown status
+  pub runs_image : RunsImage c input (begins_as (first_image images)) instructions shown status
+  pub read_ahead : ReadsInput c input (begins_as (first_image images)) instructions shown status
   pub within_limit : status ≢ TooLong long.Input → TakenWithin c.before.left c.after.left
   pub completes : CompletesExec c input status
   pub stays : AllStay c.before.files c.after.files

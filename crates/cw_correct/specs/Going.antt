@@ -8,19 +8,21 @@ use Rattle.cw_ports.specs.Pieces.{input_limit}
 use Rattle.cw_ports.specs.Running.{Taken, TakenWithin}
 use Rattle.cw_unit.specs.declared.unit.Unit.{Unit as SourceUnit}
 use Rattle.cw_unit.specs.Allocation.{storage_map}
-use Rattle.cw_unit.specs.ValidStorage.{FitsArea, ValidStorageMap}
+use Rattle.cw_unit.specs.ValidStorage.{ValidStorageMap}
 use Rattle.cw_unit.specs.Program.{program_of}
+use Rattle.cw_unit.specs.Configuration.{FramesApart, activations_of}
+use Rattle.cw_unit.specs.Behaviour.{configuration_after}
 use Rattle.cw_lex.specs.Lexical.{Lexeme}
 use Rattle.cw_compile.specs.Texts.{text_limit, ExpandsTo}
 use Rattle.cw_link.specs.declared.fault.LinkFault.{LinkFault}
 use Rattle.cw_link.specs.declared.fault.LinkFault.TheVariants.{CodeTooBig}
 use Rattle.cw_build.specs.Linking.{Links, IsLinkFault, image_of, map_text}
 use Rattle.cw_files.specs.Texts.{HasUnit}
-use Rattle.cw_files.specs.Reading.{HaveBytes, HaveValues, AllTaken, StopsTexts}
+use Rattle.cw_files.specs.Reading.{HaveBytes, HaveValues, StopsTexts}
 use Rattle.cw_correct.specs.Calls.{Call, told_files}
 use Rattle.cw_correct.specs.Files.{counts_before, counts_after, AllAccepted}
 use Rattle.cw_correct.specs.Saying.{SaysFirst}
-use Rattle.cw_correct.specs.Running.{RunsImage, ReadsInput}
+use Rattle.cw_correct.specs.Running.{begins_as, RunsImage, ReadsInput}
 use Rattle.cw_correct.specs.Meaning.{PreservesMeaning, CompletesRuns}
 use Rattle.cw_say.specs.declared.status.Status.{Status}
 use Rattle.cw_say.specs.declared.status.Status.TheVariants.{Ended, Usage, Refused, Unlinked, Stopped, Unfinished, NoFile, Outside, NoMemory, BadFile, TooLong, BadCode, Divided}
@@ -83,11 +85,12 @@ pub record RunsTexts (telling : Telling) (c : Call) (input : List ℕ) (status :
   pub have_units : HaveValues HasUnit texts units
   pub comes : GoComes c texts units status
   pub telling_first : SaysFirst c.before c.after (telling units) c.names (names_of units) status
-  pub runs_image : RunsImage c input (image_of units c.limits) instructions shown status
-  pub read_ahead : ReadsInput c input (image_of units c.limits) instructions shown status
+  pub runs_image : RunsImage c input (begins_as (image_of units c.limits)) instructions shown status
+  pub read_ahead : ReadsInput c input (begins_as (image_of units c.limits)) instructions shown status
   pub within_limit : status ≢ TooLong long.Input → TakenWithin c.before.left c.after.left
   pub preserves : AreBytes input → PreservesMeaning (program_of units c.limits) input instructions shown status
-  pub valid_storage : (us : List SourceUnit) → AllTaken text_limit HasUnit (told_files c) us → FitsArea us c.limits → ValidStorageMap us c.limits (storage_map us)
+  pub valid_storage : AllAccepted c units → Links units c.limits → ValidStorageMap units c.limits (storage_map units)
+  pub frames_apart : (m : ℕ) → FramesApart (program_of units c.limits) (activations_of (configuration_after (program_of units c.limits) input m))
   pub completes : CompletesRuns c input status
   pub stays : AllStay c.before.files c.after.files
 

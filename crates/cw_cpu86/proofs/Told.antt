@@ -109,6 +109,11 @@ is_used_after Silent old new is = ap (λ d. d.is_used) is ∙ sym (or-false old.
 is_used_after (Takes port value) old new is = ap (λ d. d.is_used) is.1 ∙ ap (λ b. old.is_used || b) (sym (or-false (is_of_input port)))
 is_used_after (Gives port value) old new is = ap (λ d. d.is_used) is ∙ sym (or-false old.is_used)
 
+is_cut_after : (event : Event) (old new : Device) → Answers event old new → new.is_cut ≡ old.is_cut
+is_cut_after Silent old new is = ap (λ d. d.is_cut) is
+is_cut_after (Takes port value) old new is = ap (λ d. d.is_cut) is.1
+is_cut_after (Gives port value) old new is = ap (λ d. d.is_cut) is
+
 left_after_event : (event : Event) (old new : Device) → Answers event old new → new.left ≡ option_map (left_behind (event ∷ [])) old.left
 left_after_event Silent old new is = ap (λ d. d.left) is ∙ sym (map-same old.left)
 left_after_event (Takes port value) old new is = ap (λ d. d.left) is.1
@@ -146,6 +151,7 @@ follows_more events event d e f so_far answers =
       at_end = at_end_after_event event e f answers ∙ ap (at_end_behind one) so_far.at_end ∙ sym (at_end_behind-append events one d.at_end);
       is_used = is_used_after event e f answers ∙ ap (λ b. b || asks_input one) so_far.is_used ∙ or_assoc d.is_used (asks_input events) (asks_input one)
           ∙ ap (λ b. d.is_used || b) (sym (asks_input-append events one));
+      is_cut = is_cut_after event e f answers ∙ so_far.is_cut;
       held = held_after event e f answers ∙ ap (λ told. after_told told (written one)) so_far.held ∙ told-append d.held (written events) (written one)
           ∙ ap (after_told d.held) (sym (written-append events one));
       kind = kind_after event e f answers ∙ ap (given_to 0x13 event) so_far.kind ∙ sym (last_given-append 0x13 events one d.kind);
@@ -160,6 +166,7 @@ follows_none d = record {
   left = sym (map-same d.left);
   at_end = refl;
   is_used = sym (or-false d.is_used);
+  is_cut = refl;
   held = sym (told-nil d.held);
   kind = refl;
   segment = refl;

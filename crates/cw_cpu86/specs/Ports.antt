@@ -4,11 +4,12 @@ use Rattle.cw_io.specs.Bytes.{after_told}
 use Rattle.cw_i86.specs.MachineRun.{Event, Silent, Takes, Gives, taken, left_after, left_behind, FitsInput, is_of_input, asks_input, written, last_given}
 
 -- The input left and the output, where they are told; whether the input is at its end, where port 11h said so and no byte was taken since then; whether port 10h
--- or 11h was used; and the last byte given to each of ports 13h to 16h, 0 where none was.
+-- or 11h was used, and whether one of them refused a byte; and the last byte given to each of ports 13h to 16h, 0 where none was.
 pub record Device : Type 0 where
   pub left : Option (List ℕ)
   pub at_end : Option Bool
   pub is_used : Bool
+  pub is_cut : Bool
   pub held : Option (List ℕ)
   pub kind : ℕ
   pub segment : ℕ
@@ -42,12 +43,15 @@ at_end_after port value at_end =
     else if port == 0x11 then Some (value == 1)
     else at_end
 
+abbrev pub used_at : (port : ℕ) → Device → Device
+used_at port d = record d { is_used = d.is_used || is_of_input port }
+
 -- A port that gave no byte was used all the same.
 abbrev pub after_refused_take : (port : ℕ) → Device → Device
-after_refused_take port d = record d { is_used = d.is_used || is_of_input port }
+after_refused_take port d = record (used_at port d) { is_cut = d.is_cut || is_of_input port }
 
 abbrev pub after_take : (port value : ℕ) → Device → Device
-after_take port value d = record (after_refused_take port d) { left = option_map (left_after port) d.left; at_end = at_end_after port value d.at_end }
+after_take port value d = record (used_at port d) { left = option_map (left_after port) d.left; at_end = at_end_after port value d.at_end }
 
 abbrev pub after_give : (port value : ℕ) → Device → Device
 after_give port value d = record d {
@@ -89,6 +93,7 @@ pub record Follows (events : List Event) (old new : Device) : Type 0 where
   pub left : new.left ≡ option_map (left_behind events) old.left
   pub at_end : new.at_end ≡ at_end_behind events old.at_end
   pub is_used : new.is_used ≡ (old.is_used || asks_input events)
+  pub is_cut : new.is_cut ≡ old.is_cut
   pub held : new.held ≡ after_told old.held (written events)
   pub kind : new.kind ≡ last_given 0x13 events old.kind
   pub segment : new.segment ≡ last_given 0x14 events old.segment

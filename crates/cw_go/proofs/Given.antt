@@ -1,16 +1,16 @@
 -- The laws that the promise of `go` stands on.
 use Rattle.std.proofs.Common.{◌≡◌, ◌≢◌, ℕ, ◌+◌, ◌*◌, ◌<◌, ◌≤◌, List, [], length, map}
-use Rattle.std.specs.Prelude.{All, IsTrue, sum}
+use Rattle.std.specs.Prelude.{All, sum}
 use Rattle.cw_i86.specs.State.{State}
 use Rattle.cw_i86.specs.MachineRun as run
 use Rattle.cw_unit.specs.declared.unit.Unit.{Unit as SourceUnit}
 use Rattle.cw_unit.specs.declared.layout.Limits.{Limits}
 use Rattle.cw_unit.specs.declared.layout.Map.{Map}
 use Rattle.cw_unit.specs.Allocation.{storage_map}
-use Rattle.cw_unit.specs.HasLayout.{HasLayout}
-use Rattle.cw_unit.specs.ValidStorage.{IsStorable, FitsArea, ValidStorageMap}
-use Rattle.cw_unit.specs.Program.{program_at}
-use Rattle.cw_built.specs.Built.{is_built}
+use Rattle.cw_unit.specs.ValidStorage.{ValidStorageMap}
+use Rattle.cw_unit.specs.Program.{Program, program_at}
+use Rattle.cw_unit.specs.Configuration.{FramesApart, activations_of}
+use Rattle.cw_unit.specs.Behaviour.{configuration_after}
 use Rattle.cw_sim.specs.Preservation.{IsLoaded, Preserves, Completes}
 use Rattle.cw_place.specs.Placement.{IsLimits}
 use Rattle.cw_compile.specs.Outcomes.{HasOneUnit, HasOneRefusal, HasNotBoth, CountsTokens}
@@ -31,10 +31,10 @@ pub record OneOfText : Type 0 where
 abbrev pub AreCompilable : Type 0
 AreCompilable = (texts : List (List ℕ)) (us : List SourceUnit) → HaveValues HasUnit texts us → All IsCompilable us
 
--- on storage
+-- on storage: the map of what links, and the frames of a run
 pub record OnStorage : Type 0 where
-  pub layout : (u : SourceUnit) → IsTrue (is_built u) → HasLayout u
-  pub storage : (us : List SourceUnit) (limits : Limits) → All IsStorable us → FitsArea us limits → ValidStorageMap us limits (storage_map us)
+  pub map : (us : List SourceUnit) (limits : Limits) → All IsCompilable us → Links us limits → ValidStorageMap us limits (storage_map us)
+  pub frames : (p : Program) (input : List ℕ) (m : ℕ) → FramesApart p (activations_of (configuration_after p input m))
 
 -- on runs
 pub record OnRuns : Type 0 where

@@ -8,7 +8,7 @@ use Rattle.cw_i86.specs.MachineRun as run
 use Rattle.cw_unit.specs.declared.unit.Unit.{Unit as SourceUnit}
 use Rattle.cw_unit.specs.declared.layout.Limits.{Limits}
 use Rattle.cw_unit.specs.Allocation.{storage_map}
-use Rattle.cw_unit.specs.ValidStorage.{IsStorable, FitsArea, ValidStorageMap}
+use Rattle.cw_unit.specs.ValidStorage.{ValidStorageMap}
 use Rattle.cw_track.specs.Tracking.{step_ratio}
 use Rattle.cw_unit.specs.Program.{program_of}
 use Rattle.cw_unit.specs.Stop.{End, Running}
@@ -28,9 +28,8 @@ use Rattle.cw_go.proofs.Given.{OneOfText, AreCompilable, OnStorage, OnRuns}
 
 -- ---- units of texts
 
-pub valid : AreCompilable → OnStorage → (limits : Limits) (texts : List (List ℕ)) (us : List SourceUnit) → HaveValues HasUnit texts us → FitsArea us limits → ValidStorageMap us limits (storage_map us)
-valid compilable given limits texts us have fits =
-    given.storage us limits (All-weaker IsCompilable IsStorable (λ u x. (given.layout u x.built).storable) us (compilable texts us have)) fits
+pub valid : AreCompilable → OnStorage → (limits : Limits) (texts : List (List ℕ)) (us : List SourceUnit) → HaveValues HasUnit texts us → Links us limits → ValidStorageMap us limits (storage_map us)
+valid compilable given limits texts us have links = given.map us limits (compilable texts us have) links
 
 -- the tokens of the units are the items to which the texts expand
 pub record Expanded (texts : List (List ℕ)) (us : List SourceUnit) : Type 0 where

@@ -35,7 +35,7 @@ use Rattle.cw_correct.specs.Calls.{Surroundings, Call, call_as, told_files, NoFa
 use Rattle.cw_correct.specs.Files.{counts_before, counts_after}
 use Rattle.cw_correct.specs.Closing.{Closes}
 use Rattle.cw_correct.specs.Saying.{IsFirstPart, SaysFirst}
-use Rattle.cw_correct.specs.Running.{Tells, Ran, Cut, RunsImage, Leaves, ReadsInput}
+use Rattle.cw_correct.specs.Running.{begins_as, Tells, Ran, Cut, RunsImage, Leaves, ReadsInput}
 use Rattle.cw_correct.specs.Meaning.{PreservesMeaning, TellsUnits, CompletesRuns}
 use Rattle.cw_correct.specs.Going.{Telling, HasCause, GoComes, names_of, RunsTexts}
 use Rattle.cw_say.specs.declared.status.Status.{Status}
@@ -91,7 +91,7 @@ module _ (given : Given) (telling : Telling) (action : Action) (limits : Limits)
       (input, is_input, right input)
 
   make : (input : List ℕ) (status : Status) → ClosesBy status → (texts : List (List ℕ)) (us : List SourceUnit) (n : ℕ) (shown : run.Observed) → HaveBytes text_limit (told_files c) texts → HaveValues HasUnit texts us
-      → GoComes c texts us status → SaysFirst before after (telling us) names (names_of us) status → RunsImage c input (image_of us limits) n shown status → ReadsInput c input (image_of us limits) n shown status
+      → GoComes c texts us status → SaysFirst before after (telling us) names (names_of us) status → RunsImage c input (begins_as (image_of us limits)) n shown status → ReadsInput c input (begins_as (image_of us limits)) n shown status
       → (status ≢ TooLong long.Input → ports.TakenWithin before.left after.left) → (AreBytes input → PreservesMeaning (program_of us limits) input n shown status) → CompletesRuns c input status → RunsTexts telling c input status
   make input status closes texts us n shown have units comes lists runs reads within preserves completes = record {
     texts = texts;
@@ -106,7 +106,8 @@ module _ (given : Given) (telling : Telling) (action : Action) (limits : Limits)
     read_ahead = reads;
     within_limit = within;
     preserves = preserves;
-    valid_storage = λ vs x fits. meant.valid given.units given.storages limits x.texts vs x.have_values fits;
+    valid_storage = λ all links. meant.valid given.units given.storages limits texts us units links;
+    frames_apart = given.storages.frames (program_of us limits) input;
     completes = completes;
     stays = λ name. ap (λ f. f name) closes.files ∙ stays name;
   }
@@ -318,7 +319,7 @@ module _ (given : Given) (telling : Telling) (action : Action) (limits : Limits)
 
         module _ (s : State) (start : run.IsStart (image_of us limits).code (image_of us limits).words s) (input : List ℕ) where
           ran : (status : Status) (o : run.Observed) → run.Shows s input steps o → Tells steps status o.end → between.out ≡ after_told before.out o.output
-              → between.input_faults ≡ before.input_faults → between.out_faults ≡ before.out_faults → ClosesBy status → Ran c input (image_of us limits) steps o status
+              → between.input_faults ≡ before.input_faults → between.out_faults ≡ before.out_faults → ClosesBy status → Ran c input (begins_as (image_of us limits)) steps o status
           ran status o shows told output quiet_input quiet closes = record {
             all = refl;
             shows = record { start = s; is_start = start; shows = shows };
@@ -331,21 +332,27 @@ module _ (given : Given) (telling : Telling) (action : Action) (limits : Limits)
             no_say_fault = λ e. closes.ended e ∙ x.same;
           }
 
-          leaves : (n : ℕ) (o : run.Observed) (is_asking : Bool) → ports.Ran s input n before.left between.left is_asking o → after.left ≡ between.left → Leaves c input (image_of us limits) n o is_asking
+          leaves : (n : ℕ) (o : run.Observed) (is_asking : Bool) → ports.Ran s input n before.left between.left is_asking o → after.left ≡ between.left → Leaves c input (begins_as (image_of us limits)) n o is_asking
           leaves n o is_asking r same = record {
             shows = record { start = s; is_start = start; shows = r.shows };
-            ahead = subst (λ l. ports.ReadsAhead r.shows.events before.left l is_asking) (sym same) r.ahead;
+            ahead = record {
+              hand = r.ahead.hand;
+              piece = r.ahead.piece;
+              rest = r.ahead.rest ∙ ap (before_told r.ahead.hand) (sym same);
+              untouched = λ none. same ∙ r.ahead.untouched none;
+            };
+            asks = r.asks;
           }
 
           took : ports.TakenWithin before.left between.left → after.left ≡ between.left → ports.TakenWithin before.left after.left
           took taken_too same = subst (λ l. ports.TakenWithin before.left l) (sym same) taken_too
 
-          cut : (n : ℕ) (o : run.Observed) → n < steps → run.Shows s input n o → o.end ≡ run.Running → after.out ≡ after_told before.out o.output → Cut c input (image_of us limits) n o
+          cut : (n : ℕ) (o : run.Observed) → n < steps → run.Shows s input n o → o.end ≡ run.Running → after.out ≡ after_told before.out o.output → Cut c input (begins_as (image_of us limits)) n o
           cut n o few shows running output = record { within = few; shows = record { start = s; is_start = start; shows = shows }; running = running; output = output }
 
           -- a run that came to its end
           over : (status : Status) → ClosesBy status → (o : run.Observed) → GoComes c taken.texts us status → SaysFirst before after listing names (names_of us) status
-              → RunsImage c input (image_of us limits) steps o status → ReadsInput c input (image_of us limits) steps o status → (status ≢ TooLong long.Input → ports.TakenWithin before.left after.left)
+              → RunsImage c input (begins_as (image_of us limits)) steps o status → ReadsInput c input (begins_as (image_of us limits)) steps o status → (status ≢ TooLong long.Input → ports.TakenWithin before.left after.left)
               → (AreBytes input → PreservesMeaning (program_of us limits) input steps o status) → CompletesRuns c input status → RunsTexts telling c input status
           over status closes o comes says runs reads within_limit preserves completes =
               make input status closes taken.texts us steps o taken.have_bytes taken.have_values comes says runs reads within_limit preserves completes
@@ -377,18 +384,18 @@ module _ (given : Given) (telling : Telling) (action : Action) (limits : Limits)
               over status closes o (all_of, links) (lists_whole status refl closes) (ran status o r.shows told output quiet_input quiet_out closes) (leaves steps o false r closes.left) (λ other. took took_all closes.left)
               (λ bytes. meant.never_divided given.runs us limits some_units most_units compiled within links input bytes s start steps offset o r.shows told)
               (λ vs m tells also quiet bytes short soon ends. meant.never_divided given.runs us limits some_units most_units compiled within links input bytes s start steps offset o r.shows told)
-          run_goes ends.InputFault (r, took_some, rose) closes =
+          run_goes ends.InputFault ((r, dry), took_some, rose) closes =
               let status = Outside Input in
               let risen : Rose before.input_faults after.input_faults = subst (λ k. Rose before.input_faults k) (sym closes.input_faults) rose in
               make input status closes taken.texts us r.n r.shown taken.have_bytes taken.have_values (all_of, links, risen) (lists_whole status refl closes)
-              (cut r.n r.shown r.within r.ran.shows r.running (closes.out ∙ r.output)) (r.is_asking, leaves r.n r.shown r.is_asking r.ran closes.left) (λ other. took took_some closes.left)
+              (cut r.n r.shown r.within r.ran.shows r.running (closes.out ∙ r.output)) (leaves r.n r.shown true r.ran closes.left, dry) (λ other. took took_some closes.left)
               (λ bytes. meant.preserves given.runs us limits some_units most_units compiled within links input bytes s start r.n r.shown r.ran.shows)
               (λ vs m tells also quiet bytes short soon ends. absurd (quiet.input risen))
           run_goes ends.TooLong (r, took_more, long_input) closes =
               let status = TooLong long.Input in
               let over_limit : ports.Taken before.left after.left (input_limit + 1) = subst (λ l. ports.Taken before.left l (input_limit + 1)) (sym closes.left) took_more in
               make input status closes taken.texts us r.n r.shown taken.have_bytes taken.have_values (all_of, links, over_limit) (lists_whole status refl closes)
-              (cut r.n r.shown r.within r.ran.shows r.running (closes.out ∙ r.output), long_input) (r.is_asking, leaves r.n r.shown r.is_asking r.ran closes.left) (λ other. absurd (other refl))
+              (cut r.n r.shown r.within r.ran.shows r.running (closes.out ∙ r.output), long_input) (leaves r.n r.shown true r.ran closes.left) (λ other. absurd (other refl))
               (λ bytes. meant.preserves given.runs us limits some_units most_units compiled within links input bytes s start r.n r.shown r.ran.shows)
               (λ vs m tells also quiet bytes short soon ends. absurd (omega (arith, short, long_input)))
           run_goes ends.OutFault (n, few, is_asking, o, r, (count, output), took_some, quiet_input, rose) closes =

@@ -3,12 +3,11 @@ ghost use Rattle.cw_go.specs.Laws.{KeepsPromise, IsRightIdle, HasOneStatus};
 
 use cw_build::laws::linked_units;
 use cw_build_laws::laws::loaded;
-use cw_built_laws::laws::built_units;
 use cw_compile::laws::one_outcome;
 use cw_cpu86::laws::{one_observation, one_start};
 use cw_sim::laws::preservation;
 use cw_texts::laws::compiled_units;
-use cw_unit::laws::storage_maps;
+use cw_unit::laws::configurations;
 
 /// A call that goes so up to its closing line, and is closed so, keeps its promise. So does one that did nothing else, for want of memory.
 pub fn promises()
@@ -19,8 +18,7 @@ pub fn promises()
     compiled_units();
     loaded();
     linked_units();
-    built_units();
-    storage_maps();
+    configurations();
     preservation();
     one_observation();
 }

@@ -14,7 +14,7 @@ use Rattle.cw_comm.specs.declared.face.Agreed.{Agreed}
 use Rattle.cw_place.specs.declared.space.Space.{Space}
 use Rattle.cw_place.specs.Fitting.{or_else, outside_at, outside_in, in_segment, first_outside}
 use Rattle.cw_place.specs.Segments.{segment_storage, absolute_words}
-use Rattle.cw_place.specs.Placement.{IsLimits, NoneOutside, FitsData}
+use Rattle.cw_place.specs.Placement.{NoneOutside, FitsData}
 use Rattle.cw_place.proofs.SameFits.{words_are}
 
 -- a range that ends before so many words
@@ -51,10 +51,10 @@ inside-spaces room g (s ∷ ss) h =
     let p = neither (in_segment g (outside_in room s.families)) (first_outside room (g + 1) ss) h in
     All-append (EndsBy room) (absolute_ranges_in s.families) (absolute_words ss) (inside-families room s.families (none-in g (outside_in room s.families) p.0)) (inside-spaces room (g + 1) ss p.1)
 
-pub fits_area : (agreed : Agreed) (spaces : List Space) (us : List SourceUnit) (limits : Limits) → segment_storage agreed spaces ≡ map storage_of us → IsLimits limits → NoneOutside spaces limits → FitsData (segment_storage agreed spaces) limits → FitsArea us limits
-fits_area agreed spaces us limits are ok none data_ =
+pub fits_area : (agreed : Agreed) (spaces : List Space) (us : List SourceUnit) (limits : Limits) → segment_storage agreed spaces ≡ map storage_of us → NoneOutside spaces limits → FitsData (segment_storage agreed spaces) limits → FitsArea us limits
+fits_area agreed spaces us limits are none data_ =
     let each : All (EndsBy (limits.area - limits.frames)) (absolute_ranges (map storage_of us)) = subst (λ rs. All (EndsBy (limits.area - limits.frames)) rs) (sym (words_are 0 agreed spaces) ∙ ap absolute_ranges are) (inside-spaces (limits.area - limits.frames) 1 spaces none) in
     record {
       placed = subst (λ ss. (map_of ss).end + limits.frames ≤ limits.area) are data_;
-      absolute = λ k d lt. omega (arith, each k d lt, ok.0);
+      absolute = λ k d lt. omega (arith, each k d lt, data_);
     }

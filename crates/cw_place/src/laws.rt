@@ -11,7 +11,7 @@ ghost use Rattle.cw_comm.specs.declared.face.Face.{Face};
 ghost use Rattle.cw_comm.specs.Clashes.{agreed_of};
 ghost use Rattle.cw_place.specs.declared.space.Space.{Space};
 ghost use Rattle.cw_place.specs.Segments.{names_of, segment_storage, AreOf, HaveOwnFamilies};
-ghost use Rattle.cw_place.specs.Placement.{IsLimits, AnswersPlace};
+ghost use Rattle.cw_place.specs.Placement.{AnswersPlace};
 
 use cw_comm::laws::names;
 use cw_unit::laws::storage_maps;
@@ -19,7 +19,7 @@ use cw_unit::laws::storage_maps;
 /// A map that is given for units is valid: overlaid items share exactly their words, others none but those of absolute
 /// families whose numbers meet.
 pub fn valid_maps()
-    ensures { (agreed : Agreed) (spaces : List Space) (us : List SourceUnit) (limits : Limits) (m : Map) → segment_storage agreed spaces ≡ map storage_of us → All IsStorable us → IsLimits limits → AnswersPlace (segment_storage agreed spaces) spaces limits (Ok m) → ValidStorageMap us limits m }
+    ensures { (agreed : Agreed) (spaces : List Space) (us : List SourceUnit) (limits : Limits) (m : Map) → segment_storage agreed spaces ≡ map storage_of us → All IsStorable us → AnswersPlace (segment_storage agreed spaces) spaces limits (Ok m) → ValidStorageMap us limits m }
 {
     storage_maps();
 }

@@ -222,5 +222,9 @@ unless_none None some = refl
 unless_none (Some true) some = refl
 unless_none (Some false) some = absurd (some refl)
 
+-- and none where nothing stands between them
+pub part-none : (bytes : List ℕ) (from to : ℕ) → from ≡ to → part bytes from to ≡ []
+part-none bytes from to same = let none : to - from ≡ 0 = omega (arith, same) in ap (λ n. take n (drop from bytes)) none
+
 pub part-length : (bytes : List ℕ) (from to limit : ℕ) → to ≤ limit → length (part bytes from to) ≤ limit
 part-length bytes from to limit room = grind (arith, common_steps)

@@ -17,7 +17,7 @@ use Rattle.cw_io.specs.Count.{Rose}
 use Rattle.cw_ports.specs.Later.{InputSide, InputGoes, InputFrom, InputLater, SupplyCause, OutputSide, OutputGoes, OutputFrom, OutputLater, OutputCause, IsSettled, faults_of}
 use Rattle.cw_ports.specs.Supplies.{is_too_long}
 use Rattle.cw_ports.specs.declared.supply.Supply.{Supply}
-use Rattle.cw_ports.specs.Running.{IsInput, Ran, Taken, Tells, Outside, outside, Cut, RunShows, RunTells}
+use Rattle.cw_ports.specs.Running.{IsInput, AsksInput, Ran, Taken, Tells, Outside, outside, Cut, RunShows, RunTells}
 use Rattle.cw_ports.specs.declared.supply.Supply.TheVariants.{Open, Faulty}
 use Rattle.cw_ports.specs.declared.supply.Supply.TheVariants as supplies
 use Rattle.cw_ports.specs.declared.running.ImageEnd.{ImageEnd}
@@ -34,6 +34,8 @@ pub record Seen (s : State) (n : ℕ) (d d' : Device) (is_asking : Bool) (end : 
   pub left : d'.left ≡ option_map (left_behind events) d.left
   pub held : d'.held ≡ after_told d.held (written events)
   pub used : d'.is_used ≡ (d.is_used || (asks_input events || is_asking))
+  pub cut : d'.is_cut ≡ (d.is_cut || is_asking)
+  pub asks : is_asking ≡ true → AsksInput s n events
 
 or-none : (b : Bool) → (b || false) ≡ b
 or-none true = refl
@@ -48,6 +50,8 @@ by_went s n k d t e end w is = record {
   left = w.follows.left;
   held = w.follows.held;
   used = w.follows.is_used ∙ ap (λ b. d.is_used || b) (sym (or-none (asks_input w.events)));
+  cut = w.follows.is_cut ∙ sym (or-none d.is_cut);
+  asks = λ is. absurd (true≢false (sym is));
 }
 
 told_end : (d d' : Device) (events : List Event) → NoneTold d → Follows events d d' → end_told d'.kind d'.segment (d'.line_low + 256 * d'.line_high) ≡ end_after events
@@ -72,6 +76,8 @@ seen (ends.PortFault n) limit s s' d d' none (within, (e, w, inl (port, stands, 
     left = ap (λ x. x.left) is ∙ w.follows.left;
     held = ap (λ x. x.held) is ∙ w.follows.held;
     used = ap (λ x. x.is_used) is ∙ ap (λ b. b || is_of_input port) w.follows.is_used ∙ or_assoc d.is_used (asks_input w.events) (is_of_input port);
+    cut = ap (λ x. x.is_cut) is ∙ ap (λ b. b || is_of_input port) w.follows.is_cut;
+    asks = λ asked. (s', port, w.runs, stands, asked);
   },
 )
 seen (ends.PortFault n) limit s s' d d' none (within, (e, w, inr (port, stands, is))) = (
@@ -142,6 +148,7 @@ ran s input n d d' is_asking end left left' hand taken seen fits is fresh in_han
     rest = ap (option_map (left_behind seen.events)) (sym is) ∙ sym seen.left ∙ in_hand;
     untouched = λ none. no_more left left' taken took (unused (seen.used ∙ ap (λ b. b || (asks_input seen.events || is_asking)) fresh ∙ none));
   };
+  asks = seen.asks;
 }
 
 -- a run that no port refused asks for nothing after it
@@ -164,8 +171,8 @@ shown_within (ends.BadCode offset n) limit s s' d d' answers = omega arith
 shown_within (ends.Divide offset n) limit s s' d d' answers = omega arith
 shown_within (ends.PortFault n) limit s s' d d' answers = omega (arith, answers.0)
 
--- what a run shows and takes
-pub record Concluded (end : RunEnd) (steps : ℕ) (s : State) (held : Option (List ℕ)) (d' : Device) (a b : InputSide) : Type 0 where
+-- what a run shows and takes, with these bytes in hand at last
+pub record Concluded (end : RunEnd) (steps : ℕ) (s : State) (held : Option (List ℕ)) (d' : Device) (a b : InputSide) (hand : List ℕ) : Type 0 where
   pub is_asking : Bool
   pub quiet : IsQuiet end is_asking
   pub within : steps_shown end steps ≤ steps
@@ -174,15 +181,17 @@ pub record Concluded (end : RunEnd) (steps : ℕ) (s : State) (held : Option (Li
   pub is_input : IsInput a.left input
   pub long : a.left ≡ None → d'.at_end ≡ None → input_limit + 1 ≤ length input
   pub ran : Ran s input (steps_shown end steps) a.left b.left is_asking (record { output = output; end = end_shown end d' })
+  pub in_hand : ran.ahead.hand ≡ hand
+  pub cut : d'.is_cut ≡ is_asking
   pub held_is : d'.held ≡ after_told held output
   pub took : Took a.left b.left 0 b.taken
   pub cause : SupplyCause b.supply a.faults b
   pub name : b.name ≡ a.name
 
 pub conclude : Fitting → (end : RunEnd) (steps : ℕ) (s s' : State) (d d' : Device) (held : Option (List ℕ)) (a b : InputSide) (hand : List ℕ) → RunAnswers end steps s d s' d' → NoneTold d → d.at_end ≡ None → d.is_used ≡ false
-    → d.left ≡ a.left → d.held ≡ held → d'.left ≡ before_told hand b.left → length hand ≤ 4096 → a.taken ≡ 0 → a.supply ≡ Open → (d'.is_used ≡ false → b.taken ≡ 0) → InputLater a b
-    → Concluded end steps s held d' a b
-conclude fitting end steps s s' d d' held a b hand answers none unknown fresh is held_was in_hand piece nothing is_open unused later =
+    → d.left ≡ a.left → d.held ≡ held → d'.left ≡ before_told hand b.left → length hand ≤ 4096 → a.taken ≡ 0 → a.supply ≡ Open → (d'.is_used ≡ false → b.taken ≡ 0) → d.is_cut ≡ false → InputLater a b
+    → Concluded end steps s held d' a b hand
+conclude fitting end steps s s' d d' held a b hand answers none unknown fresh is held_was in_hand piece nothing is_open unused uncut later =
     let goes : InputGoes a b = subst (λ x. InputFrom x a b) is_open later (omega (arith, nothing)) in
     let took : Took a.left b.left 0 b.taken = subst (λ n. Took a.left b.left n b.taken) nothing goes.took in
     let told = seen end steps s s' d d' none answers in
@@ -197,6 +206,8 @@ conclude fitting end steps s s' d d' held a b hand answers none unknown fresh is
       is_input = over.is_input;
       long = λ untold known. over.long untold (sym (told.1.at_end ∙ ap (at_end_behind told.1.events) unknown) ∙ known);
       ran = ran s over.input (steps_shown end steps) d d' told.0 (end_shown end d') a.left b.left hand b.taken told.1 over.fits is fresh in_hand piece took unused;
+      in_hand = refl;
+      cut = told.1.cut ∙ ap (λ x. x || told.0) uncut;
       held_is = told.1.held ∙ ap (λ h. after_told h (written told.1.events)) held_was;
       took = took;
       cause = goes.cause;
@@ -206,10 +217,10 @@ conclude fitting end steps s s' d d' held a b hand answers none unknown fresh is
 -- the same where an IN or OUT was refused
 pub conclude_refused : Fitting → (end : RunEnd) (n : ℕ) → end ≡ ends.PortFault n → (steps : ℕ) (s s' : State) (d d' : Device) (held : Option (List ℕ)) (a b : InputSide) (hand : List ℕ)
     → RunAnswers end steps s d s' d' → NoneTold d → d.at_end ≡ None → d.is_used ≡ false → d.left ≡ a.left → d.held ≡ held → d'.left ≡ before_told hand b.left → length hand ≤ 4096 → a.taken ≡ 0 → a.supply ≡ Open
-    → (d'.is_used ≡ false → b.taken ≡ 0) → InputLater a b → (n < steps) × Concluded (ends.PortFault n) steps s held d' a b
-conclude_refused fitting end n refused steps s s' d d' held a b hand answers none unknown fresh is held_was in_hand piece nothing is_open unused later =
+    → (d'.is_used ≡ false → b.taken ≡ 0) → d.is_cut ≡ false → InputLater a b → (n < steps) × Concluded (ends.PortFault n) steps s held d' a b hand
+conclude_refused fitting end n refused steps s s' d d' held a b hand answers none unknown fresh is held_was in_hand piece nothing is_open unused uncut later =
     let made : RunAnswers (ends.PortFault n) steps s d s' d' = subst (λ e. RunAnswers e steps s d s' d') refused answers in
-    (made.0, conclude fitting (ends.PortFault n) steps s s' d d' held a b hand made none unknown fresh is held_was in_hand piece nothing is_open unused later)
+    (made.0, conclude fitting (ends.PortFault n) steps s s' d d' held a b hand made none unknown fresh is held_was in_hand piece nothing is_open unused uncut later)
 
 -- ---- what was written
 
@@ -293,7 +304,7 @@ pub goes_out : (a b : OutputSide) → a.is_broken ≡ false → OutputLater a b 
 goes_out a b whole later = subst (λ x. OutputFrom x a b) whole later
 
 -- a run that no port refused
-pub shows_quiet : (status : ImageEnd) (end : RunEnd) (steps : ℕ) (s : State) (d' : Device) (a b : InputSide) (o p : OutputSide) (k : Concluded end steps s o.held d' a b)
+pub shows_quiet : (status : ImageEnd) (end : RunEnd) (steps : ℕ) (s : State) (d' : Device) (a b : InputSide) (o p : OutputSide) {hand : List ℕ} (k : Concluded end steps s o.held d' a b hand)
     → steps_shown end steps ≡ steps → k.is_asking ≡ false → Tells status (end_shown end d') → b.supply ≡ Open → OutputGoes o p → p.is_broken ≡ false → p.held ≡ d'.held
     → RunTells status s steps (Side a o) (Side b p)
 shows_quiet status end steps s d' a b o p k all none tells is_open goes whole written_all =
@@ -307,7 +318,7 @@ shows_quiet status end steps s d' a b o p k all none tells is_open goes whole wr
     )
 
 -- the sink failed
-pub shows_broken : (end : RunEnd) (steps : ℕ) (s : State) (d' : Device) (a b : InputSide) (o p : OutputSide) (pending : List ℕ) (k : Concluded end steps s o.held d' a b)
+pub shows_broken : (end : RunEnd) (steps : ℕ) (s : State) (d' : Device) (a b : InputSide) (o p : OutputSide) (pending : List ℕ) {hand : List ℕ} (k : Concluded end steps s o.held d' a b hand)
     → OutputGoes o p → p.is_broken ≡ true → after_told p.held pending ≡ d'.held → b.supply ≡ Open → RunTells OutFault s steps (Side a o) (Side b p)
 shows_broken end steps s d' a b o p pending k goes broken whole is_open =
     let cause : SupplyCause Open a.faults b = subst (λ x. SupplyCause x a.faults b) is_open k.cause in
@@ -316,23 +327,36 @@ shows_broken end steps s d' a b o p pending k goes broken whole is_open =
     let made : Observed = record { output = k.output; end = end_shown end d' } in
     (k.input, k.is_input, (steps_shown end steps, k.within, k.is_asking, made, k.ran, part, (b.taken, taken_of a.left b.left b.taken k.took, cause.1), cause.0, rose))
 
-cut : (n steps : ℕ) (s : State) (d' : Device) (a b : InputSide) (o p : OutputSide) (k : Concluded (ends.PortFault n) steps s o.held d' a b) → n < steps → p.held ≡ d'.held → Cut s k.input steps (Side a o) (Side b p)
-cut n steps s d' a b o p k less written_all = record {
+abbrev Asked : (n : ℕ) (s : State) (a b : InputSide) → {end : RunEnd} {steps : ℕ} {held : Option (List ℕ)} {d' : Device} {hand : List ℕ} → Concluded end steps s held d' a b hand → Bool → Type 0
+Asked n s a b k is_asking = Ran s k.input n a.left b.left is_asking (record { output = k.output; end = Running })
+
+asked : (n steps : ℕ) (s : State) (d' : Device) (a b : InputSide) {held : Option (List ℕ)} {hand : List ℕ} (k : Concluded (ends.PortFault n) steps s held d' a b hand) → d'.is_cut ≡ true → Asked n s a b k true
+asked n steps s d' a b k is_cut = subst (Asked n s a b k) (sym k.cut ∙ is_cut) k.ran
+
+-- with the same bytes in hand
+still_dry : (n steps : ℕ) (s : State) (d' : Device) (a b : InputSide) {held : Option (List ℕ)} {hand : List ℕ} (k : Concluded (ends.PortFault n) steps s held d' a b hand) (is_cut : d'.is_cut ≡ true)
+    → k.ran.ahead.hand ≡ [] → (asked n steps s d' a b k is_cut).ahead.hand ≡ []
+still_dry n steps s d' a b k is_cut dry = dry_by k.is_asking (sym k.cut ∙ is_cut) k.ran dry
+  where
+    dry_by : (is_asking : Bool) (e : is_asking ≡ true) (r : Asked n s a b k is_asking) → r.ahead.hand ≡ [] → (subst (Asked n s a b k) e r).ahead.hand ≡ []
+    dry_by true refl r dry = dry
+
+cut : (n steps : ℕ) (s : State) (d' : Device) (a b : InputSide) (o p : OutputSide) {hand : List ℕ} (k : Concluded (ends.PortFault n) steps s o.held d' a b hand) → n < steps → d'.is_cut ≡ true → p.held ≡ d'.held → Cut s k.input steps (Side a o) (Side b p)
+cut n steps s d' a b o p k less is_cut written_all = record {
   n = n;
   within = less;
-  is_asking = k.is_asking;
   shown = record { output = k.output; end = Running };
-  ran = k.ran;
+  ran = asked n steps s d' a b k is_cut;
   running = refl;
   output = written_all ∙ k.held_is;
 }
 
 -- the source failed
-pub shows_faulty : (n steps : ℕ) (s : State) (d' : Device) (a b : InputSide) (o p : OutputSide) → Concluded (ends.PortFault n) steps s o.held d' a b → n < steps → p.held ≡ d'.held → b.supply ≡ Faulty
+pub shows_faulty : (n steps : ℕ) (s : State) (d' : Device) (a b : InputSide) (o p : OutputSide) {hand : List ℕ} (k : Concluded (ends.PortFault n) steps s o.held d' a b hand) → n < steps → d'.is_cut ≡ true → k.ran.ahead.hand ≡ [] → p.held ≡ d'.held → b.supply ≡ Faulty
     → RunTells InputFault s steps (Side a o) (Side b p)
-shows_faulty n steps s d' a b o p k less written_all is =
+shows_faulty n steps s d' a b o p k less is_cut dry written_all is =
     let cause : SupplyCause Faulty a.faults b = subst (λ x. SupplyCause x a.faults b) is k.cause in
-    (k.input, k.is_input, (cut n steps s d' a b o p k less written_all, (b.taken, taken_of a.left b.left b.taken k.took, cause.1), cause.0))
+    (k.input, k.is_input, ((cut n steps s d' a b o p k less is_cut written_all, still_dry n steps s d' a b k is_cut dry), (b.taken, taken_of a.left b.left b.taken k.took, cause.1), cause.0))
 
 -- an input of which so many bytes were taken has them
 has_taken : (left left' : Option (List ℕ)) (input : List ℕ) (n : ℕ) → IsInput left input → Taken left left' n → (left ≡ None → n ≤ length input) → n ≤ length input
@@ -343,10 +367,10 @@ has_taken (Some told) (Some rest) input n is (bytes, same, count) long =
     omega (arith, count, length-append bytes rest, ap length whole, ap length is)
 
 -- the source gave a byte too many
-pub shows_too_long : (n steps : ℕ) (s : State) (d' : Device) (a b : InputSide) (o p : OutputSide) → Concluded (ends.PortFault n) steps s o.held d' a b → n < steps → p.held ≡ d'.held → b.supply ≡ supplies.TooLong
+pub shows_too_long : (n steps : ℕ) (s : State) (d' : Device) (a b : InputSide) (o p : OutputSide) {hand : List ℕ} (k : Concluded (ends.PortFault n) steps s o.held d' a b hand) → n < steps → d'.is_cut ≡ true → p.held ≡ d'.held → b.supply ≡ supplies.TooLong
     → d'.at_end ≡ None → RunTells TooLong s steps (Side a o) (Side b p)
-shows_too_long n steps s d' a b o p k less written_all is unknown =
+shows_too_long n steps s d' a b o p k less is_cut written_all is unknown =
     let cause : SupplyCause supplies.TooLong a.faults b = subst (λ x. SupplyCause x a.faults b) is k.cause in
     let taken : Taken a.left b.left (input_limit + 1) = subst (λ m. Taken a.left b.left m) cause (taken_of a.left b.left b.taken k.took) in
     let long : input_limit + 1 ≤ length k.input = has_taken a.left b.left k.input (input_limit + 1) k.is_input taken (λ untold. k.long untold unknown) in
-    (k.input, k.is_input, (cut n steps s d' a b o p k less written_all, taken, omega (arith, long)))
+    (k.input, k.is_input, (cut n steps s d' a b o p k less is_cut written_all, taken, omega (arith, long)))

@@ -1,10 +1,11 @@
 -- What a run of an image shows, and what becomes of its input and its output.
-use Rattle.std.specs.Prelude.{◌≡◌, ℕ, ◌+◌, ◌*◌, ◌<◌, ◌≤◌, ◌||◌, Bool, false, List, length, take, Option, Some, None, option_map}
+use Rattle.std.specs.Prelude.{◌≡◌, ℕ, ◌+◌, ◌*◌, ◌<◌, ◌≤◌, ◌||◌, Bool, true, false, List, [], length, take, Option, Some, None, option_map}
 use Rattle.cw_io.specs.Bytes.{before_told, after_told}
 use Rattle.cw_io.specs.Count.{Rose}
 use Rattle.cw_i86.specs.State.{State}
 use Rattle.cw_i86.specs.MachineRun as run
-use Rattle.cw_i86.specs.MachineRun.{Event, left_behind, asks_input, Shows, Observed}
+use Rattle.cw_i86.specs.MachineRun.{Event, left_behind, is_of_input, asks_input, Stands, Runs, Shows, Observed}
+use Rattle.cw_i86.specs.declared.instr.Instr.TheVariants.{In}
 use Rattle.cw_cpu86.specs.Ports.{AreBytes}
 use Rattle.cw_ports.specs.Pieces.{input_limit}
 use Rattle.cw_ports.specs.declared.running.ImageEnd.{ImageEnd}
@@ -23,10 +24,15 @@ pub record ReadsAhead (events : List Event) (left left' : Option (List ℕ)) (is
   pub rest : option_map (left_behind events) left ≡ before_told hand left'
   pub untouched : (asks_input events || is_asking) ≡ false → left' ≡ left
 
--- what shows of so many steps from a state over an input, and what its source has left afterwards
+-- behind so many steps, which said this to the ports, stands an instruction that asks for input: IN 10h or IN 11h
+abbrev pub AsksInput : (s : State) (n : ℕ) (events : List Event) → Type 0
+AsksInput s n events = (t : State) × (port : ℕ) × Runs n s events t × Stands t (In port) × (is_of_input port ≡ true)
+
+-- What shows of so many steps from a state over an input, and what its source has left afterwards; and whether it was asked for input once more.
 pub record Ran (s : State) (input : List ℕ) (n : ℕ) (left left' : Option (List ℕ)) (is_asking : Bool) (shown : Observed) : Type 0 where
   pub shows : Shows s input n shown
   pub ahead : ReadsAhead shows.events left left' is_asking
+  pub asks : is_asking ≡ true → AsksInput s n shows.events
 
 -- so many bytes were taken
 abbrev pub Taken : (left left' : Option (List ℕ)) → (count : ℕ) → Type 0
@@ -59,19 +65,19 @@ pub record Outside : Type 0 where
 abbrev pub outside : (left : Option (List ℕ)) → (input_faults : ℕ) → (held : Option (List ℕ)) → (out_faults : ℕ) → Outside
 outside left input_faults held out_faults = record { left = left; input_faults = input_faults; held = held; out_faults = out_faults }
 
--- The run was cut short after n steps, where the input was asked for: all that they write was written.
+-- The run was cut short after n steps, at an instruction that asks for input: all that they write was written.
 pub record Cut (s : State) (input : List ℕ) (steps : ℕ) (a b : Outside) : Type 0 where
   pub n : ℕ
   pub within : n < steps
-  pub is_asking : Bool
   pub shown : Observed
-  pub ran : Ran s input n a.left b.left is_asking shown
+  pub ran : Ran s input n a.left b.left true shown
   pub running : shown.end ≡ run.Running
   pub output : b.held ≡ after_told a.held shown.output
 
--- What a run of at most so many steps from a state over an input does. It took a byte over the limit exactly where it ends with TooLong.
+-- What a run of at most so many steps from a state over an input does. A fault of the input comes where no byte was in hand, and it took a byte over the limit
+-- exactly where it ends with TooLong.
 abbrev pub RunShows : ImageEnd → State → (input : List ℕ) → (steps : ℕ) → (a b : Outside) → Type 0
-RunShows InputFault s input steps a b = Cut s input steps a b × TakenWithin a.left b.left × Rose a.input_faults b.input_faults
+RunShows InputFault s input steps a b = ((cut : Cut s input steps a b) × (cut.ran.ahead.hand ≡ [])) × TakenWithin a.left b.left × Rose a.input_faults b.input_faults
 RunShows TooLong s input steps a b = Cut s input steps a b × Taken a.left b.left (input_limit + 1) × (input_limit < length input)
 RunShows OutFault s input steps a b =
     (n : ℕ) × (n ≤ steps) × (is_asking : Bool) × (shown : Observed) × Ran s input n a.left b.left is_asking shown

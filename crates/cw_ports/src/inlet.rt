@@ -14,8 +14,8 @@ pub(crate) const PIECE: usize = 4096;
 /// The most bytes that an input may have.
 const INPUT_LIMIT: usize = 16_777_216;
 
-/// A source, the bytes taken from it that are in hand, how many were taken, whether it said that it is at its end, and what the
-/// program was told of that and took no byte since. A source at its end is not asked again, since one that tells nothing of its
+/// A source, the bytes taken from it that are in hand, how many were taken, whether a byte was refused, whether the source said that
+/// it is at its end, and what the program was told of that and took no byte since. A source at its end is not asked again, since one that tells nothing of its
 /// bytes, as a terminal, could give more.
 #[derive(Drop)]
 pub(crate) struct Inlet<'a, I: Source> {
@@ -25,6 +25,7 @@ pub(crate) struct Inlet<'a, I: Source> {
     pub(crate) to: usize,
     pub(crate) taken: usize,
     pub(crate) is_used: bool,
+    pub(crate) is_cut: bool,
     pub(crate) supply: Supply,
     pub(crate) is_at_end: bool,
     pub(crate) told_end: Option<bool>,
@@ -36,6 +37,8 @@ pub(crate) struct Inlet<'a, I: Source> {
     ghost more: { told_end ≡ Some false → from < to },
     ghost no_more: { told_end ≡ Some true → (from ≡ to) × (is_at_end ≡ true) },
     ghost over: { is_open supply ≡ false → told_end ≡ None },
+    ghost cut: { is_open supply ≡ false → is_cut ≡ true },
+    ghost dry: { supply ≡ Supply.Faulty → from ≡ to },
 }
 
 impl<'a, I: Source> Inlet<'a, I> {
@@ -53,6 +56,7 @@ impl<'a, I: Source> Inlet<'a, I> {
         ensures told { self.new.told_end ≡ self.old.told_end }
         ensures open { result ≡ is_open self.new.supply }
         ensures used { self.new.is_used ≡ true }
+        ensures granted { result ≡ true → self.new.is_cut ≡ self.old.is_cut }
     {
         let ask = PIECE.min(INPUT_LIMIT + 1 - self.taken);
         let mut bytes = self.bytes;
@@ -64,6 +68,7 @@ impl<'a, I: Source> Inlet<'a, I> {
                 let taken = self.taken + count;
                 if taken > INPUT_LIMIT {
                     self.supply = Supply::TooLong;
+                    self.is_cut = true;
                 }
                 self.taken = taken;
                 self.is_at_end = count == 0;
@@ -71,6 +76,7 @@ impl<'a, I: Source> Inlet<'a, I> {
             }
             Err(_) => {
                 self.supply = Supply::Faulty;
+                self.is_cut = true;
                 false
             }
         }
@@ -92,6 +98,7 @@ impl<'a, I: Source> Inlet<'a, I> {
         ensures name { self.new.input.ghost_name ≡ self.old.input.ghost_name }
         ensures taken { self.new.taken ≡ self.old.taken }
         ensures used { self.new.is_used ≡ self.old.is_used }
+        ensures cut { self.new.is_cut ≡ self.old.is_cut }
         ensures supply { self.new.supply ≡ self.old.supply }
         ensures told { self.new.told_end ≡ None }
     {

@@ -32,6 +32,8 @@ impl<I: Source, O: Sink> ImagePorts<'_, '_, I, O> {
         ensures left { before_told (part self.new.inlet.bytes self.new.inlet.from self.new.inlet.to) (I.left self.new.inlet.input.now) ≡ before_told (part self.old.inlet.bytes self.old.inlet.from self.old.inlet.to) (I.left self.old.inlet.input.now) }
         ensures held { after_told (O.held self.new.outlet.out.now) (part self.new.outlet.bytes self.new.outlet.from self.new.outlet.to) ≡ after_told (O.held self.old.outlet.out.now) (part self.old.outlet.bytes self.old.outlet.from self.old.outlet.to) }
         ensures used { self.new.inlet.is_used ≡ true }
+        ensures refused { result ≡ false → self.new.inlet.is_cut ≡ true }
+        ensures granted { result ≡ true → self.new.inlet.is_cut ≡ self.old.inlet.is_cut }
         ensures settled { IsSettled self.old.inlet.supply self.old.outlet.to self.old.outlet.is_broken → IsSettled self.new.inlet.supply self.new.outlet.to self.new.outlet.is_broken }
         ensures kind { self.new.kind ≡ self.old.kind }
         ensures segment { self.new.segment ≡ self.old.segment }
@@ -51,6 +53,7 @@ impl<I: Source, O: Sink> ImagePorts<'_, '_, I, O> {
             return false;
         }
         if self.outlet.is_broken {
+            self.inlet.is_cut = true;
             return false;
         }
         if self.inlet.from < self.inlet.to {
@@ -60,6 +63,7 @@ impl<I: Source, O: Sink> ImagePorts<'_, '_, I, O> {
             return true;
         }
         if !self.outlet.flush() {
+            self.inlet.is_cut = true;
             return false;
         }
         self.inlet.fill()
@@ -67,7 +71,7 @@ impl<I: Source, O: Sink> ImagePorts<'_, '_, I, O> {
 }
 
 impl<I: Source, O: Sink> Ports for ImagePorts<'_, '_, I, O> {
-    ghost device = { λ p. record { left = before_told (part p.inlet.bytes p.inlet.from p.inlet.to) (I.left p.inlet.input.now); at_end = p.inlet.told_end; is_used = p.inlet.is_used; held = after_told (O.held p.outlet.out.now) (part p.outlet.bytes p.outlet.from p.outlet.to); kind = p.kind; segment = p.segment; line_low = p.line_low; line_high = p.line_high } };
+    ghost device = { λ p. record { left = before_told (part p.inlet.bytes p.inlet.from p.inlet.to) (I.left p.inlet.input.now); at_end = p.inlet.told_end; is_used = p.inlet.is_used; is_cut = p.inlet.is_cut; held = after_told (O.held p.outlet.out.now) (part p.outlet.bytes p.outlet.from p.outlet.to); kind = p.kind; segment = p.segment; line_low = p.line_low; line_high = p.line_high } };
 
     ghost faults = { λ p. faults_of p.inlet.supply p.outlet.is_broken };
 

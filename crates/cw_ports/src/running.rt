@@ -45,7 +45,7 @@ fn run_with<I: Source, O: Sink>(
     steps: u64,
 ) -> ImageEnd
     requires hand { (ports.old.inlet.from ≡ 0) × (ports.old.inlet.to ≡ 0) }
-    requires none { (ports.old.inlet.taken ≡ 0) × (ports.old.inlet.is_used ≡ false) × (ports.old.inlet.supply ≡ Supply.Open) }
+    requires none { (ports.old.inlet.taken ≡ 0) × (ports.old.inlet.is_used ≡ false) × (ports.old.inlet.is_cut ≡ false) × (ports.old.inlet.supply ≡ Supply.Open) }
     requires end { ports.old.inlet.told_end ≡ None }
     requires empty { (ports.old.outlet.from ≡ 0) × (ports.old.outlet.to ≡ 0) × (ports.old.outlet.is_broken ≡ false) }
     requires told { (ports.old.kind ≡ 0) × (ports.old.segment ≡ 0) × (ports.old.line_low ≡ 0) × (ports.old.line_high ≡ 0) }
@@ -89,6 +89,7 @@ pub fn run_image<I: Source, O: Sink>(
         to: 0,
         taken: 0,
         is_used: false,
+        is_cut: false,
         supply: Supply::Open,
         is_at_end: false,
         told_end: None,

@@ -13,6 +13,9 @@ pub enum Action {
     Map,
     Migrate,
     Big,
+    Lib,
+    Hex,
+    Depth,
 }
 
 // The action of a name.
@@ -29,15 +32,21 @@ pub(crate) fn action_of(name: &str) -> Option<Action>
         "map" => Some(Action::Map),
         "migrate" => Some(Action::Migrate),
         "big" => Some(Action::Big),
+        "lib" => Some(Action::Lib),
+        "hex" => Some(Action::Hex),
+        "depth" => Some(Action::Depth),
         _ => None,
     }
 }
 
 // How many WORDs an action takes at least.
-pub(crate) fn least_names_of(_action: Action) -> usize
-    ensures { result ≡ least_names _action }
+pub(crate) fn least_names_of(action: Action) -> usize
+    ensures { result ≡ least_names action }
 {
-    1
+    match action {
+        Action::Lib => 2,
+        _ => 1,
+    }
 }
 
 // How many WORDs an action takes at most.
@@ -45,7 +54,9 @@ pub(crate) fn most_names_of(action: Action) -> usize
     ensures { result ≡ most_names action }
 {
     match action {
-        Action::Go | Action::Link | Action::Map => 200,
+        Action::Go | Action::Link | Action::Map | Action::Depth => 200,
+        // the name of the library, and its objects
+        Action::Lib => 201,
         _ => 1,
     }
 }

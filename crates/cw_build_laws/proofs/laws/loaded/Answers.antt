@@ -1,5 +1,5 @@
 use Rattle.cw_build_laws.proofs.Given.{Given}
-use Rattle.cw_build_laws.proofs.Loaded.{loaded}
+use Rattle.cw_build_laws.proofs.Loaded.{loaded, valid_storage}
 use Rattle.cw_build_laws.proofs.laws.loaded.Goals as goal
 
 pub returns : goal.returns
@@ -18,4 +18,7 @@ returns c =
       size = c.linked_units.ensures.code;
       map_is = c.linked_units.ensures.map;
     } in
-    λ us limits input s some most compiled in_limits links bytes start. loaded given us limits input some most compiled in_limits links s bytes start
+    record {
+      valid_storage = valid_storage given;
+      started = λ us limits input s some most compiled in_limits links bytes start. loaded given us limits input some most compiled in_limits links s bytes start;
+    }

@@ -9,8 +9,8 @@ returns c =
     let given : Given = record {
       texts = record { one_unit = c.one_outcome.ensures.one_unit; one_refusal = c.one_outcome.ensures.one_refusal; not_both = c.one_outcome.ensures.not_both; tokens = c.one_outcome.ensures.tokens };
       units = c.compiled_units.ensures;
-      storages = record { layout = c.built_units.ensures.layout; storage = c.storage_maps.ensures };
-      runs = record { loaded = c.loaded.ensures; preserves = c.preservation.ensures.preserves; completes = c.preservation.ensures.completes; once = c.one_observation.ensures };
+      storages = record { map = c.loaded.ensures.valid_storage; frames = c.configurations.ensures.frames };
+      runs = record { loaded = c.loaded.ensures.started; preserves = c.preservation.ensures.preserves; completes = c.preservation.ensures.completes; once = c.one_observation.ensures };
       sizes = c.linked_units.ensures.size;
     } in
     record {
