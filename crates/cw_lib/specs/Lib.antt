@@ -1,0 +1,4 @@
+pub mod LibraryFormat
+pub mod Reading
+pub mod Uniqueness
+pub mod Selection
