@@ -1,6 +1,8 @@
 //! What a call of the command comes to.
 use cw_compile::Refusal;
+use cw_hex::HexFault;
 use cw_image::ImageFault;
+use cw_lib::LibFault;
 pub use cw_link::LinkFault;
 use cw_view::ObjFault;
 
@@ -33,6 +35,8 @@ pub enum Status {
     BadCode { offset: u16 },
     /// A quotient of the machine faults.
     Divided { offset: u16 },
+    /// The objects and the members of libraries that are needed are more than 200.
+    TooMany { count: u32 },
 }
 
 /// The first thing that is wrong with bytes; never want of memory.
@@ -42,6 +46,10 @@ pub enum Bad {
     Object(ObjFault),
     /// They are no image.
     Image(ImageFault),
+    /// They are no library.
+    Library(LibFault),
+    /// They are no HEX text.
+    Hex(HexFault),
 }
 
 /// What failed outside.
@@ -82,6 +90,7 @@ impl Status {
             Status::TooLong(_) => 10,
             Status::BadCode { .. } => 11,
             Status::Divided { .. } => 12,
+            Status::TooMany { .. } => 13,
         }
     }
 }

@@ -1,0 +1,10 @@
+pub mod Lines
+pub mod Digits
+pub mod Data
+pub mod Fold
+pub mod Faults
+pub mod Told
+pub mod Written
+pub mod Records
+pub mod Cleared
+pub mod Begun

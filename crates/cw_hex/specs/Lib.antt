@@ -1,0 +1,3 @@
+pub mod HexFormat
+pub mod HexText
+pub mod HexTold
