@@ -1,8 +1,8 @@
--- What the actions promise that run nothing: `map` and `list` write their result to `out`, `compile`, `link` and `migrate` write it to a file.
-use Rattle.std.specs.Prelude.{◌≡◌, ◌⊎◌, ℕ, ◌<◌, List, [], ◌∷◌, ◌++◌, length, map, take, codes}
+-- What the actions promise that run nothing: `map` and `list` write their result to `out`; `compile`, `link`, `lib`, `migrate` and `hex` write it to a file.
+use Rattle.std.specs.Prelude.{◌≡◌, ◌⊎◌, ℕ, ◌<◌, ◌≤◌, List, [], ◌∷◌, ◌++◌, length, map, take, drop, slice_index_or, codes}
 use Rattle.cw_io.specs.Bytes.{after_told}
 use Rattle.cw_io.specs.Count.{Rose}
-use Rattle.cw_io.specs.File.{as_file, OthersStay, AllStay}
+use Rattle.cw_io.specs.File.{as_file, KeptOrWhole, OthersStay, AllStay}
 use Rattle.cw_unit.specs.declared.unit.Unit.{Unit as SourceUnit}
 use Rattle.cw_unit.specs.declared.layout.Limits.{Limits}
 use Rattle.cw_compile.specs.Texts.{text_limit, IsCanonicalOf}
@@ -10,19 +10,25 @@ use Rattle.cw_link.specs.Contents.{Contents}
 use Rattle.cw_link.specs.LinkedImage.{linked_image}
 use Rattle.cw_link.specs.declared.fault.LinkFault.{LinkFault}
 use Rattle.cw_image.specs.ImageFormat.{image_bytes}
+use Rattle.cw_image.specs.declared.image.Image.{Image}
+use Rattle.cw_lib.specs.LibraryFormat.{library_bytes}
+use Rattle.cw_lib.specs.Selection.{IsSelection}
+use Rattle.cw_hex.specs.HexText.{hex_text}
 use Rattle.cw_object.specs.ObjectContents.{contents_in}
 use Rattle.cw_obj.specs.Migration.{IsMigrated}
 use Rattle.cw_build.specs.Compiled.{object_of}
 use Rattle.cw_build.specs.Linking.{AreLinked, IsFault, Links, IsLinkFault, map_text}
-use Rattle.cw_files.specs.Texts.{HasUnit, HasObject, object_limit}
-use Rattle.cw_files.specs.Reading.{HaveBytes, HaveValues, AllTaken, StopsTexts, StopsObjects}
+use Rattle.cw_files.specs.Texts.{HasUnit, HasObject, HasLinkable, HasImage, object_limit}
+use Rattle.cw_files.specs.declared.linkables.Linkable.{Linkable}
+use Rattle.cw_files.specs.declared.linkables.Linkable.TheVariants.{Object as AnObject, Library as ALibrary}
+use Rattle.cw_files.specs.Reading.{HaveBytes, HaveValues, AllTaken, StopsTexts, StopsObjects, StopsLinkables, StopsImages}
 use Rattle.cw_correct.specs.Calls.{Call, told_files, first_name, NoFault, SameCounts, IsUntouched, IsUnwritten}
 use Rattle.cw_correct.specs.Files.{counts_before, counts_after, AllAccepted}
 use Rattle.cw_correct.specs.Saying.{SaysLast}
 use Rattle.cw_correct.specs.Going.{HasCause}
 use Rattle.cw_correct.specs.Meaning.{TellBytes}
 use Rattle.cw_say.specs.declared.status.Status.{Status}
-use Rattle.cw_say.specs.declared.status.Status.TheVariants.{Ended, Unlinked, NoFile, Outside, NoMemory, BadFile, TooLong}
+use Rattle.cw_say.specs.declared.status.Status.TheVariants.{Ended, Unlinked, NoFile, Outside, NoMemory, BadFile, TooLong, TooMany}
 use Rattle.cw_say.specs.declared.status.Which.TheVariants.{Store, Out}
 use Rattle.cw_say.specs.declared.status.Long.TheVariants.{File}
 
@@ -34,11 +40,14 @@ WritesOut c result Ended = (c.after.out ≡ after_told c.before.out result) × S
 WritesOut c result (Outside Out) = (count : ℕ) × (count < length result) × (c.after.out ≡ after_told c.before.out (take count result)) × Rose c.before.out_faults c.after.out_faults
 WritesOut c result status = IsUnwritten c.before c.after
 
--- What becomes of a result that is written to a file: the file is the result and all others stay; or the writing failed, and it may be anything; or all stay.
+-- What becomes of a result that is written to a file: the file is the result and all others stay; or the writing failed, and the file is as it was or as it was to
+-- be; or all stay.
 abbrev pub WritesFile : Call → (name result : List ℕ) → (all : Type 0) → Status → Type 0
 WritesFile c name result all Ended =
     (c.after.files name ≡ as_file (c.before.files name) result) × OthersStay c.before.files c.after.files name × SameCounts c.before c.after
-WritesFile c name result all (Outside Store) = AllStay c.before.files c.after.files ⊎ (all × OthersStay c.before.files c.after.files name × Rose c.before.store_faults c.after.store_faults)
+WritesFile c name result all (Outside Store) =
+    AllStay c.before.files c.after.files
+    ⊎ (all × KeptOrWhole c.before.files c.after.files name result × OthersStay c.before.files c.after.files name × Rose c.before.store_faults c.after.store_faults)
 WritesFile c name result all status = AllStay c.before.files c.after.files
 
 -- the result was written, or memory was wanted
@@ -122,24 +131,85 @@ pub record CompilesRight (c : Call) (status : Status) : Type 0 where
 abbrev pub all_contents : (objects : List (List ℕ)) → List Contents
 all_contents objects = map contents_in objects
 
-abbrev pub LinkComes : Call → (texts objects : List (List ℕ)) → Status → Type 0
-LinkComes c texts objects Ended = AllAccepted c objects × AreLinked (all_contents objects) c.limits
-LinkComes c texts objects (Outside Store) = Rose c.before.store_faults c.after.store_faults
-LinkComes c texts objects (Unlinked fault) = AllAccepted c objects × IsFault (all_contents objects) c.limits fault
-LinkComes c texts objects status = StopsObjects (told_files c) texts (length objects) (counts_before c) (counts_after c) status
+-- the objects that are given, and the members of the libraries, each in order
+abbrev pub objects_among : List Linkable → List (List ℕ)
+objects_among [] = []
+objects_among (AnObject object ∷ files) = object ∷ objects_among files
+objects_among (ALibrary members ∷ files) = objects_among files
 
--- the image of the files' objects, in the file `A.IMG`
+abbrev pub members_among : List Linkable → List (List ℕ)
+members_among [] = []
+members_among (AnObject object ∷ files) = members_among files
+members_among (ALibrary members ∷ files) = members ++ members_among files
+
+-- Where every file is a library, the first member of the first one is the one object that is given.
+abbrev pub given_or_first : (objects members : List (List ℕ)) → List (List ℕ)
+given_or_first [] members = take 1 members
+given_or_first objects members = objects
+
+abbrev pub given_objects : List Linkable → List (List ℕ)
+given_objects files = given_or_first (objects_among files) (members_among files)
+
+-- the given objects, and behind them the members with these numbers
+abbrev pub objects_with : List Linkable → (picked : List ℕ) → List (List ℕ)
+objects_with files picked = given_objects files ++ map (λ k. slice_index_or (members_among files) k []) picked
+
+-- The objects that are linked, where each file was read and accepted: the given ones, and the members of the least closed set.
+pub record AreToLink (c : Call) (files : List Linkable) (objects : List (List ℕ)) : Type 0 where
+  pub accepted : AllAccepted c files
+  pub picked : List ℕ
+  pub selection : IsSelection (given_objects files) (members_among files) picked
+  pub objects_are : objects ≡ objects_with files picked
+
+-- and are not more than 200, and link
+abbrev pub AreLinkable : Call → List Linkable → (objects : List (List ℕ)) → Type 0
+AreLinkable c files objects = AreToLink c files objects × (length objects ≤ 200) × AreLinked (all_contents objects) c.limits
+
+abbrev pub LinkComes : Call → (texts : List (List ℕ)) → List Linkable → (objects : List (List ℕ)) → Status → Type 0
+LinkComes c texts files objects Ended = AreLinkable c files objects
+LinkComes c texts files objects (Outside Store) = Rose c.before.store_faults c.after.store_faults
+LinkComes c texts files objects (TooMany count) = AreToLink c files objects × (count ≡ length objects) × (200 < count)
+LinkComes c texts files objects (Unlinked fault) = AreToLink c files objects × (length objects ≤ 200) × IsFault (all_contents objects) c.limits fault
+LinkComes c texts files objects status = StopsLinkables (told_files c) texts (length files) (counts_before c) (counts_after c) status
+
+-- the image of the files' objects, and of the members of their libraries that these need, in the file `A.IMG`
 pub record LinksRight (c : Call) (status : Status) : Type 0 where
   pub texts : List (List ℕ)
+  pub files : List Linkable
   pub objects : List (List ℕ)
   pub have_bytes : HaveBytes object_limit (told_files c) texts
-  pub have_objects : HaveValues HasObject texts objects
-  pub comes : LinkComes c texts objects status
+  pub have_files : HaveValues HasLinkable texts files
+  pub comes : LinkComes c texts files objects status
   pub says : SaysLast c.before c.after c.names [] status
-  pub writes : WritesFile c (codes "A.IMG") (image_bytes (linked_image (all_contents objects) c.limits)) (AllAccepted c objects × AreLinked (all_contents objects) c.limits) status
+  pub writes : WritesFile c (codes "A.IMG") (image_bytes (linked_image (all_contents objects) c.limits)) (AreLinkable c files objects) status
   pub untouched : IsUntouched c.before c.after
   pub unwritten : IsUnwritten c.before c.after
-  pub completes : (told objects : List (List ℕ)) → TellBytes (told_files c) told → AllTaken object_limit HasObject (told_files c) objects → AreLinked (all_contents objects) c.limits → NoFault c.before c.after → IsDone status
+  pub completes : (told : List (List ℕ)) (files : List Linkable) (objects : List (List ℕ)) → TellBytes (told_files c) told → AllTaken object_limit HasLinkable (told_files c) files → AreLinkable c files objects
+      → NoFault c.before c.after → IsDone status
+
+-- ---- lib
+
+-- the call as one whose files are the objects, behind the name of the library
+abbrev pub behind_name : Call → Call
+behind_name c = record c { names = drop 1 c.names }
+
+abbrev pub LibraryComes : Call → (texts objects : List (List ℕ)) → Status → Type 0
+LibraryComes c texts objects Ended = AllAccepted c objects
+LibraryComes c texts objects (Outside Store) = Rose c.before.store_faults c.after.store_faults
+LibraryComes c texts objects status = StopsObjects (told_files c) texts (length objects) (counts_before c) (counts_after c) status
+
+-- The library of the objects behind the first name, in the file of that name. Files are numbered from the first object on.
+pub record CollectsRight (c : Call) (status : Status) : Type 0 where
+  pub texts : List (List ℕ)
+  pub objects : List (List ℕ)
+  pub have_bytes : HaveBytes object_limit (told_files (behind_name c)) texts
+  pub have_objects : HaveValues HasObject texts objects
+  pub comes : LibraryComes (behind_name c) texts objects status
+  pub says : SaysLast c.before c.after (behind_name c).names [] status
+  pub writes : WritesFile c (first_name c) (library_bytes objects) (AllAccepted (behind_name c) objects) status
+  pub untouched : IsUntouched c.before c.after
+  pub unwritten : IsUnwritten c.before c.after
+  pub completes : (told objects : List (List ℕ)) → TellBytes (told_files (behind_name c)) told → AllTaken object_limit HasObject (told_files (behind_name c)) objects → NoFault c.before c.after → IsDone status
 
 -- ---- migrate
 
@@ -167,3 +237,27 @@ pub record MigratesRight (c : Call) (status : Status) : Type 0 where
   pub untouched : IsUntouched c.before c.after
   pub unwritten : IsUnwritten c.before c.after
   pub completes : (told objects : List (List ℕ)) → TellBytes (told_files c) told → AllTaken object_limit HasObject (told_files c) objects → NoFault c.before c.after → IsDone status
+
+-- ---- hex
+
+abbrev pub HexComes : Call → (texts : List (List ℕ)) → List Image → Status → Type 0
+HexComes c texts images Ended = AllAccepted c images
+HexComes c texts images (Outside Store) = Rose c.before.store_faults c.after.store_faults
+HexComes c texts images status = StopsImages (told_files c) texts (length images) (counts_before c) (counts_after c) status
+
+abbrev pub first_hex_text : List Image → List ℕ
+first_hex_text [] = []
+first_hex_text (image ∷ images) = hex_text image.code image.words
+
+-- the HEX text of the file's image, in the file of its name with `.HEX` added
+pub record HexesRight (c : Call) (status : Status) : Type 0 where
+  pub texts : List (List ℕ)
+  pub images : List Image
+  pub have_bytes : HaveBytes object_limit (told_files c) texts
+  pub have_images : HaveValues HasImage texts images
+  pub comes : HexComes c texts images status
+  pub says : SaysLast c.before c.after c.names [] status
+  pub writes : WritesFile c (first_name c ++ codes ".HEX") (first_hex_text images) (AllAccepted c images) status
+  pub untouched : IsUntouched c.before c.after
+  pub unwritten : IsUnwritten c.before c.after
+  pub completes : (told : List (List ℕ)) (images : List Image) → TellBytes (told_files c) told → AllTaken object_limit HasImage (told_files c) images → NoFault c.before c.after → IsDone status

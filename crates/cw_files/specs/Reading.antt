@@ -9,7 +9,9 @@ use Rattle.cw_list.specs.Rows.{layouts_of}
 use Rattle.cw_compile.specs.declared.fault.Refusal.{Refusal}
 use Rattle.cw_compile.specs.Texts.{text_limit, IsRefused}
 use Rattle.cw_build.specs.Compiled.{object_of}
-use Rattle.cw_files.specs.Texts.{HasUnit, HasObject, HasImage, IsBad, object_limit}
+use Rattle.cw_files.specs.Texts.{HasUnit, HasObject, HasLinkable, HasRunnable, HasImage, IsBad, IsBadLinkable, IsBadRunnable, object_limit}
+use Rattle.cw_files.specs.declared.linkables.Linkable.{Linkable}
+use Rattle.cw_files.specs.declared.images.Runnable.{Runnable}
 use Rattle.cw_image.specs.declared.image.Image.{Image}
 use Rattle.cw_say.specs.declared.status.Bad.{Bad}
 use Rattle.cw_say.specs.declared.status.Bad.TheVariants.{Object, Image as BadImage}
@@ -55,9 +57,10 @@ abbrev pub IsRefusedAt : Option (List ℕ) → Refusal → Type 0
 IsRefusedAt None fault = ⊥
 IsRefusedAt (Some text) fault = IsRefused text fault
 
-abbrev pub IsBadAt : Option (List ℕ) → Bad → Type 0
-IsBadAt None fault = ⊥
-IsBadAt (Some bytes) fault = IsBad bytes fault
+-- by why bytes are refused
+abbrev pub IsBadAt : (Refuses : List ℕ → Bad → Type 0) → Option (List ℕ) → Bad → Type 0
+IsBadAt Refuses None fault = ⊥
+IsBadAt Refuses (Some bytes) fault = Refuses bytes fault
 
 -- ---- what reading answers
 
@@ -83,11 +86,19 @@ StopsTexts files texts taken before after (Refused number fault) = (number ≡ t
 StopsTexts files texts taken before after status = IsUnread text_limit files taken before after status
 
 abbrev pub StopsObjects : List Told → (texts : List (List ℕ)) → (taken : ℕ) → (before after : Counts) → Status → Type 0
-StopsObjects files texts taken before after (BadFile number (Object fault)) = (number ≡ taken) × IsBadAt (slice_get texts number) (Object fault)
+StopsObjects files texts taken before after (BadFile number (Object fault)) = (number ≡ taken) × IsBadAt IsBad (slice_get texts number) (Object fault)
 StopsObjects files texts taken before after status = IsUnread object_limit files taken before after status
 
+abbrev pub StopsLinkables : List Told → (texts : List (List ℕ)) → (taken : ℕ) → (before after : Counts) → Status → Type 0
+StopsLinkables files texts taken before after (BadFile number fault) = (number ≡ taken) × IsBadAt IsBadLinkable (slice_get texts number) fault
+StopsLinkables files texts taken before after status = IsUnread object_limit files taken before after status
+
+abbrev pub StopsRunnables : List Told → (texts : List (List ℕ)) → (taken : ℕ) → (before after : Counts) → Status → Type 0
+StopsRunnables files texts taken before after (BadFile number fault) = (number ≡ taken) × IsBadAt IsBadRunnable (slice_get texts number) fault
+StopsRunnables files texts taken before after status = IsUnread object_limit files taken before after status
+
 abbrev pub StopsImages : List Told → (texts : List (List ℕ)) → (taken : ℕ) → (before after : Counts) → Status → Type 0
-StopsImages files texts taken before after (BadFile number (BadImage fault)) = (number ≡ taken) × IsBadAt (slice_get texts number) (BadImage fault)
+StopsImages files texts taken before after (BadFile number (BadImage fault)) = (number ≡ taken) × IsBadAt IsBad (slice_get texts number) (BadImage fault)
 StopsImages files texts taken before after status = IsUnread object_limit files taken before after status
 
 -- reading stopped behind the files that were accepted as these values
@@ -115,7 +126,17 @@ abbrev pub AnswersObjects : List Told → (before after : Counts) → Result (Li
 AnswersObjects files before after (Ok objects) = AllTaken object_limit HasObject files objects × SameCounts before after
 AnswersObjects files before after (Err status) = Stopped object_limit HasObject (λ texts taken. StopsObjects files texts taken before after status) files
 
+-- of the files of `link`
+abbrev pub AnswersLinkables : List Told → (before after : Counts) → Result (List Linkable) Status → Type 0
+AnswersLinkables files before after (Ok linkables) = AllTaken object_limit HasLinkable files linkables × SameCounts before after
+AnswersLinkables files before after (Err status) = Stopped object_limit HasLinkable (λ texts taken. StopsLinkables files texts taken before after status) files
+
 -- of the one file of `exec`
+abbrev pub AnswersRunnable : Told → (before after : Counts) → Result Runnable Status → Type 0
+AnswersRunnable file before after (Ok runnable) = AllTaken object_limit HasRunnable (file ∷ []) (runnable ∷ []) × SameCounts before after
+AnswersRunnable file before after (Err status) = Stopped object_limit HasRunnable (λ texts taken. StopsRunnables (file ∷ []) texts taken before after status) (file ∷ [])
+
+-- of the one file of `hex`
 abbrev pub AnswersImage : Told → (before after : Counts) → Result Image Status → Type 0
 AnswersImage file before after (Ok image) = AllTaken object_limit HasImage (file ∷ []) (image ∷ []) × SameCounts before after
 AnswersImage file before after (Err status) = Stopped object_limit HasImage (λ texts taken. StopsImages (file ∷ []) texts taken before after status) (file ∷ [])
