@@ -212,7 +212,7 @@ answers_err s text NoMemory h = tt
 
 -- ---- one of them
 
-pub OneStart : Type 0
+abbrev pub OneStart : Type 0
 OneStart = (code words : List ℕ) (s t : State) → IsStart code words s → IsStart code words t → s ≡ t
 
 pub one_state : OneStart → (text : List ℕ) (t u : State) → TellsHex text t → TellsHex text u → t ≡ u
