@@ -1,5 +1,5 @@
 -- The processor with nothing in its memory.
-use Rattle.std.proofs.Common.{◌≡◌, ℕ, zero, suc, ◌+◌, ◌^◌, ◌<◌, ◌≤◌, List, [], ◌∷◌, map, length, get_or, refl, subst, ◌∙◌, inl, inr, arith}
+use Rattle.std.proofs.Common.{◌≡◌, ℕ, zero, suc, ◌+◌, ◌<◌, List, [], ◌∷◌, map, get_or, refl, subst, ◌∙◌, inl, inr, arith}
 use Rattle.std.proofs.lemmas.Bool.{cases_lt}
 use Rattle.std.proofs.lemmas.List.{length-map}
 use Rattle.cw_i86.specs.State.{State}
@@ -64,7 +64,7 @@ emptied s = record s { memory = zeros s.memory }
 pub emptied_cleared : (code words : List ℕ) (s : State) → IsStart code words s → IsCleared (emptied s)
 emptied_cleared code words s c =
     record {
-      bytes = length-map (λ (b : ℕ). 0) s.memory ∙ c.bytes;
+      bytes = length-map s.memory (λ (b : ℕ). 0) ∙ c.bytes;
       below = λ a h. zero_at s.memory a;
       code_bytes = λ k h. none k h;
       between = λ a h l. zero_at s.memory a;

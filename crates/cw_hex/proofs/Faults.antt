@@ -8,8 +8,8 @@ use Rattle.cw_i86.specs.MachineRun.{IsStart}
 use Rattle.cw_hex.specs.declared.fault.HexFault.{HexFault}
 use Rattle.cw_hex.specs.declared.fault.HexFault.TheVariants.{BadLine, BadSum, BadType, AfterEnd, NoEnd, NoMemory}
 use Rattle.cw_hex.specs.declared.reading.Reading.{Reading}
-use Rattle.cw_hex.specs.HexFormat.{lines_of, bytes_of, type_of, is_record, fits_type, length_of, is_end, line_fault, record_fault, after_line, after_lines}
-use Rattle.cw_hex.specs.HexTold.{IsCleared, AreFaultless, TellsHex, HasLineFault, LacksEnd, IsFirstHexFault, AnswersHex}
+use Rattle.cw_hex.specs.HexFormat.{lines_of, bytes_of, type_of, is_end, line_fault, after_line, after_lines}
+use Rattle.cw_hex.specs.HexTold.{IsCleared, AreFaultless, TellsHex, IsFirstHexFault, AnswersHex}
 use Rattle.cw_hex.proofs.Fold.{lines_told, hex_told, or_fault, at_end, start_reading, ended_after, Faultless}
 
 or_false : (e : Bool) → (e || false) ≡ e
@@ -93,14 +93,13 @@ fine_lines lines h = λ before line behind cut. fine_behind 1 false before line 
 
 lines_fine : (n : ℕ) (e : Bool) (lines : List (List ℕ)) → ((before : List (List ℕ)) (line : List ℕ) (behind : List (List ℕ)) → lines ≡ before ++ line ∷ behind → IsFine (e || list_any is_end before) (length before + n) line) → Faultless n e lines
 lines_fine n e [] h = tt
-lines_fine n e (first ∷ lines) h =
-    (
-      same_line (e || false) e (0 + n) n first (or_false e) (omega arith) (h [] first lines refl),
-      lines_fine (n + 1) (e || is_end first) lines (λ before line behind cut.
+lines_fine n e (first ∷ lines) h = (
+  same_line (e || false) e (0 + n) n first (or_false e) (omega arith) (h [] first lines refl),
+  lines_fine (n + 1) (e || is_end first) lines (λ before line behind cut.
       same_line (e || (is_end first || list_any is_end before)) ((e || is_end first) || list_any is_end before) (suc (length before) + n) (length before + (n + 1)) line
       (sym (or_or e (is_end first) (list_any is_end before))) (omega arith)
       (h (first ∷ before) line behind (ap (λ (ls : List (List ℕ)). first ∷ ls) cut))),
-    )
+)
 
 -- ---- from a state on
 
@@ -183,9 +182,9 @@ sorted s text =
         | inr e ↦ inr (NoEnd (length (lines_of text) + 1), inr (record { faultless = fine_lines (lines_of text) fine; not_ended = sym (ended_any false (lines_of text)) ∙ e; is = refl }))
       ]
       | inr w ↦
-        let c = w.1 in
-        let wrong = subst (λ (e : Bool). line_fault e (length c.before + 1) c.line ≡ Some w.0) (ended_any false c.before) c.wrong in
-        inr (w.0, inl (record { before = c.before; line = c.line; behind = c.behind; cut = c.cut; faultless = fine_lines c.before c.faultless; wrong = wrong }))
+          let c = w.1 in
+          let wrong = subst (λ (e : Bool). line_fault e (length c.before + 1) c.line ≡ Some w.0) (ended_any false c.before) c.wrong in
+          inr (w.0, inl (record { before = c.before; line = c.line; behind = c.behind; cut = c.cut; faultless = fine_lines c.before c.faultless; wrong = wrong }))
     ]
 
 pub told_ok : (s : State) (text : List ℕ) (t : State) → IsCleared s → hex_told s text ≡ Ok t → TellsHex text t
@@ -212,7 +211,7 @@ answers_err s text NoMemory h = tt
 
 -- ---- one of them
 
-pub OneStart : Type 0
+abbrev pub OneStart : Type 0
 OneStart = (code words : List ℕ) (s t : State) → IsStart code words s → IsStart code words t → s ≡ t
 
 pub one_state : OneStart → (text : List ℕ) (t u : State) → TellsHex text t → TellsHex text u → t ≡ u

@@ -7,7 +7,7 @@ use Rattle.cw_hex.specs.declared.fault.HexFault.TheVariants.{NoEnd}
 use Rattle.cw_hex.specs.declared.reading.Reading.{Reading}
 use Rattle.cw_hex.specs.HexFormat.{lines_of, line_fault}
 use Rattle.cw_hex.specs.HexTold.{IsCleared, TellsHex, AnswersHex}
-use Rattle.cw_hex.proofs.Fold.{lines_told, hex_told, start_reading}
+use Rattle.cw_hex.proofs.Fold.{lines_told, hex_told}
 use Rattle.cw_hex.proofs.Faults.{told_ok, answers_err}
 
 not_empty : {A : Type 0} (n : ℕ) → eqb (suc n) 0 ≡ true → A
