@@ -23,6 +23,7 @@ pub const LIMITS: Limits = Limits {
 // A row a line: further communicators, what stands between BEGIN and END, the bytes of the input, those that are written, and the
 // stop's kind, segment and line where the program does not come to its end. W stands for WRITEBYTE, and ~ for the end of a line.
 const TEXTS: &str = "|W(7); W(OCTAL(17)); W(LITERAL(A))||7 15 65|
+|INTEGER X; X := LITERAL COMMENT A; (x); W(X)||120|
 |W(-1); W(+5); W(-(3-5))||255 5 2|
 |INTEGER A, B; A := 200; B := A - 100 + 7; W(B); W(-A+B)||107 163|
 |INTEGER A; A := 32767; W(A); A := A + 1; W(2)||255|1 1 1

@@ -75,6 +75,13 @@ sLITERAL( )?L1 LITERAL( )|
 sLITERALX(a)?N1 LITERALX|S1 (=(|N1 a|S1 )=)|
 sLITERAL(ab)?W1 LITERAL=LITERAL|S1 (=(|N1 ab|S1 )=)|
 sLITERAL(^d)?L1 1
+sLITERAL COMMENT a; (x)?L1 LITERAL COMMENT a; (x)|
+sLITERAL COMMENT;^n'comment'a;(x)b?L1 LITERAL COMMENT;^n'comment'a;(x)|N2 b|
+s'LITERAL'COMMENT (;(()?L1 'LITERAL'COMMENT (;(()|
+sLITERALCOMMENT a;(x)?N1 LITERALCOMMENT|N1 a|S1 ;=;|
+sLITERAL COMMENTS;(x)?W1 LITERAL=LITERAL|N1 COMMENTS|S1 ;=;|
+sLITERAL COMMENT a;(xy)?W1 LITERAL=LITERAL|S1 (=(|N1 xy|S1 )=)|
+sLITERAL COMMENT a?L5 1
 sCOMMENT a ' " $ ;B?N1 B|
 s'comment'^n;B?N2 B|
 sA COMMENT;(B)?N1 A|S1 (=(|N1 B|S1 )=)|
@@ -105,6 +112,7 @@ mA^n""B?L2 2
 mLITERAL(")?L1 1
 mLITERAL("")x"")?W1 LITERAL=LITERAL|S1 (=(|B1 "")x""|S1 )=)|
 m; (x) COMMENT y; 1.5 <- 'DO'?S1 ;=;|D1 1.5|S1 <-=:=|W1 'DO'=DO|
+mLITERAL COMMENT "";(q)?L1 LITERAL COMMENT "";(q)|
 mLITERAL^t(q)?L1 LITERAL^t(q)|"#;
 
 fn word_text(word: Word) -> &'static [u8] {

@@ -21,6 +21,16 @@ abbrev pub class_of : List ℕ → ℕ
 class_of [] = 5
 class_of (c ∷ w) = class c
 
+pub class_letter : (c : ℕ) → class c ≡ 0 → is_ascii_alphabetic c ≡ true
+class_letter c h = pick (is_ascii_alphabetic c) (is_ascii_digit c || (c == 46)) (c == 34) (c == 39) h
+  where
+    pick : (a d q p : Bool) → ◌≡◌ {A = ℕ} (cond a 0 (cond d 1 (cond q 2 (cond p 3 4)))) 0 → a ≡ true
+    pick true d q p e = refl
+    pick false true q p e = absurd cc
+    pick false false true p e = absurd cc
+    pick false false false true e = absurd cc
+    pick false false false false e = absurd cc
+
 letter_class : (c : ℕ) → is_ascii_alphabetic c ≡ true → class c ≡ 0
 letter_class c h = pick (is_ascii_alphabetic c) (cond (is_ascii_digit c || (c == 46)) 1 (cond (c == 34) 2 (cond (c == 39) 3 4))) h
   where
@@ -109,7 +119,7 @@ pub class_front : (v r : List ℕ) (c : ℕ) (bs : List ℕ) (m : ℕ) → v ++ 
 class_front v r c bs m h e l = sym (ap class_of h) ∙ class_append v r m e l
 
 pub literal_class : (form : Form) (v : List ℕ) → IsLiteral form v → (class_of v ≡ 0) ⊎ (class_of v ≡ 3)
-literal_class form _ (of_character w gap b p s l) = elim (word_form w words.Literal p) [
+literal_class form _ (of_character w gap b p t s l) = elim (word_form w words.Literal p) [
   | is_bare e h ↦ inl (class_append w (gap ++ 40 ∷ b ∷ 41 ∷ []) 0 h (omega arith))
   | is_quoted u e q h ↦ inr (class_append w (gap ++ 40 ∷ b ∷ 41 ∷ []) 3 h (omega arith))
 ]

@@ -31,7 +31,7 @@ lead_class [] u n e h = absurd (omega (arith, e, h))
 lead_class (c ∷ w) u n e h = e
 
 literal_class : (form : Form) (v : List ℕ) (m : ℕ) → IsLiteral form v → class_of v ≡ m → (m ≡ 0) ⊎ (m ≡ 3)
-literal_class form _ m (of_character w gap b p s l) h = elim (word_form w words.Literal p) [
+literal_class form _ m (of_character w gap b p t s l) h = elim (word_form w words.Literal p) [
   | is_bare e q ↦ inl (sym h ∙ lead_class w (gap ++ 40 ∷ b ∷ 41 ∷ []) 0 q (omega arith))
   | is_quoted u e r q ↦ inr (sym h ∙ lead_class w (gap ++ 40 ∷ b ∷ 41 ∷ []) 3 q (omega arith))
 ]

@@ -3,6 +3,7 @@ pub mod Letters
 pub mod Classes
 pub mod Numbers
 pub mod Strings
+pub mod Gaps
 pub mod Words
 pub mod Longest
 pub mod Front

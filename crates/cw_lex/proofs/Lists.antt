@@ -1,5 +1,5 @@
 -- Fronts of lists by a test of their items.
-use Rattle.std.proofs.Common.{◌≡◌, ℕ, suc, ◌+◌, ◌≤◌, Bool, true, false, cond, List, [], ◌∷◌, ◌++◌, length, take, drop, refl, subst, arith}
+use Rattle.std.proofs.Common.{◌≡◌, ℕ, suc, ◌+◌, ◌≤◌, Bool, true, false, cond, List, [], ◌∷◌, ◌++◌, length, take, drop, refl, ap, subst, arith}
 use Rattle.std.specs.List.{prefix_len, list_all}
 use Rattle.std.proofs.lemmas.Bool.{and_parts, and_from}
 use Rattle.std.proofs.lemmas.List.{length-take}
@@ -48,3 +48,20 @@ cut u v bs k e h =
 
 pub length_front : (n : ℕ) (bs : List ℕ) → n ≤ length bs → length (take n bs) ≡ n
 length_front n bs h = omega (arith, length-take n bs)
+
+-- what stops the bytes that pass begins behind them
+pub prefix_seam : (p : ℕ → Bool) (w : List ℕ) (d : ℕ) (r : List ℕ) → p d ≡ false → prefix_len p (w ++ d ∷ r) ≡ prefix_len p w
+prefix_seam p [] d r n = rw n refl
+prefix_seam p (b ∷ w) d r n = ap (λ (k : ℕ). cond (p b) (1 + k) 0) (prefix_seam p w d r n)
+
+pub prefix_front : (p : ℕ → Bool) (w r : List ℕ) → prefix_len p w ≤ prefix_len p (w ++ r)
+prefix_front p [] r = omega arith
+prefix_front p (b ∷ w) r =
+    elim (p b) as (λ c. cond c (1 + prefix_len p w) 0 ≤ cond c (1 + prefix_len p (w ++ r)) 0) [
+      | true ↦ omega (arith, prefix_front p w r)
+      | false ↦ omega arith
+    ]
+
+pub take_more : (u v : List ℕ) (n : ℕ) → take (length u + n) (u ++ v) ≡ u ++ take n v
+take_more [] v n = (let e : 0 + n ≡ n = omega arith in rw e refl)
+take_more (b ∷ u) v n = (let e : suc (length u) + n ≡ suc (length u + n) = omega arith in rw e (ap (λ (z : List ℕ). b ∷ z) (take_more u v n)))

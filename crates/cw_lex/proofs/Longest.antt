@@ -1,7 +1,7 @@
 -- What is found at the front of a text is the longest item there.
-use Rattle.std.proofs.Common.{◌≡◌, ℕ, zero, suc, ◌+◌, ◌≤◌, ◌<◌, Bool, true, false, cond, ◌||◌, ◌==◌, List, [], ◌∷◌, ◌++◌, length, take, drop, Option, Some, None, refl, sym, ap, subst, ◌∙◌, arith, append_assoc}
+use Rattle.std.proofs.Common.{◌≡◌, ℕ, zero, suc, ◌+◌, ◌≤◌, ◌<◌, true, List, [], ◌∷◌, ◌++◌, length, take, drop, Option, Some, None, refl, sym, ap, subst, ◌∙◌, arith, append_assoc}
 use Rattle.std.specs.List.{prefix_len, list_all}
-use Rattle.std.specs.Char.{is_ascii_alphabetic, is_ascii_alphanumeric, is_ascii_digit}
+use Rattle.std.specs.Char.{is_ascii_alphabetic, is_ascii_alphanumeric}
 use Rattle.std.proofs.lemmas.Bool.{and_parts}
 use Rattle.std.proofs.lemmas.Bool.Decides.{nat_tests}
 use Rattle.std.proofs.lemmas.List.{take-append-drop, length-append}
@@ -11,11 +11,12 @@ use Rattle.cw_lex.specs.declared.token.Word.{Word}
 use Rattle.cw_lex.specs.declared.token.Word.TheVariants as words
 use Rattle.cw_lex.specs.declared.token.TokenKind.{TokenKind}
 use Rattle.cw_lex.specs.declared.token.TokenKind.TheVariants as kinds
-use Rattle.cw_lex.specs.Items.{is_separator, is_literal_byte, word_of, bare, IsIdentifier, letter_first, IsLiteral, of_character, IsItem, HasNoItem}
+use Rattle.cw_lex.specs.Items.{is_literal_byte, word_of, bare, IsIdentifier, letter_first, EndsWord, AreSeparators, IsLiteral, of_character, IsItem, HasNoItem}
 use Rattle.cw_lex.specs.Found.{FoundItem, bare_word, word_or_name, worded}
-use Rattle.cw_lex.proofs.Lists.{every_prefix, every_stop, every_take, length_front, cut}
+use Rattle.cw_lex.proofs.Lists.{every_prefix, every_take, length_front, cut}
 use Rattle.cw_lex.proofs.Letters.{word_lettered, lettered_digits}
-use Rattle.cw_lex.proofs.Classes.{class, class_of, is_bare, is_quoted, word_form, number_class, text_class, body_text_class, symbol_class, item_class}
+use Rattle.cw_lex.proofs.Classes.{class, class_of, class_letter, is_bare, is_quoted, word_form, number_class, text_class, body_text_class, symbol_class, item_class}
+use Rattle.cw_lex.proofs.Gaps.{ends_word, ends_before}
 use Rattle.cw_lex.proofs.Words.{IsWordedAt, worded_at}
 
 -- what is found is the longest item
@@ -33,15 +34,15 @@ FoundOrNot form bs (Some x) = IsFoundAt form bs x
 -- an item that begins with a letter
 data LetterItem (form : Form) (v : List ℕ) : Type 0 where
   all_letters : list_all is_ascii_alphanumeric v ≡ true → LetterItem form v
-  a_literal : (u gap : List ℕ) (b : ℕ) → word_of u ≡ Some words.Literal → list_all is_separator gap ≡ true → is_literal_byte form b ≡ true → v ≡ u ++ (gap ++ 40 ∷ b ∷ 41 ∷ []) → LetterItem form v
+  a_literal : (u gap : List ℕ) (b : ℕ) → word_of u ≡ Some words.Literal → EndsWord u gap → AreSeparators gap → is_literal_byte form b ≡ true → v ≡ u ++ (gap ++ 40 ∷ b ∷ 41 ∷ []) → LetterItem form v
 
 zero_front : (w u : List ℕ) → class_of w ≡ 3 → class_of (w ++ u) ≡ 0 → ⊥
 zero_front [] u e f = cc
 zero_front (c ∷ w) u e f = cc
 
 letter_literal : (form : Form) (v : List ℕ) → IsLiteral form v → class_of v ≡ 0 → LetterItem form v
-letter_literal form _ (of_character w gap b p s l) h = elim (word_form w words.Literal p) [
-  | is_bare e q ↦ a_literal w gap b e s l refl
+letter_literal form _ (of_character w gap b p t s l) h = elim (word_form w words.Literal p) [
+  | is_bare e q ↦ a_literal w gap b e t s l refl
   | is_quoted u e q k ↦ absurd (zero_front w (gap ++ 40 ∷ b ∷ 41 ∷ []) k h)
 ]
 
@@ -63,36 +64,18 @@ letter_item form v kinds.BodyText i h = let q = body_text_class v i.1 in absurd 
 letter_item form v kinds.Literal i h = letter_literal form v i h
 letter_item form v (kinds.Symbol s) i h = let q = symbol_class v s i in absurd cc
 
-gap_no_letter : (g : ℕ) → is_separator g ≡ true → is_ascii_alphanumeric g ≡ false
-gap_no_letter g h = grind (arith, nat_tests, h)
-
--- a word ends before the separators and the bracket of a literal
-word_stop : (u gap t : List ℕ) → list_all is_ascii_alphanumeric u ≡ true → list_all is_separator gap ≡ true → prefix_len is_ascii_alphanumeric (u ++ (gap ++ 40 ∷ t)) ≡ length u
-word_stop u [] t e s = every_stop is_ascii_alphanumeric u 40 t e refl
-word_stop u (g ∷ gap) t e s = every_stop is_ascii_alphanumeric u g (gap ++ 40 ∷ t) e (gap_no_letter g (and_parts (is_separator g) (list_all is_separator gap) s).0)
-
 -- what the letters and digits w, before rest, become
 letters_best : (form : Form) (bs : List ℕ) (n : ℕ) → n ≡ prefix_len is_ascii_alphanumeric bs → n ≤ length bs → (m : ℕ) → n ≤ m
-    → ((gap : List ℕ) (b : ℕ) (r : List ℕ) → word_of (take n bs) ≡ Some words.Literal → drop n bs ≡ gap ++ 40 ∷ b ∷ 41 ∷ r → list_all is_separator gap ≡ true → is_literal_byte form b ≡ true → n + (length gap + 3) ≤ m)
+    → ((gap : List ℕ) (b : ℕ) (r : List ℕ) → word_of (take n bs) ≡ Some words.Literal → drop n bs ≡ gap ++ 40 ∷ b ∷ 41 ∷ r → AreSeparators gap → is_literal_byte form b ≡ true → n + (length gap + 3) ≤ m)
     → (v r : List ℕ) → v ++ r ≡ bs → LetterItem form v → length v ≤ m
 letters_best form bs n e l m more literal v r h (all_letters a) = omega (arith, every_prefix is_ascii_alphanumeric v r a, ap (prefix_len is_ascii_alphanumeric) h)
-letters_best form bs n e l m more literal v r h (a_literal u gap b k s q p) =
+letters_best form bs n e l m more literal v r h (a_literal u gap b k z s q p) =
     let inner : (gap ++ 40 ∷ b ∷ 41 ∷ []) ++ r ≡ gap ++ 40 ∷ b ∷ 41 ∷ r = append_assoc gap (40 ∷ b ∷ 41 ∷ []) r in
     let parts : bs ≡ u ++ (gap ++ 40 ∷ b ∷ 41 ∷ r) = sym h ∙ ap (λ (z : List ℕ). z ++ r) p ∙ append_assoc u (gap ++ 40 ∷ b ∷ 41 ∷ []) r ∙ ap (λ (z : List ℕ). u ++ z) inner in
-    let stop : prefix_len is_ascii_alphanumeric bs ≡ length u = ap (prefix_len is_ascii_alphanumeric) parts ∙ word_stop u gap (b ∷ 41 ∷ r) (lettered_digits u (word_lettered u words.Literal k)) s in
+    let stop : prefix_len is_ascii_alphanumeric bs ≡ length u = ap (prefix_len is_ascii_alphanumeric) parts ∙ ends_word u (gap ++ 40 ∷ b ∷ 41 ∷ r) (lettered_digits u (word_lettered u words.Literal k)) (ends_before u gap 40 (b ∷ 41 ∷ r) refl z) in
     let c = cut u (gap ++ 40 ∷ b ∷ 41 ∷ r) bs n parts (sym stop ∙ sym e) in
     let size : length v ≡ length u + (length gap + 3) = omega (arith, ap length p, length-append u (gap ++ 40 ∷ b ∷ 41 ∷ []), length-append gap (40 ∷ b ∷ 41 ∷ [])) in
     omega (arith, size, stop, e, literal gap b r (ap word_of c.0 ∙ k) c.1 s q)
-
-class_letter : (c : ℕ) → class c ≡ 0 → is_ascii_alphabetic c ≡ true
-class_letter c h = pick (is_ascii_alphabetic c) (is_ascii_digit c || (c == 46)) (c == 34) (c == 39) h
-  where
-    pick : (a d q p : Bool) → ◌≡◌ {A = ℕ} (cond a 0 (cond d 1 (cond q 2 (cond p 3 4)))) 0 → a ≡ true
-    pick true d q p e = refl
-    pick false true q p e = absurd cc
-    pick false false true p e = absurd cc
-    pick false false false true e = absurd cc
-    pick false false false false e = absurd cc
 
 identifier_of : (v : List ℕ) → class_of v ≡ 0 → list_all is_ascii_alphanumeric v ≡ true → word_of v ≡ None → IsIdentifier v
 identifier_of [] h a n = absurd cc
@@ -116,7 +99,7 @@ bare_found form c bs n (Some k) a e some within all w =
     let rest = drop n whole in
     let join : front ++ rest ≡ whole = take-append-drop n whole in
     let size : length front ≡ n = length_front n whole within in
-    let d0 : IsWordedAt form front rest k (worded form k (length front) (front ++ rest)) = worded_at form front rest k (bare front w) in
+    let d0 : IsWordedAt form front rest k (worded form k (length front) (front ++ rest)) = worded_at form front rest k (bare front w) (omega (arith, size, e, ap (prefix_len is_ascii_alphanumeric) join)) in
     let F : ℕ → Type 0 = λ (z : ℕ). IsWordedAt form front rest k (worded form k z (front ++ rest)) in
     let G : List ℕ → Type 0 = λ (z : List ℕ). IsWordedAt form front rest k (worded form k n z) in
     let d : IsWordedAt form front rest k (worded form k n whole) = subst G join (subst F size d0) in

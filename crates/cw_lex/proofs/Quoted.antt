@@ -1,6 +1,6 @@
 -- Words between apostrophes, and symbols, at the front of a text.
 use Rattle.std.proofs.Common.{◌≡◌, ℕ, ◌+◌, ◌≤◌, true, false, cond, ◌==◌, List, [], ◌∷◌, ◌++◌, length, take, drop, Option, Some, None, refl, sym, ap, subst, ◌∙◌, arith, append_assoc}
-use Rattle.std.specs.List.{prefix_len, list_all}
+use Rattle.std.specs.List.{prefix_len}
 use Rattle.std.specs.Char.{is_ascii_alphanumeric}
 use Rattle.std.proofs.lemmas.Bool.{eqb-true}
 use Rattle.std.proofs.lemmas.List.{take-append-drop, length-append}
@@ -11,7 +11,7 @@ use Rattle.cw_lex.specs.declared.token.Word.{Word}
 use Rattle.cw_lex.specs.declared.token.Word.TheVariants as words
 use Rattle.cw_lex.specs.declared.token.TokenKind.{TokenKind}
 use Rattle.cw_lex.specs.declared.token.TokenKind.TheVariants as kinds
-use Rattle.cw_lex.specs.Items.{is_separator, is_literal_byte, word_of, quoted, IsLiteral, of_character, IsItem, HasNoItem}
+use Rattle.cw_lex.specs.Items.{is_literal_byte, word_of, quoted, AreSeparators, IsLiteral, of_character, IsItem, HasNoItem}
 use Rattle.cw_lex.specs.Found.{worded, quoted_word, closed_word, quoted_or_none}
 use Rattle.cw_lex.proofs.Lists.{every_stop, length_front, cut}
 use Rattle.cw_lex.proofs.Letters.{word_lettered, lettered_digits}
@@ -22,14 +22,14 @@ use Rattle.cw_lex.proofs.Longest.{IsFoundAt, FoundOrNot}
 -- an item that begins with an apostrophe
 data QuotedItem (form : Form) (v : List ℕ) : Type 0 where
   a_word : (u : List ℕ) (k : Word) → word_of u ≡ Some k → v ≡ 39 ∷ u ++ 39 ∷ [] → QuotedItem form v
-  a_literal : (u gap : List ℕ) (b : ℕ) → word_of u ≡ Some words.Literal → list_all is_separator gap ≡ true → is_literal_byte form b ≡ true → v ≡ (39 ∷ u ++ 39 ∷ []) ++ (gap ++ 40 ∷ b ∷ 41 ∷ []) → QuotedItem form v
+  a_literal : (u gap : List ℕ) (b : ℕ) → word_of u ≡ Some words.Literal → AreSeparators gap → is_literal_byte form b ≡ true → v ≡ (39 ∷ u ++ 39 ∷ []) ++ (gap ++ 40 ∷ b ∷ 41 ∷ []) → QuotedItem form v
 
 three_front : (w u : List ℕ) → class_of w ≡ 0 → class_of (w ++ u) ≡ 3 → ⊥
 three_front [] u e f = cc
 three_front (c ∷ w) u e f = cc
 
 quoted_literal : (form : Form) (v : List ℕ) → IsLiteral form v → class_of v ≡ 3 → QuotedItem form v
-quoted_literal form _ (of_character w gap b p s l) h = elim (word_form w words.Literal p) [
+quoted_literal form _ (of_character w gap b p t s l) h = elim (word_form w words.Literal p) [
   | is_bare e q ↦ absurd (three_front w (gap ++ 40 ∷ b ∷ 41 ∷ []) q h)
   | is_quoted u e q k ↦ a_literal u gap b e s l (ap (λ (z : List ℕ). z ++ (gap ++ 40 ∷ b ∷ 41 ∷ [])) q)
 ]
@@ -58,7 +58,7 @@ quoted_of form u t k e =
 worded_quoted : (form : Form) (u t : List ℕ) (k : Word) → word_of u ≡ Some k → IsWordedAt form (39 ∷ u ++ 39 ∷ []) t k (worded form k (length u + 2) (39 ∷ (u ++ 39 ∷ t)))
 worded_quoted form u t k e =
     let w = 39 ∷ u ++ 39 ∷ [] in
-    let d : IsWordedAt form w t k (worded form k (length w) (w ++ t)) = worded_at form w t k (quoted u e) in
+    let d : IsWordedAt form w t k (worded form k (length w) (w ++ t)) = worded_at form w t k (quoted u e) (omega arith) in
     let size : length w ≡ length u + 2 = omega (arith, length-append u (39 ∷ [])) in
     let shape : w ++ t ≡ 39 ∷ (u ++ 39 ∷ t) = ap (λ (z : List ℕ). 39 ∷ z) (append_assoc u (39 ∷ []) t) in
     let F : ℕ → Type 0 = λ (z : ℕ). IsWordedAt form w t k (worded form k z (w ++ t)) in
@@ -104,7 +104,7 @@ quoted_none form bs e v r k h i =
     cc
 
 quoted_best : (form : Form) (bs w t : List ℕ) (k : Word) (m : ℕ) → word_of w ≡ Some k → bs ≡ w ++ 39 ∷ t → length w + 2 ≤ m
-    → ((gap : List ℕ) (b : ℕ) (r : List ℕ) → k ≡ words.Literal → t ≡ gap ++ 40 ∷ b ∷ 41 ∷ r → list_all is_separator gap ≡ true → is_literal_byte form b ≡ true → length w + 2 + (length gap + 3) ≤ m)
+    → ((gap : List ℕ) (b : ℕ) (r : List ℕ) → k ≡ words.Literal → t ≡ gap ++ 40 ∷ b ∷ 41 ∷ r → AreSeparators gap → is_literal_byte form b ≡ true → length w + 2 + (length gap + 3) ≤ m)
     → (v r : List ℕ) → v ++ r ≡ 39 ∷ bs → QuotedItem form v → length v ≤ m
 quoted_best form bs w t k m e q more literal v r h (a_word u j f p) =
     let same = same_prefix u r w t j k f e (sym (quoted_parts u r bs (ap (λ (z : List ℕ). z ++ r) (sym p) ∙ h)) ∙ q) in

@@ -74,7 +74,7 @@ no_bracket [] t e = cc
 no_bracket (x ∷ u) t e = no_bracket u t (and_parts (is_ascii_alphanumeric x) (list_all is_ascii_alphanumeric (u ++ 40 ∷ t)) e).1
 
 no_literal_word : (form : Form) (w v : List ℕ) (k : Word) → v ≡ w → IsWord w k → IsLiteral form v → ⊥
-no_literal_word form w v k h p (of_character x gap b q s l) = go (word_form w k p) (word_form x words.Literal q)
+no_literal_word form w v k h p (of_character x gap b q n s l) = go (word_form w k p) (word_form x words.Literal q)
   where
     go : WordForm w k → WordForm x words.Literal → ⊥
     go (is_bare e c) f =
@@ -92,7 +92,7 @@ no_literal_word form w v k h p (of_character x gap b q s l) = go (word_form w k 
         nonempty (z ∷ g) t = cc
 
 no_literal_name : (form : Form) (w v : List ℕ) → v ≡ w → list_all is_ascii_alphanumeric w ≡ true → IsLiteral form v → ⊥
-no_literal_name form w v h a (of_character x gap b q s l) =
+no_literal_name form w v h a (of_character x gap b q n s l) =
     no_bracket (x ++ gap) (b ∷ 41 ∷ []) (ap (list_all is_ascii_alphanumeric) (append_assoc x gap (40 ∷ b ∷ 41 ∷ []) ∙ h) ∙ a)
 
 name_none : (w : List ℕ) → IsIdentifier w → word_of w ≡ None

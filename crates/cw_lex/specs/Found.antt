@@ -1,6 +1,6 @@
 -- What is found at the front of a text, as the lexer's private functions compute it.
 -- What the items of a text are, Lexical says, and nothing here.
-use Rattle.std.specs.Prelude.{ℕ, ◌+◌, ◌-◌, ◌==◌, nat_lt, Bool, true, false, not, ◌&&◌, ◌||◌, List, [], ◌∷◌, length, take, drop, Option, Some, None, Result, Ok, Err, if◌then◌else◌}
+use Rattle.std.specs.Prelude.{ℕ, zero, suc, ◌+◌, ◌-◌, ◌==◌, nat_lt, Bool, true, false, not, ◌&&◌, ◌||◌, List, [], ◌∷◌, length, take, drop, Option, Some, None, Result, Ok, Err, if◌then◌else◌}
 use Rattle.std.specs.List.{prefix_len}
 use Rattle.std.specs.Char.{is_ascii_alphabetic, is_ascii_alphanumeric, is_ascii_digit}
 use Rattle.cw_lex.specs.declared.token.Form.{Form}
@@ -21,13 +21,46 @@ abbrev pub of_kind : TokenKind → ℕ → Option ℕ → FoundItem
 of_kind k n None = None
 of_kind k n (Some m) = Some (k, m + n)
 
+-- The length of the word COMMENT at the front, or 0.
+abbrev pub is_comment : Option Word → Bool
+is_comment (Some words.Comment) = true
+is_comment _ = false
+
+abbrev pub closed_comment : ℕ → Bool → List ℕ → ℕ
+closed_comment n is [] = 0
+closed_comment n is (c ∷ bs) = if (c == 39) && is then n + 2 else 0
+
+abbrev pub bare_comment : List ℕ → ℕ
+bare_comment bs = if is_comment (word_of (take (prefix_len is_ascii_alphanumeric bs) bs)) then prefix_len is_ascii_alphanumeric bs else 0
+
+-- behind its first apostrophe
+abbrev pub quoted_comment : List ℕ → ℕ
+quoted_comment bs = closed_comment (prefix_len is_ascii_alphanumeric bs) (is_comment (word_of (take (prefix_len is_ascii_alphanumeric bs) bs))) (drop (prefix_len is_ascii_alphanumeric bs) bs)
+
+abbrev pub comment_word : List ℕ → ℕ
+comment_word [] = 0
+comment_word (c ∷ bs) = if c == 39 then quoted_comment bs else bare_comment (c ∷ bs)
+
+-- The length of the comment at the front, whose word has n bytes, or 0.
+abbrev pub shut_comment : ℕ → List ℕ → ℕ
+shut_comment n bs = if n == 0 then 0 else (if nat_lt (prefix_len not_semicolon bs) (length bs) then n + prefix_len not_semicolon bs + 1 else 0)
+
+abbrev pub comment_size : List ℕ → ℕ
+comment_size bs = shut_comment (comment_word bs) (drop (comment_word bs) bs)
+
+-- The length of the separators at the front, whose first bytes, so many, are inside a comment.
+abbrev pub gap_size : ℕ → List ℕ → ℕ
+gap_size inside [] = 0
+gap_size (suc inside) (b ∷ bs) = 1 + gap_size inside bs
+gap_size zero (b ∷ bs) = if is_separator b then 1 + gap_size 0 bs else (if comment_size (b ∷ bs) == 0 then 0 else 1 + gap_size (comment_size (b ∷ bs) - 1) bs)
+
 -- what follows separators in a literal
 abbrev pub bracketed : Form → ℕ → List ℕ → Option ℕ
 bracketed form gap (c ∷ b ∷ d ∷ bs) = if c == 40 then (if d == 41 then (if is_literal_byte form b then Some (gap + 3) else None) else None) else None
 bracketed form gap _ = None
 
 abbrev pub literal_end : Form → List ℕ → Option ℕ
-literal_end form bs = bracketed form (prefix_len is_separator bs) (drop (prefix_len is_separator bs) bs)
+literal_end form bs = bracketed form (gap_size 0 bs) (drop (gap_size 0 bs) bs)
 
 abbrev pub literal_or_word : ℕ → Option ℕ → TokenKind × ℕ
 literal_or_word n None = (kinds.Word words.Literal, n)

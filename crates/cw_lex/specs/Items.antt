@@ -17,6 +17,9 @@ use Rattle.cw_lex.specs.declared.token.TheConstants.{WORDS}
 abbrev pub is_separator : ℕ → Bool
 is_separator b = (b == 32) || ((b == 9) || ((b == 13) || ((b == 12) || (b == 10))))
 
+abbrev pub not_semicolon : ℕ → Bool
+not_semicolon b = not (b == 59)
+
 -- the first entry whose text is this, in either case
 abbrev pub look_up : List (List ℕ × Word) → List ℕ → Option Word
 look_up [] text = None
@@ -101,9 +104,19 @@ pub data IsText : List ℕ → Type 0 where
 pub data IsBodyText : List ℕ → Type 0 where
   between_pairs : (w : List ℕ) → list_all is_plain w ≡ true → IsBodyText (34 ∷ 34 ∷ w ++ 34 ∷ 34 ∷ [])
 
+-- Of the letters and digits there none goes on behind the word. (A word between apostrophes begins with none.)
+abbrev pub EndsWord : List ℕ → List ℕ → Type 0
+EndsWord w rest = prefix_len is_ascii_alphanumeric (w ++ rest) ≤ length w
+
+-- separators, each a byte, or the word COMMENT and all up to the next semicolon
+pub data AreSeparators : List ℕ → Type 0 where
+  no_separator : AreSeparators []
+  a_byte : {b : ℕ} {rest : List ℕ} → is_separator b ≡ true → AreSeparators rest → AreSeparators (b ∷ rest)
+  a_comment : (w body : List ℕ) {rest : List ℕ} → IsWord w words.Comment → EndsWord w body → list_all not_semicolon body ≡ true → AreSeparators rest → AreSeparators (w ++ (body ++ 59 ∷ rest))
+
 -- the word LITERAL, separators, and one character between brackets
 pub data IsLiteral (form : Form) : List ℕ → Type 0 where
-  of_character : (w gap : List ℕ) (b : ℕ) → IsWord w words.Literal → list_all is_separator gap ≡ true → is_literal_byte form b ≡ true → IsLiteral form (w ++ (gap ++ 40 ∷ b ∷ 41 ∷ []))
+  of_character : (w gap : List ℕ) (b : ℕ) → IsWord w words.Literal → EndsWord w gap → AreSeparators gap → is_literal_byte form b ≡ true → IsLiteral form (w ++ (gap ++ 40 ∷ b ∷ 41 ∷ []))
 
 -- The bytes, all of them, are an item of this kind. (The word COMMENT is one too, though no token.)
 abbrev pub IsItem : Form → List ℕ → TokenKind → Type 0
@@ -135,9 +148,6 @@ abbrev pub opens_string : Form → List ℕ → Bool
 opens_string Source bs = true
 opens_string MacroBody [] = false
 opens_string MacroBody (b ∷ bs) = b == 34
-
-abbrev pub not_semicolon : ℕ → Bool
-not_semicolon b = not (b == 59)
 
 abbrev pub openings : List ℕ → ℕ
 openings = count_by (λ b. b == 40)

@@ -5,7 +5,7 @@ ghost use Rattle.std.specs.List.{prefix_len};
 ghost use Rattle.std.specs.Str.{str_eq_ignore_ascii_case};
 ghost use Rattle.std.specs.Char.{is_ascii_alphanumeric, is_ascii_digit};
 ghost use Rattle.cw_lex.specs.Items.{is_separator, look_up, word_of, one_mark, two_marks, is_literal_byte, is_plain, not_semicolon};
-ghost use Rattle.cw_lex.specs.Found.{text_end, body_text_end, literal_end, worded, bare_word, quoted_word, fraction, number, string, symbol, found};
+ghost use Rattle.cw_lex.specs.Found.{text_end, is_comment, bare_comment, quoted_comment, comment_word, comment_size, gap_size, body_text_end, literal_end, worded, bare_word, quoted_word, fraction, number, string, symbol, found};
 
 use crate::token::{Form, Symbol, TokenKind, WORDS, Word};
 
@@ -91,13 +91,6 @@ pub(crate) fn digits(bytes: &[u8]) -> usize
     bytes.iter().take_while(|b| b.is_ascii_digit()).count()
 }
 
-fn separators(bytes: &[u8]) -> usize
-    ensures value { result ≡ prefix_len is_separator bytes.now }
-    ensures within { result ≤ length bytes.now }
-{
-    bytes.iter().take_while(|b| is_separator(**b)).count()
-}
-
 fn plain_bytes(bytes: &[u8]) -> usize
     ensures value { result ≡ prefix_len is_plain bytes.now }
     ensures within { result ≤ length bytes.now }
@@ -128,6 +121,86 @@ fn is_literal_byte(form: Form, b: u8) -> bool
         Form::Source => b >= 32 && b <= 126,
         Form::MacroBody => b >= 32 && b <= 126 && b != b'"',
     }
+}
+
+fn is_comment(text: &[u8]) -> bool
+    ensures { result ≡ is_comment (word_of text.now) }
+{
+    match word_of(text) {
+        Some(Word::Comment) => true,
+        _ => false,
+    }
+}
+
+fn bare_comment(bytes: &[u8]) -> usize
+    ensures value { result ≡ bare_comment bytes.now }
+    ensures within { result ≤ length bytes.now }
+{
+    let n = letters_and_digits(bytes);
+    if is_comment(&bytes[..n]) { n } else { 0 }
+}
+
+fn quoted_comment(bytes: &[u8]) -> usize
+    ensures value { result ≡ quoted_comment bytes.now }
+    ensures within { result ≤ 1 + length bytes.now }
+{
+    let n = letters_and_digits(bytes);
+    let is_comment = is_comment(&bytes[..n]);
+    match &bytes[n..] {
+        [b'\'', ..] => { if is_comment { n + 2 } else { 0 } }
+        _ => 0,
+    }
+}
+
+// The length of the word COMMENT at the front, or 0.
+fn comment_word(bytes: &[u8]) -> usize
+    ensures value { result ≡ comment_word bytes.now }
+    ensures within { result ≤ length bytes.now }
+{
+    match bytes {
+        [] => 0,
+        [c, rest @ ..] => {
+            if *c == b'\'' {
+                quoted_comment(rest)
+            } else {
+                bare_comment(bytes)
+            }
+        }
+    }
+}
+
+// The length of the comment at the front, or 0.
+fn comment_size(bytes: &[u8]) -> usize
+    ensures value { result ≡ comment_size bytes.now }
+    ensures within { result ≤ length bytes.now }
+{
+    let n = comment_word(bytes);
+    if n == 0 {
+        return 0;
+    }
+    let rest = &bytes[n..];
+    let body = before_semicolon(rest);
+    if body < rest.len() { n + body + 1 } else { 0 }
+}
+
+// The length of the separators at the front.
+fn separators(bytes: &[u8]) -> usize
+    ensures value { result ≡ gap_size 0 bytes.now }
+    ensures within { result ≤ length bytes.now }
+{
+    let mut at = 0;
+    while at < bytes.len() {
+        if is_separator(bytes[at]) {
+            at += 1;
+        } else {
+            let n = comment_size(&bytes[at..]);
+            if n == 0 {
+                return at;
+            }
+            at += n;
+        }
+    }
+    at
 }
 
 // What follows the word LITERAL: separators, and one byte between brackets.

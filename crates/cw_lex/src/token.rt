@@ -138,7 +138,7 @@ pub enum TokenKind {
     Text,
     /// A string of a macro body: between `""` and `""`, without quotes.
     BodyText,
-    /// LITERAL, separators, and one character between brackets.
+    /// LITERAL, separators, which may be comments, and one character between brackets.
     Literal,
     Symbol(Symbol),
 }

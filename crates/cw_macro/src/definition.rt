@@ -352,7 +352,7 @@ fn quote_length(kind: TokenKind) -> usize
     }
 }
 
-/// The parts of a body, where it has tokens and holds no DEFINE or DELETE.
+/// The parts of a body, perhaps none, where the lexer finds no fault in it and it holds no DEFINE or DELETE.
 pub(crate) fn read_body<'a>(
     alloc: Global,
     string: Token<'a>,

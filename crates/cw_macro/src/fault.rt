@@ -19,7 +19,7 @@ pub const MOST_BYTES: usize = 1_048_576;
 /// Why tokens have no expansion: the first fault, with the line of the first token that is left where it comes.
 #[derive(Debug, Drop, Error)]
 pub enum MacroFault {
-    /// A DEFINE or DELETE that is not of its form, two parameters of one name, or a body that has no tokens or holds DEFINE or DELETE.
+    /// A DEFINE or DELETE that is not of its form, two parameters of one name, or a body with a fault of the lexer, or with DEFINE or DELETE in it.
     #[error("BadDefine")]
     BadDefine { line: u32 },
     /// A call without its list of arguments, with another number of them, with brackets that do not match, or without the end of the list.

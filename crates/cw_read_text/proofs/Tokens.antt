@@ -136,7 +136,7 @@ byte_at u b c =
     ap (λ (n : ℕ). first_or_zero (drop n (u ++ b ∷ c ∷ []))) e ∙ ap first_or_zero (drop-append_seam u (b ∷ c ∷ []))
 
 byte_is : (w : List ℕ) → IsLiteral Source w → is_literal_byte Source (literal_byte w) ≡ true
-byte_is _ (of_character w gap b i g k) =
+byte_is _ (of_character w gap b i n g k) =
     let e : w ++ (gap ++ 40 ∷ b ∷ 41 ∷ []) ≡ (w ++ (gap ++ 40 ∷ [])) ++ b ∷ 41 ∷ [] =
     ap (λ (z : List ℕ). w ++ z) (sym (append_assoc gap (40 ∷ []) (b ∷ 41 ∷ []))) ∙ sym (append_assoc w (gap ++ 40 ∷ []) (b ∷ 41 ∷ [])) in
     ap (is_literal_byte Source) (ap literal_byte e ∙ byte_at (w ++ (gap ++ 40 ∷ [])) b 41) ∙ k

@@ -13,7 +13,7 @@ use Rattle.cw_lex.specs.declared.token.Word.{Word}
 use Rattle.cw_lex.specs.declared.token.Word.TheVariants as words
 use Rattle.cw_lex.specs.declared.token.Symbol.{Symbol}
 use Rattle.cw_lex.specs.declared.token.Symbol.TheVariants as symbols
-use Rattle.cw_lex.specs.Items.{is_separator, is_plain, word_of, bare, IsIdentifier, letter_first, IsNumber, whole, pointed, AreDigits, IsQuotable, empty, plain, pair, between_quotes, IsItem, IsLongest, is_literal_byte, keeps_limit, of_character}
+use Rattle.cw_lex.specs.Items.{is_separator, is_plain, word_of, bare, IsIdentifier, letter_first, IsNumber, whole, pointed, AreDigits, IsQuotable, empty, plain, pair, between_quotes, IsItem, IsLongest, is_literal_byte, keeps_limit, no_separator, of_character}
 use Rattle.cw_lex.specs.Found.{found, word_or_name, number, fraction, number_of, text_end, of_kind}
 use Rattle.cw_lex.specs.Lexical.{Lexeme, Lexes, at_end, a_gap, a_token, separator as separator_gap, IsGap, first_place, line_behind, at_behind, is_token, is_semicolon}
 use Rattle.cw_lex.proofs.Lists.{every_stop, cut}
@@ -383,7 +383,7 @@ unfolding word_of
 literal_found b d rest h = rw h refl
 
 literal_longest : (b : ℕ) → is_literal_byte Source b ≡ true → (d : ℕ) (rest : List ℕ) → IsLongest Source (literal b).text (d ∷ rest) kinds.Literal
-literal_longest b h d rest = longest_of (literal b).text d rest kinds.Literal (of_character (word_text words.Literal) [] b (bare (word_text words.Literal) (word_is words.Literal)) refl h) (omega arith) (literal_found b d rest h)
+literal_longest b h d rest = longest_of (literal b).text d rest kinds.Literal (of_character (word_text words.Literal) [] b (bare (word_text words.Literal) (word_is words.Literal)) (omega arith) no_separator h) (omega arith) (literal_found b d rest h)
 
 -- ---- all tokens
 

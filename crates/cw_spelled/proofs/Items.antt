@@ -20,7 +20,7 @@ true_parts false b c h = h
 
 of_source : (form : Form) (w : List ℕ) → IsLiteral form w → IsLiteral Source w
 of_source Source w h = h
-of_source MacroBody _ (of_character w gap b h g k) = of_character w gap b h g (true_parts (nat_le 32 b) (nat_le b 126) (not (b == 34)) k)
+of_source MacroBody _ (of_character w gap b h e g k) = of_character w gap b h e g (true_parts (nat_le 32 b) (nat_le b 126) (not (b == 34)) k)
 
 no_comment : (after : Bool) (k : Word) → is_token after (kinds.Word k) ≡ true → k ≢ words.Comment
 no_comment after k h e = let f : false ≡ true = subst (λ (z : Word). is_token after (kinds.Word z) ≡ true) e h in absurd cc
