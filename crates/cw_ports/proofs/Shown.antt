@@ -191,6 +191,7 @@ pub record Concluded (end : RunEnd) (steps : ℕ) (s : State) (held : Option (Li
 pub conclude : Fitting → (end : RunEnd) (steps : ℕ) (s s' : State) (d d' : Device) (held : Option (List ℕ)) (a b : InputSide) (hand : List ℕ) → RunAnswers end steps s d s' d' → NoneTold d → d.at_end ≡ None → d.is_used ≡ false
     → d.left ≡ a.left → d.held ≡ held → d'.left ≡ before_told hand b.left → length hand ≤ 4096 → a.taken ≡ 0 → a.supply ≡ Open → (d'.is_used ≡ false → b.taken ≡ 0) → d.is_cut ≡ false → InputLater a b
     → Concluded end steps s held d' a b hand
+unfolding ran
 conclude fitting end steps s s' d d' held a b hand answers none unknown fresh is held_was in_hand piece nothing is_open unused uncut later =
     let goes : InputGoes a b = subst (λ x. InputFrom x a b) is_open later (omega (arith, nothing)) in
     let took : Took a.left b.left 0 b.taken = subst (λ n. Took a.left b.left n b.taken) nothing goes.took in
@@ -330,18 +331,24 @@ shows_broken end steps s d' a b o p pending k goes broken whole is_open =
 abbrev Asked : (n : ℕ) (s : State) (a b : InputSide) → {end : RunEnd} {steps : ℕ} {held : Option (List ℕ)} {d' : Device} {hand : List ℕ} → Concluded end steps s held d' a b hand → Bool → Type 0
 Asked n s a b k is_asking = Ran s k.input n a.left b.left is_asking (record { output = k.output; end = Running })
 
-asked : (n steps : ℕ) (s : State) (d' : Device) (a b : InputSide) {held : Option (List ℕ)} {hand : List ℕ} (k : Concluded (ends.PortFault n) steps s held d' a b hand) → d'.is_cut ≡ true → Asked n s a b k true
-asked n steps s d' a b k is_cut = subst (Asked n s a b k) (sym k.cut ∙ is_cut) k.ran
+abbrev asked_by : (n : ℕ) (s : State) (a b : InputSide) → {end : RunEnd} {steps : ℕ} {held : Option (List ℕ)} {d' : Device} {hand : List ℕ} (k : Concluded end steps s held d' a b hand) (is_asking : Bool)
+    → is_asking ≡ true → Asked n s a b k is_asking → Asked n s a b k true
+asked_by n s a b k true is r = r
+asked_by n s a b k false is r = absurd (true≢false (sym is))
+
+abbrev asked : (n steps : ℕ) (s : State) (d' : Device) (a b : InputSide) {held : Option (List ℕ)} {hand : List ℕ} (k : Concluded (ends.PortFault n) steps s held d' a b hand) → d'.is_cut ≡ true → Asked n s a b k true
+asked n steps s d' a b k is_cut = asked_by n s a b k k.is_asking (sym k.cut ∙ is_cut) k.ran
 
 -- with the same bytes in hand
 still_dry : (n steps : ℕ) (s : State) (d' : Device) (a b : InputSide) {held : Option (List ℕ)} {hand : List ℕ} (k : Concluded (ends.PortFault n) steps s held d' a b hand) (is_cut : d'.is_cut ≡ true)
     → k.ran.ahead.hand ≡ [] → (asked n steps s d' a b k is_cut).ahead.hand ≡ []
-still_dry n steps s d' a b k is_cut dry = dry_by k.is_asking (sym k.cut ∙ is_cut) k.ran dry
+still_dry n steps s d' a b k is_cut = dry_by k.is_asking (sym k.cut ∙ is_cut) k.ran
   where
-    dry_by : (is_asking : Bool) (e : is_asking ≡ true) (r : Asked n s a b k is_asking) → r.ahead.hand ≡ [] → (subst (Asked n s a b k) e r).ahead.hand ≡ []
-    dry_by true refl r dry = dry
+    dry_by : (is_asking : Bool) (is : is_asking ≡ true) (r : Asked n s a b k is_asking) → r.ahead.hand ≡ [] → (asked_by n s a b k is_asking is r).ahead.hand ≡ []
+    dry_by true is r dry = dry
+    dry_by false is r dry = absurd (true≢false (sym is))
 
-cut : (n steps : ℕ) (s : State) (d' : Device) (a b : InputSide) (o p : OutputSide) {hand : List ℕ} (k : Concluded (ends.PortFault n) steps s o.held d' a b hand) → n < steps → d'.is_cut ≡ true → p.held ≡ d'.held → Cut s k.input steps (Side a o) (Side b p)
+abbrev cut : (n steps : ℕ) (s : State) (d' : Device) (a b : InputSide) (o p : OutputSide) {hand : List ℕ} (k : Concluded (ends.PortFault n) steps s o.held d' a b hand) → n < steps → d'.is_cut ≡ true → p.held ≡ d'.held → Cut s k.input steps (Side a o) (Side b p)
 cut n steps s d' a b o p k less is_cut written_all = record {
   n = n;
   within = less;

@@ -4,6 +4,7 @@ ghost use Rattle.cw_io.specs.Bytes.{before_told, IsEnd};
 ghost use Rattle.cw_ports.specs.Pieces.{part, left_count, input_limit};
 ghost use Rattle.cw_ports.specs.Supplies.{is_open};
 ghost use Rattle.cw_ports.specs.Later.{InputLater, input_side};
+ghost use Rattle.cw_ports.specs.declared.supply.Supply.TheVariants.{Faulty};
 
 use crate::supply::Supply;
 use cw_io::Source;
@@ -38,7 +39,7 @@ pub(crate) struct Inlet<'a, I: Source> {
     ghost no_more: { told_end ≡ Some true → (from ≡ to) × (is_at_end ≡ true) },
     ghost over: { is_open supply ≡ false → told_end ≡ None },
     ghost cut: { is_open supply ≡ false → is_cut ≡ true },
-    ghost dry: { supply ≡ Supply.Faulty → from ≡ to },
+    ghost dry: { supply ≡ Faulty → from ≡ to },
 }
 
 impl<'a, I: Source> Inlet<'a, I> {
