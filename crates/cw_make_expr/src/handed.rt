@@ -2,7 +2,6 @@
 ghost use Rattle.std.specs.Prelude.{◌≡◌};
 ghost use Rattle.cw_make_expr.specs.Made.{expression_made, sum_made, term_made, differ_made, union_made, mask_made, prim_made, primary_made, reference_made};
 
-use crate::making::is_alone;
 use crate::parts::{handed, no_argument, number_of};
 use cw_number::numbered::Numbered;
 use cw_scale::kinds::kind_of;
@@ -34,10 +33,9 @@ fn primary_handed(named: &Named, numbers: &Table<Numbered>, e: &RawPrimary) -> A
 fn prim_handed(named: &Named, numbers: &Table<Numbered>, e: &RawPrim) -> Arg
     ensures { result ≡ (prim_made named.now numbers.now e.now).handed }
 {
-    if e.bits.as_slice().len() == 0 {
-        primary_handed(named, numbers, e.primary.get())
-    } else {
-        no_argument()
+    match e.bits.as_slice() {
+        [] => primary_handed(named, numbers, e.primary.get()),
+        _ => no_argument(),
     }
 }
 
@@ -45,14 +43,8 @@ fn mask_handed(named: &Named, numbers: &Table<Numbered>, e: &RawMask) -> Arg
     ensures { result ≡ (mask_made named.now numbers.now e.now).handed }
 {
     match e.operands.as_slice() {
-        [] => no_argument(),
-        [first, others @ ..] => {
-            if others.len() == 0 {
-                prim_handed(named, numbers, first)
-            } else {
-                no_argument()
-            }
-        }
+        [first] => prim_handed(named, numbers, first),
+        _ => no_argument(),
     }
 }
 
@@ -60,14 +52,8 @@ fn union_handed(named: &Named, numbers: &Table<Numbered>, e: &RawUnion) -> Arg
     ensures { result ≡ (union_made named.now numbers.now e.now).handed }
 {
     match e.operands.as_slice() {
-        [] => no_argument(),
-        [first, others @ ..] => {
-            if others.len() == 0 {
-                mask_handed(named, numbers, first)
-            } else {
-                no_argument()
-            }
-        }
+        [first] => mask_handed(named, numbers, first),
+        _ => no_argument(),
     }
 }
 
@@ -75,14 +61,8 @@ fn differ_handed(named: &Named, numbers: &Table<Numbered>, e: &RawDiffer) -> Arg
     ensures { result ≡ (differ_made named.now numbers.now e.now).handed }
 {
     match e.operands.as_slice() {
-        [] => no_argument(),
-        [first, others @ ..] => {
-            if others.len() == 0 {
-                union_handed(named, numbers, first)
-            } else {
-                no_argument()
-            }
-        }
+        [first] => union_handed(named, numbers, first),
+        _ => no_argument(),
     }
 }
 
@@ -90,14 +70,8 @@ fn term_handed(named: &Named, numbers: &Table<Numbered>, e: &RawTerm) -> Arg
     ensures { result ≡ (term_made named.now numbers.now e.now).handed }
 {
     match e.operands.as_slice() {
-        [] => no_argument(),
-        [first, others @ ..] => {
-            if others.len() == 0 {
-                differ_handed(named, numbers, first)
-            } else {
-                no_argument()
-            }
-        }
+        [first] => differ_handed(named, numbers, first),
+        _ => no_argument(),
     }
 }
 
@@ -105,14 +79,14 @@ fn sum_handed(named: &Named, numbers: &Table<Numbered>, e: &RawSum) -> Arg
     ensures { result ≡ (sum_made named.now numbers.now e.now).handed }
 {
     match e.operands.as_slice() {
-        [] => no_argument(),
-        [first, others @ ..] => {
-            if is_alone(&e.sign, others.len()) {
+        [first] => {
+            if e.sign.is_none() {
                 term_handed(named, numbers, first)
             } else {
                 no_argument()
             }
         }
+        _ => no_argument(),
     }
 }
 

@@ -60,7 +60,7 @@ fn operand_for(alone: bool, operand: bool) -> bool
     if alone { operand } else { true }
 }
 
-pub(crate) fn is_alone(sign: &Option<RawSign>, others: usize) -> bool
+fn is_alone(sign: &Option<RawSign>, others: usize) -> bool
     ensures { result ≡ is_alone sign.now others }
 {
     sign.is_none() && others == 0
