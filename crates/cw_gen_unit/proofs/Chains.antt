@@ -3,16 +3,18 @@ use Rattle.std.proofs.Common.{◌≡◌, ℕ, ◌+◌, ◌≤◌, List, [], ◌�
 use Rattle.std.proofs.lemmas.List.{drop_all}
 use Rattle.cw_order.specs.declared.order.Order.{Order}
 use Rattle.cw_order.specs.declared.order.Order.TheVariants as order
+use Rattle.cw_unit.specs.declared.unit.Dest.{Dest}
 use Rattle.cw_unit.specs.declared.unit.Felem.{Felem}
 use Rattle.cw_unit.specs.declared.unit.Ref.{Ref, out-Ref}
 use Rattle.cw_unit.specs.declared.unit.Stmt.{Stmt, Stmt-F, roll-Stmt, map-Stmt}
 use Rattle.cw_unit.specs.declared.unit.Stmt.TheFolds.{fold-roll-Stmt}
+use Rattle.cw_unit.specs.declared.unit.Stmt.TheOpen as statement
 use Rattle.cw_gen_expr.specs.Pieces.{MarkedOrders, Piece, plain, followed_by, with_end, sequence}
 use Rattle.cw_gen_expr.specs.Output.{added}
 use Rattle.cw_gen_expr.specs.ReferenceExpressions.{Scope, ConditionPiece, choice_piece, item_order, spot_piece, reference_of}
 use Rattle.cw_gen_expr.proofs.Layers.{reference-made}
 use Rattle.cw_gen_expr.proofs.Making.{reserved, closed, added-end, added-nothing, two_steps}
-use Rattle.cw_gen_unit.specs.ReferenceStatements.{with_middle, set_orders, elements_piece, element_ways, ring_piece, statement_step, statement_piece}
+use Rattle.cw_gen_unit.specs.ReferenceStatements.{begin_orders, jump_piece, with_middle, set_orders, elements_piece, element_ways, ring_piece, statement_step, statement_piece}
 
 -- ---- pieces
 
@@ -101,3 +103,9 @@ module _ (s : Scope) (who : Option ℕ) (answer : ℕ) where
 -- the address of a reference
 pub address : (s : Scope) (r : Ref) (x x' : MarkedOrders) → x' ≡ added (spot_piece s (out-Ref r).at) x → Adds (reference_of s r).address x x'
 address s r x x' h = one (reference_of s r).address x x' (h ∙ ap (λ v. added v.address x) (sym (reference-made s r)))
+
+-- a jump, behind the start of its statement
+pub jumped : (s : Scope) (who : Option ℕ) (line : ℕ) (d d' : Dest) (x x1 x2 : MarkedOrders) → d' ≡ d → x1 ≡ added (plain (begin_orders line)) x → Adds (jump_piece s who d) x1 x2 → x2 ≡ added (statement_step s who 0 (statement.Go line d')) x
+jumped s who line d d' x x1 x2 is begun h =
+    (and_then (one (plain (begin_orders line)) x x1 begun) h).is
+    ∙ ap (λ v. added (followed_by (plain (begin_orders line)) (jump_piece s who v)) x) (sym is)

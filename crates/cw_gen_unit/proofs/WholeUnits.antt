@@ -1,17 +1,33 @@
 -- The orders of a unit, from those of its bodies.
-use Rattle.std.proofs.Common.{◌≡◌, ℕ, zero, suc, ◌+◌, ◌<◌, List, [], ◌∷◌, ◌++◌, length, replicate, get_or, drop, None, refl, sym, ap, ap₂, ◌∙◌, arith, append_assoc, length-append, drop-cons, add-one}
+use Rattle.std.proofs.Common.{◌≡◌, ℕ, zero, suc, ◌+◌, ◌<◌, ◌≤◌, List, [], ◌∷◌, ◌++◌, length, replicate, get_or, drop, None, refl, sym, ap, ap₂, ◌∙◌, arith, append_assoc, append-nil, length-append, drop-cons, add-one}
 use Rattle.std.proofs.Math.Seq.{drop-append_seam}
-use Rattle.std.proofs.lemmas.List.{length-replicate}
+use Rattle.std.proofs.lemmas.List.{length-replicate, drop_all}
 use Rattle.cw_unit.specs.declared.unit.Unit.{Unit as SourceUnit}
 use Rattle.cw_unit.specs.declared.unit.Proc.{Proc}
 use Rattle.cw_unit.specs.declared.unit.Goal.{Goal}
+use Rattle.cw_unit.specs.declared.layout.Layout.{Layout}
+use Rattle.cw_unit.specs.Storage.{layout_of}
 use Rattle.cw_order.specs.declared.order.Order.{Order}
+use Rattle.cw_order.specs.declared.order.Order.TheVariants as order
 use Rattle.cw_order.specs.declared.order.Orders.{Orders}
 use Rattle.cw_order.specs.declared.order.LabelMark.{LabelMark}
+use Rattle.cw_gen_expr.specs.Pieces.{MarkedOrders, plain}
+use Rattle.cw_gen_expr.specs.Output.{added}
+use Rattle.cw_gen_expr.specs.ReferenceExpressions.{scope_with}
+use Rattle.cw_gen_expr.specs.ReferenceEntries.{scope_of}
 use Rattle.cw_gen_expr.specs.UnitTables.{procedure_mark, first_mark}
+use Rattle.cw_gen_expr.proofs.Making.{two_steps}
+use Rattle.cw_gen_unit.specs.ReferenceStatements.{statement_piece}
 use Rattle.cw_gen_unit.specs.ReferenceUnits.{body_piece, procedure_piece, procedures_piece, entries_of, procedure_labels, label_places, definition_places, label_marks, procedure_marks, switch_lists, unit_orders}
 use Rattle.cw_gen_unit.specs.LabelPlaces.{labels_placed}
 use Rattle.cw_gen_unit.proofs.PlacedLabels.{placed-body}
+
+-- ---- the segment's body
+
+pub body-made : (u : SourceUnit) (y : Layout) (x x1 x2 : MarkedOrders) → y ≡ layout_of u → x1 ≡ added (statement_piece (scope_with u y []) None 0 u.body) x → x2 ≡ added (plain (order.NextBody ∷ [])) x1 → x2 ≡ added (body_piece u) x
+body-made u y x x1 x2 laid first next =
+    two_steps (statement_piece (scope_of u None) None 0 u.body) (plain (order.NextBody ∷ [])) x x1 x2
+    (first ∙ ap (λ z. added (statement_piece (scope_with u z []) None 0 u.body) x) laid) next
 
 -- ---- from a procedure to the next
 
@@ -60,6 +76,25 @@ module _ (u : SourceUnit) (ps : List Proc) (i : ℕ) (q : Proc) (lt : i < length
         ∙ ap (λ k. done ++ p.labels ∷ procedure_labels u k (drop (i + 1) ps) (length xo + length p.orders) (length xm + length p.marks)) (add-one i)
         ∙ ap (λ l. done ++ procedure_labels u i l (length xo) (length xm)) (sym split)
 
+-- none is left
+module _ (u : SourceUnit) (ps : List Proc) (k a b p q : ℕ) (past : length ps ≤ k) (all : ps ≡ u.procs) where
+  none : [] ≡ drop k ps
+  none = sym (drop_all k ps past)
+
+  pub last-orders : (xs zs : List Order) → xs ++ (procedures_piece u k (drop k ps) a b).orders ≡ zs ++ (procedures_piece u 0 ps p q).orders → xs ≡ zs ++ (procedures_piece u 0 u.procs p q).orders
+  last-orders xs zs h =
+      sym (append-nil xs) ∙ ap (λ l. xs ++ (procedures_piece u k l a b).orders) none ∙ h ∙ ap (λ l. zs ++ (procedures_piece u 0 l p q).orders) all
+
+  pub last-marks : (xs zs : List ℕ) → xs ++ (procedures_piece u k (drop k ps) a b).marks ≡ zs ++ (procedures_piece u 0 ps p q).marks → xs ≡ zs ++ (procedures_piece u 0 u.procs p q).marks
+  last-marks xs zs h =
+      sym (append-nil xs) ∙ ap (λ l. xs ++ (procedures_piece u k l a b).marks) none ∙ h ∙ ap (λ l. zs ++ (procedures_piece u 0 l p q).marks) all
+
+  pub last-entries : (xs zs : List ℕ) → xs ++ entries_of u k (drop k ps) a b ≡ zs ++ entries_of u 0 ps p q → xs ≡ zs ++ entries_of u 0 u.procs p q
+  last-entries xs zs h = sym (append-nil xs) ∙ ap (λ l. xs ++ entries_of u k l a b) none ∙ h ∙ ap (λ l. zs ++ entries_of u 0 l p q) all
+
+  pub last-labels : (done : List (List (ℕ × ℕ))) → done ++ procedure_labels u k (drop k ps) a b ≡ procedure_labels u 0 ps p q → done ≡ procedure_labels u 0 u.procs p q
+  last-labels done h = sym (append-nil done) ∙ ap (λ l. done ++ procedure_labels u k l a b) none ∙ h ∙ ap (λ l. procedure_labels u 0 l p q) all
+
 -- ---- marks of procedures
 
 listed : (u : SourceUnit) (p i : ℕ) (ps : List Proc) → i < length ps → procedure_marks u p (drop i ps) ≡ procedure_mark u p ∷ procedure_marks u (suc p) (drop (suc i) ps)
@@ -75,42 +110,59 @@ next-mark u i m ps ms lt is =
 
 -- ---- the whole
 
+-- its orders and marks, from those of the segment's body and of the procedures
+module _ (u : SourceUnit) (f : ℕ) (o0 o1 o2 : List Order) (m0 m1 m2 : List ℕ) (ef : f ≡ first_mark u) (eo0 : o0 ≡ []) (em0 : m0 ≡ replicate f 0) (eo1 : o1 ≡ o0 ++ (body_piece u (length o0) (length m0)).orders) (em1 : m1 ≡ m0 ++ (body_piece u (length o0) (length m0)).marks) (eo2 : o2 ≡ o1 ++ (procedures_piece u 0 u.procs (length o1) (length m1)).orders) (em2 : m2 ≡ m1 ++ (procedures_piece u 0 u.procs (length o1) (length m1)).marks) where
+  abbrev body : MarkedOrders
+  body = body_piece u 0 (first_mark u)
+
+  abbrev rest : MarkedOrders
+  rest = procedures_piece u 0 u.procs (0 + length body.orders) (first_mark u + length body.marks)
+
+  at : body_piece u (length o0) (length m0) ≡ body
+  at = ap₂ (body_piece u) (ap length eo0) (ap length em0 ∙ length-replicate {A = ℕ} f 0 ∙ ef)
+
+  body-orders : o1 ≡ body.orders
+  body-orders = eo1 ∙ ap₂ (λ o x. o ++ x.orders) eo0 at
+
+  body-marks : m1 ≡ replicate f 0 ++ body.marks
+  body-marks = em1 ∙ ap₂ (λ m x. m ++ x.marks) em0 at
+
+  rest-place : length o1 ≡ 0 + length body.orders
+  rest-place = let none : length body.orders ≡ 0 + length body.orders = omega arith in ap length body-orders ∙ none
+
+  rest-mark : length m1 ≡ first_mark u + length body.marks
+  rest-mark = ap length body-marks ∙ length-append (replicate f 0) body.marks ∙ ap (λ k. k + length body.marks) (length-replicate {A = ℕ} f 0 ∙ ef)
+
+  at-rest : procedures_piece u 0 u.procs (length o1) (length m1) ≡ rest
+  at-rest = ap₂ (procedures_piece u 0 u.procs) rest-place rest-mark
+
+  pub whole-list : o2 ≡ (unit_orders u).list
+  whole-list = eo2 ∙ ap₂ (λ o x. o ++ x.orders) body-orders at-rest
+
+  own-marks : drop f m2 ≡ body.marks ++ rest.marks
+  own-marks =
+      ap₂ drop (sym (length-replicate {A = ℕ} f 0)) (em2 ∙ ap₂ (λ m x. m ++ x.marks) body-marks at-rest ∙ append_assoc (replicate f 0) body.marks rest.marks)
+      ∙ drop-append_seam (replicate f 0) (body.marks ++ rest.marks)
+
+  module _ (z0 z1 z2 e2 ms : List ℕ) where
+    pub whole-marks : z0 ≡ replicate (length u.labels) 0 → z1 ≡ labels_placed 0 u.labels None (body_piece u (length o0) (length m0)).labels z0
+        → e2 ≡ entries_of u 0 u.procs (length o1) (length m1)
+        → ((b : List (ℕ × ℕ)) → z1 ≡ label_places 0 u.labels b [] → z2 ≡ label_places 0 u.labels b (procedure_labels u 0 u.procs (length o1) (length m1)))
+        → ms ≡ definition_places z2 e2 u.defined ++ (z2 ++ (e2 ++ drop f m2))
+        → ms ≡ (unit_orders u).marks
+    whole-marks ez0 ez1 ee2 hz ems =
+        let es = entries_of u 0 u.procs (0 + length body.orders) (first_mark u + length body.marks) in
+        let zs = label_places 0 u.labels body.labels (procedure_labels u 0 u.procs (0 + length body.orders) (first_mark u + length body.marks)) in
+        let entries : e2 ≡ es = ee2 ∙ ap₂ (entries_of u 0 u.procs) rest-place rest-mark in
+        let places : z2 ≡ zs = hz body.labels (ez1 ∙ ap₂ (labels_placed 0 u.labels None) (ap (λ x. x.labels) at) ez0 ∙ placed-body 0 u.labels body.labels) ∙ ap₂ (λ a c. label_places 0 u.labels body.labels (procedure_labels u 0 u.procs a c)) rest-place rest-mark in
+        ems ∙ ap₂ (λ z e. definition_places z e u.defined ++ (z ++ (e ++ drop f m2))) places entries
+        ∙ ap (λ t. definition_places zs es u.defined ++ (zs ++ (es ++ t))) own-marks
+
 abbrev told : List Order → List ℕ → List LabelMark → List ℕ → List (List Goal) → Orders
 told os ms ls ps ss = record { list = os; entry = 0; marks = ms; labels = ls; procedures = ps; switches = ss }
 
-module _ (u : SourceUnit) (f : ℕ) (o0 o1 o2 : List Order) (m0 m1 m2 z0 z1 z2 e2 ms : List ℕ) (ls : List LabelMark) (ps : List ℕ) (ss : List (List Goal)) where
-  pub whole : f ≡ first_mark u → o0 ≡ [] → m0 ≡ replicate f 0 → z0 ≡ replicate (length u.labels) 0
-      → o1 ≡ o0 ++ (body_piece u (length o0) (length m0)).orders → m1 ≡ m0 ++ (body_piece u (length o0) (length m0)).marks
-      → z1 ≡ labels_placed 0 u.labels None (body_piece u (length o0) (length m0)).labels z0
-      → o2 ≡ o1 ++ (procedures_piece u 0 u.procs (length o1) (length m1)).orders → m2 ≡ m1 ++ (procedures_piece u 0 u.procs (length o1) (length m1)).marks
-      → e2 ≡ entries_of u 0 u.procs (length o1) (length m1)
-      → ((b : List (ℕ × ℕ)) → z1 ≡ label_places 0 u.labels b [] → z2 ≡ label_places 0 u.labels b (procedure_labels u 0 u.procs (length o1) (length m1)))
-      → ms ≡ ((definition_places z2 e2 u.defined ++ z2) ++ e2) ++ drop f m2
-      → ls ≡ label_marks u 0 u.labels → ps ≡ procedure_marks u 0 u.procs → ss ≡ switch_lists u.switches
-      → told o2 ms ls ps ss ≡ unit_orders u
-  whole ef eo0 em0 ez0 eo1 em1 ez1 eo2 em2 ee2 hz ems els eps ess =
-      let first = first_mark u in
-      let b = body_piece u 0 first in
-      let n0 : length m0 ≡ first = ap length em0 ∙ length-replicate {A = ℕ} f 0 ∙ ef in
-      let at : body_piece u (length o0) (length m0) ≡ b = ap₂ (body_piece u) (ap length eo0) n0 in
-      let so1 : o1 ≡ b.orders = eo1 ∙ ap₂ (λ o x. o ++ x.orders) eo0 at in
-      let sm1 : m1 ≡ replicate f 0 ++ b.marks = em1 ∙ ap₂ (λ m x. m ++ x.marks) em0 at in
-      let none : length b.orders ≡ 0 + length b.orders = omega arith in
-      let p1 : length o1 ≡ 0 + length b.orders = ap length so1 ∙ none in
-      let q1 : length m1 ≡ first + length b.marks = ap length sm1 ∙ length-append (replicate f 0) b.marks ∙ ap (λ k. k + length b.marks) (length-replicate {A = ℕ} f 0 ∙ ef) in
-      let p = procedures_piece u 0 u.procs (0 + length b.orders) (first + length b.marks) in
-      let at2 : procedures_piece u 0 u.procs (length o1) (length m1) ≡ p = ap₂ (procedures_piece u 0 u.procs) p1 q1 in
-      let list : o2 ≡ b.orders ++ p.orders = eo2 ∙ ap₂ (λ o x. o ++ x.orders) so1 at2 in
-      let sm2 : m2 ≡ replicate f 0 ++ (b.marks ++ p.marks) = em2 ∙ ap₂ (λ m x. m ++ x.marks) sm1 at2 ∙ append_assoc (replicate f 0) b.marks p.marks in
-      let tail : drop f m2 ≡ b.marks ++ p.marks = ap₂ drop (sym (length-replicate {A = ℕ} f 0)) sm2 ∙ drop-append_seam (replicate f 0) (b.marks ++ p.marks) in
-      let es = entries_of u 0 u.procs (0 + length b.orders) (first + length b.marks) in
-      let se2 : e2 ≡ es = ee2 ∙ ap₂ (entries_of u 0 u.procs) p1 q1 in
-      let zs = label_places 0 u.labels b.labels (procedure_labels u 0 u.procs (0 + length b.orders) (first + length b.marks)) in
-      let sz2 : z2 ≡ zs = hz b.labels (ez1 ∙ ap₂ (labels_placed 0 u.labels None) (ap (λ x. x.labels) at) ez0 ∙ placed-body 0 u.labels b.labels) ∙ ap₂ (λ a c. label_places 0 u.labels b.labels (procedure_labels u 0 u.procs a c)) p1 q1 in
-      let marks : ms ≡ definition_places zs es u.defined ++ (zs ++ (es ++ (b.marks ++ p.marks))) =
-      ems ∙ ap₂ (λ z e. ((definition_places z e u.defined ++ z) ++ e) ++ drop f m2) sz2 se2
-      ∙ ap (λ t. ((definition_places zs es u.defined ++ zs) ++ es) ++ t) tail
-      ∙ append_assoc (definition_places zs es u.defined ++ zs) es (b.marks ++ p.marks)
-      ∙ append_assoc (definition_places zs es u.defined) zs (es ++ (b.marks ++ p.marks)) in
-      ap₂ (λ o m. told o m ls ps ss) list marks ∙ ap₂ (λ l q. told (b.orders ++ p.orders) (definition_places zs es u.defined ++ (zs ++ (es ++ (b.marks ++ p.marks)))) l q ss) els eps
-      ∙ ap (told (b.orders ++ p.orders) (definition_places zs es u.defined ++ (zs ++ (es ++ (b.marks ++ p.marks)))) (label_marks u 0 u.labels) (procedure_marks u 0 u.procs)) ess
+-- with the marks of its labels and procedures, and its switches
+pub whole : (u : SourceUnit) (os : List Order) (ms : List ℕ) (ls : List LabelMark) (ps : List ℕ) (ss : List (List Goal)) → os ≡ (unit_orders u).list → ms ≡ (unit_orders u).marks → ls ≡ label_marks u 0 u.labels → ps ≡ procedure_marks u 0 u.procs → ss ≡ switch_lists u.switches → told os ms ls ps ss ≡ unit_orders u
+whole u os ms ls ps ss eo em el ep es =
+    ap₂ (λ o m. told o m ls ps ss) eo em ∙ ap₂ (λ l q. told (unit_orders u).list (unit_orders u).marks l q ss) el ep
+    ∙ ap (told (unit_orders u).list (unit_orders u).marks (label_marks u 0 u.labels) (procedure_marks u 0 u.procs)) es

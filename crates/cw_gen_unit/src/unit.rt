@@ -1,6 +1,8 @@
 //! The unit.
 ghost use Rattle.std.specs.Prelude.{◌≡◌, ℕ, ◌++◌, ◌∷◌, [], None, Some, length, drop, OnOk, IfOk, replicate, slice_get, List as Sequence};
 ghost use Rattle.cw_unit.specs.Storage.{layout_of};
+ghost use Rattle.cw_gen_expr.specs.Output.{made};
+ghost use Rattle.cw_gen_expr.specs.UnitTables.{first_mark};
 ghost use Rattle.cw_gen_expr.specs.UnitTables as tables;
 ghost use Rattle.cw_gen_unit.specs.ReferenceUnits.{body_piece, procedure_piece, procedures_piece, entries_of, procedure_labels, label_places, definition_place as spec_definition_place, definition_places as spec_definition_places, label_marks as spec_label_marks, procedure_marks as spec_procedure_marks, switch_lists as spec_switch_lists, unit_orders};
 ghost use Rattle.cw_gen_unit.specs.LabelPlaces.{labels_placed};
@@ -213,6 +215,78 @@ fn switch_lists(alloc: Global, switches: &[Switch]) -> Result<List<List<Goal>>, 
     Ok(lists)
 }
 
+/// The places of the unit's marks: of its definitions, its labels, its procedures, and of the orders' own, which are behind the first so many.
+fn all_marks(
+    alloc: Global,
+    unit: &Unit,
+    places: &[u32],
+    entries: &[u32],
+    made: &[u32],
+    first: usize,
+) -> Result<List<u32>, NoMemory>
+    ensures { IfOk result (λ marks. marks ≡ spec_definition_places places.now entries.now unit.now.defined ++ (places.now ++ (entries.now ++ drop first made.now))) }
+{
+    let defined = unit.defined.as_slice();
+    let mut marks = definition_places(alloc, places, entries, defined)?;
+    extend(&mut marks, places, 0)?;
+    extend(&mut marks, entries, 0)?;
+    extend(&mut marks, made, first)?;
+    Ok(List::of(marks))
+}
+
+/// Adds the orders of the unit's bodies to none, and answers the places of its marks. The first so many are not the orders' own.
+fn emit_bodies(
+    alloc: Global,
+    out: &mut Output,
+    unit: &Unit,
+    layout: &Layout,
+    first: usize,
+) -> Result<List<u32>, NoMemory>
+    requires of_unit { layout.now ≡ layout_of unit.now }
+    requires counted { first ≡ first_mark unit.now }
+    requires begun { made out.old ≡ record { orders = []; labels = []; marks = replicate first 0 } }
+    ensures list { OnOk result (out.new.orders ≡ (unit_orders unit.now).list) }
+    ensures marks { IfOk result (λ marks. marks ≡ (unit_orders unit.now).marks) }
+{
+    let mut places = zeros(alloc, unit.labels.as_slice().len())?;
+    let mut entries = Vec::new(alloc);
+    emit_main(alloc, out, unit, layout, &mut places)?;
+    emit_procedures(alloc, out, unit, layout, &mut places, &mut entries)?;
+    let marks = all_marks(
+        alloc,
+        unit,
+        places.as_slice(),
+        entries.as_slice(),
+        out.marks.as_slice(),
+        first,
+    )?;
+    Ok(marks)
+}
+
+/// The orders of the unit with its list of orders and its marks.
+fn whole(
+    alloc: Global,
+    unit: &Unit,
+    list: List<Order>,
+    marks: List<u32>,
+) -> Result<Orders, NoMemory>
+    requires list { list ≡ (unit_orders unit.now).list }
+    requires marks { marks ≡ (unit_orders unit.now).marks }
+    ensures { IfOk result (λ orders. orders ≡ unit_orders unit.now) }
+{
+    let labels = label_marks(alloc, unit)?;
+    let procedures = procedure_marks(alloc, unit)?;
+    let switches = switch_lists(alloc, unit.switches.as_slice())?;
+    Ok(Orders {
+        list,
+        entry: 0,
+        marks,
+        labels,
+        procedures,
+        switches,
+    })
+}
+
 /// The orders of a unit with its storage layout. NoMemory comes for want of memory, where orders or marks would pass 2^32 - 1, and for
 /// numbers that no checked unit has.
 pub fn orders(alloc: Global, unit: &Unit, layout: &Layout) -> Result<Orders, NoMemory>
@@ -220,31 +294,8 @@ pub fn orders(alloc: Global, unit: &Unit, layout: &Layout) -> Result<Orders, NoM
     ensures { IfOk result (λ orders. orders ≡ unit_orders unit.now) }
 {
     let first = numbered_marks(unit)?;
-    let labels = unit.labels.as_slice().len();
     let mut out = Output::new(alloc, first)?;
-    let mut places = zeros(alloc, labels)?;
-    let mut entries = Vec::new(alloc);
-    emit_main(alloc, &mut out, unit, layout, &mut places)?;
-    emit_procedures(alloc, &mut out, unit, layout, &mut places, &mut entries)?;
-    let mut marks = definition_places(
-        alloc,
-        places.as_slice(),
-        entries.as_slice(),
-        unit.defined.as_slice(),
-    )?;
-    extend(&mut marks, places.as_slice(), 0)?;
-    extend(&mut marks, entries.as_slice(), 0)?;
-    extend(&mut marks, out.marks.as_slice(), first)?;
-    let labels = label_marks(alloc, unit)?;
-    let procedures = procedure_marks(alloc, unit)?;
-    let switches = switch_lists(alloc, unit.switches.as_slice())?;
+    let marks = emit_bodies(alloc, &mut out, unit, layout, first)?;
     let Output { orders, .. } = out;
-    Ok(Orders {
-        list: orders,
-        entry: 0,
-        marks: List::of(marks),
-        labels,
-        procedures,
-        switches,
-    })
+    whole(alloc, unit, orders, marks)
 }

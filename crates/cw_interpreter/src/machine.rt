@@ -2,11 +2,10 @@
 use crate::words::{
     bits_of, floor_scaled, holds, is_past, signed_bits_of, trunc_scaled, with_bits,
 };
-use cw_order::{Order, Orders};
+use cw_order::{LabelMark, Order, Orders};
 use cw_unit::layout::Limits;
 use cw_unit::unit::{Def, Goal};
-use std::alloc::{AllocError, Global};
-use std::mem;
+use std::alloc::Global;
 
 /// The words of the control stack for operands and activations.
 const ROOM: usize = 32_000;
@@ -69,6 +68,26 @@ impl Program {
         }
         None
     }
+
+    // Where a procedure begins, and how many arguments it takes.
+    fn procedure(&self, segment: usize, procedure: u16) -> Option<(usize, usize)> {
+        let there = self.segments.get(segment)?;
+        let mark = there.orders.procedures.as_slice().get(procedure as usize)?;
+        let count = there.arguments.get(procedure as usize)?;
+        Some((self.mark(segment, *mark)?, *count))
+    }
+
+    // The mark of a label, and whether it is one of a procedure.
+    fn label(&self, segment: usize, label: u32) -> Option<LabelMark> {
+        let labels = self.segments.get(segment)?.orders.labels.as_slice();
+        labels.get(label as usize).copied()
+    }
+
+    // The labels of a switch.
+    fn switch(&self, segment: usize, switch: u32) -> Option<&[Goal]> {
+        let switches = self.segments.get(segment)?.orders.switches.as_slice();
+        Some(switches.get(switch as usize)?.as_slice())
+    }
 }
 
 /// A label or a switch with the number of activations where it was named, or a procedure.
@@ -100,15 +119,15 @@ fn sizes(operands: &[Operand]) -> usize {
     words
 }
 
-/// A call at work: where its caller goes on, with the caller's line and operands; its own arguments; the words of the
-/// control stack below those; whether Enter has begun it; and its frame.
-#[derive(Drop)]
+/// A call at work: where its caller goes on, with the caller's line; how many operands stand below its arguments, and below its own
+/// operands; the words of the control stack below those; whether Enter has begun it; and its frame.
+#[derive(Clone, Copy)]
 struct Activation {
     segment: usize,
     place: usize,
     line: u16,
-    operands: Vec<Operand>,
-    arguments: Vec<Operand>,
+    arguments: usize,
+    floor: usize,
     below: usize,
     is_entered: bool,
     base: u32,
@@ -117,7 +136,7 @@ struct Activation {
 
 /// How a run ends: at the end of the last segment, at a stop of this kind, segment (from 1) and line, where an order cannot be carried
 /// out or the stack has no room, after so many orders as it may have, or for want of memory.
-#[derive(Clone, Copy, PartialEq, Eq, Debug)]
+#[derive(Clone, Copy)]
 pub enum End {
     Ended,
     Stopped(u8, usize, u16),
@@ -126,17 +145,11 @@ pub enum End {
     NoMemory,
 }
 
-impl From<AllocError> for End {
-    fn from(_: AllocError) -> End {
-        End::NoMemory
-    }
-}
-
-/// A run: the segment at work, the place of the next order, the line, the activations and the operands, last one last,
-/// the words of the data area, the bytes that are left to read, and those that were written.
+/// A run: the segment at work, the place of the next order, the line, the activations, the arguments and operands of all of them, last
+/// one last, the words of the data area, the bytes that are left to read, those that were written, and the end once it is there. From
+/// then on nothing is written.
 #[derive(Drop)]
 pub struct Machine<'a> {
-    alloc: Global,
     program: &'a Program,
     segment: usize,
     place: usize,
@@ -146,6 +159,7 @@ pub struct Machine<'a> {
     memory: Vec<i16>,
     input: &'a [u8],
     output: Vec<u8>,
+    end: Option<End>,
 }
 
 impl<'a> Machine<'a> {
@@ -156,7 +170,6 @@ impl<'a> Machine<'a> {
             None => 0,
         };
         Machine {
-            alloc,
             program,
             segment: 0,
             place,
@@ -166,13 +179,15 @@ impl<'a> Machine<'a> {
             memory,
             input,
             output: Vec::new(alloc),
+            end: None,
         }
     }
 
     /// Carries out so many orders at most.
     pub fn run(&mut self, limit: u32) -> End {
         for _ in 0..limit {
-            if let Err(end) = self.step() {
+            self.step();
+            if let Some(end) = self.end {
                 return end;
             }
         }
@@ -184,88 +199,118 @@ impl<'a> Machine<'a> {
         self.output.as_slice()
     }
 
-    fn step(&mut self) -> Result<(), End> {
+    fn step(&mut self) {
         let program = self.program;
-        let order = program.order(self.segment, self.place).ok_or(End::Stuck)?;
-        self.place = self.place.wrapping_add(1);
-        self.carry_out(order)?;
-        if self.stack_words() > ROOM {
-            return Err(End::Stuck);
+        match program.order(self.segment, self.place) {
+            Some(order) => {
+                self.place = self.place.wrapping_add(1);
+                self.carry_out(order);
+            }
+            None => self.end_with(End::Stuck),
         }
-        Ok(())
+        if self.stack_words() > ROOM {
+            self.end_with(End::Stuck);
+        }
     }
 
     // ---- the parts of steps
 
-    fn stopped(&self, kind: u8) -> End {
-        End::Stopped(kind, self.segment.wrapping_add(1), self.line)
-    }
-
-    fn stack_words(&self) -> usize {
-        let operands = sizes(&self.operands);
-        match self.activations.last() {
-            Some(last) => operands
-                .wrapping_add(RECORD)
-                .wrapping_add(sizes(&last.arguments))
-                .wrapping_add(last.below),
-            None => operands,
+    // Ends the run, if it has no end yet.
+    fn end_with(&mut self, end: End) {
+        if self.end.is_none() {
+            self.end = Some(end);
         }
     }
 
-    fn push(&mut self, operand: Operand) -> Result<(), End> {
-        self.operands.push(operand).map_err(|_| End::NoMemory)
+    fn stop(&mut self, kind: u8) {
+        self.end_with(End::Stopped(kind, self.segment.wrapping_add(1), self.line));
     }
 
-    fn put(&mut self, word: i16) -> Result<(), End> {
-        self.push(Operand::Word(word))
+    // How many operands stand below those of the activation at work.
+    fn floor(&self) -> usize {
+        match self.activations.last() {
+            Some(last) => last.floor,
+            None => 0,
+        }
+    }
+
+    fn stack_words(&self) -> usize {
+        let own = self.operands.get(self.floor()..).unwrap_or(&[]);
+        match self.activations.last() {
+            Some(last) => sizes(own).wrapping_add(last.below),
+            None => sizes(own),
+        }
+    }
+
+    fn push(&mut self, operand: Operand) {
+        if self.operands.push(operand).is_err() {
+            self.end_with(End::NoMemory);
+        }
+    }
+
+    fn put(&mut self, word: i16) {
+        self.push(Operand::Word(word));
     }
 
     // Puts a number that must fit a word, or stops.
-    fn put_number(&mut self, number: i64, kind: u8) -> Result<(), End> {
+    fn put_number(&mut self, number: i64, kind: u8) {
         match i16::try_from(number) {
             Ok(word) => self.put(word),
-            Err(_) => Err(self.stopped(kind)),
+            Err(_) => self.stop(kind),
         }
     }
 
     // A number that must fit a word.
-    fn fitting(&self, number: i64, kind: u8) -> Result<i64, End> {
-        match i16::try_from(number) {
-            Ok(_) => Ok(number),
-            Err(_) => Err(self.stopped(kind)),
+    fn fitting(&mut self, number: i64, kind: u8) -> i64 {
+        if i16::try_from(number).is_err() {
+            self.stop(kind);
+        }
+        number
+    }
+
+    // The top operand; 0, and the run ends, where that is no word.
+    fn take(&mut self) -> i16 {
+        if self.operands.len() > self.floor()
+            && let Some(Operand::Word(word)) = self.operands.pop()
+        {
+            return word;
+        }
+        self.end_with(End::Stuck);
+        0
+    }
+
+    fn take_number(&mut self) -> i64 {
+        i64::from(self.take())
+    }
+
+    // The word at an address; 0, and the run ends, where there is none.
+    fn word_at(&mut self, address: i64) -> i16 {
+        if let Ok(index) = usize::try_from(address)
+            && let Some(word) = self.memory.get(index)
+        {
+            return *word;
+        }
+        self.end_with(End::Stuck);
+        0
+    }
+
+    fn store(&mut self, address: i64, word: i16) {
+        if let Ok(index) = usize::try_from(address)
+            && let Some(place) = self.memory.get_mut(index)
+        {
+            *place = word;
+        } else {
+            self.end_with(End::Stuck);
         }
     }
 
-    fn take(&mut self) -> Result<i16, End> {
-        match self.operands.pop() {
-            Some(Operand::Word(word)) => Ok(word),
-            _ => Err(End::Stuck),
-        }
-    }
-
-    fn take_number(&mut self) -> Result<i64, End> {
-        Ok(i64::from(self.take()?))
-    }
-
-    fn word_at(&self, address: i64) -> Result<i16, End> {
-        let index = usize::try_from(address).map_err(|_| End::Stuck)?;
-        self.memory.get(index).copied().ok_or(End::Stuck)
-    }
-
-    fn store(&mut self, address: i64, word: i16) -> Result<(), End> {
-        let index = usize::try_from(address).map_err(|_| End::Stuck)?;
-        let place = self.memory.get_mut(index).ok_or(End::Stuck)?;
-        *place = word;
-        Ok(())
-    }
-
-    // An address of the data area.
-    fn in_area(&self, address: i16) -> Result<i64, End> {
+    // An address that must be one of the data area.
+    fn in_area(&mut self, address: i16) -> i64 {
         let address = i64::from(address);
         if address < 0 || address >= i64::from(self.program.limits.area) {
-            return Err(self.stopped(ADDRESS));
+            self.stop(ADDRESS);
         }
-        Ok(address)
+        address
     }
 
     // The address of a word of a storage family, and of the frame at work.
@@ -278,132 +323,143 @@ impl<'a> Machine<'a> {
         base.wrapping_add(offset).cast_signed()
     }
 
-    fn frame_home(&self, offset: u16) -> Result<i16, End> {
-        let last = self.activations.last().ok_or(End::Stuck)?;
-        let address = last.base.wrapping_add(u32::from(offset)) % 65_536;
-        Ok((address as u16).cast_signed())
+    fn frame_home(&mut self, offset: u16) -> i16 {
+        match self.activations.last() {
+            Some(last) => {
+                let address = last.base.wrapping_add(u32::from(offset)) % 65_536;
+                (address as u16).cast_signed()
+            }
+            None => {
+                self.end_with(End::Stuck);
+                0
+            }
+        }
     }
 
     // The argument that so many words of arguments follow.
-    fn argument(&self, words: u8) -> Result<Operand, End> {
-        let last = self.activations.last().ok_or(End::Stuck)?;
-        let mut left = usize::from(words);
-        for operand in last.arguments.iter().rev() {
-            if left == 0 {
-                return Ok(*operand);
+    fn argument(&self, words: u8) -> Option<Operand> {
+        let last = self.activations.last()?;
+        let arguments = self.operands.get(last.arguments..last.floor)?;
+        let mut left = sizes(arguments);
+        for operand in arguments {
+            left = left.wrapping_sub(size(*operand));
+            if left == usize::from(words) {
+                return Some(*operand);
             }
-            left = left.checked_sub(size(*operand)).ok_or(End::Stuck)?;
         }
-        Err(End::Stuck)
+        None
     }
 
-    fn control(&self, words: u8) -> Result<Control, End> {
-        match self.argument(words)? {
-            Operand::Held(control) => Ok(control),
-            Operand::Word(_) => Err(End::Stuck),
+    fn control(&self, words: u8) -> Option<Control> {
+        match self.argument(words) {
+            Some(Operand::Held(control)) => Some(control),
+            _ => None,
         }
     }
 
-    fn word_argument(&self, words: u8) -> Result<i16, End> {
-        match self.argument(words)? {
-            Operand::Word(word) => Ok(word),
-            Operand::Held(_) => Err(End::Stuck),
+    fn word_argument(&mut self, words: u8) -> i16 {
+        if let Some(Operand::Word(word)) = self.argument(words) {
+            return word;
         }
+        self.end_with(End::Stuck);
+        0
     }
 
     // What a descriptor names, as it is named here.
-    fn common(&self, descriptor: u16) -> Result<Control, End> {
+    fn common(&self, descriptor: u16) -> Option<Control> {
         let owner = self.activations.len();
-        match self.program.defined(self.segment, descriptor) {
-            Some((segment, Def::Label(label))) => Ok(Control::Label(segment, label, owner)),
-            Some((segment, Def::Switch(switch))) => Ok(Control::Switch(segment, switch, owner)),
-            Some((segment, Def::Proc(procedure))) => Ok(Control::Procedure(segment, procedure)),
-            None => Err(End::Stuck),
+        match self.program.defined(self.segment, descriptor)? {
+            (segment, Def::Label(label)) => Some(Control::Label(segment, label, owner)),
+            (segment, Def::Switch(switch)) => Some(Control::Switch(segment, switch, owner)),
+            (segment, Def::Proc(procedure)) => Some(Control::Procedure(segment, procedure)),
         }
     }
 
     // ---- the orders
 
-    fn carry_out(&mut self, order: &Order) -> Result<(), End> {
+    fn carry_out(&mut self, order: &Order) {
         match order {
             Order::Const(word) => self.put(word.cast_signed()),
             Order::Home { family, offset } => self.put(self.home(*family, *offset)),
             Order::FrameHome(offset) => {
-                let address = self.frame_home(*offset)?;
-                self.put(address)
+                let address = self.frame_home(*offset);
+                self.put(address);
             }
             Order::Load => {
-                let address = self.take_number()?;
-                let word = self.word_at(address)?;
-                self.put(word)
+                let address = self.take_number();
+                let word = self.word_at(address);
+                self.put(word);
             }
             Order::Store => {
-                let address = self.take_number()?;
-                let word = self.take()?;
-                self.store(address, word)
+                let address = self.take_number();
+                let word = self.take();
+                self.store(address, word);
             }
-            Order::LoadPart { t, b, signed } => {
-                let address = self.take_number()?;
-                let word = self.word_at(address)?;
-                self.put(if *signed {
-                    signed_bits_of(word, *t, *b)
-                } else {
-                    bits_of(word, *t, *b).cast_signed()
-                })
-            }
-            Order::StorePart { t, b } => {
-                let address = self.take_number()?;
-                let value = self.take()?;
-                let old = self.word_at(address)?;
-                self.store(address, with_bits(old, *t, *b, value))
-            }
+            Order::LoadPart { t, b, signed } => self.load_part(*t, *b, *signed),
+            Order::StorePart { t, b } => self.store_part(*t, *b),
             Order::Drop => {
-                self.take()?;
-                Ok(())
+                self.take();
             }
             _ => self.reckon(order),
         }
     }
 
+    fn load_part(&mut self, t: u8, b: u8, signed: bool) {
+        let address = self.take_number();
+        let word = self.word_at(address);
+        self.put(if signed {
+            signed_bits_of(word, t, b)
+        } else {
+            bits_of(word, t, b).cast_signed()
+        });
+    }
+
+    fn store_part(&mut self, t: u8, b: u8) {
+        let address = self.take_number();
+        let value = self.take();
+        let old = self.word_at(address);
+        self.store(address, with_bits(old, t, b, value));
+    }
+
     // Orders on numbers.
-    fn reckon(&mut self, order: &Order) -> Result<(), End> {
+    fn reckon(&mut self, order: &Order) {
         match order {
             Order::Rescale { from, to } => {
-                let x = self.take_number()?;
+                let x = self.take_number();
                 let places = i32::from(*to).wrapping_sub(i32::from(*from));
-                self.put_number(floor_scaled(x, places), OVERFLOW)
+                self.put_number(floor_scaled(x, places), OVERFLOW);
             }
             Order::Neg => {
-                let x = self.take_number()?;
-                self.put_number(x.wrapping_neg(), OVERFLOW)
+                let x = self.take_number();
+                self.put_number(x.wrapping_neg(), OVERFLOW);
             }
             Order::Take { t, b } => {
-                let x = self.take()?;
-                self.put(bits_of(x, *t, *b).cast_signed())
+                let x = self.take();
+                self.put(bits_of(x, *t, *b).cast_signed());
             }
             _ => self.reckon_two(order),
         }
     }
 
-    fn reckon_two(&mut self, order: &Order) -> Result<(), End> {
+    fn reckon_two(&mut self, order: &Order) {
         match order {
             Order::Add => {
-                let (x, y) = self.take_two()?;
-                self.put_number(x.wrapping_add(y), OVERFLOW)
+                let (x, y) = self.take_two();
+                self.put_number(x.wrapping_add(y), OVERFLOW);
             }
             Order::Sub => {
-                let (x, y) = self.take_two()?;
-                self.put_number(x.wrapping_sub(y), OVERFLOW)
+                let (x, y) = self.take_two();
+                self.put_number(x.wrapping_sub(y), OVERFLOW);
             }
             Order::Mul(s) => {
-                let (x, y) = self.take_two()?;
-                self.put_number(floor_scaled(x.wrapping_mul(y), i32::from(*s)), OVERFLOW)
+                let (x, y) = self.take_two();
+                self.put_number(floor_scaled(x.wrapping_mul(y), i32::from(*s)), OVERFLOW);
             }
             Order::Div(s) => {
-                let (x, y) = self.take_two()?;
+                let (x, y) = self.take_two();
                 match trunc_scaled(x, y, i32::from(*s)) {
                     Some(quotient) => self.put_number(quotient, OVERFLOW),
-                    None => Err(self.stopped(ZERO_DIVISOR)),
+                    None => self.stop(ZERO_DIVISOR),
                 }
             }
             _ => self.combine(order),
@@ -411,115 +467,116 @@ impl<'a> Machine<'a> {
     }
 
     // Takes two words, the top one last.
-    fn take_two(&mut self) -> Result<(i64, i64), End> {
-        let y = self.take_number()?;
-        let x = self.take_number()?;
-        Ok((x, y))
+    fn take_two(&mut self) -> (i64, i64) {
+        let y = self.take_number();
+        let x = self.take_number();
+        (x, y)
     }
 
     // Orders on bits.
-    fn combine(&mut self, order: &Order) -> Result<(), End> {
+    fn combine(&mut self, order: &Order) {
         match order {
             Order::And => {
-                let y = self.take()?;
-                let x = self.take()?;
-                self.put(x & y)
+                let y = self.take();
+                let x = self.take();
+                self.put(x & y);
             }
             Order::Or => {
-                let y = self.take()?;
-                let x = self.take()?;
-                self.put(x | y)
+                let y = self.take();
+                let x = self.take();
+                self.put(x | y);
             }
             Order::Xor => {
-                let y = self.take()?;
-                let x = self.take()?;
-                self.put(x ^ y)
+                let y = self.take();
+                let x = self.take();
+                self.put(x ^ y);
             }
             Order::Less => {
-                let y = self.take()?;
-                let x = self.take()?;
-                self.put(x.wrapping_sub(y))
+                let y = self.take();
+                let x = self.take();
+                self.put(x.wrapping_sub(y));
             }
             _ => self.address(order),
         }
     }
 
     // Orders on addresses.
-    fn address(&mut self, order: &Order) -> Result<(), End> {
+    fn address(&mut self, order: &Order) {
         match order {
             Order::IndexLess(lower) => {
-                let i = self.take_number()?;
-                self.put_number(i.wrapping_sub(i64::from(*lower)), ADDRESS)
+                let i = self.take_number();
+                self.put_number(i.wrapping_sub(i64::from(*lower)), ADDRESS);
             }
             Order::IndexTimes(n) => {
-                let i = self.take_number()?;
-                self.put_number(i.wrapping_mul(i64::from(*n)), ADDRESS)
+                let i = self.take_number();
+                self.put_number(i.wrapping_mul(i64::from(*n)), ADDRESS);
             }
             Order::IndexPlus(n) => {
-                let i = self.take_number()?;
-                self.put_number(i.wrapping_add(i64::from(*n)), ADDRESS)
+                let i = self.take_number();
+                self.put_number(i.wrapping_add(i64::from(*n)), ADDRESS);
             }
             Order::IndexAdd => {
-                let (i, j) = self.take_two()?;
-                self.put_number(i.wrapping_add(j), ADDRESS)
+                let (i, j) = self.take_two();
+                self.put_number(i.wrapping_add(j), ADDRESS);
             }
-            Order::IndexRow { lower, length } => {
-                let (i, j) = self.take_two()?;
-                let row = self.fitting(i.wrapping_sub(i64::from(*lower)), ADDRESS)?;
-                let row = self.fitting(row.wrapping_mul(i64::from(*length)), ADDRESS)?;
-                self.put_number(row.wrapping_add(j), ADDRESS)
-            }
+            Order::IndexRow { lower, length } => self.row(i64::from(*lower), i64::from(*length)),
             _ => self.test(order),
         }
     }
 
+    fn row(&mut self, lower: i64, length: i64) {
+        let (i, j) = self.take_two();
+        let row = self.fitting(i.wrapping_sub(lower), ADDRESS);
+        let start = self.fitting(row.wrapping_mul(length), ADDRESS);
+        self.put_number(start.wrapping_add(j), ADDRESS);
+    }
+
     // Tests, and bytes.
-    fn test(&mut self, order: &Order) -> Result<(), End> {
+    fn test(&mut self, order: &Order) {
         match order {
             Order::InArea => {
-                let address = self.take()?;
-                self.in_area(address)?;
-                self.put(address)
+                let address = self.take();
+                self.in_area(address);
+                self.put(address);
             }
             Order::InBounds { lower, upper } => {
-                let index = self.take()?;
+                let index = self.take();
                 if index < *lower || index > *upper {
-                    return Err(self.stopped(BOUNDS));
+                    self.stop(BOUNDS);
                 }
-                self.put(index)
+                self.put(index);
             }
             Order::ReadByte => match self.input.split_first() {
                 Some((byte, rest)) => {
                     self.input = rest;
-                    self.put(i16::from(*byte))
+                    self.put(i16::from(*byte));
                 }
                 None => self.put(-1),
             },
-            Order::WriteByte => {
-                let word = self.take()?;
-                let [low, _] = word.to_le_bytes();
-                self.output.push(low).map_err(|_| End::NoMemory)
-            }
+            Order::WriteByte => self.write(),
             _ => self.go(order),
         }
     }
 
+    fn write(&mut self) {
+        let [low, _] = self.take().to_le_bytes();
+        if self.end.is_none() && self.output.push(low).is_err() {
+            self.end_with(End::NoMemory);
+        }
+    }
+
     // Ways within a body.
-    fn go(&mut self, order: &Order) -> Result<(), End> {
+    fn go(&mut self, order: &Order) {
         match order {
-            Order::Mark => Ok(()),
-            Order::Line(line) | Order::Start(line) => {
-                self.line = *line;
-                Ok(())
-            }
+            Order::Mark => {}
+            Order::Line(line) | Order::Start(line) => self.line = *line,
             Order::Jump(mark) => self.go_to_mark(*mark),
             Order::JumpIf { comparator, mark } => {
-                let y = self.take()?;
-                let x = self.take()?;
+                let y = self.take();
+                let x = self.take();
                 if holds(*comparator, x, y) {
-                    self.go_to_mark(*mark)?;
+                    self.go_to_mark(*mark);
                 }
-                Ok(())
             }
             Order::NextBody => self.next_body(),
             _ => self.turn(order),
@@ -527,61 +584,71 @@ impl<'a> Machine<'a> {
     }
 
     // Orders on the words of loops.
-    fn turn(&mut self, order: &Order) -> Result<(), End> {
+    fn turn(&mut self, order: &Order) {
         match order {
             Order::SetVariable => {
-                let words = self.take_number()?;
-                let value = self.take()?;
-                let variable = self.in_area(self.word_at(words)?)?;
-                self.store(variable, value)
+                let words = self.take_number();
+                let value = self.take();
+                let variable = self.variable(words);
+                self.store(variable, value);
             }
-            Order::AddStep => {
-                let words = self.take_number()?;
-                let variable = self.in_area(self.word_at(words)?)?;
-                let step = i64::from(self.word_at(words.wrapping_add(1))?);
-                let sum = i64::from(self.word_at(variable)?).wrapping_add(step);
-                match i16::try_from(sum) {
-                    Ok(sum) => self.store(variable, sum),
-                    Err(_) => Err(self.stopped(OVERFLOW)),
-                }
-            }
+            Order::AddStep => self.add_step(),
             Order::PutVariable => {
-                let words = self.take()?;
-                let variable = self.in_area(self.word_at(i64::from(words))?)?;
-                let value = self.word_at(variable)?;
-                self.put(value)?;
-                self.put(words)
+                let words = self.take();
+                let variable = self.variable(i64::from(words));
+                let value = self.word_at(variable);
+                self.put(value);
+                self.put(words);
             }
-            Order::Exhausted(mark) => {
-                let words = self.take_number()?;
-                let variable = self.take()?;
-                let step = self.word_at(words.wrapping_add(1))?;
-                let limit = self.word_at(words.wrapping_add(2))?;
-                if is_past(step, variable, limit) {
-                    self.go_to_mark(*mark)?;
-                }
-                Ok(())
-            }
+            Order::Exhausted(mark) => self.test_turn(*mark),
             Order::LoopWay(marks) => {
-                let number = self.take_number()?;
+                let number = self.take_number();
                 let index = usize::try_from(number.wrapping_sub(1)).unwrap_or(usize::MAX);
-                match marks.as_slice().get(index) {
-                    Some(mark) => self.go_to_mark(*mark),
-                    None => Ok(()),
+                if let Some(mark) = marks.as_slice().get(index) {
+                    self.go_to_mark(*mark);
                 }
             }
             _ => self.name(order),
         }
     }
 
-    fn go_to_mark(&mut self, mark: u32) -> Result<(), End> {
-        self.place = self.program.mark(self.segment, mark).ok_or(End::Stuck)?;
-        Ok(())
+    // The address of the control variable of a loop.
+    fn variable(&mut self, words: i64) -> i64 {
+        let address = self.word_at(words);
+        self.in_area(address)
     }
 
-    fn next_body(&mut self) -> Result<(), End> {
+    fn add_step(&mut self) {
+        let words = self.take_number();
+        let variable = self.variable(words);
+        let step = i64::from(self.word_at(words.wrapping_add(1)));
+        let sum = i64::from(self.word_at(variable)).wrapping_add(step);
+        match i16::try_from(sum) {
+            Ok(sum) => self.store(variable, sum),
+            Err(_) => self.stop(OVERFLOW),
+        }
+    }
+
+    fn test_turn(&mut self, mark: u32) {
+        let words = self.take_number();
+        let variable = self.take();
+        let step = self.word_at(words.wrapping_add(1));
+        let limit = self.word_at(words.wrapping_add(2));
+        if is_past(step, variable, limit) {
+            self.go_to_mark(mark);
+        }
+    }
+
+    fn go_to_mark(&mut self, mark: u32) {
+        match self.program.mark(self.segment, mark) {
+            Some(place) => self.place = place,
+            None => self.end_with(End::Stuck),
+        }
+    }
+
+    fn next_body(&mut self) {
         if !self.activations.is_empty() {
-            return Err(End::Stuck);
+            self.end_with(End::Stuck);
         }
         let next = self.segment.wrapping_add(1);
         match self.program.segments.get(next) {
@@ -590,204 +657,220 @@ impl<'a> Machine<'a> {
                 self.place = segment.orders.entry as usize;
                 self.line = 0;
                 self.operands.clear();
-                Ok(())
             }
-            None => Err(End::Ended),
+            None => self.end_with(End::Ended),
         }
     }
 
     // Control arguments.
-    fn name(&mut self, order: &Order) -> Result<(), End> {
+    fn name(&mut self, order: &Order) {
         let owner = self.activations.len();
         let control = match order {
-            Order::LabelOut(label) => Control::Label(self.segment, *label, owner),
-            Order::SwitchOut(switch) => Control::Switch(self.segment, *switch, owner),
-            Order::ProcOut(procedure) => Control::Procedure(self.segment, *procedure),
+            Order::LabelOut(label) => Some(Control::Label(self.segment, *label, owner)),
+            Order::SwitchOut(switch) => Some(Control::Switch(self.segment, *switch, owner)),
+            Order::ProcOut(procedure) => Some(Control::Procedure(self.segment, *procedure)),
             Order::LabelCommon(descriptor)
             | Order::SwitchCommon(descriptor)
-            | Order::ProcCommon(descriptor) => self.common(*descriptor)?,
-            Order::SpecialOut(words) => self.control(*words)?,
+            | Order::ProcCommon(descriptor) => self.common(*descriptor),
+            Order::SpecialOut(words) => self.control(*words),
             _ => return self.jump(order),
         };
-        self.push(Operand::Held(control))
+        match control {
+            Some(control) => self.push(Operand::Held(control)),
+            None => self.end_with(End::Stuck),
+        }
     }
 
     // Jumps.
-    fn jump(&mut self, order: &Order) -> Result<(), End> {
+    fn jump(&mut self, order: &Order) {
         let owner = self.activations.len();
         match order {
             Order::GoMain(mark) => self.leave_for(self.segment, *mark, 0),
             Order::GoCommon(descriptor) | Order::GoSwitchCommon(descriptor) => {
-                let control = self.common(*descriptor)?;
-                self.go_to(control)
+                self.go_to(self.common(*descriptor));
             }
             Order::GoSpecial(words) | Order::GoSwitchSpecial(words) => {
-                let control = self.control(*words)?;
-                self.go_to(control)
+                self.go_to(self.control(*words));
             }
-            Order::GoSwitch(switch) => self.go_to(Control::Switch(self.segment, *switch, owner)),
+            Order::GoSwitch(switch) => self.go_through(self.segment, *switch, owner),
             _ => self.call_or_return(order),
         }
     }
 
-    fn go_to(&mut self, control: Control) -> Result<(), End> {
+    fn go_to(&mut self, control: Option<Control>) {
         match control {
-            Control::Label(segment, label, owner) => self.go_to_label(segment, label, owner),
-            Control::Switch(segment, switch, owner) => self.go_through(segment, switch, owner),
-            Control::Procedure(..) => Err(End::Stuck),
+            Some(Control::Label(segment, label, owner)) => self.go_to_label(segment, label, owner),
+            Some(Control::Switch(segment, switch, owner)) => {
+                self.go_through(segment, switch, owner);
+            }
+            _ => self.end_with(End::Stuck),
         }
     }
 
-    fn go_to_label(&mut self, segment: usize, label: u32, owner: usize) -> Result<(), End> {
-        let program = self.program;
-        let there = program.segments.get(segment).ok_or(End::Stuck)?;
-        let entry = there.orders.labels.as_slice().get(label as usize);
-        let entry = entry.ok_or(End::Stuck)?;
-        let kept = if entry.in_procedure { owner } else { 0 };
-        self.leave_for(segment, entry.mark, kept)
+    fn go_to_label(&mut self, segment: usize, label: u32, owner: usize) {
+        match self.program.label(segment, label) {
+            Some(found) => {
+                let kept = if found.in_procedure { owner } else { 0 };
+                self.leave_for(segment, found.mark, kept);
+            }
+            None => self.end_with(End::Stuck),
+        }
     }
 
-    fn go_through(&mut self, segment: usize, switch: u32, owner: usize) -> Result<(), End> {
+    fn go_through(&mut self, segment: usize, switch: u32, owner: usize) {
         let program = self.program;
-        let there = program.segments.get(segment).ok_or(End::Stuck)?;
-        let goals = there.orders.switches.as_slice().get(switch as usize);
-        let goals = goals.ok_or(End::Stuck)?;
-        let number = self.take_number()?;
+        let number = self.take_number();
         let index = usize::try_from(number.wrapping_sub(1)).unwrap_or(usize::MAX);
-        match goals.as_slice().get(index) {
-            Some(Goal::Own(label)) => self.go_to_label(segment, *label, owner),
-            Some(Goal::Common(descriptor)) => match program.defined(segment, *descriptor) {
-                Some((segment, Def::Label(label))) => self.go_to_label(segment, label, owner),
-                _ => Err(End::Stuck),
+        match program.switch(segment, switch) {
+            Some(goals) => match goals.get(index) {
+                Some(goal) => self.go_to_goal(segment, *goal, owner),
+                None => self.stop(SWITCH),
             },
-            None => Err(self.stopped(SWITCH)),
+            None => self.end_with(End::Stuck),
+        }
+    }
+
+    fn go_to_goal(&mut self, segment: usize, goal: Goal, owner: usize) {
+        match goal {
+            Goal::Own(label) => self.go_to_label(segment, label, owner),
+            Goal::Common(descriptor) => match self.program.defined(segment, descriptor) {
+                Some((segment, Def::Label(label))) => self.go_to_label(segment, label, owner),
+                _ => self.end_with(End::Stuck),
+            },
         }
     }
 
     // Goes on at a mark with the first so many activations and no operands. The line is that at which the last of these
     // made its call.
-    fn leave_for(&mut self, segment: usize, mark: u32, kept: usize) -> Result<(), End> {
-        self.place = self.program.mark(segment, mark).ok_or(End::Stuck)?;
+    fn leave_for(&mut self, segment: usize, mark: u32, kept: usize) {
         self.segment = segment;
+        self.go_to_mark(mark);
         if let Some(dropped) = self.activations.get(kept) {
             self.line = dropped.line;
         }
         self.activations.truncate(kept);
-        self.operands.clear();
-        Ok(())
+        let floor = self.floor();
+        self.operands.truncate(floor);
     }
 
     // Calls, their beginning and their end.
-    fn call_or_return(&mut self, order: &Order) -> Result<(), End> {
+    fn call_or_return(&mut self, order: &Order) {
         match order {
-            Order::CallProc(procedure) => self.call(Control::Procedure(self.segment, *procedure)),
-            Order::CallCommon(descriptor) => {
-                let control = self.common(*descriptor)?;
-                self.call(control)
+            Order::CallProc(procedure) => {
+                self.call(Some(Control::Procedure(self.segment, *procedure)));
             }
-            Order::CallSpecial(words) => {
-                let control = self.control(*words)?;
-                self.call(control)
-            }
+            Order::CallCommon(descriptor) => self.call(self.common(*descriptor)),
+            Order::CallSpecial(words) => self.call(self.control(*words)),
             Order::Enter(size) => self.enter(u32::from(*size)),
             Order::Bind {
                 argument,
                 family,
                 offset,
             } => {
-                let word = self.word_argument(*argument)?;
-                self.store(i64::from(self.home(*family, *offset)), word)
+                let word = self.word_argument(*argument);
+                self.store(i64::from(self.home(*family, *offset)), word);
             }
             Order::BindFrame { argument, offset } => {
-                let word = self.word_argument(*argument)?;
-                let address = self.frame_home(*offset)?;
-                self.store(i64::from(address), word)
+                let word = self.word_argument(*argument);
+                let address = self.frame_home(*offset);
+                self.store(i64::from(address), word);
             }
             Order::Return { arguments, answers } => {
-                self.come_back(usize::from(*arguments), *answers)
+                self.come_back(usize::from(*arguments), *answers);
             }
-            _ => Err(End::Stuck),
+            _ => self.end_with(End::Stuck),
         }
     }
 
-    fn call(&mut self, control: Control) -> Result<(), End> {
-        let Control::Procedure(segment, procedure) = control else {
-            return Err(End::Stuck);
+    fn call(&mut self, control: Option<Control>) {
+        let Some(Control::Procedure(segment, procedure)) = control else {
+            return self.end_with(End::Stuck);
         };
-        let there = self.program.segments.get(segment).ok_or(End::Stuck)?;
-        let mark = there.orders.procedures.as_slice().get(procedure as usize);
-        let count = there.arguments.get(procedure as usize).ok_or(End::Stuck)?;
-        let place = self.program.mark(segment, *mark.ok_or(End::Stuck)?);
-        let place = place.ok_or(End::Stuck)?;
-        let split = self.operands.len().checked_sub(*count).ok_or(End::Stuck)?;
-        let arguments = match self.operands.get(split..) {
-            Some(taken) => taken.to_vec(self.alloc)?,
-            None => return Err(End::Stuck),
-        };
-        self.operands.truncate(split);
-        let below = self.stack_words();
+        match self.program.procedure(segment, procedure) {
+            Some((place, count)) => {
+                self.activate(count);
+                self.segment = segment;
+                self.place = place;
+                self.line = 0;
+            }
+            None => self.end_with(End::Stuck),
+        }
+    }
+
+    // A call with so many arguments.
+    fn activate(&mut self, count: usize) {
+        let floor = self.operands.len();
+        let arguments = floor.wrapping_sub(count);
+        if floor < self.floor().wrapping_add(count) {
+            return self.end_with(End::Stuck);
+        }
+        let limits = self.program.limits;
         let top = match self.activations.last() {
             Some(last) => last.top,
-            None => self
-                .program
-                .limits
-                .area
-                .wrapping_sub(self.program.limits.frames),
+            None => limits.area.wrapping_sub(limits.frames),
         };
         let activation = Activation {
             segment: self.segment,
             place: self.place,
             line: self.line,
-            operands: mem::replace(&mut self.operands, Vec::new(self.alloc)),
             arguments,
-            below,
+            floor,
+            below: self.stack_words().wrapping_add(RECORD),
             is_entered: false,
             base: top,
             top,
         };
-        self.activations
-            .push(activation)
-            .map_err(|_| End::NoMemory)?;
-        self.segment = segment;
-        self.place = place;
-        self.line = 0;
-        Ok(())
+        if self.activations.push(activation).is_err() {
+            self.end_with(End::NoMemory);
+        }
     }
 
     // Begins the last call; a stop is the caller's.
-    fn enter(&mut self, size: u32) -> Result<(), End> {
+    fn enter(&mut self, size: u32) {
         let calls = self.activations.len();
         let limits = self.program.limits;
-        let last = self.activations.last_mut().ok_or(End::Stuck)?;
-        if last.is_entered {
-            return Err(End::Stuck);
+        let end = match self.activations.last_mut() {
+            Some(last) => begun(last, size, calls, limits),
+            None => Some(End::Stuck),
+        };
+        if let Some(end) = end {
+            self.end_with(end);
         }
-        let caller = last.segment.wrapping_add(1);
-        if calls > usize::from(limits.depth) {
-            return Err(End::Stopped(DEPTH, caller, last.line));
-        }
-        let top = last.base.wrapping_add(size);
-        if top > limits.area {
-            return Err(End::Stopped(FRAMES, caller, last.line));
-        }
-        last.is_entered = true;
-        last.top = top;
-        Ok(())
     }
 
-    fn come_back(&mut self, arguments: usize, answers: bool) -> Result<(), End> {
-        let last = self.activations.pop().ok_or(End::Stuck)?;
-        if sizes(&last.arguments) != arguments {
-            return Err(End::Stuck);
+    fn come_back(&mut self, arguments: usize, answers: bool) {
+        let answer = if answers { self.take() } else { 0 };
+        let Some(last) = self.activations.pop() else {
+            return self.end_with(End::Stuck);
+        };
+        let taken = self.operands.get(last.arguments..last.floor);
+        if sizes(taken.unwrap_or(&[])) != arguments {
+            self.end_with(End::Stuck);
         }
-        let answer = if answers { Some(self.take()?) } else { None };
+        self.operands.truncate(last.arguments);
         self.segment = last.segment;
         self.place = last.place;
         self.line = last.line;
-        self.operands = last.operands;
-        match answer {
-            Some(word) => self.put(word),
-            None => Ok(()),
+        if answers {
+            self.put(answer);
         }
     }
+}
+
+// Begins a call, the last of so many; or the end, where it cannot begin.
+fn begun(call: &mut Activation, size: u32, calls: usize, limits: Limits) -> Option<End> {
+    let caller = call.segment.wrapping_add(1);
+    let top = call.base.wrapping_add(size);
+    if call.is_entered {
+        return Some(End::Stuck);
+    }
+    if calls > usize::from(limits.depth) {
+        return Some(End::Stopped(DEPTH, caller, call.line));
+    }
+    if top > limits.area {
+        return Some(End::Stopped(FRAMES, caller, call.line));
+    }
+    call.is_entered = true;
+    call.top = top;
+    None
 }

@@ -17,6 +17,7 @@ use cw_unit::layout::Limits;
 use cw_unit::unit::{Def, Goal};
 use cw_word::List;
 use std::alloc::Global;
+use std::mem;
 
 const LIMITS: Limits = Limits {
     area: 1000,
@@ -254,54 +255,50 @@ fn definition(sort: &str, number: u32) -> Option<Def> {
     }
 }
 
-/// A segment on the way.
-#[derive(Drop)]
-struct Draft {
-    alloc: Global,
-    list: List<Order>,
-    marks: Vec<u32>,
-    labels: List<LabelMark>,
-    procedures: List<u32>,
-    switches: List<List<Goal>>,
-    arguments: Vec<usize>,
-    defined: Vec<(u16, usize, Def)>,
-}
-
-impl Draft {
-    fn new(alloc: Global) -> Draft {
-        Draft {
-            alloc,
+impl Segment {
+    // The segment of this number, with nothing in it.
+    fn new(alloc: Global, number: usize) -> Option<Segment> {
+        let first = u16::try_from(number).ok()?.wrapping_mul(100);
+        let homes = vec![in alloc; first, first.wrapping_add(10), first.wrapping_add(30)].ok()?;
+        let orders = Orders {
             list: List::new(alloc),
-            marks: Vec::new(alloc),
+            entry: 0,
+            marks: List::new(alloc),
             labels: List::new(alloc),
             procedures: List::new(alloc),
             switches: List::new(alloc),
+        };
+        Some(Segment {
+            orders,
+            homes,
             arguments: Vec::new(alloc),
             defined: Vec::new(alloc),
-        }
+        })
     }
 
     // Sets the place of a mark to that of the next order.
-    fn place_mark(&mut self, mark: u32) -> Option<()> {
-        let mark = mark as usize;
-        let place = u32::try_from(self.list.as_slice().len()).ok()?;
-        for _ in self.marks.len()..mark.wrapping_add(1) {
-            self.marks.push(0).ok()?;
-        }
-        *self.marks.get_mut(mark)? = place;
-        Some(())
+    fn place_mark(&mut self, alloc: Global, mark: u32) -> Option<()> {
+        let place = u32::try_from(self.orders.list.as_slice().len()).ok()?;
+        let mut marks = mem::replace(&mut self.orders.marks, List::new(alloc)).into_vec();
+        let placed = set_place(&mut marks, mark as usize, place);
+        self.orders.marks = List::of(marks);
+        placed
     }
 
     fn add_label(&mut self, word: Spelled<'_>, in_procedure: bool) -> Option<()> {
         let mark = word.long(0)?;
-        self.labels.push(LabelMark { mark, in_procedure }).ok()
+        self.orders
+            .labels
+            .push(LabelMark { mark, in_procedure })
+            .ok()
     }
 
-    fn add_procedure(&mut self, word: Spelled<'_>) -> Option<()> {
+    fn add_procedure(&mut self, alloc: Global, word: Spelled<'_>) -> Option<()> {
         let mark = word.long(0)?;
-        self.place_mark(mark)?;
-        self.procedures.push(mark).ok()?;
-        self.arguments.push(usize::from(word.byte(1)?)).ok()
+        let count = word.byte(1)?;
+        self.place_mark(alloc, mark)?;
+        self.orders.procedures.push(mark).ok()?;
+        self.arguments.push(usize::from(count)).ok()
     }
 
     fn add_name(&mut self, word: Spelled<'_>) -> Option<()> {
@@ -310,50 +307,40 @@ impl Draft {
         self.defined.push(name).ok()
     }
 
-    fn add(&mut self, word: Spelled<'_>) -> Option<()> {
-        match word.name {
-            "Proc" => self.add_procedure(word),
-            "Label" => self.add_label(word, false),
-            "LabelIn" => self.add_label(word, true),
-            "Switch" => {
-                let goals = goals(self.alloc, word)?;
-                self.switches.push(goals).ok()
-            }
-            "Names" => self.add_name(word),
-            "Mark" => {
-                self.place_mark(word.long(0)?)?;
-                self.list.push(Order::Mark).ok()
-            }
-            _ => {
-                let order = order(self.alloc, word)?;
-                self.list.push(order).ok()
-            }
-        }
+    fn add_switch(&mut self, alloc: Global, word: Spelled<'_>) -> Option<()> {
+        let goals = goals(alloc, word)?;
+        self.orders.switches.push(goals).ok()
     }
 
-    // The segment of this number.
-    fn finish(self, number: usize) -> Option<Segment> {
-        let first = u16::try_from(number).ok()?.wrapping_mul(100);
-        let homes = vec![in self.alloc;
-            first,
-            first.wrapping_add(10),
-            first.wrapping_add(30),
-        ].ok()?;
-        let orders = Orders {
-            list: self.list,
-            entry: 0,
-            marks: List::of(self.marks),
-            labels: self.labels,
-            procedures: self.procedures,
-            switches: self.switches,
-        };
-        Some(Segment {
-            orders,
-            homes,
-            arguments: self.arguments,
-            defined: self.defined,
-        })
+    fn add_order(&mut self, alloc: Global, word: Spelled<'_>) -> Option<()> {
+        let order = order(alloc, word)?;
+        self.orders.list.push(order).ok()
     }
+
+    fn add_mark(&mut self, alloc: Global, mark: u32) -> Option<()> {
+        self.place_mark(alloc, mark)?;
+        self.orders.list.push(Order::Mark).ok()
+    }
+
+    fn add(&mut self, alloc: Global, word: Spelled<'_>) -> Option<()> {
+        match word.name {
+            "Proc" => self.add_procedure(alloc, word),
+            "Label" => self.add_label(word, false),
+            "LabelIn" => self.add_label(word, true),
+            "Switch" => self.add_switch(alloc, word),
+            "Names" => self.add_name(word),
+            "Mark" => self.add_mark(alloc, word.long(0)?),
+            _ => self.add_order(alloc, word),
+        }
+    }
+}
+
+fn set_place(places: &mut Vec<u32>, mark: usize, place: u32) -> Option<()> {
+    for _ in places.len()..mark.wrapping_add(1) {
+        places.push(0).ok()?;
+    }
+    *places.get_mut(mark)? = place;
+    Some(())
 }
 
 fn limits(word: Spelled<'_>) -> Option<Limits> {
@@ -364,25 +351,39 @@ fn limits(word: Spelled<'_>) -> Option<Limits> {
     })
 }
 
-/// The program of a text; none where the text is none.
-pub fn program(alloc: Global, text: &str) -> Option<Program> {
-    let mut segments = Vec::new(alloc);
-    let mut told = LIMITS;
-    let mut draft = Draft::new(alloc);
-    for spelled in text.split(' ') {
-        let word = Spelled::of(spelled);
+impl Program {
+    // Begins the next segment.
+    fn begin(&mut self, alloc: Global) -> Option<()> {
+        let segment = Segment::new(alloc, self.segments.len())?;
+        self.segments.push(segment).ok()
+    }
+
+    fn add(&mut self, alloc: Global, word: Spelled<'_>) -> Option<()> {
         match word.name {
-            "Segment" => {
-                segments.push(draft.finish(segments.len())?).ok()?;
-                draft = Draft::new(alloc);
+            "Segment" => self.begin(alloc),
+            "Limits" => {
+                self.limits = limits(word)?;
+                Some(())
             }
-            "Limits" => told = limits(word)?,
-            _ => draft.add(word)?,
+            _ => self.segments.last_mut()?.add(alloc, word),
         }
     }
-    segments.push(draft.finish(segments.len())?).ok()?;
-    Some(Program {
-        segments,
-        limits: told,
-    })
+
+    fn add_all(&mut self, alloc: Global, text: &str) -> Option<()> {
+        self.begin(alloc)?;
+        for spelled in text.split(' ') {
+            self.add(alloc, Spelled::of(spelled))?;
+        }
+        Some(())
+    }
+}
+
+/// The program of a text; none where the text is none.
+pub fn program(alloc: Global, text: &str) -> Option<Program> {
+    let mut program = Program {
+        segments: Vec::new(alloc),
+        limits: LIMITS,
+    };
+    program.add_all(alloc, text)?;
+    Some(program)
 }

@@ -1,12 +1,16 @@
-use Rattle.std.proofs.Common.{ℕ, [], ◌∷◌, sym, ap, ◌∙◌}
+use Rattle.std.proofs.Common.{ℕ, [], ◌∷◌, length, sym, ap, ◌∙◌, length-append}
 use Rattle.cw_order.specs.declared.order.Order.TheVariants as order
 use Rattle.cw_gen_expr.specs.Pieces.{plain, followed_by, with_end}
 use Rattle.cw_gen_expr.specs.Output.{made, added}
 use Rattle.cw_gen_expr.specs.ReferenceExpressions.{scope_with, expression_piece}
-use Rattle.cw_gen_unit.specs.ReferenceStatements.{number_orders, bump_orders, turn_piece, while_values, step_values, element_piece}
+use Rattle.cw_gen_unit.specs.ReferenceStatements.{number_orders, bump_orders, turn_piece, while_values, step_values, way_mark, element_piece}
 use Rattle.cw_gen_unit.proofs.Chains.{one, and_then, ends, middle}
 use Rattle.cw_gen_expr.proofs.Making.{added-nothing}
 use Rattle.cw_gen_unit.proofs.elements.emit_element.Goals as goal
+
+pub returns-in_ok-set_mark-in-One-clause-way : goal.returns-in_ok-set_mark-in-One-clause-way
+returns-in_ok-set_mark-in-One-clause-way c =
+    c.in_ok-next-in-One.ensures.mark ∙ ap (λ e. way_mark e (length c.args.out.now.marks.items)) (sym c.in-One.is)
 
 pub returns-in_ok-set_mark-in-One-clause-orders : goal.returns-in_ok-set_mark-in-One-clause-orders
 returns-in_ok-set_mark-in-One-clause-orders c =
@@ -27,6 +31,11 @@ returns-in_ok-set_mark-in-One-clause-orders c =
     (and_then (one (expression_piece s c.in-One.e f) x2 x3 c.in_ok-emit_expression-in-One.ensures) (one (plain (order.Jump c.args.set ∷ [])) x3 x4 c.in_ok-push-in-One.ensures)))
     c.in_ok-set_mark-in-One.ensures).is
     ∙ ap (λ e. added (element_piece s i f c.args.set c.args.body n e) x) (sym c.in-One.is)
+
+pub returns-in_ok-set_mark-in-While-2-clause-way :
+    goal.returns-in_ok-set_mark-in-While-2-clause-way
+returns-in_ok-set_mark-in-While-2-clause-way c =
+    c.in_ok-own-in-While.ensures.mark ∙ ap (λ e. way_mark e (length c.args.out.now.marks.items)) (sym c.in-While.is)
 
 pub returns-in_ok-set_mark-in-While-2-clause-orders :
     goal.returns-in_ok-set_mark-in-While-2-clause-orders
@@ -50,6 +59,12 @@ returns-in_ok-set_mark-in-While-2-clause-orders c =
     (ends (λ k. plain []) own x x1 x1 x2 c.in_ok-own-in-While.ensures.mark c.in_ok-own-in-While.ensures.reserved (one (plain []) x1 x1 (sym (added-nothing x1))) c.in_ok-set_mark-in-While.ensures)
     (ends values next x2 x3 x4 x5 c.in_ok-next-in-While.ensures.mark c.in_ok-next-in-While.ensures.reserved (one (values next) x3 x4 c.in_ok-emit_while-in-While.ensures) c.in_ok-set_mark-in-While-2.ensures)).is
     ∙ ap (λ e. added (element_piece s i f c.args.set c.args.body n e) x) (sym d.is)
+
+pub returns-in_ok-emit_turn-in-Step-clause-way : goal.returns-in_ok-emit_turn-in-Step-clause-way
+returns-in_ok-emit_turn-in-Step-clause-way c =
+    let ms = c.args.out.now.marks.items in
+    c.in_ok-bump-in-Step.ensures.mark ∙ ap (λ z. length z.marks) c.in_ok-turn-in-Step.ensures.reserved ∙ length-append ms (0 ∷ [])
+    ∙ ap (λ e. way_mark e (length ms)) (sym c.in-Step.is)
 
 pub returns-in_ok-emit_turn-in-Step-clause-orders :
     goal.returns-in_ok-emit_turn-in-Step-clause-orders

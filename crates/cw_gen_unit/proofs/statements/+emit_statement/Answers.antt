@@ -1,4 +1,4 @@
-use Rattle.std.proofs.Common.{[], ◌∷◌, false, sym, ap, ◌∙◌, length}
+use Rattle.std.proofs.Common.{[], ◌∷◌, false, None, sym, ap, ◌∙◌, length}
 use Rattle.std.proofs.lemmas.Result.{on_ok_weaker}
 use Rattle.cw_order.specs.declared.order.Order.TheVariants as order
 use Rattle.cw_unit.specs.declared.unit.Stmt.TheOpen as statement
@@ -6,9 +6,79 @@ use Rattle.cw_unit.specs.declared.unit.Stmt.TheVariants as stmt
 use Rattle.cw_gen_expr.specs.Pieces.{plain, with_labels}
 use Rattle.cw_gen_expr.specs.Output.{made, added}
 use Rattle.cw_gen_expr.specs.ReferenceExpressions.{scope_with, item_order, condition_piece}
-use Rattle.cw_gen_unit.specs.ReferenceStatements.{begin_orders, elements_piece, element_ways, statement_piece}
+use Rattle.cw_gen_unit.specs.ReferenceStatements.{begin_orders, elements_piece, element_ways, statement_step, statement_piece}
 use Rattle.cw_gen_unit.proofs.Chains.{one, and_then, chosen, ringed, by_statement, inner, all_statements, address}
 use Rattle.cw_gen_unit.proofs.statements.+emit_statement.Goals as goal
+
+pub returns-in-Put : goal.returns-in-Put
+returns-in-Put t c =
+    let s = scope_with c.args.unit.now c.args.layout.now c.args.parameters.now in
+    let who = c.args.who in
+    let answer = c.args.answer in
+    let x = made c.args.out.now in
+    let d = c.in-Put in
+    let x1 = made c.emit_put.new.out in
+    on_ok_weaker c.emit_put.result
+    (λ h.
+    by_statement s who answer c.args.statement.now (statement.Put d.line d.reference d.e) x x1 (d.is ∙ sym (stmt.rolls-Put d.line d.reference d.e))
+    (one (statement_step s None 0 (statement.Put d.line d.reference d.e)) x x1 h))
+    c.emit_put.ensures
+
+pub returns-in-PutBits : goal.returns-in-PutBits
+returns-in-PutBits t c =
+    let s = scope_with c.args.unit.now c.args.layout.now c.args.parameters.now in
+    let who = c.args.who in
+    let answer = c.args.answer in
+    let x = made c.args.out.now in
+    let d = c.in-PutBits in
+    let x1 = made c.emit_put_bits.new.out in
+    on_ok_weaker c.emit_put_bits.result
+    (λ h.
+    by_statement s who answer c.args.statement.now (statement.PutBits d.line d.t d.b d.reference d.e) x x1 (d.is ∙ sym (stmt.rolls-PutBits d.line d.t d.b d.reference d.e))
+    (one (statement_step s None 0 (statement.PutBits d.line d.t d.b d.reference d.e)) x x1 h))
+    c.emit_put_bits.ensures
+
+pub returns-in-Go : goal.returns-in-Go
+returns-in-Go t c =
+    let s = scope_with c.args.unit.now c.args.layout.now c.args.parameters.now in
+    let who = c.args.who in
+    let answer = c.args.answer in
+    let x = made c.args.out.now in
+    let d = c.in-Go in
+    let x1 = made c.emit_go.new.out in
+    on_ok_weaker c.emit_go.result
+    (λ h.
+    by_statement s who answer c.args.statement.now (statement.Go d.line d.dest) x x1 (d.is ∙ sym (stmt.rolls-Go d.line d.dest))
+    (one (statement_step s who 0 (statement.Go d.line d.dest)) x x1 h))
+    c.emit_go.ensures
+
+pub returns-in-Call : goal.returns-in-Call
+returns-in-Call t c =
+    let s = scope_with c.args.unit.now c.args.layout.now c.args.parameters.now in
+    let who = c.args.who in
+    let answer = c.args.answer in
+    let x = made c.args.out.now in
+    let d = c.in-Call in
+    let x1 = made c.emit_call_statement.new.out in
+    on_ok_weaker c.emit_call_statement.result
+    (λ h.
+    by_statement s who answer c.args.statement.now (statement.Call d.line d.target d.arguments) x x1 (d.is ∙ sym (stmt.rolls-Call d.line d.target d.arguments))
+    (one (statement_step s None 0 (statement.Call d.line d.target d.arguments)) x x1 (h ∙ ap (λ l. added (statement_step s None 0 (statement.Call d.line d.target l)) x) c.as_slice.ensures)))
+    c.emit_call_statement.ensures
+
+pub returns-in-Answer : goal.returns-in-Answer
+returns-in-Answer t c =
+    let s = scope_with c.args.unit.now c.args.layout.now c.args.parameters.now in
+    let who = c.args.who in
+    let answer = c.args.answer in
+    let x = made c.args.out.now in
+    let d = c.in-Answer in
+    let x1 = made c.emit_answer.new.out in
+    on_ok_weaker c.emit_answer.result
+    (λ h.
+    by_statement s who answer c.args.statement.now (statement.Answer d.line d.e) x x1 (d.is ∙ sym (stmt.rolls-Answer d.line d.e))
+    (one (statement_step s None answer (statement.Answer d.line d.e)) x x1 h))
+    c.emit_answer.ensures
 
 pub returns-in_ok-emit_statement-in-If-2 : goal.returns-in_ok-emit_statement-in-If-2
 returns-in_ok-emit_statement-in-If-2 t c =

@@ -1,9 +1,48 @@
-use Rattle.std.proofs.Common.{rules, ◌≡◌, ◌+◌, drop, [], ◌∷◌, ◌++◌, length, Some, ap, ◌∙◌, length-append}
-use Rattle.cw_gen_unit.specs.ReferenceUnits.{procedure_piece, entries_of}
+use Rattle.std.proofs.Common.{rules, ◌≡◌, ◌+◌, drop, [], ◌∷◌, ◌++◌, length, Some, refl, sym, ap, ap₂, ◌∙◌, length-append}
+use Rattle.std.specs.Prelude.{slice_get}
+use Rattle.std.proofs.lemmas.Option.{slice_get_read}
+use Rattle.cw_gen_unit.specs.ReferenceUnits.{procedure_piece, entries_of, label_places}
 use Rattle.cw_gen_unit.specs.LabelPlaces.{labels_placed}
 use Rattle.cw_gen_unit.proofs.PlacedLabels.{placed-procedure}
-use Rattle.cw_gen_unit.proofs.WholeUnits.{next-orders, next-marks, next-entries, next-labels}
+use Rattle.cw_gen_unit.proofs.WholeUnits.{next-orders, next-marks, next-entries, next-labels, last-orders, last-marks, last-entries, last-labels}
 use Rattle.cw_gen_unit.proofs.unit.emit_procedures.Goals as goal
+
+pub emit_next-requires-clause-numbered : goal.emit_next-requires-clause-numbered
+emit_next-requires-clause-numbered c =
+    let ps = c.as_slice-procedures.result.now in
+    let i = c.loop-i.i in
+    let same : c.in_ok-number.number ≡ i = search rules in
+    ap₂ slice_get (sym c.as_slice-procedures.ensures) same ∙ slice_get_read ps (length ps) i c.index-procedures-i.result refl c.loop-i-test.true c.index-procedures-i.is
+
+pub returns-clause-orders : goal.returns-clause-orders
+returns-clause-orders c =
+    let o = c.loop-i.out in
+    let o0 = c.args.out.now in
+    last-orders c.args.unit.now c.as_slice-procedures.result.now c.loop-i.i (length o.orders) (length o.marks.items) (length o0.orders) (length o0.marks.items)
+    c.loop-i-test.false c.as_slice-procedures.ensures o.orders o0.orders c.loop-i.invariant.orders
+
+pub returns-clause-marks : goal.returns-clause-marks
+returns-clause-marks c =
+    let o = c.loop-i.out in
+    let o0 = c.args.out.now in
+    last-marks c.args.unit.now c.as_slice-procedures.result.now c.loop-i.i (length o.orders) (length o.marks.items) (length o0.orders) (length o0.marks.items)
+    c.loop-i-test.false c.as_slice-procedures.ensures o.marks.items o0.marks.items c.loop-i.invariant.marks
+
+pub returns-clause-entries : goal.returns-clause-entries
+returns-clause-entries c =
+    let o = c.loop-i.out in
+    let o0 = c.args.out.now in
+    last-entries c.args.unit.now c.as_slice-procedures.result.now c.loop-i.i (length o.orders) (length o.marks.items) (length o0.orders) (length o0.marks.items)
+    c.loop-i-test.false c.as_slice-procedures.ensures c.loop-i.entries.items c.args.entries.now.items c.loop-i.invariant.entries
+
+pub returns-clause-places : goal.returns-clause-places
+returns-clause-places c = λ b h.
+    let o = c.loop-i.out in
+    let o0 = c.args.out.now in
+    let (done, long, whole, at) = c.loop-i.invariant.places b h in
+    at ∙ ap (label_places 0 c.args.unit.now.labels b)
+    (last-labels c.args.unit.now c.as_slice-procedures.result.now c.loop-i.i (length o.orders) (length o.marks.items) (length o0.orders) (length o0.marks.items)
+    c.loop-i-test.false c.as_slice-procedures.ensures done whole)
 
 pub loop-i-preserved : goal.loop-i-preserved
 loop-i-preserved c =
