@@ -1,9 +1,10 @@
 //! The sources, sinks and stores in memory: with ample memory, with a fault in each call, and in pieces.
-ghost use Rattle.std.specs.Prelude.{◌≤◌};
+ghost use Rattle.std.specs.Prelude.{◌≤◌, length};
 
 use cw_io::*;
 use cw_word::List;
 use std::alloc::{AllocError, Global};
+use std::process::Abort;
 use std::test::Fail;
 
 const TEXT: &[u8] = b"to be read";
@@ -29,20 +30,40 @@ fn store(alloc: Global, fails: &[u64]) -> Result<MemStore, AllocError> {
     }
 }
 
+// Reads in order, into eight bytes or into none: what each answers, and what stands first in the eight bytes then.
+const READS: [(u8, Result<usize, Failed>, &[u8]); 5] = [
+    (8, Ok(3), b"fou"),
+    (8, Err(Failed), b"fou"),
+    (0, Ok(0), b"fou"),
+    (8, Ok(1), b"r"),
+    (8, Ok(0), b"r"),
+];
+
 #[test]
 fn sources(rt: HostRuntime) -> Result<(), Fail> {
     let alloc = rt.alloc();
     let mut source = MemSource::new(bytes(alloc, b"four")?, 3, calls(alloc, &[2])?);
     let mut buf = [0u8; 8];
-    assert_eq!(rt; source.read(&mut buf), Ok(3));
-    assert_eq!(rt; source.read(&mut buf), Err(Failed));
-    assert_eq!(rt; source.read(&mut []), Ok(0));
-    assert_eq!(rt; &buf[..3], b"fou".as_slice());
-    assert_eq!(rt; source.read(&mut buf), Ok(1));
-    assert_eq!(rt; buf[0], b'r');
-    assert_eq!(rt; source.read(&mut buf), Ok(0));
+    for (room, wanted, first) in &READS {
+        let count = match room {
+            0 => source.read(&mut []),
+            _ => source.read(&mut buf),
+        };
+        assert_eq!(rt; count, *wanted);
+        assert!(rt; buf.starts_with(first));
+    }
     Ok(())
 }
+
+// Writes in order, and what each answers.
+const WRITES: [(&[u8], Result<usize, Failed>); 6] = [
+    (b"abcd", Ok(3)),
+    (b"d", Err(Failed)),
+    (b"", Ok(0)),
+    (b"def", Ok(2)),
+    (b"f", Err(Failed)),
+    (b"", Ok(0)),
+];
 
 #[test]
 fn sinks(rt: HostRuntime) -> Result<(), Fail> {
@@ -50,36 +71,64 @@ fn sinks(rt: HostRuntime) -> Result<(), Fail> {
     let Ok(mut sink) = MemSink::new(alloc, 5, 3, calls(alloc, &[2])?) else {
         return Err(AllocError.into());
     };
-    assert_eq!(rt; sink.write(b"abcd"), Ok(3));
-    assert_eq!(rt; sink.write(b"d"), Err(Failed));
-    assert_eq!(rt; sink.write(b""), Ok(0));
-    assert_eq!(rt; sink.write(b"def"), Ok(2));
-    assert_eq!(rt; sink.write(b"f"), Err(Failed));
-    assert_eq!(rt; sink.write(b""), Ok(0));
+    for (piece, wanted) in &WRITES {
+        assert_eq!(rt; sink.write(piece), *wanted);
+    }
     assert_eq!(rt; sink.held(), b"abcde".as_slice());
+    Ok(())
+}
+
+// Reads of a store in order, of a file from a place on into eight bytes, and what each answers.
+const PART_READS: [(&str, u64, Result<usize, StoreFault>); 4] = [
+    ("a", 8, Ok(2)),
+    ("b", 0, Err(StoreFault::Missing)),
+    ("a", 0, Err(StoreFault::Failed)),
+    ("a", 99, Ok(0)),
+];
+
+// And then writes.
+const FILE_WRITES: [(&str, &[u8], Result<(), StoreFault>); 4] = [
+    ("b", b"written", Err(StoreFault::Failed)),
+    ("b", b"too long", Err(StoreFault::Failed)),
+    ("b", b"written", Ok(())),
+    ("c", b"", Err(StoreFault::Failed)),
+];
+
+fn check_reads(rt: &impl Abort, files: &mut MemStore) {
+    let mut buf = [0u8; 8];
+    for (name, at, wanted) in &PART_READS {
+        assert_eq!(rt; files.read_part(name, *at, &mut buf), *wanted);
+        assert!(rt; buf.starts_with(b"ad"));
+    }
+}
+
+fn check_writes(rt: &impl Abort, files: &mut MemStore) {
+    for (name, written, wanted) in &FILE_WRITES {
+        assert_eq!(rt; files.write_all(name, written), *wanted);
+    }
+}
+
+fn check_file(
+    rt: &impl Abort,
+    alloc: Global,
+    files: &mut MemStore,
+    name: &str,
+    wanted: &[u8],
+) -> Result<(), Fail>
+    requires { length wanted.now ≤ 16777216 }
+{
+    let read = read_file(alloc, files, name, wanted.len())?;
+    assert_eq!(rt; read.as_slice(), wanted);
     Ok(())
 }
 
 #[test]
 fn stores(rt: HostRuntime) -> Result<(), Fail> {
-    let alloc = rt.alloc();
-    let mut buf = [0u8; 8];
-    let mut files = store(alloc, &[3, 5])?;
-    assert_eq!(rt; files.read_part("a", 8, &mut buf), Ok(2));
-    assert_eq!(rt; &buf[..2], b"ad".as_slice());
-    assert_eq!(rt; files.read_part("b", 0, &mut buf), Err(StoreFault::Missing));
-    assert_eq!(rt; files.read_part("a", 0, &mut buf), Err(StoreFault::Failed));
-    assert_eq!(rt; files.read_part("a", 99, &mut buf), Ok(0));
-    assert_eq!(rt; files.write_all("b", b"written"), Err(StoreFault::Failed));
-    assert_eq!(rt; files.write_all("b", b"too long"), Err(StoreFault::Failed));
-    assert_eq!(rt; files.write_all("b", b"written"), Ok(()));
-    assert_eq!(rt; files.write_all("c", b""), Err(StoreFault::Failed));
-    assert_eq!(rt;
-        read_file(alloc, &mut files, "b", 7)?.as_slice(),
-        b"written".as_slice()
-    );
-    assert_eq!(rt; read_file(alloc, &mut files, "a", 10)?.as_slice(), TEXT);
-    Ok(())
+    let mut files = store(rt.alloc(), &[3, 5])?;
+    check_reads(&rt, &mut files);
+    check_writes(&rt, &mut files);
+    check_file(&rt, rt.alloc(), &mut files, "b", b"written")?;
+    check_file(&rt, rt.alloc(), &mut files, "a", TEXT)
 }
 
 // What reading the file `a` answers, where these calls fail.
@@ -93,14 +142,23 @@ fn answer(alloc: Global, name: &str, limit: usize, fails: &[u64]) -> Result<File
     }
 }
 
+// Reads of a whole file: its name, how long it may be, the calls that fail, and the answer.
+const WHOLE_READS: [(&str, u8, &[u64], FileFault); 8] = [
+    ("a", 9, &[], FileFault::TooLong),
+    ("a", 0, &[], FileFault::TooLong),
+    ("b", 9, &[], FileFault::Missing),
+    ("a", 10, &[1], FileFault::Failed),
+    ("a", 10, &[2], FileFault::Failed),
+    ("a", 10, &[3], FileFault::Failed),
+    ("a", 10, &[4], FileFault::Failed),
+    ("a", 10, &[5], FileFault::Failed),
+];
+
 #[test]
 fn whole_files(rt: HostRuntime) -> Result<(), Fail> {
-    let alloc = rt.alloc();
-    assert_eq!(rt; answer(alloc, "a", 9, &[])?, FileFault::TooLong);
-    assert_eq!(rt; answer(alloc, "a", 0, &[])?, FileFault::TooLong);
-    assert_eq!(rt; answer(alloc, "b", 9, &[])?, FileFault::Missing);
-    for call in [1, 2, 3, 4, 5] {
-        assert_eq!(rt; answer(alloc, "a", 10, &[call])?, FileFault::Failed);
+    for (name, limit, fails, wanted) in &WHOLE_READS {
+        let fault = answer(rt.alloc(), name, usize::from(*limit), fails)?;
+        assert_eq!(rt; fault, *wanted);
     }
     Ok(())
 }

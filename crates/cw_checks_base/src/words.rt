@@ -1,6 +1,7 @@
 //! Each function of cw_word on its edges. The digests were computed outside, from exact fractions.
 use crate::tree::{Tree, value};
 use cw_word::*;
+use std::alloc::Global;
 use std::test::Fail;
 
 const EDGES: [i16; 12] = [
@@ -131,30 +132,44 @@ fn numbers() -> u32 {
 }
 
 #[test]
-fn words(rt: HostRuntime) {
-    assert_eq!(rt; sums(), 1262373016);
-    assert_eq!(rt; rescaled(), 930682428);
-    assert_eq!(rt; products(), 3840369264);
-    assert_eq!(rt; quotients(), 793334503);
-    assert_eq!(rt; fields(), 658527700);
-    assert_eq!(rt; numbers(), 1175684087);
+fn digests(rt: HostRuntime) {
+    for (digest, wanted) in &[
+        (sums(), 1262373016),
+        (rescaled(), 930682428),
+        (products(), 3840369264),
+        (quotients(), 793334503),
+        (fields(), 658527700),
+        (numbers(), 1175684087),
+    ] {
+        assert_eq!(rt; *digest, *wanted);
+    }
+}
 
-    assert_eq!(rt; sum(32767, 1), Err(Over));
-    assert_eq!(rt; negate(-32768), Err(Over));
-    assert_eq!(rt; rescale(-1, 2, 0), Ok(-1));
-    assert_eq!(rt; product(80, 80, -5), Ok(200));
-    assert_eq!(rt; quotient(-7, 2, 0), Ok(-3));
-    assert_eq!(rt; quotient(-32768, -1, 0), Err(Arith::Over));
-    assert_eq!(rt; quotient(1, 0, 0), Err(Arith::Zero));
+#[test]
+fn words(rt: HostRuntime) {
+    for (word, wanted) in &[
+        (sum(32767, 1), Err(Over)),
+        (negate(-32768), Err(Over)),
+        (rescale(-1, 2, 0), Ok(-1)),
+        (product(80, 80, -5), Ok(200)),
+        (decimal(2, 5, 1, 5), Ok(80)),
+    ] {
+        assert_eq!(rt; *word, *wanted);
+    }
+    for (word, wanted) in &[
+        (quotient(-7, 2, 0), Ok(-3)),
+        (quotient(-32768, -1, 0), Err(Arith::Over)),
+        (quotient(1, 0, 0), Err(Arith::Zero)),
+    ] {
+        assert_eq!(rt; *word, *wanted);
+    }
     assert_eq!(rt; put_bits(put_bits(0, 5, 5, 9), 5, 0, 31), 319);
     assert_eq!(rt; take_signed(319, 5, 0), -1);
-    assert_eq!(rt; decimal(2, 5, 1, 5), Ok(80));
     assert_eq!(rt; best_scale(2, 5, 1), Ok(13));
 }
 
 #[test]
-fn names_and_lists(rt: HostRuntime) -> Result<(), Fail> {
-    let alloc = rt.alloc();
+fn names(rt: HostRuntime) {
     let longest = b"A234567890123456789012345678901";
     for (bytes, is_name) in [
         (b"A".as_slice(), true),
@@ -175,7 +190,11 @@ fn names_and_lists(rt: HostRuntime) -> Result<(), Fail> {
             None => assert!(rt; !is_name),
         }
     }
+}
 
+#[test]
+fn lists(rt: HostRuntime) -> Result<(), Fail> {
+    let alloc = rt.alloc();
     let mut list = List::new(alloc);
     list.push(3u8)?;
     list.push(4)?;
@@ -189,21 +208,23 @@ fn names_and_lists(rt: HostRuntime) -> Result<(), Fail> {
     Ok(())
 }
 
+// The sum of the largest word, of 2 with its sign turned, and of a word.
+fn sum_with(alloc: Global, word: i16) -> Result<Tree, NoMemory> {
+    let mut terms = List::new(alloc);
+    terms.push(Tree::Word(32767))?;
+    terms.push(Tree::Negative(Boxed::new(alloc, Tree::Word(2))?))?;
+    terms.push(Tree::Word(word))?;
+    Ok(Tree::Sum(terms))
+}
+
 #[test]
 fn trees(rt: HostRuntime) -> Result<(), Fail> {
     let alloc = rt.alloc();
-    let mut terms = List::new(alloc);
-    assert_eq!(rt; value(&Tree::Word(7)), Some(7));
-    terms.push(Tree::Word(32767))?;
-    terms.push(Tree::Negative(Boxed::new(alloc, Tree::Word(2))?))?;
     let three = Boxed::new(alloc, 3i16)?;
     assert_eq!(rt; *three.get(), 3);
-    terms.push(Tree::Word(three.into_inner()))?;
-    let tree = Tree::Sum(terms);
-    assert_eq!(rt; value(&tree), None);
-    assert_eq!(rt;
-        value(&Tree::Negative(Boxed::new(alloc, Tree::Word(-32768))?)),
-        None
-    );
+    assert_eq!(rt; value(&sum_with(alloc, three.into_inner())?), None);
+    assert_eq!(rt; value(&Tree::Word(7)), Some(7));
+    let lowest = Boxed::new(alloc, Tree::Word(-32768))?;
+    assert_eq!(rt; value(&Tree::Negative(lowest)), None);
     Ok(())
 }
