@@ -1,12 +1,12 @@
 -- Members behind their lengths, one after another.
-use Rattle.std.proofs.Common.{◌≡◌, ℕ, zero, suc, ◌+◌, ◌-◌, ◌<◌, ◌≤◌, ◌^◌, slice_get, Bool, true, false, cond, ltb, List, [], ◌∷◌, ◌++◌, length, take, drop, Option, Some, None, refl, sym, ap, subst, ◌∙◌, append_assoc, arith, inl, inr, ◌⊎◌}
+use Rattle.std.proofs.Common.{◌≡◌, ℕ, zero, suc, ◌+◌, ◌-◌, ◌<◌, ◌≤◌, ◌^◌, slice_get, Bool, true, false, cond, ltb, List, [], ◌∷◌, ◌++◌, length, take, drop, Option, Some, None, refl, sym, ap, subst, ◌∙◌, append_assoc, arith}
 use Rattle.std.specs.List.{AllByRecursion}
 use Rattle.std.proofs.lemmas.Bool.{ltb-true, lt-ltb}
-use Rattle.std.proofs.lemmas.List.{append-nil}
+use Rattle.std.proofs.lemmas.List.{append-nil, drop_at}
 use Rattle.byteorder.specs.Endian.{little_number}
 use Rattle.cw_fields.specs.Fields.{◌>>=◌, each, IsLong, long_bytes, long_in, number_in, bytes_in}
 use Rattle.cw_fields.specs.Spelling.{IsBytes, Reads}
-use Rattle.cw_fields.proofs.Formats.{bind_some, reads_bytes}
+use Rattle.cw_fields.proofs.Formats.{bind_some, reads_bytes, IsBytes-drop}
 use Rattle.cw_fields.proofs.Spelled.{reads_long}
 use Rattle.cw_view.specs.ObjectFormat.{IsObject}
 use Rattle.cw_lib.specs.LibraryFormat.{Bytes, member_bytes, IsMember}
@@ -72,12 +72,23 @@ pub each-push : (ms : List Bytes) (m : Bytes) → each member_bytes (ms ++ m ∷
 each-push [] m = append-nil (member_bytes m)
 each-push (x ∷ ms) m = ap (λ y. member_bytes x ++ y) (each-push ms m) ∙ sym (append_assoc (member_bytes x) (each member_bytes ms) (member_bytes m))
 
+abbrev guarded : Option (ℕ × Bytes) → Option (Bytes × Bytes)
+guarded o = o >>= λ n. bytes_in n.0 n.1
+
+abbrev some_number : ℕ × Bytes → Option (ℕ × Bytes)
+some_number x = Some x
+
+abbrev some_member : Bytes × Bytes → Option (Bytes × Bytes)
+some_member x = Some x
+
 -- where no whole member begins, none is read
-pub cut_is_none : (rest : Bytes) → (length rest < 4) ⊎ ((size : ℕ) × ((part : Bytes) × ((rest ≡ long_bytes size ++ part) × (IsLong size × (length part < size))))) → first_member rest ≡ None
+pub cut_is_none : (rest : Bytes) → IsCut rest → first_member rest ≡ None
 unfolding first_member number_in
-cut_is_none rest (inl few) = ap (λ b. cond b None (Some (little_number 4 rest, drop 4 rest)) >>= λ n. bytes_in n.0 n.1) (lt-ltb _ _ few)
-cut_is_none rest (inr (size, (part, (e, (long, few))))) =
-    ap first_member e ∙ ap (λ o. o >>= λ n. bytes_in n.0 n.1) (reads_long.again size part long) ∙ ap (λ b. cond b None (Some (take size part, drop size part))) (lt-ltb _ _ few)
+cut_is_none rest (in_length few) = ap (λ b. guarded (cond b None (some_number (little_number 4 rest, drop 4 rest)))) (lt-ltb _ _ few)
+cut_is_none rest (in_member size part long few) = ap guarded (reads_long.again size part long) ∙ ap (λ b. cond b None (some_member (take size part, drop size part))) (lt-ltb _ _ few)
+
+pub rest_fits : (bytes front rest : Bytes) → IsBytes bytes → bytes ≡ front ++ rest → IsBytes rest
+rest_fits bytes front rest fits e = subst IsBytes (ap (drop (length front)) e ∙ drop_at front rest (length front) refl) (IsBytes-drop (length front) bytes fits)
 
 -- ---- the member of a number
 

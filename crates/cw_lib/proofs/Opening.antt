@@ -1,8 +1,8 @@
 -- What stands in the bytes of a file that is opened as a library.
-use Rattle.std.proofs.Common.{◌≡◌, ◌≢◌, ℕ, zero, suc, ◌+◌, ◌-◌, ◌<◌, ◌≤◌, min, Bool, true, false, not, cond, ltb, List, [], ◌∷◌, ◌++◌, length, take, drop, Option, Some, None, Ok, Err, refl, sym, ap, subst, ◌∙◌, append_assoc, arith, inl, inr, ◌⊎◌}
+use Rattle.std.proofs.Common.{◌≡◌, ◌≢◌, ℕ, zero, suc, ◌+◌, ◌-◌, ◌<◌, ◌≤◌, min, Bool, true, false, not, cond, ltb, eqb, eq-eqb, List, [], ◌∷◌, ◌++◌, length, take, drop, Option, Some, None, Ok, Err, refl, sym, ap, subst, ◌∙◌, append_assoc, arith, inl, inr, ◌⊎◌}
 use Rattle.std.specs.Str.{bytes_eq}
 use Rattle.std.specs.List.{AllByRecursion}
-use Rattle.std.proofs.lemmas.Bool.{ltb-true}
+use Rattle.std.proofs.lemmas.Bool.{ltb-true, eqb-true}
 use Rattle.std.proofs.lemmas.List.{append-nil, take-append-drop, length-append, length_push, length-drop, drop-drop, take_all, nil_from_length}
 use Rattle.std.proofs.lemmas.Slice.Eq.{bytes_eq-Decides}
 use Rattle.byteorder.specs.Endian.{little_number, little_bytes}
@@ -17,7 +17,7 @@ use Rattle.cw_lib.specs.declared.fault.LibFault.TheVariants.{BadVersion, Truncat
 use Rattle.cw_lib.specs.declared.library.Lib.{Lib}
 use Rattle.cw_lib.specs.LibraryFormat.{Bytes, mark, header, start, IsNumber, IsMember, member_bytes, front_bytes, IsLibrary, FailsBehind, no_length, cut, no_object, trailing, IsFirstLibraryFault, other_version, no_number, bad_number, behind}
 use Rattle.cw_lib.specs.Reading.{first_member, members_in, members_of, IsBehindMember, FailsMember, Reaches, IsLibOf}
-use Rattle.cw_lib.proofs.Members.{reads_member, IsCut, in_length, in_member, is_cut, members_again, AllByRecursion-push, each-push}
+use Rattle.cw_lib.proofs.Members.{reads_member, IsCut, in_length, in_member, is_cut, rest_fits, members_again, AllByRecursion-push, each-push}
 
 -- ---- the mark and the version
 
@@ -112,10 +112,10 @@ fails_object len number rest member after fault fits some bad n place before lt 
 pub begins : (bytes : Bytes) (n : ℕ) → bytes ≡ start n ++ drop 8 bytes → Reaches bytes n 0 (drop 8 bytes)
 begins bytes n e = record { before = []; count = refl; members = tt; spelled = e ∙ ap (λ y. y ++ drop 8 bytes) (sym (append-nil (start n))) }
 
-pub goes_on : (bytes : Bytes) (n k : ℕ) (rest after : Bytes) → IsBytes rest → Reaches bytes n k rest → IsBehindMember rest after → Reaches bytes n (k + 1) after
+pub goes_on : (bytes : Bytes) (n k : ℕ) (rest after : Bytes) → IsBytes bytes → Reaches bytes n k rest → IsBehindMember rest after → Reaches bytes n (k + 1) after
 goes_on bytes n k rest after fits h m =
     let member = m.member in
-    let t = reads_member.takes rest (member, after) fits m.there in
+    let t = reads_member.takes rest (member, after) (rest_fits bytes (front_bytes n h.before) rest fits h.spelled) m.there in
     record {
       before = h.before ++ member ∷ [];
       count = length_push h.before member ∙ omega (arith, h.count);
@@ -132,20 +132,23 @@ fails_at bytes n k rest fault number lt h fails =
 place_of_rest : (bytes front rest : Bytes) → bytes ≡ front ++ rest → length bytes - length rest ≡ length front
 place_of_rest bytes front rest e = omega (arith, ap length e, length-append front rest)
 
-pub fails_trailing : (bytes : Bytes) (n : ℕ) (rest : Bytes) → IsNumber n → Reaches bytes n n rest → (length rest ≡ 0 → ⊥) → IsFirstLibraryFault bytes (Trailing (length bytes - length rest))
-fails_trailing bytes n [] number h some = absurd (some refl)
+some_left : (rest : Bytes) (b : Bool) → eqb (length rest) 0 ≡ b → b ≡ false → length rest ≡ 0 → ⊥
+some_left rest b is e none = tt_ff (sym (eq-eqb (length rest) 0 none) ∙ is ∙ e)
+
+pub fails_trailing : (bytes : Bytes) (n : ℕ) (rest : Bytes) → IsNumber n → Reaches bytes n n rest → eqb (length rest) 0 ≡ false → IsFirstLibraryFault bytes (Trailing (length bytes - length rest))
+fails_trailing bytes n [] number h some = absurd (some_left [] (eqb 0 0) refl some refl)
 fails_trailing bytes n (b ∷ bs) number h some =
     behind number h.members h.spelled
     (subst (λ p. FailsBehind n h.before (length (front_bytes n h.before)) (length bytes) (b ∷ bs) (Trailing p)) (sym (place_of_rest bytes (front_bytes n h.before) (b ∷ bs) h.spelled)) (trailing h.count))
 
-pub whole_library : (bytes : Bytes) (lib : Lib) (rest : Bytes) → IsNumber lib.count → bytes ≡ start lib.count ++ drop 8 bytes → lib.rest.now ≡ drop 8 bytes → Reaches bytes lib.count lib.count rest → length rest ≡ 0 → IsLibOf lib bytes
+pub whole_library : (bytes : Bytes) (lib : Lib) (rest : Bytes) → IsNumber lib.count → bytes ≡ start lib.count ++ drop 8 bytes → lib.rest.now ≡ drop 8 bytes → Reaches bytes lib.count lib.count rest → eqb (length rest) 0 ≡ true → IsLibOf lib bytes
 whole_library bytes lib rest number e is h none =
-    let empty : rest ≡ [] = nil_from_length rest none in
+    let empty : rest ≡ [] = nil_from_length rest (eqb-true (length rest) 0 none) in
     let spelled : bytes ≡ front_bytes lib.count h.before ++ [] = h.spelled ∙ ap (λ y. front_bytes lib.count h.before ++ y) empty in
     let tail : lib.rest.now ≡ each member_bytes h.before ++ [] = is ∙ ap (drop 8) (spelled ∙ append_assoc (start lib.count) (each member_bytes h.before) []) in
     let members : members_of lib ≡ h.before = ap (members_in lib.count) tail ∙ ap (λ n. members_in n (each member_bytes h.before ++ [])) (sym h.count) ∙ members_again h.before [] h.members in
     let library : IsLibrary bytes h.before = record {
       number = subst IsNumber (sym h.count) number;
-      members = h.members;
+      objects = h.members;
       spelled = spelled ∙ append-nil (front_bytes lib.count h.before) ∙ ap (λ n. front_bytes n h.before) (sym h.count);
     } in record { library = subst (IsLibrary bytes) (sym members) library; count = sym h.count ∙ ap length (sym members) }

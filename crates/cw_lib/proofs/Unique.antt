@@ -4,7 +4,7 @@ use Rattle.std.specs.Str.{bytes_eq}
 use Rattle.std.specs.List.{AllByRecursion}
 use Rattle.std.proofs.lemmas.Slice.Eq.{bytes_eq-Decides}
 use Rattle.std.proofs.lemmas.Bool.{cases_lt, lt-ltb, le-ltb, le-leb, leb-true, ne_eqb, eqb-true}
-use Rattle.std.proofs.lemmas.List.{append-nil, length-append, take_all, take_at, drop_at, get_or_past, get_or_default}
+use Rattle.std.proofs.lemmas.List.{append-nil, length-append, take_all, take_at, get_or_past, get_or_default}
 use Rattle.byteorder.specs.Endian.{little_number}
 use Rattle.byteorder.specs.Numbers.{little_number-reads_back}
 use Rattle.cw_fields.specs.Fields.{each, IsWord, word_bytes, IsLong, long_bytes}
@@ -19,7 +19,7 @@ use Rattle.cw_lib.specs.declared.fault.LibFault.TheVariants.{NotLibrary, BadVers
 use Rattle.cw_lib.specs.LibraryFormat.{Bytes, mark, header, start, IsNumber, IsMember, member_bytes, front_bytes, library_bytes, IsLibrary, FailsBehind, no_length, cut, no_object, trailing, IsFirstLibraryFault, not_library, no_version, other_version, no_number, bad_number, behind}
 use Rattle.cw_lib.specs.Reading.{first_member, members_in}
 use Rattle.cw_lib.specs.Uniqueness.{HasOneLibrary, HasOneFault, HasNotBoth}
-use Rattle.cw_lib.proofs.Members.{reads_member, in_front, members_again, cut_is_none}
+use Rattle.cw_lib.proofs.Members.{reads_member, in_front, members_again, IsCut, in_length, in_member, cut_is_none, rest_fits}
 
 -- ---- behind the first members
 
@@ -70,29 +70,29 @@ member_at (m ∷ ms) more rest (suc k) h lt e = member_at ms more rest k h.1 (om
 -- ---- the fault at a place, by what is read there
 
 data Stops (n k place len : ℕ) (rest : Bytes) (f : LibFault) : Type 0 where
-  short : k < n → first_member rest ≡ None → f ≡ Truncated len → Stops n k place len rest f
-  bad : (x : Split) (fault : ObjFault) → k < n → first_member rest ≡ Some x → IsFirstObjectFault x.0 fault → f ≡ BadMember (k + 1) fault → Stops n k place len rest f
-  more : k ≡ n → (rest ≡ [] → ⊥) → f ≡ Trailing place → Stops n k place len rest f
+  stops_cut : k < n → first_member rest ≡ None → f ≡ Truncated len → Stops n k place len rest f
+  stops_bad : (x : Split) (fault : ObjFault) → k < n → first_member rest ≡ Some x → IsFirstObjectFault x.0 fault → f ≡ BadMember (k + 1) fault → Stops n k place len rest f
+  stops_more : k ≡ n → (rest ≡ [] → ⊥) → f ≡ Trailing place → Stops n k place len rest f
+
+member_read : (member after : Bytes) → IsLong (length member) → first_member (member_bytes member ++ after) ≡ Some (member, after)
+member_read member after long = reads_member.again member after long
 
 stops : (n place len : ℕ) (before : List Bytes) (rest : Bytes) (f : LibFault) → FailsBehind n before place len rest f → Stops n (length before) place len rest f
-stops n place len before rest f (no_length lt few) = short lt (cut_is_none rest (inl few)) refl
-stops n place len before rest f (cut size part lt long few) = short lt (cut_is_none (long_bytes size ++ part) (inr (size, (part, (refl, (long, few)))))) refl
-stops n place len before rest f (no_object member after {fault} lt long wrong) = bad (member, after) fault lt (reads_member.again member after long) wrong refl
-stops n place len before rest f (trailing all) = more all (λ e. cc) refl
+stops n place len before rest f (no_length lt few) = stops_cut lt (cut_is_none rest (in_length few)) refl
+stops n place len before rest f (cut size part lt long few) = stops_cut lt (cut_is_none (long_bytes size ++ part) (in_member size part long few)) refl
+stops n place len before rest f (no_object member after {fault} lt long wrong) = stops_bad (member, after) fault lt (member_read member after long) wrong refl
+stops n place len before rest f (trailing all) = stops_more all (λ e. cc) refl
 
 within : (n k place len : ℕ) (rest : Bytes) (f : LibFault) → Stops n k place len rest f → k ≤ n
-within n k place len rest f (short lt none is) = omega (arith, lt)
-within n k place len rest f (bad x fault lt some wrong is) = omega (arith, lt)
-within n k place len rest f (more all there is) = omega (arith, all)
+within n k place len rest f (stops_cut lt none is) = omega (arith, lt)
+within n k place len rest f (stops_bad x fault lt some wrong is) = omega (arith, lt)
+within n k place len rest f (stops_more all there is) = omega (arith, all)
 
 all_bytes : (bytes : Bytes) → All (λ b. b < 256) bytes → IsBytes bytes
 all_bytes bytes h i = elim (cases_lt i (length bytes)) [ inl lt ↦ h i 0 lt | inr le ↦ subst (λ b. b < 256) (sym (get_or_past bytes i 0 le)) (omega arith) ]
 
 fits_all : (bytes : Bytes) → IsBytes bytes → All (λ b. b < 256) bytes
 fits_all bytes h i d lt = subst (λ b. b < 256) (sym (get_or_default bytes i d 0 lt)) (h i)
-
-rest_fits : (bytes front rest : Bytes) → IsBytes bytes → bytes ≡ front ++ rest → IsBytes rest
-rest_fits bytes front rest fits e = subst IsBytes (ap (drop (length front)) e ∙ drop_at front rest (length front) refl) (IsBytes-drop (length front) bytes fits)
 
 member_fits : (rest : Bytes) (x : Split) → IsBytes rest → first_member rest ≡ Some x → All (λ b. b < 256) x.0
 member_fits rest x fits at =
@@ -102,31 +102,31 @@ member_fits rest x fits at =
 
 -- no fault stands where an object does
 no_stop : (n k place len : ℕ) (rest : Bytes) (f : LibFault) → k < n → IsObjectAt rest → Stops n k place len rest f → ⊥
-no_stop n k place len rest f lt o (short less none is) = none_some o.split (sym none ∙ o.is)
-no_stop n k place len rest f lt o (bad x fault less at wrong is) =
+no_stop n k place len rest f lt o (stops_cut less none is) = none_some o.split (sym none ∙ o.is)
+no_stop n k place len rest f lt o (stops_bad x fault less at wrong is) =
     let same : x ≡ o.split = split_is x o.split (sym at ∙ o.is) in
     let object = subst (λ (y : Split). IsObject y.0) (sym same) o.object in
     object_no_fault x.0 object.0 object.1 object.2 fault wrong
-no_stop n k place len rest f lt o (more all there is) = omega (arith, all, lt)
+no_stop n k place len rest f lt o (stops_more all there is) = omega (arith, all, lt)
 
 one_stop : (n k place len : ℕ) (rest : Bytes) (f g : LibFault) → IsBytes rest → Stops n k place len rest f → Stops n k place len rest g → f ≡ g
-one_stop n k place len rest f g fits (short lt none is) (short lt' none' is') = is ∙ sym is'
-one_stop n k place len rest f g fits (short lt none is) (bad x fault lt' at wrong is') = absurd (none_some x (sym none ∙ at))
-one_stop n k place len rest f g fits (short lt none is) (more all there is') = absurd (omega (arith, lt, all))
-one_stop n k place len rest f g fits (bad x fault lt at wrong is) (short lt' none is') = absurd (none_some x (sym none ∙ at))
-one_stop n k place len rest f g fits (bad x fault lt at wrong is) (bad x' fault' lt' at' wrong' is') =
+one_stop n k place len rest f g fits (stops_cut lt none is) (stops_cut lt' none' is') = is ∙ sym is'
+one_stop n k place len rest f g fits (stops_cut lt none is) (stops_bad x fault lt' at wrong is') = absurd (none_some x (sym none ∙ at))
+one_stop n k place len rest f g fits (stops_cut lt none is) (stops_more all there is') = absurd (omega (arith, lt, all))
+one_stop n k place len rest f g fits (stops_bad x fault lt at wrong is) (stops_cut lt' none is') = absurd (none_some x (sym none ∙ at))
+one_stop n k place len rest f g fits (stops_bad x fault lt at wrong is) (stops_bad x' fault' lt' at' wrong' is') =
     let same : x ≡ x' = split_is x x' (sym at ∙ at') in
     let bytes = member_fits rest x fits at in
     is ∙ ap (BadMember (k + 1)) (one_fault x.0 fault fault' bytes wrong (subst (λ (y : Split). IsFirstObjectFault y.0 fault') (sym same) wrong')) ∙ sym is'
-one_stop n k place len rest f g fits (bad x fault lt at wrong is) (more all there is') = absurd (omega (arith, lt, all))
-one_stop n k place len rest f g fits (more all there is) (short lt none is') = absurd (omega (arith, lt, all))
-one_stop n k place len rest f g fits (more all there is) (bad x fault lt at wrong is') = absurd (omega (arith, lt, all))
-one_stop n k place len rest f g fits (more all there is) (more all' there' is') = is ∙ sym is'
+one_stop n k place len rest f g fits (stops_bad x fault lt at wrong is) (stops_more all there is') = absurd (omega (arith, lt, all))
+one_stop n k place len rest f g fits (stops_more all there is) (stops_cut lt none is') = absurd (omega (arith, lt, all))
+one_stop n k place len rest f g fits (stops_more all there is) (stops_bad x fault lt at wrong is') = absurd (omega (arith, lt, all))
+one_stop n k place len rest f g fits (stops_more all there is) (stops_more all' there' is') = is ∙ sym is'
 
 no_stop_at_end : (n k place len : ℕ) (rest : Bytes) (f : LibFault) → k ≡ n → rest ≡ [] → Stops n k place len rest f → ⊥
-no_stop_at_end n k place len rest f all none (short lt at is) = omega (arith, lt, all)
-no_stop_at_end n k place len rest f all none (bad x fault lt at wrong is) = omega (arith, lt, all)
-no_stop_at_end n k place len rest f all none (more same there is) = there none
+no_stop_at_end n k place len rest f all none (stops_cut lt at is) = omega (arith, lt, all)
+no_stop_at_end n k place len rest f all none (stops_bad x fault lt at wrong is) = omega (arith, lt, all)
+no_stop_at_end n k place len rest f all none (stops_more same there is) = there none
 
 -- ---- the front
 
@@ -332,4 +332,7 @@ one_library bytes members others h g =
     let tail : each member_bytes members ++ [] ≡ each member_bytes others ++ [] = sym (tail_is bytes (length members) members [] e) ∙ tail_is bytes (length others) others [] e' in
     sym (members_again members [] h.objects) ∙ ap (members_in (length members)) tail ∙ ap (λ n. members_in n (each member_bytes others ++ [])) number ∙ members_again others [] g.objects
 
-pub ruleset laws = (one_library, one_library_fault, not_both_library)
+pub is_written : (members : List Bytes) → IsNumber (length members) → AllByRecursion IsMember members → IsLibrary (library_bytes members) members
+is_written members number all = record { number = number; objects = all; spelled = refl }
+
+pub ruleset laws = (one_library, one_library_fault, not_both_library, is_written)

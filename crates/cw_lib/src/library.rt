@@ -38,7 +38,8 @@ fn header_of(bytes: &[u8]) -> Result<(), LibFault>
             at: bytes.len() as u64,
         });
     }
-    if LittleEndian::read_u16(&bytes[4..]) != 1 {
+    let version = LittleEndian::read_u16(&bytes[4..]);
+    if version != 1 {
         return Err(LibFault::BadVersion);
     }
     Ok(())
