@@ -41,7 +41,7 @@ library_bytes members = front_bytes (length members) members
 -- the bytes are the library of these members
 pub record IsLibrary (bytes : Bytes) (members : List Bytes) : Type 0 where
   pub number : IsNumber (length members)
-  pub members : AllByRecursion IsMember members
+  pub objects : AllByRecursion IsMember members
   pub spelled : bytes ≡ library_bytes members
 
 -- ---- the first fault

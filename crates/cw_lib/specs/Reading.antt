@@ -1,5 +1,5 @@
 -- Libraries as they are read.
-use Rattle.std.specs.Prelude.{◌≡◌, ◌<◌, ℕ, zero, suc, ◌+◌, List, [], ◌∷◌, ◌++◌, length, drop, Option, Some, None, Result, Ok, Err}
+use Rattle.std.specs.Prelude.{⊤, ◌≡◌, ◌<◌, ℕ, zero, suc, ◌+◌, List, [], ◌∷◌, ◌++◌, length, drop, Option, Some, None, Result, Ok, Err}
 use Rattle.std.specs.List.{AllByRecursion}
 use Rattle.cw_fields.specs.Fields.{Reader, ◌>>=◌, long_in, bytes_in}
 use Rattle.cw_view.specs.ObjectFormat.{IsObject}
@@ -32,10 +32,15 @@ abbrev pub AnswersNumber : Bytes → Result ℕ LibFault → Type 0
 AnswersNumber bytes (Ok n) = IsNumber n × (bytes ≡ start n ++ drop 8 bytes)
 AnswersNumber bytes (Err fault) = IsFirstLibraryFault bytes fault
 
--- the member of this number, from 1, stands there, and this follows it
-abbrev pub AnswersMember : (len number : ℕ) → Bytes → Result Bytes LibFault → Type 0
-AnswersMember len number rest (Ok after) = (member : Bytes) × IsObject member × (first_member rest ≡ Some (member, after))
-AnswersMember len number rest (Err fault) = (n place : ℕ) (before : List Bytes) → length before < n → length before + 1 ≡ number → FailsBehind n before place len rest fault
+-- an object stands there as a member, and this follows it
+pub record IsBehindMember (rest after : Bytes) : Type 0 where
+  pub member : Bytes
+  pub object : IsObject member
+  pub there : first_member rest ≡ Some (member, after)
+
+-- what is wrong with the member of this number, from 1, which would begin there
+abbrev pub FailsMember : (len number : ℕ) → Bytes → LibFault → Type 0
+FailsMember len number rest fault = (n place : ℕ) (before : List Bytes) → length before < n → length before + 1 ≡ number → FailsBehind n before place len rest fault
 
 -- up to a rest the bytes are the first k of n members
 pub record Reaches (bytes : Bytes) (n k : ℕ) (rest : Bytes) : Type 0 where

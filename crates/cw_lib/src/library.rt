@@ -1,8 +1,8 @@
 //! Libraries as they are read: their members as slices of their bytes.
-ghost use Rattle.std.specs.Prelude.{◌≡◌, ◌++◌, ◌<◌, drop, slice_get};
+ghost use Rattle.std.specs.Prelude.{◌≡◌, ◌++◌, ◌<◌, drop, slice_get, IfOk, IfErr};
 ghost use Rattle.cw_fields.specs.Fields.{Gives};
 ghost use Rattle.cw_lib.specs.LibraryFormat.{header};
-ghost use Rattle.cw_lib.specs.Reading.{first_member, members_of, AnswersHeader, AnswersNumber, AnswersMember, AnswersOpen};
+ghost use Rattle.cw_lib.specs.Reading.{first_member, members_of, AnswersHeader, AnswersNumber, IsBehindMember, FailsMember, AnswersOpen};
 
 use crate::fault::LibFault;
 use byteorder::{ByteOrder, LittleEndian};
@@ -38,7 +38,8 @@ fn header_of(bytes: &[u8]) -> Result<(), LibFault>
             at: bytes.len() as u64,
         });
     }
-    if LittleEndian::read_u16(&bytes[4..]) != 1 {
+    let version = LittleEndian::read_u16(&bytes[4..]);
+    if version != 1 {
         return Err(LibFault::BadVersion);
     }
     Ok(())
@@ -74,7 +75,8 @@ fn first_member(rest: &[u8]) -> Option<(&[u8], &[u8])>
 
 // What follows the first member, which has this number in bytes of this length, where it is an object.
 fn behind_member(len: usize, number: u16, rest: &[u8]) -> Result<&[u8], LibFault>
-    ensures { AnswersMember len number rest.now result }
+    ensures there { IfOk result (λ after. IsBehindMember rest.now after.now) }
+    ensures fault { IfErr result (FailsMember len number rest.now) }
 {
     match first_member(rest) {
         None => Err(LibFault::Truncated { at: len as u64 }),

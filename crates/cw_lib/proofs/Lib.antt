@@ -1,0 +1,3 @@
+pub mod Members
+pub mod Opening
+pub mod Unique
