@@ -2,6 +2,7 @@
 #![tactic(auto)]
 
 mod outside;
+mod replace;
 
 use cw_io::Sink;
 use cw_top::{Status, coral66};

@@ -2,6 +2,7 @@
 //! faults.
 ghost use Rattle.std.specs.Prelude.{None};
 
+use crate::replace::write_file;
 use cw_io::{Failed, Sink, Source, Store, StoreFault};
 use std::fs;
 use std::io::{ErrorKind, Read, Write};
@@ -54,7 +55,7 @@ impl Store for Files<'_> {
     }
 
     fn write_all(&mut self, name: &str, bytes: &[u8]) -> Result<(), StoreFault> {
-        match fs::write(self.rt, name, bytes) {
+        match write_file(self.rt, name, bytes) {
             Ok(()) => Ok(()),
             Err(_) => {
                 self.faults = self.faults.saturating_add(1);

@@ -1,4 +1,4 @@
-//! Benchmark of the simulator: instructions a second of a loop by hand and of one as the compiler makes it, and how long an
+//! Benchmark of the simulator: instructions a second of a loop by hand and of one as an earlier generator made it, and how long an
 //! image takes that copies its input.
 #![tactic(auto)]
 
@@ -48,7 +48,7 @@ const BY_HAND: [u8; 31] = [
     0x02, 0x01, 0xE8, 0x06, 0x00, 0x49, 0x75, 0xE8, 0xEB, 0xE6, 0x90, 0x05, 0x01, 0x00, 0xC3,
 ];
 
-/// As the compiler makes it, 39 instructions a turn and five more in every tenth one: after MOV word [102h],1, which is Y,
+/// As an earlier generator of the compiler made it, 39 instructions a turn and five more in every tenth one: after MOV word [102h],1, which is Y,
 /// the code of LOOP: X := Y - X; A[I] := X; I := I + 1; IF I < 10 THEN GOTO LOOP; I := 0; GOTO LOOP
 /// with the line of each statement and the tests for overflow, and behind it the routine that tests the element's address.
 const COMPILED: [u8; 129] = [
