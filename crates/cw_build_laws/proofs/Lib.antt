@@ -6,3 +6,4 @@ pub mod Definitions
 pub mod Filling
 pub mod Codes
 pub mod Loaded
+pub mod Apart

@@ -1,5 +1,5 @@
 //! Laws of units that can be compiled.
-ghost use Rattle.std.specs.Prelude.{◌≢◌, ◌<◌, ◌≤◌, ℕ, List, [], length, All};
+ghost use Rattle.std.specs.Prelude.{◌≡◌, ◌≢◌, ◌↔◌, ◌<◌, ◌≤◌, ℕ, List, [], length, map, All};
 ghost use Rattle.cw_i86.specs.State.{State};
 ghost use Rattle.cw_i86.specs.MachineRun.{IsStart};
 ghost use Rattle.cw_unit.specs.declared.unit.Unit.{Unit as SourceUnit};
@@ -8,12 +8,16 @@ ghost use Rattle.cw_unit.specs.Allocation.{storage_map};
 ghost use Rattle.cw_unit.specs.ValidStorage.{ValidStorageMap};
 ghost use Rattle.cw_place.specs.Placement.{IsLimits};
 ghost use Rattle.cw_sim.specs.Preservation.{IsLoaded};
-ghost use Rattle.cw_build.specs.Compiled.{IsCompilable};
-ghost use Rattle.cw_build.specs.Linking.{Links, image_of};
+ghost use Rattle.cw_view.specs.ObjectFormat.{IsObject};
+ghost use Rattle.cw_link.specs.LinkedImage.{linked_image};
+ghost use Rattle.cw_object.specs.ObjectContents.{contents_in};
+ghost use Rattle.cw_obj.specs.Migration.{IsMigrated};
+ghost use Rattle.cw_build.specs.Compiled.{IsCompilable, object_of};
+ghost use Rattle.cw_build.specs.Linking.{AreLinked, Links, image_of};
 
 use cw_build::laws::linked_units;
 use cw_built_laws::laws::{built_units, codable};
-use cw_object::laws::writable;
+use cw_object::laws::{object_of_unit, writable};
 use cw_place::laws::{agreed_segments, valid_maps};
 use cw_tmpl::laws::filling;
 
@@ -31,4 +35,15 @@ pub fn loaded()
     agreed_segments();
     filling();
     linked_units();
+}
+
+/// Segments that are compiled apart are linked as those that are compiled together: the objects of units that can be compiled are objects, link to the image of
+/// the units, and exactly where these link. An object of an older version tells what it tells as one of the newer.
+pub fn separate_objects()
+    ensures opened { (us : List SourceUnit) → All IsCompilable us → All IsObject (map object_of us) }
+    ensures linked { (us : List SourceUnit) (limits : Limits) → All IsCompilable us → AreLinked (map contents_in (map object_of us)) limits ↔ Links us limits }
+    ensures image { (us : List SourceUnit) (limits : Limits) → All IsCompilable us → linked_image (map contents_in (map object_of us)) limits ≡ image_of us limits }
+    ensures migrated { (object migrated : List ℕ) → IsMigrated object migrated → contents_in migrated ≡ contents_in object }
+{
+    object_of_unit();
 }
