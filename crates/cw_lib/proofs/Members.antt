@@ -1,5 +1,5 @@
 -- Members behind their lengths, one after another.
-use Rattle.std.proofs.Common.{◌≡◌, ℕ, zero, suc, ◌+◌, ◌-◌, ◌<◌, ◌≤◌, ◌^◌, slice_get, Bool, true, false, cond, ltb, List, [], ◌∷◌, ◌++◌, length, take, drop, Option, Some, None, refl, sym, ap, subst, ◌∙◌, append_assoc, arith}
+use Rattle.std.proofs.Common.{◌≡◌, ℕ, zero, suc, ◌+◌, ◌-◌, ◌<◌, ◌≤◌, slice_get, Bool, true, false, cond, ltb, List, [], ◌∷◌, ◌++◌, length, take, drop, Option, Some, None, refl, sym, ap, subst, ◌∙◌, append_assoc, arith}
 use Rattle.std.specs.List.{AllByRecursion}
 use Rattle.std.proofs.lemmas.Bool.{ltb-true, lt-ltb}
 use Rattle.std.proofs.lemmas.List.{append-nil, drop_at}
@@ -8,7 +8,6 @@ use Rattle.cw_fields.specs.Fields.{◌>>=◌, each, IsLong, long_bytes, long_in,
 use Rattle.cw_fields.specs.Spelling.{IsBytes, Reads}
 use Rattle.cw_fields.proofs.Formats.{bind_some, reads_bytes, IsBytes-drop}
 use Rattle.cw_fields.proofs.Spelled.{reads_long}
-use Rattle.cw_view.specs.ObjectFormat.{IsObject}
 use Rattle.cw_lib.specs.LibraryFormat.{Bytes, member_bytes, IsMember}
 use Rattle.cw_lib.specs.Reading.{first_member, with_member, members_in}
 

@@ -1,21 +1,20 @@
 -- What stands in the bytes of a file that is opened as a library.
-use Rattle.std.proofs.Common.{◌≡◌, ◌≢◌, ℕ, zero, suc, ◌+◌, ◌-◌, ◌<◌, ◌≤◌, min, Bool, true, false, not, cond, ltb, eqb, eq-eqb, List, [], ◌∷◌, ◌++◌, length, take, drop, Option, Some, None, Ok, Err, refl, sym, ap, subst, ◌∙◌, append_assoc, arith, inl, inr, ◌⊎◌}
+use Rattle.std.proofs.Common.{◌≡◌, ◌≢◌, ℕ, ◌+◌, ◌-◌, ◌<◌, ◌≤◌, min, Bool, true, false, not, cond, ltb, eqb, eq-eqb, List, [], ◌∷◌, ◌++◌, length, take, drop, Some, None, refl, sym, ap, subst, ◌∙◌, append_assoc, arith, inl, inr, ◌⊎◌}
 use Rattle.std.specs.Str.{bytes_eq}
-use Rattle.std.specs.List.{AllByRecursion}
 use Rattle.std.proofs.lemmas.Bool.{ltb-true, eqb-true}
 use Rattle.std.proofs.lemmas.List.{append-nil, take-append-drop, length-append, length_push, length-drop, drop-drop, take_all, nil_from_length}
 use Rattle.std.proofs.lemmas.Slice.Eq.{bytes_eq-Decides}
 use Rattle.byteorder.specs.Endian.{little_number, little_bytes}
-use Rattle.cw_fields.specs.Fields.{each, IsWord, word_bytes, word_in, number_in}
+use Rattle.cw_fields.specs.Fields.{each, word_bytes, word_in, number_in}
 use Rattle.cw_fields.specs.Spelling.{IsBytes}
 use Rattle.cw_fields.proofs.Formats.{IsBytes-drop, two_back}
 use Rattle.cw_fields.proofs.Spelled.{reads_word}
 use Rattle.cw_view.specs.declared.fault.ObjFault.{ObjFault}
-use Rattle.cw_view.specs.ObjectFormat.{IsObject, IsFirstObjectFault}
+use Rattle.cw_view.specs.ObjectFormat.{IsFirstObjectFault}
 use Rattle.cw_lib.specs.declared.fault.LibFault.{LibFault}
-use Rattle.cw_lib.specs.declared.fault.LibFault.TheVariants.{BadVersion, Truncated, BadField, BadMember, Trailing}
+use Rattle.cw_lib.specs.declared.fault.LibFault.TheVariants.{Truncated, BadField, BadMember, Trailing}
 use Rattle.cw_lib.specs.declared.library.Lib.{Lib}
-use Rattle.cw_lib.specs.LibraryFormat.{Bytes, mark, header, start, IsNumber, IsMember, member_bytes, front_bytes, IsLibrary, FailsBehind, no_length, cut, no_object, trailing, IsFirstLibraryFault, other_version, no_number, bad_number, behind}
+use Rattle.cw_lib.specs.LibraryFormat.{Bytes, mark, header, start, IsNumber, IsMember, member_bytes, front_bytes, IsLibrary, FailsBehind, no_length, cut, no_object, trailing, IsFirstLibraryFault, no_number, bad_number, behind}
 use Rattle.cw_lib.specs.Reading.{first_member, members_in, members_of, IsBehindMember, FailsMember, Reaches, IsLibOf}
 use Rattle.cw_lib.proofs.Members.{reads_member, IsCut, in_length, in_member, is_cut, rest_fits, members_again, AllByRecursion-push, each-push}
 

@@ -1,15 +1,15 @@
 -- Bytes are one library, or have one first fault: what is read at the front says which of the two, and where.
-use Rattle.std.proofs.Common.{◌≡◌, ◌≢◌, ℕ, zero, suc, ◌+◌, ◌<◌, ◌≤◌, Bool, true, false, cond, ◌&&◌, ltb, leb, eqb, All, List, [], ◌∷◌, ◌++◌, length, take, drop, Option, Some, None, Result, Ok, Err, refl, sym, ap, subst, ◌∙◌, append_assoc, arith, inl, inr, ◌⊎◌}
+use Rattle.std.proofs.Common.{◌≡◌, ℕ, zero, suc, ◌+◌, ◌<◌, ◌≤◌, Bool, true, false, cond, ◌&&◌, ltb, leb, eqb, All, List, [], ◌∷◌, ◌++◌, length, take, drop, Option, Some, None, Result, Ok, Err, refl, sym, ap, subst, ◌∙◌, append_assoc, arith, inl, inr, ◌⊎◌}
 use Rattle.std.specs.Str.{bytes_eq}
 use Rattle.std.specs.List.{AllByRecursion}
 use Rattle.std.proofs.lemmas.Slice.Eq.{bytes_eq-Decides}
-use Rattle.std.proofs.lemmas.Bool.{cases_lt, lt-ltb, le-ltb, le-leb, leb-true, ne_eqb, eqb-true}
+use Rattle.std.proofs.lemmas.Bool.{cases_lt, lt-ltb, le-ltb, le-leb, leb-true, ne_eqb}
 use Rattle.std.proofs.lemmas.List.{append-nil, length-append, take_all, take_at, get_or_past, get_or_default}
 use Rattle.byteorder.specs.Endian.{little_number}
 use Rattle.byteorder.specs.Numbers.{little_number-reads_back}
-use Rattle.cw_fields.specs.Fields.{each, IsWord, word_bytes, IsLong, long_bytes}
+use Rattle.cw_fields.specs.Fields.{each, word_bytes, IsLong, long_bytes}
 use Rattle.cw_fields.specs.Spelling.{IsBytes}
-use Rattle.cw_fields.proofs.Formats.{some_is, IsBytes-drop, IsBytes-take}
+use Rattle.cw_fields.proofs.Formats.{some_is, IsBytes-take}
 use Rattle.cw_view.specs.declared.fault.ObjFault.{ObjFault}
 use Rattle.cw_view.specs.ObjectFormat.{IsObject, IsFirstObjectFault}
 use Rattle.cw_view.proofs.Unique.{one_fault}
@@ -19,7 +19,7 @@ use Rattle.cw_lib.specs.declared.fault.LibFault.TheVariants.{NotLibrary, BadVers
 use Rattle.cw_lib.specs.LibraryFormat.{Bytes, mark, header, start, IsNumber, IsMember, member_bytes, front_bytes, library_bytes, IsLibrary, FailsBehind, no_length, cut, no_object, trailing, IsFirstLibraryFault, not_library, no_version, other_version, no_number, bad_number, behind}
 use Rattle.cw_lib.specs.Reading.{first_member, members_in}
 use Rattle.cw_lib.specs.Uniqueness.{HasOneLibrary, HasOneFault, HasNotBoth}
-use Rattle.cw_lib.proofs.Members.{reads_member, in_front, members_again, IsCut, in_length, in_member, cut_is_none, rest_fits}
+use Rattle.cw_lib.proofs.Members.{reads_member, in_front, members_again, in_length, in_member, cut_is_none, rest_fits}
 
 -- ---- behind the first members
 

@@ -1,5 +1,5 @@
 -- Bytes are one library, or have one first fault.
-use Rattle.std.specs.Prelude.{◌≡◌, ◌<◌, ℕ, List, All}
+use Rattle.std.specs.Prelude.{◌≡◌, ◌<◌, List, All}
 use Rattle.cw_lib.specs.declared.fault.LibFault.{LibFault}
 use Rattle.cw_lib.specs.LibraryFormat.{Bytes, IsLibrary, IsFirstLibraryFault}
 

@@ -1,5 +1,5 @@
 use Rattle.std.proofs.Common.{◌∙◌, sym, arith, ◌-◌}
-use Rattle.cw_lib.proofs.Members.{none_past, none_there, next_there, first_there}
+use Rattle.cw_lib.proofs.Members.{none_past, none_there, next_there}
 use Rattle.cw_lib.proofs.library.Lib.member.Goals as goal
 
 pub returns-then-self-k : goal.returns-then-self-k
