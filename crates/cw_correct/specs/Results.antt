@@ -1,5 +1,5 @@
 -- What the actions promise that run nothing: `map` and `list` write their result to `out`; `compile`, `link`, `lib`, `migrate` and `hex` write it to a file.
-use Rattle.std.specs.Prelude.{◌≡◌, ◌⊎◌, ℕ, ◌<◌, ◌≤◌, List, [], ◌∷◌, ◌++◌, length, map, take, drop, slice_index_or, codes}
+use Rattle.std.specs.Prelude.{◌≡◌, ◌⊎◌, ℕ, ◌<◌, List, [], ◌∷◌, ◌++◌, length, map, take, drop, codes}
 use Rattle.cw_io.specs.Bytes.{after_told}
 use Rattle.cw_io.specs.Count.{Rose}
 use Rattle.cw_io.specs.File.{as_file, KeptOrWhole, OthersStay, AllStay}
@@ -12,23 +12,20 @@ use Rattle.cw_link.specs.declared.fault.LinkFault.{LinkFault}
 use Rattle.cw_image.specs.ImageFormat.{image_bytes}
 use Rattle.cw_image.specs.declared.image.Image.{Image}
 use Rattle.cw_lib.specs.LibraryFormat.{library_bytes}
-use Rattle.cw_lib.specs.Selection.{IsSelection}
 use Rattle.cw_hex.specs.HexText.{hex_text}
 use Rattle.cw_object.specs.ObjectContents.{contents_in}
 use Rattle.cw_obj.specs.Migration.{IsMigrated}
 use Rattle.cw_build.specs.Compiled.{object_of}
 use Rattle.cw_build.specs.Linking.{AreLinked, IsFault, Links, IsLinkFault, map_text}
-use Rattle.cw_files.specs.Texts.{HasUnit, HasObject, HasLinkable, HasImage, object_limit}
-use Rattle.cw_files.specs.declared.linkables.Linkable.{Linkable}
-use Rattle.cw_files.specs.declared.linkables.Linkable.TheVariants.{Object as AnObject, Library as ALibrary}
-use Rattle.cw_files.specs.Reading.{HaveBytes, HaveValues, AllTaken, StopsTexts, StopsObjects, StopsLinkables, StopsImages}
+use Rattle.cw_files.specs.Texts.{HasUnit, HasObject, HasImage, object_limit}
+use Rattle.cw_files.specs.Reading.{HaveBytes, HaveValues, AllTaken, StopsTexts, StopsObjects, StopsImages}
 use Rattle.cw_correct.specs.Calls.{Call, told_files, first_name, NoFault, SameCounts, IsUntouched, IsUnwritten}
 use Rattle.cw_correct.specs.Files.{counts_before, counts_after, AllAccepted}
 use Rattle.cw_correct.specs.Saying.{SaysLast}
 use Rattle.cw_correct.specs.Going.{HasCause}
 use Rattle.cw_correct.specs.Meaning.{TellBytes}
 use Rattle.cw_say.specs.declared.status.Status.{Status}
-use Rattle.cw_say.specs.declared.status.Status.TheVariants.{Ended, Unlinked, NoFile, Outside, NoMemory, BadFile, TooLong, TooMany}
+use Rattle.cw_say.specs.declared.status.Status.TheVariants.{Ended, Unlinked, NoFile, Outside, NoMemory, BadFile, TooLong}
 use Rattle.cw_say.specs.declared.status.Which.TheVariants.{Store, Out}
 use Rattle.cw_say.specs.declared.status.Long.TheVariants.{File}
 
@@ -131,61 +128,24 @@ pub record CompilesRight (c : Call) (status : Status) : Type 0 where
 abbrev pub all_contents : (objects : List (List ℕ)) → List Contents
 all_contents objects = map contents_in objects
 
--- the objects that are given, and the members of the libraries, each in order
-abbrev pub objects_among : List Linkable → List (List ℕ)
-objects_among [] = []
-objects_among (AnObject object ∷ files) = object ∷ objects_among files
-objects_among (ALibrary members ∷ files) = objects_among files
+abbrev pub LinkComes : Call → (texts objects : List (List ℕ)) → Status → Type 0
+LinkComes c texts objects Ended = AllAccepted c objects × AreLinked (all_contents objects) c.limits
+LinkComes c texts objects (Outside Store) = Rose c.before.store_faults c.after.store_faults
+LinkComes c texts objects (Unlinked fault) = AllAccepted c objects × IsFault (all_contents objects) c.limits fault
+LinkComes c texts objects status = StopsObjects (told_files c) texts (length objects) (counts_before c) (counts_after c) status
 
-abbrev pub members_among : List Linkable → List (List ℕ)
-members_among [] = []
-members_among (AnObject object ∷ files) = members_among files
-members_among (ALibrary members ∷ files) = members ++ members_among files
-
--- Where every file is a library, the first member of the first one is the one object that is given.
-abbrev pub given_or_first : (objects members : List (List ℕ)) → List (List ℕ)
-given_or_first [] members = take 1 members
-given_or_first objects members = objects
-
-abbrev pub given_objects : List Linkable → List (List ℕ)
-given_objects files = given_or_first (objects_among files) (members_among files)
-
--- the given objects, and behind them the members with these numbers
-abbrev pub objects_with : List Linkable → (picked : List ℕ) → List (List ℕ)
-objects_with files picked = given_objects files ++ map (λ k. slice_index_or (members_among files) k []) picked
-
--- The objects that are linked, where each file was read and accepted: the given ones, and the members of the least closed set.
-pub record AreToLink (c : Call) (files : List Linkable) (objects : List (List ℕ)) : Type 0 where
-  pub accepted : AllAccepted c files
-  pub picked : List ℕ
-  pub selection : IsSelection (given_objects files) (members_among files) picked
-  pub objects_are : objects ≡ objects_with files picked
-
--- and are not more than 200, and link
-abbrev pub AreLinkable : Call → List Linkable → (objects : List (List ℕ)) → Type 0
-AreLinkable c files objects = AreToLink c files objects × (length objects ≤ 200) × AreLinked (all_contents objects) c.limits
-
-abbrev pub LinkComes : Call → (texts : List (List ℕ)) → List Linkable → (objects : List (List ℕ)) → Status → Type 0
-LinkComes c texts files objects Ended = AreLinkable c files objects
-LinkComes c texts files objects (Outside Store) = Rose c.before.store_faults c.after.store_faults
-LinkComes c texts files objects (TooMany count) = AreToLink c files objects × (count ≡ length objects) × (200 < count)
-LinkComes c texts files objects (Unlinked fault) = AreToLink c files objects × (length objects ≤ 200) × IsFault (all_contents objects) c.limits fault
-LinkComes c texts files objects status = StopsLinkables (told_files c) texts (length files) (counts_before c) (counts_after c) status
-
--- the image of the files' objects, and of the members of their libraries that these need, in the file `A.IMG`
+-- the image of the files' objects, in the file `A.IMG`
 pub record LinksRight (c : Call) (status : Status) : Type 0 where
   pub texts : List (List ℕ)
-  pub files : List Linkable
   pub objects : List (List ℕ)
   pub have_bytes : HaveBytes object_limit (told_files c) texts
-  pub have_files : HaveValues HasLinkable texts files
-  pub comes : LinkComes c texts files objects status
+  pub have_objects : HaveValues HasObject texts objects
+  pub comes : LinkComes c texts objects status
   pub says : SaysLast c.before c.after c.names [] status
-  pub writes : WritesFile c (codes "A.IMG") (image_bytes (linked_image (all_contents objects) c.limits)) (AreLinkable c files objects) status
+  pub writes : WritesFile c (codes "A.IMG") (image_bytes (linked_image (all_contents objects) c.limits)) (AllAccepted c objects × AreLinked (all_contents objects) c.limits) status
   pub untouched : IsUntouched c.before c.after
   pub unwritten : IsUnwritten c.before c.after
-  pub completes : (told : List (List ℕ)) (files : List Linkable) (objects : List (List ℕ)) → TellBytes (told_files c) told → AllTaken object_limit HasLinkable (told_files c) files → AreLinkable c files objects
-      → NoFault c.before c.after → IsDone status
+  pub completes : (told objects : List (List ℕ)) → TellBytes (told_files c) told → AllTaken object_limit HasObject (told_files c) objects → AreLinked (all_contents objects) c.limits → NoFault c.before c.after → IsDone status
 
 -- ---- lib
 

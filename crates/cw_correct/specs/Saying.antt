@@ -5,7 +5,7 @@ use Rattle.cw_io.specs.Count.{Rose}
 use Rattle.cw_say.specs.Said.{Says}
 use Rattle.cw_say.specs.Closing.{closing_line}
 use Rattle.cw_say.specs.declared.status.Status.{Status}
-use Rattle.cw_say.specs.declared.status.Status.TheVariants.{Usage, Refused, Unlinked, NoFile, Outside, NoMemory, BadFile, TooLong, TooMany}
+use Rattle.cw_say.specs.declared.status.Status.TheVariants.{Usage, Refused, Unlinked, NoFile, Outside, NoMemory, BadFile, TooLong}
 use Rattle.cw_say.specs.declared.status.Which.TheVariants.{Store, Say}
 use Rattle.cw_say.specs.declared.status.Long.TheVariants.{File}
 use Rattle.cw_correct.specs.Calls.{Surroundings}
@@ -18,7 +18,6 @@ IsFirstPart text faults middle (Refused number fault) first = first ≡ []
 IsFirstPart text faults middle (Unlinked fault) first = first ≡ []
 IsFirstPart text faults middle (NoFile number) first = first ≡ []
 IsFirstPart text faults middle (BadFile number fault) first = first ≡ []
-IsFirstPart text faults middle (TooMany count) first = first ≡ []
 IsFirstPart text faults middle (Outside Store) first = first ≡ []
 IsFirstPart text faults middle (TooLong (File number)) first = first ≡ []
 IsFirstPart text faults middle NoMemory first = first ≡ []

@@ -9,8 +9,7 @@ use Rattle.cw_list.specs.Rows.{layouts_of}
 use Rattle.cw_compile.specs.declared.fault.Refusal.{Refusal}
 use Rattle.cw_compile.specs.Texts.{text_limit, IsRefused}
 use Rattle.cw_build.specs.Compiled.{object_of}
-use Rattle.cw_files.specs.Texts.{HasUnit, HasObject, HasLinkable, HasRunnable, HasImage, IsBad, IsBadLinkable, IsBadRunnable, object_limit}
-use Rattle.cw_files.specs.declared.linkables.Linkable.{Linkable}
+use Rattle.cw_files.specs.Texts.{HasUnit, HasObject, HasRunnable, HasImage, IsBad, IsBadRunnable, object_limit}
 use Rattle.cw_files.specs.declared.images.Runnable.{Runnable}
 use Rattle.cw_image.specs.declared.image.Image.{Image}
 use Rattle.cw_say.specs.declared.status.Bad.{Bad}
@@ -89,10 +88,6 @@ abbrev pub StopsObjects : List Told → (texts : List (List ℕ)) → (taken : �
 StopsObjects files texts taken before after (BadFile number (Object fault)) = (number ≡ taken) × IsBadAt IsBad (slice_get texts number) (Object fault)
 StopsObjects files texts taken before after status = IsUnread object_limit files taken before after status
 
-abbrev pub StopsLinkables : List Told → (texts : List (List ℕ)) → (taken : ℕ) → (before after : Counts) → Status → Type 0
-StopsLinkables files texts taken before after (BadFile number fault) = (number ≡ taken) × IsBadAt IsBadLinkable (slice_get texts number) fault
-StopsLinkables files texts taken before after status = IsUnread object_limit files taken before after status
-
 abbrev pub StopsRunnables : List Told → (texts : List (List ℕ)) → (taken : ℕ) → (before after : Counts) → Status → Type 0
 StopsRunnables files texts taken before after (BadFile number fault) = (number ≡ taken) × IsBadAt IsBadRunnable (slice_get texts number) fault
 StopsRunnables files texts taken before after status = IsUnread object_limit files taken before after status
@@ -125,11 +120,6 @@ AnswersUnits files before after (Err status) = Stopped text_limit HasUnit (λ te
 abbrev pub AnswersObjects : List Told → (before after : Counts) → Result (List (List ℕ)) Status → Type 0
 AnswersObjects files before after (Ok objects) = AllTaken object_limit HasObject files objects × SameCounts before after
 AnswersObjects files before after (Err status) = Stopped object_limit HasObject (λ texts taken. StopsObjects files texts taken before after status) files
-
--- of the files of `link`
-abbrev pub AnswersLinkables : List Told → (before after : Counts) → Result (List Linkable) Status → Type 0
-AnswersLinkables files before after (Ok linkables) = AllTaken object_limit HasLinkable files linkables × SameCounts before after
-AnswersLinkables files before after (Err status) = Stopped object_limit HasLinkable (λ texts taken. StopsLinkables files texts taken before after status) files
 
 -- of the one file of `exec`
 abbrev pub AnswersRunnable : Told → (before after : Counts) → Result Runnable Status → Type 0

@@ -5,9 +5,8 @@ use Rattle.cw_unit.specs.declared.unit.Unit.{Unit as SourceUnit}
 use Rattle.cw_compile.specs.Texts.{text_limit}
 use Rattle.cw_build.specs.Building.{IsMadeOf}
 use Rattle.cw_say.specs.declared.status.Status.{Status}
-use Rattle.cw_files.specs.Texts.{HasUnit, HasObject, HasLinkable, object_limit}
-use Rattle.cw_files.specs.Reading.{HaveBytes, HaveValues, Counts, SameCounts, Stopped, StopsTexts, StopsObjects, StopsLinkables}
-use Rattle.cw_files.specs.declared.linkables.Linkable.{Linkable}
+use Rattle.cw_files.specs.Texts.{HasUnit, HasObject, object_limit}
+use Rattle.cw_files.specs.Reading.{HaveBytes, HaveValues, Counts, SameCounts, Stopped, StopsTexts, StopsObjects}
 use Rattle.cw_files.specs.declared.segments.Segment.{Segment}
 
 -- the first files were taken as these values
@@ -21,11 +20,6 @@ pub record Takes {X : Type 0} (limit : ℕ) (Accepts : List ℕ → X → Type 0
 abbrev pub AnswersUnit : List Told → List SourceUnit → (before after : Counts) → Result Segment Status → Type 0
 AnswersUnit files us before after (Ok segment) = Takes text_limit HasUnit files (us ++ segment.unit ∷ []) × IsMadeOf segment.unit segment.made × SameCounts before after
 AnswersUnit files us before after (Err status) = Stopped text_limit HasUnit (λ texts taken. StopsTexts files texts taken before after status) files
-
--- the same behind these files of `link`
-abbrev pub AnswersLinkable : List Told → List Linkable → (before after : Counts) → Result Linkable Status → Type 0
-AnswersLinkable files linkables before after (Ok linkable) = Takes object_limit HasLinkable files (linkables ++ linkable ∷ []) × SameCounts before after
-AnswersLinkable files linkables before after (Err status) = Stopped object_limit HasLinkable (λ texts taken. StopsLinkables files texts taken before after status) files
 
 -- the same behind these objects
 abbrev pub AnswersObject : List Told → (objects : List (List ℕ)) → (before after : Counts) → Result (List ℕ) Status → Type 0

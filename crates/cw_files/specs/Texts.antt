@@ -1,10 +1,9 @@
--- What is taken from a file, by its bytes: the unit of a text, an object or a library for the linker, or what runs; and why a file is refused.
+-- What is taken from a file, by its bytes: the unit of a text, what a linker takes from an object, or what runs; and why a file is refused.
 use Rattle.std.specs.Prelude.{◌≡◌, ◌≢◌, ◌<◌, ℕ, Bool, true, false, List, [], take, codes, All, Ok, Err}
 use Rattle.std.specs.Str.{bytes_eq}
 use Rattle.cw_unit.specs.declared.unit.Unit.{Unit as SourceUnit}
 use Rattle.cw_view.specs.ObjectFormat.{IsObject, IsFirstObjectFault}
 use Rattle.cw_i86.specs.MachineRun.{IsStart}
-use Rattle.cw_lib.specs.LibraryFormat.{mark, IsLibrary, IsFirstLibraryFault}
 use Rattle.cw_hex.specs.HexTold.{TellsHex, IsFirstHexFault}
 use Rattle.cw_image.specs.ImageFormat.{image_in}
 use Rattle.cw_image.specs.declared.image.Image.{Image}
@@ -13,9 +12,7 @@ use Rattle.cw_link.specs.Contents.{Contents}
 use Rattle.cw_object.specs.ObjectContents.{contents_in}
 use Rattle.cw_compile.specs.Texts.{IsUnitOf}
 use Rattle.cw_say.specs.declared.status.Bad.{Bad}
-use Rattle.cw_say.specs.declared.status.Bad.TheVariants.{Object, Image as BadImage, Library, Hex}
-use Rattle.cw_files.specs.declared.linkables.Linkable.{Linkable}
-use Rattle.cw_files.specs.declared.linkables.Linkable.TheVariants.{Object as AnObject, Library as ALibrary}
+use Rattle.cw_say.specs.declared.status.Bad.TheVariants.{Object, Image as BadImage, Hex}
 use Rattle.cw_files.specs.declared.images.Runnable.{Runnable}
 
 -- the most bytes of an object or an image
@@ -43,27 +40,11 @@ HasImage bytes image = image_in bytes ≡ Ok image
 abbrev pub HasObject : (bytes : List ℕ) → List ℕ → Type 0
 HasObject bytes object = IsObject bytes × (object ≡ bytes)
 
--- why the bytes of a file are no object, image, library or HEX text: the first thing that is wrong with them
+-- why the bytes of a file are no object, image or HEX text: the first thing that is wrong with them
 abbrev pub IsBad : (bytes : List ℕ) → Bad → Type 0
 IsBad bytes (Object fault) = IsFirstObjectFault bytes fault
 IsBad bytes (BadImage fault) = (image_in bytes ≡ Err fault) × (fault ≢ images.NoMemory)
-IsBad bytes (Library fault) = IsFirstLibraryFault bytes fault
 IsBad bytes (Hex fault) = IsFirstHexFault bytes fault
-
--- ---- files of `link`
-
--- Bytes that begin with the mark of libraries are taken for a library, all others for an object.
-abbrev pub begins_library : (bytes : List ℕ) → Bool
-begins_library bytes = bytes_eq (take 4 bytes) mark
-
-abbrev pub HasLinkable : (bytes : List ℕ) → Linkable → Type 0
-HasLinkable bytes (AnObject object) = (begins_library bytes ≡ false) × HasObject bytes object
-HasLinkable bytes (ALibrary members) = (begins_library bytes ≡ true) × IsLibrary bytes members
-
-abbrev pub IsBadLinkable : (bytes : List ℕ) → Bad → Type 0
-IsBadLinkable bytes (Object fault) = (begins_library bytes ≡ false) × IsBad bytes (Object fault)
-IsBadLinkable bytes (Library fault) = (begins_library bytes ≡ true) × IsBad bytes (Library fault)
-IsBadLinkable bytes _ = ⊥
 
 -- ---- files of `exec`
 

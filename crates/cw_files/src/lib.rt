@@ -3,12 +3,10 @@
 
 mod bytes;
 mod images;
-mod linkables;
 mod objects;
 pub mod segments;
 
 pub use bytes::read_bytes;
 pub use images::{Runnable, read_image_file, read_runnable};
-pub use linkables::{Linkable, read_linkables};
 pub use objects::read_objects;
 pub use segments::{Segment, Segments};

@@ -29,7 +29,7 @@ fn check_object(bytes: &[u8], number: u16) -> Result<(), Status>
 }
 
 // The object that the bytes of the file with this number are.
-pub(crate) fn object_of(bytes: Vec<u8>, number: u16) -> Result<List<u8>, Status>
+fn object_of(bytes: Vec<u8>, number: u16) -> Result<List<u8>, Status>
     ensures object { IfOk result (λ object. HasObject bytes.items object) }
     ensures stops { (told : Sequence Told) (texts : Sequence (Sequence ℕ)) (before after : Counts) → slice_get texts number ≡ Some bytes.items → IfErr result (λ status. StopsObjects told texts number before after status) }
 {

@@ -1,7 +1,7 @@
 -- The number of each status, and the line that closes what is told of a run.
 use Rattle.std.specs.Prelude.{ℕ, ◌-◌, ◌==◌, List, [], ◌++◌, Option, None, Some, slice_get, slice_index_or, codes, decimal, if◌then◌else◌}
 use Rattle.cw_say.specs.declared.status.Status.{Status}
-use Rattle.cw_say.specs.declared.status.Status.TheVariants.{Ended, Usage, Refused, Unlinked, Stopped, Unfinished, NoFile, Outside, NoMemory, BadFile, TooLong, BadCode, Divided, TooMany}
+use Rattle.cw_say.specs.declared.status.Status.TheVariants.{Ended, Usage, Refused, Unlinked, Stopped, Unfinished, NoFile, Outside, NoMemory, BadFile, TooLong, BadCode, Divided}
 use Rattle.cw_link.specs.declared.fault.LinkFault.{LinkFault}
 use Rattle.cw_link.specs.declared.fault.LinkFault.TheVariants.{SegmentTwice, Differs, DefinedTwice, Undefined, AbsoluteOutside, DataTooBig, ControlTooBig, PresetClash, CodeTooBig}
 use Rattle.cw_link.specs.declared.fault.LinkFault.TheVariants as linking
@@ -9,8 +9,6 @@ use Rattle.cw_view.specs.declared.fault.ObjFault.{ObjFault}
 use Rattle.cw_view.specs.declared.fault.ObjFault.TheVariants as objects
 use Rattle.cw_image.specs.declared.fault.ImageFault.{ImageFault}
 use Rattle.cw_image.specs.declared.fault.ImageFault.TheVariants as images
-use Rattle.cw_lib.specs.declared.fault.LibFault.{LibFault}
-use Rattle.cw_lib.specs.declared.fault.LibFault.TheVariants as libraries
 use Rattle.cw_hex.specs.declared.fault.HexFault.{HexFault}
 use Rattle.cw_hex.specs.declared.fault.HexFault.TheVariants as hex
 use Rattle.cw_say.specs.declared.status.Bad.{Bad}
@@ -49,7 +47,6 @@ status_code (BadFile file fault) = 9
 status_code (TooLong long) = 10
 status_code (BadCode offset) = 11
 status_code (Divided offset) = 12
-status_code (TooMany count) = 13
 
 -- the file with this number
 abbrev pub file_name : (names : List (List ℕ)) → ℕ → List ℕ
@@ -185,28 +182,6 @@ image_line (images.BadField place) = bad_place (codes "I4 BadField") place
 image_line (images.Trailing place) = bad_place (codes "I5 Trailing") place
 image_line images.NoMemory = bad_line (codes "NoMemory")
 
--- behind the number of a member: what is wrong with it, and where, if that has a place
-abbrev pub bad_member : (number : ℕ) → (what : List ℕ) → List ℕ
-bad_member number what = codes ": B5 BadMember " ++ (decimal number ++ (codes " " ++ (what ++ codes "\n")))
-
-abbrev pub bad_member_place : (number : ℕ) → (what : List ℕ) → (place : ℕ) → List ℕ
-bad_member_place number what place = codes ": B5 BadMember " ++ (decimal number ++ (codes " " ++ (what ++ (codes " " ++ (decimal place ++ codes "\n")))))
-
-abbrev pub member_line : (number : ℕ) → ObjFault → List ℕ
-member_line number objects.NotObject = bad_member number (codes "O1 NotObject")
-member_line number objects.BadVersion = bad_member number (codes "O2 BadVersion")
-member_line number (objects.Truncated place) = bad_member_place number (codes "O3 Truncated") place
-member_line number (objects.BadRecord place) = bad_member_place number (codes "O4 BadRecord") place
-member_line number (objects.Trailing place) = bad_member_place number (codes "O5 Trailing") place
-
-abbrev pub library_line : LibFault → List ℕ
-library_line libraries.NotLibrary = bad_line (codes "B1 NotLibrary")
-library_line libraries.BadVersion = bad_line (codes "B2 BadVersion")
-library_line (libraries.Truncated place) = bad_place (codes "B3 Truncated") place
-library_line (libraries.BadField place) = bad_place (codes "B4 BadField") place
-library_line (libraries.BadMember number fault) = member_line number fault
-library_line (libraries.Trailing place) = bad_place (codes "B6 Trailing") place
-
 abbrev pub hex_line : HexFault → List ℕ
 hex_line (hex.BadLine line) = bad_place (codes "X1 BadLine") line
 hex_line (hex.BadSum line) = bad_place (codes "X2 BadSum") line
@@ -218,7 +193,6 @@ hex_line hex.NoMemory = bad_line (codes "NoMemory")
 abbrev pub bad_file_line : Bad → List ℕ
 bad_file_line (bad.Object fault) = object_line fault
 bad_file_line (bad.Image fault) = image_line fault
-bad_file_line (bad.Library fault) = library_line fault
 bad_file_line (bad.Hex fault) = hex_line fault
 
 abbrev pub long_name : List (List ℕ) → Long → List ℕ
@@ -241,4 +215,3 @@ closing_line names segments (BadFile file fault) = file_name names file ++ bad_f
 closing_line names segments (TooLong long) = codes "too long: " ++ long_name names long ++ codes "\n"
 closing_line names segments (BadCode offset) = codes "bad code: " ++ decimal offset ++ codes "\n"
 closing_line names segments (Divided offset) = codes "divided: " ++ decimal offset ++ codes "\n"
-closing_line names segments (TooMany count) = codes "too many: " ++ decimal count ++ codes "\n"

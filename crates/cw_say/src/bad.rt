@@ -1,14 +1,13 @@
 // The lines that tell what is wrong with bytes that are not what an action takes.
 ghost use Rattle.std.specs.Prelude.{◌++◌, decimal, codes};
 ghost use Rattle.cw_say.specs.Said.{Writes};
-ghost use Rattle.cw_say.specs.Closing.{bad_line, bad_place, bad_member, bad_member_place, object_line, image_line, member_line, library_line, hex_line, bad_file_line};
+ghost use Rattle.cw_say.specs.Closing.{bad_line, bad_place, object_line, image_line, hex_line, bad_file_line};
 
 use crate::saying::write_line;
 use crate::status::Bad;
 use cw_hex::HexFault;
 use cw_image::ImageFault;
 use cw_io::{Failed, Sink};
-use cw_lib::LibFault;
 use cw_view::ObjFault;
 
 // Writes what is wrong with a file, and the place of it, if there is one.
@@ -51,67 +50,6 @@ fn write_image_fault<S: Sink>(say: &mut S, file: &[u8], fault: &ImageFault) -> R
     }
 }
 
-// Writes what is wrong with a member of a library.
-fn write_wrong_member<S: Sink>(
-    say: &mut S,
-    file: &[u8],
-    member: u16,
-    what: &[u8],
-) -> Result<(), Failed>
-    ensures { Writes (S.held say.old) (S.held say.new) (S.faults say.old) (S.faults say.new) (file.now ++ bad_member member what.now) result }
-{
-    let mut buffer = itoa::Buffer::new();
-    let digits = buffer.format(member).as_bytes();
-    write_line(say, &[file, b": B5 BadMember ", digits, b" ", what, b"\n"])
-}
-
-// And the place of it.
-fn write_member_place<S: Sink>(
-    say: &mut S,
-    file: &[u8],
-    member: u16,
-    what: &[u8],
-    place: u64,
-) -> Result<(), Failed>
-    ensures { Writes (S.held say.old) (S.held say.new) (S.faults say.old) (S.faults say.new) (file.now ++ bad_member_place member what.now place) result }
-{
-    let mut buffer = itoa::Buffer::new();
-    let mut place_buffer = itoa::Buffer::new();
-    let number = buffer.format(member).as_bytes();
-    let digits = place_buffer.format(place).as_bytes();
-    write_line(say, &[file, b": B5 BadMember ", number, b" ", what, b" ", digits, b"\n"])
-}
-
-fn write_member_fault<S: Sink>(
-    say: &mut S,
-    file: &[u8],
-    member: u16,
-    fault: &ObjFault,
-) -> Result<(), Failed>
-    ensures { Writes (S.held say.old) (S.held say.new) (S.faults say.old) (S.faults say.new) (file.now ++ member_line member fault.now) result }
-{
-    match fault {
-        ObjFault::NotObject => write_wrong_member(say, file, member, b"O1 NotObject"),
-        ObjFault::BadVersion => write_wrong_member(say, file, member, b"O2 BadVersion"),
-        ObjFault::Truncated { at } => write_member_place(say, file, member, b"O3 Truncated", *at),
-        ObjFault::BadRecord { at } => write_member_place(say, file, member, b"O4 BadRecord", *at),
-        ObjFault::Trailing { at } => write_member_place(say, file, member, b"O5 Trailing", *at),
-    }
-}
-
-fn write_library_fault<S: Sink>(say: &mut S, file: &[u8], fault: &LibFault) -> Result<(), Failed>
-    ensures { Writes (S.held say.old) (S.held say.new) (S.faults say.old) (S.faults say.new) (file.now ++ library_line fault.now) result }
-{
-    match fault {
-        LibFault::NotLibrary => write_wrong(say, file, b"B1 NotLibrary"),
-        LibFault::BadVersion => write_wrong(say, file, b"B2 BadVersion"),
-        LibFault::Truncated { at } => write_place(say, file, b"B3 Truncated", *at),
-        LibFault::BadField { at } => write_place(say, file, b"B4 BadField", *at),
-        LibFault::BadMember { member, fault } => write_member_fault(say, file, *member, fault),
-        LibFault::Trailing { at } => write_place(say, file, b"B6 Trailing", *at),
-    }
-}
-
 fn write_hex_fault<S: Sink>(say: &mut S, file: &[u8], fault: &HexFault) -> Result<(), Failed>
     ensures { Writes (S.held say.old) (S.held say.new) (S.faults say.old) (S.faults say.new) (file.now ++ hex_line fault.now) result }
 {
@@ -131,7 +69,6 @@ pub(crate) fn write_bad<S: Sink>(say: &mut S, file: &[u8], fault: &Bad) -> Resul
     match fault {
         Bad::Object(fault) => write_object_fault(say, file, fault),
         Bad::Image(fault) => write_image_fault(say, file, fault),
-        Bad::Library(fault) => write_library_fault(say, file, fault),
         Bad::Hex(fault) => write_hex_fault(say, file, fault),
     }
 }

@@ -2,7 +2,6 @@
 use cw_compile::Refusal;
 use cw_hex::HexFault;
 use cw_image::ImageFault;
-use cw_lib::LibFault;
 pub use cw_link::LinkFault;
 use cw_view::ObjFault;
 
@@ -35,8 +34,6 @@ pub enum Status {
     BadCode { offset: u16 },
     /// A quotient of the machine faults.
     Divided { offset: u16 },
-    /// The objects and the members of libraries that are needed are more than 200.
-    TooMany { count: u32 },
 }
 
 /// The first thing that is wrong with bytes; never want of memory.
@@ -46,8 +43,6 @@ pub enum Bad {
     Object(ObjFault),
     /// They are no image.
     Image(ImageFault),
-    /// They are no library.
-    Library(LibFault),
     /// They are no HEX text.
     Hex(HexFault),
 }
@@ -90,7 +85,6 @@ impl Status {
             Status::TooLong(_) => 10,
             Status::BadCode { .. } => 11,
             Status::Divided { .. } => 12,
-            Status::TooMany { .. } => 13,
         }
     }
 }
