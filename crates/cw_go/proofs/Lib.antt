@@ -7,3 +7,4 @@ pub mod Given
 pub mod Called
 pub mod Promised
 pub mod OneStatus
+pub mod Apart

@@ -1,3 +1,4 @@
 pub mod Runs
 pub mod Goes
 pub mod Laws
+pub mod Apart

@@ -1,8 +1,9 @@
 //! What a call promises that runs texts, from how it goes; and that no two statuses come of one call.
+ghost use Rattle.cw_go.specs.Apart.{LinksWhatRuns, LinksAsMigrated};
 ghost use Rattle.cw_go.specs.Laws.{KeepsPromise, IsRightIdle, HasOneStatus};
 
 use cw_build::laws::linked_units;
-use cw_build_laws::laws::loaded;
+use cw_build_laws::laws::{loaded, separate_objects};
 use cw_compile::laws::one_outcome;
 use cw_cpu86::laws::{one_observation, one_start};
 use cw_sim::laws::preservation;
@@ -38,4 +39,12 @@ pub fn one_status_of_texts()
     one_outcome();
     one_start();
     one_observation();
+}
+
+/// What is compiled apart and linked is what runs of the texts together, and a migrated list links to the image of the list.
+pub fn apart()
+    ensures compiled { LinksWhatRuns }
+    ensures migrated { LinksAsMigrated }
+{
+    separate_objects();
 }
