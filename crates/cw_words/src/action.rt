@@ -15,7 +15,6 @@ pub enum Action {
     Big,
     Lib,
     Hex,
-    Depth,
 }
 
 // The action of a name.
@@ -34,7 +33,6 @@ pub(crate) fn action_of(name: &str) -> Option<Action>
         "big" => Some(Action::Big),
         "lib" => Some(Action::Lib),
         "hex" => Some(Action::Hex),
-        "depth" => Some(Action::Depth),
         _ => None,
     }
 }
@@ -54,7 +52,7 @@ pub(crate) fn most_names_of(action: Action) -> usize
     ensures { result ≡ most_names action }
 {
     match action {
-        Action::Go | Action::Link | Action::Map | Action::Depth => 200,
+        Action::Go | Action::Link | Action::Map => 200,
         // the name of the library, and its objects
         Action::Lib => 201,
         _ => 1,
