@@ -1,5 +1,5 @@
--- A run of an image answers its call as it is to.
-use Rattle.std.proofs.Common.{◌≡◌, ◌≢◌, ℕ, ◌+◌, ◌<◌, ◌≤◌, Bool, false, List, [], length, take, Option, Some, None, refl, sym, ap, ◌∙◌, subst, arith, append-nil}
+-- A run answers its call as it is to.
+use Rattle.std.proofs.Common.{◌≡◌, ◌≢◌, ℕ, ◌+◌, ◌<◌, ◌≤◌, Bool, true, false, List, [], length, take, Option, Some, None, refl, sym, ap, ◌∙◌, subst, arith, append-nil}
 use Rattle.std.specs.Prelude.{All}
 use Rattle.std.proofs.lemmas.List.Elements.{All-nil}
 use Rattle.cw_io.specs.Bytes.{before_told, after_told}
@@ -10,10 +10,9 @@ use Rattle.cw_ports.specs.Pieces.{input_limit}
 use Rattle.cw_ports.specs.Running as ports
 use Rattle.cw_ports.specs.declared.running.ImageEnd.{ImageEnd}
 use Rattle.cw_ports.specs.declared.running.ImageEnd.TheVariants as ends
-use Rattle.cw_image.specs.declared.image.Image.{Image}
 use Rattle.cw_correct.specs.Calls.{Surroundings, Call}
 use Rattle.cw_correct.specs.Closing.{Closes}
-use Rattle.cw_correct.specs.Running.{ImageShows, ImageReads, Tells, Ran, OutFailed, Cut, RunsImage, Leaves, ReadsInput}
+use Rattle.cw_correct.specs.Running.{Begins, ImageShows, ImageReads, Tells, Ran, OutFailed, Cut, RunsImage, Leaves, ReadsInput}
 use Rattle.cw_say.specs.declared.status.Status.{Status}
 use Rattle.cw_say.specs.declared.status.Status.TheVariants.{Ended, Stopped, Unfinished, TooLong, BadCode, Divided}
 use Rattle.cw_say.specs.declared.status.Long.TheVariants as long
@@ -43,34 +42,40 @@ HasCause c input ends.TooLong = ports.Taken c.before.left c.after.left (input_li
 HasCause c input end = Unit {0}
 
 -- what a call shows of a run that ends so, and what it reads
-pub record Answers (c : Call) (input : List ℕ) (image : Image) (end : ImageEnd) : Type 0 where
+pub record Answers (c : Call) (input : List ℕ) (begins : Begins) (end : ImageEnd) : Type 0 where
   pub instructions : ℕ
   pub shown : run.Observed
-  pub runs_image : RunsImage c input image instructions shown (status_of c.steps end)
-  pub read_ahead : ReadsInput c input image instructions shown (status_of c.steps end)
+  pub runs_image : RunsImage c input begins instructions shown (status_of c.steps end)
+  pub read_ahead : ReadsInput c input begins instructions shown (status_of c.steps end)
   pub within_limit : status_of c.steps end ≢ TooLong long.Input → ports.TakenWithin c.before.left c.after.left
   pub cause : HasCause c input end
 
 -- for the surroundings when the run is over, of which only what is said changes until the call is closed
-module _ (c : Call) (b : Surroundings) (input : List ℕ) (image : Image) (names segments : List (List ℕ)) (start : State) (is_start : run.IsStart image.code image.words start) where
-  abbrev image_shows : (n : ℕ) (o : run.Observed) → run.Shows start input n o → ImageShows image input n o
+module _ (c : Call) (b : Surroundings) (input : List ℕ) (begins : Begins) (names segments : List (List ℕ)) (start : State) (is_start : begins start) where
+  abbrev image_shows : (n : ℕ) (o : run.Observed) → run.Shows start input n o → ImageShows begins input n o
   image_shows n o shows = record { start = start; is_start = is_start; shows = shows }
 
-  leaves : (n : ℕ) (o : run.Observed) (is_asking : Bool) → ports.Ran start input n c.before.left b.left is_asking o → c.after.left ≡ b.left → Leaves c input image n o is_asking
+  leaves : (n : ℕ) (o : run.Observed) (is_asking : Bool) → ports.Ran start input n c.before.left b.left is_asking o → c.after.left ≡ b.left → Leaves c input begins n o is_asking
   leaves n o is_asking x same = record {
     shows = image_shows n o x.shows;
-    ahead = subst (λ l. ports.ReadsAhead x.shows.events c.before.left l is_asking) (sym same) x.ahead;
+    ahead = record {
+      hand = x.ahead.hand;
+      piece = x.ahead.piece;
+      rest = x.ahead.rest ∙ ap (before_told x.ahead.hand) (sym same);
+      untouched = λ none. same ∙ x.ahead.untouched none;
+    };
+    asks = x.asks;
   }
 
   took : ports.TakenWithin c.before.left b.left → c.after.left ≡ b.left → ports.TakenWithin c.before.left c.after.left
   took taken same = subst (λ l. ports.TakenWithin c.before.left l) (sym same) taken
 
-  cut : (n : ℕ) (o : run.Observed) → n < c.steps → run.Shows start input n o → o.end ≡ run.Running → c.after.out ≡ after_told c.before.out o.output → Cut c input image n o
+  cut : (n : ℕ) (o : run.Observed) → n < c.steps → run.Shows start input n o → o.end ≡ run.Running → c.after.out ≡ after_told c.before.out o.output → Cut c input begins n o
   cut n o few shows running output = record { within = few; shows = image_shows n o shows; running = running; output = output }
 
   module _ (same_faults : b.store_faults ≡ c.before.store_faults) (same_absences : b.absences ≡ c.before.absences) (same_say : b.say_faults ≡ c.before.say_faults) where
     ran : (status : Status) (o : run.Observed) → run.Shows start input c.steps o → Tells c.steps status o.end → b.out ≡ after_told c.before.out o.output → b.input_faults ≡ c.before.input_faults → b.out_faults ≡ c.before.out_faults
-        → Closes b c.after names segments status → Ran c input image c.steps o status
+        → Closes b c.after names segments status → Ran c input begins c.steps o status
     ran status o shows tells output quiet_input quiet_out closes = record {
       all = refl;
       shows = image_shows c.steps o shows;
@@ -83,7 +88,7 @@ module _ (c : Call) (b : Surroundings) (input : List ℕ) (image : Image) (names
       no_say_fault = λ e. closes.ended e ∙ same_say;
     }
 
-    pub answers : (end : ImageEnd) → ports.RunShows end start input c.steps (image_side c.before) (image_side b) → Closes b c.after names segments (status_of c.steps end) → Answers c input image end
+    pub answers : (end : ImageEnd) → ports.RunShows end start input c.steps (image_side c.before) (image_side b) → Closes b c.after names segments (status_of c.steps end) → Answers c input begins end
     answers ends.Ended (o, x, told, output, taken, quiet_input, quiet_out) closes = record {
       instructions = c.steps;
       shown = o;
@@ -124,11 +129,11 @@ module _ (c : Call) (b : Surroundings) (input : List ℕ) (image : Image) (names
       within_limit = λ other. took taken closes.left;
       cause = tt;
     }
-    answers ends.InputFault (x, taken, rose) closes = record {
+    answers ends.InputFault ((x, dry), taken, rose) closes = record {
       instructions = x.n;
       shown = x.shown;
       runs_image = cut x.n x.shown x.within x.ran.shows x.running (closes.out ∙ x.output);
-      read_ahead = (x.is_asking, leaves x.n x.shown x.is_asking x.ran closes.left);
+      read_ahead = (leaves x.n x.shown true x.ran closes.left, dry);
       within_limit = λ other. took taken closes.left;
       cause = subst (λ k. Rose c.before.input_faults k) (sym closes.input_faults) rose;
     }
@@ -136,7 +141,7 @@ module _ (c : Call) (b : Surroundings) (input : List ℕ) (image : Image) (names
       instructions = x.n;
       shown = x.shown;
       runs_image = (cut x.n x.shown x.within x.ran.shows x.running (closes.out ∙ x.output), long_input);
-      read_ahead = (x.is_asking, leaves x.n x.shown x.is_asking x.ran closes.left);
+      read_ahead = leaves x.n x.shown true x.ran closes.left;
       within_limit = λ other. absurd (other refl);
       cause = (subst (λ l. ports.Taken c.before.left l (input_limit + 1)) (sym closes.left) taken, long_input);
     }

@@ -6,23 +6,21 @@ use Rattle.cw_i86.specs.State.{State}
 use Rattle.cw_i86.specs.MachineRun as run
 use Rattle.cw_ports.specs.Pieces.{input_limit}
 use Rattle.cw_ports.specs.Running.{Taken, TakenWithin}
-use Rattle.cw_image.specs.declared.image.Image.{Image}
-use Rattle.cw_image.specs.declared.fault.ImageFault.{ImageFault}
-use Rattle.cw_files.specs.Texts.{HasImage, IsBad, object_limit}
-use Rattle.cw_files.specs.Reading.{HaveBytes, HaveValues, IsLongerAt, IsBadAt, StopsImages}
+use Rattle.cw_files.specs.declared.images.Runnable.{Runnable}
+use Rattle.cw_files.specs.Texts.{HasRunnable, IsBadRunnable, object_limit}
+use Rattle.cw_files.specs.Reading.{HaveBytes, HaveValues, IsLongerAt, IsBadAt, StopsRunnables}
 use Rattle.cw_correct.specs.Calls.{Call, told_files, NoFault}
 use Rattle.cw_correct.specs.Files.{counts_before, counts_after}
 use Rattle.cw_correct.specs.Running.{ImageShows, Tells, Ran}
-use Rattle.cw_correct.specs.Executing.{first_image, ExecutesRight}
+use Rattle.cw_correct.specs.Executing.{begins_first, ExecutesRight}
 use Rattle.cw_say.specs.declared.status.Status.{Status}
-use Rattle.cw_say.specs.declared.status.Status.TheVariants.{Ended, Usage, Refused, Unlinked, Stopped, Unfinished, NoFile, Outside, NoMemory, BadFile, TooLong, BadCode, Divided}
+use Rattle.cw_say.specs.declared.status.Status.TheVariants.{Ended, Usage, Refused, Unlinked, Stopped, Unfinished, NoFile, Outside, NoMemory, BadFile, TooLong, BadCode, Divided, TooMany}
 use Rattle.cw_say.specs.declared.status.Bad.{Bad}
-use Rattle.cw_say.specs.declared.status.Bad.TheVariants as bad
 use Rattle.cw_say.specs.declared.status.Which.TheVariants.{Store, Input, Out, Say}
 use Rattle.cw_say.specs.declared.status.Long.TheVariants.{File}
 use Rattle.cw_say.specs.declared.status.Long.TheVariants as long
 use Rattle.cw_exec.specs.Laws.{HasOneStatus}
-use Rattle.cw_exec.proofs.Files.{image_not_bad}
+use Rattle.cw_exec.proofs.Files.{not_bad, one_runnable, one_bad}
 use Rattle.cw_exec.proofs.InOrder.{one_text, none_behind, Blocks, Ends, one_list}
 
 -- the state that begins with an image is one, and so is what shows of its run
@@ -48,25 +46,13 @@ taken_once left (Some rest) told m n is (xs, same, count) (ys, also, other) =
     bytes_of None = []
     bytes_of (Some bytes) = bytes
 
--- ---- bytes
-
-one_image : (bytes : List ℕ) (a b : Image) → HasImage bytes a → HasImage bytes b → a ≡ b
-one_image bytes a b x y =
-    let both : ◌≡◌ {A = Result Image ImageFault} (Ok a) (Ok b) = sym x ∙ y in
-    cc (both)
-
-one_bad : (bytes : List ℕ) (f g : ImageFault) → IsBad bytes (bad.Image f) → IsBad bytes (bad.Image g) → f ≡ g
-one_bad bytes f g x y =
-    let both : ◌≡◌ {A = Result Image ImageFault} (Err f) (Err g) = sym x.0 ∙ y.0 in
-    cc (both)
-
 -- ---- the file that is not taken
 
 -- the status of a file with this number that is told
 abbrev OfFile : Told → ℕ → Status → Type 0
 OfFile file n s =
     ((text : List ℕ) × (file ≡ Some (Some text)) × (object_limit < length text) × (s ≡ TooLong (File n)))
-    ⊎ ((text : List ℕ) × (file ≡ Some (Some text)) × (length text ≤ object_limit) × ((fault : ImageFault) × IsBad text (bad.Image fault) × (s ≡ BadFile n (bad.Image fault))))
+    ⊎ ((text : List ℕ) × (file ≡ Some (Some text)) × (length text ≤ object_limit) × ((fault : Bad) × IsBadRunnable text fault × (s ≡ BadFile n fault)))
 
 abbrev OfFileAt : Option Told → ℕ → Status → Type 0
 OfFileAt None n s = ⊥
@@ -78,20 +64,21 @@ same_bytes file text bytes told is = cc (told, is)
 same_text : (file : Told) (text other : List ℕ) → file ≡ Some (Some text) → file ≡ Some (Some other) → other ≡ text
 same_text file text other told also = cc (told, also)
 
-blocks : (file : Told) (n : ℕ) (s : Status) → OfFile file n s → (bytes : List ℕ) (image : Image) → Is file bytes → length bytes ≤ object_limit → HasImage bytes image → ⊥
-blocks file n s (inl (text, told, over, e)) bytes image is within reads = absurd (omega (arith, over, within, ap length (same_bytes file text bytes told is)))
-blocks file n s (inr (text, told, few, (fault, wrong, e))) bytes image is within reads = image_not_bad text image fault (subst (λ t. HasImage t image) (same_bytes file text bytes told is) reads) wrong
+module _ (runs : OneRun) where
+  blocks : (file : Told) (n : ℕ) (s : Status) → OfFile file n s → (bytes : List ℕ) (runnable : Runnable) → Is file bytes → length bytes ≤ object_limit → HasRunnable bytes runnable → ⊥
+  blocks file n s (inl (text, told, over, e)) bytes runnable is within tells = absurd (omega (arith, over, within, ap length (same_bytes file text bytes told is)))
+  blocks file n s (inr (text, told, few, (fault, wrong, e))) bytes runnable is within tells = not_bad text runnable fault (subst (λ t. HasRunnable t runnable) (same_bytes file text bytes told is) tells) wrong
 
-blocks_at : (file : Option Told) (n : ℕ) (s : Status) → OfFileAt file n s → Blocks object_limit HasImage one_image file
-blocks_at None n s x = x
-blocks_at (Some file) n s x = blocks file n s x
+  blocks_at : (file : Option Told) (n : ℕ) (s : Status) → OfFileAt file n s → Blocks object_limit HasRunnable (one_runnable runs.starts) file
+  blocks_at None n s x = x
+  blocks_at (Some file) n s x = blocks file n s x
 
 one_of_file : (file : Told) (n : ℕ) (s t : Status) → OfFile file n s → OfFile file n t → s ≡ t
 one_of_file file n s t (inl (text, told, over, e)) (inl (other, also, more, f)) = e ∙ sym f
 one_of_file file n s t (inl (text, told, over, e)) (inr (other, also, few, y)) = absurd (omega (arith, over, few, ap length (same_text file text other told also)))
 one_of_file file n s t (inr (text, told, few, x)) (inl (other, also, over, f)) = absurd (omega (arith, over, few, ap length (same_text file text other told also)))
 one_of_file file n s t (inr (text, told, few, (p, x, e))) (inr (other, also, too, (q, y, f))) =
-    e ∙ ap (λ z. BadFile n (bad.Image z)) (one_bad text p q x (subst (λ r. IsBad r (bad.Image q)) (same_text file text other told also) y)) ∙ sym f
+    e ∙ ap (λ z. BadFile n z) (one_bad text p q x (subst (λ r. IsBadRunnable r q) (same_text file text other told also) y)) ∙ sym f
 
 one_of_file_at : (file : Option Told) (n : ℕ) (s t : Status) → OfFileAt file n s → OfFileAt file n t → s ≡ t
 one_of_file_at None n s t x y = absurd x
@@ -109,8 +96,8 @@ longer_at (y ∷ ys) (suc k) n over = longer_at ys k n over
 told_bytes : (y : Option (List ℕ)) (bytes : List ℕ) → Is (Some y) bytes → ◌≡◌ {A = Told} (Some y) (Some (Some bytes))
 told_bytes y bytes is = is
 
-bad_at : (found : List (Option (List ℕ))) (texts : List (List ℕ)) (k n : ℕ) (fault : ImageFault) → HaveBytes object_limit (map Some found) texts → IsBadAt (slice_get texts k) (bad.Image fault)
-    → OfFileAt (slice_get (map Some found) k) n (BadFile n (bad.Image fault))
+bad_at : (found : List (Option (List ℕ))) (texts : List (List ℕ)) (k n : ℕ) (fault : Bad) → HaveBytes object_limit (map Some found) texts → IsBadAt IsBadRunnable (slice_get texts k) fault
+    → OfFileAt (slice_get (map Some found) k) n (BadFile n fault)
 bad_at found [] zero n fault have wrong = absurd wrong
 bad_at found [] (suc k) n fault have wrong = absurd wrong
 bad_at [] (text ∷ texts) k n fault have wrong = absurd have
@@ -120,68 +107,67 @@ bad_at (y ∷ ys) (text ∷ texts) (suc k) n fault have wrong = bad_at ys texts 
 -- ---- of a call
 
 module _ (runs : OneRun) (c : Call) (input : List ℕ) where
-  -- what comes of an image
-  abbrev OfRun : Image → Status → Type 0
-  OfRun image s =
-      (((o : run.Observed) × ImageShows image input c.steps o × Tells c.steps s o.end) × TakenWithin c.before.left c.after.left)
+  -- what comes of a run
+  abbrev OfRun : List Runnable → Status → Type 0
+  OfRun runnables s =
+      (((o : run.Observed) × ImageShows (begins_first runnables) input c.steps o × Tells c.steps s o.end) × TakenWithin c.before.left c.after.left)
       ⊎ ((s ≡ TooLong long.Input) × Taken c.before.left c.after.left (input_limit + 1))
 
   pub record OfCall (found : List (Option (List ℕ))) (s : Status) : Type 0 where
     texts : List (List ℕ)
-    images : List Image
+    runnables : List Runnable
     have : HaveBytes object_limit (map Some found) texts
-    values : HaveValues HasImage texts images
-    ends : ((length images ≡ length (map Some found)) × OfRun (first_image images) s) ⊎ OfFileAt (slice_get (map Some found) (length images)) (length images) s
+    values : HaveValues HasRunnable texts runnables
+    ends : ((length runnables ≡ length (map Some found)) × OfRun runnables s) ⊎ OfFileAt (slice_get (map Some found) (length runnables)) (length runnables) s
 
   module _ (found : List (Option (List ℕ))) (told : told_files c ≡ map Some found) (quiet : NoFault c.before c.after) where
-    all_of : (images : List Image) → length images ≡ length c.names → length images ≡ length (map Some found)
-    all_of images all = all ∙ sym (length-map c.names c.before.files) ∙ ap length told
+    all_of : (runnables : List Runnable) → length runnables ≡ length c.names → length runnables ≡ length (map Some found)
+    all_of runnables all = all ∙ sym (length-map c.names c.before.files) ∙ ap length told
 
-    abbrev Stops : (texts : List (List ℕ)) → (images : List Image) → Status → Type 0
-    Stops texts images s = StopsImages (map Some found) texts (length images) (counts_before c) (counts_after c) s
+    abbrev Stops : (texts : List (List ℕ)) → (runnables : List Runnable) → Status → Type 0
+    Stops texts runnables s = StopsRunnables (map Some found) texts (length runnables) (counts_before c) (counts_after c) s
 
-    stops : (s : Status) (x : ExecutesRight c input s) → StopsImages (told_files c) x.texts (length x.images) (counts_before c) (counts_after c) s → Stops x.texts x.images s
-    stops s x is = subst (λ files. StopsImages files x.texts (length x.images) (counts_before c) (counts_after c) s) told is
+    stops : (s : Status) (x : ExecutesRight c input s) → StopsRunnables (told_files c) x.texts (length x.runnables) (counts_before c) (counts_after c) s → Stops x.texts x.runnables s
+    stops s x is = subst (λ files. StopsRunnables files x.texts (length x.runnables) (counts_before c) (counts_after c) s) told is
 
     bytes : (s : Status) (x : ExecutesRight c input s) → HaveBytes object_limit (map Some found) x.texts
     bytes s x = subst (λ files. HaveBytes object_limit files x.texts) told x.have_bytes
 
-    of_run : (s : Status) (x : ExecutesRight c input s) → length x.images ≡ length c.names → Ran c input (first_image x.images) x.instructions x.shown s → OfCall found s
+    of_run : (s : Status) (x : ExecutesRight c input s) → length x.runnables ≡ length c.names → Ran c input (begins_first x.runnables) x.instructions x.shown s → OfCall found s
     of_run s x all ran = record {
       texts = x.texts;
-      images = x.images;
+      runnables = x.runnables;
       have = bytes s x;
-      values = x.have_images;
+      values = x.have_runnables;
       ends = inl (
-        all_of x.images all,
-        inl ((x.shown, subst (λ n. ImageShows (first_image x.images) input n x.shown) ran.all ran.shows, ran.tells), x.within_limit (not_too_long c.steps s x.shown.end ran.tells)),
+        all_of x.runnables all,
+        inl ((x.shown, subst (λ n. ImageShows (begins_first x.runnables) input n x.shown) ran.all ran.shows, ran.tells), x.within_limit (not_too_long c.steps s x.shown.end ran.tells)),
       );
     }
 
-    of_file : (s : Status) (x : ExecutesRight c input s) → OfFileAt (slice_get (map Some found) (length x.images)) (length x.images) s → OfCall found s
-    of_file s x is = record { texts = x.texts; images = x.images; have = bytes s x; values = x.have_images; ends = inr is }
+    of_file : (s : Status) (x : ExecutesRight c input s) → OfFileAt (slice_get (map Some found) (length x.runnables)) (length x.runnables) s → OfCall found s
+    of_file s x is = record { texts = x.texts; runnables = x.runnables; have = bytes s x; values = x.have_runnables; ends = inr is }
 
     pub of_call : (s : Status) → s ≢ NoMemory → ExecutesRight c input s → OfCall found s
-    of_call (BadFile number (bad.Image fault)) other x =
-        let (is, wrong) = stops (BadFile number (bad.Image fault)) x x.comes in
-        let at : IsBadAt (slice_get x.texts (length x.images)) (bad.Image fault) = subst (λ k. IsBadAt (slice_get x.texts k) (bad.Image fault)) is wrong in
-        of_file (BadFile number (bad.Image fault)) x
-        (subst (λ n. OfFileAt (slice_get (map Some found) (length x.images)) (length x.images) (BadFile n (bad.Image fault))) (sym is) (bad_at found x.texts (length x.images) (length x.images) fault (bytes _ x) at))
-    of_call (BadFile number (bad.Object fault)) other x = absurd x.comes
+    of_call (BadFile number fault) other x =
+        let (is, wrong) = stops (BadFile number fault) x x.comes in
+        let at : IsBadAt IsBadRunnable (slice_get x.texts (length x.runnables)) fault = subst (λ k. IsBadAt IsBadRunnable (slice_get x.texts k) fault) is wrong in
+        of_file (BadFile number fault) x
+        (subst (λ n. OfFileAt (slice_get (map Some found) (length x.runnables)) (length x.runnables) (BadFile n fault)) (sym is) (bad_at found x.texts (length x.runnables) (length x.runnables) fault (bytes _ x) at))
     of_call (NoFile number) other x =
         let (is, none, rose) = stops (NoFile number) x x.comes in
         absurd (quiet.absences rose)
     of_call (TooLong (File number)) other x =
         let (is, over) = stops (TooLong (File number)) x x.comes in
-        let at : IsLongerAt (slice_get (map Some found) (length x.images)) object_limit = subst (λ k. IsLongerAt (slice_get (map Some found) k) object_limit) is over in
+        let at : IsLongerAt (slice_get (map Some found) (length x.runnables)) object_limit = subst (λ k. IsLongerAt (slice_get (map Some found) k) object_limit) is over in
         of_file (TooLong (File number)) x
-        (subst (λ n. OfFileAt (slice_get (map Some found) (length x.images)) (length x.images) (TooLong (File n))) (sym is) (longer_at found (length x.images) (length x.images) at))
+        (subst (λ n. OfFileAt (slice_get (map Some found) (length x.runnables)) (length x.runnables) (TooLong (File n))) (sym is) (longer_at found (length x.runnables) (length x.runnables) at))
     of_call (TooLong long.Input) other x = record {
       texts = x.texts;
-      images = x.images;
+      runnables = x.runnables;
       have = bytes _ x;
-      values = x.have_images;
-      ends = inl (all_of x.images x.comes.0, inr (refl, x.comes.1));
+      values = x.have_runnables;
+      ends = inl (all_of x.runnables x.comes.0, inr (refl, x.comes.1));
     }
     of_call (Outside Store) other x = absurd (quiet.store x.comes)
     of_call (Outside Input) other x = absurd (quiet.input x.comes.1)
@@ -196,6 +182,7 @@ module _ (runs : OneRun) (c : Call) (input : List ℕ) where
     of_call (Unfinished count) other x = of_run (Unfinished count) x x.comes x.runs_image
     of_call (BadCode offset) other x = of_run (BadCode offset) x x.comes x.runs_image
     of_call (Divided offset) other x = of_run (Divided offset) x x.comes x.runs_image
+    of_call (TooMany count) other x = absurd x.comes
 
   -- ---- one of two
 
@@ -221,6 +208,7 @@ module _ (runs : OneRun) (c : Call) (input : List ℕ) where
   tells_one NoMemory end e = absurd e
   tells_one (BadFile number fault) end e = absurd e
   tells_one (TooLong long) end e = absurd e
+  tells_one (TooMany count) end e = absurd e
 
   -- the source tells its bytes where one of two statuses is that of an input that is too long
   abbrev Telling : Status → Status → Type 0
@@ -231,44 +219,48 @@ module _ (runs : OneRun) (c : Call) (input : List ℕ) where
       let same : count ≡ input_limit + 1 = taken_once c.before.left c.after.left told count (input_limit + 1) is taken over in
       omega (arith, within, same)
 
-  one_of_run : (image : Image) (s t : Status) → Telling s t → OfRun image s → OfRun image t → s ≡ t
-  one_of_run image s t telling (inl ((o, x, tells), within)) (inl ((q, y, told), too)) =
-      let start : x.start ≡ y.start = runs.starts image.code image.words x.start y.start x.is_start y.is_start in
+  one_start : (runnables : List Runnable) (s t : State) → begins_first runnables s → begins_first runnables t → s ≡ t
+  one_start [] s t x y = absurd x
+  one_start (runnable ∷ runnables) s t x y = x ∙ sym y
+
+  one_of_run : (runnables : List Runnable) (s t : Status) → Telling s t → OfRun runnables s → OfRun runnables t → s ≡ t
+  one_of_run runnables s t telling (inl ((o, x, tells), within)) (inl ((q, y, told), too)) =
+      let start : x.start ≡ y.start = one_start runnables x.start y.start x.is_start y.is_start in
       let same : o ≡ q = runs.once y.start input c.steps o q (subst (λ z. run.Shows z input c.steps o) start x.shows) y.shows in
       tells_one s o.end tells ∙ ap (λ z. told_by z.end) same ∙ sym (tells_one t q.end told)
-  one_of_run image s t telling (inl (ran, within)) (inr (f, taken)) =
+  one_of_run runnables s t telling (inl (ran, within)) (inr (f, taken)) =
       let told = telling (inr f) in
       absurd (too_many told.0 told.1 within taken)
-  one_of_run image s t telling (inr (e, taken)) (inl (ran, within)) =
+  one_of_run runnables s t telling (inr (e, taken)) (inl (ran, within)) =
       let told = telling (inl e) in
       absurd (too_many told.0 told.1 within taken)
-  one_of_run image s t telling (inr (e, taken)) (inr (f, too)) = e ∙ sym f
+  one_of_run runnables s t telling (inr (e, taken)) (inr (f, too)) = e ∙ sym f
 
-  ends_of : (found : List (Option (List ℕ))) (s : Status) (x : OfCall found s) → Ends object_limit HasImage one_image (map Some found) x.images
+  ends_of : (found : List (Option (List ℕ))) (s : Status) (x : OfCall found s) → Ends object_limit HasRunnable (one_runnable runs.starts) (map Some found) x.runnables
   ends_of found s x = at x.ends
     where
-      at : ((length x.images ≡ length (map Some found)) × OfRun (first_image x.images) s) ⊎ OfFileAt (slice_get (map Some found) (length x.images)) (length x.images) s
-          → Ends object_limit HasImage one_image (map Some found) x.images
+      at : ((length x.runnables ≡ length (map Some found)) × OfRun x.runnables s) ⊎ OfFileAt (slice_get (map Some found) (length x.runnables)) (length x.runnables) s
+          → Ends object_limit HasRunnable (one_runnable runs.starts) (map Some found) x.runnables
       at (inl (all, ran)) = inl all
-      at (inr is) = inr (blocks_at (slice_get (map Some found) (length x.images)) (length x.images) s is)
+      at (inr is) = inr (blocks_at runs (slice_get (map Some found) (length x.runnables)) (length x.runnables) s is)
 
   -- no file lies behind all of them
   none_left : (found : List (Option (List ℕ))) (n : ℕ) (s : Status) → n ≡ length (map Some found) → OfFileAt (slice_get (map Some found) n) n s → ⊥
   none_left found n s all is = subst (λ file. OfFileAt file n s) (none_behind (map Some found) n (omega (arith, all))) is
 
-  abbrev EndsSo : List (Option (List ℕ)) → List Image → Status → Type 0
-  EndsSo found images s = ((length images ≡ length (map Some found)) × OfRun (first_image images) s) ⊎ OfFileAt (slice_get (map Some found) (length images)) (length images) s
+  abbrev EndsSo : List (Option (List ℕ)) → List Runnable → Status → Type 0
+  EndsSo found runnables s = ((length runnables ≡ length (map Some found)) × OfRun runnables s) ⊎ OfFileAt (slice_get (map Some found) (length runnables)) (length runnables) s
 
-  one_end : (found : List (Option (List ℕ))) (images : List Image) (s t : Status) → Telling s t → EndsSo found images s → EndsSo found images t → s ≡ t
-  one_end found images s t telling (inl (all, ran)) (inl (also, too)) = one_of_run (first_image images) s t telling ran too
-  one_end found images s t telling (inl (all, ran)) (inr is) = absurd (none_left found (length images) t all is)
-  one_end found images s t telling (inr is) (inl (all, ran)) = absurd (none_left found (length images) s all is)
-  one_end found images s t telling (inr is) (inr also) = one_of_file_at (slice_get (map Some found) (length images)) (length images) s t is also
+  one_end : (found : List (Option (List ℕ))) (runnables : List Runnable) (s t : Status) → Telling s t → EndsSo found runnables s → EndsSo found runnables t → s ≡ t
+  one_end found runnables s t telling (inl (all, ran)) (inl (also, too)) = one_of_run runnables s t telling ran too
+  one_end found runnables s t telling (inl (all, ran)) (inr is) = absurd (none_left found (length runnables) t all is)
+  one_end found runnables s t telling (inr is) (inl (all, ran)) = absurd (none_left found (length runnables) s all is)
+  one_end found runnables s t telling (inr is) (inr also) = one_of_file_at (slice_get (map Some found) (length runnables)) (length runnables) s t is also
 
   pub one_of_call : (found : List (Option (List ℕ))) (s t : Status) → Telling s t → OfCall found s → OfCall found t → s ≡ t
   one_of_call found s t telling x y =
-      let same : x.images ≡ y.images = one_list object_limit HasImage one_image found x.texts y.texts x.images y.images x.have x.values (ends_of found s x) y.have y.values (ends_of found t y) in
-      one_end found y.images s t telling (subst (λ images. EndsSo found images s) same x.ends) y.ends
+      let same : x.runnables ≡ y.runnables = one_list object_limit HasRunnable (one_runnable runs.starts) found x.texts y.texts x.runnables y.runnables x.have x.values (ends_of found s x) y.have y.values (ends_of found t y) in
+      one_end found y.runnables s t telling (subst (λ runnables. EndsSo found runnables s) same x.ends) y.ends
 
 pub one_status : OneRun → HasOneStatus
 one_status runs c input s t found told quiet other also telling x y =

@@ -1,19 +1,17 @@
--- How an image was run, as the functions of this crate tell each other.
-use Rattle.std.specs.Prelude.{◌≡◌, ◌⊎◌, ℕ}
+-- How a run went, as the functions of this crate tell each other.
+use Rattle.std.specs.Prelude.{◌≡◌, ℕ}
 use Rattle.cw_i86.specs.State.{State}
-use Rattle.cw_i86.specs.MachineRun as run
 use Rattle.cw_ports.specs.Running.{Outside, outside, RunTells}
 use Rattle.cw_ports.specs.declared.running.ImageEnd.{ImageEnd}
 use Rattle.cw_ports.specs.declared.running.ImageEnd.TheVariants as ends
-use Rattle.cw_image.specs.declared.image.Image.{Image}
 use Rattle.cw_correct.specs.Calls.{Surroundings}
 use Rattle.cw_say.specs.declared.status.Status.{Status}
-use Rattle.cw_say.specs.declared.status.Status.TheVariants.{Ended, Stopped, Unfinished, NoMemory, TooLong, BadCode, Divided}
+use Rattle.cw_say.specs.declared.status.Status.TheVariants.{Ended, Stopped, Unfinished, TooLong, BadCode, Divided}
 use Rattle.cw_say.specs.declared.status.Status.TheVariants as statuses
 use Rattle.cw_say.specs.declared.status.Which.TheVariants.{Input, Out}
 use Rattle.cw_say.specs.declared.status.Long.TheVariants as long
 
--- the part of the surroundings that an image uses
+-- the part of the surroundings that a run uses
 abbrev pub image_side : Surroundings → Outside
 image_side s = outside s.left s.input_faults s.out s.out_faults
 
@@ -28,14 +26,8 @@ status_of steps ends.InputFault = statuses.Outside Input
 status_of steps ends.OutFault = statuses.Outside Out
 status_of steps ends.TooLong = TooLong long.Input
 
--- the image was started and ran
-pub record RunsTo (image : Image) (steps : ℕ) (a b : Outside) (status : Status) : Type 0 where
-  pub start : State
-  pub is_start : run.IsStart image.code image.words start
+-- it ran from this state, and the status tells how it ended
+pub record Runs (start : State) (steps : ℕ) (a b : Outside) (status : Status) : Type 0 where
   pub end : ImageEnd
   pub is : status ≡ status_of steps end
   pub tells : RunTells end start steps a b
-
--- or there was no memory to start it
-abbrev pub Runs : Image → (steps : ℕ) → (a b : Outside) → Status → Type 0
-Runs image steps a b status = ((status ≡ NoMemory) × (b ≡ a)) ⊎ RunsTo image steps a b status

@@ -2,14 +2,13 @@
 ghost use Rattle.std.specs.Prelude.{◌≡◌, ◌≤◌, ◌∷◌, [], length, map};
 ghost use Rattle.cw_ports.specs.Running.{outside};
 ghost use Rattle.cw_place.specs.Placement.{IsLimits};
-ghost use Rattle.cw_image.specs.ImageFormat.{IsImage};
 ghost use Rattle.cw_words.specs.declared.action.Action.TheVariants.{Exec};
 ghost use Rattle.cw_correct.specs.Calls.{surroundings_of, call_as};
 ghost use Rattle.cw_correct.specs.Correct.{IsCorrectCall};
 ghost use Rattle.cw_exec.specs.Runs.{status_of, Runs};
 
-use cw_files::read_image_file;
-use cw_image::{Image, load};
+use cw_cpu86::Cpu;
+use cw_files::read_runnable;
 use cw_io::{Sink, Source, Store};
 use cw_ports::{ImageEnd, run_image};
 use cw_say::{Long, Status, Which, write_last};
@@ -40,21 +39,12 @@ fn status_of(end: ImageEnd, steps: u64) -> Status
     }
 }
 
-// Starts the image and runs it.
-fn run<I: Source, O: Sink>(
-    alloc: Global,
-    image: &Image,
-    steps: u64,
-    input: &mut I,
-    out: &mut O,
-) -> Status
-    requires { IsImage image.now }
-    ensures { Runs image.now steps (outside (I.left input.old) (I.faults input.old) (O.held out.old) (O.faults out.old)) (outside (I.left input.new) (I.faults input.new) (O.held out.new) (O.faults out.new)) result }
+// Runs from where the processor begins.
+fn run<I: Source, O: Sink>(cpu: Cpu, steps: u64, input: &mut I, out: &mut O) -> Status
+    ensures { Runs cpu steps (outside (I.left input.old) (I.faults input.old) (O.held out.old) (O.faults out.old)) (outside (I.left input.new) (I.faults input.new) (O.held out.new) (O.faults out.new)) result }
 {
-    match load(alloc, image) {
-        Ok(mut cpu) => status_of(run_image(&mut cpu, input, out, steps), steps),
-        Err(_) => Status::NoMemory,
-    }
+    let mut cpu = cpu;
+    status_of(run_image(&mut cpu, input, out, steps), steps)
 }
 
 // The action on the file of this name, which is the one of the names.
@@ -72,10 +62,10 @@ fn exec_file<F: Store, I: Source, O: Sink, S: Sink>(
     requires { map (λ name. name.now) names.now ≡ name.now ∷ [] }
     ensures { IsCorrectCall (call_as Exec limits.now steps (map (λ name. name.now) names.now) (surroundings_of (F.file files.old) (F.faults files.old) (F.absences files.old) (I.left input.old) (I.faults input.old) (O.held out.old) (O.faults out.old) (S.held say.old) (S.faults say.old)) (surroundings_of (F.file files.new) (F.faults files.new) (F.absences files.new) (I.left input.new) (I.faults input.new) (O.held out.new) (O.faults out.new) (S.held say.new) (S.faults say.new))) result }
 {
-    match read_image_file(alloc, files, name) {
-        Ok(image) => {
-            let status = run(alloc, &image, steps, input, out);
-            let _ = write_last(say, names, image.names.as_slice(), &status);
+    match read_runnable(alloc, files, name) {
+        Ok(runnable) => {
+            let status = run(runnable.cpu, steps, input, out);
+            let _ = write_last(say, names, runnable.names.as_slice(), &status);
             status
         }
         Err(status) => {
@@ -85,7 +75,7 @@ fn exec_file<F: Store, I: Source, O: Sink, S: Sink>(
     }
 }
 
-/// Reads the image, runs it, and closes with the line of the status.
+/// Reads the image or the HEX text, runs it, and closes with the line of the status.
 pub fn exec<F: Store, I: Source, O: Sink, S: Sink>(
     alloc: Global,
     names: &[&str],

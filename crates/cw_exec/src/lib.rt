@@ -1,4 +1,4 @@
-//! The action `exec`: the run of an image from its file.
+//! The action `exec`: the run of what its file tells, an image or a HEX text.
 #![tactic(auto)]
 
 mod executing;

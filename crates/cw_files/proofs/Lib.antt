@@ -1,2 +1,3 @@
 pub mod Taking
 pub mod Next
+mod Runnables

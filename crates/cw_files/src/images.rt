@@ -71,10 +71,7 @@ fn loaded(alloc: Global, image: Image) -> Result<Runnable, Status>
 fn begins_hex(bytes: &[u8]) -> bool
     ensures { result ≡ begins_hex bytes.now }
 {
-    match bytes.first() {
-        Some(b':') => true,
-        _ => false,
-    }
+    bytes.starts_with(b":")
 }
 
 // What the bytes of the first file tell as a HEX text.

@@ -64,7 +64,7 @@ module _ (given : OneOfText) (c : Call) where
         let all : AllAccepted c us = x.all ∙ length-map c.names c.before.files in
         make x.texts us x.have_bytes x.have_values
         (gives_file (λ t. CompileComes c x.texts us t) (first_name c ++ codes ".SEG") (first_object us) between (files_at c.after.files c.after.store_faults c.after.absences)
-        (λ y. all) (λ y. subst (λ faults. Rose faults c.after.store_faults) same.0 y.1) (λ y. tt) s gives)
+        (λ y. all) (λ y. subst (λ faults. Rose faults c.after.store_faults) same.0 y.2) (λ y. tt) s gives)
         (writes_file c untouched (first_name c ++ codes ".SEG") (first_object us) (AllAccepted c us) s all unwritten between stay same closed gives)
 
   -- ---- one status

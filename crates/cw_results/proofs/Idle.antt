@@ -1,7 +1,8 @@
 -- A call that did nothing but say that memory was wanted keeps its promise.
 use Rattle.std.proofs.Common.{[]}
-use Rattle.cw_correct.specs.Results.{MapsRight, ShowsRight, CompilesRight, LinksRight, MigratesRight}
+use Rattle.cw_correct.specs.Results.{MapsRight, ShowsRight, CompilesRight, LinksRight, MigratesRight, HexesRight}
 use Rattle.cw_results.specs.Idle.{AllowsIdle}
+use Rattle.cw_results.proofs.Hexes as hexing
 
 pub maps : AllowsIdle MapsRight
 maps c idle = record {
@@ -75,4 +76,7 @@ migrates c idle = record {
   completes = λ told objects tell taken quiet. tt;
 }
 
-pub ruleset laws = (maps, shows, compiles, links, migrates)
+pub hexes : AllowsIdle HexesRight
+hexes c x = hexing.idle c x
+
+pub ruleset laws = (maps, shows, compiles, links, migrates, hexes)

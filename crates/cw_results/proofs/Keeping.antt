@@ -2,7 +2,7 @@
 use Rattle.std.proofs.Common.{◌≡◌, ◌≢◌, ℕ, ◌≤◌, List, [], ◌++◌, Option, Some, None, refl, sym, ap, ◌∙◌, subst, inl, inr, arith, append-nil}
 use Rattle.cw_io.specs.Bytes.{after_told}
 use Rattle.cw_io.specs.Count.{Rose}
-use Rattle.cw_io.specs.File.{as_file, AllStay, OthersStay}
+use Rattle.cw_io.specs.File.{Told, as_file, AllStay, KeptOrWhole, OthersStay}
 use Rattle.cw_say.specs.Said.{Says}
 use Rattle.cw_say.specs.Closing.{closing_line}
 use Rattle.cw_files.specs.Reading.{SameCounts as CountsStand}
@@ -13,7 +13,7 @@ use Rattle.cw_correct.specs.Results.{WritesOut, WritesFile}
 use Rattle.cw_results.specs.Closed.{IsClosed, Files, files_at, Out, out_at}
 use Rattle.cw_results.specs.Written.{GivesOut, GivesFile}
 use Rattle.cw_say.specs.declared.status.Status.{Status}
-use Rattle.cw_say.specs.declared.status.Status.TheVariants.{Ended, Usage, Refused, Unlinked, Stopped, Unfinished, NoFile, Outside, NoMemory, BadFile, TooLong, BadCode, Divided}
+use Rattle.cw_say.specs.declared.status.Status.TheVariants.{Ended, Usage, Refused, Unlinked, Stopped, Unfinished, NoFile, Outside, NoMemory, BadFile, TooLong, BadCode, Divided, TooMany}
 use Rattle.cw_say.specs.declared.status.Which.TheVariants.{Store, Input, Out as ToOut, Say}
 use Rattle.cw_say.specs.declared.status.Long.TheVariants.{File}
 use Rattle.cw_say.specs.declared.status.Long.TheVariants as long
@@ -41,6 +41,7 @@ first_part faults middle (TooLong (File number)) other = refl
 first_part faults middle (TooLong long.Input) other = refl
 first_part faults middle (BadCode offset) other = refl
 first_part faults middle (Divided offset) other = refl
+first_part faults middle (TooMany count) other = refl
 
 -- `say` got the closing line alone
 pub says_last : (before after : Surroundings) (names : List (List ℕ)) (s : Status) → s ≢ Outside Say → IsClosed names s before.say after.say before.say_faults after.say_faults → SaysLast before after names [] s
@@ -59,6 +60,11 @@ Closed c s = IsClosed c.names s c.before.say c.after.say c.before.say_faults c.a
 
 pub unwritten : (c : Call) → out_at c.after.out c.after.out_faults ≡ out_at c.before.out c.before.out_faults → IsUnwritten c.before c.after
 unwritten c e = record { out = ap (λ x. x.held) e; faults = ap (λ x. x.faults) e }
+
+-- behind files that stay
+kept_then : (old between new : List ℕ → Told) (name bytes : List ℕ) → AllStay old between → KeptOrWhole between new name bytes → KeptOrWhole old new name bytes
+kept_then old between new name bytes stay (inl e) = inl (e ∙ stay name)
+kept_then old between new name bytes stay (inr e) = inr (e ∙ ap (λ told. as_file told bytes) (stay name))
 
 module _ (c : Call) (untouched : IsUntouched c.before c.after) where
   same_counts : c.after.store_faults ≡ c.before.store_faults → c.after.absences ≡ c.before.absences → c.after.out_faults ≡ c.before.out_faults → c.after.say_faults ≡ c.before.say_faults → SameCounts c.before c.after
@@ -79,7 +85,7 @@ module _ (c : Call) (untouched : IsUntouched c.before c.after) where
   writes_file name result all s got none between stay same closed gives =
       gives_file (λ t. Closed c t → WritesFile c name result all t) name result between (files_at c.after.files c.after.store_faults c.after.absences)
       (λ x end. (x.0 ∙ ap (λ told. as_file told result) (stay name), (λ other differs. x.1 other differs ∙ stay other), same_counts (x.2.0 ∙ same.0) (x.2.1 ∙ same.1) none.faults (end.ended refl)))
-      (λ x end. inr (got, (λ other differs. x.0 other differs ∙ stay other), subst (λ faults. Rose faults c.after.store_faults) same.0 x.1))
+      (λ x end. inr (got, kept_then c.before.files between.told c.after.files name result stay x.0, (λ other differs. x.1 other differs ∙ stay other), subst (λ faults. Rose faults c.after.store_faults) same.0 x.2))
       (λ x end. λ other. x other ∙ stay other)
       s gives closed
 

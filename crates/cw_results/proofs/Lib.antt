@@ -6,6 +6,8 @@ pub mod Readings
 pub mod Fates
 pub mod Units
 pub mod Objects
+pub mod ImageCases
+pub mod Images
 pub mod Told
 pub mod Steps
 pub mod Maps
@@ -13,5 +15,6 @@ pub mod Shows
 pub mod Compiles
 pub mod Linked
 pub mod Migrates
+pub mod Hexes
 pub mod Idle
 pub mod Statuses

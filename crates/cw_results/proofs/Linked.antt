@@ -76,7 +76,7 @@ module _ (c : Call) where
         (λ fault y. (all, y.0))
         (λ y. tt)
         (λ t linked gives. gives_file (λ t. LinkComes c x.texts objects t) (codes "A.IMG") (image_file objects) between after
-        (λ y. (all, linked)) (λ y. subst (λ faults. Rose faults c.after.store_faults) same.0 y.1) (λ y. tt) t gives)
+        (λ y. (all, linked)) (λ y. subst (λ faults. Rose faults c.after.store_faults) same.0 y.2) (λ y. tt) t gives)
         s links)
         (links_objects (λ t. Closed c t → WritesFile c (codes "A.IMG") (image_file objects) (AreAll objects) t) objects c.limits between after
         (λ fault y end. λ other. y.1 other ∙ stay other)

@@ -85,7 +85,7 @@ module _ (c : Call) where
           (λ t result is gives end.
           make t end x.texts objects result x.have_bytes x.have_values
           (gives_file (λ u. MigrateComes c x.texts objects u) new_name result between (files_at c.after.files c.after.store_faults c.after.absences)
-          (λ y. all) (λ y. subst (λ faults. Rose faults c.after.store_faults) same.0 y.1) (λ y. tt) t gives)
+          (λ y. all) (λ y. subst (λ faults. Rose faults c.after.store_faults) same.0 y.2) (λ y. tt) t gives)
           (to_any objects result t is gives)
           (writes_file c untouched new_name result (AllAccepted c objects) t all unwritten between stay same end gives))
           s migrates closed

@@ -5,7 +5,7 @@ use Rattle.cw_io.specs.File.{Told}
 use Rattle.cw_view.specs.declared.fault.ObjFault.{ObjFault}
 use Rattle.cw_view.specs.ObjectFormat.{IsFirstObjectFault}
 use Rattle.cw_view.proofs.NoFault.{not_both}
-use Rattle.cw_files.specs.Texts.{HasObject, object_limit}
+use Rattle.cw_files.specs.Texts.{HasObject, IsBad, object_limit}
 use Rattle.cw_files.specs.Reading.{HaveBytes, HaveValues, AllTaken, IsLongerAt, IsBadAt, StopsObjects}
 use Rattle.cw_correct.specs.Calls.{Call, told_files, NoFault}
 use Rattle.cw_correct.specs.Files.{counts_before, counts_after, AllAccepted}
@@ -23,7 +23,7 @@ bad_status number fault = BadFile number (Object fault)
 abbrev pub ObjectRuns : List Found → List (List ℕ) → Option Status → Type 0
 ObjectRuns found objects s = Runs object_limit HasObject IsFirstObjectFault bad_status 0 found objects s
 
-bad_at : (o : Option (List ℕ)) (fault : ObjFault) → IsBadAt o (Object fault) → RefusesAt IsFirstObjectFault o fault
+bad_at : (o : Option (List ℕ)) (fault : ObjFault) → IsBadAt IsBad o (Object fault) → RefusesAt IsFirstObjectFault o fault
 bad_at None fault x = x
 bad_at (Some bytes) fault x = x
 
@@ -51,7 +51,7 @@ module _ (c : Call) (found : List Found) (told : told_files c ≡ all_told found
     stop_runs quiet =
         stops_objects (λ s. (s ≡ NoMemory) ⊎ ObjectRuns found objects (Some s)) (told_files c) texts (length objects) (counts_before c) (counts_after c)
         (λ number fault x. inr (of_stop object_limit HasObject IsFirstObjectFault bad_status 0 found texts objects (bad_status number fault) have_told values
-        (inr (fault, bad_at (slice_get texts (length objects)) fault (subst (λ n. IsBadAt (slice_get texts n) (Object fault)) x.0 x.1), ap (λ n. bad_status n fault) (x.0 ∙ from_zero (length objects))))))
+        (inr (fault, bad_at (slice_get texts (length objects)) fault (subst (λ n. IsBadAt IsBad (slice_get texts n) (Object fault)) x.0 x.1), ap (λ n. bad_status n fault) (x.0 ∙ from_zero (length objects))))))
         (λ number x. absurd (quiet.absences x.2))
         (λ x. absurd (quiet.store x))
         (λ number x. inr (of_stop object_limit HasObject IsFirstObjectFault bad_status 0 found texts objects (TooLong (File number)) have_told values

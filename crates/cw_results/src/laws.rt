@@ -1,5 +1,5 @@
 //! Laws of what the actions promise that run nothing.
-ghost use Rattle.cw_correct.specs.Results.{MapsRight, ShowsRight, CompilesRight, LinksRight, MigratesRight};
+ghost use Rattle.cw_correct.specs.Results.{MapsRight, ShowsRight, CompilesRight, LinksRight, MigratesRight, HexesRight};
 ghost use Rattle.cw_results.specs.Idle.{AllowsIdle};
 ghost use Rattle.cw_results.specs.OneStatus.{AllowsOneStatus};
 
@@ -14,6 +14,7 @@ pub fn idle()
     ensures compile { AllowsIdle CompilesRight }
     ensures link { AllowsIdle LinksRight }
     ensures migrate { AllowsIdle MigratesRight }
+    ensures hex { AllowsIdle HexesRight }
 {}
 
 /// Two statuses never come of one call, where the store tells its files, which are bytes, no count rose, and memory was found.
@@ -23,6 +24,7 @@ pub fn one_status_of_results()
     ensures compile { AllowsOneStatus CompilesRight }
     ensures link { AllowsOneStatus LinksRight }
     ensures migrate { AllowsOneStatus MigratesRight }
+    ensures hex { AllowsOneStatus HexesRight }
 {
     one_outcome();
     object_format();

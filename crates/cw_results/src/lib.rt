@@ -1,9 +1,10 @@
-//! The actions that run nothing: `map` and `list` write a text to `out`, `compile`, `link` and `migrate` a file.
+//! The actions that run nothing: `map` and `list` write a text to `out`, `compile`, `link`, `migrate` and `hex` a file.
 #![tactic(auto)]
 
 mod closing;
 mod compiling;
 mod first;
+mod hexing;
 pub mod laws;
 mod linking;
 mod mapping;
@@ -14,6 +15,7 @@ mod showing;
 mod unlinked;
 
 pub use compiling::compile;
+pub use hexing::hex;
 pub use linking::link;
 pub use mapping::map_files;
 pub use migrating::migrate;

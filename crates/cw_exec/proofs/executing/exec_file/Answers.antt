@@ -4,7 +4,7 @@ use Rattle.cw_exec.proofs.executing.exec_file.Goals as goal
 
 pub returns-in-Ok : goal.returns-in-Ok
 returns-in-Ok g c =
-    ran c.args.name.now _ c.read_image_file.ensures.stay c.requires c.in-Ok.image c.in-Ok.ensures.taken c.run-status.ensures (rw c.as_slice.ensures at (says _ _ _ _ _ _ c.write_last.ensures.line)) c.write_last.ensures.none
+    ran c.args.name.now _ c.read_runnable.ensures.stay c.requires c.in-Ok.runnable c.in-Ok.ensures.taken c.run-status.ensures (rw c.as_slice.ensures at (says _ _ _ _ _ _ c.write_last.ensures.line)) c.write_last.ensures.none
 
 pub returns-in-Err : goal.returns-in-Err
-returns-in-Err g c = unread c.args.name.now _ c.read_image_file.ensures.stay c.requires c.in-Err.ensures.taken (says _ _ _ _ _ _ c.write_last-in-Err.ensures.line) c.write_last-in-Err.ensures.none
+returns-in-Err g c = unread c.args.name.now _ c.read_runnable.ensures.stay c.requires c.in-Err.ensures.taken (says _ _ _ _ _ _ c.write_last-in-Err.ensures.line) c.write_last-in-Err.ensures.none

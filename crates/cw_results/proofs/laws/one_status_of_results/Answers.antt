@@ -1,5 +1,6 @@
 use Rattle.cw_results.proofs.Texts.{OneOfText}
 use Rattle.cw_results.proofs.Statuses.{maps_once, shows_once, compiles_once, links_once, migrates_once}
+use Rattle.cw_results.proofs.Hexes.{once}
 use Rattle.cw_results.proofs.laws.one_status_of_results.Goals as goal
 
 pub returns : goal.returns
@@ -11,4 +12,5 @@ returns c =
       compile = compiles_once given;
       link = links_once c.object_format.ensures.fault;
       migrate = migrates_once c.object_format.ensures.fault;
+      hex = once;
     }
