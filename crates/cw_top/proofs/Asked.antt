@@ -5,9 +5,9 @@ use Rattle.cw_ports.specs.Running.{IsInput}
 use Rattle.cw_words.specs.Parts.{Parts, copies_in, copies_of}
 use Rattle.cw_words.specs.declared.action.Action.{Action}
 use Rattle.cw_correct.specs.Calls.{Surroundings, Call, limits_of, call_as, call_of}
-use Rattle.cw_words.specs.declared.action.Action.TheVariants.{Compile, Link, List as Show, Map, Migrate, Big}
+use Rattle.cw_words.specs.declared.action.Action.TheVariants.{Compile, Link, List as Show, Map, Migrate, Big, Hex}
 use Rattle.cw_correct.specs.Correct.{Correct, IsCorrectCall, IsCorrectRequest}
-use Rattle.cw_correct.specs.Results.{MapsRight, ShowsRight, CompilesRight, LinksRight, MigratesRight}
+use Rattle.cw_correct.specs.Results.{MapsRight, ShowsRight, CompilesRight, LinksRight, MigratesRight, HexesRight}
 use Rattle.cw_say.specs.declared.status.Status.{Status}
 
 -- the number of texts of `big` is told by its first WORD
@@ -45,3 +45,6 @@ module _ (parts : Parts) (before after : Surroundings) (status : Status) where
 
   pub asked_migrate : parts.action ≡ Migrate → MigratesRight (call_as Migrate (limits_of parts) parts.steps parts.names before after) status → IsCorrectRequest (Some parts) before after status
   asked_migrate is right = asked Migrate parts before after status is (over_any (call_as Migrate (limits_of parts) parts.steps parts.names before after) status (λ input. right))
+
+  pub asked_hex : parts.action ≡ Hex → HexesRight (call_as Hex (limits_of parts) parts.steps parts.names before after) status → IsCorrectRequest (Some parts) before after status
+  asked_hex is right = asked Hex parts before after status is (over_any (call_as Hex (limits_of parts) parts.steps parts.names before after) status (λ input. right))

@@ -2,13 +2,13 @@
 use Rattle.std.proofs.Common.{◌≡◌, ◌≢◌, ◌⊎◌, ℕ, List, map, Option, Some, sym, ◌∙◌, subst, arith}
 use Rattle.std.specs.Prelude.{All}
 use Rattle.cw_words.specs.declared.action.Action.{Action}
-use Rattle.cw_words.specs.declared.action.Action.TheVariants.{Go, Compile, Link, Exec, List as Show, Map, Migrate, Big}
+use Rattle.cw_words.specs.declared.action.Action.TheVariants.{Go, Compile, Link, Exec, List as Show, Map, Migrate, Big, Hex}
 use Rattle.cw_build.specs.Linking.{map_text}
 use Rattle.cw_big.specs.LargeProgram.{large_program}
 use Rattle.cw_correct.specs.Calls.{Call, told_files, NoFault}
 use Rattle.cw_correct.specs.Making.{program_line, in_memory, over_program, MakesRight}
 use Rattle.cw_correct.specs.Correct.{CorrectAs, TellsBytes, HasOneStatus}
-use Rattle.cw_correct.specs.Results.{MapsRight, ShowsRight, CompilesRight, LinksRight, MigratesRight}
+use Rattle.cw_correct.specs.Results.{MapsRight, ShowsRight, CompilesRight, LinksRight, MigratesRight, HexesRight}
 use Rattle.cw_say.specs.declared.status.Status.{Status}
 use Rattle.cw_say.specs.declared.status.Status.TheVariants.{NoMemory, TooLong}
 use Rattle.cw_say.specs.declared.status.Long.TheVariants as long
@@ -26,6 +26,7 @@ pub record OneEach : Type 0 where
   pub compile : AllowsOneStatus CompilesRight
   pub link : AllowsOneStatus LinksRight
   pub migrate : AllowsOneStatus MigratesRight
+  pub hex : AllowsOneStatus HexesRight
 
 module _ (each : OneEach) (c : Call) (input : List ℕ) (a b : Status) (found : List (Option (List ℕ))) (told : told_files c ≡ map Some found) (bytes : All TellsBytes found) (quiet : NoFault c.before c.after) (other : a ≢ NoMemory)
     (also : b ≢ NoMemory) (telling : (a ≡ TooLong long.Input) ⊎ (b ≡ TooLong long.Input) → (left : List ℕ) × (c.before.left ≡ Some left)) where
@@ -44,6 +45,7 @@ module _ (each : OneEach) (c : Call) (input : List ℕ) (a b : Status) (found : 
   one_of Compile x y = each.compile c a b found told bytes quiet other also x y
   one_of Link x y = each.link c a b found told bytes quiet other also x y
   one_of Migrate x y = each.migrate c a b found told bytes quiet other also x y
+  one_of Hex x y = each.hex c a b found told bytes quiet other also x y
   one_of Big (m, is, x) (n, also_is, y) =
       let same : n ≡ m = number_of (sym also_is ∙ is) in
       let again = subst (λ k. MakesRight k c input b) same y in

@@ -4,7 +4,7 @@ use Rattle.cw_io.specs.Bytes.{after_told}
 use Rattle.cw_words.specs.Parts.{Parts, parts_of, copies_of}
 use Rattle.cw_words.specs.Copies.{TellsCopies}
 use Rattle.cw_words.specs.declared.action.Action.{Action}
-use Rattle.cw_words.specs.declared.action.Action.TheVariants.{Go, Compile, Link, Exec, List as Show, Map, Migrate, Big}
+use Rattle.cw_words.specs.declared.action.Action.TheVariants.{Go, Compile, Link, Exec, List as Show, Map, Migrate, Big, Hex}
 use Rattle.cw_say.specs.Said.{Says}
 use Rattle.cw_say.specs.Closing.{closing_line}
 use Rattle.cw_build.specs.Linking.{map_text}
@@ -14,7 +14,7 @@ use Rattle.cw_correct.specs.Making.{program_line, in_memory, MakesRight}
 use Rattle.cw_correct.specs.Closing.{Closes}
 use Rattle.cw_correct.specs.Saying.{IsFirstPart, SaysLast}
 use Rattle.cw_correct.specs.Correct.{DoesNothing, IsCorrectRequest}
-use Rattle.cw_correct.specs.Results.{MapsRight, ShowsRight, CompilesRight, LinksRight, MigratesRight}
+use Rattle.cw_correct.specs.Results.{MapsRight, ShowsRight, CompilesRight, LinksRight, MigratesRight, HexesRight}
 use Rattle.cw_say.specs.declared.status.Status.{Status}
 use Rattle.cw_say.specs.declared.status.Status.TheVariants.{Usage, NoMemory}
 use Rattle.cw_go.specs.Laws as going
@@ -36,6 +36,7 @@ pub record Idles : Type 0 where
   pub compile : AllowsIdle CompilesRight
   pub link : AllowsIdle LinksRight
   pub migrate : AllowsIdle MigratesRight
+  pub hex : AllowsIdle HexesRight
 
 module _ (before after : Surroundings) where
   says_last : (names : List (List ℕ)) (status : Status) → IsFirstPart [] before.say_faults before.say_faults status [] → Says before.say after.say before.say_faults after.say_faults (closing_line names [] status) → SaysLast before after names [] status
@@ -107,6 +108,7 @@ module _ (before after : Surroundings) where
     of_action Compile told is = asked Compile parts before after NoMemory is (over_any (call Compile) NoMemory (λ input. idles.compile (call Compile) (is_idle Compile)))
     of_action Link told is = asked Link parts before after NoMemory is (over_any (call Link) NoMemory (λ input. idles.link (call Link) (is_idle Link)))
     of_action Migrate told is = asked Migrate parts before after NoMemory is (over_any (call Migrate) NoMemory (λ input. idles.migrate (call Migrate) (is_idle Migrate)))
+    of_action Hex told is = asked Hex parts before after NoMemory is (over_any (call Hex) NoMemory (λ input. idles.hex (call Hex) (is_idle Hex)))
     of_action Big told is =
         let (input, is_input, runs) = idles.texts (program_line parts.copies) Big (limits_of parts) parts.steps (large_program parts.copies) (in_memory before) (in_memory after) (in_memory_closes (large_program parts.copies)) in
         let right : MakesRight parts.copies (call Big) input NoMemory = record {

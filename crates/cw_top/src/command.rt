@@ -10,7 +10,7 @@ use cw_big_run::big;
 use cw_exec::exec;
 use cw_go::go;
 use cw_io::{Sink, Source, Store};
-use cw_results::{compile, link, map_files, migrate, show};
+use cw_results::{compile, hex, link, map_files, migrate, show};
 use cw_say::{Status, write_last};
 use cw_unit::layout::Limits;
 use cw_words::{Action, Command};
@@ -53,6 +53,7 @@ pub(crate) fn perform<F: Store, I: Source, O: Sink, S: Sink>(
         Action::List => show(alloc, names, &limits, steps, files, out, say),
         Action::Map => map_files(alloc, names, &limits, steps, files, out, say),
         Action::Migrate => migrate(alloc, names, &limits, steps, files, say),
+        Action::Hex => hex(alloc, names, &limits, steps, files, say),
         Action::Big => big(alloc, command.copies, &limits, steps, input, out, say),
     }
 }

@@ -12,4 +12,5 @@ returns c =
       compile = c.one_status_of_results.ensures.compile;
       link = c.one_status_of_results.ensures.link;
       migrate = c.one_status_of_results.ensures.migrate;
+      hex = c.one_status_of_results.ensures.hex;
     })

@@ -12,5 +12,6 @@ returns c =
       compile = c.idle-3.ensures.compile;
       link = c.idle-3.ensures.link;
       migrate = c.idle-3.ensures.migrate;
+      hex = c.idle-3.ensures.hex;
     })
     c.copies_told.ensures
