@@ -25,6 +25,15 @@ const NO_CODE: [u8; 22] = [
     0x43, 0x36, 0x36, 0x49, 1, 0, 0x10, 0, 1, 0, 1, 0, 1, 1, 0x41, 0, 0, 1, 0, 0, 0, 0x0F,
 ];
 
+// An image of one word whose program tells the stop Overflow in segment 1 at line 3.
+const STOPPING: [u8; 38] = [
+    0x43, 0x36, 0x36, 0x49, 1, 0, 0x10, 0, 1, 0, 1, 0, 1, 1, 0x41, 0, 0, 17, 0, 0, 0, 0xB0, 1,
+    0xE6, 0x13, 0xB0, 1, 0xE6, 0x14, 0xB0, 3, 0xE6, 0x15, 0xB0, 0, 0xE6, 0x16, 0xF4,
+];
+
+// The HEX text of HALTING with another byte in its second line.
+const WRONG_SUM: &[u8] = b":020000021000EC\n:01000000F40C\n:0400000310000000E9\n:00000001FF\n";
+
 fn file(alloc: Global, name: &[u8], bytes: &[u8]) -> Result<MemFile, AllocError> {
     Ok(MemFile {
         name: list(alloc, name)?,
@@ -32,7 +41,7 @@ fn file(alloc: Global, name: &[u8], bytes: &[u8]) -> Result<MemFile, AllocError>
     })
 }
 
-// Texts and images, each under the name that the tables give it.
+// Texts, images and HEX texts, each under the name that the tables give it.
 fn store(alloc: Global) -> Result<MemStore, AllocError> {
     let texts = [
         ("a", FIRST),
@@ -55,8 +64,11 @@ fn store(alloc: Global) -> Result<MemStore, AllocError> {
     files.push(file(alloc, b"halting", &HALTING)?)?;
     files.push(file(alloc, b"A.IMX", &CUT)?)?;
     files.push(file(alloc, b"none", &NO_CODE)?)?;
+    files.push(file(alloc, b"stopping", &STOPPING)?)?;
+    files.push(file(alloc, b"sum", WRONG_SUM)?)?;
+    files.push(file(alloc, b"colon", b":")?)?;
     let no_call = List::of(Vec::new(alloc));
-    match MemStore::new(alloc, List::of(files), 16, 65_536, 4096, no_call) {
+    match MemStore::new(alloc, List::of(files), 24, 65_536, 4096, no_call) {
         Ok(store) => Ok(store),
         Err(_) => Err(AllocError),
     }
@@ -111,6 +123,18 @@ fn actions(rt: HostRuntime) -> Result<(), Fail> {
         ("exec none", "11||bad code: 0\n"),
         ("exec A.IMX", "9||A.IMX: I3 Truncated 21\n"),
         ("exec a", "9||a: I1 NotImage\n"),
+        ("hex A.IMG", "0||"),
+        ("exec A.IMG.HEX", "0|AC|"),
+        ("hex halting", "0||"),
+        ("exec halting.HEX", "0||"),
+        ("exec stopping", "4||stopped: Overflow A 3\n"),
+        ("hex stopping", "0||"),
+        ("exec stopping.HEX", "4||stopped: Overflow 1 3\n"),
+        ("exec sum", "9||sum: X2 BadSum 2\n"),
+        ("exec colon", "9||colon: X1 BadLine 1\n"),
+        ("hex sum", "9||sum: I1 NotImage\n"),
+        ("hex A.IMX", "9||A.IMX: I3 Truncated 21\n"),
+        ("hex missing", "6||no file: missing\n"),
         ("link b.SEG a", "9||a: O1 NotObject\n"),
         ("go t1 t2", "3||link: K1 Differs T 1 2\n"),
         ("go r", "3||link: K2 Undefined R\n"),
