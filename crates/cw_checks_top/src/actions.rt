@@ -68,7 +68,7 @@ fn store(alloc: Global) -> Result<MemStore, AllocError> {
     files.push(file(alloc, b"sum", WRONG_SUM)?)?;
     files.push(file(alloc, b"colon", b":")?)?;
     let no_call = List::of(Vec::new(alloc));
-    match MemStore::new(alloc, List::of(files), 24, 65_536, 4096, no_call) {
+    match MemStore::new(alloc, List::of(files), 16, 65_536, 4096, no_call) {
         Ok(store) => Ok(store),
         Err(_) => Err(AllocError),
     }

@@ -95,13 +95,13 @@ not_bad bytes runnable (bad.Library fault) tells wrong = absurd wrong
 
 -- ---- they tell one thing, or are bad in one way
 
-module _ (starts : (code words : List ℕ) (s t : State) → IsStart code words s → IsStart code words t → s ≡ t) where
-  pub same_runnable : (a b : Runnable) → a.cpu ≡ b.cpu → a.names ≡ b.names → a ≡ b
-  same_runnable a b e f = ap₂ (λ cpu names. of cpu names) e f
-    where
-      abbrev of : State → List (List ℕ) → Runnable
-      of cpu names = record { cpu = cpu; names = names }
+abbrev runnable_of : State → List (List ℕ) → Runnable
+runnable_of cpu names = record { cpu = cpu; names = names }
 
+same_runnable : (a b : Runnable) → a.cpu ≡ b.cpu → a.names ≡ b.names → a ≡ b
+same_runnable a b e f = ap (λ cpu. runnable_of cpu a.names) e ∙ ap (λ names. runnable_of b.cpu names) f
+
+module _ (starts : (code words : List ℕ) (s t : State) → IsStart code words s → IsStart code words t → s ≡ t) where
   same_image : (bytes : List ℕ) (i j : Image) → HasImage bytes i → HasImage bytes j → i ≡ j
   same_image bytes i j x y =
       let both : ◌≡◌ {A = Result Image ImageFault} (Ok i) (Ok j) = sym x ∙ y in
