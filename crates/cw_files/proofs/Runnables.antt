@@ -1,56 +1,17 @@
 -- What runs: an image, or a HEX text.
-use Rattle.std.proofs.Common.{◌≡◌, ◌≢◌, ℕ, ◌≤◌, Bool, true, false, List, [], ◌∷◌, length, slice_get, Option, Some, None, Result, Ok, Err, IfOk, IfErr, refl, ap, sym, subst, ◌∙◌}
+use Rattle.std.proofs.Common.{◌≡◌, ℕ, ◌≤◌, false, List, [], ◌∷◌, length, slice_get, Option, Some, None, Result, Ok, Err, IfOk, IfErr, refl, ap, ◌∙◌}
 use Rattle.cw_io.specs.File.{Told, Is}
-use Rattle.cw_i86.specs.MachineRun.{IsStart}
-use Rattle.cw_hex.specs.declared.fault.HexFault.{HexFault}
-use Rattle.cw_hex.specs.declared.fault.HexFault.TheVariants as hex
-use Rattle.cw_hex.specs.HexTold.{TellsHex, IsFirstHexFault, AnswersHex}
-use Rattle.cw_image.specs.declared.image.Image.{Image}
 use Rattle.cw_image.specs.declared.fault.ImageFault.{ImageFault}
 use Rattle.cw_say.specs.declared.status.Status.{Status}
 use Rattle.cw_say.specs.declared.status.Status.TheVariants.{Ended, Usage, Refused, Unlinked, Stopped, Unfinished, NoFile, Outside, NoMemory, BadFile, TooLong, BadCode, Divided, TooMany}
-use Rattle.cw_say.specs.declared.status.Bad.{Bad}
 use Rattle.cw_say.specs.declared.status.Bad.TheVariants.{Object, Image as BadImage, Library, Hex}
 use Rattle.cw_files.specs.declared.images.Runnable.{Runnable}
-use Rattle.cw_files.specs.Texts.{HasImage, IsBad, begins_hex, TellsRunnable, HasRunnable, IsBadRunnable, object_limit}
+use Rattle.cw_files.specs.Texts.{IsBad, begins_hex, HasRunnable, IsBadRunnable, object_limit}
 use Rattle.cw_files.specs.Reading.{Counts, SameCounts, IsBadAt, IsUnread, StopsImages, StopsRunnables, AnswersRunnable}
 use Rattle.cw_files.proofs.Taking.{takes_none, takes_more, takes_all, stops_unread, stops_refused}
 
 some_is : (a b : List ℕ) → Some a ≡ Some b → a ≡ b
 some_is a b e = cc
-
--- ---- a HEX text
-
-pub hex_runnable : (bytes : List ℕ) (runnable : Runnable) → begins_hex bytes ≡ true → TellsHex bytes runnable.cpu → runnable.names ≡ [] → HasRunnable bytes runnable
-hex_runnable bytes runnable is tells none = subst (λ b. TellsRunnable b bytes runnable) (sym is) (tells, none)
-
-bad_hex : (o : Option (List ℕ)) (bytes : List ℕ) (fault : HexFault) → o ≡ Some bytes → begins_hex bytes ≡ true → IsFirstHexFault bytes fault → IsBadAt IsBadRunnable o (Hex fault)
-bad_hex o bytes fault at is wrong = subst (λ x. IsBadAt IsBadRunnable x (Hex fault)) (sym at) (is, wrong)
-
-pub hex_stops : (files : List Told) (texts : List (List ℕ)) (before after : Counts) (bytes : List ℕ) (fault : HexFault) → fault ≢ hex.NoMemory → begins_hex bytes ≡ true → slice_get texts 0 ≡ Some bytes
-    → AnswersHex bytes (Err fault) → StopsRunnables files texts 0 before after (BadFile 0 (Hex fault))
-hex_stops files texts before after bytes (hex.BadLine line) other is at wrong = (refl, bad_hex (slice_get texts 0) bytes (hex.BadLine line) at is wrong)
-hex_stops files texts before after bytes (hex.BadSum line) other is at wrong = (refl, bad_hex (slice_get texts 0) bytes (hex.BadSum line) at is wrong)
-hex_stops files texts before after bytes (hex.BadType line) other is at wrong = (refl, bad_hex (slice_get texts 0) bytes (hex.BadType line) at is wrong)
-hex_stops files texts before after bytes (hex.AfterEnd line) other is at wrong = (refl, bad_hex (slice_get texts 0) bytes (hex.AfterEnd line) at is wrong)
-hex_stops files texts before after bytes (hex.NoEnd line) other is at wrong = (refl, bad_hex (slice_get texts 0) bytes (hex.NoEnd line) at is wrong)
-hex_stops files texts before after bytes hex.NoMemory other is at wrong = absurd (other refl)
-
--- ---- an image
-
-image_runnable : (bytes : List ℕ) (image : Image) (runnable : Runnable) → begins_hex bytes ≡ false → HasImage bytes image → IsStart image.code image.words runnable.cpu → runnable.names ≡ image.names → HasRunnable bytes runnable
-image_runnable bytes image runnable is has start names = subst (λ b. TellsRunnable b bytes runnable) (sym is) (image, has, start, names)
-
-pub loaded_runnable : (bytes : List ℕ) (image : Image) (result : Result Runnable Status) → begins_hex bytes ≡ false → HasImage bytes image
-    → IfOk result (λ runnable. IsStart image.code image.words runnable.cpu × (runnable.names ≡ image.names)) → IfOk result (λ runnable. HasRunnable bytes runnable)
-loaded_runnable bytes image (Ok runnable) is has started = image_runnable bytes image runnable is has started.0 started.1
-loaded_runnable bytes image (Err status) is has started = tt
-
--- no memory for the processor
-pub unloaded_stops : (files : List Told) (texts : List (List ℕ)) (before after : Counts) (result : Result Runnable Status) → IfErr result (λ status. status ≡ NoMemory)
-    → IfErr result (λ status. StopsRunnables files texts 0 before after status)
-unloaded_stops files texts before after (Ok runnable) none = tt
-unloaded_stops files texts before after (Err status) none = subst (λ s. StopsRunnables files texts 0 before after s) (sym none) tt
 
 bad_image : (o : Option (List ℕ)) (bytes : List ℕ) (fault : ImageFault) → o ≡ Some bytes → begins_hex bytes ≡ false → IsBadAt IsBad o (BadImage fault) → IsBadAt IsBadRunnable o (BadImage fault)
 bad_image None bytes fault at is wrong = absurd wrong

@@ -1,9 +1,9 @@
 //! The file of an image, and that of what runs: an image or a HEX text.
-ghost use Rattle.std.specs.Prelude.{◌≡◌, ℕ, slice_get, Some, IfOk, IfErr, List};
+ghost use Rattle.std.specs.Prelude.{◌≡◌, ℕ, true, slice_get, Some, IfOk, IfErr, List};
 ghost use Rattle.cw_io.specs.File.{Told, AllStay};
 ghost use Rattle.cw_image.specs.ImageFormat.{IsImage};
 ghost use Rattle.cw_i86.specs.MachineRun.{IsStart};
-ghost use Rattle.cw_files.specs.Texts.{HasImage, HasRunnable, begins_hex, TellsRunnable};
+ghost use Rattle.cw_files.specs.Texts.{HasImage, HasRunnable, begins_hex};
 ghost use Rattle.cw_files.specs.Reading.{Counts, counts_at, StopsImages, AnswersImage, StopsRunnables, AnswersRunnable};
 
 use crate::bytes::{OBJECT_LIMIT, read_bytes};
