@@ -89,6 +89,7 @@ module _ (c : Call) (b : Surroundings) (input : List ℕ) (begins : Begins) (nam
     }
 
     pub answers : (end : ImageEnd) → ports.RunShows end start input c.steps (image_side c.before) (image_side b) → Closes b c.after names segments (status_of c.steps end) → Answers c input begins end
+    unfolding leaves
     answers ends.Ended (o, x, told, output, taken, quiet_input, quiet_out) closes = record {
       instructions = c.steps;
       shown = o;
