@@ -14,7 +14,7 @@ use Rattle.cw_correct.specs.Files.{counts_before, counts_after}
 use Rattle.cw_correct.specs.Running.{ImageShows, Tells, Ran}
 use Rattle.cw_correct.specs.Executing.{begins_first, ExecutesRight}
 use Rattle.cw_say.specs.declared.status.Status.{Status}
-use Rattle.cw_say.specs.declared.status.Status.TheVariants.{Ended, Usage, Refused, Unlinked, Stopped, Unfinished, NoFile, Outside, NoMemory, BadFile, TooLong, BadCode, Divided, TooMany}
+use Rattle.cw_say.specs.declared.status.Status.TheVariants.{Ended, Usage, Refused, Unlinked, Stopped, Unfinished, NoFile, Outside, NoMemory, BadFile, TooLong, BadCode, Divided}
 use Rattle.cw_say.specs.declared.status.Bad.{Bad}
 use Rattle.cw_say.specs.declared.status.Which.TheVariants.{Store, Input, Out, Say}
 use Rattle.cw_say.specs.declared.status.Long.TheVariants.{File}
@@ -182,7 +182,6 @@ module _ (runs : OneRun) (c : Call) (input : List ℕ) where
     of_call (Unfinished count) other x = of_run (Unfinished count) x x.comes x.runs_image
     of_call (BadCode offset) other x = of_run (BadCode offset) x x.comes x.runs_image
     of_call (Divided offset) other x = of_run (Divided offset) x x.comes x.runs_image
-    of_call (TooMany count) other x = absurd x.comes
 
   -- ---- one of two
 
@@ -208,7 +207,6 @@ module _ (runs : OneRun) (c : Call) (input : List ℕ) where
   tells_one NoMemory end e = absurd e
   tells_one (BadFile number fault) end e = absurd e
   tells_one (TooLong long) end e = absurd e
-  tells_one (TooMany count) end e = absurd e
 
   -- the source tells its bytes where one of two statuses is that of an input that is too long
   abbrev Telling : Status → Status → Type 0

@@ -6,7 +6,7 @@ use Rattle.cw_compile.specs.Texts.{text_limit, IsUnitOf}
 use Rattle.cw_build.specs.Building.{IsMadeOf}
 use Rattle.cw_image.specs.declared.image.Image.{Image}
 use Rattle.cw_say.specs.declared.status.Status.{Status}
-use Rattle.cw_say.specs.declared.status.Status.TheVariants.{Ended, Usage, Refused, Unlinked, Stopped, Unfinished, NoFile, Outside, NoMemory, BadFile, TooLong, BadCode, Divided, TooMany}
+use Rattle.cw_say.specs.declared.status.Status.TheVariants.{Ended, Usage, Refused, Unlinked, Stopped, Unfinished, NoFile, Outside, NoMemory, BadFile, TooLong, BadCode, Divided}
 use Rattle.cw_say.specs.declared.status.Bad.TheVariants.{Object, Image as BadImage, Library, Hex}
 use Rattle.cw_files.specs.declared.segments.Segment.{Segment}
 use Rattle.cw_files.specs.declared.segments.Segments.{Segments}
@@ -33,11 +33,9 @@ unread_text files texts taken before after NoMemory unread = unread
 unread_text files texts taken before after (TooLong long) unread = unread
 unread_text files texts taken before after (BadCode offset) unread = unread
 unread_text files texts taken before after (Divided offset) unread = unread
-unread_text files texts taken before after (TooMany count) unread = unread
 unread_text files texts taken before after (Refused file fault) unread = absurd unread
 unread_text files texts taken before after (BadFile file (Object fault)) unread = absurd unread
 unread_text files texts taken before after (BadFile file (BadImage fault)) unread = absurd unread
-unread_text files texts taken before after (BadFile file (Library fault)) unread = absurd unread
 unread_text files texts taken before after (BadFile file (Hex fault)) unread = absurd unread
 
 pub unread_object : (files : List Told) (texts : List (List ℕ)) (taken : ℕ) (before after : Counts) (status : Status) → IsUnread object_limit files taken before after status
@@ -53,11 +51,9 @@ unread_object files texts taken before after NoMemory unread = unread
 unread_object files texts taken before after (TooLong long) unread = unread
 unread_object files texts taken before after (BadCode offset) unread = unread
 unread_object files texts taken before after (Divided offset) unread = unread
-unread_object files texts taken before after (TooMany count) unread = unread
 unread_object files texts taken before after (Refused file fault) unread = absurd unread
 unread_object files texts taken before after (BadFile file (Object fault)) unread = absurd unread
 unread_object files texts taken before after (BadFile file (BadImage fault)) unread = absurd unread
-unread_object files texts taken before after (BadFile file (Library fault)) unread = absurd unread
 unread_object files texts taken before after (BadFile file (Hex fault)) unread = absurd unread
 
 pub unread_image : (files : List Told) (texts : List (List ℕ)) (taken : ℕ) (before after : Counts) (status : Status) → IsUnread object_limit files taken before after status
@@ -73,11 +69,9 @@ unread_image files texts taken before after NoMemory unread = unread
 unread_image files texts taken before after (TooLong long) unread = unread
 unread_image files texts taken before after (BadCode offset) unread = unread
 unread_image files texts taken before after (Divided offset) unread = unread
-unread_image files texts taken before after (TooMany count) unread = unread
 unread_image files texts taken before after (Refused file fault) unread = absurd unread
 unread_image files texts taken before after (BadFile file (Object fault)) unread = absurd unread
 unread_image files texts taken before after (BadFile file (BadImage fault)) unread = absurd unread
-unread_image files texts taken before after (BadFile file (Library fault)) unread = absurd unread
 unread_image files texts taken before after (BadFile file (Hex fault)) unread = absurd unread
 
 -- ---- texts

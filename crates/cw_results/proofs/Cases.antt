@@ -26,7 +26,7 @@ use Rattle.cw_results.specs.Closed.{Files, Out}
 use Rattle.cw_results.specs.Written.{GivesOut, GivesFile}
 use Rattle.cw_results.specs.Results.{MapsUnits, ShowsText, LinksObjects, MigratesObject}
 use Rattle.cw_say.specs.declared.status.Status.{Status}
-use Rattle.cw_say.specs.declared.status.Status.TheVariants.{Ended, Usage, Refused, Unlinked, Stopped, Unfinished, NoFile, Outside, NoMemory, BadFile, TooLong, BadCode, Divided, TooMany}
+use Rattle.cw_say.specs.declared.status.Status.TheVariants.{Ended, Usage, Refused, Unlinked, Stopped, Unfinished, NoFile, Outside, NoMemory, BadFile, TooLong, BadCode, Divided}
 use Rattle.cw_say.specs.declared.status.Bad.TheVariants.{Object, Image as BadImage, Library, Hex}
 use Rattle.cw_say.specs.declared.status.Which.TheVariants.{Store, Input, Out as ToOut, Say}
 use Rattle.cw_say.specs.declared.status.Long.TheVariants.{File}
@@ -58,7 +58,6 @@ module _ (P : Status → Type 0) where
     unread (TooLong long.Input) x = absurd x
     unread (BadCode offset) x = absurd x
     unread (Divided offset) x = absurd x
-    unread (TooMany count) x = absurd x
 
   module _ (files : List Told) (texts : List (List ℕ)) (taken : ℕ) (before after : Counts)
       (refused : (number : ℕ) (fault : Refusal) → (number ≡ taken) × IsRefusedAt (slice_get texts number) fault → P (Refused number fault))
@@ -84,7 +83,6 @@ module _ (P : Status → Type 0) where
     stops_texts (TooLong long.Input) x = absurd x
     stops_texts (BadCode offset) x = absurd x
     stops_texts (Divided offset) x = absurd x
-    stops_texts (TooMany count) x = absurd x
 
   module _ (files : List Told) (texts : List (List ℕ)) (taken : ℕ) (before after : Counts)
       (bad : (number : ℕ) (fault : ObjFault) → (number ≡ taken) × IsBadAt IsBad (slice_get texts number) (Object fault) → P (BadFile number (Object fault)))
@@ -107,13 +105,11 @@ module _ (P : Status → Type 0) where
     stops_objects NoMemory x = wanted
     stops_objects (BadFile number (Object fault)) x = bad number fault x
     stops_objects (BadFile number (BadImage fault)) x = absurd x
-    stops_objects (BadFile number (Library fault)) x = absurd x
     stops_objects (BadFile number (Hex fault)) x = absurd x
     stops_objects (TooLong (File number)) x = longer number x
     stops_objects (TooLong long.Input) x = absurd x
     stops_objects (BadCode offset) x = absurd x
     stops_objects (Divided offset) x = absurd x
-    stops_objects (TooMany count) x = absurd x
 
   -- ---- of what was written
 
@@ -139,7 +135,6 @@ module _ (P : Status → Type 0) where
     gives_out (TooLong long.Input) x = absurd x
     gives_out (BadCode offset) x = absurd x
     gives_out (Divided offset) x = absurd x
-    gives_out (TooMany count) x = absurd x
 
   module _ (name result : List ℕ) (files files' : Files)
       (ended : (files'.told name ≡ as_file (files.told name) result) × OthersStay files.told files'.told name × SameCounts files.counts files'.counts → P Ended)
@@ -163,7 +158,6 @@ module _ (P : Status → Type 0) where
     gives_file (TooLong long.Input) x = absurd x
     gives_file (BadCode offset) x = absurd x
     gives_file (Divided offset) x = absurd x
-    gives_file (TooMany count) x = absurd x
 
   module _ (us : List SourceUnit) (limits : Limits) (out out' : Out)
       (unlinked : (fault : LinkFault) → IsLinkFault us limits fault × (out' ≡ out) → P (Unlinked fault))
@@ -187,7 +181,6 @@ module _ (P : Status → Type 0) where
     maps_units (TooLong long.Input) x = gives (TooLong long.Input) x.0 x.1
     maps_units (BadCode offset) x = gives (BadCode offset) x.0 x.1
     maps_units (Divided offset) x = gives (Divided offset) x.0 x.1
-    maps_units (TooMany count) x = gives (TooMany count) x.0 x.1
 
   module _ (text : List ℕ) (out out' : Out)
       (refused : (number : ℕ) (refusal : Refusal) → (number ≡ 0) × IsRefused text refusal × (out' ≡ out) → P (Refused number refusal))
@@ -211,7 +204,6 @@ module _ (P : Status → Type 0) where
     shows_text (TooLong long.Input) x = gives (TooLong long.Input) x.0 x.1 x.2
     shows_text (BadCode offset) x = gives (BadCode offset) x.0 x.1 x.2
     shows_text (Divided offset) x = gives (Divided offset) x.0 x.1 x.2
-    shows_text (TooMany count) x = gives (TooMany count) x.0 x.1 x.2
 
   module _ (objects : List (List ℕ)) (limits : Limits) (files files' : Files)
       (unlinked : (fault : LinkFault) → IsFault (map contents_in objects) limits fault × AllStay files.told files'.told → P (Unlinked fault))
@@ -235,7 +227,6 @@ module _ (P : Status → Type 0) where
     links_objects (TooLong long.Input) x = gives (TooLong long.Input) x.0 x.1
     links_objects (BadCode offset) x = gives (BadCode offset) x.0 x.1
     links_objects (Divided offset) x = gives (Divided offset) x.0 x.1
-    links_objects (TooMany count) x = gives (TooMany count) x.0 x.1
 
   module _ (name object : List ℕ) (files files' : Files)
       (wanted : AllStay files.told files'.told → P NoMemory)
@@ -258,7 +249,6 @@ module _ (P : Status → Type 0) where
     migrates_object (TooLong long.Input) x = gives (TooLong long.Input) x.0 x.1 x.2
     migrates_object (BadCode offset) x = gives (BadCode offset) x.0 x.1 x.2
     migrates_object (Divided offset) x = gives (Divided offset) x.0 x.1 x.2
-    migrates_object (TooMany count) x = gives (TooMany count) x.0 x.1 x.2
 
   -- ---- of what a promise says of the status
 
@@ -285,7 +275,6 @@ module _ (P : Status → Type 0) where
     map_comes (TooLong long.Input) x = stops (TooLong long.Input) x
     map_comes (BadCode offset) x = stops (BadCode offset) x
     map_comes (Divided offset) x = stops (Divided offset) x
-    map_comes (TooMany count) x = stops (TooMany count) x
 
   module _ (c : Call) (texts shown : List (List ℕ))
       (ended : AllAccepted c shown → P Ended)
@@ -310,7 +299,6 @@ module _ (P : Status → Type 0) where
     show_comes (TooLong long.Input) x = stops (TooLong long.Input) x
     show_comes (BadCode offset) x = stops (BadCode offset) x
     show_comes (Divided offset) x = stops (Divided offset) x
-    show_comes (TooMany count) x = stops (TooMany count) x
 
   module _ (c : Call) (texts : List (List ℕ)) (us : List SourceUnit)
       (ended : AllAccepted c us → P Ended)
@@ -334,7 +322,6 @@ module _ (P : Status → Type 0) where
     compile_comes (TooLong long.Input) x = stops (TooLong long.Input) x
     compile_comes (BadCode offset) x = stops (BadCode offset) x
     compile_comes (Divided offset) x = stops (Divided offset) x
-    compile_comes (TooMany count) x = stops (TooMany count) x
 
   module _ (c : Call) (texts objects : List (List ℕ))
       (ended : AllAccepted c objects × AreLinked (all_contents objects) c.limits → P Ended)
@@ -359,7 +346,6 @@ module _ (P : Status → Type 0) where
     link_comes (TooLong long.Input) x = stops (TooLong long.Input) x
     link_comes (BadCode offset) x = stops (BadCode offset) x
     link_comes (Divided offset) x = stops (Divided offset) x
-    link_comes (TooMany count) x = stops (TooMany count) x
 
   module _ (c : Call) (texts objects : List (List ℕ))
       (ended : AllAccepted c objects → P Ended)
@@ -383,4 +369,3 @@ module _ (P : Status → Type 0) where
     migrate_comes (TooLong long.Input) x = stops (TooLong long.Input) x
     migrate_comes (BadCode offset) x = stops (BadCode offset) x
     migrate_comes (Divided offset) x = stops (Divided offset) x
-    migrate_comes (TooMany count) x = stops (TooMany count) x
