@@ -7,7 +7,7 @@ use Rattle.cw_build.specs.Building.{IsMadeOf}
 use Rattle.cw_image.specs.declared.image.Image.{Image}
 use Rattle.cw_say.specs.declared.status.Status.{Status}
 use Rattle.cw_say.specs.declared.status.Status.TheVariants.{Ended, Usage, Refused, Unlinked, Stopped, Unfinished, NoFile, Outside, NoMemory, BadFile, TooLong, BadCode, Divided}
-use Rattle.cw_say.specs.declared.status.Bad.TheVariants.{Object, Image as BadImage, Library, Hex}
+use Rattle.cw_say.specs.declared.status.Bad.TheVariants.{Object, Image as BadImage, Hex}
 use Rattle.cw_files.specs.declared.segments.Segment.{Segment}
 use Rattle.cw_files.specs.declared.segments.Segments.{Segments}
 use Rattle.cw_build.specs.declared.made.Made.{Made}

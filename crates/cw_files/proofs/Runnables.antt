@@ -4,7 +4,7 @@ use Rattle.cw_io.specs.File.{Told, Is}
 use Rattle.cw_image.specs.declared.fault.ImageFault.{ImageFault}
 use Rattle.cw_say.specs.declared.status.Status.{Status}
 use Rattle.cw_say.specs.declared.status.Status.TheVariants.{Ended, Usage, Refused, Unlinked, Stopped, Unfinished, NoFile, Outside, NoMemory, BadFile, TooLong, BadCode, Divided}
-use Rattle.cw_say.specs.declared.status.Bad.TheVariants.{Object, Image as BadImage, Library, Hex}
+use Rattle.cw_say.specs.declared.status.Bad.TheVariants.{Object, Image as BadImage, Hex}
 use Rattle.cw_files.specs.declared.images.Runnable.{Runnable}
 use Rattle.cw_files.specs.Texts.{IsBad, begins_hex, HasRunnable, IsBadRunnable, object_limit}
 use Rattle.cw_files.specs.Reading.{Counts, SameCounts, IsBadAt, IsUnread, StopsImages, StopsRunnables, AnswersRunnable}

@@ -27,7 +27,7 @@ use Rattle.cw_results.specs.Written.{GivesOut, GivesFile}
 use Rattle.cw_results.specs.Results.{MapsUnits, ShowsText, LinksObjects, MigratesObject}
 use Rattle.cw_say.specs.declared.status.Status.{Status}
 use Rattle.cw_say.specs.declared.status.Status.TheVariants.{Ended, Usage, Refused, Unlinked, Stopped, Unfinished, NoFile, Outside, NoMemory, BadFile, TooLong, BadCode, Divided}
-use Rattle.cw_say.specs.declared.status.Bad.TheVariants.{Object, Image as BadImage, Library, Hex}
+use Rattle.cw_say.specs.declared.status.Bad.TheVariants.{Object, Image as BadImage, Hex}
 use Rattle.cw_say.specs.declared.status.Which.TheVariants.{Store, Input, Out as ToOut, Say}
 use Rattle.cw_say.specs.declared.status.Long.TheVariants.{File}
 use Rattle.cw_say.specs.declared.status.Long.TheVariants as long
