@@ -1,5 +1,5 @@
--- What the actions promise that run nothing: `map` and `list` write their result to `out`; `compile`, `link`, `lib`, `migrate` and `hex` write it to a file.
-use Rattle.std.specs.Prelude.{◌≡◌, ◌⊎◌, ℕ, ◌<◌, List, [], ◌∷◌, ◌++◌, length, map, take, drop, codes}
+-- What the actions promise that run nothing: `map` and `list` write their result to `out`; `compile`, `link`, `migrate` and `hex` write it to a file.
+use Rattle.std.specs.Prelude.{◌≡◌, ◌⊎◌, ℕ, ◌<◌, List, [], ◌∷◌, ◌++◌, length, map, take, codes}
 use Rattle.cw_io.specs.Bytes.{after_told}
 use Rattle.cw_io.specs.Count.{Rose}
 use Rattle.cw_io.specs.File.{as_file, KeptOrWhole, OthersStay, AllStay}
@@ -11,7 +11,6 @@ use Rattle.cw_link.specs.LinkedImage.{linked_image}
 use Rattle.cw_link.specs.declared.fault.LinkFault.{LinkFault}
 use Rattle.cw_image.specs.ImageFormat.{image_bytes}
 use Rattle.cw_image.specs.declared.image.Image.{Image}
-use Rattle.cw_lib.specs.LibraryFormat.{library_bytes}
 use Rattle.cw_hex.specs.HexText.{hex_text}
 use Rattle.cw_object.specs.ObjectContents.{contents_in}
 use Rattle.cw_obj.specs.Migration.{IsMigrated}
@@ -146,30 +145,6 @@ pub record LinksRight (c : Call) (status : Status) : Type 0 where
   pub untouched : IsUntouched c.before c.after
   pub unwritten : IsUnwritten c.before c.after
   pub completes : (told objects : List (List ℕ)) → TellBytes (told_files c) told → AllTaken object_limit HasObject (told_files c) objects → AreLinked (all_contents objects) c.limits → NoFault c.before c.after → IsDone status
-
--- ---- lib
-
--- the call as one whose files are the objects, behind the name of the library
-abbrev pub behind_name : Call → Call
-behind_name c = record c { names = drop 1 c.names }
-
-abbrev pub LibraryComes : Call → (texts objects : List (List ℕ)) → Status → Type 0
-LibraryComes c texts objects Ended = AllAccepted c objects
-LibraryComes c texts objects (Outside Store) = Rose c.before.store_faults c.after.store_faults
-LibraryComes c texts objects status = StopsObjects (told_files c) texts (length objects) (counts_before c) (counts_after c) status
-
--- The library of the objects behind the first name, in the file of that name. Files are numbered from the first object on.
-pub record CollectsRight (c : Call) (status : Status) : Type 0 where
-  pub texts : List (List ℕ)
-  pub objects : List (List ℕ)
-  pub have_bytes : HaveBytes object_limit (told_files (behind_name c)) texts
-  pub have_objects : HaveValues HasObject texts objects
-  pub comes : LibraryComes (behind_name c) texts objects status
-  pub says : SaysLast c.before c.after (behind_name c).names [] status
-  pub writes : WritesFile c (first_name c) (library_bytes objects) (AllAccepted (behind_name c) objects) status
-  pub untouched : IsUntouched c.before c.after
-  pub unwritten : IsUnwritten c.before c.after
-  pub completes : (told objects : List (List ℕ)) → TellBytes (told_files (behind_name c)) told → AllTaken object_limit HasObject (told_files (behind_name c)) objects → NoFault c.before c.after → IsDone status
 
 -- ---- migrate
 

@@ -13,7 +13,6 @@ pub enum Action {
     Map,
     Migrate,
     Big,
-    Lib,
     Hex,
 }
 
@@ -31,20 +30,16 @@ pub(crate) fn action_of(name: &str) -> Option<Action>
         "map" => Some(Action::Map),
         "migrate" => Some(Action::Migrate),
         "big" => Some(Action::Big),
-        "lib" => Some(Action::Lib),
         "hex" => Some(Action::Hex),
         _ => None,
     }
 }
 
 // How many WORDs an action takes at least.
-pub(crate) fn least_names_of(action: Action) -> usize
-    ensures { result ≡ least_names action }
+pub(crate) fn least_names_of(_action: Action) -> usize
+    ensures { result ≡ least_names _action }
 {
-    match action {
-        Action::Lib => 2,
-        _ => 1,
-    }
+    1
 }
 
 // How many WORDs an action takes at most.
@@ -53,8 +48,6 @@ pub(crate) fn most_names_of(action: Action) -> usize
 {
     match action {
         Action::Go | Action::Link | Action::Map => 200,
-        // the name of the library, and its objects
-        Action::Lib => 201,
         _ => 1,
     }
 }
