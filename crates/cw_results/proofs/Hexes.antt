@@ -57,7 +57,7 @@ module _ (c : Call) where
       pub stopped : (s : Status) → Closed c s → AllStay c.before.files c.after.files → Stopped object_limit HasImage (λ texts taken. StopsImages (file ∷ []) texts taken (counts_before c) (counts_after c) s) (file ∷ []) → HexesRight c s
       stopped s closed stay y =
           let x : Stopped object_limit HasImage (λ texts taken. StopsImages (told_files c) texts taken (counts_before c) (counts_after c) s) (told_files c) =
-            subst (λ files. Stopped object_limit HasImage (λ texts taken. StopsImages files texts taken (counts_before c) (counts_after c) s) files) one y in
+          subst (λ files. Stopped object_limit HasImage (λ texts taken. StopsImages files texts taken (counts_before c) (counts_after c) s) files) one y in
           make s closed x.texts x.values x.have_bytes x.have_values
           (stops_images (λ t. HexComes c x.texts x.values t) (told_files c) x.texts (length x.values) (counts_before c) (counts_after c) (λ number fault y. y) (λ number y. y) (λ y. y) (λ number y. y) tt s x.stops)
           (stops_images (λ t. WritesFile c new_name (first_hex_text x.values) (AllAccepted c x.values) t) (told_files c) x.texts (length x.values) (counts_before c) (counts_after c) (λ number fault y. stay) (λ number y. stay) (λ y. inl stay) (λ number y. stay) stay s x.stops)
