@@ -59,17 +59,23 @@ fn spelled(alloc: Global, words: &[u16], code: &[u8]) -> Result<Vec<u8>, AllocEr
     Ok(bytes)
 }
 
-fn image(alloc: Global, words: &[u16], code: &[u8]) -> Option<Image>
+// The image that the bytes are, if they are one.
+fn image_of(alloc: Global, bytes: &[u8]) -> Option<Image>
     ensures { IfSome result IsImage }
 {
     image_format();
-    let Ok(bytes) = spelled(alloc, words, code) else {
-        return None;
-    };
-    match read_image(alloc, bytes.as_slice()) {
+    match read_image(alloc, bytes) {
         Ok(image) => Some(image),
         Err(_) => None,
     }
+}
+
+// The image with these words and this code.
+fn image(alloc: Global, words: &[u16], code: &[u8]) -> Option<Image>
+    ensures { IfSome result IsImage }
+{
+    let bytes = spelled(alloc, words, code).ok()?;
+    image_of(alloc, bytes.as_slice())
 }
 
 // The text that is written of the image, if there is one, and memory for it.
