@@ -1,5 +1,5 @@
 //! Short programs on the processor.
-ghost use Rattle.std.specs.Prelude.{⊤, true, [], None, Some};
+ghost use Rattle.std.specs.Prelude.{⊤, true, false, [], None, Some};
 
 use cw_cpu86::{Cpu, Ports, RunEnd};
 use cw_i86::Flags;
