@@ -13,6 +13,7 @@ exec a?exec 16384 4096 256 200000000 0 a
 list a?list 16384 4096 256 200000000 0 a
 map a b?map 16384 4096 256 200000000 0 a b
 migrate a?migrate 16384 4096 256 200000000 0 a
+hex a?hex 16384 4096 256 200000000 0 a
 big 7?big 16384 4096 256 200000000 7 7
 big 100?big 16384 4096 256 200000000 100 100
 big 001?big 16384 4096 256 200000000 1 001
@@ -70,6 +71,8 @@ compile a b?
 exec a b?
 list a b?
 migrate a b?
+hex a b?
+hex?
 big 1 2?
 big 0?
 big 101?
@@ -88,6 +91,7 @@ fn name(action: Action) -> &'static str {
         Action::Map => "map",
         Action::Migrate => "migrate",
         Action::Big => "big",
+        Action::Hex => "hex",
     }
 }
 
