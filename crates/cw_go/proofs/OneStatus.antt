@@ -16,7 +16,7 @@ use Rattle.cw_build.specs.Linking.{Links, IsLinkFault, image_of}
 use Rattle.cw_files.specs.Texts.{HasUnit}
 use Rattle.cw_files.specs.Reading.{HaveBytes, HaveValues}
 use Rattle.cw_correct.specs.Calls.{Call, told_files, NoFault}
-use Rattle.cw_correct.specs.Running.{ImageShows, Tells, Ran}
+use Rattle.cw_correct.specs.Running.{begins_as, ImageShows, Tells, Ran}
 use Rattle.cw_correct.specs.Going.{RunsTexts}
 use Rattle.cw_say.specs.declared.status.Status.{Status}
 use Rattle.cw_say.specs.declared.status.Status.TheVariants.{Ended, Usage, Refused, Unlinked, Stopped, Unfinished, NoFile, Outside, NoMemory, BadFile, TooLong, BadCode, Divided}
@@ -62,7 +62,7 @@ module _ (texts : OneOfText) (runs : OneRun) (said : List SourceUnit → List �
   abbrev OfUnits : List SourceUnit → Status → Type 0
   OfUnits us s =
       ((fault : LinkFault) × IsLinkFault us c.limits fault × (s ≡ Unlinked fault))
-      ⊎ (Links us c.limits × ((o : run.Observed) × ImageShows (image_of us c.limits) input c.steps o × Tells c.steps s o.end) × TakenWithin c.before.left c.after.left)
+      ⊎ (Links us c.limits × ((o : run.Observed) × ImageShows (begins_as (image_of us c.limits)) input c.steps o × Tells c.steps s o.end) × TakenWithin c.before.left c.after.left)
       ⊎ (Links us c.limits × (s ≡ TooLong long.Input) × Taken c.before.left c.after.left (input_limit + 1))
 
   record OfCall (s : Status) : Type 0 where
@@ -80,10 +80,10 @@ module _ (texts : OneOfText) (runs : OneRun) (said : List SourceUnit → List �
   of_units : (s : Status) (x : RunsTexts said c input s) → length x.units ≡ length c.names → OfUnits x.units s → OfCall s
   of_units s x all of = record { ts = x.texts; us = x.units; bytes = x.have_texts; units = x.have_units; what = inr (all ∙ sym (length-map c.names c.before.files), of) }
 
-  of_run : (s : Status) (x : RunsTexts said c input s) → length x.units ≡ length c.names → Links x.units c.limits → Ran c input (image_of x.units c.limits) x.instructions x.shown s → OfCall s
+  of_run : (s : Status) (x : RunsTexts said c input s) → length x.units ≡ length c.names → Links x.units c.limits → Ran c input (begins_as (image_of x.units c.limits)) x.instructions x.shown s → OfCall s
   of_run s x all links ran =
       let within : TakenWithin c.before.left c.after.left = x.within_limit (not_too_long c.steps s x.shown.end ran.tells) in
-      of_units s x all (inr (inl (links, (x.shown, subst (λ n. ImageShows (image_of x.units c.limits) input n x.shown) ran.all ran.shows, ran.tells), within)))
+      of_units s x all (inr (inl (links, (x.shown, subst (λ n. ImageShows (begins_as (image_of x.units c.limits)) input n x.shown) ran.all ran.shows, ran.tells), within)))
 
   of_refusal : (number : ℕ) (fault : Refusal) (x : RunsTexts said c input (Refused number fault)) → OfCall (Refused number fault)
   of_refusal number fault x =

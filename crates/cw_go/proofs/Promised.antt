@@ -1,5 +1,5 @@
 -- A call that goes so, and is closed so, keeps its promise.
-use Rattle.std.proofs.Common.{◌≡◌, ◌≢◌, ℕ, zero, suc, ◌+◌, ◌<◌, ◌≤◌, Bool, false, List, [], ◌∷◌, length, take, sum, map, Option, Some, None, refl, sym, ap, ap₂, ◌∙◌, subst, inl, inr, arith, append-nil}
+use Rattle.std.proofs.Common.{◌≡◌, ◌≢◌, ℕ, zero, suc, ◌+◌, ◌<◌, ◌≤◌, Bool, true, false, List, [], ◌∷◌, length, take, sum, map, Option, Some, None, refl, sym, ap, ap₂, ◌∙◌, subst, inl, inr, arith, append-nil}
 use Rattle.std.specs.Prelude.{All, IsTrue, slice_get}
 use Rattle.std.proofs.lemmas.List.{length-map}
 use Rattle.std.proofs.lemmas.List.Elements.{All-nil}
@@ -358,6 +358,7 @@ module _ (given : Given) (telling : Telling) (action : Action) (limits : Limits)
               make input status closes taken.texts us steps o taken.have_bytes taken.have_values comes says runs reads within_limit preserves completes
 
           run_goes : (end : ImageEnd) → ports.RunShows end s input steps a.outside b.outside → ClosesBy (status_of steps end) → RunsTexts telling c input (status_of steps end)
+          unfolding leaves
           run_goes ends.Ended (o, r, told, output, took_all, quiet_input, quiet_out) closes =
               over Ended closes o (all_of, links) (lists_whole Ended refl closes) (ran Ended o r.shows told output quiet_input quiet_out closes) (leaves steps o false r closes.left) (λ other. took took_all closes.left)
               (λ bytes. meant.preserves given.runs us limits some_units most_units compiled within links input bytes s start steps o r.shows)
