@@ -1,6 +1,6 @@
 -- Files that are taken in order, where the store tells them.
-use Rattle.std.proofs.Common.{◌≡◌, ℕ, zero, suc, ◌<◌, ◌≤◌, List, [], ◌∷◌, length, map, Option, Some, None, refl, sym, ap, ap₂, ◌∙◌, subst, slice_get, arith}
-use Rattle.cw_io.specs.File.{Told, as_file, Is, IsLonger}
+use Rattle.std.proofs.Common.{◌≡◌, ℕ, zero, suc, ◌<◌, ◌≤◌, List, [], ◌∷◌, length, map, Option, Some, None, refl, sym, ap₂, ◌∙◌, subst, slice_get, arith}
+use Rattle.cw_io.specs.File.{Told, Is, IsLonger}
 use Rattle.cw_files.specs.Reading.{HaveBytes, HaveValues, IsLongerAt, IsRefusedAt}
 use Rattle.cw_compile.specs.declared.fault.Refusal.{Refusal}
 use Rattle.cw_compile.specs.Texts.{IsRefused}

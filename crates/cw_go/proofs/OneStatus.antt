@@ -1,9 +1,8 @@
 -- Two statuses never come of one call of `go`.
-use Rattle.std.proofs.Common.{◌≡◌, ◌≢◌, ◌⊎◌, ℕ, ◌+◌, ◌<◌, ◌≤◌, List, [], ◌∷◌, ◌++◌, length, length-append, map, Option, Some, None, slice_get, refl, sym, ap, ◌∙◌, subst, inl, inr, arith}
+use Rattle.std.proofs.Common.{◌≡◌, ◌≢◌, ◌⊎◌, ℕ, ◌+◌, ◌<◌, List, [], ◌++◌, length, length-append, Option, Some, None, slice_get, refl, sym, ap, ◌∙◌, subst, inl, inr, arith}
 use Rattle.std.proofs.lemmas.Bool.{cases_order}
 use Rattle.std.proofs.lemmas.List.{length-map}
 use Rattle.cw_io.specs.File.{Told, Is, IsLonger}
-use Rattle.cw_i86.specs.State.{State}
 use Rattle.cw_i86.specs.MachineRun as run
 use Rattle.cw_ports.specs.Pieces.{input_limit}
 use Rattle.cw_ports.specs.Running.{Taken, TakenWithin}

@@ -1,6 +1,6 @@
 -- A call that goes so, and is closed so, keeps its promise.
-use Rattle.std.proofs.Common.{◌≡◌, ◌≢◌, ℕ, zero, suc, ◌+◌, ◌<◌, ◌≤◌, Bool, true, false, List, [], ◌∷◌, length, take, sum, map, Option, Some, None, refl, sym, ap, ap₂, ◌∙◌, subst, inl, inr, arith, append-nil}
-use Rattle.std.specs.Prelude.{All, IsTrue, slice_get}
+use Rattle.std.proofs.Common.{◌≡◌, ◌≢◌, ℕ, ◌+◌, ◌<◌, ◌≤◌, Bool, true, false, List, [], length, take, Option, Some, None, refl, sym, ap, ap₂, ◌∙◌, subst, inl, inr, arith, append-nil}
+use Rattle.std.specs.Prelude.{All, slice_get}
 use Rattle.std.proofs.lemmas.List.{length-map}
 use Rattle.std.proofs.lemmas.List.Elements.{All-nil}
 use Rattle.cw_io.specs.Bytes.{before_told, after_told}
@@ -31,7 +31,7 @@ use Rattle.cw_files.specs.Reading.{Counts, counts_at, HaveBytes, HaveValues, All
 use Rattle.cw_say.specs.Said.{Says}
 use Rattle.cw_say.specs.Closing.{closing_line}
 use Rattle.cw_words.specs.declared.action.Action.{Action}
-use Rattle.cw_correct.specs.Calls.{Surroundings, Call, call_as, told_files, NoFault, IsUntouched}
+use Rattle.cw_correct.specs.Calls.{Surroundings, Call, call_as, told_files, IsUntouched}
 use Rattle.cw_correct.specs.Files.{counts_before, counts_after}
 use Rattle.cw_correct.specs.Closing.{Closes}
 use Rattle.cw_correct.specs.Saying.{IsFirstPart, SaysFirst}
@@ -43,9 +43,9 @@ use Rattle.cw_say.specs.declared.status.Status.TheVariants.{Ended, Usage, Refuse
 use Rattle.cw_say.specs.declared.status.Which.TheVariants.{Store, Input, Out, Say}
 use Rattle.cw_say.specs.declared.status.Long.TheVariants.{File}
 use Rattle.cw_say.specs.declared.status.Long.TheVariants as long
-use Rattle.cw_go.specs.Runs.{Streams, status_of, Lists, ListsPart, ListsAndRuns, Runs}
+use Rattle.cw_go.specs.Runs.{Streams, status_of, Lists, ListsPart, Runs}
 use Rattle.cw_go.specs.Laws.{IsRight}
-use Rattle.cw_go.specs.Goes.{streams_of, IsUnlinked, StopsReading, StopsLinking, RunsUnits, Takes, Goes}
+use Rattle.cw_go.specs.Goes.{streams_of, IsUnlinked, StopsReading, Goes}
 use Rattle.cw_go.proofs.Files as files
 use Rattle.cw_go.proofs.Links.{links_not_faulty}
 use Rattle.cw_go.proofs.Meant as meant
