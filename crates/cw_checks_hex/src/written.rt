@@ -47,6 +47,9 @@ const LAST_WORDS: &str =
 
 const LARGEST: usize = 360_512;
 
+// A record of type 02 and 4,096 of 16 bytes each, and then the base of the words.
+const CODE_END: usize = 180_256;
+
 // The bytes of an image with these words and this code.
 fn spelled(alloc: Global, words: &[u16], code: &[u8]) -> Result<Vec<u8>, AllocError> {
     let mut bytes = Vec::from_slice(alloc, &HEADER)?;
@@ -97,6 +100,14 @@ fn texts(rt: HostRuntime) -> Result<(), Fail> {
     Ok(())
 }
 
+// Whether a text has a part that ends at a place.
+fn ends_at(text: &[u8], end: usize, part: &str) -> bool {
+    match text.get(..end) {
+        Some(first) => first.ends_with(part.as_bytes()),
+        None => false,
+    }
+}
+
 #[test]
 fn largest(rt: HostRuntime) -> Result<(), Fail> {
     let alloc = rt.alloc();
@@ -110,9 +121,8 @@ fn largest(rt: HostRuntime) -> Result<(), Fail> {
     };
     let text = text.as_slice();
     assert_eq!(rt; text.len(), LARGEST);
-    assert!(rt; text.ends_with(LAST_WORDS.as_bytes()));
-    // a record of type 02 and 4,096 of 16 bytes each, and then the base of the words
-    assert!(rt; text[..16 + 4_096 * 44 + 16].ends_with(LAST_CODE.as_bytes()));
+    assert!(rt; ends_at(text, LARGEST, LAST_WORDS));
+    assert!(rt; ends_at(text, CODE_END, LAST_CODE));
     let Ok(cpu) = load_hex(alloc, text) else {
         assert!(rt; false);
         return Ok(());
