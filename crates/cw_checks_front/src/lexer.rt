@@ -314,7 +314,7 @@ fn first_difference(alloc: Global, rows: &str) -> Result<u64, AllocError> {
 #[test]
 fn texts(rt: HostRuntime) -> Result<(), Fail> {
     let first = first_difference(rt.alloc(), ROWS)?;
-    assert_eq!(rt; first, 100);
+    assert_eq!(rt; first, 108);
     Ok(())
 }
 
