@@ -260,7 +260,7 @@ fn texts_run(rt: HostRuntime) -> Result<(), Fail> {
             count = count.wrapping_add(1);
         }
     }
-    assert_eq!(rt; count, 102);
+    assert_eq!(rt; count, 103);
     Ok(())
 }
 
