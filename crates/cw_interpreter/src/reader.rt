@@ -11,7 +11,7 @@
 //! - `Segment` begins the next segment, and `Limits:area:frames:depth` sets the limits.
 //!
 //! Segment g has three storage families, at 100 g, 100 g + 10 and 100 g + 30.
-use crate::machine::{Program, Segment};
+use crate::segments::{Program, Segment};
 use cw_order::{Comparator, LabelMark, Order, Orders};
 use cw_unit::layout::Limits;
 use cw_unit::unit::{Def, Goal};
