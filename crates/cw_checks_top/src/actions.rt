@@ -34,6 +34,16 @@ const STOPPING: [u8; 38] = [
 // The HEX text of HALTING with another byte in its second line.
 const WRONG_SUM: &[u8] = b":020000021000EC\n:01000000F40C\n:0400000310000000E9\n:00000001FF\n";
 
+// Bytes that are taken for libraries, and are none.
+const LIBRARIES: [(&str, &[u8]); 6] = [
+    ("l2", b"C66L"),
+    ("l3", b"C66L\x02\x00"),
+    ("l4", b"C66L\x01\x00\x00\x00"),
+    ("l5", b"C66L\x01\x00\xC9\x00"),
+    ("l6", b"C66L\x01\x00\x01\x00\xFF\xFF\xFF\xFF"),
+    ("l7", b"C66L\x01\x00\x01\x00\x04\x00\x00\x00none"),
+];
+
 fn file(alloc: Global, name: &[u8], bytes: &[u8]) -> Result<MemFile, AllocError> {
     Ok(MemFile {
         name: list(alloc, name)?,
@@ -56,6 +66,19 @@ fn store(alloc: Global) -> Result<MemStore, AllocError> {
             "COMMON (INTEGER T); SEGMENT B BEGIN T := 1 END FINISH",
         ),
         ("r", "COMMON (PROCEDURE R); SEGMENT A BEGIN R END FINISH"),
+        ("m", "LIBRARY (PROCEDURE P1); SEGMENT M BEGIN P1 END FINISH"),
+        (
+            "x",
+            "LIBRARY (PROCEDURE P1; PROCEDURE P2); SEGMENT X BEGIN PROCEDURE P1; P2; END FINISH",
+        ),
+        (
+            "y",
+            "LIBRARY (PROCEDURE P2; PROCEDURE WRITEBYTE(VALUE INTEGER)); SEGMENT Y BEGIN PROCEDURE P2; WRITEBYTE(7); END FINISH",
+        ),
+        (
+            "z",
+            "LIBRARY (PROCEDURE WRITEBYTE(VALUE INTEGER)); SEGMENT Z BEGIN WRITEBYTE(9) END FINISH",
+        ),
     ];
     let mut files = Vec::new(alloc);
     for (name, text) in texts {
@@ -67,8 +90,11 @@ fn store(alloc: Global) -> Result<MemStore, AllocError> {
     files.push(file(alloc, b"stopping", &STOPPING)?)?;
     files.push(file(alloc, b"sum", WRONG_SUM)?)?;
     files.push(file(alloc, b"colon", b":")?)?;
+    for (name, bytes) in LIBRARIES {
+        files.push(file(alloc, name.as_bytes(), bytes)?)?;
+    }
     let no_call = List::of(Vec::new(alloc));
-    match MemStore::new(alloc, List::of(files), 16, 65_536, 4096, no_call) {
+    match MemStore::new(alloc, List::of(files), 32, 65_536, 4096, no_call) {
         Ok(store) => Ok(store),
         Err(_) => Err(AllocError),
     }
@@ -136,6 +162,26 @@ fn actions(rt: HostRuntime) -> Result<(), Fail> {
         ("hex A.IMX", "9||A.IMX: I3 Truncated 21\n"),
         ("hex missing", "6||no file: missing\n"),
         ("link b.SEG a", "9||a: O1 NotObject\n"),
+        ("compile m", "0||"),
+        ("compile x", "0||"),
+        ("compile y", "0||"),
+        ("compile z", "0||"),
+        ("link m.SEG", "3||link: K2 Undefined P1\n"),
+        ("lib l x.SEG z.SEG y.SEG", "0||"),
+        ("link m.SEG l", "0||"),
+        ("exec A.IMG", "0|\u{7}|"),
+        ("link l", "0||"),
+        ("exec A.IMG", "0||"),
+        ("lib l x.SEG x.SEG", "0||"),
+        ("link l m.SEG", "3||link: K5 SegmentTwice X\n"),
+        ("lib l x.SEG y", "9||y: O1 NotObject\n"),
+        ("lib l missing x.SEG", "6||no file: missing\n"),
+        ("link m.SEG l2", "9||l2: B3 Truncated 4\n"),
+        ("link m.SEG l3", "9||l3: B2 BadVersion\n"),
+        ("link m.SEG l4", "9||l4: B4 BadField 6\n"),
+        ("link m.SEG l5", "9||l5: B4 BadField 6\n"),
+        ("link m.SEG l6", "9||l6: B3 Truncated 12\n"),
+        ("link l7 m.SEG", "9||l7: B5 BadMember 1 O1 NotObject\n"),
         ("go t1 t2", "3||link: K1 Differs T 1 2\n"),
         ("go r", "3||link: K2 Undefined R\n"),
         ("go e e", "3||link: K5 SegmentTwice E\n"),

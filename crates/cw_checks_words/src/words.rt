@@ -14,6 +14,8 @@ list a?list 16384 4096 256 200000000 0 a
 map a b?map 16384 4096 256 200000000 0 a b
 migrate a?migrate 16384 4096 256 200000000 0 a
 hex a?hex 16384 4096 256 200000000 0 a
+lib a b?lib 16384 4096 256 200000000 0 a b
+lib a b c?lib 16384 4096 256 200000000 0 a b c
 big 7?big 16384 4096 256 200000000 7 7
 big 100?big 16384 4096 256 200000000 100 100
 big 001?big 16384 4096 256 200000000 1 001
@@ -73,6 +75,8 @@ list a b?
 migrate a b?
 hex a b?
 hex?
+lib a?
+lib?
 big 1 2?
 big 0?
 big 101?
@@ -92,6 +96,7 @@ fn name(action: Action) -> &'static str {
         Action::Migrate => "migrate",
         Action::Big => "big",
         Action::Hex => "hex",
+        Action::Lib => "lib",
     }
 }
 

@@ -5,13 +5,13 @@ use Rattle.cw_cpu86.specs.Ports.{AreBytes}
 use Rattle.cw_ports.specs.Running.{IsInput}
 use Rattle.cw_words.specs.Parts.{Parts, parts_of, copies_in}
 use Rattle.cw_words.specs.declared.action.Action.{Action}
-use Rattle.cw_words.specs.declared.action.Action.TheVariants.{Go, Compile, Link, Exec, List as Show, Map, Migrate, Big, Hex}
+use Rattle.cw_words.specs.declared.action.Action.TheVariants.{Go, Compile, Link, Exec, List as Show, Map, Migrate, Big, Hex, Lib}
 use Rattle.cw_correct.specs.Calls.{Surroundings, Call, call_of, told_files, first_name, NoFault, IsUntouched, IsUnwritten}
 use Rattle.cw_correct.specs.Saying.{SaysLast}
 use Rattle.cw_correct.specs.Going.{GoesRight}
 use Rattle.cw_correct.specs.Making.{MakesRight}
 use Rattle.cw_correct.specs.Executing.{ExecutesRight}
-use Rattle.cw_correct.specs.Results.{MapsRight, ShowsRight, CompilesRight, LinksRight, MigratesRight, HexesRight}
+use Rattle.cw_correct.specs.Results.{MapsRight, ShowsRight, CompilesRight, LibsRight, LinksRight, MigratesRight, HexesRight}
 use Rattle.cw_say.specs.declared.status.Status.{Status}
 use Rattle.cw_say.specs.declared.status.Status.TheVariants.{Usage, NoMemory, TooLong}
 use Rattle.cw_say.specs.declared.status.Long.TheVariants as long
@@ -31,6 +31,7 @@ pub record DoesNothing (before after : Surroundings) (status : Status) : Type 0 
 abbrev pub CorrectAs : Action → Call → (input : List ℕ) → Status → Type 0
 CorrectAs Go c input status = GoesRight c input status
 CorrectAs Compile c input status = CompilesRight c status
+CorrectAs Lib c input status = LibsRight c status
 CorrectAs Link c input status = LinksRight c status
 CorrectAs Exec c input status = ExecutesRight c input status
 CorrectAs Show c input status = ShowsRight c status

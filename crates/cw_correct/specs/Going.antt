@@ -25,7 +25,7 @@ use Rattle.cw_correct.specs.Saying.{SaysFirst}
 use Rattle.cw_correct.specs.Running.{begins_as, RunsImage, ReadsInput}
 use Rattle.cw_correct.specs.Meaning.{PreservesMeaning, CompletesRuns}
 use Rattle.cw_say.specs.declared.status.Status.{Status}
-use Rattle.cw_say.specs.declared.status.Status.TheVariants.{Ended, Usage, Refused, Unlinked, Stopped, Unfinished, NoFile, Outside, NoMemory, BadFile, TooLong, BadCode, Divided}
+use Rattle.cw_say.specs.declared.status.Status.TheVariants.{Ended, Usage, Refused, Unlinked, Stopped, Unfinished, NoFile, Outside, NoMemory, BadFile, TooLong, BadCode, Divided, TooMany}
 use Rattle.cw_say.specs.declared.status.Which.TheVariants.{Store, Input, Out, Say}
 use Rattle.cw_say.specs.declared.status.Long.TheVariants.{File}
 use Rattle.cw_say.specs.declared.status.Long.TheVariants as long
@@ -54,6 +54,7 @@ HasCause texts fault = Unit {0}
 abbrev pub GoComes : Call → (texts : List (List ℕ)) → (us : List SourceUnit) → Status → Type 0
 GoComes c texts us Usage = ⊥
 GoComes c texts us (BadFile number fault) = ⊥
+GoComes c texts us (TooMany count) = ⊥
 GoComes c texts us (Refused number fault) = StopsTexts (told_files c) texts (length us) (counts_before c) (counts_after c) (Refused number fault)
 GoComes c texts us (NoFile number) = StopsTexts (told_files c) texts (length us) (counts_before c) (counts_after c) (NoFile number)
 GoComes c texts us (TooLong (File number)) = StopsTexts (told_files c) texts (length us) (counts_before c) (counts_after c) (TooLong (File number))

@@ -1,5 +1,5 @@
--- What the actions promise that run nothing: `map` and `list` write their result to `out`; `compile`, `link`, `migrate` and `hex` write it to a file.
-use Rattle.std.specs.Prelude.{◌≡◌, ◌⊎◌, ℕ, ◌<◌, List, [], ◌∷◌, ◌++◌, length, map, take, codes}
+-- What the actions promise that run nothing: `map` and `list` write their result to `out`; `compile`, `lib`, `link`, `migrate` and `hex` write it to a file.
+use Rattle.std.specs.Prelude.{◌≡◌, ◌⊎◌, ℕ, ◌<◌, ◌≤◌, List, [], ◌∷◌, ◌++◌, length, map, take, drop, codes}
 use Rattle.cw_io.specs.Bytes.{after_told}
 use Rattle.cw_io.specs.Count.{Rose}
 use Rattle.cw_io.specs.File.{as_file, KeptOrWhole, OthersStay, AllStay}
@@ -17,6 +17,9 @@ use Rattle.cw_obj.specs.Migration.{IsMigrated}
 use Rattle.cw_build.specs.Compiled.{object_of}
 use Rattle.cw_build.specs.Linking.{AreLinked, IsFault, Links, IsLinkFault, map_text}
 use Rattle.cw_files.specs.Texts.{HasUnit, HasObject, HasImage, object_limit}
+use Rattle.cw_lib.specs.LibraryFormat.{library_bytes}
+use Rattle.cw_link_files.specs.Parts.{Part, HasPart, IsLinkList}
+use Rattle.cw_link_files.specs.Taken.{StopsParts}
 use Rattle.cw_files.specs.Reading.{HaveBytes, HaveValues, AllTaken, StopsTexts, StopsObjects, StopsImages}
 use Rattle.cw_correct.specs.Calls.{Call, told_files, first_name, NoFault, SameCounts, IsUntouched, IsUnwritten}
 use Rattle.cw_correct.specs.Files.{counts_before, counts_after, AllAccepted}
@@ -24,7 +27,7 @@ use Rattle.cw_correct.specs.Saying.{SaysLast}
 use Rattle.cw_correct.specs.Going.{HasCause}
 use Rattle.cw_correct.specs.Meaning.{TellBytes}
 use Rattle.cw_say.specs.declared.status.Status.{Status}
-use Rattle.cw_say.specs.declared.status.Status.TheVariants.{Ended, Unlinked, NoFile, Outside, NoMemory, BadFile, TooLong}
+use Rattle.cw_say.specs.declared.status.Status.TheVariants.{Ended, Unlinked, NoFile, Outside, NoMemory, BadFile, TooLong, TooMany}
 use Rattle.cw_say.specs.declared.status.Which.TheVariants.{Store, Out}
 use Rattle.cw_say.specs.declared.status.Long.TheVariants.{File}
 
@@ -122,36 +125,76 @@ pub record CompilesRight (c : Call) (status : Status) : Type 0 where
   pub unwritten : IsUnwritten c.before c.after
   pub completes : (told : List (List ℕ)) (us : List SourceUnit) → TellBytes (told_files c) told → AllTaken text_limit HasUnit (told_files c) us → NoFault c.before c.after → IsDone status
 
+-- ---- objects in, one result out
+
+abbrev pub ObjectsCome : Call → (texts objects : List (List ℕ)) → Status → Type 0
+ObjectsCome c texts objects Ended = AllAccepted c objects
+ObjectsCome c texts objects (Outside Store) = Rose c.before.store_faults c.after.store_faults
+ObjectsCome c texts objects status = StopsObjects (told_files c) texts (length objects) (counts_before c) (counts_after c) status
+
+-- ---- lib
+
+-- the call without its first name, which is that of the library: the others are objects
+abbrev pub over_objects : Call → Call
+over_objects c = record c { names = drop 1 c.names }
+
+-- the library of the call's objects, in the file of this name
+pub record MakesLibrary (name : List ℕ) (c : Call) (status : Status) : Type 0 where
+  pub texts : List (List ℕ)
+  pub objects : List (List ℕ)
+  pub have_bytes : HaveBytes object_limit (told_files c) texts
+  pub have_objects : HaveValues HasObject texts objects
+  pub comes : ObjectsCome c texts objects status
+  pub says : SaysLast c.before c.after c.names [] status
+  pub writes : WritesFile c name (library_bytes objects) (AllAccepted c objects) status
+  pub untouched : IsUntouched c.before c.after
+  pub unwritten : IsUnwritten c.before c.after
+  pub completes : (told objects : List (List ℕ)) → TellBytes (told_files c) told → AllTaken object_limit HasObject (told_files c) objects → NoFault c.before c.after → IsDone status
+
+-- in the file of the first name
+abbrev pub LibsRight : Call → Status → Type 0
+LibsRight c status = MakesLibrary (first_name c) (over_objects c) status
+
 -- ---- link
 
 abbrev pub all_contents : (objects : List (List ℕ)) → List Contents
 all_contents objects = map contents_in objects
 
-abbrev pub LinkComes : Call → (texts objects : List (List ℕ)) → Status → Type 0
-LinkComes c texts objects Ended = AllAccepted c objects × AreLinked (all_contents objects) c.limits
-LinkComes c texts objects (Outside Store) = Rose c.before.store_faults c.after.store_faults
-LinkComes c texts objects (Unlinked fault) = AllAccepted c objects × IsFault (all_contents objects) c.limits fault
-LinkComes c texts objects status = StopsObjects (told_files c) texts (length objects) (counts_before c) (counts_after c) status
+-- all files were taken, and this is the list that they come to
+pub record AreListed (c : Call) (parts : List Part) (list : List (List ℕ)) : Type 0 where
+  pub all : AllAccepted c parts
+  pub listed : IsLinkList parts list
 
--- the image of the files' objects, in the file `A.IMG`
+-- so many objects may be linked
+abbrev pub AreFew : (list : List (List ℕ)) → Type 0
+AreFew list = length list ≤ 200
+
+abbrev pub LinkComes : Call → (texts : List (List ℕ)) → (parts : List Part) → (list : List (List ℕ)) → Status → Type 0
+LinkComes c texts parts list Ended = AreListed c parts list × AreFew list × AreLinked (all_contents list) c.limits
+LinkComes c texts parts list (Outside Store) = Rose c.before.store_faults c.after.store_faults
+LinkComes c texts parts list (Unlinked fault) = AreListed c parts list × AreFew list × IsFault (all_contents list) c.limits fault
+LinkComes c texts parts list (TooMany count) = AreListed c parts list × (count ≡ length list) × (200 < count)
+LinkComes c texts parts list status = StopsParts (told_files c) texts (length parts) (counts_before c) (counts_after c) status
+
+abbrev pub image_file : (list : List (List ℕ)) → Limits → List ℕ
+image_file list limits = image_bytes (linked_image (all_contents list) limits)
+
+-- the image of the list that the files come to, in the file `A.IMG`
 pub record LinksRight (c : Call) (status : Status) : Type 0 where
   pub texts : List (List ℕ)
-  pub objects : List (List ℕ)
+  pub parts : List Part
+  pub list : List (List ℕ)
   pub have_bytes : HaveBytes object_limit (told_files c) texts
-  pub have_objects : HaveValues HasObject texts objects
-  pub comes : LinkComes c texts objects status
+  pub have_parts : HaveValues HasPart texts parts
+  pub comes : LinkComes c texts parts list status
   pub says : SaysLast c.before c.after c.names [] status
-  pub writes : WritesFile c (codes "A.IMG") (image_bytes (linked_image (all_contents objects) c.limits)) (AllAccepted c objects × AreLinked (all_contents objects) c.limits) status
+  pub writes : WritesFile c (codes "A.IMG") (image_file list c.limits) (AreListed c parts list × AreFew list × AreLinked (all_contents list) c.limits) status
   pub untouched : IsUntouched c.before c.after
   pub unwritten : IsUnwritten c.before c.after
-  pub completes : (told objects : List (List ℕ)) → TellBytes (told_files c) told → AllTaken object_limit HasObject (told_files c) objects → AreLinked (all_contents objects) c.limits → NoFault c.before c.after → IsDone status
+  pub completes : (told : List (List ℕ)) (parts : List Part) (list : List (List ℕ)) →
+      TellBytes (told_files c) told → AllTaken object_limit HasPart (told_files c) parts → IsLinkList parts list → AreFew list → AreLinked (all_contents list) c.limits → NoFault c.before c.after → IsDone status
 
 -- ---- migrate
-
-abbrev pub MigrateComes : Call → (texts objects : List (List ℕ)) → Status → Type 0
-MigrateComes c texts objects Ended = AllAccepted c objects
-MigrateComes c texts objects (Outside Store) = Rose c.before.store_faults c.after.store_faults
-MigrateComes c texts objects status = StopsObjects (told_files c) texts (length objects) (counts_before c) (counts_after c) status
 
 -- the object is of version 2 and has the records of the file's
 abbrev pub MigratesTo : (objects : List (List ℕ)) → (result : List ℕ) → Status → Type 0
@@ -165,7 +208,7 @@ pub record MigratesRight (c : Call) (status : Status) : Type 0 where
   pub result : List ℕ
   pub have_bytes : HaveBytes object_limit (told_files c) texts
   pub have_objects : HaveValues HasObject texts objects
-  pub comes : MigrateComes c texts objects status
+  pub comes : ObjectsCome c texts objects status
   pub says : SaysLast c.before c.after c.names [] status
   pub migrates : MigratesTo objects result status
   pub writes : WritesFile c (first_name c ++ codes ".SG2") result (AllAccepted c objects) status

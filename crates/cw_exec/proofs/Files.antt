@@ -91,6 +91,7 @@ not_bad bytes runnable (bad.Image fault) tells wrong =
     image_not_bad bytes x.0 fault x.1 wrong.1
 not_bad bytes runnable (bad.Hex fault) tells wrong = not_both bytes runnable.cpu fault (hex_tells bytes runnable wrong.0 tells).0 wrong.1
 not_bad bytes runnable (bad.Object fault) tells wrong = absurd wrong
+not_bad bytes runnable (bad.Library fault) tells wrong = absurd wrong
 
 -- ---- they tell one thing, or are bad in one way
 
@@ -127,5 +128,8 @@ one_bad bytes (bad.Image f) (bad.Hex g) x y = absurd (hex_is_no_image bytes y.0 
 one_bad bytes (bad.Hex f) (bad.Image g) x y = absurd (hex_is_no_image bytes x.0 y.0)
 one_bad bytes (bad.Hex f) (bad.Hex g) x y = ap bad.Hex (one_fault bytes f g x.1 y.1)
 one_bad bytes (bad.Object f) g x y = absurd x
+one_bad bytes (bad.Library f) g x y = absurd x
 one_bad bytes (bad.Image f) (bad.Object g) x y = absurd y
 one_bad bytes (bad.Hex f) (bad.Object g) x y = absurd y
+one_bad bytes (bad.Image f) (bad.Library g) x y = absurd y
+one_bad bytes (bad.Hex f) (bad.Library g) x y = absurd y

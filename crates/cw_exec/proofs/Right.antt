@@ -20,7 +20,7 @@ use Rattle.cw_correct.specs.Saying.{IsFirstPart, SaysLast}
 use Rattle.cw_correct.specs.Running.{RunsImage, ReadsInput}
 use Rattle.cw_correct.specs.Executing.{begins_first, first_names, ExecComes, CompletesExec, ExecutesRight}
 use Rattle.cw_say.specs.declared.status.Status.{Status}
-use Rattle.cw_say.specs.declared.status.Status.TheVariants.{Ended, Usage, Refused, Unlinked, Stopped, Unfinished, NoFile, Outside, NoMemory, BadFile, TooLong, BadCode, Divided}
+use Rattle.cw_say.specs.declared.status.Status.TheVariants.{Ended, Usage, Refused, Unlinked, Stopped, Unfinished, NoFile, Outside, NoMemory, BadFile, TooLong, BadCode, Divided, TooMany}
 use Rattle.cw_say.specs.declared.status.Bad.{Bad}
 use Rattle.cw_say.specs.declared.status.Which.TheVariants.{Store, Input, Out, Say}
 use Rattle.cw_say.specs.declared.status.Long.TheVariants.{File}
@@ -188,6 +188,7 @@ module _ (c : Call) (b : Surroundings) (stays : AllStay c.before.files c.after.f
       stops (TooLong long.Input) x closes = absurd x
       stops (BadCode offset) x closes = absurd x
       stops (Divided offset) x closes = absurd x
+      stops (TooMany count) x closes = absurd x
 
 -- ---- the call
 

@@ -6,8 +6,8 @@ use Rattle.cw_compile.specs.Texts.{text_limit, IsUnitOf}
 use Rattle.cw_build.specs.Building.{IsMadeOf}
 use Rattle.cw_image.specs.declared.image.Image.{Image}
 use Rattle.cw_say.specs.declared.status.Status.{Status}
-use Rattle.cw_say.specs.declared.status.Status.TheVariants.{Ended, Usage, Refused, Unlinked, Stopped, Unfinished, NoFile, Outside, NoMemory, BadFile, TooLong, BadCode, Divided}
-use Rattle.cw_say.specs.declared.status.Bad.TheVariants.{Object, Image as BadImage, Hex}
+use Rattle.cw_say.specs.declared.status.Status.TheVariants.{Ended, Usage, Refused, Unlinked, Stopped, Unfinished, NoFile, Outside, NoMemory, BadFile, TooLong, BadCode, Divided, TooMany}
+use Rattle.cw_say.specs.declared.status.Bad.TheVariants.{Object, Image as BadImage, Hex, Library}
 use Rattle.cw_files.specs.declared.segments.Segment.{Segment}
 use Rattle.cw_files.specs.declared.segments.Segments.{Segments}
 use Rattle.cw_build.specs.declared.made.Made.{Made}
@@ -33,10 +33,12 @@ unread_text files texts taken before after NoMemory unread = unread
 unread_text files texts taken before after (TooLong long) unread = unread
 unread_text files texts taken before after (BadCode offset) unread = unread
 unread_text files texts taken before after (Divided offset) unread = unread
+unread_text files texts taken before after (TooMany count) unread = unread
 unread_text files texts taken before after (Refused file fault) unread = absurd unread
 unread_text files texts taken before after (BadFile file (Object fault)) unread = absurd unread
 unread_text files texts taken before after (BadFile file (BadImage fault)) unread = absurd unread
 unread_text files texts taken before after (BadFile file (Hex fault)) unread = absurd unread
+unread_text files texts taken before after (BadFile file (Library fault)) unread = absurd unread
 
 pub unread_object : (files : List Told) (texts : List (List ℕ)) (taken : ℕ) (before after : Counts) (status : Status) → IsUnread object_limit files taken before after status
     → StopsObjects files texts taken before after status
@@ -51,10 +53,12 @@ unread_object files texts taken before after NoMemory unread = unread
 unread_object files texts taken before after (TooLong long) unread = unread
 unread_object files texts taken before after (BadCode offset) unread = unread
 unread_object files texts taken before after (Divided offset) unread = unread
+unread_object files texts taken before after (TooMany count) unread = unread
 unread_object files texts taken before after (Refused file fault) unread = absurd unread
 unread_object files texts taken before after (BadFile file (Object fault)) unread = absurd unread
 unread_object files texts taken before after (BadFile file (BadImage fault)) unread = absurd unread
 unread_object files texts taken before after (BadFile file (Hex fault)) unread = absurd unread
+unread_object files texts taken before after (BadFile file (Library fault)) unread = absurd unread
 
 pub unread_image : (files : List Told) (texts : List (List ℕ)) (taken : ℕ) (before after : Counts) (status : Status) → IsUnread object_limit files taken before after status
     → StopsImages files texts taken before after status
@@ -69,10 +73,12 @@ unread_image files texts taken before after NoMemory unread = unread
 unread_image files texts taken before after (TooLong long) unread = unread
 unread_image files texts taken before after (BadCode offset) unread = unread
 unread_image files texts taken before after (Divided offset) unread = unread
+unread_image files texts taken before after (TooMany count) unread = unread
 unread_image files texts taken before after (Refused file fault) unread = absurd unread
 unread_image files texts taken before after (BadFile file (Object fault)) unread = absurd unread
 unread_image files texts taken before after (BadFile file (BadImage fault)) unread = absurd unread
 unread_image files texts taken before after (BadFile file (Hex fault)) unread = absurd unread
+unread_image files texts taken before after (BadFile file (Library fault)) unread = absurd unread
 
 -- ---- texts
 

@@ -3,8 +3,8 @@ use Rattle.std.proofs.Common.{◌≡◌, ℕ, ◌≤◌, false, List, [], ◌∷
 use Rattle.cw_io.specs.File.{Told, Is}
 use Rattle.cw_image.specs.declared.fault.ImageFault.{ImageFault}
 use Rattle.cw_say.specs.declared.status.Status.{Status}
-use Rattle.cw_say.specs.declared.status.Status.TheVariants.{Ended, Usage, Refused, Unlinked, Stopped, Unfinished, NoFile, Outside, NoMemory, BadFile, TooLong, BadCode, Divided}
-use Rattle.cw_say.specs.declared.status.Bad.TheVariants.{Object, Image as BadImage, Hex}
+use Rattle.cw_say.specs.declared.status.Status.TheVariants.{Ended, Usage, Refused, Unlinked, Stopped, Unfinished, NoFile, Outside, NoMemory, BadFile, TooLong, BadCode, Divided, TooMany}
+use Rattle.cw_say.specs.declared.status.Bad.TheVariants.{Object, Image as BadImage, Hex, Library}
 use Rattle.cw_files.specs.declared.images.Runnable.{Runnable}
 use Rattle.cw_files.specs.Texts.{IsBad, begins_hex, HasRunnable, IsBadRunnable, object_limit}
 use Rattle.cw_files.specs.Reading.{Counts, SameCounts, IsBadAt, IsUnread, StopsImages, StopsRunnables, AnswersRunnable}
@@ -24,6 +24,7 @@ image_stops files texts before after bytes (BadFile number (BadImage fault)) is 
     (x.0, bad_image (slice_get texts number) bytes fault (ap (λ n. slice_get texts n) x.0 ∙ at) is x.1)
 image_stops files texts before after bytes (BadFile number (Object fault)) is at x = absurd x
 image_stops files texts before after bytes (BadFile number (Hex fault)) is at x = absurd x
+image_stops files texts before after bytes (BadFile number (Library fault)) is at x = absurd x
 image_stops files texts before after bytes Ended is at x = x
 image_stops files texts before after bytes Usage is at x = x
 image_stops files texts before after bytes (Refused file fault) is at x = x
@@ -36,6 +37,7 @@ image_stops files texts before after bytes NoMemory is at x = x
 image_stops files texts before after bytes (TooLong long) is at x = x
 image_stops files texts before after bytes (BadCode offset) is at x = x
 image_stops files texts before after bytes (Divided offset) is at x = x
+image_stops files texts before after bytes (TooMany count) is at x = x
 
 -- ---- the one file
 
@@ -53,6 +55,7 @@ unread_runnable files texts taken before after NoMemory unread = unread
 unread_runnable files texts taken before after (TooLong long) unread = unread
 unread_runnable files texts taken before after (BadCode offset) unread = unread
 unread_runnable files texts taken before after (Divided offset) unread = unread
+unread_runnable files texts taken before after (TooMany count) unread = unread
 unread_runnable files texts taken before after (BadFile file fault) unread = absurd unread
 
 pub runnable_taken : (file : Told) (bytes : List ℕ) (before after : Counts) (result : Result Runnable Status) → Is file bytes → length bytes ≤ object_limit → SameCounts before after

@@ -5,6 +5,7 @@ use Rattle.cw_unit.specs.declared.unit.Unit.{Unit as SourceUnit}
 use Rattle.cw_view.specs.ObjectFormat.{IsObject, IsFirstObjectFault}
 use Rattle.cw_i86.specs.MachineRun.{IsStart}
 use Rattle.cw_hex.specs.HexTold.{TellsHex, IsFirstHexFault}
+use Rattle.cw_lib.specs.LibraryFormat.{IsFirstLibraryFault}
 use Rattle.cw_image.specs.ImageFormat.{image_in}
 use Rattle.cw_image.specs.declared.image.Image.{Image}
 use Rattle.cw_image.specs.declared.fault.ImageFault.TheVariants as images
@@ -12,7 +13,7 @@ use Rattle.cw_link.specs.Contents.{Contents}
 use Rattle.cw_object.specs.ObjectContents.{contents_in}
 use Rattle.cw_compile.specs.Texts.{IsUnitOf}
 use Rattle.cw_say.specs.declared.status.Bad.{Bad}
-use Rattle.cw_say.specs.declared.status.Bad.TheVariants.{Object, Image as BadImage, Hex}
+use Rattle.cw_say.specs.declared.status.Bad.TheVariants.{Object, Image as BadImage, Hex, Library}
 use Rattle.cw_files.specs.declared.images.Runnable.{Runnable}
 
 -- the most bytes of an object or an image
@@ -40,11 +41,12 @@ HasImage bytes image = image_in bytes ≡ Ok image
 abbrev pub HasObject : (bytes : List ℕ) → List ℕ → Type 0
 HasObject bytes object = IsObject bytes × (object ≡ bytes)
 
--- why the bytes of a file are no object, image or HEX text: the first thing that is wrong with them
+-- why the bytes of a file are no object, image, HEX text or library: the first thing that is wrong with them
 abbrev pub IsBad : (bytes : List ℕ) → Bad → Type 0
 IsBad bytes (Object fault) = IsFirstObjectFault bytes fault
 IsBad bytes (BadImage fault) = (image_in bytes ≡ Err fault) × (fault ≢ images.NoMemory)
 IsBad bytes (Hex fault) = IsFirstHexFault bytes fault
+IsBad bytes (Library fault) = IsFirstLibraryFault bytes fault
 
 -- ---- files of `exec`
 

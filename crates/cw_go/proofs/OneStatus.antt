@@ -18,7 +18,7 @@ use Rattle.cw_correct.specs.Calls.{Call, told_files, NoFault}
 use Rattle.cw_correct.specs.Running.{begins_as, ImageShows, Tells, Ran}
 use Rattle.cw_correct.specs.Going.{RunsTexts}
 use Rattle.cw_say.specs.declared.status.Status.{Status}
-use Rattle.cw_say.specs.declared.status.Status.TheVariants.{Ended, Usage, Refused, Unlinked, Stopped, Unfinished, NoFile, Outside, NoMemory, BadFile, TooLong, BadCode, Divided}
+use Rattle.cw_say.specs.declared.status.Status.TheVariants.{Ended, Usage, Refused, Unlinked, Stopped, Unfinished, NoFile, Outside, NoMemory, BadFile, TooLong, BadCode, Divided, TooMany}
 use Rattle.cw_say.specs.declared.status.Which.TheVariants.{Store, Input, Out, Say}
 use Rattle.cw_say.specs.declared.status.Long.TheVariants.{File}
 use Rattle.cw_say.specs.declared.status.Long.TheVariants as long
@@ -116,6 +116,7 @@ module _ (texts : OneOfText) (runs : OneRun) (said : List SourceUnit â†’ List â„
   of_call (Unfinished count) other x = of_run (Unfinished count) x x.comes.0 x.comes.1 x.runs_image
   of_call (BadCode offset) other x = of_run (BadCode offset) x x.comes.0 x.comes.1 x.runs_image
   of_call (Divided offset) other x = of_run (Divided offset) x x.comes.0 x.comes.1 x.runs_image
+  of_call (TooMany count) other x = absurd x.comes
 
   -- ---- of two that stopped
 
@@ -184,6 +185,7 @@ module _ (texts : OneOfText) (runs : OneRun) (said : List SourceUnit â†’ List â„
   tells_one (Unfinished count) end e = ap Unfinished e.1 âˆ™ sym (ap told_by e.0)
   tells_one (BadCode offset) end e = sym (ap told_by e)
   tells_one (Divided offset) end e = sym (ap told_by e)
+  tells_one (TooMany count) end e = absurd e
   tells_one Usage end e = absurd e
   tells_one (Refused number fault) end e = absurd e
   tells_one (Unlinked fault) end e = absurd e

@@ -39,7 +39,7 @@ use Rattle.cw_correct.specs.Running.{begins_as, Tells, Ran, Cut, RunsImage, Leav
 use Rattle.cw_correct.specs.Meaning.{PreservesMeaning, TellsUnits, CompletesRuns}
 use Rattle.cw_correct.specs.Going.{Telling, HasCause, GoComes, names_of, RunsTexts}
 use Rattle.cw_say.specs.declared.status.Status.{Status}
-use Rattle.cw_say.specs.declared.status.Status.TheVariants.{Ended, Usage, Refused, Unlinked, Stopped, Unfinished, NoFile, Outside, NoMemory, BadFile, TooLong, BadCode, Divided}
+use Rattle.cw_say.specs.declared.status.Status.TheVariants.{Ended, Usage, Refused, Unlinked, Stopped, Unfinished, NoFile, Outside, NoMemory, BadFile, TooLong, BadCode, Divided, TooMany}
 use Rattle.cw_say.specs.declared.status.Which.TheVariants.{Store, Input, Out, Say}
 use Rattle.cw_say.specs.declared.status.Long.TheVariants.{File}
 use Rattle.cw_say.specs.declared.status.Long.TheVariants as long
@@ -212,6 +212,7 @@ module _ (given : Given) (telling : Telling) (action : Action) (limits : Limits)
     stops_at (TooLong long.Input) stops closes = absurd stops
     stops_at (BadCode offset) stops closes = absurd stops
     stops_at (Divided offset) stops closes = absurd stops
+    stops_at (TooMany count) stops closes = absurd stops
 
   abbrev d : Call
   d = call_as action limits steps names before between
@@ -283,6 +284,7 @@ module _ (given : Given) (telling : Telling) (action : Action) (limits : Limits)
     linking_stops input (TooLong kind) x same closes = absurd x
     linking_stops input (BadCode offset) x same closes = absurd x
     linking_stops input (Divided offset) x same closes = absurd x
+    linking_stops input (TooMany count) x same closes = absurd x
 
     -- ---- that link
 

@@ -6,6 +6,7 @@ use cw_build::laws::linked_units;
 use cw_build_laws::laws::{loaded, separate_objects};
 use cw_compile::laws::one_outcome;
 use cw_cpu86::laws::{one_observation, one_start};
+use cw_link_files::laws::one_link_list;
 use cw_sim::laws::preservation;
 use cw_texts::laws::compiled_units;
 use cw_unit::laws::configurations;
@@ -47,4 +48,5 @@ pub fn apart()
     ensures migrated { LinksAsMigrated }
 {
     separate_objects();
+    one_link_list();
 }

@@ -1,4 +1,3 @@
 pub mod LibraryFormat
 pub mod Reading
 pub mod Uniqueness
-pub mod Selection

@@ -11,23 +11,20 @@ use Rattle.cw_compile.specs.declared.fault.Refusal.{Refusal}
 use Rattle.cw_unit.specs.declared.unit.Unit.{Unit as SourceUnit}
 use Rattle.cw_unit.specs.declared.layout.Limits.{Limits}
 use Rattle.cw_link.specs.declared.fault.LinkFault.{LinkFault}
-use Rattle.cw_link.specs.LinkedImage.{linked_image}
-use Rattle.cw_object.specs.ObjectContents.{contents_in}
 use Rattle.cw_obj.specs.Migration.{IsMigrated}
-use Rattle.cw_image.specs.ImageFormat.{image_bytes}
-use Rattle.cw_build.specs.Linking.{Links, IsLinkFault, AreLinked, IsFault, map_text}
+use Rattle.cw_build.specs.Linking.{Links, IsLinkFault, map_text}
 use Rattle.cw_view.specs.declared.fault.ObjFault.{ObjFault}
 use Rattle.cw_correct.specs.Calls.{Call}
 use Rattle.cw_correct.specs.Files.{counts_before, counts_after, AllAccepted}
 use Rattle.cw_correct.specs.Calls.{told_files}
 use Rattle.cw_correct.specs.Going.{HasCause}
-use Rattle.cw_correct.specs.Results.{MapComes, ShowComes, CompileComes, LinkComes, MigrateComes, all_contents}
+use Rattle.cw_correct.specs.Results.{MapComes, ShowComes, CompileComes, ObjectsCome}
 use Rattle.cw_results.specs.Closed.{Files, Out}
 use Rattle.cw_results.specs.Written.{GivesOut, GivesFile}
-use Rattle.cw_results.specs.Results.{MapsUnits, ShowsText, LinksObjects, MigratesObject}
+use Rattle.cw_results.specs.Results.{MapsUnits, ShowsText, MigratesObject}
 use Rattle.cw_say.specs.declared.status.Status.{Status}
-use Rattle.cw_say.specs.declared.status.Status.TheVariants.{Ended, Usage, Refused, Unlinked, Stopped, Unfinished, NoFile, Outside, NoMemory, BadFile, TooLong, BadCode, Divided}
-use Rattle.cw_say.specs.declared.status.Bad.TheVariants.{Object, Image as BadImage, Hex}
+use Rattle.cw_say.specs.declared.status.Status.TheVariants.{Ended, Usage, Refused, Unlinked, Stopped, Unfinished, NoFile, Outside, NoMemory, BadFile, TooLong, BadCode, Divided, TooMany}
+use Rattle.cw_say.specs.declared.status.Bad.TheVariants.{Object, Image as BadImage, Hex, Library}
 use Rattle.cw_say.specs.declared.status.Which.TheVariants.{Store, Input, Out as ToOut, Say}
 use Rattle.cw_say.specs.declared.status.Long.TheVariants.{File}
 use Rattle.cw_say.specs.declared.status.Long.TheVariants as long
@@ -58,6 +55,7 @@ module _ (P : Status → Type 0) where
     unread (TooLong long.Input) x = absurd x
     unread (BadCode offset) x = absurd x
     unread (Divided offset) x = absurd x
+    unread (TooMany count) x = absurd x
 
   module _ (files : List Told) (texts : List (List ℕ)) (taken : ℕ) (before after : Counts)
       (refused : (number : ℕ) (fault : Refusal) → (number ≡ taken) × IsRefusedAt (slice_get texts number) fault → P (Refused number fault))
@@ -83,6 +81,7 @@ module _ (P : Status → Type 0) where
     stops_texts (TooLong long.Input) x = absurd x
     stops_texts (BadCode offset) x = absurd x
     stops_texts (Divided offset) x = absurd x
+    stops_texts (TooMany count) x = absurd x
 
   module _ (files : List Told) (texts : List (List ℕ)) (taken : ℕ) (before after : Counts)
       (bad : (number : ℕ) (fault : ObjFault) → (number ≡ taken) × IsBadAt IsBad (slice_get texts number) (Object fault) → P (BadFile number (Object fault)))
@@ -106,10 +105,12 @@ module _ (P : Status → Type 0) where
     stops_objects (BadFile number (Object fault)) x = bad number fault x
     stops_objects (BadFile number (BadImage fault)) x = absurd x
     stops_objects (BadFile number (Hex fault)) x = absurd x
+    stops_objects (BadFile number (Library fault)) x = absurd x
     stops_objects (TooLong (File number)) x = longer number x
     stops_objects (TooLong long.Input) x = absurd x
     stops_objects (BadCode offset) x = absurd x
     stops_objects (Divided offset) x = absurd x
+    stops_objects (TooMany count) x = absurd x
 
   -- ---- of what was written
 
@@ -135,6 +136,7 @@ module _ (P : Status → Type 0) where
     gives_out (TooLong long.Input) x = absurd x
     gives_out (BadCode offset) x = absurd x
     gives_out (Divided offset) x = absurd x
+    gives_out (TooMany count) x = absurd x
 
   module _ (name result : List ℕ) (files files' : Files)
       (ended : (files'.told name ≡ as_file (files.told name) result) × OthersStay files.told files'.told name × SameCounts files.counts files'.counts → P Ended)
@@ -158,6 +160,7 @@ module _ (P : Status → Type 0) where
     gives_file (TooLong long.Input) x = absurd x
     gives_file (BadCode offset) x = absurd x
     gives_file (Divided offset) x = absurd x
+    gives_file (TooMany count) x = absurd x
 
   module _ (us : List SourceUnit) (limits : Limits) (out out' : Out)
       (unlinked : (fault : LinkFault) → IsLinkFault us limits fault × (out' ≡ out) → P (Unlinked fault))
@@ -181,6 +184,7 @@ module _ (P : Status → Type 0) where
     maps_units (TooLong long.Input) x = gives (TooLong long.Input) x.0 x.1
     maps_units (BadCode offset) x = gives (BadCode offset) x.0 x.1
     maps_units (Divided offset) x = gives (Divided offset) x.0 x.1
+    maps_units (TooMany count) x = gives (TooMany count) x.0 x.1
 
   module _ (text : List ℕ) (out out' : Out)
       (refused : (number : ℕ) (refusal : Refusal) → (number ≡ 0) × IsRefused text refusal × (out' ≡ out) → P (Refused number refusal))
@@ -204,29 +208,7 @@ module _ (P : Status → Type 0) where
     shows_text (TooLong long.Input) x = gives (TooLong long.Input) x.0 x.1 x.2
     shows_text (BadCode offset) x = gives (BadCode offset) x.0 x.1 x.2
     shows_text (Divided offset) x = gives (Divided offset) x.0 x.1 x.2
-
-  module _ (objects : List (List ℕ)) (limits : Limits) (files files' : Files)
-      (unlinked : (fault : LinkFault) → IsFault (map contents_in objects) limits fault × AllStay files.told files'.told → P (Unlinked fault))
-      (wanted : AllStay files.told files'.told → P NoMemory)
-      (gives : (s : Status) → AreLinked (map contents_in objects) limits → GivesFile (codes "A.IMG") (image_bytes (linked_image (map contents_in objects) limits)) files files' s → P s) where
-    pub links_objects : (s : Status) → LinksObjects objects limits files files' s → P s
-    links_objects Ended x = gives Ended x.0 x.1
-    links_objects Usage x = gives Usage x.0 x.1
-    links_objects (Refused number fault) x = gives (Refused number fault) x.0 x.1
-    links_objects (Unlinked fault) x = unlinked fault x
-    links_objects (Stopped kind segment line) x = gives (Stopped kind segment line) x.0 x.1
-    links_objects (Unfinished steps) x = gives (Unfinished steps) x.0 x.1
-    links_objects (NoFile number) x = gives (NoFile number) x.0 x.1
-    links_objects (Outside Store) x = gives (Outside Store) x.0 x.1
-    links_objects (Outside Input) x = gives (Outside Input) x.0 x.1
-    links_objects (Outside ToOut) x = gives (Outside ToOut) x.0 x.1
-    links_objects (Outside Say) x = gives (Outside Say) x.0 x.1
-    links_objects NoMemory x = wanted x
-    links_objects (BadFile number fault) x = gives (BadFile number fault) x.0 x.1
-    links_objects (TooLong (File number)) x = gives (TooLong (File number)) x.0 x.1
-    links_objects (TooLong long.Input) x = gives (TooLong long.Input) x.0 x.1
-    links_objects (BadCode offset) x = gives (BadCode offset) x.0 x.1
-    links_objects (Divided offset) x = gives (Divided offset) x.0 x.1
+    shows_text (TooMany count) x = gives (TooMany count) x.0 x.1 x.2
 
   module _ (name object : List ℕ) (files files' : Files)
       (wanted : AllStay files.told files'.told → P NoMemory)
@@ -249,6 +231,7 @@ module _ (P : Status → Type 0) where
     migrates_object (TooLong long.Input) x = gives (TooLong long.Input) x.0 x.1 x.2
     migrates_object (BadCode offset) x = gives (BadCode offset) x.0 x.1 x.2
     migrates_object (Divided offset) x = gives (Divided offset) x.0 x.1 x.2
+    migrates_object (TooMany count) x = gives (TooMany count) x.0 x.1 x.2
 
   -- ---- of what a promise says of the status
 
@@ -275,6 +258,7 @@ module _ (P : Status → Type 0) where
     map_comes (TooLong long.Input) x = stops (TooLong long.Input) x
     map_comes (BadCode offset) x = stops (BadCode offset) x
     map_comes (Divided offset) x = stops (Divided offset) x
+    map_comes (TooMany count) x = stops (TooMany count) x
 
   module _ (c : Call) (texts shown : List (List ℕ))
       (ended : AllAccepted c shown → P Ended)
@@ -299,6 +283,7 @@ module _ (P : Status → Type 0) where
     show_comes (TooLong long.Input) x = stops (TooLong long.Input) x
     show_comes (BadCode offset) x = stops (BadCode offset) x
     show_comes (Divided offset) x = stops (Divided offset) x
+    show_comes (TooMany count) x = stops (TooMany count) x
 
   module _ (c : Call) (texts : List (List ℕ)) (us : List SourceUnit)
       (ended : AllAccepted c us → P Ended)
@@ -322,50 +307,28 @@ module _ (P : Status → Type 0) where
     compile_comes (TooLong long.Input) x = stops (TooLong long.Input) x
     compile_comes (BadCode offset) x = stops (BadCode offset) x
     compile_comes (Divided offset) x = stops (Divided offset) x
-
-  module _ (c : Call) (texts objects : List (List ℕ))
-      (ended : AllAccepted c objects × AreLinked (all_contents objects) c.limits → P Ended)
-      (failed : Rose c.before.store_faults c.after.store_faults → P (Outside Store))
-      (unlinked : (fault : LinkFault) → AllAccepted c objects × IsFault (all_contents objects) c.limits fault → P (Unlinked fault))
-      (stops : (s : Status) → StopsObjects (told_files c) texts (length objects) (counts_before c) (counts_after c) s → P s) where
-    pub link_comes : (s : Status) → LinkComes c texts objects s → P s
-    link_comes Ended x = ended x
-    link_comes Usage x = stops Usage x
-    link_comes (Refused number fault) x = stops (Refused number fault) x
-    link_comes (Unlinked fault) x = unlinked fault x
-    link_comes (Stopped kind segment line) x = stops (Stopped kind segment line) x
-    link_comes (Unfinished steps) x = stops (Unfinished steps) x
-    link_comes (NoFile number) x = stops (NoFile number) x
-    link_comes (Outside Store) x = failed x
-    link_comes (Outside Input) x = stops (Outside Input) x
-    link_comes (Outside ToOut) x = stops (Outside ToOut) x
-    link_comes (Outside Say) x = stops (Outside Say) x
-    link_comes NoMemory x = stops NoMemory x
-    link_comes (BadFile number fault) x = stops (BadFile number fault) x
-    link_comes (TooLong (File number)) x = stops (TooLong (File number)) x
-    link_comes (TooLong long.Input) x = stops (TooLong long.Input) x
-    link_comes (BadCode offset) x = stops (BadCode offset) x
-    link_comes (Divided offset) x = stops (Divided offset) x
+    compile_comes (TooMany count) x = stops (TooMany count) x
 
   module _ (c : Call) (texts objects : List (List ℕ))
       (ended : AllAccepted c objects → P Ended)
       (failed : Rose c.before.store_faults c.after.store_faults → P (Outside Store))
       (stops : (s : Status) → StopsObjects (told_files c) texts (length objects) (counts_before c) (counts_after c) s → P s) where
-    pub migrate_comes : (s : Status) → MigrateComes c texts objects s → P s
-    migrate_comes Ended x = ended x
-    migrate_comes Usage x = stops Usage x
-    migrate_comes (Refused number fault) x = stops (Refused number fault) x
-    migrate_comes (Unlinked fault) x = stops (Unlinked fault) x
-    migrate_comes (Stopped kind segment line) x = stops (Stopped kind segment line) x
-    migrate_comes (Unfinished steps) x = stops (Unfinished steps) x
-    migrate_comes (NoFile number) x = stops (NoFile number) x
-    migrate_comes (Outside Store) x = failed x
-    migrate_comes (Outside Input) x = stops (Outside Input) x
-    migrate_comes (Outside ToOut) x = stops (Outside ToOut) x
-    migrate_comes (Outside Say) x = stops (Outside Say) x
-    migrate_comes NoMemory x = stops NoMemory x
-    migrate_comes (BadFile number fault) x = stops (BadFile number fault) x
-    migrate_comes (TooLong (File number)) x = stops (TooLong (File number)) x
-    migrate_comes (TooLong long.Input) x = stops (TooLong long.Input) x
-    migrate_comes (BadCode offset) x = stops (BadCode offset) x
-    migrate_comes (Divided offset) x = stops (Divided offset) x
+    pub objects_come : (s : Status) → ObjectsCome c texts objects s → P s
+    objects_come Ended x = ended x
+    objects_come Usage x = stops Usage x
+    objects_come (Refused number fault) x = stops (Refused number fault) x
+    objects_come (Unlinked fault) x = stops (Unlinked fault) x
+    objects_come (Stopped kind segment line) x = stops (Stopped kind segment line) x
+    objects_come (Unfinished steps) x = stops (Unfinished steps) x
+    objects_come (NoFile number) x = stops (NoFile number) x
+    objects_come (Outside Store) x = failed x
+    objects_come (Outside Input) x = stops (Outside Input) x
+    objects_come (Outside ToOut) x = stops (Outside ToOut) x
+    objects_come (Outside Say) x = stops (Outside Say) x
+    objects_come NoMemory x = stops NoMemory x
+    objects_come (BadFile number fault) x = stops (BadFile number fault) x
+    objects_come (TooLong (File number)) x = stops (TooLong (File number)) x
+    objects_come (TooLong long.Input) x = stops (TooLong long.Input) x
+    objects_come (BadCode offset) x = stops (BadCode offset) x
+    objects_come (Divided offset) x = stops (Divided offset) x
+    objects_come (TooMany count) x = stops (TooMany count) x

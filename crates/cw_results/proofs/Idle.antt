@@ -1,6 +1,6 @@
 -- A call that did nothing but say that memory was wanted keeps its promise.
 use Rattle.std.proofs.Common.{[]}
-use Rattle.cw_correct.specs.Results.{MapsRight, ShowsRight, CompilesRight, LinksRight, MigratesRight, HexesRight}
+use Rattle.cw_correct.specs.Results.{MapsRight, ShowsRight, CompilesRight, MigratesRight, HexesRight}
 use Rattle.cw_results.specs.Idle.{AllowsIdle}
 use Rattle.cw_results.proofs.Hexes as hexing
 
@@ -46,20 +46,6 @@ compiles c idle = record {
   completes = λ told us tell taken quiet. tt;
 }
 
-pub links : AllowsIdle LinksRight
-links c idle = record {
-  texts = [];
-  objects = [];
-  have_bytes = tt;
-  have_objects = tt;
-  comes = tt;
-  says = idle.says;
-  writes = idle.stays;
-  untouched = idle.untouched;
-  unwritten = idle.unwritten;
-  completes = λ told objects tell taken linked quiet. tt;
-}
-
 pub migrates : AllowsIdle MigratesRight
 migrates c idle = record {
   texts = [];
@@ -79,4 +65,4 @@ migrates c idle = record {
 pub hexes : AllowsIdle HexesRight
 hexes c x = hexing.idle c x
 
-pub ruleset laws = (maps, shows, compiles, links, migrates, hexes)
+pub ruleset laws = (maps, shows, compiles, migrates, hexes)

@@ -10,8 +10,8 @@ use Rattle.cw_correct.specs.Calls.{Call, told_files}
 use Rattle.cw_correct.specs.Files.{counts_before, counts_after, AllAccepted}
 use Rattle.cw_correct.specs.Results.{HexComes}
 use Rattle.cw_say.specs.declared.status.Status.{Status}
-use Rattle.cw_say.specs.declared.status.Status.TheVariants.{Ended, Usage, Refused, Unlinked, Stopped, Unfinished, NoFile, Outside, NoMemory, BadFile, TooLong, BadCode, Divided}
-use Rattle.cw_say.specs.declared.status.Bad.TheVariants.{Object, Image as BadImage, Hex}
+use Rattle.cw_say.specs.declared.status.Status.TheVariants.{Ended, Usage, Refused, Unlinked, Stopped, Unfinished, NoFile, Outside, NoMemory, BadFile, TooLong, BadCode, Divided, TooMany}
+use Rattle.cw_say.specs.declared.status.Bad.TheVariants.{Object, Image as BadImage, Hex, Library}
 use Rattle.cw_say.specs.declared.status.Which.TheVariants.{Store, Input, Out as ToOut, Say}
 use Rattle.cw_say.specs.declared.status.Long.TheVariants.{File}
 use Rattle.cw_say.specs.declared.status.Long.TheVariants as long
@@ -39,10 +39,12 @@ module _ (P : Status → Type 0) where
     stops_images (BadFile number (BadImage fault)) x = bad number fault x
     stops_images (BadFile number (Object fault)) x = absurd x
     stops_images (BadFile number (Hex fault)) x = absurd x
+    stops_images (BadFile number (Library fault)) x = absurd x
     stops_images (TooLong (File number)) x = longer number x
     stops_images (TooLong long.Input) x = absurd x
     stops_images (BadCode offset) x = absurd x
     stops_images (Divided offset) x = absurd x
+    stops_images (TooMany count) x = absurd x
 
   module _ (c : Call) (texts : List (List ℕ)) (images : List Image)
       (ended : AllAccepted c images → P Ended)
@@ -66,3 +68,4 @@ module _ (P : Status → Type 0) where
     hex_comes (TooLong long.Input) x = stops (TooLong long.Input) x
     hex_comes (BadCode offset) x = stops (BadCode offset) x
     hex_comes (Divided offset) x = stops (Divided offset) x
+    hex_comes (TooMany count) x = stops (TooMany count) x

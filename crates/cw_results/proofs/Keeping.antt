@@ -13,7 +13,7 @@ use Rattle.cw_correct.specs.Results.{WritesOut, WritesFile}
 use Rattle.cw_results.specs.Closed.{IsClosed, Files, files_at, Out, out_at}
 use Rattle.cw_results.specs.Written.{GivesOut, GivesFile}
 use Rattle.cw_say.specs.declared.status.Status.{Status}
-use Rattle.cw_say.specs.declared.status.Status.TheVariants.{Ended, Usage, Refused, Unlinked, Stopped, Unfinished, NoFile, Outside, NoMemory, BadFile, TooLong, BadCode, Divided}
+use Rattle.cw_say.specs.declared.status.Status.TheVariants.{Ended, Usage, Refused, Unlinked, Stopped, Unfinished, NoFile, Outside, NoMemory, BadFile, TooLong, BadCode, Divided, TooMany}
 use Rattle.cw_say.specs.declared.status.Which.TheVariants.{Store, Input, Out as ToOut, Say}
 use Rattle.cw_say.specs.declared.status.Long.TheVariants.{File}
 use Rattle.cw_say.specs.declared.status.Long.TheVariants as long
@@ -41,6 +41,7 @@ first_part faults middle (TooLong (File number)) other = refl
 first_part faults middle (TooLong long.Input) other = refl
 first_part faults middle (BadCode offset) other = refl
 first_part faults middle (Divided offset) other = refl
+first_part faults middle (TooMany count) other = refl
 
 -- `say` got the closing line alone
 pub says_last : (before after : Surroundings) (names : List (List ℕ)) (s : Status) → s ≢ Outside Say → IsClosed names s before.say after.say before.say_faults after.say_faults → SaysLast before after names [] s

@@ -4,6 +4,7 @@ pub mod Texts
 pub mod Links
 pub mod Readings
 pub mod Fates
+pub mod Outcomes
 pub mod Units
 pub mod Objects
 pub mod ImageCases
@@ -13,7 +14,6 @@ pub mod Steps
 pub mod Maps
 pub mod Shows
 pub mod Compiles
-pub mod Linked
 pub mod Migrates
 pub mod Hexes
 pub mod Idle

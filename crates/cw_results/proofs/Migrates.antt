@@ -11,13 +11,13 @@ use Rattle.cw_files.specs.Reading.{HaveBytes, HaveValues, AllTaken, Stopped, Sto
 use Rattle.cw_correct.specs.Calls.{Call, told_files, NoFault, IsUntouched, IsUnwritten, first_name}
 use Rattle.cw_correct.specs.Files.{counts_before, counts_after, AllAccepted}
 use Rattle.cw_correct.specs.Meaning.{TellBytes}
-use Rattle.cw_correct.specs.Results.{WritesFile, IsDone, MigrateComes, MigratesTo, MigratesRight}
+use Rattle.cw_correct.specs.Results.{WritesFile, IsDone, ObjectsCome, MigratesTo, MigratesRight}
 use Rattle.cw_results.specs.Closed.{Files, files_at}
 use Rattle.cw_results.specs.Written.{GivesFile}
 use Rattle.cw_results.specs.Results.{MigratesObject}
 use Rattle.cw_say.specs.declared.status.Status.{Status}
 use Rattle.cw_say.specs.declared.status.Status.TheVariants.{Ended, NoMemory}
-use Rattle.cw_results.proofs.Cases.{stops_objects, gives_file, migrates_object, migrate_comes}
+use Rattle.cw_results.proofs.Cases.{stops_objects, gives_file, migrates_object, objects_come}
 use Rattle.cw_results.proofs.Keeping.{Closed, says_last, writes_file}
 use Rattle.cw_results.proofs.Objects.{ObjectRuns, all_run, stop_runs, stop_done}
 use Rattle.cw_results.proofs.Readings.{Found, all_told, tells}
@@ -38,7 +38,7 @@ module _ (c : Call) where
   new_name = first_name c ++ codes ".SG2"
 
   module _ (untouched : IsUntouched c.before c.after) (unwritten : IsUnwritten c.before c.after) where
-    make : (s : Status) → Closed c s → (texts objects : List (List ℕ)) (result : List ℕ) → HaveBytes object_limit (told_files c) texts → HaveValues HasObject texts objects → MigrateComes c texts objects s → MigratesTo objects result s
+    make : (s : Status) → Closed c s → (texts objects : List (List ℕ)) (result : List ℕ) → HaveBytes object_limit (told_files c) texts → HaveValues HasObject texts objects → ObjectsCome c texts objects s → MigratesTo objects result s
         → WritesFile c new_name result (AllAccepted c objects) s → MigratesRight c s
     make s closed texts objects result have values comes migrates writes = record {
       texts = texts;
@@ -47,13 +47,13 @@ module _ (c : Call) where
       have_bytes = have;
       have_objects = values;
       comes = comes;
-      says = says_last c.before c.after c.names s (λ e. subst (λ t. MigrateComes c texts objects t) e comes) closed;
+      says = says_last c.before c.after c.names s (λ e. subst (λ t. ObjectsCome c texts objects t) e comes) closed;
       migrates = migrates;
       writes = writes;
       untouched = untouched;
       unwritten = unwritten;
       completes = λ told others tell taken quiet.
-          migrate_comes IsDone c texts objects (λ x. tt) (λ x. absurd (quiet.store x))
+          objects_come IsDone c texts objects (λ x. tt) (λ x. absurd (quiet.store x))
           (λ t x. stop_done c (map Some told) (tell ∙ tells told) texts objects have values quiet others taken t x) s comes;
     }
 
@@ -65,7 +65,7 @@ module _ (c : Call) where
     pub stopped : (s : Status) → Closed c s → AllStay c.before.files c.after.files → Stopped object_limit HasObject (λ texts taken. StopsObjects (told_files c) texts taken (counts_before c) (counts_after c) s) (told_files c) → MigratesRight c s
     stopped s closed stay x =
         make s closed x.texts x.values [] x.have_bytes x.have_values
-        (stops_objects (λ t. MigrateComes c x.texts x.values t) (told_files c) x.texts (length x.values) (counts_before c) (counts_after c) (λ number fault y. y) (λ number y. y) (λ y. y) (λ number y. y) tt s x.stops)
+        (stops_objects (λ t. ObjectsCome c x.texts x.values t) (told_files c) x.texts (length x.values) (counts_before c) (counts_after c) (λ number fault y. y) (λ number y. y) (λ y. y) (λ number y. y) tt s x.stops)
         (stops_migrate x.values x.texts s x.stops)
         (stops_objects (λ t. WritesFile c new_name [] (AllAccepted c x.values) t) (told_files c) x.texts (length x.values) (counts_before c) (counts_after c) (λ number fault y. stay) (λ number y. stay) (λ y. inl stay) (λ number y. stay) stay s x.stops)
 
@@ -84,7 +84,7 @@ module _ (c : Call) where
           (λ y end. make NoMemory end x.texts objects [] x.have_bytes x.have_values tt (migrates_nothing objects []) (λ other. y other ∙ stay other))
           (λ t result is gives end.
           make t end x.texts objects result x.have_bytes x.have_values
-          (gives_file (λ u. MigrateComes c x.texts objects u) new_name result between (files_at c.after.files c.after.store_faults c.after.absences)
+          (gives_file (λ u. ObjectsCome c x.texts objects u) new_name result between (files_at c.after.files c.after.store_faults c.after.absences)
           (λ y. all) (λ y. subst (λ faults. Rose faults c.after.store_faults) same.0 y.2) (λ y. tt) t gives)
           (to_any objects result t is gives)
           (writes_file c untouched new_name result (AllAccepted c objects) t all unwritten between stay same end gives))
@@ -98,7 +98,7 @@ module _ (c : Call) where
   pub fate : (s : Status) → MigratesRight c s → (found : List Found) → told_files c ≡ all_told found → NoFault c.before c.after
       → (s ≡ NoMemory) ⊎ ((xs : List (List ℕ)) × ObjectRuns found xs (Some s)) ⊎ ((xs : List (List ℕ)) × ObjectRuns found xs None × After xs s)
   fate s x found told quiet =
-      migrate_comes (λ t. (t ≡ NoMemory) ⊎ ((xs : List (List ℕ)) × ObjectRuns found xs (Some t)) ⊎ ((xs : List (List ℕ)) × ObjectRuns found xs None × After xs t)) c x.texts x.objects
+      objects_come (λ t. (t ≡ NoMemory) ⊎ ((xs : List (List ℕ)) × ObjectRuns found xs (Some t)) ⊎ ((xs : List (List ℕ)) × ObjectRuns found xs None × After xs t)) c x.texts x.objects
       (λ all. inr (inr (x.objects, all_run c found told x.texts x.objects x.have_bytes x.have_objects all, refl)))
       (λ rose. absurd (quiet.store rose))
       (λ t stops. more t (stop_runs c found told x.texts x.objects x.have_bytes x.have_objects quiet t stops))

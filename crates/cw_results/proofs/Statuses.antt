@@ -9,7 +9,7 @@ use Rattle.cw_view.specs.ObjectFormat.{IsFirstObjectFault}
 use Rattle.cw_view.specs.Uniqueness.{HasOneFault}
 use Rattle.cw_files.specs.Texts.{HasUnit, HasObject, object_limit}
 use Rattle.cw_correct.specs.Correct.{TellsBytes}
-use Rattle.cw_correct.specs.Results.{MapsRight, ShowsRight, CompilesRight, LinksRight, MigratesRight}
+use Rattle.cw_correct.specs.Results.{MapsRight, ShowsRight, CompilesRight, MigratesRight}
 use Rattle.cw_say.specs.declared.status.Status.{Status}
 use Rattle.cw_say.specs.declared.status.Status.TheVariants.{Ended, Refused}
 use Rattle.cw_results.specs.OneStatus.{AllowsOneStatus}
@@ -17,27 +17,26 @@ use Rattle.cw_results.proofs.Fates.{one_fate}
 use Rattle.cw_results.proofs.Readings.{Found, AllFit}
 use Rattle.cw_results.proofs.Texts.{OneOfText, not_refused, shown_not_refused}
 use Rattle.cw_results.proofs.Units.{same_units}
-use Rattle.cw_results.proofs.Objects.{bad_status, not_bad, same_objects}
+use Rattle.cw_results.proofs.Objects.{bad_status, not_bad}
 use Rattle.cw_results.proofs.Maps as maps
 use Rattle.cw_results.proofs.Shows as shows
 use Rattle.cw_results.proofs.Compiles as compiles
-use Rattle.cw_results.proofs.Linked as linked
 use Rattle.cw_results.proofs.Migrates as migrates
 
-abbrev Any : List ℕ → Type 0
+abbrev pub Any : List ℕ → Type 0
 Any text = Unit {0}
 
-any : (found : List Found) → AllFit Any found
+pub any : (found : List Found) → AllFit Any found
 any [] = tt
 any (None ∷ found) = any found
 any (Some text ∷ found) = (tt, any found)
 
-all_bytes : (found : List Found) → All TellsBytes found → AllFit AreBytes found
+pub all_bytes : (found : List Found) → All TellsBytes found → AllFit AreBytes found
 all_bytes [] all = tt
 all_bytes (None ∷ found) all = all_bytes found (All-tail TellsBytes None found all)
 all_bytes (Some bytes ∷ found) all = (All-head TellsBytes (Some bytes) found all, all_bytes found (All-tail TellsBytes (Some bytes) found all))
 
-ended : (s t : Status) → s ≡ Ended → t ≡ Ended → s ≡ t
+pub ended : (s t : Status) → s ≡ Ended → t ≡ Ended → s ≡ t
 ended s t e f = e ∙ sym f
 
 module _ (given : OneOfText) where
@@ -60,14 +59,8 @@ module _ (given : OneOfText) where
       a b (any found) m n (compiles.fate given c a x found told quiet) (compiles.fate given c b y found told quiet)
 
 module _ (one_fault : HasOneFault) where
-  wrong : (bytes : List ℕ) (f g : ObjFault) → AreBytes bytes → IsFirstObjectFault bytes f → IsFirstObjectFault bytes g → f ≡ g
+  pub wrong : (bytes : List ℕ) (f g : ObjFault) → AreBytes bytes → IsFirstObjectFault bytes f → IsFirstObjectFault bytes g → f ≡ g
   wrong bytes f g fit x y = one_fault bytes f g fit x y
-
-  pub links_once : AllowsOneStatus LinksRight
-  links_once c a b found told all quiet m n x y =
-      one_fate object_limit HasObject IsFirstObjectFault bad_status (linked.After c) not_bad AreBytes wrong
-      found (λ us vs s t runs others after other. linked.one_after c us vs s t (same_objects c found told us vs runs others) after other)
-      a b (all_bytes found all) m n (linked.fate c a x found told quiet) (linked.fate c b y found told quiet)
 
   pub migrates_once : AllowsOneStatus MigratesRight
   migrates_once c a b found told all quiet m n x y =

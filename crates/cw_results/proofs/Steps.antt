@@ -11,19 +11,15 @@ use Rattle.cw_list.specs.Rows.{program_listing}
 use Rattle.cw_compile.specs.declared.fault.UnitFault.{UnitFault}
 use Rattle.cw_compile.specs.declared.fault.UnitFault.TheVariants as units
 use Rattle.cw_compile.specs.Texts.{text_limit, IsCanonicalOf, IsFaultOf}
-use Rattle.cw_link.specs.LinkedImage.{linked_image}
-use Rattle.cw_link.specs.LinkFaults.{IsFirstLinkFault}
 use Rattle.cw_link.specs.declared.fault.LinkFault.{LinkFault}
 use Rattle.cw_link.specs.declared.fault.LinkFault.TheVariants.{SegmentTwice, Differs, DefinedTwice, Undefined, AbsoluteOutside, DataTooBig, ControlTooBig, PresetClash, CodeTooBig, NoMemory as NoMemoryToLink}
-use Rattle.cw_image.specs.ImageFormat.{image_bytes}
-use Rattle.cw_object.specs.ObjectContents.{contents_in}
 use Rattle.cw_obj.specs.Migration.{IsMigrated}
-use Rattle.cw_build.specs.Linking.{Links, AreLinked, IsFault, map_text}
+use Rattle.cw_build.specs.Linking.{Links, map_text}
 use Rattle.cw_build.specs.Building.{FailsToLink}
 use Rattle.cw_files.specs.Reading.{Counts, HaveBytes, IsUnread}
 use Rattle.cw_results.specs.Closed.{Files, Out}
 use Rattle.cw_results.specs.Written.{GivesOut, GivesFile}
-use Rattle.cw_results.specs.Results.{unlinked_status, faulty_status, MapsUnits, ShowsText, LinksObjects, MigratesObject}
+use Rattle.cw_results.specs.Results.{unlinked_status, faulty_status, MapsUnits, ShowsText, MigratesObject}
 use Rattle.cw_say.specs.declared.status.Status.{Status}
 use Rattle.cw_say.specs.declared.status.Status.TheVariants.{Unlinked}
 use Rattle.cw_results.proofs.Cases.{gives_out, gives_file}
@@ -91,29 +87,6 @@ module _ (file : List ℕ → Told) (names : List (List ℕ)) (few : length name
   unread_one before after s x = subst (λ files. IsUnread text_limit files 0 before after s) (sym one) x
 
 -- ---- objects
-
-module _ (objects : List (List ℕ)) (limits : Limits) where
-  pub links_of : (files files' : Files) (s : Status) → AreLinked (map contents_in objects) limits → GivesFile (codes "A.IMG") (image_bytes (linked_image (map contents_in objects) limits)) files files' s → LinksObjects objects limits files files' s
-  links_of files files' s links gives =
-      gives_file (λ t. LinksObjects objects limits files files' t) (codes "A.IMG") (image_bytes (linked_image (map contents_in objects) limits)) files files' (λ x. (links, x)) (λ x. (links, x)) (λ x. x) s gives
-
-  as_fault : (fault : LinkFault) → fault ≢ NoMemoryToLink → IsFirstLinkFault (map contents_in objects) limits fault → IsFault (map contents_in objects) limits fault
-  as_fault fault other x = record { first = x; is_fault = other }
-
-  unlinked_links_as : (files : Files) (fault : LinkFault) → IsFirstLinkFault (map contents_in objects) limits fault → LinksObjects objects limits files files (unlinked_status fault)
-  unlinked_links_as files NoMemoryToLink x = λ name. refl
-  unlinked_links_as files (SegmentTwice name) x = (as_fault (SegmentTwice name) (λ e. absurd (cc)) x, (λ other. refl))
-  unlinked_links_as files (Differs name first second) x = (as_fault (Differs name first second) (λ e. absurd (cc)) x, (λ other. refl))
-  unlinked_links_as files (DefinedTwice name first second) x = (as_fault (DefinedTwice name first second) (λ e. absurd (cc)) x, (λ other. refl))
-  unlinked_links_as files (Undefined name) x = (as_fault (Undefined name) (λ e. absurd (cc)) x, (λ other. refl))
-  unlinked_links_as files (AbsoluteOutside segment address) x = (as_fault (AbsoluteOutside segment address) (λ e. absurd (cc)) x, (λ other. refl))
-  unlinked_links_as files (DataTooBig need) x = (as_fault (DataTooBig need) (λ e. absurd (cc)) x, (λ other. refl))
-  unlinked_links_as files (ControlTooBig need) x = (as_fault (ControlTooBig need) (λ e. absurd (cc)) x, (λ other. refl))
-  unlinked_links_as files (PresetClash address first second) x = (as_fault (PresetClash address first second) (λ e. absurd (cc)) x, (λ other. refl))
-  unlinked_links_as files (CodeTooBig bytes) x = (as_fault (CodeTooBig bytes) (λ e. absurd (cc)) x, (λ other. refl))
-
-  pub unlinked_links : (files : Files) (fault : LinkFault) (s : Status) → s ≡ unlinked_status fault → IsFirstLinkFault (map contents_in objects) limits fault → LinksObjects objects limits files files s
-  unlinked_links files fault s e x = subst (λ t. LinksObjects objects limits files files t) (sym e) (unlinked_links_as files fault x)
 
 pub migrates_of : (name object result : List ℕ) (files files' : Files) (s : Status) → IsMigrated object result → GivesFile (name ++ codes ".SG2") result files files' s → MigratesObject name object files files' s
 migrates_of name object result files files' s is gives =

@@ -10,7 +10,7 @@ use Rattle.cw_files.specs.Texts.{HasUnit, HasObject, object_limit}
 use Rattle.cw_files.specs.Reading.{Counts, AllTaken, Stopped, StopsTexts, StopsObjects}
 
 module _ (file : List ℕ → Told) where
-  same_told : (names : List (Bor (List ℕ))) → map (λ name. file name.now) names ≡ map file (map (λ name. name.now) names)
+  pub same_told : (names : List (Bor (List ℕ))) → map (λ name. file name.now) names ≡ map file (map (λ name. name.now) names)
   same_told [] = refl
   same_told (name ∷ names) = ap (λ more. file name.now ∷ more) (same_told names)
 

@@ -6,13 +6,10 @@ use Rattle.cw_unit.specs.declared.layout.Limits.{Limits}
 use Rattle.cw_compile.specs.Texts.{IsCanonicalOf, IsRefused}
 use Rattle.cw_compile.specs.declared.fault.UnitFault.{UnitFault}
 use Rattle.cw_compile.specs.declared.fault.UnitFault.TheVariants as units
-use Rattle.cw_link.specs.LinkedImage.{linked_image}
 use Rattle.cw_link.specs.declared.fault.LinkFault.{LinkFault}
 use Rattle.cw_link.specs.declared.fault.LinkFault.TheVariants as linking
-use Rattle.cw_image.specs.ImageFormat.{image_bytes}
-use Rattle.cw_object.specs.ObjectContents.{contents_in}
 use Rattle.cw_obj.specs.Migration.{IsMigrated}
-use Rattle.cw_build.specs.Linking.{AreLinked, IsFault, Links, IsLinkFault, map_text}
+use Rattle.cw_build.specs.Linking.{Links, IsLinkFault, map_text}
 use Rattle.cw_results.specs.Closed.{Files, Out}
 use Rattle.cw_results.specs.Written.{GivesOut, GivesFile}
 use Rattle.cw_say.specs.declared.status.Status.{Status}
@@ -39,12 +36,6 @@ abbrev pub ShowsText : (text : List ℕ) → (out out' : Out) → Status → Typ
 ShowsText text out out' NoMemory = out' ≡ out
 ShowsText text out out' (Refused number refusal) = (number ≡ 0) × IsRefused text refusal × (out' ≡ out)
 ShowsText text out out' status = (shown : List ℕ) × IsCanonicalOf text shown × GivesOut shown out out' status
-
--- objects, whose image is written
-abbrev pub LinksObjects : (objects : List (List ℕ)) → Limits → (files files' : Files) → Status → Type 0
-LinksObjects objects limits files files' NoMemory = AllStay files.told files'.told
-LinksObjects objects limits files files' (Unlinked fault) = IsFault (map contents_in objects) limits fault × AllStay files.told files'.told
-LinksObjects objects limits files files' status = AreLinked (map contents_in objects) limits × GivesFile (codes "A.IMG") (image_bytes (linked_image (map contents_in objects) limits)) files files' status
 
 -- an object, which is written in version 2
 abbrev pub MigratesObject : (name object : List ℕ) → (files files' : Files) → Status → Type 0

@@ -1,5 +1,5 @@
 //! Laws of what the actions promise that run nothing.
-ghost use Rattle.cw_correct.specs.Results.{MapsRight, ShowsRight, CompilesRight, LinksRight, MigratesRight, HexesRight};
+ghost use Rattle.cw_correct.specs.Results.{MapsRight, ShowsRight, CompilesRight, MigratesRight, HexesRight};
 ghost use Rattle.cw_results.specs.Idle.{AllowsIdle};
 ghost use Rattle.cw_results.specs.OneStatus.{AllowsOneStatus};
 
@@ -12,7 +12,6 @@ pub fn idle()
     ensures map { AllowsIdle MapsRight }
     ensures list { AllowsIdle ShowsRight }
     ensures compile { AllowsIdle CompilesRight }
-    ensures link { AllowsIdle LinksRight }
     ensures migrate { AllowsIdle MigratesRight }
     ensures hex { AllowsIdle HexesRight }
 {}
@@ -22,7 +21,6 @@ pub fn one_status_of_results()
     ensures map { AllowsOneStatus MapsRight }
     ensures list { AllowsOneStatus ShowsRight }
     ensures compile { AllowsOneStatus CompilesRight }
-    ensures link { AllowsOneStatus LinksRight }
     ensures migrate { AllowsOneStatus MigratesRight }
     ensures hex { AllowsOneStatus HexesRight }
 {

@@ -1,4 +1,4 @@
-//! The actions that run nothing: `map` and `list` write a text to `out`, `compile`, `link`, `migrate` and `hex` a file.
+//! Actions that run nothing: `map` and `list` write a text to `out`, `compile`, `migrate` and `hex` a file.
 #![tactic(auto)]
 
 mod closing;
@@ -6,17 +6,18 @@ mod compiling;
 mod first;
 mod hexing;
 pub mod laws;
-mod linking;
 mod mapping;
 mod migrating;
 mod output;
 mod saving;
 mod showing;
-mod unlinked;
+mod unlinking;
 
+pub use closing::close;
 pub use compiling::compile;
 pub use hexing::hex;
-pub use linking::link;
 pub use mapping::map_files;
 pub use migrating::migrate;
+pub use saving::save;
 pub use showing::show;
+pub use unlinking::unlinked;

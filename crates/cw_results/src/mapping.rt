@@ -16,7 +16,7 @@ ghost use Rattle.cw_results.specs.Results.{MapsUnits};
 
 use crate::closing::close;
 use crate::output::write_text;
-use crate::unlinked::unlinked;
+use crate::unlinking::unlinked;
 use cw_build::laws::linked_units;
 use cw_build::link_units;
 use cw_compile::laws::one_outcome;

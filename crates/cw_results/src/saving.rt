@@ -9,7 +9,7 @@ use cw_word::NoMemory;
 use std::alloc::Global;
 
 /// Writes a file, and answers what the call comes to.
-pub(crate) fn save<F: Store>(files: &mut F, name: &str, bytes: &[u8]) -> Status
+pub fn save<F: Store>(files: &mut F, name: &str, bytes: &[u8]) -> Status
     ensures { GivesFile name.now bytes.now (files_at (F.file files.old) (F.faults files.old) (F.absences files.old)) (files_at (F.file files.new) (F.faults files.new) (F.absences files.new)) result }
 {
     match files.write_all(name, bytes) {

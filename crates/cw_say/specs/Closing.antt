@@ -1,7 +1,7 @@
 -- The number of each status, and the line that closes what is told of a run.
 use Rattle.std.specs.Prelude.{ℕ, ◌-◌, ◌==◌, List, [], ◌++◌, Option, None, Some, slice_get, slice_index_or, codes, decimal, if◌then◌else◌}
 use Rattle.cw_say.specs.declared.status.Status.{Status}
-use Rattle.cw_say.specs.declared.status.Status.TheVariants.{Ended, Usage, Refused, Unlinked, Stopped, Unfinished, NoFile, Outside, NoMemory, BadFile, TooLong, BadCode, Divided}
+use Rattle.cw_say.specs.declared.status.Status.TheVariants.{Ended, Usage, Refused, Unlinked, Stopped, Unfinished, NoFile, Outside, NoMemory, BadFile, TooLong, BadCode, Divided, TooMany}
 use Rattle.cw_link.specs.declared.fault.LinkFault.{LinkFault}
 use Rattle.cw_link.specs.declared.fault.LinkFault.TheVariants.{SegmentTwice, Differs, DefinedTwice, Undefined, AbsoluteOutside, DataTooBig, ControlTooBig, PresetClash, CodeTooBig}
 use Rattle.cw_link.specs.declared.fault.LinkFault.TheVariants as linking
@@ -11,6 +11,8 @@ use Rattle.cw_image.specs.declared.fault.ImageFault.{ImageFault}
 use Rattle.cw_image.specs.declared.fault.ImageFault.TheVariants as images
 use Rattle.cw_hex.specs.declared.fault.HexFault.{HexFault}
 use Rattle.cw_hex.specs.declared.fault.HexFault.TheVariants as hex
+use Rattle.cw_lib.specs.declared.fault.LibFault.{LibFault}
+use Rattle.cw_lib.specs.declared.fault.LibFault.TheVariants as libraries
 use Rattle.cw_say.specs.declared.status.Bad.{Bad}
 use Rattle.cw_say.specs.declared.status.Bad.TheVariants as bad
 use Rattle.cw_compile.specs.declared.fault.Refusal.{Refusal}
@@ -47,6 +49,7 @@ status_code (BadFile file fault) = 9
 status_code (TooLong long) = 10
 status_code (BadCode offset) = 11
 status_code (Divided offset) = 12
+status_code (TooMany count) = 13
 
 -- the file with this number
 abbrev pub file_name : (names : List (List ℕ)) → ℕ → List ℕ
@@ -160,40 +163,51 @@ link_line (CodeTooBig bytes) = codes "link: P4 CodeTooBig " ++ decimal bytes ++ 
 
 -- ---- bytes that are not what an action takes
 
--- behind the name of the file: what is wrong, and where, if that has a place
-abbrev pub bad_line : (text : List ℕ) → List ℕ
-bad_line text = codes ": " ++ text ++ codes "\n"
+-- behind a mark: what is wrong, and where, if that has a place
+abbrev pub bad_line : (mark text : List ℕ) → List ℕ
+bad_line mark text = mark ++ text ++ codes "\n"
 
-abbrev pub bad_place : (text : List ℕ) → (place : ℕ) → List ℕ
-bad_place text place = codes ": " ++ (text ++ (codes " " ++ (decimal place ++ codes "\n")))
+abbrev pub bad_place : (mark text : List ℕ) → (place : ℕ) → List ℕ
+bad_place mark text place = mark ++ (text ++ (codes " " ++ (decimal place ++ codes "\n")))
 
-abbrev pub object_line : ObjFault → List ℕ
-object_line objects.NotObject = bad_line (codes "O1 NotObject")
-object_line objects.BadVersion = bad_line (codes "O2 BadVersion")
-object_line (objects.Truncated place) = bad_place (codes "O3 Truncated") place
-object_line (objects.BadRecord place) = bad_place (codes "O4 BadRecord") place
-object_line (objects.Trailing place) = bad_place (codes "O5 Trailing") place
+abbrev pub object_line : (mark : List ℕ) → ObjFault → List ℕ
+object_line mark objects.NotObject = bad_line mark (codes "O1 NotObject")
+object_line mark objects.BadVersion = bad_line mark (codes "O2 BadVersion")
+object_line mark (objects.Truncated place) = bad_place mark (codes "O3 Truncated") place
+object_line mark (objects.BadRecord place) = bad_place mark (codes "O4 BadRecord") place
+object_line mark (objects.Trailing place) = bad_place mark (codes "O5 Trailing") place
 
 abbrev pub image_line : ImageFault → List ℕ
-image_line images.NotImage = bad_line (codes "I1 NotImage")
-image_line images.BadVersion = bad_line (codes "I2 BadVersion")
-image_line (images.Truncated place) = bad_place (codes "I3 Truncated") place
-image_line (images.BadField place) = bad_place (codes "I4 BadField") place
-image_line (images.Trailing place) = bad_place (codes "I5 Trailing") place
-image_line images.NoMemory = bad_line (codes "NoMemory")
+image_line images.NotImage = bad_line (codes ": ") (codes "I1 NotImage")
+image_line images.BadVersion = bad_line (codes ": ") (codes "I2 BadVersion")
+image_line (images.Truncated place) = bad_place (codes ": ") (codes "I3 Truncated") place
+image_line (images.BadField place) = bad_place (codes ": ") (codes "I4 BadField") place
+image_line (images.Trailing place) = bad_place (codes ": ") (codes "I5 Trailing") place
+image_line images.NoMemory = bad_line (codes ": ") (codes "NoMemory")
 
 abbrev pub hex_line : HexFault → List ℕ
-hex_line (hex.BadLine line) = bad_place (codes "X1 BadLine") line
-hex_line (hex.BadSum line) = bad_place (codes "X2 BadSum") line
-hex_line (hex.BadType line) = bad_place (codes "X3 BadType") line
-hex_line (hex.AfterEnd line) = bad_place (codes "X4 AfterEnd") line
-hex_line (hex.NoEnd line) = bad_place (codes "X5 NoEnd") line
-hex_line hex.NoMemory = bad_line (codes "NoMemory")
+hex_line (hex.BadLine line) = bad_place (codes ": ") (codes "X1 BadLine") line
+hex_line (hex.BadSum line) = bad_place (codes ": ") (codes "X2 BadSum") line
+hex_line (hex.BadType line) = bad_place (codes ": ") (codes "X3 BadType") line
+hex_line (hex.AfterEnd line) = bad_place (codes ": ") (codes "X4 AfterEnd") line
+hex_line (hex.NoEnd line) = bad_place (codes ": ") (codes "X5 NoEnd") line
+hex_line hex.NoMemory = bad_line (codes ": ") (codes "NoMemory")
 
+-- a member that is no object, by its number, from 1, with its own fault
+abbrev pub library_line : LibFault → List ℕ
+library_line libraries.NotLibrary = bad_line (codes ": ") (codes "B1 NotLibrary")
+library_line libraries.BadVersion = bad_line (codes ": ") (codes "B2 BadVersion")
+library_line (libraries.Truncated place) = bad_place (codes ": ") (codes "B3 Truncated") place
+library_line (libraries.BadField place) = bad_place (codes ": ") (codes "B4 BadField") place
+library_line (libraries.BadMember member fault) = codes ": B5 BadMember " ++ (decimal member ++ object_line (codes " ") fault)
+library_line (libraries.Trailing place) = bad_place (codes ": ") (codes "B6 Trailing") place
+
+-- behind the name of the file
 abbrev pub bad_file_line : Bad → List ℕ
-bad_file_line (bad.Object fault) = object_line fault
+bad_file_line (bad.Object fault) = object_line (codes ": ") fault
 bad_file_line (bad.Image fault) = image_line fault
 bad_file_line (bad.Hex fault) = hex_line fault
+bad_file_line (bad.Library fault) = library_line fault
 
 abbrev pub long_name : List (List ℕ) → Long → List ℕ
 long_name names (File file) = file_name names file
@@ -215,3 +229,4 @@ closing_line names segments (BadFile file fault) = file_name names file ++ bad_f
 closing_line names segments (TooLong long) = codes "too long: " ++ long_name names long ++ codes "\n"
 closing_line names segments (BadCode offset) = codes "bad code: " ++ decimal offset ++ codes "\n"
 closing_line names segments (Divided offset) = codes "divided: " ++ decimal offset ++ codes "\n"
+closing_line names segments (TooMany count) = codes "too many: " ++ decimal count ++ codes "\n"

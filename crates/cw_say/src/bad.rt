@@ -1,39 +1,80 @@
 // The lines that tell what is wrong with bytes that are not what an action takes.
 ghost use Rattle.std.specs.Prelude.{◌++◌, decimal, codes};
 ghost use Rattle.cw_say.specs.Said.{Writes};
-ghost use Rattle.cw_say.specs.Closing.{bad_line, bad_place, object_line, image_line, hex_line, bad_file_line};
+ghost use Rattle.cw_say.specs.Closing.{bad_line, bad_place, object_line, image_line, hex_line, library_line, bad_file_line};
 
 use crate::saying::write_line;
 use crate::status::Bad;
 use cw_hex::HexFault;
 use cw_image::ImageFault;
 use cw_io::{Failed, Sink};
+use cw_lib::LibFault;
 use cw_view::ObjFault;
 
-// Writes what is wrong with a file, and the place of it, if there is one.
-fn write_place<S: Sink>(say: &mut S, file: &[u8], text: &[u8], place: u64) -> Result<(), Failed>
-    ensures { Writes (S.held say.old) (S.held say.new) (S.faults say.old) (S.faults say.new) (file.now ++ bad_place text.now place) result }
+// Writes what is wrong with a file behind a mark, and the place of it, if there is one.
+fn write_place_behind<S: Sink>(
+    say: &mut S,
+    file: &[u8],
+    mark: &[u8],
+    text: &[u8],
+    place: u64,
+) -> Result<(), Failed>
+    ensures { Writes (S.held say.old) (S.held say.new) (S.faults say.old) (S.faults say.new) (file.now ++ bad_place mark.now text.now place) result }
 {
     let mut buffer = itoa::Buffer::new();
-    let digits = buffer.format(place);
-    write_line(say, &[file, b": ", text, b" ", digits.as_bytes(), b"\n"])
+    write_place_parts(say, file, mark, text, buffer.format(place).as_bytes())
+}
+
+fn write_place_parts<S: Sink>(
+    say: &mut S,
+    file: &[u8],
+    mark: &[u8],
+    text: &[u8],
+    place: &[u8],
+) -> Result<(), Failed>
+    ensures { Writes (S.held say.old) (S.held say.new) (S.faults say.old) (S.faults say.new) (file.now ++ (mark.now ++ (text.now ++ (codes " " ++ (place.now ++ codes "\n"))))) result }
+{
+    write_line(say, &[file, mark, text, b" ", place, b"\n"])
+}
+
+fn write_wrong_behind<S: Sink>(
+    say: &mut S,
+    file: &[u8],
+    mark: &[u8],
+    text: &[u8],
+) -> Result<(), Failed>
+    ensures { Writes (S.held say.old) (S.held say.new) (S.faults say.old) (S.faults say.new) (file.now ++ bad_line mark.now text.now) result }
+{
+    write_line(say, &[file, mark, text, b"\n"])
+}
+
+fn write_place<S: Sink>(say: &mut S, file: &[u8], text: &[u8], place: u64) -> Result<(), Failed>
+    ensures { Writes (S.held say.old) (S.held say.new) (S.faults say.old) (S.faults say.new) (file.now ++ bad_place (codes ": ") text.now place) result }
+{
+    write_place_behind(say, file, b": ", text, place)
 }
 
 fn write_wrong<S: Sink>(say: &mut S, file: &[u8], text: &[u8]) -> Result<(), Failed>
-    ensures { Writes (S.held say.old) (S.held say.new) (S.faults say.old) (S.faults say.new) (file.now ++ bad_line text.now) result }
+    ensures { Writes (S.held say.old) (S.held say.new) (S.faults say.old) (S.faults say.new) (file.now ++ bad_line (codes ": ") text.now) result }
 {
-    write_line(say, &[file, b": ", text, b"\n"])
+    write_wrong_behind(say, file, b": ", text)
 }
 
-fn write_object_fault<S: Sink>(say: &mut S, file: &[u8], fault: &ObjFault) -> Result<(), Failed>
-    ensures { Writes (S.held say.old) (S.held say.new) (S.faults say.old) (S.faults say.new) (file.now ++ object_line fault.now) result }
+// What is wrong with an object, which is a file or a member of one.
+fn write_object_fault<S: Sink>(
+    say: &mut S,
+    file: &[u8],
+    mark: &[u8],
+    fault: &ObjFault,
+) -> Result<(), Failed>
+    ensures { Writes (S.held say.old) (S.held say.new) (S.faults say.old) (S.faults say.new) (file.now ++ object_line mark.now fault.now) result }
 {
     match fault {
-        ObjFault::NotObject => write_wrong(say, file, b"O1 NotObject"),
-        ObjFault::BadVersion => write_wrong(say, file, b"O2 BadVersion"),
-        ObjFault::Truncated { at } => write_place(say, file, b"O3 Truncated", *at),
-        ObjFault::BadRecord { at } => write_place(say, file, b"O4 BadRecord", *at),
-        ObjFault::Trailing { at } => write_place(say, file, b"O5 Trailing", *at),
+        ObjFault::NotObject => write_wrong_behind(say, file, mark, b"O1 NotObject"),
+        ObjFault::BadVersion => write_wrong_behind(say, file, mark, b"O2 BadVersion"),
+        ObjFault::Truncated { at } => write_place_behind(say, file, mark, b"O3 Truncated", *at),
+        ObjFault::BadRecord { at } => write_place_behind(say, file, mark, b"O4 BadRecord", *at),
+        ObjFault::Trailing { at } => write_place_behind(say, file, mark, b"O5 Trailing", *at),
     }
 }
 
@@ -63,12 +104,43 @@ fn write_hex_fault<S: Sink>(say: &mut S, file: &[u8], fault: &HexFault) -> Resul
     }
 }
 
+// A member of a library that is no object, by its number, from 1.
+fn write_member_fault<S: Sink>(
+    say: &mut S,
+    file: &[u8],
+    member: u16,
+    fault: &ObjFault,
+) -> Result<(), Failed>
+    ensures { Writes (S.held say.old) (S.held say.new) (S.faults say.old) (S.faults say.new) (file.now ++ (codes ": B5 BadMember " ++ (decimal member ++ object_line (codes " ") fault.now))) result }
+{
+    let mut buffer = itoa::Buffer::new();
+    let digits = buffer.format(member);
+    match write_line(say, &[file, b": B5 BadMember ", digits.as_bytes()]) {
+        Ok(()) => write_object_fault(say, b"", b" ", fault),
+        Err(failed) => Err(failed),
+    }
+}
+
+fn write_library_fault<S: Sink>(say: &mut S, file: &[u8], fault: &LibFault) -> Result<(), Failed>
+    ensures { Writes (S.held say.old) (S.held say.new) (S.faults say.old) (S.faults say.new) (file.now ++ library_line fault.now) result }
+{
+    match fault {
+        LibFault::NotLibrary => write_wrong(say, file, b"B1 NotLibrary"),
+        LibFault::BadVersion => write_wrong(say, file, b"B2 BadVersion"),
+        LibFault::Truncated { at } => write_place(say, file, b"B3 Truncated", *at),
+        LibFault::BadField { at } => write_place(say, file, b"B4 BadField", *at),
+        LibFault::BadMember { member, fault } => write_member_fault(say, file, *member, fault),
+        LibFault::Trailing { at } => write_place(say, file, b"B6 Trailing", *at),
+    }
+}
+
 pub(crate) fn write_bad<S: Sink>(say: &mut S, file: &[u8], fault: &Bad) -> Result<(), Failed>
     ensures { Writes (S.held say.old) (S.held say.new) (S.faults say.old) (S.faults say.new) (file.now ++ bad_file_line fault.now) result }
 {
     match fault {
-        Bad::Object(fault) => write_object_fault(say, file, fault),
+        Bad::Object(fault) => write_object_fault(say, file, b": ", fault),
         Bad::Image(fault) => write_image_fault(say, file, fault),
         Bad::Hex(fault) => write_hex_fault(say, file, fault),
+        Bad::Library(fault) => write_library_fault(say, file, fault),
     }
 }

@@ -60,6 +60,7 @@ pub fn write_last<S: Sink>(
         Status::TooLong(long) => write_too_long(say, names, long),
         Status::BadCode { offset } => write_number(say, b"bad code: ", u64::from(*offset)),
         Status::Divided { offset } => write_number(say, b"divided: ", u64::from(*offset)),
+        Status::TooMany { count } => write_number(say, b"too many: ", u64::from(*count)),
     }
 }
 

@@ -2,6 +2,7 @@
 use cw_compile::Refusal;
 use cw_hex::HexFault;
 use cw_image::ImageFault;
+use cw_lib::LibFault;
 pub use cw_link::LinkFault;
 use cw_view::ObjFault;
 
@@ -34,6 +35,8 @@ pub enum Status {
     BadCode { offset: u16 },
     /// A quotient of the machine faults.
     Divided { offset: u16 },
+    /// So many objects are to be linked, more than 200.
+    TooMany { count: u32 },
 }
 
 /// The first thing that is wrong with bytes; never want of memory.
@@ -45,6 +48,8 @@ pub enum Bad {
     Image(ImageFault),
     /// They are no HEX text.
     Hex(HexFault),
+    /// They are no library of objects.
+    Library(LibFault),
 }
 
 /// What failed outside.
@@ -85,6 +90,7 @@ impl Status {
             Status::TooLong(_) => 10,
             Status::BadCode { .. } => 11,
             Status::Divided { .. } => 12,
+            Status::TooMany { .. } => 13,
         }
     }
 }

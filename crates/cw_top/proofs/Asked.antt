@@ -5,9 +5,9 @@ use Rattle.cw_ports.specs.Running.{IsInput}
 use Rattle.cw_words.specs.Parts.{Parts, copies_in, copies_of}
 use Rattle.cw_words.specs.declared.action.Action.{Action}
 use Rattle.cw_correct.specs.Calls.{Surroundings, Call, limits_of, call_as, call_of}
-use Rattle.cw_words.specs.declared.action.Action.TheVariants.{Compile, Link, List as Show, Map, Migrate, Big, Hex}
+use Rattle.cw_words.specs.declared.action.Action.TheVariants.{Compile, Lib, Link, List as Show, Map, Migrate, Big, Hex}
 use Rattle.cw_correct.specs.Correct.{Correct, IsCorrectCall, IsCorrectRequest}
-use Rattle.cw_correct.specs.Results.{MapsRight, ShowsRight, CompilesRight, LinksRight, MigratesRight, HexesRight}
+use Rattle.cw_correct.specs.Results.{MapsRight, ShowsRight, CompilesRight, LibsRight, LinksRight, MigratesRight, HexesRight}
 use Rattle.cw_say.specs.declared.status.Status.{Status}
 
 -- the number of texts of `big` is told by its first WORD
@@ -39,6 +39,9 @@ module _ (parts : Parts) (before after : Surroundings) (status : Status) where
 
   pub asked_compile : parts.action ≡ Compile → CompilesRight (call_as Compile (limits_of parts) parts.steps parts.names before after) status → IsCorrectRequest (Some parts) before after status
   asked_compile is right = asked Compile parts before after status is (over_any (call_as Compile (limits_of parts) parts.steps parts.names before after) status (λ input. right))
+
+  pub asked_lib : parts.action ≡ Lib → LibsRight (call_as Lib (limits_of parts) parts.steps parts.names before after) status → IsCorrectRequest (Some parts) before after status
+  asked_lib is right = asked Lib parts before after status is (over_any (call_as Lib (limits_of parts) parts.steps parts.names before after) status (λ input. right))
 
   pub asked_link : parts.action ≡ Link → LinksRight (call_as Link (limits_of parts) parts.steps parts.names before after) status → IsCorrectRequest (Some parts) before after status
   asked_link is right = asked Link parts before after status is (over_any (call_as Link (limits_of parts) parts.steps parts.names before after) status (λ input. right))

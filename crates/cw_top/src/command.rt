@@ -10,7 +10,8 @@ use cw_big_run::big;
 use cw_exec::exec;
 use cw_go::go;
 use cw_io::{Sink, Source, Store};
-use cw_results::{compile, hex, link, map_files, migrate, show};
+use cw_libraries::{link, make_library};
+use cw_results::{compile, hex, map_files, migrate, show};
 use cw_say::{Status, write_last};
 use cw_unit::layout::Limits;
 use cw_words::{Action, Command};
@@ -48,6 +49,7 @@ pub(crate) fn perform<F: Store, I: Source, O: Sink, S: Sink>(
     match command.action {
         Action::Go => go(alloc, names, &limits, steps, files, input, out, say),
         Action::Compile => compile(alloc, names, &limits, steps, files, say),
+        Action::Lib => make_library(alloc, names, &limits, steps, files, say),
         Action::Link => link(alloc, names, &limits, steps, files, say),
         Action::Exec => exec(alloc, names, &limits, steps, files, input, out, say),
         Action::List => show(alloc, names, &limits, steps, files, out, say),

@@ -4,6 +4,7 @@ ghost use Rattle.cw_top.specs.Quits.{MayQuit};
 
 use cw_exec::laws as executing;
 use cw_go::laws as going;
+use cw_libraries::laws::{idle_of_libraries, one_status_of_libraries};
 use cw_results::laws as results;
 use cw_words::laws::copies_told;
 
@@ -14,6 +15,7 @@ pub(crate) fn quits()
     going::idle();
     executing::idle();
     results::idle();
+    idle_of_libraries();
     copies_told();
 }
 
@@ -25,4 +27,5 @@ pub fn one_status()
     going::one_status_of_texts();
     executing::one_status_of_exec();
     results::one_status_of_results();
+    one_status_of_libraries();
 }

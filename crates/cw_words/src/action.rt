@@ -14,6 +14,7 @@ pub enum Action {
     Migrate,
     Big,
     Hex,
+    Lib,
 }
 
 // The action of a name.
@@ -31,15 +32,19 @@ pub(crate) fn action_of(name: &str) -> Option<Action>
         "migrate" => Some(Action::Migrate),
         "big" => Some(Action::Big),
         "hex" => Some(Action::Hex),
+        "lib" => Some(Action::Lib),
         _ => None,
     }
 }
 
 // How many WORDs an action takes at least.
-pub(crate) fn least_names_of(_action: Action) -> usize
-    ensures { result ≡ least_names _action }
+pub(crate) fn least_names_of(action: Action) -> usize
+    ensures { result ≡ least_names action }
 {
-    1
+    match action {
+        Action::Lib => 2,
+        _ => 1,
+    }
 }
 
 // How many WORDs an action takes at most.
@@ -48,6 +53,7 @@ pub(crate) fn most_names_of(action: Action) -> usize
 {
     match action {
         Action::Go | Action::Link | Action::Map => 200,
+        Action::Lib => 201,
         _ => 1,
     }
 }

@@ -3,6 +3,6 @@ use Rattle.cw_go.proofs.laws.apart.Goals as goal
 
 pub returns : goal.returns
 returns c = record {
-  compiled = links_what_runs c.separate_objects.ensures.linked c.separate_objects.ensures.image;
-  migrated = links_as_migrated c.separate_objects.ensures.migrated;
+  compiled = links_what_runs c.separate_objects.ensures.linked c.separate_objects.ensures.image c.one_link_list.ensures.alone;
+  migrated = links_as_migrated c.separate_objects.ensures.migrated c.one_link_list.ensures.alone;
 }

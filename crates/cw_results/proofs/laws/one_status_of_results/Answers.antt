@@ -1,5 +1,5 @@
 use Rattle.cw_results.proofs.Texts.{OneOfText}
-use Rattle.cw_results.proofs.Statuses.{maps_once, shows_once, compiles_once, links_once, migrates_once}
+use Rattle.cw_results.proofs.Statuses.{maps_once, shows_once, compiles_once, migrates_once}
 use Rattle.cw_results.proofs.Hexes.{once}
 use Rattle.cw_results.proofs.laws.one_status_of_results.Goals as goal
 
@@ -10,7 +10,6 @@ returns c =
       map = maps_once given;
       list = shows_once given;
       compile = compiles_once given;
-      link = links_once c.object_format.ensures.fault;
       migrate = migrates_once c.object_format.ensures.fault;
       hex = once;
     }

@@ -1,11 +1,14 @@
 use Rattle.std.proofs.Common.{◌≡◌, ℕ, List, map, Some, Bor, subst}
 use Rattle.cw_words.specs.Parts.{command_parts, copies_of}
 use Rattle.cw_words.specs.declared.action.Action.TheVariants.{Big}
-use Rattle.cw_top.proofs.Asked.{asked, copies_told, asked_map, asked_list, asked_compile, asked_link, asked_migrate, asked_hex}
+use Rattle.cw_top.proofs.Asked.{asked, copies_told, asked_map, asked_list, asked_compile, asked_lib, asked_link, asked_migrate, asked_hex}
 use Rattle.cw_top.proofs.command.perform.Goals as goal
 
 pub returns-in-Compile : goal.returns-in-Compile
 returns-in-Compile g c = asked_compile (command_parts c.args.command.now) _ _ _ c.in-Compile.is (rw c.as_slice-names.ensures.value at (c.compile.ensures (g.I.Source.left c.args.input.now) (g.I.Source.faults c.args.input.now) (g.O.Sink.held c.args.out.now) (g.O.Sink.faults c.args.out.now)))
+
+pub returns-in-Lib : goal.returns-in-Lib
+returns-in-Lib g c = asked_lib (command_parts c.args.command.now) _ _ _ c.in-Lib.is (rw c.as_slice-names.ensures.value at (c.make_library.ensures (g.I.Source.left c.args.input.now) (g.I.Source.faults c.args.input.now) (g.O.Sink.held c.args.out.now) (g.O.Sink.faults c.args.out.now)))
 
 pub returns-in-Link : goal.returns-in-Link
 returns-in-Link g c = asked_link (command_parts c.args.command.now) _ _ _ c.in-Link.is (rw c.as_slice-names.ensures.value at (c.link.ensures (g.I.Source.left c.args.input.now) (g.I.Source.faults c.args.input.now) (g.O.Sink.held c.args.out.now) (g.O.Sink.faults c.args.out.now)))

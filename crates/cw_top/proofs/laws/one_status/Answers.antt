@@ -10,7 +10,8 @@ returns c =
       map = c.one_status_of_results.ensures.map;
       list = c.one_status_of_results.ensures.list;
       compile = c.one_status_of_results.ensures.compile;
-      link = c.one_status_of_results.ensures.link;
+      lib = c.one_status_of_libraries.ensures.lib;
+      link = c.one_status_of_libraries.ensures.link;
       migrate = c.one_status_of_results.ensures.migrate;
       hex = c.one_status_of_results.ensures.hex;
     })

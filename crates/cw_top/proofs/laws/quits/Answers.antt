@@ -10,7 +10,8 @@ returns c =
       map = c.idle-3.ensures.map;
       list = c.idle-3.ensures.list;
       compile = c.idle-3.ensures.compile;
-      link = c.idle-3.ensures.link;
+      lib = c.idle_of_libraries.ensures.lib;
+      link = c.idle_of_libraries.ensures.link;
       migrate = c.idle-3.ensures.migrate;
       hex = c.idle-3.ensures.hex;
     })

@@ -1,0 +1,6 @@
+pub mod Cases
+pub mod Steps
+pub mod Parts
+pub mod Linked
+pub mod Archived
+pub mod Idle

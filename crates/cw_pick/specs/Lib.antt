@@ -1,0 +1,4 @@
+pub mod Offers
+pub mod Picking
+pub mod Selection
+pub mod Working
