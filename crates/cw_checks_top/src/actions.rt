@@ -66,6 +66,14 @@ fn store(alloc: Global) -> Result<MemStore, AllocError> {
             "COMMON (INTEGER T); SEGMENT B BEGIN T := 1 END FINISH",
         ),
         ("r", "COMMON (PROCEDURE R); SEGMENT A BEGIN R END FINISH"),
+        (
+            "n",
+            "SEGMENT A BEGIN INTEGER RECURSIVE PROCEDURE F(VALUE INTEGER N); ANSWER IF N = 0 THEN 0 ELSE F(N - 1); INTEGER X; X := F(3) END FINISH",
+        ),
+        (
+            "h",
+            "SEGMENT A BEGIN PROCEDURE P(VALUE INTEGER N); ; PROCEDURE G(PROCEDURE Q(VALUE INTEGER)); Q(1); G(P) END FINISH",
+        ),
         ("m", "LIBRARY (PROCEDURE P1); SEGMENT M BEGIN P1 END FINISH"),
         (
             "x",
@@ -137,6 +145,13 @@ fn actions(rt: HostRuntime) -> Result<(), Fail> {
             "map a b",
             "0|00000 00001 COMMON.X WORD\n00001 00001 B.P.N WORD\n12288 04096 FRAMES\n|",
         ),
+        ("depth e", "0|depth 0\n|"),
+        ("depth a b", "0|depth 1\nB.P\n|"),
+        ("depth n", "0|depth none A.F\n|"),
+        ("depth h", "0|depth 2\nA.G\nA.P\n|"),
+        ("depth t1 t2", "3||link: K1 Differs T 1 2\n"),
+        ("depth r", "3||link: K2 Undefined R\n"),
+        ("depth e missing", "6||no file: missing\n"),
         ("link a.SEG b.SEG", "6||no file: a.SEG\n"),
         ("compile a", "0||"),
         ("compile b", "0||"),

@@ -12,6 +12,7 @@ link a b?link 16384 4096 256 200000000 0 a b
 exec a?exec 16384 4096 256 200000000 0 a
 list a?list 16384 4096 256 200000000 0 a
 map a b?map 16384 4096 256 200000000 0 a b
+depth a b?depth 16384 4096 256 200000000 0 a b
 migrate a?migrate 16384 4096 256 200000000 0 a
 hex a?hex 16384 4096 256 200000000 0 a
 lib a b?lib 16384 4096 256 200000000 0 a b
@@ -59,7 +60,6 @@ go?
 --steps 5 go?
 run a?
 GO a?
-depth a?
 --fast go a?
 --dat 5 go a?
 -d 5 go a?
@@ -97,6 +97,7 @@ fn name(action: Action) -> &'static str {
         Action::Big => "big",
         Action::Hex => "hex",
         Action::Lib => "lib",
+        Action::Depth => "depth",
     }
 }
 

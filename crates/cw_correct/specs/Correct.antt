@@ -5,13 +5,13 @@ use Rattle.cw_cpu86.specs.Ports.{AreBytes}
 use Rattle.cw_ports.specs.Running.{IsInput}
 use Rattle.cw_words.specs.Parts.{Parts, parts_of, copies_in}
 use Rattle.cw_words.specs.declared.action.Action.{Action}
-use Rattle.cw_words.specs.declared.action.Action.TheVariants.{Go, Compile, Link, Exec, List as Show, Map, Migrate, Big, Hex, Lib}
+use Rattle.cw_words.specs.declared.action.Action.TheVariants.{Go, Compile, Link, Exec, List as Show, Map, Migrate, Big, Hex, Lib, Depth}
 use Rattle.cw_correct.specs.Calls.{Surroundings, Call, call_of, told_files, first_name, NoFault, IsUntouched, IsUnwritten}
 use Rattle.cw_correct.specs.Saying.{SaysLast}
 use Rattle.cw_correct.specs.Going.{GoesRight}
 use Rattle.cw_correct.specs.Making.{MakesRight}
 use Rattle.cw_correct.specs.Executing.{ExecutesRight}
-use Rattle.cw_correct.specs.Results.{MapsRight, ShowsRight, CompilesRight, LibsRight, LinksRight, MigratesRight, HexesRight}
+use Rattle.cw_correct.specs.Results.{MapsRight, DepthsRight, ShowsRight, CompilesRight, LibsRight, LinksRight, MigratesRight, HexesRight}
 use Rattle.cw_say.specs.declared.status.Status.{Status}
 use Rattle.cw_say.specs.declared.status.Status.TheVariants.{Usage, NoMemory, TooLong}
 use Rattle.cw_say.specs.declared.status.Long.TheVariants as long
@@ -36,6 +36,7 @@ CorrectAs Link c input status = LinksRight c status
 CorrectAs Exec c input status = ExecutesRight c input status
 CorrectAs Show c input status = ShowsRight c status
 CorrectAs Map c input status = MapsRight c status
+CorrectAs Depth c input status = DepthsRight c status
 CorrectAs Migrate c input status = MigratesRight c status
 CorrectAs Hex c input status = HexesRight c status
 CorrectAs Big c input status = (copies : ℕ) × (copies_in (first_name c) ≡ Some copies) × MakesRight copies c input status

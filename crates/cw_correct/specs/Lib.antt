@@ -7,5 +7,6 @@ pub mod Meaning
 pub mod Going
 pub mod Making
 pub mod Executing
+pub mod Depths
 pub mod Results
 pub mod Correct

@@ -1,4 +1,4 @@
--- What the actions promise that run nothing: `map` and `list` write their result to `out`; `compile`, `lib`, `link`, `migrate` and `hex` write it to a file.
+-- What the actions promise that run nothing: `map`, `depth` and `list` write their result to `out`; `compile`, `lib`, `link`, `migrate` and `hex` write it to a file.
 use Rattle.std.specs.Prelude.{◌≡◌, ◌⊎◌, ℕ, ◌<◌, ◌≤◌, List, [], ◌∷◌, ◌++◌, length, map, take, drop, codes}
 use Rattle.cw_io.specs.Bytes.{after_told}
 use Rattle.cw_io.specs.Count.{Rose}
@@ -24,6 +24,9 @@ use Rattle.cw_files.specs.Reading.{HaveBytes, HaveValues, AllTaken, StopsTexts, 
 use Rattle.cw_correct.specs.Calls.{Call, told_files, first_name, NoFault, SameCounts, IsUntouched, IsUnwritten}
 use Rattle.cw_correct.specs.Files.{counts_before, counts_after, AllAccepted}
 use Rattle.cw_correct.specs.Saying.{SaysLast}
+use Rattle.cw_depth.specs.declared.depth_report.Report.{Report}
+use Rattle.cw_depth.specs.Told.{IsReport}
+use Rattle.cw_correct.specs.Depths.{depth_text}
 use Rattle.cw_correct.specs.Going.{HasCause}
 use Rattle.cw_correct.specs.Meaning.{TellBytes}
 use Rattle.cw_say.specs.declared.status.Status.{Status}
@@ -63,18 +66,42 @@ MapComes c texts us (Outside Out) = AllAccepted c us × Links us c.limits
 MapComes c texts us (Unlinked fault) = AllAccepted c us × IsLinkFault us c.limits fault × HasCause texts fault
 MapComes c texts us status = StopsTexts (told_files c) texts (length us) (counts_before c) (counts_after c) status
 
--- the storage map that `go` writes to `say`
-pub record MapsRight (c : Call) (status : Status) : Type 0 where
+-- whether a text is what is to be written, where one is written
+abbrev pub IsWritten : (Is : List ℕ → Type 0) → (text : List ℕ) → Status → Type 0
+IsWritten Is text Ended = Is text
+IsWritten Is text (Outside Out) = Is text
+IsWritten Is text status = Unit {0}
+
+-- what is told of the files' units, by a relation between these and a text
+pub record TellsOfUnits (IsText : List SourceUnit → Limits → List ℕ → Type 0) (c : Call) (status : Status) : Type 0 where
   pub texts : List (List ℕ)
   pub units : List SourceUnit
+  pub text : List ℕ
   pub have_texts : HaveBytes text_limit (told_files c) texts
   pub have_units : HaveValues HasUnit texts units
   pub comes : MapComes c texts units status
+  pub is_text : IsWritten (IsText units c.limits) text status
   pub says : SaysLast c.before c.after c.names [] status
-  pub writes : WritesOut c (map_text units c.limits) status
+  pub writes : WritesOut c text status
   pub untouched : IsUntouched c.before c.after
   pub stays : AllStay c.before.files c.after.files
   pub completes : (told : List (List ℕ)) (us : List SourceUnit) → TellBytes (told_files c) told → AllTaken text_limit HasUnit (told_files c) us → Links us c.limits → NoFault c.before c.after → IsDone status
+
+-- the storage map that `go` writes to `say`
+abbrev pub IsMap : List SourceUnit → Limits → (text : List ℕ) → Type 0
+IsMap us limits text = text ≡ map_text us limits
+
+abbrev pub MapsRight : Call → Status → Type 0
+MapsRight c status = TellsOfUnits IsMap c status
+
+-- ---- depth
+
+-- the depth report
+abbrev pub IsDepth : List SourceUnit → Limits → (text : List ℕ) → Type 0
+IsDepth us limits text = (report : Report) × IsReport us report × (text ≡ depth_text us report)
+
+abbrev pub DepthsRight : Call → Status → Type 0
+DepthsRight c status = TellsOfUnits IsDepth c status
 
 -- ---- list
 

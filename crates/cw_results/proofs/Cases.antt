@@ -12,7 +12,7 @@ use Rattle.cw_unit.specs.declared.unit.Unit.{Unit as SourceUnit}
 use Rattle.cw_unit.specs.declared.layout.Limits.{Limits}
 use Rattle.cw_link.specs.declared.fault.LinkFault.{LinkFault}
 use Rattle.cw_obj.specs.Migration.{IsMigrated}
-use Rattle.cw_build.specs.Linking.{Links, IsLinkFault, map_text}
+use Rattle.cw_build.specs.Linking.{Links, IsLinkFault}
 use Rattle.cw_view.specs.declared.fault.ObjFault.{ObjFault}
 use Rattle.cw_correct.specs.Calls.{Call}
 use Rattle.cw_correct.specs.Files.{counts_before, counts_after, AllAccepted}
@@ -21,7 +21,7 @@ use Rattle.cw_correct.specs.Going.{HasCause}
 use Rattle.cw_correct.specs.Results.{MapComes, ShowComes, CompileComes, ObjectsCome}
 use Rattle.cw_results.specs.Closed.{Files, Out}
 use Rattle.cw_results.specs.Written.{GivesOut, GivesFile}
-use Rattle.cw_results.specs.Results.{MapsUnits, ShowsText, MigratesObject}
+use Rattle.cw_results.specs.Results.{TellsUnits, ShowsText, MigratesObject}
 use Rattle.cw_say.specs.declared.status.Status.{Status}
 use Rattle.cw_say.specs.declared.status.Status.TheVariants.{Ended, Usage, Refused, Unlinked, Stopped, Unfinished, NoFile, Outside, NoMemory, BadFile, TooLong, BadCode, Divided, TooMany}
 use Rattle.cw_say.specs.declared.status.Bad.TheVariants.{Object, Image as BadImage, Hex, Library}
@@ -162,29 +162,29 @@ module _ (P : Status → Type 0) where
     gives_file (Divided offset) x = absurd x
     gives_file (TooMany count) x = absurd x
 
-  module _ (us : List SourceUnit) (limits : Limits) (out out' : Out)
+  module _ (IsText : List SourceUnit → Limits → List ℕ → Type 0) (us : List SourceUnit) (limits : Limits) (out out' : Out)
       (unlinked : (fault : LinkFault) → IsLinkFault us limits fault × (out' ≡ out) → P (Unlinked fault))
       (wanted : out' ≡ out → P NoMemory)
-      (gives : (s : Status) → Links us limits → GivesOut (map_text us limits) out out' s → P s) where
-    pub maps_units : (s : Status) → MapsUnits us limits out out' s → P s
-    maps_units Ended x = gives Ended x.0 x.1
-    maps_units Usage x = gives Usage x.0 x.1
-    maps_units (Refused number fault) x = gives (Refused number fault) x.0 x.1
-    maps_units (Unlinked fault) x = unlinked fault x
-    maps_units (Stopped kind segment line) x = gives (Stopped kind segment line) x.0 x.1
-    maps_units (Unfinished steps) x = gives (Unfinished steps) x.0 x.1
-    maps_units (NoFile number) x = gives (NoFile number) x.0 x.1
-    maps_units (Outside Store) x = gives (Outside Store) x.0 x.1
-    maps_units (Outside Input) x = gives (Outside Input) x.0 x.1
-    maps_units (Outside ToOut) x = gives (Outside ToOut) x.0 x.1
-    maps_units (Outside Say) x = gives (Outside Say) x.0 x.1
-    maps_units NoMemory x = wanted x
-    maps_units (BadFile number fault) x = gives (BadFile number fault) x.0 x.1
-    maps_units (TooLong (File number)) x = gives (TooLong (File number)) x.0 x.1
-    maps_units (TooLong long.Input) x = gives (TooLong long.Input) x.0 x.1
-    maps_units (BadCode offset) x = gives (BadCode offset) x.0 x.1
-    maps_units (Divided offset) x = gives (Divided offset) x.0 x.1
-    maps_units (TooMany count) x = gives (TooMany count) x.0 x.1
+      (gives : (s : Status) (text : List ℕ) → Links us limits → IsText us limits text → GivesOut text out out' s → P s) where
+    pub tells_units : (s : Status) → TellsUnits IsText us limits out out' s → P s
+    tells_units Ended x = gives Ended x.0 x.1 x.2 x.3
+    tells_units Usage x = gives Usage x.0 x.1 x.2 x.3
+    tells_units (Refused number fault) x = gives (Refused number fault) x.0 x.1 x.2 x.3
+    tells_units (Unlinked fault) x = unlinked fault x
+    tells_units (Stopped kind segment line) x = gives (Stopped kind segment line) x.0 x.1 x.2 x.3
+    tells_units (Unfinished steps) x = gives (Unfinished steps) x.0 x.1 x.2 x.3
+    tells_units (NoFile number) x = gives (NoFile number) x.0 x.1 x.2 x.3
+    tells_units (Outside Store) x = gives (Outside Store) x.0 x.1 x.2 x.3
+    tells_units (Outside Input) x = gives (Outside Input) x.0 x.1 x.2 x.3
+    tells_units (Outside ToOut) x = gives (Outside ToOut) x.0 x.1 x.2 x.3
+    tells_units (Outside Say) x = gives (Outside Say) x.0 x.1 x.2 x.3
+    tells_units NoMemory x = wanted x
+    tells_units (BadFile number fault) x = gives (BadFile number fault) x.0 x.1 x.2 x.3
+    tells_units (TooLong (File number)) x = gives (TooLong (File number)) x.0 x.1 x.2 x.3
+    tells_units (TooLong long.Input) x = gives (TooLong long.Input) x.0 x.1 x.2 x.3
+    tells_units (BadCode offset) x = gives (BadCode offset) x.0 x.1 x.2 x.3
+    tells_units (Divided offset) x = gives (Divided offset) x.0 x.1 x.2 x.3
+    tells_units (TooMany count) x = gives (TooMany count) x.0 x.1 x.2 x.3
 
   module _ (text : List ℕ) (out out' : Out)
       (refused : (number : ℕ) (refusal : Refusal) → (number ≡ 0) × IsRefused text refusal × (out' ≡ out) → P (Refused number refusal))

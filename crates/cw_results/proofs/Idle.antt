@@ -1,22 +1,32 @@
 -- A call that did nothing but say that memory was wanted keeps its promise.
-use Rattle.std.proofs.Common.{[]}
-use Rattle.cw_correct.specs.Results.{MapsRight, ShowsRight, CompilesRight, MigratesRight, HexesRight}
+use Rattle.std.proofs.Common.{ℕ, List, []}
+use Rattle.cw_unit.specs.declared.unit.Unit.{Unit as SourceUnit}
+use Rattle.cw_unit.specs.declared.layout.Limits.{Limits}
+use Rattle.cw_correct.specs.Results.{TellsOfUnits, IsMap, IsDepth, DepthsRight, MapsRight, ShowsRight, CompilesRight, MigratesRight, HexesRight}
 use Rattle.cw_results.specs.Idle.{AllowsIdle}
 use Rattle.cw_results.proofs.Hexes as hexing
 
-pub maps : AllowsIdle MapsRight
-maps c idle = record {
+told : (IsText : List SourceUnit → Limits → List ℕ → Type 0) → AllowsIdle (TellsOfUnits IsText)
+told IsText c idle = record {
   texts = [];
   units = [];
+  text = [];
   have_texts = tt;
   have_units = tt;
   comes = tt;
+  is_text = tt;
   says = idle.says;
   writes = idle.unwritten;
   untouched = idle.untouched;
   stays = idle.stays;
   completes = λ told us tell taken links quiet. tt;
 }
+
+pub maps : AllowsIdle MapsRight
+maps = told IsMap
+
+pub depths : AllowsIdle DepthsRight
+depths = told IsDepth
 
 pub shows : AllowsIdle ShowsRight
 shows c idle = record {
@@ -65,4 +75,4 @@ migrates c idle = record {
 pub hexes : AllowsIdle HexesRight
 hexes c x = hexing.idle c x
 
-pub ruleset laws = (maps, shows, compiles, migrates, hexes)
+pub ruleset laws = (maps, depths, shows, compiles, migrates, hexes)

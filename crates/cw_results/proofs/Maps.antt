@@ -1,4 +1,4 @@
--- A call of `map` keeps its promise.
+-- A call that tells a text of units, their storage map or another, keeps its promise.
 use Rattle.std.proofs.Common.{◌≡◌, ◌⊎◌, ℕ, suc, ◌+◌, ◌*◌, ◌<◌, ◌≤◌, List, [], ◌∷◌, map, sum, length, Option, Some, None, refl, sym, ap, ap₂, ◌∙◌, subst, inl, inr, arith}
 use Rattle.std.proofs.lemmas.List.{length-map}
 use Rattle.std.proofs.lemmas.List.Sums.{sum-map, sum_by-cons}
@@ -12,20 +12,21 @@ use Rattle.cw_link.specs.LinkedImage.{linked_size}
 use Rattle.cw_link.specs.declared.fault.LinkFault.{LinkFault}
 use Rattle.cw_link.specs.declared.fault.LinkFault.TheVariants.{SegmentTwice, Differs, DefinedTwice, Undefined, AbsoluteOutside, DataTooBig, ControlTooBig, PresetClash, CodeTooBig, NoMemory as NoMemoryToLink}
 use Rattle.cw_build.specs.Compiled.{contents_of_units}
-use Rattle.cw_build.specs.Linking.{Links, IsLinkFault, map_text}
+use Rattle.cw_build.specs.Linking.{Links, IsLinkFault}
 use Rattle.cw_files.specs.Texts.{HasUnit}
 use Rattle.cw_files.specs.Reading.{HaveBytes, HaveValues, AllTaken, Stopped, StopsTexts, SameCounts}
 use Rattle.cw_correct.specs.Calls.{Call, told_files, NoFault, IsUntouched, IsUnwritten}
 use Rattle.cw_correct.specs.Files.{counts_before, counts_after, AllAccepted}
 use Rattle.cw_correct.specs.Going.{ExpandTo, HasCause}
 use Rattle.cw_correct.specs.Meaning.{TellBytes}
-use Rattle.cw_correct.specs.Results.{WritesOut, IsDone, MapComes, MapsRight}
-use Rattle.cw_results.specs.Closed.{out_at}
-use Rattle.cw_results.specs.Results.{MapsUnits}
+use Rattle.cw_correct.specs.Results.{WritesOut, IsDone, IsWritten, MapComes, TellsOfUnits}
+use Rattle.cw_results.specs.Closed.{Out, out_at}
+use Rattle.cw_results.specs.Written.{GivesOut}
+use Rattle.cw_results.specs.Results.{TellsUnits}
 use Rattle.cw_say.specs.declared.status.Status.{Status}
 use Rattle.cw_say.specs.declared.status.Status.TheVariants.{Ended, Unlinked, Outside, NoMemory}
 use Rattle.cw_say.specs.declared.status.Which.TheVariants.{Out as ToOut}
-use Rattle.cw_results.proofs.Cases.{stops_texts, gives_out, maps_units, map_comes}
+use Rattle.cw_results.proofs.Cases.{stops_texts, gives_out, tells_units, map_comes}
 use Rattle.cw_results.proofs.Keeping.{Closed, says_last, unwritten, writes_out}
 use Rattle.cw_results.proofs.Links.{links_not_faulty, one_fault}
 use Rattle.cw_results.proofs.Readings.{Found, all_told, tells}
@@ -48,7 +49,7 @@ same_length (file ∷ files) (text ∷ texts) (u ∷ us) have values all = ap su
 summed : {X : Type 0} (f : X → ℕ) (x : X) (xs : List X) → sum (map f (x ∷ xs)) ≡ f x + sum (map f xs)
 summed f x xs = sum-map f (x ∷ xs) ∙ sum_by-cons f x xs ∙ ap (λ n. f x + n) (sym (sum-map f xs))
 
-module _ (given : OneOfText) (sizes : HasSizes) where
+module _ (given : OneOfText) (sizes : HasSizes) (IsText : List SourceUnit → Limits → List ℕ → Type 0) where
   -- the texts expand to as many items as the units have tokens
   expands : (texts : List (List ℕ)) (us : List SourceUnit) → HaveValues HasUnit texts us → length us ≡ length texts → (expanded : List (List Lexeme)) × ExpandTo texts expanded × (sum (map length expanded) ≡ sum (map (λ u. u.tokens) us))
   expands [] [] values all = ([], tt, refl)
@@ -75,19 +76,21 @@ module _ (given : OneOfText) (sizes : HasSizes) where
   cause limits texts us values all NoMemoryToLink x = tt
 
   module _ (c : Call) (untouched : IsUntouched c.before c.after) (stay : AllStay c.before.files c.after.files) (s : Status) (closed : Closed c s) where
-    make : (texts : List (List ℕ)) (us : List SourceUnit) → HaveBytes text_limit (told_files c) texts → HaveValues HasUnit texts us → MapComes c texts us s → WritesOut c (map_text us c.limits) s → MapsRight c s
-    make texts us have values comes writes = record {
+    make : (texts : List (List ℕ)) (us : List SourceUnit) (text : List ℕ) → HaveBytes text_limit (told_files c) texts → HaveValues HasUnit texts us → MapComes c texts us s → IsWritten (IsText us c.limits) text s → WritesOut c text s → TellsOfUnits IsText c s
+    make texts us text have values comes is writes = record {
       texts = texts;
       units = us;
+      text = text;
       have_texts = have;
       have_units = values;
       comes = comes;
+      is_text = is;
       says = says_last c.before c.after c.names s (λ e. subst (λ t. MapComes c texts us t) e comes) closed;
       writes = writes;
       untouched = untouched;
       stays = stay;
       completes = λ told ws tell taken links quiet.
-          map_comes (λ t. WritesOut c (map_text us c.limits) t → IsDone t) c texts us (λ x w. tt) (λ x w. absurd (quiet.out w.3))
+          map_comes (λ t. WritesOut c text t → IsDone t) c texts us (λ x w. tt) (λ x w. absurd (quiet.out w.3))
           (λ fault x w.
           let tell_all = tell ∙ tells told in
           let same : ws ≡ us = same_units given c (map Some told) tell_all ws us (all_taken given c (map Some told) tell_all ws taken) (all_run given c (map Some told) tell_all texts us have values x.0) in
@@ -95,33 +98,39 @@ module _ (given : OneOfText) (sizes : HasSizes) where
           (λ t x w. stop_done given c (map Some told) (tell ∙ tells told) texts us have values quiet ws taken t x) s comes writes;
     }
 
-    pub stopped : IsUnwritten c.before c.after → Stopped text_limit HasUnit (λ texts taken. StopsTexts (told_files c) texts taken (counts_before c) (counts_after c) s) (told_files c) → MapsRight c s
+    pub stopped : IsUnwritten c.before c.after → Stopped text_limit HasUnit (λ texts taken. StopsTexts (told_files c) texts taken (counts_before c) (counts_after c) s) (told_files c) → TellsOfUnits IsText c s
     stopped none x =
-        make x.texts x.values x.have_bytes x.have_values
+        make x.texts x.values [] x.have_bytes x.have_values
         (stops_texts (λ t. MapComes c x.texts x.values t) (told_files c) x.texts (length x.values) (counts_before c) (counts_after c) (λ number fault y. y) (λ number y. y) (λ y. y) (λ number y. y) tt s x.stops)
-        (stops_texts (λ t. WritesOut c (map_text x.values c.limits) t) (told_files c) x.texts (length x.values) (counts_before c) (counts_after c) (λ number fault y. none) (λ number y. none) (λ y. none) (λ number y. none) none s x.stops)
+        (stops_texts (λ t. IsWritten (IsText x.values c.limits) [] t) (told_files c) x.texts (length x.values) (counts_before c) (counts_after c) (λ number fault y. tt) (λ number y. tt) (λ y. tt) (λ number y. tt) tt s x.stops)
+        (stops_texts (λ t. WritesOut c [] t) (told_files c) x.texts (length x.values) (counts_before c) (counts_after c) (λ number fault y. none) (λ number y. none) (λ y. none) (λ number y. none) none s x.stops)
 
     pub written : (us : List SourceUnit) → AllTaken text_limit HasUnit (told_files c) us → SameCounts (counts_before c) (counts_after c)
-        → MapsUnits us c.limits (out_at c.before.out c.before.out_faults) (out_at c.after.out c.after.out_faults) s → MapsRight c s
-    written us x same maps =
-        let all : AllAccepted c us = x.all ∙ length-map c.names c.before.files in
-        let old = out_at c.before.out c.before.out_faults in
-        let new = out_at c.after.out c.after.out_faults in
-        make x.texts us x.have_bytes x.have_values
-        (maps_units (λ t. MapComes c x.texts us t) us c.limits old new
-        (λ fault y. (all, y.0, cause c.limits x.texts us x.have_values (same_length (told_files c) x.texts us x.have_bytes x.have_values x.all) fault y.0))
-        (λ y. tt)
-        (λ t links gives. gives_out (λ t. MapComes c x.texts us t) (map_text us c.limits) old new (λ y. (all, links)) (λ y. (all, links)) (λ y. tt) t gives)
-        s maps)
-        (maps_units (λ t. Closed c t → WritesOut c (map_text us c.limits) t) us c.limits old new
-        (λ fault y end. unwritten c y.1)
-        (λ y end. unwritten c y)
-        (λ t links gives end. writes_out c untouched (map_text us c.limits) t same end gives)
-        s maps closed)
+        → TellsUnits IsText us c.limits (out_at c.before.out c.before.out_faults) (out_at c.after.out c.after.out_faults) s → TellsOfUnits IsText c s
+    written us x same told =
+        tells_units (λ t. t ≡ s → TellsOfUnits IsText c s) IsText us c.limits old new
+        (λ fault y e. make x.texts us [] x.have_bytes x.have_values
+        (subst (λ u. MapComes c x.texts us u) e (all, y.0, cause c.limits x.texts us x.have_values (same_length (told_files c) x.texts us x.have_bytes x.have_values x.all) fault y.0))
+        (subst (λ u. IsWritten (IsText us c.limits) [] u) e tt) (subst (λ u. WritesOut c [] u) e (unwritten c y.1)))
+        (λ y e. make x.texts us [] x.have_bytes x.have_values (subst (λ u. MapComes c x.texts us u) e tt) (subst (λ u. IsWritten (IsText us c.limits) [] u) e tt) (subst (λ u. WritesOut c [] u) e (unwritten c y)))
+        (λ t text links is gives e. make x.texts us text x.have_bytes x.have_values
+        (subst (λ u. MapComes c x.texts us u) e (gives_out (λ u. MapComes c x.texts us u) text old new (λ y. (all, links)) (λ y. (all, links)) (λ y. tt) t gives))
+        (subst (λ u. IsWritten (IsText us c.limits) text u) e (gives_out (λ u. IsWritten (IsText us c.limits) text u) text old new (λ y. is) (λ y. is) (λ y. tt) t gives))
+        (writes_out c untouched text s same closed (subst (λ u. GivesOut text old new u) e gives)))
+        s told refl
+      where
+        all : AllAccepted c us
+        all = x.all ∙ length-map c.names c.before.files
+
+        old : Out
+        old = out_at c.before.out c.before.out_faults
+
+        new : Out
+        new = out_at c.after.out c.after.out_faults
 
 -- ---- one status
 
-module _ (given : OneOfText) (c : Call) where
+module _ (given : OneOfText) (IsText : List SourceUnit → Limits → List ℕ → Type 0) (c : Call) where
   abbrev pub After : List SourceUnit → Status → Type 0
   After us s = ((s ≡ Ended) × Links us c.limits) ⊎ ((fault : LinkFault) × IsLinkFault us c.limits fault × (s ≡ Unlinked fault))
 
@@ -131,10 +140,10 @@ module _ (given : OneOfText) (c : Call) where
   one_after us vs s t same (inr (g, x, e)) (inl (f, links)) = absurd (links_not_faulty (contents_of_units vs) c.limits g links (subst (λ ws. IsLinkFault ws c.limits g) same x))
   one_after us vs s t same (inr (g, x, e)) (inr (h, y, f)) = e ∙ ap Unlinked (one_fault (contents_of_units vs) c.limits g h (subst (λ ws. IsLinkFault ws c.limits g) same x) y) ∙ sym f
 
-  pub fate : (s : Status) → MapsRight c s → (found : List Found) → told_files c ≡ all_told found → NoFault c.before c.after
+  pub fate : (s : Status) → TellsOfUnits IsText c s → (found : List Found) → told_files c ≡ all_told found → NoFault c.before c.after
       → (s ≡ NoMemory) ⊎ ((us : List SourceUnit) × UnitRuns found us (Some s)) ⊎ ((us : List SourceUnit) × UnitRuns found us None × After us s)
   fate s x found told quiet =
-      map_comes (λ t. WritesOut c (map_text x.units c.limits) t → (t ≡ NoMemory) ⊎ ((us : List SourceUnit) × UnitRuns found us (Some t)) ⊎ ((us : List SourceUnit) × UnitRuns found us None × After us t)) c x.texts x.units
+      map_comes (λ t. WritesOut c x.text t → (t ≡ NoMemory) ⊎ ((us : List SourceUnit) × UnitRuns found us (Some t)) ⊎ ((us : List SourceUnit) × UnitRuns found us None × After us t)) c x.texts x.units
       (λ y w. inr (inr (x.units, run y.0, inl (refl, y.1))))
       (λ y w. absurd (quiet.out w.3))
       (λ fault y w. inr (inr (x.units, run y.0, inr (fault, y.1, refl))))

@@ -17,11 +17,12 @@ use Rattle.cw_obj.specs.Migration.{IsMigrated}
 use Rattle.cw_build.specs.Linking.{Links, map_text}
 use Rattle.cw_build.specs.Building.{FailsToLink}
 use Rattle.cw_files.specs.Reading.{Counts, HaveBytes, IsUnread}
+use Rattle.cw_correct.specs.Results.{IsMap}
 use Rattle.cw_results.specs.Closed.{Files, Out}
 use Rattle.cw_results.specs.Written.{GivesOut, GivesFile}
-use Rattle.cw_results.specs.Results.{unlinked_status, faulty_status, MapsUnits, ShowsText, MigratesObject}
+use Rattle.cw_results.specs.Results.{unlinked_status, faulty_status, TellsUnits, MapsUnits, ShowsText, MigratesObject}
 use Rattle.cw_say.specs.declared.status.Status.{Status}
-use Rattle.cw_say.specs.declared.status.Status.TheVariants.{Unlinked}
+use Rattle.cw_say.specs.declared.status.Status.TheVariants.{Unlinked, NoMemory}
 use Rattle.cw_results.proofs.Cases.{gives_out, gives_file}
 use Rattle.cw_results.proofs.Told.{told_one}
 
@@ -43,24 +44,32 @@ pub map_is : (us : List SourceUnit) (m : Map) (limits : Limits) (text : List ℕ
 unfolding map_text
 map_is us m limits text is e = e ∙ ap (λ x. program_listing (program_at us x limits)) is
 
-module _ (us : List SourceUnit) (limits : Limits) (out out' : Out) where
-  pub maps_of : (s : Status) → Links us limits → GivesOut (map_text us limits) out out' s → MapsUnits us limits out out' s
-  maps_of s links gives = gives_out (λ t. MapsUnits us limits out out' t) (map_text us limits) out out' (λ x. (links, x)) (λ x. (links, x)) (λ x. x) s gives
+module _ (IsText : List SourceUnit → Limits → List ℕ → Type 0) (us : List SourceUnit) (limits : Limits) where
+  pub tells_of : (out out' : Out) (s : Status) (text : List ℕ) → Links us limits → IsText us limits text → GivesOut text out out' s → TellsUnits IsText us limits out out' s
+  tells_of out out' s text links is gives = gives_out (λ t. TellsUnits IsText us limits out out' t) text out out' (λ x. (text, links, is, x)) (λ x. (text, links, is, x)) (λ x. x) s gives
 
-unlinked_maps_as : (us : List SourceUnit) (limits : Limits) (out : Out) (fault : LinkFault) → FailsToLink us limits fault → MapsUnits us limits out out (unlinked_status fault)
-unlinked_maps_as us limits out NoMemoryToLink x = refl
-unlinked_maps_as us limits out (SegmentTwice name) x = (x, refl)
-unlinked_maps_as us limits out (Differs name first second) x = (x, refl)
-unlinked_maps_as us limits out (DefinedTwice name first second) x = (x, refl)
-unlinked_maps_as us limits out (Undefined name) x = (x, refl)
-unlinked_maps_as us limits out (AbsoluteOutside segment address) x = (x, refl)
-unlinked_maps_as us limits out (DataTooBig need) x = (x, refl)
-unlinked_maps_as us limits out (ControlTooBig need) x = (x, refl)
-unlinked_maps_as us limits out (PresetClash address first second) x = (x, refl)
-unlinked_maps_as us limits out (CodeTooBig bytes) x = (x, refl)
+  -- no text for want of memory
+  pub tells_nothing : (out : Out) → TellsUnits IsText us limits out out NoMemory
+  tells_nothing out = refl
 
-pub unlinked_maps : (us : List SourceUnit) (limits : Limits) (out : Out) (fault : LinkFault) (s : Status) → s ≡ unlinked_status fault → FailsToLink us limits fault → MapsUnits us limits out out s
-unlinked_maps us limits out fault s e x = subst (λ t. MapsUnits us limits out out t) (sym e) (unlinked_maps_as us limits out fault x)
+  unlinked_tells_as : (out : Out) (fault : LinkFault) → FailsToLink us limits fault → TellsUnits IsText us limits out out (unlinked_status fault)
+  unlinked_tells_as out NoMemoryToLink x = refl
+  unlinked_tells_as out (SegmentTwice name) x = (x, refl)
+  unlinked_tells_as out (Differs name first second) x = (x, refl)
+  unlinked_tells_as out (DefinedTwice name first second) x = (x, refl)
+  unlinked_tells_as out (Undefined name) x = (x, refl)
+  unlinked_tells_as out (AbsoluteOutside segment address) x = (x, refl)
+  unlinked_tells_as out (DataTooBig need) x = (x, refl)
+  unlinked_tells_as out (ControlTooBig need) x = (x, refl)
+  unlinked_tells_as out (PresetClash address first second) x = (x, refl)
+  unlinked_tells_as out (CodeTooBig bytes) x = (x, refl)
+
+  pub unlinked_tells : (out : Out) (fault : LinkFault) (s : Status) → s ≡ unlinked_status fault → FailsToLink us limits fault → TellsUnits IsText us limits out out s
+  unlinked_tells out fault s e x = subst (λ t. TellsUnits IsText us limits out out t) (sym e) (unlinked_tells_as out fault x)
+
+-- the map of units that link, where its text was written
+pub written_of : (us : List SourceUnit) (limits : Limits) (out out' : Out) (s : Status) → Links us limits → GivesOut (map_text us limits) out out' s → MapsUnits us limits out out' s
+written_of us limits out out' s links gives = tells_of IsMap us limits out out' s (map_text us limits) links refl gives
 
 -- ---- texts
 

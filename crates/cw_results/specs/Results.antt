@@ -9,7 +9,8 @@ use Rattle.cw_compile.specs.declared.fault.UnitFault.TheVariants as units
 use Rattle.cw_link.specs.declared.fault.LinkFault.{LinkFault}
 use Rattle.cw_link.specs.declared.fault.LinkFault.TheVariants as linking
 use Rattle.cw_obj.specs.Migration.{IsMigrated}
-use Rattle.cw_build.specs.Linking.{Links, IsLinkFault, map_text}
+use Rattle.cw_build.specs.Linking.{Links, IsLinkFault}
+use Rattle.cw_correct.specs.Results.{IsMap}
 use Rattle.cw_results.specs.Closed.{Files, Out}
 use Rattle.cw_results.specs.Written.{GivesOut, GivesFile}
 use Rattle.cw_say.specs.declared.status.Status.{Status}
@@ -25,11 +26,15 @@ abbrev pub faulty_status : UnitFault → Status
 faulty_status (units.Refused refusal) = Refused 0 refusal
 faulty_status units.NoMemory = NoMemory
 
--- units, whose storage map is written
+-- units, of which a text is written
+abbrev pub TellsUnits : (IsText : List SourceUnit → Limits → List ℕ → Type 0) → List SourceUnit → Limits → (out out' : Out) → Status → Type 0
+TellsUnits IsText us limits out out' NoMemory = out' ≡ out
+TellsUnits IsText us limits out out' (Unlinked fault) = IsLinkFault us limits fault × (out' ≡ out)
+TellsUnits IsText us limits out out' status = (text : List ℕ) × Links us limits × IsText us limits text × GivesOut text out out' status
+
+-- the storage map
 abbrev pub MapsUnits : List SourceUnit → Limits → (out out' : Out) → Status → Type 0
-MapsUnits us limits out out' NoMemory = out' ≡ out
-MapsUnits us limits out out' (Unlinked fault) = IsLinkFault us limits fault × (out' ≡ out)
-MapsUnits us limits out out' status = Links us limits × GivesOut (map_text us limits) out out' status
+MapsUnits us limits out out' status = TellsUnits IsMap us limits out out' status
 
 -- a text, whose canonical text is written
 abbrev pub ShowsText : (text : List ℕ) → (out out' : Out) → Status → Type 0

@@ -1,5 +1,5 @@
 //! Laws of what the actions promise that run nothing.
-ghost use Rattle.cw_correct.specs.Results.{MapsRight, ShowsRight, CompilesRight, MigratesRight, HexesRight};
+ghost use Rattle.cw_correct.specs.Results.{MapsRight, DepthsRight, ShowsRight, CompilesRight, MigratesRight, HexesRight};
 ghost use Rattle.cw_results.specs.Idle.{AllowsIdle};
 ghost use Rattle.cw_results.specs.OneStatus.{AllowsOneStatus};
 
@@ -10,6 +10,7 @@ use cw_view::laws::object_format;
 /// Where memory is wanted, a call may do nothing but say so.
 pub fn idle()
     ensures map { AllowsIdle MapsRight }
+    ensures depth { AllowsIdle DepthsRight }
     ensures list { AllowsIdle ShowsRight }
     ensures compile { AllowsIdle CompilesRight }
     ensures migrate { AllowsIdle MigratesRight }
@@ -19,6 +20,7 @@ pub fn idle()
 /// Two statuses never come of one call, where the store tells its files, which are bytes, no count rose, and memory was found.
 pub fn one_status_of_results()
     ensures map { AllowsOneStatus MapsRight }
+    ensures depth { AllowsOneStatus DepthsRight }
     ensures list { AllowsOneStatus ShowsRight }
     ensures compile { AllowsOneStatus CompilesRight }
     ensures migrate { AllowsOneStatus MigratesRight }

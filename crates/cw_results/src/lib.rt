@@ -18,6 +18,7 @@ pub use compiling::compile;
 pub use hexing::hex;
 pub use mapping::map_files;
 pub use migrating::migrate;
+pub use output::write_text;
 pub use saving::save;
 pub use showing::show;
 pub use unlinking::unlinked;

@@ -6,7 +6,7 @@ use cw_io::Sink;
 use cw_say::{Status, Which, write_piece};
 
 /// Writes a text, and answers what the call comes to.
-pub(crate) fn write_text<O: Sink>(out: &mut O, text: &[u8]) -> Status
+pub fn write_text<O: Sink>(out: &mut O, text: &[u8]) -> Status
     ensures { GivesOut text.now (out_at (O.held out.old) (O.faults out.old)) (out_at (O.held out.new) (O.faults out.new)) result }
 {
     match write_piece(out, text) {

@@ -5,9 +5,9 @@ use Rattle.cw_ports.specs.Running.{IsInput}
 use Rattle.cw_words.specs.Parts.{Parts, copies_in, copies_of}
 use Rattle.cw_words.specs.declared.action.Action.{Action}
 use Rattle.cw_correct.specs.Calls.{Surroundings, Call, limits_of, call_as, call_of}
-use Rattle.cw_words.specs.declared.action.Action.TheVariants.{Compile, Lib, Link, List as Show, Map, Migrate, Big, Hex}
+use Rattle.cw_words.specs.declared.action.Action.TheVariants.{Compile, Lib, Link, List as Show, Map, Depth, Migrate, Big, Hex}
 use Rattle.cw_correct.specs.Correct.{Correct, IsCorrectCall, IsCorrectRequest}
-use Rattle.cw_correct.specs.Results.{MapsRight, ShowsRight, CompilesRight, LibsRight, LinksRight, MigratesRight, HexesRight}
+use Rattle.cw_correct.specs.Results.{MapsRight, DepthsRight, ShowsRight, CompilesRight, LibsRight, LinksRight, MigratesRight, HexesRight}
 use Rattle.cw_say.specs.declared.status.Status.{Status}
 
 -- the number of texts of `big` is told by its first WORD
@@ -33,6 +33,9 @@ asked action parts before after status is right =
 module _ (parts : Parts) (before after : Surroundings) (status : Status) where
   pub asked_map : parts.action ≡ Map → MapsRight (call_as Map (limits_of parts) parts.steps parts.names before after) status → IsCorrectRequest (Some parts) before after status
   asked_map is right = asked Map parts before after status is (over_any (call_as Map (limits_of parts) parts.steps parts.names before after) status (λ input. right))
+
+  pub asked_depth : parts.action ≡ Depth → DepthsRight (call_as Depth (limits_of parts) parts.steps parts.names before after) status → IsCorrectRequest (Some parts) before after status
+  asked_depth is right = asked Depth parts before after status is (over_any (call_as Depth (limits_of parts) parts.steps parts.names before after) status (λ input. right))
 
   pub asked_list : parts.action ≡ Show → ShowsRight (call_as Show (limits_of parts) parts.steps parts.names before after) status → IsCorrectRequest (Some parts) before after status
   asked_list is right = asked Show parts before after status is (over_any (call_as Show (limits_of parts) parts.steps parts.names before after) status (λ input. right))

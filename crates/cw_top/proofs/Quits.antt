@@ -4,7 +4,7 @@ use Rattle.cw_io.specs.Bytes.{after_told}
 use Rattle.cw_words.specs.Parts.{Parts, parts_of, copies_of}
 use Rattle.cw_words.specs.Copies.{TellsCopies}
 use Rattle.cw_words.specs.declared.action.Action.{Action}
-use Rattle.cw_words.specs.declared.action.Action.TheVariants.{Go, Compile, Link, Exec, List as Show, Map, Migrate, Big, Hex, Lib}
+use Rattle.cw_words.specs.declared.action.Action.TheVariants.{Go, Compile, Link, Exec, List as Show, Map, Migrate, Big, Hex, Lib, Depth}
 use Rattle.cw_say.specs.Said.{Says}
 use Rattle.cw_say.specs.Closing.{closing_line}
 use Rattle.cw_build.specs.Linking.{map_text}
@@ -14,7 +14,7 @@ use Rattle.cw_correct.specs.Making.{program_line, in_memory, MakesRight}
 use Rattle.cw_correct.specs.Closing.{Closes}
 use Rattle.cw_correct.specs.Saying.{IsFirstPart, SaysLast}
 use Rattle.cw_correct.specs.Correct.{DoesNothing, IsCorrectRequest}
-use Rattle.cw_correct.specs.Results.{MapsRight, ShowsRight, CompilesRight, LibsRight, LinksRight, MigratesRight, HexesRight}
+use Rattle.cw_correct.specs.Results.{MapsRight, DepthsRight, ShowsRight, CompilesRight, LibsRight, LinksRight, MigratesRight, HexesRight}
 use Rattle.cw_say.specs.declared.status.Status.{Status}
 use Rattle.cw_say.specs.declared.status.Status.TheVariants.{Usage, NoMemory}
 use Rattle.cw_go.specs.Laws as going
@@ -32,6 +32,7 @@ pub record Idles : Type 0 where
   pub texts : going.IsRightIdle
   pub exec : executing.IsRightIdle
   pub map : AllowsIdle MapsRight
+  pub depth : AllowsIdle DepthsRight
   pub list : AllowsIdle ShowsRight
   pub compile : AllowsIdle CompilesRight
   pub lib : AllowsIdle LibsRight
@@ -105,6 +106,7 @@ module _ (before after : Surroundings) where
     of_action Go told is = asked Go parts before after NoMemory is (idles.texts (λ us. map_text us (limits_of parts)) Go (limits_of parts) parts.steps parts.names before after (named parts.names closes))
     of_action Exec told is = asked Exec parts before after NoMemory is (over_any (call Exec) NoMemory (λ input. idles.exec (call Exec) input (named parts.names closes)))
     of_action Map told is = asked Map parts before after NoMemory is (over_any (call Map) NoMemory (λ input. idles.map (call Map) (is_idle Map)))
+    of_action Depth told is = asked Depth parts before after NoMemory is (over_any (call Depth) NoMemory (λ input. idles.depth (call Depth) (is_idle Depth)))
     of_action Show told is = asked Show parts before after NoMemory is (over_any (call Show) NoMemory (λ input. idles.list (call Show) (is_idle Show)))
     of_action Compile told is = asked Compile parts before after NoMemory is (over_any (call Compile) NoMemory (λ input. idles.compile (call Compile) (is_idle Compile)))
     of_action Lib told is = asked Lib parts before after NoMemory is (over_any (call Lib) NoMemory (λ input. idles.lib (call Lib) (is_idle Lib)))

@@ -7,6 +7,7 @@ ghost use Rattle.cw_say.specs.Said.{Says};
 ghost use Rattle.cw_say.specs.Closing.{closing_line};
 
 use cw_big_run::big;
+use cw_depths::depth_files;
 use cw_exec::exec;
 use cw_go::go;
 use cw_io::{Sink, Source, Store};
@@ -54,6 +55,7 @@ pub(crate) fn perform<F: Store, I: Source, O: Sink, S: Sink>(
         Action::Exec => exec(alloc, names, &limits, steps, files, input, out, say),
         Action::List => show(alloc, names, &limits, steps, files, out, say),
         Action::Map => map_files(alloc, names, &limits, steps, files, out, say),
+        Action::Depth => depth_files(alloc, names, &limits, steps, files, out, say),
         Action::Migrate => migrate(alloc, names, &limits, steps, files, say),
         Action::Hex => hex(alloc, names, &limits, steps, files, say),
         Action::Big => big(alloc, command.copies, &limits, steps, input, out, say),

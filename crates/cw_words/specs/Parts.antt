@@ -7,7 +7,7 @@ use Rattle.clap.specs.ValueTests.{is_unsigned_in}
 use Rattle.cw_words.specs.Command.{faults_of, rows_in}
 use Rattle.cw_words.specs.declared.request.Command.{Command}
 use Rattle.cw_words.specs.declared.action.Action.{Action}
-use Rattle.cw_words.specs.declared.action.Action.TheVariants.{Go, Compile, Link, Exec, List as Show, Map, Migrate, Big, Hex, Lib}
+use Rattle.cw_words.specs.declared.action.Action.TheVariants.{Go, Compile, Link, Exec, List as Show, Map, Migrate, Big, Hex, Lib, Depth}
 
 -- the action of a name
 unfoldable pub action_named : Text → Option Action
@@ -21,7 +21,8 @@ action_named name =
     else (if bytes_eq name (codes "migrate") then Some Migrate
     else (if bytes_eq name (codes "big") then Some Big
     else (if bytes_eq name (codes "hex") then Some Hex
-    else (if bytes_eq name (codes "lib") then Some Lib else None)))))))))
+    else (if bytes_eq name (codes "lib") then Some Lib
+    else (if bytes_eq name (codes "depth") then Some Depth else None))))))))))
 
 -- the number of a text, where it has one in the range
 unfoldable pub number_in : ℕ → ℕ → Text → Option ℕ
@@ -52,6 +53,7 @@ abbrev pub most_names : Action → ℕ
 most_names Go = 200
 most_names Link = 200
 most_names Map = 200
+most_names Depth = 200
 most_names Lib = 201
 most_names _ = 1
 

@@ -15,6 +15,7 @@ pub enum Action {
     Big,
     Hex,
     Lib,
+    Depth,
 }
 
 // The action of a name.
@@ -33,6 +34,7 @@ pub(crate) fn action_of(name: &str) -> Option<Action>
         "big" => Some(Action::Big),
         "hex" => Some(Action::Hex),
         "lib" => Some(Action::Lib),
+        "depth" => Some(Action::Depth),
         _ => None,
     }
 }
@@ -52,7 +54,7 @@ pub(crate) fn most_names_of(action: Action) -> usize
     ensures { result ≡ most_names action }
 {
     match action {
-        Action::Go | Action::Link | Action::Map => 200,
+        Action::Go | Action::Link | Action::Map | Action::Depth => 200,
         Action::Lib => 201,
         _ => 1,
     }

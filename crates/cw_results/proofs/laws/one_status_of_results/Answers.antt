@@ -1,5 +1,5 @@
 use Rattle.cw_results.proofs.Texts.{OneOfText}
-use Rattle.cw_results.proofs.Statuses.{maps_once, shows_once, compiles_once, migrates_once}
+use Rattle.cw_results.proofs.Statuses.{maps_once, depths_once, shows_once, compiles_once, migrates_once}
 use Rattle.cw_results.proofs.Hexes.{once}
 use Rattle.cw_results.proofs.laws.one_status_of_results.Goals as goal
 
@@ -8,6 +8,7 @@ returns c =
     let given : OneOfText = record { one_unit = c.one_outcome.ensures.one_unit; one_refusal = c.one_outcome.ensures.one_refusal; not_both = c.one_outcome.ensures.not_both; tokens = c.one_outcome.ensures.tokens } in
     record {
       map = maps_once given;
+      depth = depths_once given;
       list = shows_once given;
       compile = compiles_once given;
       migrate = migrates_once c.object_format.ensures.fault;

@@ -2,7 +2,8 @@ use Rattle.std.proofs.Common.{◌∙◌, sym, ap}
 use Rattle.cw_unit.specs.Allocation.{storage_map}
 use Rattle.cw_list.specs.Rows.{layouts_of}
 use Rattle.cw_results.specs.Closed.{out_at}
-use Rattle.cw_results.proofs.Steps.{maps_of, unlinked_maps}
+use Rattle.cw_correct.specs.Results.{IsMap}
+use Rattle.cw_results.proofs.Steps.{written_of, unlinked_tells}
 use Rattle.cw_results.proofs.mapping.map_units.Goals as goal
 
 pub link_units-requires : goal.link_units-requires
@@ -17,7 +18,7 @@ write_map-requires g c = record {
 
 pub returns-in-Ok : goal.returns-in-Ok
 returns-in-Ok g c =
-    maps_of g.us c.args.limits.now (out_at (g.O.Sink.held c.args.out.now) (g.O.Sink.faults c.args.out.now)) (out_at (g.O.Sink.held c.write_map.new.out) (g.O.Sink.faults c.write_map.new.out)) c.write_map.result c.in-Ok.ensures.links (rw c.requires.1.0.units at c.write_map.ensures)
+    written_of g.us c.args.limits.now (out_at (g.O.Sink.held c.args.out.now) (g.O.Sink.faults c.args.out.now)) (out_at (g.O.Sink.held c.write_map.new.out) (g.O.Sink.faults c.write_map.new.out)) c.write_map.result c.in-Ok.ensures.links (rw c.requires.1.0.units at c.write_map.ensures)
 
 pub returns-in-Err : goal.returns-in-Err
-returns-in-Err g c = unlinked_maps g.us c.args.limits.now (out_at (g.O.Sink.held c.args.out.now) (g.O.Sink.faults c.args.out.now)) c.in-Err.fault c.unlinked.result c.unlinked.ensures c.in-Err.ensures
+returns-in-Err g c = unlinked_tells IsMap g.us c.args.limits.now (out_at (g.O.Sink.held c.args.out.now) (g.O.Sink.faults c.args.out.now)) c.in-Err.fault c.unlinked.result c.unlinked.ensures c.in-Err.ensures

@@ -1,7 +1,7 @@
 use Rattle.std.proofs.Common.{◌≡◌, ℕ, List, map, Some, Bor, subst}
 use Rattle.cw_words.specs.Parts.{command_parts, copies_of}
 use Rattle.cw_words.specs.declared.action.Action.TheVariants.{Big}
-use Rattle.cw_top.proofs.Asked.{asked, copies_told, asked_map, asked_list, asked_compile, asked_lib, asked_link, asked_migrate, asked_hex}
+use Rattle.cw_top.proofs.Asked.{asked, copies_told, asked_map, asked_depth, asked_list, asked_compile, asked_lib, asked_link, asked_migrate, asked_hex}
 use Rattle.cw_top.proofs.command.perform.Goals as goal
 
 pub returns-in-Compile : goal.returns-in-Compile
@@ -18,6 +18,9 @@ returns-in-List g c = asked_list (command_parts c.args.command.now) _ _ _ c.in-L
 
 pub returns-in-Map : goal.returns-in-Map
 returns-in-Map g c = asked_map (command_parts c.args.command.now) _ _ _ c.in-Map.is (rw c.as_slice-names.ensures.value at (c.map_files.ensures (g.I.Source.left c.args.input.now) (g.I.Source.faults c.args.input.now)))
+
+pub returns-in-Depth : goal.returns-in-Depth
+returns-in-Depth g c = asked_depth (command_parts c.args.command.now) _ _ _ c.in-Depth.is (rw c.as_slice-names.ensures.value at (c.depth_files.ensures (g.I.Source.left c.args.input.now) (g.I.Source.faults c.args.input.now)))
 
 pub returns-in-Migrate : goal.returns-in-Migrate
 returns-in-Migrate g c = asked_migrate (command_parts c.args.command.now) _ _ _ c.in-Migrate.is (rw c.as_slice-names.ensures.value at (c.migrate.ensures (g.I.Source.left c.args.input.now) (g.I.Source.faults c.args.input.now) (g.O.Sink.held c.args.out.now) (g.O.Sink.faults c.args.out.now)))

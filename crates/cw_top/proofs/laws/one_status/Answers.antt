@@ -8,6 +8,7 @@ returns c =
       texts = c.one_status_of_texts.ensures;
       exec = c.one_status_of_exec.ensures;
       map = c.one_status_of_results.ensures.map;
+      depth = c.one_status_of_results.ensures.depth;
       list = c.one_status_of_results.ensures.list;
       compile = c.one_status_of_results.ensures.compile;
       lib = c.one_status_of_libraries.ensures.lib;

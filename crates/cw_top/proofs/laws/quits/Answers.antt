@@ -8,6 +8,7 @@ returns c =
       texts = c.idle.ensures;
       exec = c.idle-2.ensures;
       map = c.idle-3.ensures.map;
+      depth = c.idle-3.ensures.depth;
       list = c.idle-3.ensures.list;
       compile = c.idle-3.ensures.compile;
       lib = c.idle_of_libraries.ensures.lib;

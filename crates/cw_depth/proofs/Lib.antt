@@ -1,0 +1,9 @@
+pub mod Layers
+pub mod OneReport
+pub mod Sorted
+pub mod Transport
+pub mod Firsts
+pub mod Adding
+pub mod Handing
+pub mod Graphing
+pub mod Reporting

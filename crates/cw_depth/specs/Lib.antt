@@ -1,0 +1,5 @@
+pub mod Mentions
+pub mod CallGraph
+pub mod Told
+pub mod Numbering
+pub mod Building

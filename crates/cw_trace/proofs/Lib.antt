@@ -1,0 +1,5 @@
+mod Added
+mod Marked
+mod Told
+mod Segment
+mod Begun

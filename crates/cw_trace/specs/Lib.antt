@@ -1,0 +1,5 @@
+pub mod Reports
+pub mod Gathering
+pub mod Answers
+pub mod Marks
+pub mod Statements

@@ -1,0 +1,5 @@
+mod Found
+mod Objects
+mod Means
+mod Rising
+mod First
