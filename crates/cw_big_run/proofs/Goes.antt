@@ -17,10 +17,10 @@ use Rattle.cw_correct.specs.Calls.{Surroundings, Call, call_as, first_name}
 use Rattle.cw_correct.specs.Closing.{Closes}
 use Rattle.cw_correct.specs.Making.{program_line, in_memory, NoneOfFiles}
 use Rattle.cw_correct.specs.Correct.{IsCorrectCall}
-use Rattle.cw_say.specs.Said.{Says}
+use Rattle.cw_write.specs.Said.{Says}
 use Rattle.cw_say.specs.Closing.{closing_line}
 use Rattle.cw_say.specs.declared.status.Status.{Status}
-use Rattle.cw_say.specs.declared.status.Status.TheVariants.{Ended, Usage, Refused, Unlinked, Stopped, Unfinished, NoFile, Outside, NoMemory, BadFile, TooLong, BadCode, Divided, TooMany}
+use Rattle.cw_say.specs.declared.status.Status.TheVariants.{Ended, Usage, Refused, Unlinked, Stopped, Unfinished, NoFile, Outside, NoMemory, BadFile, TooLong, BadCode, Divided, TooMany, NoPlace, NoItem}
 use Rattle.cw_say.specs.declared.status.Which.TheVariants.{Store, Input, Out, Say}
 use Rattle.cw_say.specs.declared.status.Long.TheVariants.{File}
 use Rattle.cw_say.specs.declared.status.Long.TheVariants as long
@@ -62,6 +62,8 @@ of_link us limits (TooLong kind) x = absurd x
 of_link us limits (BadCode offset) x = absurd x
 of_link us limits (Divided offset) x = absurd x
 of_link us limits (TooMany count) x = absurd x
+of_link us limits NoPlace x = absurd x
+of_link us limits (NoItem index) x = absurd x
 
 -- none of them tells the name of a file
 same_line : (names segments : List (List ℕ)) (s : Status) → NoneOfFiles s → closing_line [] segments s ≡ closing_line names segments s
@@ -80,6 +82,8 @@ same_line names segments (TooLong long.Input) x = refl
 same_line names segments (BadCode offset) x = refl
 same_line names segments (Divided offset) x = refl
 same_line names segments (TooMany count) x = refl
+same_line names segments NoPlace x = absurd x
+same_line names segments (NoItem index) x = absurd x
 
 -- ---- the call
 

@@ -8,7 +8,7 @@ use Rattle.cw_big.specs.LargeProgram.{large_text, first_texts}
 use Rattle.cw_files.specs.Texts.{HasUnit}
 use Rattle.cw_files.specs.Reading.{HaveBytes, HaveValues, IsRefusedAt, counts_at, StopsTexts}
 use Rattle.cw_say.specs.declared.status.Status.{Status}
-use Rattle.cw_say.specs.declared.status.Status.TheVariants.{Ended, Usage, Refused, Unlinked, Stopped, Unfinished, NoFile, Outside, NoMemory, BadFile, TooLong, BadCode, Divided, TooMany}
+use Rattle.cw_say.specs.declared.status.Status.TheVariants.{Ended, Usage, Refused, Unlinked, Stopped, Unfinished, NoFile, Outside, NoMemory, BadFile, TooLong, BadCode, Divided, TooMany, NoPlace, NoItem}
 use Rattle.cw_say.specs.declared.status.Which.TheVariants.{Store, Input, Out, Say}
 use Rattle.cw_say.specs.declared.status.Long.TheVariants.{File, Input as LongInput}
 
@@ -70,3 +70,5 @@ compiled both text u has (BadFile number fault) h = absurd h
 compiled both text u has (BadCode offset) h = absurd h
 compiled both text u has (Divided offset) h = absurd h
 compiled both text u has (TooMany count) h = absurd h
+compiled both text u has NoPlace h = absurd h
+compiled both text u has (NoItem index) h = absurd h

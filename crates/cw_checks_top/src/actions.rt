@@ -44,6 +44,87 @@ const LIBRARIES: [(&str, &[u8]); 6] = [
     ("l7", b"C66L\x01\x00\x01\x00\x04\x00\x00\x00none"),
 ];
 
+// A row a line: the words of a call, a question mark, and its status, what it writes and what it says, with `|` between them and `~` for the end of a line.
+const CALLS: &str = "list e?0|SEGMENT E BEGIN~END FINISH~|
+map e?0|12288 04096 FRAMES~|
+go a b?0|AC|00000 00001 COMMON.X WORD~00001 00001 B.P.N WORD~12288 04096 FRAMES~
+map a b?0|00000 00001 COMMON.X WORD~00001 00001 B.P.N WORD~12288 04096 FRAMES~|
+depth e?0|depth 0~|
+depth a b?0|depth 1~B.P~|
+depth n?0|depth none A.F~|
+depth h?0|depth 2~A.G~A.P~|
+depth t1 t2?3||link: K1 Differs T 1 2~
+depth r?3||link: K2 Undefined R~
+depth e missing?6||no file: missing~
+trace A:3:A.X w?4||00000 00001 A.X WORD~12288 04096 FRAMES~A 3 A.X=32767~stopped: Overflow A 3~
+trace a:2:a.i v?0|\u{1}\u{2}\u{3}|00000 00001 A.I WORD~00001 00004 A.FOR@1 LOOP~12288 04096 FRAMES~A 2 A.I=1~A 2 A.I=2~A 2 A.I=3~
+trace b:1:B.P.N,common.x[0] a b?0|AC|00000 00001 COMMON.X WORD~00001 00001 B.P.N WORD~12288 04096 FRAMES~B 1 B.P.N=65 COMMON.X=66~B 1 B.P.N=65 COMMON.X=66~
+trace A:9 w?14||no place: A 9~
+trace b:3 w?14||no place: B 3~
+trace A:9:A.Y w?14||no place: A 9~
+trace A:3:A.X,a.y w?15||no item: A.Y~
+trace A:3:A.X[1] w?15||no item: A.X~
+trace A:1 missing?6||no file: missing~
+trace A:1 r?3||link: K2 Undefined R~
+trace A w?1||usage: coral66 [--data N] [--frames N] [--depth N] [--steps N] ACTION WORD...~
+link a.SEG b.SEG?6||no file: a.SEG~
+compile a?0||
+compile b?0||
+link a.SEG b.SEG?0||
+exec A.IMG?0|AC|
+migrate a.SEG?0||
+link a.SEG.SG2 b.SEG?0||
+exec A.IMG?0|AC|
+exec halting?0||
+exec none?11||bad code: 0~
+exec A.IMX?9||A.IMX: I3 Truncated 21~
+exec a?9||a: I1 NotImage~
+hex A.IMG?0||
+exec A.IMG.HEX?0|AC|
+hex halting?0||
+exec halting.HEX?0||
+exec stopping?4||stopped: Overflow A 3~
+hex stopping?0||
+exec stopping.HEX?4||stopped: Overflow 1 3~
+exec sum?9||sum: X2 BadSum 2~
+exec colon?9||colon: X1 BadLine 1~
+hex sum?9||sum: I1 NotImage~
+hex A.IMX?9||A.IMX: I3 Truncated 21~
+hex missing?6||no file: missing~
+link b.SEG a?9||a: O1 NotObject~
+compile m?0||
+compile x?0||
+compile y?0||
+compile z?0||
+link m.SEG?3||link: K2 Undefined P1~
+lib l x.SEG z.SEG y.SEG?0||
+link m.SEG l?0||
+exec A.IMG?0|\u{7}|
+link l?0||
+exec A.IMG?0||
+lib l x.SEG x.SEG?0||
+link l m.SEG?3||link: K5 SegmentTwice X~
+lib l x.SEG y?9||y: O1 NotObject~
+lib l missing x.SEG?6||no file: missing~
+link m.SEG l2?9||l2: B3 Truncated 4~
+link m.SEG l3?9||l3: B2 BadVersion~
+link m.SEG l4?9||l4: B4 BadField 6~
+link m.SEG l5?9||l5: B4 BadField 6~
+link m.SEG l6?9||l6: B3 Truncated 12~
+link l7 m.SEG?9||l7: B5 BadMember 1 O1 NotObject~
+go t1 t2?3||link: K1 Differs T 1 2~
+go r?3||link: K2 Undefined R~
+go e e?3||link: K5 SegmentTwice E~
+link a.SEG a.SEG?3||link: K5 SegmentTwice A~
+go e missing?6||no file: missing~
+big 1?0|0854~|big 1 words 110~
+big 2?0|2562~|big 2 words 219~
+big 20?0|3212~|big 20 words 2181~
+big 20?0|3212~|big 20 words 2181~
+big 100?0|3708~|big 100 words 10901~
+--data 109 --frames 0 big 1?3||link: P1 DataTooBig 110~
+--steps 1000 big 1?5||big 1 words 110~unfinished: 1000~";
+
 fn file(alloc: Global, name: &[u8], bytes: &[u8]) -> Result<MemFile, AllocError> {
     Ok(MemFile {
         name: list(alloc, name)?,
@@ -73,6 +154,14 @@ fn store(alloc: Global) -> Result<MemStore, AllocError> {
         (
             "h",
             "SEGMENT A BEGIN PROCEDURE P(VALUE INTEGER N); ; PROCEDURE G(PROCEDURE Q(VALUE INTEGER)); Q(1); G(P) END FINISH",
+        ),
+        (
+            "w",
+            "SEGMENT A BEGIN INTEGER X;\nX := 32767;\nX := X + 1 END FINISH",
+        ),
+        (
+            "v",
+            "LIBRARY (PROCEDURE WRITEBYTE(VALUE INTEGER)); SEGMENT A BEGIN INTEGER I; FOR I := 1 STEP 1 UNTIL 3 DO\nWRITEBYTE(I) END FINISH",
         ),
         ("m", "LIBRARY (PROCEDURE P1); SEGMENT M BEGIN P1 END FINISH"),
         (
@@ -132,94 +221,28 @@ fn shown(alloc: Global, files: &mut MemStore, line: &str) -> Result<String, Allo
     format!(in alloc; "{code}|{held}|{said}")
 }
 
+// The text with `~` for the end of a line.
+fn flat(alloc: Global, text: &str) -> Result<String, AllocError> {
+    let mut out = String::new(alloc);
+    for character in text.chars() {
+        out.push(if character == '\n' { '~' } else { character })?;
+    }
+    Ok(out)
+}
+
 #[test]
 fn actions(rt: HostRuntime) -> Result<(), Fail> {
-    let rows = [
-        ("list e", "0|SEGMENT E BEGIN\nEND FINISH\n|"),
-        ("map e", "0|12288 04096 FRAMES\n|"),
-        (
-            "go a b",
-            "0|AC|00000 00001 COMMON.X WORD\n00001 00001 B.P.N WORD\n12288 04096 FRAMES\n",
-        ),
-        (
-            "map a b",
-            "0|00000 00001 COMMON.X WORD\n00001 00001 B.P.N WORD\n12288 04096 FRAMES\n|",
-        ),
-        ("depth e", "0|depth 0\n|"),
-        ("depth a b", "0|depth 1\nB.P\n|"),
-        ("depth n", "0|depth none A.F\n|"),
-        ("depth h", "0|depth 2\nA.G\nA.P\n|"),
-        ("depth t1 t2", "3||link: K1 Differs T 1 2\n"),
-        ("depth r", "3||link: K2 Undefined R\n"),
-        ("depth e missing", "6||no file: missing\n"),
-        ("link a.SEG b.SEG", "6||no file: a.SEG\n"),
-        ("compile a", "0||"),
-        ("compile b", "0||"),
-        ("link a.SEG b.SEG", "0||"),
-        ("exec A.IMG", "0|AC|"),
-        ("migrate a.SEG", "0||"),
-        ("link a.SEG.SG2 b.SEG", "0||"),
-        ("exec A.IMG", "0|AC|"),
-        ("exec halting", "0||"),
-        ("exec none", "11||bad code: 0\n"),
-        ("exec A.IMX", "9||A.IMX: I3 Truncated 21\n"),
-        ("exec a", "9||a: I1 NotImage\n"),
-        ("hex A.IMG", "0||"),
-        ("exec A.IMG.HEX", "0|AC|"),
-        ("hex halting", "0||"),
-        ("exec halting.HEX", "0||"),
-        ("exec stopping", "4||stopped: Overflow A 3\n"),
-        ("hex stopping", "0||"),
-        ("exec stopping.HEX", "4||stopped: Overflow 1 3\n"),
-        ("exec sum", "9||sum: X2 BadSum 2\n"),
-        ("exec colon", "9||colon: X1 BadLine 1\n"),
-        ("hex sum", "9||sum: I1 NotImage\n"),
-        ("hex A.IMX", "9||A.IMX: I3 Truncated 21\n"),
-        ("hex missing", "6||no file: missing\n"),
-        ("link b.SEG a", "9||a: O1 NotObject\n"),
-        ("compile m", "0||"),
-        ("compile x", "0||"),
-        ("compile y", "0||"),
-        ("compile z", "0||"),
-        ("link m.SEG", "3||link: K2 Undefined P1\n"),
-        ("lib l x.SEG z.SEG y.SEG", "0||"),
-        ("link m.SEG l", "0||"),
-        ("exec A.IMG", "0|\u{7}|"),
-        ("link l", "0||"),
-        ("exec A.IMG", "0||"),
-        ("lib l x.SEG x.SEG", "0||"),
-        ("link l m.SEG", "3||link: K5 SegmentTwice X\n"),
-        ("lib l x.SEG y", "9||y: O1 NotObject\n"),
-        ("lib l missing x.SEG", "6||no file: missing\n"),
-        ("link m.SEG l2", "9||l2: B3 Truncated 4\n"),
-        ("link m.SEG l3", "9||l3: B2 BadVersion\n"),
-        ("link m.SEG l4", "9||l4: B4 BadField 6\n"),
-        ("link m.SEG l5", "9||l5: B4 BadField 6\n"),
-        ("link m.SEG l6", "9||l6: B3 Truncated 12\n"),
-        ("link l7 m.SEG", "9||l7: B5 BadMember 1 O1 NotObject\n"),
-        ("go t1 t2", "3||link: K1 Differs T 1 2\n"),
-        ("go r", "3||link: K2 Undefined R\n"),
-        ("go e e", "3||link: K5 SegmentTwice E\n"),
-        ("link a.SEG a.SEG", "3||link: K5 SegmentTwice A\n"),
-        ("go e missing", "6||no file: missing\n"),
-        ("big 1", "0|0854\n|big 1 words 110\n"),
-        ("big 2", "0|2562\n|big 2 words 219\n"),
-        ("big 20", "0|3212\n|big 20 words 2181\n"),
-        ("big 20", "0|3212\n|big 20 words 2181\n"),
-        ("big 100", "0|3708\n|big 100 words 10901\n"),
-        (
-            "--data 109 --frames 0 big 1",
-            "3||link: P1 DataTooBig 110\n",
-        ),
-        (
-            "--steps 1000 big 1",
-            "5||big 1 words 110\nunfinished: 1000\n",
-        ),
-    ];
     let alloc = rt.alloc();
     let mut files = store(alloc)?;
-    for (line, wanted) in rows {
-        assert_eq!(rt; shown(alloc, &mut files, line)?.as_str(), wanted);
+    let mut count = 0_u32;
+    for row in CALLS.split('\n') {
+        let Some((line, wanted)) = row.split_once('?') else {
+            return Err(AllocError.into());
+        };
+        let text = shown(alloc, &mut files, line)?;
+        assert_eq!(rt; flat(alloc, text.as_str())?.as_str(), wanted);
+        count = count.wrapping_add(1);
     }
+    assert_eq!(rt; count, 79);
     Ok(())
 }

@@ -1,10 +1,12 @@
 //! Words, one line of them a row, with what they mean.
+use cw_stop::Stop;
 use cw_words::{Action, Command, WordsFault, read_words};
 use std::alloc::{AllocError, Global};
 use std::test::Fail;
 
 // A row a line: the words with a blank between any two, a question mark, and what they mean: the action, the words of the data
-// area and of the frame area, the depth, the instructions, the number of texts, and the WORDs. Nothing stands for usage.
+// area and of the frame area, the depth, the instructions, the number of texts, the WORDs, and behind an @ the stop: its segment, its line and what is watched.
+// Nothing stands for usage.
 const ROWS: &str = "go a?go 16384 4096 256 200000000 0 a
 go a b c?go 16384 4096 256 200000000 0 a b c
 compile a?compile 16384 4096 256 200000000 0 a
@@ -17,6 +19,9 @@ migrate a?migrate 16384 4096 256 200000000 0 a
 hex a?hex 16384 4096 256 200000000 0 a
 lib a b?lib 16384 4096 256 200000000 0 a b
 lib a b c?lib 16384 4096 256 200000000 0 a b c
+trace A:3 a?trace 16384 4096 256 200000000 0 A:3 a @ A 3
+trace a:003:A.x,y[7],COMMON.FOR@2[010] a b?trace 16384 4096 256 200000000 0 a:003:A.x,y[7],COMMON.FOR@2[010] a b @ A 3 A.X[0] Y[7] COMMON.FOR@2[10]
+trace LONGEST890123456789012345678901:65535:X[4294967295] a?trace 16384 4096 256 200000000 0 LONGEST890123456789012345678901:65535:X[4294967295] a @ LONGEST890123456789012345678901 65535 X[4294967295]
 big 7?big 16384 4096 256 200000000 7 7
 big 100?big 16384 4096 256 200000000 100 100
 big 001?big 16384 4096 256 200000000 1 001
@@ -77,6 +82,22 @@ hex a b?
 hex?
 lib a?
 lib?
+trace A:3?
+trace A a?
+trace A: a?
+trace :3 a?
+trace A:0 a?
+trace A:65536 a?
+trace A:+3 a?
+trace A:3: a?
+trace A:3:X, a?
+trace A:3:X[] a?
+trace A:3:X[4294967296] a?
+trace A:3:X[1]Y a?
+trace A:3:X-Y a?
+trace 1A:3 a?
+trace LONGEST8901234567890123456789012:3 a?
+trace A:3:X:4 a?
 big 1 2?
 big 0?
 big 101?
@@ -98,7 +119,28 @@ fn name(action: Action) -> &'static str {
         Action::Hex => "hex",
         Action::Lib => "lib",
         Action::Depth => "depth",
+        Action::Trace => "trace",
     }
+}
+
+fn push_bytes(out: &mut String, bytes: &[u8]) -> Result<(), AllocError> {
+    for byte in bytes {
+        out.push(*byte as char)?;
+    }
+    Ok(())
+}
+
+// What a stop is, as a row tells it.
+fn push_stop(alloc: Global, out: &mut String, stop: &Stop) -> Result<(), AllocError> {
+    out.push_str(" @ ")?;
+    push_bytes(out, stop.segment.bytes())?;
+    out.push_str(format!(in alloc; " {}", stop.line)?.as_str())?;
+    for watched in stop.watched.as_slice() {
+        out.push(' ')?;
+        push_bytes(out, watched.text.as_slice())?;
+        out.push_str(format!(in alloc; "[{}]", watched.word)?.as_str())?;
+    }
+    Ok(())
 }
 
 // What a command is, as a row tells it.
@@ -115,6 +157,9 @@ fn told(alloc: Global, command: &Command<'_>) -> Result<String, AllocError> {
     for name in command.names.iter() {
         out.push(' ')?;
         out.push_str(name)?;
+    }
+    if let Some(stop) = &command.stop {
+        push_stop(alloc, &mut out, stop)?;
     }
     Ok(out)
 }

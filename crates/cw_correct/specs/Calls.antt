@@ -1,5 +1,5 @@
 -- A call of the command: its words, and what is outside before and after it.
-use Rattle.std.specs.Prelude.{◌≡◌, ℕ, List, [], map, Option, slice_index_or}
+use Rattle.std.specs.Prelude.{◌≡◌, ℕ, List, [], map, drop, Option, slice_index_or}
 use Rattle.cw_io.specs.Count.{Rose}
 use Rattle.cw_io.specs.File.{Told}
 use Rattle.cw_unit.specs.declared.layout.Limits.{Limits}
@@ -52,6 +52,10 @@ told_files c = map c.before.files c.names
 -- the name of the first file
 abbrev pub first_name : Call → List ℕ
 first_name c = slice_index_or c.names 0 []
+
+-- the call over the files that are named behind the first name
+abbrev pub over_others : Call → Call
+over_others c = record c { names = drop 1 c.names }
 
 -- no count of faults or absences rose
 pub record NoFault (before after : Surroundings) : Type 0 where

@@ -1,6 +1,6 @@
 -- How a call is closed: what stands before and after its closing line is written.
-use Rattle.std.specs.Prelude.{◌≡◌, ℕ, List, Option}
-use Rattle.cw_say.specs.Said.{Says}
+use Rattle.std.specs.Prelude.{◌≡◌, ℕ, List}
+use Rattle.cw_write.specs.Said.{Says}
 use Rattle.cw_say.specs.Closing.{closing_line}
 use Rattle.cw_correct.specs.Calls.{Surroundings}
 use Rattle.cw_say.specs.declared.status.Status.{Status}

@@ -14,7 +14,7 @@ use Rattle.cw_correct.specs.Saying.{SaysLast}
 use Rattle.cw_correct.specs.Running.{Begins, RunsImage, ReadsInput}
 use Rattle.cw_correct.specs.Meaning.{TellBytes}
 use Rattle.cw_say.specs.declared.status.Status.{Status}
-use Rattle.cw_say.specs.declared.status.Status.TheVariants.{Ended, Usage, Refused, Unlinked, Stopped, Unfinished, NoFile, Outside, NoMemory, BadFile, TooLong, BadCode, Divided, TooMany}
+use Rattle.cw_say.specs.declared.status.Status.TheVariants.{Ended, Usage, Refused, Unlinked, Stopped, Unfinished, NoFile, Outside, NoMemory, BadFile, TooLong, BadCode, Divided, TooMany, NoPlace, NoItem}
 use Rattle.cw_say.specs.declared.status.Which.TheVariants.{Store, Input, Out, Say}
 use Rattle.cw_say.specs.declared.status.Long.TheVariants.{File}
 use Rattle.cw_say.specs.declared.status.Long.TheVariants as long
@@ -34,6 +34,8 @@ ExecComes c texts runnables Usage = ⊥
 ExecComes c texts runnables (Refused number fault) = ⊥
 ExecComes c texts runnables (Unlinked fault) = ⊥
 ExecComes c texts runnables (TooMany count) = ⊥
+ExecComes c texts runnables NoPlace = ⊥
+ExecComes c texts runnables (NoItem index) = ⊥
 ExecComes c texts runnables (Outside Say) = ⊥
 ExecComes c texts runnables NoMemory = Unit {0}
 ExecComes c texts runnables (BadFile number fault) = StopsRunnables (told_files c) texts (length runnables) (counts_before c) (counts_after c) (BadFile number fault)

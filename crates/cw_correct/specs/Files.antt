@@ -1,5 +1,5 @@
 -- When a call stops at one of its files.
-use Rattle.std.specs.Prelude.{◌≡◌, ℕ, List, length}
+use Rattle.std.specs.Prelude.{◌≡◌, List, length}
 use Rattle.cw_files.specs.Reading.{Counts, counts_at}
 use Rattle.cw_correct.specs.Calls.{Call}
 

@@ -1,5 +1,5 @@
 -- What the actions promise that run texts: the image of the texts runs, and shows what they mean.
-use Rattle.std.specs.Prelude.{◌≡◌, ◌≢◌, ℕ, ◌+◌, ◌*◌, ◌<◌, List, [], ◌∷◌, length, map, sum, slice_get}
+use Rattle.std.specs.Prelude.{◌≢◌, ℕ, ◌+◌, ◌*◌, ◌<◌, List, [], ◌∷◌, length, map, sum}
 use Rattle.cw_io.specs.Count.{Rose}
 use Rattle.cw_io.specs.File.{AllStay}
 use Rattle.cw_i86.specs.MachineRun as run
@@ -25,8 +25,8 @@ use Rattle.cw_correct.specs.Saying.{SaysFirst}
 use Rattle.cw_correct.specs.Running.{begins_as, RunsImage, ReadsInput}
 use Rattle.cw_correct.specs.Meaning.{PreservesMeaning, CompletesRuns}
 use Rattle.cw_say.specs.declared.status.Status.{Status}
-use Rattle.cw_say.specs.declared.status.Status.TheVariants.{Ended, Usage, Refused, Unlinked, Stopped, Unfinished, NoFile, Outside, NoMemory, BadFile, TooLong, BadCode, Divided, TooMany}
-use Rattle.cw_say.specs.declared.status.Which.TheVariants.{Store, Input, Out, Say}
+use Rattle.cw_say.specs.declared.status.Status.TheVariants.{Usage, Refused, Unlinked, NoFile, Outside, NoMemory, BadFile, TooLong, TooMany, NoPlace, NoItem}
+use Rattle.cw_say.specs.declared.status.Which.TheVariants.{Store, Input, Out}
 use Rattle.cw_say.specs.declared.status.Long.TheVariants.{File}
 use Rattle.cw_say.specs.declared.status.Long.TheVariants as long
 
@@ -55,6 +55,8 @@ abbrev pub GoComes : Call → (texts : List (List ℕ)) → (us : List SourceUni
 GoComes c texts us Usage = ⊥
 GoComes c texts us (BadFile number fault) = ⊥
 GoComes c texts us (TooMany count) = ⊥
+GoComes c texts us NoPlace = ⊥
+GoComes c texts us (NoItem index) = ⊥
 GoComes c texts us (Refused number fault) = StopsTexts (told_files c) texts (length us) (counts_before c) (counts_after c) (Refused number fault)
 GoComes c texts us (NoFile number) = StopsTexts (told_files c) texts (length us) (counts_before c) (counts_after c) (NoFile number)
 GoComes c texts us (TooLong (File number)) = StopsTexts (told_files c) texts (length us) (counts_before c) (counts_after c) (TooLong (File number))

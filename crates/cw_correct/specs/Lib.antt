@@ -9,4 +9,5 @@ pub mod Making
 pub mod Executing
 pub mod Depths
 pub mod Results
+pub mod Tracing
 pub mod Correct

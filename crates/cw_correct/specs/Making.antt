@@ -6,7 +6,7 @@ use Rattle.cw_big.specs.LargeProgram.{large_program}
 use Rattle.cw_correct.specs.Calls.{Surroundings, Call}
 use Rattle.cw_correct.specs.Going.{Telling, RunsTexts}
 use Rattle.cw_say.specs.declared.status.Status.{Status}
-use Rattle.cw_say.specs.declared.status.Status.TheVariants.{Usage, Refused, NoFile, Outside, BadFile, TooLong}
+use Rattle.cw_say.specs.declared.status.Status.TheVariants.{Usage, Refused, NoFile, Outside, BadFile, TooLong, NoPlace, NoItem}
 use Rattle.cw_say.specs.declared.status.Which.TheVariants.{Store}
 use Rattle.cw_say.specs.declared.status.Long.TheVariants.{File}
 
@@ -25,7 +25,7 @@ in_memory s = record s { files = λ text. Some (Some text); store_faults = 0; ab
 abbrev pub over_program : (copies : ℕ) → Call → Call
 over_program copies c = record c { names = large_program copies; before = in_memory c.before; after = in_memory c.after }
 
--- The status is none that tells of a file: each text is made, and none is refused.
+-- The status is none that tells of a file or of a stop word: each text is made, and none is refused.
 abbrev pub NoneOfFiles : Status → Type 0
 NoneOfFiles Usage = ⊥
 NoneOfFiles (Refused number fault) = ⊥
@@ -33,6 +33,8 @@ NoneOfFiles (NoFile number) = ⊥
 NoneOfFiles (BadFile number fault) = ⊥
 NoneOfFiles (Outside Store) = ⊥
 NoneOfFiles (TooLong (File number)) = ⊥
+NoneOfFiles NoPlace = ⊥
+NoneOfFiles (NoItem index) = ⊥
 NoneOfFiles status = Unit {0}
 
 pub record MakesRight (copies : ℕ) (c : Call) (input : List ℕ) (status : Status) : Type 0 where

@@ -1,5 +1,5 @@
 -- What the actions promise that run nothing: `map`, `depth` and `list` write their result to `out`; `compile`, `lib`, `link`, `migrate` and `hex` write it to a file.
-use Rattle.std.specs.Prelude.{◌≡◌, ◌⊎◌, ℕ, ◌<◌, ◌≤◌, List, [], ◌∷◌, ◌++◌, length, map, take, drop, codes}
+use Rattle.std.specs.Prelude.{◌≡◌, ◌⊎◌, ℕ, ◌<◌, ◌≤◌, List, [], ◌∷◌, ◌++◌, length, map, take, codes}
 use Rattle.cw_io.specs.Bytes.{after_told}
 use Rattle.cw_io.specs.Count.{Rose}
 use Rattle.cw_io.specs.File.{as_file, KeptOrWhole, OthersStay, AllStay}
@@ -8,7 +8,6 @@ use Rattle.cw_unit.specs.declared.layout.Limits.{Limits}
 use Rattle.cw_compile.specs.Texts.{text_limit, IsCanonicalOf}
 use Rattle.cw_link.specs.Contents.{Contents}
 use Rattle.cw_link.specs.LinkedImage.{linked_image}
-use Rattle.cw_link.specs.declared.fault.LinkFault.{LinkFault}
 use Rattle.cw_image.specs.ImageFormat.{image_bytes}
 use Rattle.cw_image.specs.declared.image.Image.{Image}
 use Rattle.cw_hex.specs.HexText.{hex_text}
@@ -21,7 +20,7 @@ use Rattle.cw_lib.specs.LibraryFormat.{library_bytes}
 use Rattle.cw_link_files.specs.Parts.{Part, HasPart, IsLinkList}
 use Rattle.cw_link_files.specs.Taken.{StopsParts}
 use Rattle.cw_files.specs.Reading.{HaveBytes, HaveValues, AllTaken, StopsTexts, StopsObjects, StopsImages}
-use Rattle.cw_correct.specs.Calls.{Call, told_files, first_name, NoFault, SameCounts, IsUntouched, IsUnwritten}
+use Rattle.cw_correct.specs.Calls.{Call, told_files, first_name, over_others, NoFault, SameCounts, IsUntouched, IsUnwritten}
 use Rattle.cw_correct.specs.Files.{counts_before, counts_after, AllAccepted}
 use Rattle.cw_correct.specs.Saying.{SaysLast}
 use Rattle.cw_depth.specs.declared.depth_report.Report.{Report}
@@ -30,9 +29,8 @@ use Rattle.cw_correct.specs.Depths.{depth_text}
 use Rattle.cw_correct.specs.Going.{HasCause}
 use Rattle.cw_correct.specs.Meaning.{TellBytes}
 use Rattle.cw_say.specs.declared.status.Status.{Status}
-use Rattle.cw_say.specs.declared.status.Status.TheVariants.{Ended, Unlinked, NoFile, Outside, NoMemory, BadFile, TooLong, TooMany}
+use Rattle.cw_say.specs.declared.status.Status.TheVariants.{Ended, Unlinked, Outside, NoMemory, TooMany}
 use Rattle.cw_say.specs.declared.status.Which.TheVariants.{Store, Out}
-use Rattle.cw_say.specs.declared.status.Long.TheVariants.{File}
 
 -- ---- where a result goes
 
@@ -161,10 +159,6 @@ ObjectsCome c texts objects status = StopsObjects (told_files c) texts (length o
 
 -- ---- lib
 
--- the call without its first name, which is that of the library: the others are objects
-abbrev pub over_objects : Call → Call
-over_objects c = record c { names = drop 1 c.names }
-
 -- the library of the call's objects, in the file of this name
 pub record MakesLibrary (name : List ℕ) (c : Call) (status : Status) : Type 0 where
   pub texts : List (List ℕ)
@@ -178,9 +172,9 @@ pub record MakesLibrary (name : List ℕ) (c : Call) (status : Status) : Type 0 
   pub unwritten : IsUnwritten c.before c.after
   pub completes : (told objects : List (List ℕ)) → TellBytes (told_files c) told → AllTaken object_limit HasObject (told_files c) objects → NoFault c.before c.after → IsDone status
 
--- in the file of the first name
+-- of the objects behind the first name, in the file of that name
 abbrev pub LibsRight : Call → Status → Type 0
-LibsRight c status = MakesLibrary (first_name c) (over_objects c) status
+LibsRight c status = MakesLibrary (first_name c) (over_others c) status
 
 -- ---- link
 

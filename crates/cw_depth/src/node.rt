@@ -2,7 +2,7 @@
 
 /// The body of a segment, or a procedure by its segment and its number there. Segments count from 0.
 #[derive(Clone, Copy)]
-pub(crate) enum Node {
+pub enum Node {
     Body(u8),
     Procedure(u8, u16),
 }

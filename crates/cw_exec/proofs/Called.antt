@@ -5,7 +5,7 @@ use Rattle.cw_unit.specs.declared.layout.Limits.{Limits}
 use Rattle.cw_files.specs.declared.images.Runnable.{Runnable}
 use Rattle.cw_ports.specs.Running.{outside}
 use Rattle.cw_files.specs.Reading.{counts_at, AnswersRunnable}
-use Rattle.cw_say.specs.Said.{Says}
+use Rattle.cw_write.specs.Said.{Says}
 use Rattle.cw_say.specs.Closing.{closing_line}
 use Rattle.cw_words.specs.declared.action.Action.TheVariants.{Exec}
 use Rattle.cw_correct.specs.Calls.{Surroundings, surroundings_of, call_as}

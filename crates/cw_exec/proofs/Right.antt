@@ -11,7 +11,7 @@ use Rattle.cw_files.specs.declared.images.Runnable.{Runnable}
 use Rattle.cw_files.specs.Texts.{HasRunnable, object_limit}
 use Rattle.cw_files.specs.Reading as reading
 use Rattle.cw_files.specs.Reading.{Counts, HaveBytes, HaveValues, AllTaken, StopsRunnables}
-use Rattle.cw_say.specs.Said.{Says}
+use Rattle.cw_write.specs.Said.{Says}
 use Rattle.cw_say.specs.Closing.{closing_line}
 use Rattle.cw_correct.specs.Calls.{Surroundings, Call, told_files, IsUntouched}
 use Rattle.cw_correct.specs.Closing.{Closes}
@@ -20,7 +20,7 @@ use Rattle.cw_correct.specs.Saying.{IsFirstPart, SaysLast}
 use Rattle.cw_correct.specs.Running.{RunsImage, ReadsInput}
 use Rattle.cw_correct.specs.Executing.{begins_first, first_names, ExecComes, CompletesExec, ExecutesRight}
 use Rattle.cw_say.specs.declared.status.Status.{Status}
-use Rattle.cw_say.specs.declared.status.Status.TheVariants.{Ended, Usage, Refused, Unlinked, Stopped, Unfinished, NoFile, Outside, NoMemory, BadFile, TooLong, BadCode, Divided, TooMany}
+use Rattle.cw_say.specs.declared.status.Status.TheVariants.{Ended, Usage, Refused, Unlinked, Stopped, Unfinished, NoFile, Outside, NoMemory, BadFile, TooLong, BadCode, Divided, TooMany, NoPlace, NoItem}
 use Rattle.cw_say.specs.declared.status.Bad.{Bad}
 use Rattle.cw_say.specs.declared.status.Which.TheVariants.{Store, Input, Out, Say}
 use Rattle.cw_say.specs.declared.status.Long.TheVariants.{File}
@@ -189,6 +189,8 @@ module _ (c : Call) (b : Surroundings) (stays : AllStay c.before.files c.after.f
       stops (BadCode offset) x closes = absurd x
       stops (Divided offset) x closes = absurd x
       stops (TooMany count) x closes = absurd x
+      stops NoPlace x closes = absurd x
+      stops (NoItem index) x closes = absurd x
 
 -- ---- the call
 

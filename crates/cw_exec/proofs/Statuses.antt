@@ -14,7 +14,7 @@ use Rattle.cw_correct.specs.Files.{counts_before, counts_after}
 use Rattle.cw_correct.specs.Running.{ImageShows, Tells, Ran}
 use Rattle.cw_correct.specs.Executing.{begins_first, ExecutesRight}
 use Rattle.cw_say.specs.declared.status.Status.{Status}
-use Rattle.cw_say.specs.declared.status.Status.TheVariants.{Ended, Usage, Refused, Unlinked, Stopped, Unfinished, NoFile, Outside, NoMemory, BadFile, TooLong, BadCode, Divided, TooMany}
+use Rattle.cw_say.specs.declared.status.Status.TheVariants.{Ended, Usage, Refused, Unlinked, Stopped, Unfinished, NoFile, Outside, NoMemory, BadFile, TooLong, BadCode, Divided, TooMany, NoPlace, NoItem}
 use Rattle.cw_say.specs.declared.status.Bad.{Bad}
 use Rattle.cw_say.specs.declared.status.Which.TheVariants.{Store, Input, Out, Say}
 use Rattle.cw_say.specs.declared.status.Long.TheVariants.{File}
@@ -183,6 +183,8 @@ module _ (runs : OneRun) (c : Call) (input : List ℕ) where
     of_call (BadCode offset) other x = of_run (BadCode offset) x x.comes x.runs_image
     of_call (Divided offset) other x = of_run (Divided offset) x x.comes x.runs_image
     of_call (TooMany count) other x = absurd x.comes
+    of_call NoPlace other x = absurd x.comes
+    of_call (NoItem index) other x = absurd x.comes
 
   -- ---- one of two
 
@@ -201,6 +203,8 @@ module _ (runs : OneRun) (c : Call) (input : List ℕ) where
   tells_one (BadCode offset) end e = sym (ap told_by e)
   tells_one (Divided offset) end e = sym (ap told_by e)
   tells_one (TooMany count) end e = absurd e
+  tells_one NoPlace end e = absurd e
+  tells_one (NoItem index) end e = absurd e
   tells_one Usage end e = absurd e
   tells_one (Refused number fault) end e = absurd e
   tells_one (Unlinked fault) end e = absurd e

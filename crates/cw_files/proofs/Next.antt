@@ -6,7 +6,7 @@ use Rattle.cw_compile.specs.Texts.{text_limit, IsUnitOf}
 use Rattle.cw_build.specs.Building.{IsMadeOf}
 use Rattle.cw_image.specs.declared.image.Image.{Image}
 use Rattle.cw_say.specs.declared.status.Status.{Status}
-use Rattle.cw_say.specs.declared.status.Status.TheVariants.{Ended, Usage, Refused, Unlinked, Stopped, Unfinished, NoFile, Outside, NoMemory, BadFile, TooLong, BadCode, Divided, TooMany}
+use Rattle.cw_say.specs.declared.status.Status.TheVariants.{Ended, Usage, Refused, Unlinked, Stopped, Unfinished, NoFile, Outside, NoMemory, BadFile, TooLong, BadCode, Divided, TooMany, NoPlace, NoItem}
 use Rattle.cw_say.specs.declared.status.Bad.TheVariants.{Object, Image as BadImage, Hex, Library}
 use Rattle.cw_files.specs.declared.segments.Segment.{Segment}
 use Rattle.cw_files.specs.declared.segments.Segments.{Segments}
@@ -34,6 +34,8 @@ unread_text files texts taken before after (TooLong long) unread = unread
 unread_text files texts taken before after (BadCode offset) unread = unread
 unread_text files texts taken before after (Divided offset) unread = unread
 unread_text files texts taken before after (TooMany count) unread = unread
+unread_text files texts taken before after NoPlace unread = unread
+unread_text files texts taken before after (NoItem index) unread = unread
 unread_text files texts taken before after (Refused file fault) unread = absurd unread
 unread_text files texts taken before after (BadFile file (Object fault)) unread = absurd unread
 unread_text files texts taken before after (BadFile file (BadImage fault)) unread = absurd unread
@@ -54,6 +56,8 @@ unread_object files texts taken before after (TooLong long) unread = unread
 unread_object files texts taken before after (BadCode offset) unread = unread
 unread_object files texts taken before after (Divided offset) unread = unread
 unread_object files texts taken before after (TooMany count) unread = unread
+unread_object files texts taken before after NoPlace unread = unread
+unread_object files texts taken before after (NoItem index) unread = unread
 unread_object files texts taken before after (Refused file fault) unread = absurd unread
 unread_object files texts taken before after (BadFile file (Object fault)) unread = absurd unread
 unread_object files texts taken before after (BadFile file (BadImage fault)) unread = absurd unread
@@ -74,6 +78,8 @@ unread_image files texts taken before after (TooLong long) unread = unread
 unread_image files texts taken before after (BadCode offset) unread = unread
 unread_image files texts taken before after (Divided offset) unread = unread
 unread_image files texts taken before after (TooMany count) unread = unread
+unread_image files texts taken before after NoPlace unread = unread
+unread_image files texts taken before after (NoItem index) unread = unread
 unread_image files texts taken before after (Refused file fault) unread = absurd unread
 unread_image files texts taken before after (BadFile file (Object fault)) unread = absurd unread
 unread_image files texts taken before after (BadFile file (BadImage fault)) unread = absurd unread

@@ -3,7 +3,7 @@ use Rattle.std.proofs.Common.{◌≡◌, ℕ, ◌≤◌, false, List, [], ◌∷
 use Rattle.cw_io.specs.File.{Told, Is}
 use Rattle.cw_image.specs.declared.fault.ImageFault.{ImageFault}
 use Rattle.cw_say.specs.declared.status.Status.{Status}
-use Rattle.cw_say.specs.declared.status.Status.TheVariants.{Ended, Usage, Refused, Unlinked, Stopped, Unfinished, NoFile, Outside, NoMemory, BadFile, TooLong, BadCode, Divided, TooMany}
+use Rattle.cw_say.specs.declared.status.Status.TheVariants.{Ended, Usage, Refused, Unlinked, Stopped, Unfinished, NoFile, Outside, NoMemory, BadFile, TooLong, BadCode, Divided, TooMany, NoPlace, NoItem}
 use Rattle.cw_say.specs.declared.status.Bad.TheVariants.{Object, Image as BadImage, Hex, Library}
 use Rattle.cw_files.specs.declared.images.Runnable.{Runnable}
 use Rattle.cw_files.specs.Texts.{IsBad, begins_hex, HasRunnable, IsBadRunnable, object_limit}
@@ -38,6 +38,8 @@ image_stops files texts before after bytes (TooLong long) is at x = x
 image_stops files texts before after bytes (BadCode offset) is at x = x
 image_stops files texts before after bytes (Divided offset) is at x = x
 image_stops files texts before after bytes (TooMany count) is at x = x
+image_stops files texts before after bytes NoPlace is at x = x
+image_stops files texts before after bytes (NoItem index) is at x = x
 
 -- ---- the one file
 
@@ -56,6 +58,8 @@ unread_runnable files texts taken before after (TooLong long) unread = unread
 unread_runnable files texts taken before after (BadCode offset) unread = unread
 unread_runnable files texts taken before after (Divided offset) unread = unread
 unread_runnable files texts taken before after (TooMany count) unread = unread
+unread_runnable files texts taken before after NoPlace unread = unread
+unread_runnable files texts taken before after (NoItem index) unread = unread
 unread_runnable files texts taken before after (BadFile file fault) unread = absurd unread
 
 pub runnable_taken : (file : Told) (bytes : List ℕ) (before after : Counts) (result : Result Runnable Status) → Is file bytes → length bytes ≤ object_limit → SameCounts before after

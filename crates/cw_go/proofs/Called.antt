@@ -19,8 +19,8 @@ use Rattle.cw_correct.specs.Calls.{Surroundings, surroundings_of, Call, call_as,
 use Rattle.cw_correct.specs.Closing.{Closes}
 use Rattle.cw_correct.specs.Correct.{IsCorrectCall}
 use Rattle.cw_correct.specs.Files.{counts_before, counts_after}
-use Rattle.cw_correct.specs.Going.{Telling, names_of}
-use Rattle.cw_say.specs.Said.{Says}
+use Rattle.cw_correct.specs.Going.{Telling}
+use Rattle.cw_write.specs.Said.{Says}
 use Rattle.cw_say.specs.Closing.{closing_line}
 use Rattle.cw_say.specs.declared.status.Status.{Status}
 use Rattle.cw_say.specs.declared.status.Status.TheVariants.{Ended}

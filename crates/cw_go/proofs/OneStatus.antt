@@ -1,5 +1,5 @@
--- Two statuses never come of one call of `go`.
-use Rattle.std.proofs.Common.{◌≡◌, ◌≢◌, ◌⊎◌, ℕ, ◌+◌, ◌<◌, List, [], ◌++◌, length, length-append, Option, Some, None, slice_get, refl, sym, ap, ◌∙◌, subst, inl, inr, arith}
+-- Two statuses never come of one call that runs texts, or finds that their image is not to run.
+use Rattle.std.proofs.Common.{◌≡◌, ◌≢◌, ◌⊎◌, ℕ, ◌+◌, ◌<◌, List, [], ◌++◌, map, length, length-append, Option, Some, None, slice_get, refl, sym, ap, ◌∙◌, subst, inl, inr, arith}
 use Rattle.std.proofs.lemmas.Bool.{cases_order}
 use Rattle.std.proofs.lemmas.List.{length-map}
 use Rattle.cw_io.specs.File.{Told, Is, IsLonger}
@@ -16,17 +16,58 @@ use Rattle.cw_files.specs.Texts.{HasUnit}
 use Rattle.cw_files.specs.Reading.{HaveBytes, HaveValues}
 use Rattle.cw_correct.specs.Calls.{Call, told_files, NoFault}
 use Rattle.cw_correct.specs.Running.{begins_as, ImageShows, Tells, Ran}
-use Rattle.cw_correct.specs.Going.{RunsTexts}
+use Rattle.cw_correct.specs.Going.{Telling, RunsTexts}
 use Rattle.cw_say.specs.declared.status.Status.{Status}
-use Rattle.cw_say.specs.declared.status.Status.TheVariants.{Ended, Usage, Refused, Unlinked, Stopped, Unfinished, NoFile, Outside, NoMemory, BadFile, TooLong, BadCode, Divided, TooMany}
+use Rattle.cw_say.specs.declared.status.Status.TheVariants.{Ended, Usage, Refused, Unlinked, Stopped, Unfinished, NoFile, Outside, NoMemory, BadFile, TooLong, BadCode, Divided, TooMany, NoPlace, NoItem}
 use Rattle.cw_say.specs.declared.status.Which.TheVariants.{Store, Input, Out, Say}
 use Rattle.cw_say.specs.declared.status.Long.TheVariants.{File}
 use Rattle.cw_say.specs.declared.status.Long.TheVariants as long
+use Rattle.cw_correct.specs.Files.{AllAccepted}
 use Rattle.cw_go.specs.Laws.{HasOneStatus}
 use Rattle.cw_go.proofs.Files as files
 use Rattle.cw_go.proofs.Links.{links_not_faulty, one_fault}
 use Rattle.cw_go.proofs.Meant as meant
 use Rattle.cw_go.proofs.Given.{OneOfText, OneRun}
+
+-- ---- what comes of a call
+
+-- something holds, where the status tells that an image ran as far as it could
+abbrev pub WhereRan : Status → Type 0 → Type 0
+WhereRan Ended Holds = Holds
+WhereRan (Stopped kind segment line) Holds = Holds
+WhereRan (Unfinished ran) Holds = Holds
+WhereRan (BadCode offset) Holds = Holds
+WhereRan (Divided offset) Holds = Holds
+WhereRan (TooLong long.Input) Holds = Holds
+WhereRan status Holds = Unit {0}
+
+-- The files have units, and these link; of them and the status something holds, where their image is not to run.
+pub record IsNotRun (Never : List SourceUnit → Status → Type 0) (c : Call) (status : Status) : Type 0 where
+  pub texts : List (List ℕ)
+  pub units : List SourceUnit
+  pub have_texts : HaveBytes text_limit (told_files c) texts
+  pub have_units : HaveValues HasUnit texts units
+  pub all : AllAccepted c units
+  pub links : Links units c.limits
+  pub never : Never units status
+
+-- a status of texts that run, where something holds of the units, or of texts that are not to run
+abbrev pub Comes : (Also : List SourceUnit → Type 0) → (Never : List SourceUnit → Status → Type 0) → Call → (input : List ℕ) → Status → Type 0
+Comes Also Never c input status = ((telling : Telling) × (runs : RunsTexts telling c input status) × WhereRan status (Also runs.units)) ⊎ IsNotRun Never c status
+
+-- not both hold, and not of two statuses
+pub record AreApart (Also : List SourceUnit → Type 0) (Never : List SourceUnit → Status → Type 0) : Type 0 where
+  pub one : (us : List SourceUnit) (s t : Status) → Never us s → Never us t → s ≡ t
+  pub apart : (us : List SourceUnit) (s : Status) → Never us s → Also us → ⊥
+
+-- Two statuses never come of one call, where the store tells its files, no count rose, and memory was found; and where one is TooLong(Input), the source its input.
+abbrev pub HasOneStatusOf : Type 1
+HasOneStatusOf =
+    (Also : List SourceUnit → Type 0) (Never : List SourceUnit → Status → Type 0) → AreApart Also Never
+    → (c : Call) (input : List ℕ) (a b : Status) (found : List (Option (List ℕ))) → told_files c ≡ map Some found → NoFault c.before c.after → a ≢ NoMemory → b ≢ NoMemory
+    → ((a ≡ TooLong long.Input) ⊎ (b ≡ TooLong long.Input) → (told : List ℕ) × (c.before.left ≡ Some told)) → Comes Also Never c input a → Comes Also Never c input b → a ≡ b
+
+-- ---- parts
 
 -- a status that tells an end is not that of an input that is too long
 not_too_long : (steps : ℕ) (s : Status) (end : run.End) → Tells steps s end → s ≢ TooLong long.Input
@@ -46,7 +87,7 @@ taken_once left (Some rest) told m n is (xs, same, count) (ys, also, other) =
     bytes_of None = []
     bytes_of (Some bytes) = bytes
 
-module _ (texts : OneOfText) (runs : OneRun) (said : List SourceUnit → List ℕ) (c : Call) (input : List ℕ) (told : files.AreTold (told_files c)) (quiet : NoFault c.before c.after) where
+module _ (texts : OneOfText) (runs : OneRun) (Also : List SourceUnit → Type 0) (Never : List SourceUnit → Status → Type 0) (rules : AreApart Also Never) (c : Call) (input : List ℕ) (told : files.AreTold (told_files c)) (quiet : NoFault c.before c.after) where
   -- the file behind those that were taken is refused, or too long
   abbrev IsRefusedThere : (ts : List (List ℕ)) (n : ℕ) → Status → Type 0
   IsRefusedThere ts n s = (fault : Refusal) × (text : List ℕ) × (slice_get ts n ≡ Some text) × IsRefused text fault × (s ≡ Refused n fault)
@@ -61,8 +102,9 @@ module _ (texts : OneOfText) (runs : OneRun) (said : List SourceUnit → List �
   abbrev OfUnits : List SourceUnit → Status → Type 0
   OfUnits us s =
       ((fault : LinkFault) × IsLinkFault us c.limits fault × (s ≡ Unlinked fault))
-      ⊎ (Links us c.limits × ((o : run.Observed) × ImageShows (begins_as (image_of us c.limits)) input c.steps o × Tells c.steps s o.end) × TakenWithin c.before.left c.after.left)
-      ⊎ (Links us c.limits × (s ≡ TooLong long.Input) × Taken c.before.left c.after.left (input_limit + 1))
+      ⊎ (Links us c.limits × Also us × ((o : run.Observed) × ImageShows (begins_as (image_of us c.limits)) input c.steps o × Tells c.steps s o.end) × TakenWithin c.before.left c.after.left)
+      ⊎ (Links us c.limits × Also us × (s ≡ TooLong long.Input) × Taken c.before.left c.after.left (input_limit + 1))
+      ⊎ (Links us c.limits × Never us s)
 
   record OfCall (s : Status) : Type 0 where
     ts : List (List ℕ)
@@ -73,50 +115,59 @@ module _ (texts : OneOfText) (runs : OneRun) (said : List SourceUnit → List �
 
   -- ---- of each status
 
-  stopped : (s : Status) (x : RunsTexts said c input s) → IsStop x.texts (length x.units) s → OfCall s
-  stopped s x stop = record { ts = x.texts; us = x.units; bytes = x.have_texts; units = x.have_units; what = inl stop }
+  stopped : (said : Telling) (s : Status) (x : RunsTexts said c input s) → IsStop x.texts (length x.units) s → OfCall s
+  stopped said s x stop = record { ts = x.texts; us = x.units; bytes = x.have_texts; units = x.have_units; what = inl stop }
 
-  of_units : (s : Status) (x : RunsTexts said c input s) → length x.units ≡ length c.names → OfUnits x.units s → OfCall s
-  of_units s x all of = record { ts = x.texts; us = x.units; bytes = x.have_texts; units = x.have_units; what = inr (all ∙ sym (length-map c.names c.before.files), of) }
+  of_units : (said : Telling) (s : Status) (x : RunsTexts said c input s) → length x.units ≡ length c.names → OfUnits x.units s → OfCall s
+  of_units said s x all of = record { ts = x.texts; us = x.units; bytes = x.have_texts; units = x.have_units; what = inr (all ∙ sym (length-map c.names c.before.files), of) }
 
-  of_run : (s : Status) (x : RunsTexts said c input s) → length x.units ≡ length c.names → Links x.units c.limits → Ran c input (begins_as (image_of x.units c.limits)) x.instructions x.shown s → OfCall s
-  of_run s x all links ran =
+  of_run : (said : Telling) (s : Status) (x : RunsTexts said c input s) → Also x.units → length x.units ≡ length c.names → Links x.units c.limits → Ran c input (begins_as (image_of x.units c.limits)) x.instructions x.shown s → OfCall s
+  of_run said s x also all links ran =
       let within : TakenWithin c.before.left c.after.left = x.within_limit (not_too_long c.steps s x.shown.end ran.tells) in
-      of_units s x all (inr (inl (links, (x.shown, subst (λ n. ImageShows (begins_as (image_of x.units c.limits)) input n x.shown) ran.all ran.shows, ran.tells), within)))
+      of_units said s x all (inr (inl (links, also, (x.shown, subst (λ n. ImageShows (begins_as (image_of x.units c.limits)) input n x.shown) ran.all ran.shows, ran.tells), within)))
 
-  of_refusal : (number : ℕ) (fault : Refusal) (x : RunsTexts said c input (Refused number fault)) → OfCall (Refused number fault)
-  of_refusal number fault x =
+  of_refusal : (said : Telling) (number : ℕ) (fault : Refusal) (x : RunsTexts said c input (Refused number fault)) → OfCall (Refused number fault)
+  of_refusal said number fault x =
       let (text, at, refused) = files.refused_text (slice_get x.texts number) fault x.comes.1 in
       let is : number ≡ length x.units = x.comes.0 in
-      stopped (Refused number fault) x (inl (fault, text, ap (slice_get x.texts) (sym is) ∙ at, refused, ap (λ n. Refused n fault) is))
+      stopped said (Refused number fault) x (inl (fault, text, ap (slice_get x.texts) (sym is) ∙ at, refused, ap (λ n. Refused n fault) is))
 
-  of_length : (number : ℕ) (x : RunsTexts said c input (TooLong (File number))) → OfCall (TooLong (File number))
-  of_length number x =
+  of_length : (said : Telling) (number : ℕ) (x : RunsTexts said c input (TooLong (File number))) → OfCall (TooLong (File number))
+  of_length said number x =
       let (file, at, longer) = files.longer_file (slice_get (told_files c) number) text_limit x.comes.1 in
       let is : number ≡ length x.units = x.comes.0 in
-      stopped (TooLong (File number)) x (inr (file, ap (slice_get (told_files c)) (sym is) ∙ at, longer, ap (λ n. TooLong (File n)) is))
+      stopped said (TooLong (File number)) x (inr (file, ap (slice_get (told_files c)) (sym is) ∙ at, longer, ap (λ n. TooLong (File n)) is))
 
-  of_call : (s : Status) → s ≢ NoMemory → RunsTexts said c input s → OfCall s
-  of_call Usage other x = absurd x.comes
-  of_call (BadFile number fault) other x = absurd x.comes
-  of_call (Refused number fault) other x = of_refusal number fault x
-  of_call (Unlinked fault) other x = of_units (Unlinked fault) x x.comes.0 (inl (fault, x.comes.1, refl))
-  of_call (NoFile number) other x = absurd (quiet.absences x.comes.2)
-  of_call (TooLong (File number)) other x = of_length number x
-  of_call (TooLong long.Input) other x = of_units (TooLong long.Input) x x.comes.0 (inr (inr (x.comes.1, refl, x.comes.2)))
-  of_call (Outside Input) other x = absurd (quiet.input x.comes.2)
-  of_call (Outside Store) other x = absurd (quiet.store x.comes)
-  of_call (Outside Out) other x = absurd (quiet.out x.comes.2)
-  of_call (Outside Say) other x =
+  of_call : (said : Telling) (s : Status) → s ≢ NoMemory → (x : RunsTexts said c input s) → WhereRan s (Also x.units) → OfCall s
+  of_call said Usage other x also = absurd x.comes
+  of_call said (BadFile number fault) other x also = absurd x.comes
+  of_call said (Refused number fault) other x also = of_refusal said number fault x
+  of_call said (Unlinked fault) other x also = of_units said (Unlinked fault) x x.comes.0 (inl (fault, x.comes.1, refl))
+  of_call said (NoFile number) other x also = absurd (quiet.absences x.comes.2)
+  of_call said (TooLong (File number)) other x also = of_length said number x
+  of_call said (TooLong long.Input) other x also = of_units said (TooLong long.Input) x x.comes.0 (inr (inr (inl (x.comes.1, also, refl, x.comes.2))))
+  of_call said (Outside Input) other x also = absurd (quiet.input x.comes.2)
+  of_call said (Outside Store) other x also = absurd (quiet.store x.comes)
+  of_call said (Outside Out) other x also = absurd (quiet.out x.comes.2)
+  of_call said (Outside Say) other x also =
       let (count, proper, is, rose) = x.telling_first.is_first in
       absurd (quiet.say (omega (arith, rose, x.telling_first.closing.later)))
-  of_call NoMemory other x = absurd (other refl)
-  of_call Ended other x = of_run Ended x x.comes.0 x.comes.1 x.runs_image
-  of_call (Stopped kind segment line) other x = of_run (Stopped kind segment line) x x.comes.0 x.comes.1 x.runs_image
-  of_call (Unfinished count) other x = of_run (Unfinished count) x x.comes.0 x.comes.1 x.runs_image
-  of_call (BadCode offset) other x = of_run (BadCode offset) x x.comes.0 x.comes.1 x.runs_image
-  of_call (Divided offset) other x = of_run (Divided offset) x x.comes.0 x.comes.1 x.runs_image
-  of_call (TooMany count) other x = absurd x.comes
+  of_call said NoMemory other x also = absurd (other refl)
+  of_call said Ended other x also = of_run said Ended x also x.comes.0 x.comes.1 x.runs_image
+  of_call said (Stopped kind segment line) other x also = of_run said (Stopped kind segment line) x also x.comes.0 x.comes.1 x.runs_image
+  of_call said (Unfinished count) other x also = of_run said (Unfinished count) x also x.comes.0 x.comes.1 x.runs_image
+  of_call said (BadCode offset) other x also = of_run said (BadCode offset) x also x.comes.0 x.comes.1 x.runs_image
+  of_call said (Divided offset) other x also = of_run said (Divided offset) x also x.comes.0 x.comes.1 x.runs_image
+  of_call said (TooMany count) other x also = absurd x.comes
+  of_call said NoPlace other x also = absurd x.comes
+  of_call said (NoItem index) other x also = absurd x.comes
+
+  of_none : (s : Status) → IsNotRun Never c s → OfCall s
+  of_none s x = record { ts = x.texts; us = x.units; bytes = x.have_texts; units = x.have_units; what = inr (x.all ∙ sym (length-map c.names c.before.files), inr (inr (inr (x.links, x.never)))) }
+
+  of_any : (s : Status) → s ≢ NoMemory → Comes Also Never c input s → OfCall s
+  of_any s other (inl (said, x, also)) = of_call said s other x also
+  of_any s other (inr x) = of_none s x
 
   -- ---- of two that stopped
 
@@ -186,6 +237,8 @@ module _ (texts : OneOfText) (runs : OneRun) (said : List SourceUnit → List �
   tells_one (BadCode offset) end e = sym (ap told_by e)
   tells_one (Divided offset) end e = sym (ap told_by e)
   tells_one (TooMany count) end e = absurd e
+  tells_one NoPlace end e = absurd e
+  tells_one (NoItem index) end e = absurd e
   tells_one Usage end e = absurd e
   tells_one (Refused number fault) end e = absurd e
   tells_one (Unlinked fault) end e = absurd e
@@ -196,31 +249,38 @@ module _ (texts : OneOfText) (runs : OneRun) (said : List SourceUnit → List �
   tells_one (TooLong kind) end e = absurd e
 
   -- the source tells its bytes where one of two statuses is that of an input that is too long
-  abbrev Telling : Status → Status → Type 0
-  Telling s t = (s ≡ TooLong long.Input) ⊎ (t ≡ TooLong long.Input) → (bytes : List ℕ) × (c.before.left ≡ Some bytes)
+  abbrev TellsInput : Status → Status → Type 0
+  TellsInput s t = (s ≡ TooLong long.Input) ⊎ (t ≡ TooLong long.Input) → (bytes : List ℕ) × (c.before.left ≡ Some bytes)
 
   too_many : (bytes : List ℕ) → c.before.left ≡ Some bytes → TakenWithin c.before.left c.after.left → Taken c.before.left c.after.left (input_limit + 1) → ⊥
   too_many bytes is (count, taken, within) over =
       let same : count ≡ input_limit + 1 = taken_once c.before.left c.after.left bytes count (input_limit + 1) is taken over in
       omega (arith, within, same)
 
-  one_of_units : (us : List SourceUnit) (s t : Status) → Telling s t → OfUnits us s → OfUnits us t → s ≡ t
+  one_of_units : (us : List SourceUnit) (s t : Status) → TellsInput s t → OfUnits us s → OfUnits us t → s ≡ t
   one_of_units us s t telling (inl (p, x, e)) (inl (q, y, f)) = e ∙ ap Unlinked (one_fault (contents_of_units us) c.limits p q x y) ∙ sym f
-  one_of_units us s t telling (inl (p, x, e)) (inr (inl (links, ran, within))) = absurd (links_not_faulty (contents_of_units us) c.limits p links x)
-  one_of_units us s t telling (inl (p, x, e)) (inr (inr (links, f, taken))) = absurd (links_not_faulty (contents_of_units us) c.limits p links x)
-  one_of_units us s t telling (inr (inl (links, ran, within))) (inl (q, y, f)) = absurd (links_not_faulty (contents_of_units us) c.limits q links y)
-  one_of_units us s t telling (inr (inl (links, (o, x, tells), within))) (inr (inl (also, (q, y, tell), too))) =
+  one_of_units us s t telling (inl (p, x, e)) (inr (inl y)) = absurd (links_not_faulty (contents_of_units us) c.limits p y.0 x)
+  one_of_units us s t telling (inl (p, x, e)) (inr (inr (inl y))) = absurd (links_not_faulty (contents_of_units us) c.limits p y.0 x)
+  one_of_units us s t telling (inl (p, x, e)) (inr (inr (inr y))) = absurd (links_not_faulty (contents_of_units us) c.limits p y.0 x)
+  one_of_units us s t telling (inr (inl x)) (inl (q, y, f)) = absurd (links_not_faulty (contents_of_units us) c.limits q x.0 y)
+  one_of_units us s t telling (inr (inr (inl x))) (inl (q, y, f)) = absurd (links_not_faulty (contents_of_units us) c.limits q x.0 y)
+  one_of_units us s t telling (inr (inr (inr x))) (inl (q, y, f)) = absurd (links_not_faulty (contents_of_units us) c.limits q x.0 y)
+  one_of_units us s t telling (inr (inl (links, also, (o, x, tells), within))) (inr (inl (links', also', (q, y, tell), too))) =
       let start : x.start ≡ y.start = runs.starts (image_of us c.limits).code (image_of us c.limits).words x.start y.start x.is_start y.is_start in
       let same : o ≡ q = runs.once y.start input c.steps o q (subst (λ z. run.Shows z input c.steps o) start x.shows) y.shows in
       tells_one s o.end tells ∙ ap (λ z. told_by z.end) same ∙ sym (tells_one t q.end tell)
-  one_of_units us s t telling (inr (inl (links, ran, within))) (inr (inr (also, f, taken))) =
+  one_of_units us s t telling (inr (inl (links, also, ran, within))) (inr (inr (inl (links', also', f, taken)))) =
       let bytes = telling (inr f) in
       absurd (too_many bytes.0 bytes.1 within taken)
-  one_of_units us s t telling (inr (inr (links, e, taken))) (inl (q, y, f)) = absurd (links_not_faulty (contents_of_units us) c.limits q links y)
-  one_of_units us s t telling (inr (inr (links, e, taken))) (inr (inl (also, ran, within))) =
+  one_of_units us s t telling (inr (inl (links, also, ran, within))) (inr (inr (inr (links', never)))) = absurd (rules.apart us t never also)
+  one_of_units us s t telling (inr (inr (inl (links, also, e, taken)))) (inr (inl (links', also', ran, within))) =
       let bytes = telling (inl e) in
       absurd (too_many bytes.0 bytes.1 within taken)
-  one_of_units us s t telling (inr (inr (links, e, taken))) (inr (inr (also, f, too))) = e ∙ sym f
+  one_of_units us s t telling (inr (inr (inl (links, also, e, taken)))) (inr (inr (inl (links', also', f, too)))) = e ∙ sym f
+  one_of_units us s t telling (inr (inr (inl (links, also, e, taken)))) (inr (inr (inr (links', never)))) = absurd (rules.apart us t never also)
+  one_of_units us s t telling (inr (inr (inr (links, never)))) (inr (inl (links', also', ran, within))) = absurd (rules.apart us s never also')
+  one_of_units us s t telling (inr (inr (inr (links, never)))) (inr (inr (inl (links', also', f, taken)))) = absurd (rules.apart us s never also')
+  one_of_units us s t telling (inr (inr (inr (links, never)))) (inr (inr (inr (links', never')))) = rules.one us s t never never'
 
   same_units : (s t : Status) (x : OfCall s) (y : OfCall t) → length x.us ≡ length (told_files c) → length y.us ≡ length (told_files c) → x.us ≡ y.us
   same_units s t x y e f =
@@ -228,7 +288,7 @@ module _ (texts : OneOfText) (runs : OneRun) (said : List SourceUnit → List �
 
   -- ---- of any two
 
-  one_of_call : (s t : Status) → Telling s t → OfCall s → OfCall t → s ≡ t
+  one_of_call : (s t : Status) → TellsInput s t → OfCall s → OfCall t → s ≡ t
   one_of_call s t telling x y = by x.what y.what
     where
       by : IsStop x.ts (length x.us) s ⊎ ((length x.us ≡ length (told_files c)) × OfUnits x.us s) → IsStop y.ts (length y.us) t ⊎ ((length y.us ≡ length (told_files c)) × OfUnits y.us t) → s ≡ t
@@ -237,9 +297,34 @@ module _ (texts : OneOfText) (runs : OneRun) (said : List SourceUnit → List �
       by (inr (all, p)) (inl q) = absurd (stop_or_all t s y x q all)
       by (inr (all, p)) (inr (also, q)) = one_of_units y.us s t telling (subst (λ us. OfUnits us s) (same_units s t x y all also) p) q
 
-  pub one_of_two : (s t : Status) → Telling s t → s ≢ NoMemory → t ≢ NoMemory → RunsTexts said c input s → RunsTexts said c input t → s ≡ t
-  one_of_two s t telling o o' x y = one_of_call s t telling (of_call s o x) (of_call t o' y)
+  pub one_of_two : (s t : Status) → TellsInput s t → s ≢ NoMemory → t ≢ NoMemory → Comes Also Never c input s → Comes Also Never c input t → s ≡ t
+  one_of_two s t telling o o' x y = one_of_call s t telling (of_any s o x) (of_any t o' y)
 
-pub one_status : OneOfText → OneRun → HasOneStatus
-one_status texts runs said c input s t found told quiet other also telling x y =
-    one_of_two texts runs said c input (subst files.AreTold (sym told) (files.all_told found)) quiet s t telling other also x y
+pub one_status_of : OneOfText → OneRun → HasOneStatusOf
+one_status_of texts runs Also Never rules c input s t found told quiet other also telling x y =
+    one_of_two texts runs Also Never rules c input (subst files.AreTold (sym told) (files.all_told found)) quiet s t telling other also x y
+
+-- of a call that does nothing else
+where_ran : (s : Status) → WhereRan s (Unit {0})
+where_ran Ended = tt
+where_ran (Stopped kind segment line) = tt
+where_ran (Unfinished count) = tt
+where_ran (BadCode offset) = tt
+where_ran (Divided offset) = tt
+where_ran (TooLong long.Input) = tt
+where_ran (TooLong (File number)) = tt
+where_ran Usage = tt
+where_ran (Refused number fault) = tt
+where_ran (Unlinked fault) = tt
+where_ran (NoFile number) = tt
+where_ran (Outside which) = tt
+where_ran NoMemory = tt
+where_ran (BadFile number fault) = tt
+where_ran (TooMany count) = tt
+where_ran NoPlace = tt
+where_ran (NoItem index) = tt
+
+pub one_status : HasOneStatusOf → HasOneStatus
+one_status given said c input s t found told quiet other also telling x y =
+    given (λ us. Unit {0}) (λ us status. ⊥) (record { one = λ us p q never never'. absurd never; apart = λ us p never x. never }) c input s t found told quiet other also telling
+    (inl (said, x, where_ran s)) (inl (said, y, where_ran t))

@@ -28,7 +28,7 @@ use Rattle.cw_build.specs.Compiled.{IsCompilable, contents_of_units}
 use Rattle.cw_build.specs.Linking.{image_of, Links, IsLinkFault}
 use Rattle.cw_files.specs.Texts.{HasUnit}
 use Rattle.cw_files.specs.Reading.{Counts, counts_at, HaveBytes, HaveValues, AllTaken, StopsTexts}
-use Rattle.cw_say.specs.Said.{Says}
+use Rattle.cw_write.specs.Said.{Says}
 use Rattle.cw_say.specs.Closing.{closing_line}
 use Rattle.cw_words.specs.declared.action.Action.{Action}
 use Rattle.cw_correct.specs.Calls.{Surroundings, Call, call_as, told_files, IsUntouched}
@@ -39,19 +39,19 @@ use Rattle.cw_correct.specs.Running.{begins_as, Tells, Ran, Cut, RunsImage, Leav
 use Rattle.cw_correct.specs.Meaning.{PreservesMeaning, TellsUnits, CompletesRuns}
 use Rattle.cw_correct.specs.Going.{Telling, HasCause, GoComes, names_of, RunsTexts}
 use Rattle.cw_say.specs.declared.status.Status.{Status}
-use Rattle.cw_say.specs.declared.status.Status.TheVariants.{Ended, Usage, Refused, Unlinked, Stopped, Unfinished, NoFile, Outside, NoMemory, BadFile, TooLong, BadCode, Divided, TooMany}
+use Rattle.cw_say.specs.declared.status.Status.TheVariants.{Ended, Usage, Refused, Unlinked, Stopped, Unfinished, NoFile, Outside, NoMemory, BadFile, TooLong, BadCode, Divided, TooMany, NoPlace, NoItem}
 use Rattle.cw_say.specs.declared.status.Which.TheVariants.{Store, Input, Out, Say}
 use Rattle.cw_say.specs.declared.status.Long.TheVariants.{File}
 use Rattle.cw_say.specs.declared.status.Long.TheVariants as long
 use Rattle.cw_go.specs.Runs.{Streams, status_of, Lists, ListsPart, Runs}
-use Rattle.cw_go.specs.Laws.{IsRight}
+use Rattle.cw_go.specs.Laws.{IsRight, RunsAs}
 use Rattle.cw_go.specs.Goes.{streams_of, IsUnlinked, StopsReading, Goes}
 use Rattle.cw_go.proofs.Files as files
 use Rattle.cw_go.proofs.Links.{links_not_faulty}
 use Rattle.cw_go.proofs.Meant as meant
 use Rattle.cw_go.proofs.Given.{Given}
 
-after_nothing : (told : Option (List ℕ)) → after_told told [] ≡ told
+pub after_nothing : (told : Option (List ℕ)) → after_told told [] ≡ told
 after_nothing None = refl
 after_nothing (Some held) = ap Some (append-nil held)
 
@@ -59,11 +59,11 @@ before_nothing : (told : Option (List ℕ)) → before_told [] told ≡ told
 before_nothing None = refl
 before_nothing (Some left) = refl
 
-abbrev nothing : run.Observed
+abbrev pub nothing : run.Observed
 nothing = record { output = []; end = run.Running }
 
 -- an input of a run, where none ran
-some_input : (left : Option (List ℕ)) → (input : List ℕ) × ports.IsInput left input
+pub some_input : (left : Option (List ℕ)) → (input : List ℕ) × ports.IsInput left input
 some_input None = ([], All-nil (λ b. b < 256))
 some_input (Some told) = (told, refl)
 
@@ -110,6 +110,18 @@ module _ (given : Given) (telling : Telling) (action : Action) (limits : Limits)
     frames_apart = given.storages.frames (program_of us limits) input;
     completes = completes;
     stays = λ name. ap (λ f. f name) closes.files ∙ stays name;
+  }
+
+  -- with what it tells of
+  made : (input : List ℕ) (status : Status) → ClosesBy status → (texts : List (List ℕ)) (us : List SourceUnit) (n : ℕ) (shown : run.Observed) → HaveBytes text_limit (told_files c) texts → HaveValues HasUnit texts us
+      → GoComes c texts us status → SaysFirst before after (telling us) names (names_of us) status → RunsImage c input (begins_as (image_of us limits)) n shown status → ReadsInput c input (begins_as (image_of us limits)) n shown status
+      → (status ≢ TooLong long.Input → ports.TakenWithin before.left after.left) → (AreBytes input → PreservesMeaning (program_of us limits) input n shown status) → CompletesRuns c input status → RunsAs telling c input status us n shown
+  unfolding make
+  made input status closes texts us n shown have units comes lists runs reads within preserves completes = record {
+    runs = make input status closes texts us n shown have units comes lists runs reads within preserves completes;
+    units = refl;
+    instructions = refl;
+    shown_is = refl;
   }
 
   -- ---- where the image did not run
@@ -213,6 +225,8 @@ module _ (given : Given) (telling : Telling) (action : Action) (limits : Limits)
     stops_at (BadCode offset) stops closes = absurd stops
     stops_at (Divided offset) stops closes = absurd stops
     stops_at (TooMany count) stops closes = absurd stops
+    stops_at NoPlace stops closes = absurd stops
+    stops_at (NoItem index) stops closes = absurd stops
 
   abbrev d : Call
   d = call_as action limits steps names before between
@@ -285,6 +299,8 @@ module _ (given : Given) (telling : Telling) (action : Action) (limits : Limits)
     linking_stops input (BadCode offset) x same closes = absurd x
     linking_stops input (Divided offset) x same closes = absurd x
     linking_stops input (TooMany count) x same closes = absurd x
+    linking_stops input NoPlace x same closes = absurd x
+    linking_stops input (NoItem index) x same closes = absurd x
 
     -- ---- that link
 
@@ -292,13 +308,13 @@ module _ (given : Given) (telling : Telling) (action : Action) (limits : Limits)
       abbrev listing : List ℕ
       listing = telling us
 
-      say_failed : (input : List ℕ) → ListsPart listing a b → ClosesBy (Outside Say) → RunsTexts telling c input (Outside Say)
+      pub say_failed : (input : List ℕ) → ListsPart listing a b → ClosesBy (Outside Say) → RunsAs telling c input (Outside Say) us 0 nothing
       say_failed input part closes =
           let s = Outside Say in
           let P : Option (List ℕ) → Type 0 = λ told. Says told after.say between.say_faults after.say_faults (closing_line names (names_of us) s) in
           let left : after.left ≡ before.left = closes.left ∙ ap (λ o. o.left) part.outside in
           let rose : Rose before.say_faults between.say_faults = part.rose in
-          make input s closes taken.texts us 0 nothing taken.have_bytes taken.have_values (all_of, links)
+          made input s closes taken.texts us 0 nothing taken.have_bytes taken.have_values (all_of, links)
           (record { first = take part.count listing; middle = between.say_faults; is_first = (part.count, part.proper, refl, part.rose); later = part.later; closing = subst P part.said closes.says })
           (closes.out ∙ ap (λ o. o.held) part.outside) (record { input = left; faults = closes.input_faults ∙ ap (λ o. o.input_faults) part.outside })
           (λ other. untaken before.left after.left left) (λ bytes. tt)
@@ -355,11 +371,12 @@ module _ (given : Given) (telling : Telling) (action : Action) (limits : Limits)
           -- a run that came to its end
           over : (status : Status) → ClosesBy status → (o : run.Observed) → GoComes c taken.texts us status → SaysFirst before after listing names (names_of us) status
               → RunsImage c input (begins_as (image_of us limits)) steps o status → ReadsInput c input (begins_as (image_of us limits)) steps o status → (status ≢ TooLong long.Input → ports.TakenWithin before.left after.left)
-              → (AreBytes input → PreservesMeaning (program_of us limits) input steps o status) → CompletesRuns c input status → RunsTexts telling c input status
+              → (AreBytes input → PreservesMeaning (program_of us limits) input steps o status) → CompletesRuns c input status → RunsAs telling c input status us steps o
           over status closes o comes says runs reads within_limit preserves completes =
-              make input status closes taken.texts us steps o taken.have_bytes taken.have_values comes says runs reads within_limit preserves completes
+              made input status closes taken.texts us steps o taken.have_bytes taken.have_values comes says runs reads within_limit preserves completes
 
-          run_goes : (end : ImageEnd) → ports.RunShows end s input steps a.outside b.outside → ClosesBy (status_of steps end) → RunsTexts telling c input (status_of steps end)
+          pub run_goes : (end : ImageEnd) (shows : ports.RunShows end s input steps a.outside b.outside) → ClosesBy (status_of steps end)
+              → RunsAs telling c input (status_of steps end) us (ports.reached end s input steps a.outside b.outside shows) (ports.shown_of end s input steps a.outside b.outside shows)
           unfolding leaves
           run_goes ends.Ended (o, r, told, output, took_all, quiet_input, quiet_out) closes =
               over Ended closes o (all_of, links) (lists_whole Ended refl closes) (ran Ended o r.shows told output quiet_input quiet_out closes) (leaves steps o false r closes.left) (λ other. took took_all closes.left)
@@ -390,21 +407,21 @@ module _ (given : Given) (telling : Telling) (action : Action) (limits : Limits)
           run_goes ends.InputFault ((r, dry), took_some, rose) closes =
               let status = Outside Input in
               let risen : Rose before.input_faults after.input_faults = subst (λ k. Rose before.input_faults k) (sym closes.input_faults) rose in
-              make input status closes taken.texts us r.n r.shown taken.have_bytes taken.have_values (all_of, links, risen) (lists_whole status refl closes)
+              made input status closes taken.texts us r.n r.shown taken.have_bytes taken.have_values (all_of, links, risen) (lists_whole status refl closes)
               (cut r.n r.shown r.within r.ran.shows r.running (closes.out ∙ r.output)) (leaves r.n r.shown true r.ran closes.left, dry) (λ other. took took_some closes.left)
               (λ bytes. meant.preserves given.runs us limits some_units most_units compiled within links input bytes s start r.n r.shown r.ran.shows)
               (λ vs m tells also quiet bytes short soon ends. absurd (quiet.input risen))
           run_goes ends.TooLong (r, took_more, long_input) closes =
               let status = TooLong long.Input in
               let over_limit : ports.Taken before.left after.left (input_limit + 1) = subst (λ l. ports.Taken before.left l (input_limit + 1)) (sym closes.left) took_more in
-              make input status closes taken.texts us r.n r.shown taken.have_bytes taken.have_values (all_of, links, over_limit) (lists_whole status refl closes)
+              made input status closes taken.texts us r.n r.shown taken.have_bytes taken.have_values (all_of, links, over_limit) (lists_whole status refl closes)
               (cut r.n r.shown r.within r.ran.shows r.running (closes.out ∙ r.output), long_input) (leaves r.n r.shown true r.ran closes.left) (λ other. absurd (other refl))
               (λ bytes. meant.preserves given.runs us limits some_units most_units compiled within links input bytes s start r.n r.shown r.ran.shows)
               (λ vs m tells also quiet bytes short soon ends. absurd (omega (arith, short, long_input)))
           run_goes ends.OutFault (n, few, is_asking, o, r, (count, output), took_some, quiet_input, rose) closes =
               let status = Outside Out in
               let risen : Rose before.out_faults after.out_faults = subst (λ k. Rose before.out_faults k) (sym closes.out_faults) rose in
-              make input status closes taken.texts us n o taken.have_bytes taken.have_values (all_of, links, risen) (lists_whole status refl closes)
+              made input status closes taken.texts us n o taken.have_bytes taken.have_values (all_of, links, risen) (lists_whole status refl closes)
               (record {
                 within = few;
                 shows = record { start = s; is_start = start; shows = r.shows };
@@ -421,10 +438,10 @@ module _ (given : Given) (telling : Telling) (action : Action) (limits : Limits)
       runs_goes status named counts (inl (e, same)) closes =
           any status (λ input. subst (RunsTexts telling c input) (sym e) (no_memory input same (subst ClosesBy e closes)))
       runs_goes status named counts (inr (inl (e, part))) closes =
-          any status (λ input. subst (RunsTexts telling c input) (sym e) (say_failed input part (subst ClosesBy e closes)))
+          any status (λ input. subst (RunsTexts telling c input) (sym e) (say_failed input part (subst ClosesBy e closes)).runs)
       runs_goes status named counts (inr (inr r)) closes =
           let (input, is_input, shows) = r.tells in
-          (input, is_input, subst (RunsTexts telling c input) (sym r.is) (run_goes named counts r.lists r.start r.is_start input r.end shows (subst ClosesBy r.is closes)))
+          (input, is_input, subst (RunsTexts telling c input) (sym r.is) (run_goes named counts r.lists r.start r.is_start input r.end shows (subst ClosesBy r.is closes)).runs)
 
   pub keeps : (status : Status) → IsLimits limits → 1 ≤ length names → length names ≤ 200 → Goes telling d segments status → ClosesBy status → IsRight telling c status
   keeps status within some most (inl x) closes = reading status x closes

@@ -1,6 +1,6 @@
 // The closing line.
 ghost use Rattle.std.specs.Prelude.{◌≡◌, map};
-ghost use Rattle.cw_say.specs.Said.{Says};
+ghost use Rattle.cw_write.specs.Said.{Says};
 ghost use Rattle.cw_say.specs.Closing.{closing_line};
 
 use cw_io::Sink;

@@ -1,6 +1,6 @@
 //! What a call promises that runs texts, from how it goes; and that no two statuses come of one call.
 ghost use Rattle.cw_go.specs.Apart.{LinksWhatRuns, LinksAsMigrated};
-ghost use Rattle.cw_go.specs.Laws.{KeepsPromise, IsRightIdle, HasOneStatus};
+ghost use Rattle.cw_go.specs.Laws.{KeepsPromise, KeepsRun, KeepsListing, IsRightIdle, HasOneStatus};
 
 use cw_build::laws::linked_units;
 use cw_build_laws::laws::{loaded, separate_objects};
@@ -11,9 +11,12 @@ use cw_sim::laws::preservation;
 use cw_texts::laws::compiled_units;
 use cw_unit::laws::configurations;
 
-/// A call that goes so up to its closing line, and is closed so, keeps its promise. So does one that did nothing else, for want of memory.
+/// A call that goes so up to its closing line, and is closed so, keeps its promise. So does one that did nothing else, for want of memory. Of one whose image ran
+/// it is told what the promise tells of.
 pub fn promises()
     ensures keeps { KeepsPromise }
+    ensures run { KeepsRun }
+    ensures listing { KeepsListing }
     ensures idle { IsRightIdle }
 {
     one_outcome();

@@ -12,3 +12,4 @@ pub use closing::close;
 pub use going::go;
 pub use linking::link_segments;
 pub use running::load_and_run;
+pub use statuses::status_of;

@@ -18,8 +18,9 @@ use cw_io::{Sink, Source};
 use cw_link::Linked;
 use cw_list::map_text;
 use cw_ports::run_image;
-use cw_say::{Status, Which, write_piece};
+use cw_say::{Status, Which};
 use cw_unit::layout::Limits;
+use cw_write::write_piece;
 use std::alloc::Global;
 
 // Writes the listing, and runs the image, which is loaded.

@@ -8,7 +8,7 @@ use cw_ports::ImageEnd;
 use cw_say::{Long, Status, Which};
 
 /// That of a run of so many instructions that ended so.
-pub(crate) fn status_of(end: ImageEnd, steps: u64) -> Status
+pub fn status_of(end: ImageEnd, steps: u64) -> Status
     ensures { result ≡ status_of steps end }
 {
     match end {

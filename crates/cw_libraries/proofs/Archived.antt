@@ -15,10 +15,10 @@ use Rattle.cw_files.specs.Texts.{HasObject, object_limit}
 use Rattle.cw_files.specs.Reading.{HaveBytes, HaveValues, AllTaken, Stopped, StopsObjects, SameCounts}
 use Rattle.cw_unit.specs.declared.layout.Limits.{Limits}
 use Rattle.cw_words.specs.declared.action.Action.TheVariants.{Lib}
-use Rattle.cw_correct.specs.Calls.{Surroundings, call_as, Call, told_files, NoFault, IsUntouched, IsUnwritten}
+use Rattle.cw_correct.specs.Calls.{Surroundings, call_as, Call, over_others, told_files, NoFault, IsUntouched, IsUnwritten}
 use Rattle.cw_correct.specs.Correct.{TellsBytes}
 use Rattle.cw_correct.specs.Files.{counts_before, counts_after, AllAccepted}
-use Rattle.cw_correct.specs.Results.{WritesFile, IsDone, ObjectsCome, over_objects, MakesLibrary, LibsRight}
+use Rattle.cw_correct.specs.Results.{WritesFile, IsDone, ObjectsCome, MakesLibrary, LibsRight}
 use Rattle.cw_results.specs.Closed.{Files, files_at}
 use Rattle.cw_results.specs.Written.{GivesFile}
 use Rattle.cw_results.specs.OneStatus.{AllowsOneStatus}
@@ -110,7 +110,7 @@ behind_first f (x ∷ xs) = refl
 
 pub libs_once : HasOneFault → AllowsOneStatus LibsRight
 libs_once one_fault c a b found told all quiet m n x y =
-    library_once _ (over_objects c) one_fault a b (drop 1 found) (behind_first c.before.files c.names ∙ ap (λ files. drop 1 files) told ∙ sym (behind_first Some found)) (All-drop TellsBytes 1 found all) quiet m n x y
+    library_once _ (over_others c) one_fault a b (drop 1 found) (behind_first c.before.files c.names ∙ ap (λ files. drop 1 files) told ∙ sym (behind_first Some found)) (All-drop TellsBytes 1 found all) quiet m n x y
 
 -- ---- names
 

@@ -18,7 +18,7 @@ use Rattle.cw_results.specs.Written.{GivesFile}
 use Rattle.cw_libraries.specs.Linking.{LinksObjects, LinksList, LinksTaken}
 use Rattle.cw_say.specs.declared.status.Bad.{Bad}
 use Rattle.cw_say.specs.declared.status.Status.{Status}
-use Rattle.cw_say.specs.declared.status.Status.TheVariants.{Ended, Usage, Refused, Unlinked, Stopped, Unfinished, NoFile, Outside, NoMemory, BadFile, TooLong, BadCode, Divided, TooMany}
+use Rattle.cw_say.specs.declared.status.Status.TheVariants.{Ended, Usage, Refused, Unlinked, Stopped, Unfinished, NoFile, Outside, NoMemory, BadFile, TooLong, BadCode, Divided, TooMany, NoPlace, NoItem}
 use Rattle.cw_say.specs.declared.status.Which.TheVariants.{Store, Input, Out as ToOut, Say}
 use Rattle.cw_say.specs.declared.status.Long.TheVariants.{File}
 use Rattle.cw_say.specs.declared.status.Long.TheVariants as long
@@ -51,6 +51,8 @@ module _ (P : Status → Type 0) where
     stops_parts (BadCode offset) x = absurd x
     stops_parts (Divided offset) x = absurd x
     stops_parts (TooMany count) x = absurd x
+    stops_parts NoPlace x = absurd x
+    stops_parts (NoItem index) x = absurd x
 
   -- ---- of what comes of the files that were taken
 
@@ -77,6 +79,8 @@ module _ (P : Status → Type 0) where
     links_objects (BadCode offset) x = gives (BadCode offset) x.0 x.1
     links_objects (Divided offset) x = gives (Divided offset) x.0 x.1
     links_objects (TooMany count) x = gives (TooMany count) x.0 x.1
+    links_objects NoPlace x = gives NoPlace x.0 x.1
+    links_objects (NoItem index) x = gives (NoItem index) x.0 x.1
 
   module _ (list : List (List ℕ)) (limits : Limits) (files files' : Files)
       (many : (count : ℕ) → (count ≡ length list) × (200 < count) × AllStay files.told files'.told → P (TooMany count))
@@ -100,6 +104,8 @@ module _ (P : Status → Type 0) where
     links_list (BadCode offset) x = few (BadCode offset) x.0 x.1
     links_list (Divided offset) x = few (Divided offset) x.0 x.1
     links_list (TooMany count) x = many count x
+    links_list NoPlace x = few NoPlace x.0 x.1
+    links_list (NoItem index) x = few (NoItem index) x.0 x.1
 
   module _ (objects members : List (List ℕ)) (limits : Limits) (files files' : Files)
       (wanted : AllStay files.told files'.told → P NoMemory)
@@ -123,6 +129,8 @@ module _ (P : Status → Type 0) where
     links_taken (BadCode offset) x = listed (BadCode offset) x.0 x.1 x.2
     links_taken (Divided offset) x = listed (Divided offset) x.0 x.1 x.2
     links_taken (TooMany count) x = listed (TooMany count) x.0 x.1 x.2
+    links_taken NoPlace x = listed NoPlace x.0 x.1 x.2
+    links_taken (NoItem index) x = listed (NoItem index) x.0 x.1 x.2
 
   -- ---- of what the promise says of the status
 
@@ -151,3 +159,5 @@ module _ (P : Status → Type 0) where
     link_comes (BadCode offset) x = stops (BadCode offset) x
     link_comes (Divided offset) x = stops (Divided offset) x
     link_comes (TooMany count) x = many count x
+    link_comes NoPlace x = stops NoPlace x
+    link_comes (NoItem index) x = stops (NoItem index) x

@@ -14,7 +14,7 @@ use Rattle.cw_link_files.specs.Parts.{Part, Given, Members, begins_library, Tell
 use Rattle.cw_link_files.specs.Taken.{StopsParts, AreFilesOf, AreObjects, AreMore, AnswersPart, TookFile, AnswersParts}
 use Rattle.cw_link_files.specs.declared.reading.LinkFiles.{LinkFiles}
 use Rattle.cw_say.specs.declared.status.Status.{Status}
-use Rattle.cw_say.specs.declared.status.Status.TheVariants.{Ended, Usage, Refused, Unlinked, Stopped, Unfinished, NoFile, Outside, NoMemory, BadFile, TooLong, BadCode, Divided, TooMany}
+use Rattle.cw_say.specs.declared.status.Status.TheVariants.{Ended, Usage, Refused, Unlinked, Stopped, Unfinished, NoFile, Outside, NoMemory, BadFile, TooLong, BadCode, Divided, TooMany, NoPlace, NoItem}
 
 unread_part : (files : List Told) (texts : List (List ℕ)) (taken : ℕ) (before after : Counts) (status : Status) → IsUnread object_limit files taken before after status
     → StopsParts files texts taken before after status
@@ -32,6 +32,8 @@ unread_part files texts taken before after (TooLong long) unread = unread
 unread_part files texts taken before after (BadCode offset) unread = unread
 unread_part files texts taken before after (Divided offset) unread = unread
 unread_part files texts taken before after (TooMany count) unread = unread
+unread_part files texts taken before after NoPlace unread = unread
+unread_part files texts taken before after (NoItem index) unread = unread
 
 -- ---- parts behind others
 

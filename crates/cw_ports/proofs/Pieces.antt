@@ -228,3 +228,7 @@ part-none bytes from to same = let none : to - from ≡ 0 = omega (arith, same) 
 
 pub part-length : (bytes : List ℕ) (from to limit : ℕ) → to ≤ limit → length (part bytes from to) ≤ limit
 part-length bytes from to limit room = grind (arith, common_steps)
+
+-- nothing waits where nothing is gathered
+pub none_waits : (bytes : List ℕ) (from to : ℕ) (held : Option (List ℕ)) → to ≡ 0 → after_told held (part bytes from to) ≡ held
+none_waits bytes from to held none = ap (λ n. after_told held (part bytes from n)) none ∙ ap (after_told held) (none-of bytes from) ∙ after_nothing held

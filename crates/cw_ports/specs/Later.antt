@@ -1,5 +1,5 @@
 -- How the two sides of the ports may stand later.
-use Rattle.std.specs.Prelude.{◌≡◌, ℕ, ◌+◌, ◌-◌, ◌^◌, ◌≤◌, Bool, true, false, List, Option}
+use Rattle.std.specs.Prelude.{◌≡◌, ℕ, ◌+◌, ◌-◌, ◌^◌, ◌≤◌, Bool, true, false, List, Option, None}
 use Rattle.cw_io.specs.Count.{Rose}
 use Rattle.cw_ports.specs.Pieces.{Took, Wrote, input_limit}
 use Rattle.cw_ports.specs.declared.supply.Supply.{Supply}
@@ -37,6 +37,15 @@ InputFrom _ a b = b ≡ a
 abbrev pub InputLater : (a b : InputSide) → Type 0
 InputLater a b = InputFrom a.supply a b
 
+-- Nothing was asked of the input: what is left to the program is what the source has.
+pub record IsUnread (left : Option (List ℕ)) (at_end : Option Bool) (is_used is_cut : Bool) (a : InputSide) : Type 0 where
+  pub same_left : left ≡ a.left
+  pub unknown : at_end ≡ None
+  pub unused : is_used ≡ false
+  pub uncut : is_cut ≡ false
+  pub taken : a.taken ≡ 0
+  pub supply : a.supply ≡ Open
+
 -- ---- the output
 
 -- The loan of the sink by its name, the bytes that it holds, where they are told, the count of its faults, and whether it failed.
@@ -65,6 +74,11 @@ OutputFrom true a b = b ≡ a
 abbrev pub OutputLater : (a b : OutputSide) → Type 0
 OutputLater a b = OutputFrom a.is_broken a b
 
+-- Nothing was given to the output: what the program wrote is what the sink holds.
+pub record IsUnwritten (held : Option (List ℕ)) (o : OutputSide) : Type 0 where
+  pub same_held : held ≡ o.held
+  pub whole : o.is_broken ≡ false
+
 -- ---- both
 
 -- Where the source failed or gave a byte too many, the sink has not failed and nothing is gathered for it: all that was gathered was written before the input was
@@ -72,6 +86,11 @@ OutputLater a b = OutputFrom a.is_broken a b
 abbrev pub IsSettled : Supply → (gathered : ℕ) → (is_broken : Bool) → Type 0
 IsSettled Open gathered is_broken = Unit {0}
 IsSettled _ gathered is_broken = (gathered ≡ 0) × (is_broken ≡ false)
+
+-- the two sides after any number of calls, with so many bytes gathered before and then
+abbrev pub SidesLater : (a : InputSide) (o : OutputSide) (gathered : ℕ) (b : InputSide) (p : OutputSide) (gathered' : ℕ) → Type 0
+SidesLater a o gathered b p gathered' =
+    InputLater a b × OutputLater o p × (IsSettled a.supply gathered o.is_broken → IsSettled b.supply gathered' p.is_broken)
 
 -- ---- the count of the ports' faults: 0, and the last value once one of the sides failed
 

@@ -3,3 +3,5 @@ pub mod Laws
 pub mod Pieces
 pub mod Running
 pub mod Supplies
+pub mod Concluding
+pub mod Sides

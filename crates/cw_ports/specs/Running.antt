@@ -86,6 +86,24 @@ RunShows end s input steps a b =
     (shown : Observed) × Ran s input steps a.left b.left false shown × Tells end shown.end × (b.held ≡ after_told a.held shown.output)
     × TakenWithin a.left b.left × (b.input_faults ≡ a.input_faults) × (b.out_faults ≡ a.out_faults)
 
+-- the instructions behind which a run shows what it does
+abbrev pub reached : (end : ImageEnd) (s : State) (input : List ℕ) (steps : ℕ) (a b : Outside) → RunShows end s input steps a b → ℕ
+reached InputFault s input steps a b shows = shows.0.0.n
+reached TooLong s input steps a b shows = shows.0.n
+reached OutFault s input steps a b shows = shows.0
+reached end s input steps a b shows = steps
+
+-- and what that is
+abbrev pub shown_of : (end : ImageEnd) (s : State) (input : List ℕ) (steps : ℕ) (a b : Outside) → RunShows end s input steps a b → Observed
+shown_of Ended s input steps a b shows = shows.0
+shown_of (Stopped kind segment line) s input steps a b shows = shows.0
+shown_of Unfinished s input steps a b shows = shows.0
+shown_of (BadCode offset) s input steps a b shows = shows.0
+shown_of (Divided offset) s input steps a b shows = shows.0
+shown_of InputFault s input steps a b shows = shows.0.0.shown
+shown_of TooLong s input steps a b shows = shows.0.shown
+shown_of OutFault s input steps a b shows = shows.3
+
 -- over the input that the source tells, or over some bytes where it tells none
 abbrev pub RunTells : ImageEnd → State → (steps : ℕ) → (a b : Outside) → Type 0
 RunTells end s steps a b = (input : List ℕ) × IsInput a.left input × RunShows end s input steps a b

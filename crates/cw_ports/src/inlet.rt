@@ -19,7 +19,7 @@ const INPUT_LIMIT: usize = 16_777_216;
 /// it is at its end, and what the program was told of that and took no byte since. A source at its end is not asked again, since one that tells nothing of its
 /// bytes, as a terminal, could give more.
 #[derive(Drop)]
-pub(crate) struct Inlet<'a, I: Source> {
+pub struct Inlet<'a, I: Source> {
     pub(crate) input: &'a mut I,
     pub(crate) bytes: [u8; PIECE],
     pub(crate) from: usize,
@@ -43,6 +43,28 @@ pub(crate) struct Inlet<'a, I: Source> {
 }
 
 impl<'a, I: Source> Inlet<'a, I> {
+    ghost use Rattle.cw_ports.specs.Sides.{IsNewInlet};
+
+    /// An input of which nothing was asked.
+    pub fn new(input: &'a mut I) -> Inlet<'a, I>
+        ensures name { result.input.ghost_name ≡ input.entry.ghost_name }
+        ensures source { result.input.now ≡ input.old }
+        ensures unread { IsNewInlet result }
+    {
+        Inlet {
+            input,
+            bytes: [0; PIECE],
+            from: 0,
+            to: 0,
+            taken: 0,
+            is_used: false,
+            is_cut: false,
+            supply: Supply::Open,
+            is_at_end: false,
+            told_end: None,
+        }
+    }
+
     /// Takes a piece of the input, where none is in hand, and answers whether that went well. It asks for no byte past the first one over the limit.
     #[tactic(auto, using(crate::proofs::Pieces::end_counts))]
     pub(crate) fn fill(&mut self) -> bool

@@ -7,5 +7,7 @@ mod ports;
 mod running;
 mod supply;
 
+pub use inlet::Inlet;
+pub use outlet::Outlet;
 pub use ports::ImagePorts;
 pub use running::{ImageEnd, run_image};

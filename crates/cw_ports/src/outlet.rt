@@ -28,7 +28,7 @@ pub(crate) fn write_piece<O: Sink>(sink: &mut O, piece: &[u8]) -> usize
 
 /// A sink, the bytes that are gathered and not yet written, and whether it failed.
 #[derive(Drop)]
-pub(crate) struct Outlet<'a, O> {
+pub struct Outlet<'a, O> {
     pub(crate) out: &'a mut O,
     pub(crate) bytes: [u8; PIECE],
     pub(crate) from: usize,
@@ -40,15 +40,34 @@ pub(crate) struct Outlet<'a, O> {
 }
 
 impl<'a, O: Sink> Outlet<'a, O> {
-    /// Writes what is gathered, and answers whether that went well. Where it did not, the rest stays gathered.
+    ghost use Rattle.cw_ports.specs.Sides.{IsNewOutlet};
+
+    /// An output to which nothing was given.
+    pub fn new(out: &'a mut O) -> Outlet<'a, O>
+        ensures name { result.out.ghost_name ≡ out.entry.ghost_name }
+        ensures sink { result.out.now ≡ out.old }
+        ensures unwritten { IsNewOutlet O.Sink result }
+    {
+        Outlet {
+            out,
+            bytes: [0; PIECE],
+            from: 0,
+            to: 0,
+            is_broken: false,
+        }
+    }
+
+    /// Writes what is gathered, unless the sink has failed, and answers whether that went well. Where it did not, the rest stays gathered.
     pub(crate) fn flush(&mut self) -> bool
-        requires { self.old.is_broken ≡ false }
         ensures told { after_told (O.held self.new.out.now) (part self.new.bytes self.new.from self.new.to) ≡ after_told (O.held self.old.out.now) (part self.old.bytes self.old.from self.old.to) }
         ensures later { OutputLater (output_side self.old.out.ghost_name (O.held self.old.out.now) (O.faults self.old.out.now) self.old.is_broken) (output_side self.new.out.ghost_name (O.held self.new.out.now) (O.faults self.new.out.now) self.new.is_broken) }
         ensures done { result ≡ not self.new.is_broken }
         ensures empty { result ≡ true → self.new.to ≡ 0 }
-        ensures nothing { self.old.to ≡ 0 → result ≡ true }
+        ensures nothing { self.old.to ≡ 0 → self.old.is_broken ≡ false → result ≡ true }
     {
+        if self.is_broken {
+            return false;
+        }
         let (gathered, _) = self.bytes.split_at(self.to);
         let count = write_piece(self.out, gathered);
         if count == gathered.len() {

@@ -3,7 +3,9 @@ ghost use Rattle.std.specs.Prelude.{◌≡◌, ℕ, ◌-◌, ◌^◌, true, fals
 ghost use Rattle.cw_io.specs.Bytes.{before_told, after_told, IsEnd};
 ghost use Rattle.cw_ports.specs.Pieces.{part};
 ghost use Rattle.cw_ports.specs.Supplies.{is_open};
-ghost use Rattle.cw_ports.specs.Later.{InputLater, OutputLater, IsSettled, input_side, output_side, faults_of};
+ghost use Rattle.cw_ports.specs.Later.{InputLater, OutputLater, SidesLater, IsSettled, input_side, output_side, faults_of};
+ghost use Rattle.cw_ports.specs.Sides.{IsNewInlet, IsNewOutlet, device_of, input_of, output_of, gathered_in};
+ghost use Rattle.cw_ports.specs.Concluding.{IsFresh};
 ghost use Rattle.cw_ports.specs.Laws.{input_stays, input_goes_on, output_stays, output_goes_on};
 
 use crate::inlet::Inlet;
@@ -23,6 +25,28 @@ pub struct ImagePorts<'a, 'b, I: Source, O> {
     pub(crate) segment: u8,
     pub(crate) line_low: u8,
     pub(crate) line_high: u8,
+}
+
+impl<'a, 'b, I: Source, O: Sink> ImagePorts<'a, 'b, I, O> {
+    /// Ports to which nothing was told.
+    pub fn new(inlet: Inlet<'a, I>, outlet: Outlet<'b, O>) -> ImagePorts<'a, 'b, I, O>
+        requires unread { IsNewInlet inlet }
+        requires unwritten { IsNewOutlet O.Sink outlet }
+        ensures name { result.inlet.input.ghost_name ≡ inlet.entry.input.ghost_name }
+        ensures source { result.inlet.input.now ≡ inlet.entry.input.now }
+        ensures name_out { result.outlet.out.ghost_name ≡ outlet.entry.out.ghost_name }
+        ensures sink { result.outlet.out.now ≡ outlet.entry.out.now }
+        ensures fresh { IsFresh (device_of O.Sink result) (input_of result) (output_of O.Sink result) }
+    {
+        ImagePorts {
+            inlet,
+            outlet,
+            kind: 0,
+            segment: 0,
+            line_low: 0,
+            line_high: 0,
+        }
+    }
 }
 
 impl<I: Source, O: Sink> ImagePorts<'_, '_, I, O> {
@@ -71,11 +95,11 @@ impl<I: Source, O: Sink> ImagePorts<'_, '_, I, O> {
 }
 
 impl<I: Source, O: Sink> Ports for ImagePorts<'_, '_, I, O> {
-    ghost device = { λ p. record { left = before_told (part p.inlet.bytes p.inlet.from p.inlet.to) (I.left p.inlet.input.now); at_end = p.inlet.told_end; is_used = p.inlet.is_used; is_cut = p.inlet.is_cut; held = after_told (O.held p.outlet.out.now) (part p.outlet.bytes p.outlet.from p.outlet.to); kind = p.kind; segment = p.segment; line_low = p.line_low; line_high = p.line_high } };
+    ghost device = { λ p. device_of O.Sink p };
 
     ghost faults = { λ p. faults_of p.inlet.supply p.outlet.is_broken };
 
-    ghost becomes = { λ p q. InputLater (input_side p.inlet.input.ghost_name (I.left p.inlet.input.now) (I.faults p.inlet.input.now) p.inlet.taken p.inlet.supply) (input_side q.inlet.input.ghost_name (I.left q.inlet.input.now) (I.faults q.inlet.input.now) q.inlet.taken q.inlet.supply) × OutputLater (output_side p.outlet.out.ghost_name (O.held p.outlet.out.now) (O.faults p.outlet.out.now) p.outlet.is_broken) (output_side q.outlet.out.ghost_name (O.held q.outlet.out.now) (O.faults q.outlet.out.now) q.outlet.is_broken) × (IsSettled p.inlet.supply p.outlet.to p.outlet.is_broken → IsSettled q.inlet.supply q.outlet.to q.outlet.is_broken) };
+    ghost becomes = { λ p q. SidesLater (input_of p) (output_of O.Sink p) (gathered_in p) (input_of q) (output_of O.Sink q) (gathered_in q) };
 
     fn take(&mut self, port: u8) -> Result<u8, Failed> {
         match port {

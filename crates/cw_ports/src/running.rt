@@ -1,11 +1,13 @@
 // The run of an image.
-ghost use Rattle.std.specs.Prelude.{◌≡◌, None, false};
+ghost use Rattle.std.specs.Prelude.{◌≡◌};
+ghost use Rattle.cw_cpu86.specs.Answers.{end_shown};
 ghost use Rattle.cw_ports.specs.Running.{IsTold, RunTells, outside};
+ghost use Rattle.cw_ports.specs.Sides.{device_of, input_of, output_of, gathered_in};
+ghost use Rattle.cw_ports.specs.Concluding.{IsFresh, Means, ConcludesRuns, outside_of};
 
-use crate::inlet::{Inlet, PIECE};
+use crate::inlet::Inlet;
 use crate::outlet::Outlet;
 use crate::ports::ImagePorts;
-use crate::supply::Supply;
 use cw_cpu86::laws::fitting_input;
 use cw_cpu86::{Cpu, RunEnd};
 use cw_io::{Sink, Source};
@@ -38,39 +40,54 @@ fn halted(kind: u8, segment: u8, line_low: u8, line_high: u8) -> ImageEnd
     }
 }
 
+impl<I: Source, O: Sink> ImagePorts<'_, '_, I, O> {
+    // How the run of an image ended whose output was written, and whose input has not too many bytes.
+    fn meaning(&self, end: RunEnd) -> ImageEnd
+        ensures { Means end (end_shown end (device_of O.Sink self.now)) result }
+    {
+        match end {
+            RunEnd::Halted { .. } => {
+                halted(self.kind, self.segment, self.line_low, self.line_high)
+            }
+            RunEnd::Limit => ImageEnd::Unfinished,
+            RunEnd::BadCode { offset, .. } => ImageEnd::BadCode { offset },
+            RunEnd::Divide { offset, .. } => ImageEnd::Divided { offset },
+            RunEnd::PortFault { .. } => ImageEnd::InputFault,
+        }
+    }
+
+    /// How the run of an image ended, by how that of the processor did over these ports. What is gathered is written, unless the sink has failed or the
+    /// input has too many bytes.
+    pub fn conclude(&mut self, end: RunEnd) -> ImageEnd
+        ensures runs { ConcludesRuns end result (device_of O.Sink self.old) (input_of self.old) (output_of O.Sink self.old) (gathered_in self.old) (outside_of (input_of self.new) (output_of O.Sink self.new)) }
+        ensures input { (input_of self.new).name ≡ (input_of self.old).name }
+        ensures out { (output_of O.Sink self.new).name ≡ (output_of O.Sink self.old).name }
+    {
+        fitting_input();
+        if self.inlet.supply.is_too_long() {
+            return ImageEnd::TooLong;
+        }
+        let end = self.meaning(end);
+        if !self.outlet.flush() {
+            return ImageEnd::OutFault;
+        }
+        end
+    }
+}
+
 // Runs it with ports to which nothing was told yet.
 fn run_with<I: Source, O: Sink>(
     cpu: &mut Cpu,
     ports: &mut ImagePorts<'_, '_, I, O>,
     steps: u64,
 ) -> ImageEnd
-    requires hand { (ports.old.inlet.from ≡ 0) × (ports.old.inlet.to ≡ 0) }
-    requires none { (ports.old.inlet.taken ≡ 0) × (ports.old.inlet.is_used ≡ false) × (ports.old.inlet.is_cut ≡ false) × (ports.old.inlet.supply ≡ Supply.Open) }
-    requires end { ports.old.inlet.told_end ≡ None }
-    requires empty { (ports.old.outlet.from ≡ 0) × (ports.old.outlet.to ≡ 0) × (ports.old.outlet.is_broken ≡ false) }
-    requires told { (ports.old.kind ≡ 0) × (ports.old.segment ≡ 0) × (ports.old.line_low ≡ 0) × (ports.old.line_high ≡ 0) }
-    ensures shows { RunTells result cpu.old steps (outside (I.left ports.old.inlet.input.now) (I.faults ports.old.inlet.input.now) (O.held ports.old.outlet.out.now) (O.faults ports.old.outlet.out.now)) (outside (I.left ports.new.inlet.input.now) (I.faults ports.new.inlet.input.now) (O.held ports.new.outlet.out.now) (O.faults ports.new.outlet.out.now)) }
-    ensures input { ports.new.inlet.input.ghost_name ≡ ports.old.inlet.input.ghost_name }
-    ensures out { ports.new.outlet.out.ghost_name ≡ ports.old.outlet.out.ghost_name }
+    requires { IsFresh (device_of O.Sink ports.old) (input_of ports.old) (output_of O.Sink ports.old) }
+    ensures shows { RunTells result cpu.old steps (outside_of (input_of ports.old) (output_of O.Sink ports.old)) (outside_of (input_of ports.new) (output_of O.Sink ports.new)) }
+    ensures input { (input_of ports.new).name ≡ (input_of ports.old).name }
+    ensures out { (output_of O.Sink ports.new).name ≡ (output_of O.Sink ports.old).name }
 {
-    fitting_input();
     let end = cpu.run(ports, steps);
-    if ports.inlet.supply.is_too_long() {
-        return ImageEnd::TooLong;
-    }
-    if ports.outlet.is_broken {
-        return ImageEnd::OutFault;
-    }
-    if !ports.outlet.flush() {
-        return ImageEnd::OutFault;
-    }
-    match end {
-        RunEnd::Halted { .. } => halted(ports.kind, ports.segment, ports.line_low, ports.line_high),
-        RunEnd::Limit => ImageEnd::Unfinished,
-        RunEnd::BadCode { offset, .. } => ImageEnd::BadCode { offset },
-        RunEnd::Divide { offset, .. } => ImageEnd::Divided { offset },
-        RunEnd::PortFault { .. } => ImageEnd::InputFault,
-    }
+    ports.conclude(end)
 }
 
 /// Runs the image that is loaded, for so many instructions at most, over this input and output.
@@ -82,32 +99,6 @@ pub fn run_image<I: Source, O: Sink>(
 ) -> ImageEnd
     ensures { RunTells result cpu.old steps (outside (I.left input.old) (I.faults input.old) (O.held out.old) (O.faults out.old)) (outside (I.left input.new) (I.faults input.new) (O.held out.new) (O.faults out.new)) }
 {
-    let inlet = Inlet {
-        input,
-        bytes: [0; PIECE],
-        from: 0,
-        to: 0,
-        taken: 0,
-        is_used: false,
-        is_cut: false,
-        supply: Supply::Open,
-        is_at_end: false,
-        told_end: None,
-    };
-    let outlet = Outlet {
-        out,
-        bytes: [0; PIECE],
-        from: 0,
-        to: 0,
-        is_broken: false,
-    };
-    let mut ports = ImagePorts {
-        inlet,
-        outlet,
-        kind: 0,
-        segment: 0,
-        line_low: 0,
-        line_high: 0,
-    };
+    let mut ports = ImagePorts::new(Inlet::new(input), Outlet::new(out));
     run_with(cpu, &mut ports, steps)
 }

@@ -23,7 +23,7 @@ use Rattle.cw_results.specs.Closed.{Files, Out}
 use Rattle.cw_results.specs.Written.{GivesOut, GivesFile}
 use Rattle.cw_results.specs.Results.{TellsUnits, ShowsText, MigratesObject}
 use Rattle.cw_say.specs.declared.status.Status.{Status}
-use Rattle.cw_say.specs.declared.status.Status.TheVariants.{Ended, Usage, Refused, Unlinked, Stopped, Unfinished, NoFile, Outside, NoMemory, BadFile, TooLong, BadCode, Divided, TooMany}
+use Rattle.cw_say.specs.declared.status.Status.TheVariants.{Ended, Usage, Refused, Unlinked, Stopped, Unfinished, NoFile, Outside, NoMemory, BadFile, TooLong, BadCode, Divided, TooMany, NoPlace, NoItem}
 use Rattle.cw_say.specs.declared.status.Bad.TheVariants.{Object, Image as BadImage, Hex, Library}
 use Rattle.cw_say.specs.declared.status.Which.TheVariants.{Store, Input, Out as ToOut, Say}
 use Rattle.cw_say.specs.declared.status.Long.TheVariants.{File}
@@ -56,6 +56,8 @@ module _ (P : Status → Type 0) where
     unread (BadCode offset) x = absurd x
     unread (Divided offset) x = absurd x
     unread (TooMany count) x = absurd x
+    unread NoPlace x = absurd x
+    unread (NoItem index) x = absurd x
 
   module _ (files : List Told) (texts : List (List ℕ)) (taken : ℕ) (before after : Counts)
       (refused : (number : ℕ) (fault : Refusal) → (number ≡ taken) × IsRefusedAt (slice_get texts number) fault → P (Refused number fault))
@@ -82,6 +84,8 @@ module _ (P : Status → Type 0) where
     stops_texts (BadCode offset) x = absurd x
     stops_texts (Divided offset) x = absurd x
     stops_texts (TooMany count) x = absurd x
+    stops_texts NoPlace x = absurd x
+    stops_texts (NoItem index) x = absurd x
 
   module _ (files : List Told) (texts : List (List ℕ)) (taken : ℕ) (before after : Counts)
       (bad : (number : ℕ) (fault : ObjFault) → (number ≡ taken) × IsBadAt IsBad (slice_get texts number) (Object fault) → P (BadFile number (Object fault)))
@@ -111,6 +115,8 @@ module _ (P : Status → Type 0) where
     stops_objects (BadCode offset) x = absurd x
     stops_objects (Divided offset) x = absurd x
     stops_objects (TooMany count) x = absurd x
+    stops_objects NoPlace x = absurd x
+    stops_objects (NoItem index) x = absurd x
 
   -- ---- of what was written
 
@@ -137,6 +143,8 @@ module _ (P : Status → Type 0) where
     gives_out (BadCode offset) x = absurd x
     gives_out (Divided offset) x = absurd x
     gives_out (TooMany count) x = absurd x
+    gives_out NoPlace x = absurd x
+    gives_out (NoItem index) x = absurd x
 
   module _ (name result : List ℕ) (files files' : Files)
       (ended : (files'.told name ≡ as_file (files.told name) result) × OthersStay files.told files'.told name × SameCounts files.counts files'.counts → P Ended)
@@ -161,6 +169,8 @@ module _ (P : Status → Type 0) where
     gives_file (BadCode offset) x = absurd x
     gives_file (Divided offset) x = absurd x
     gives_file (TooMany count) x = absurd x
+    gives_file NoPlace x = absurd x
+    gives_file (NoItem index) x = absurd x
 
   module _ (IsText : List SourceUnit → Limits → List ℕ → Type 0) (us : List SourceUnit) (limits : Limits) (out out' : Out)
       (unlinked : (fault : LinkFault) → IsLinkFault us limits fault × (out' ≡ out) → P (Unlinked fault))
@@ -185,6 +195,8 @@ module _ (P : Status → Type 0) where
     tells_units (BadCode offset) x = gives (BadCode offset) x.0 x.1 x.2 x.3
     tells_units (Divided offset) x = gives (Divided offset) x.0 x.1 x.2 x.3
     tells_units (TooMany count) x = gives (TooMany count) x.0 x.1 x.2 x.3
+    tells_units NoPlace x = gives NoPlace x.0 x.1 x.2 x.3
+    tells_units (NoItem index) x = gives (NoItem index) x.0 x.1 x.2 x.3
 
   module _ (text : List ℕ) (out out' : Out)
       (refused : (number : ℕ) (refusal : Refusal) → (number ≡ 0) × IsRefused text refusal × (out' ≡ out) → P (Refused number refusal))
@@ -209,6 +221,8 @@ module _ (P : Status → Type 0) where
     shows_text (BadCode offset) x = gives (BadCode offset) x.0 x.1 x.2
     shows_text (Divided offset) x = gives (Divided offset) x.0 x.1 x.2
     shows_text (TooMany count) x = gives (TooMany count) x.0 x.1 x.2
+    shows_text NoPlace x = gives NoPlace x.0 x.1 x.2
+    shows_text (NoItem index) x = gives (NoItem index) x.0 x.1 x.2
 
   module _ (name object : List ℕ) (files files' : Files)
       (wanted : AllStay files.told files'.told → P NoMemory)
@@ -232,6 +246,8 @@ module _ (P : Status → Type 0) where
     migrates_object (BadCode offset) x = gives (BadCode offset) x.0 x.1 x.2
     migrates_object (Divided offset) x = gives (Divided offset) x.0 x.1 x.2
     migrates_object (TooMany count) x = gives (TooMany count) x.0 x.1 x.2
+    migrates_object NoPlace x = gives NoPlace x.0 x.1 x.2
+    migrates_object (NoItem index) x = gives (NoItem index) x.0 x.1 x.2
 
   -- ---- of what a promise says of the status
 
@@ -259,6 +275,8 @@ module _ (P : Status → Type 0) where
     map_comes (BadCode offset) x = stops (BadCode offset) x
     map_comes (Divided offset) x = stops (Divided offset) x
     map_comes (TooMany count) x = stops (TooMany count) x
+    map_comes NoPlace x = stops NoPlace x
+    map_comes (NoItem index) x = stops (NoItem index) x
 
   module _ (c : Call) (texts shown : List (List ℕ))
       (ended : AllAccepted c shown → P Ended)
@@ -284,6 +302,8 @@ module _ (P : Status → Type 0) where
     show_comes (BadCode offset) x = stops (BadCode offset) x
     show_comes (Divided offset) x = stops (Divided offset) x
     show_comes (TooMany count) x = stops (TooMany count) x
+    show_comes NoPlace x = stops NoPlace x
+    show_comes (NoItem index) x = stops (NoItem index) x
 
   module _ (c : Call) (texts : List (List ℕ)) (us : List SourceUnit)
       (ended : AllAccepted c us → P Ended)
@@ -308,6 +328,8 @@ module _ (P : Status → Type 0) where
     compile_comes (BadCode offset) x = stops (BadCode offset) x
     compile_comes (Divided offset) x = stops (Divided offset) x
     compile_comes (TooMany count) x = stops (TooMany count) x
+    compile_comes NoPlace x = stops NoPlace x
+    compile_comes (NoItem index) x = stops (NoItem index) x
 
   module _ (c : Call) (texts objects : List (List ℕ))
       (ended : AllAccepted c objects → P Ended)
@@ -332,3 +354,5 @@ module _ (P : Status → Type 0) where
     objects_come (BadCode offset) x = stops (BadCode offset) x
     objects_come (Divided offset) x = stops (Divided offset) x
     objects_come (TooMany count) x = stops (TooMany count) x
+    objects_come NoPlace x = stops NoPlace x
+    objects_come (NoItem index) x = stops (NoItem index) x

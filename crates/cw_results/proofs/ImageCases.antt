@@ -10,7 +10,7 @@ use Rattle.cw_correct.specs.Calls.{Call, told_files}
 use Rattle.cw_correct.specs.Files.{counts_before, counts_after, AllAccepted}
 use Rattle.cw_correct.specs.Results.{HexComes}
 use Rattle.cw_say.specs.declared.status.Status.{Status}
-use Rattle.cw_say.specs.declared.status.Status.TheVariants.{Ended, Usage, Refused, Unlinked, Stopped, Unfinished, NoFile, Outside, NoMemory, BadFile, TooLong, BadCode, Divided, TooMany}
+use Rattle.cw_say.specs.declared.status.Status.TheVariants.{Ended, Usage, Refused, Unlinked, Stopped, Unfinished, NoFile, Outside, NoMemory, BadFile, TooLong, BadCode, Divided, TooMany, NoPlace, NoItem}
 use Rattle.cw_say.specs.declared.status.Bad.TheVariants.{Object, Image as BadImage, Hex, Library}
 use Rattle.cw_say.specs.declared.status.Which.TheVariants.{Store, Input, Out as ToOut, Say}
 use Rattle.cw_say.specs.declared.status.Long.TheVariants.{File}
@@ -45,6 +45,8 @@ module _ (P : Status → Type 0) where
     stops_images (BadCode offset) x = absurd x
     stops_images (Divided offset) x = absurd x
     stops_images (TooMany count) x = absurd x
+    stops_images NoPlace x = absurd x
+    stops_images (NoItem index) x = absurd x
 
   module _ (c : Call) (texts : List (List ℕ)) (images : List Image)
       (ended : AllAccepted c images → P Ended)
@@ -69,3 +71,5 @@ module _ (P : Status → Type 0) where
     hex_comes (BadCode offset) x = stops (BadCode offset) x
     hex_comes (Divided offset) x = stops (Divided offset) x
     hex_comes (TooMany count) x = stops (TooMany count) x
+    hex_comes NoPlace x = stops NoPlace x
+    hex_comes (NoItem index) x = stops (NoItem index) x

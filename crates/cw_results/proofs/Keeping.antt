@@ -3,7 +3,7 @@ use Rattle.std.proofs.Common.{◌≡◌, ◌≢◌, ℕ, ◌≤◌, List, [], �
 use Rattle.cw_io.specs.Bytes.{after_told}
 use Rattle.cw_io.specs.Count.{Rose}
 use Rattle.cw_io.specs.File.{Told, as_file, AllStay, KeptOrWhole, OthersStay}
-use Rattle.cw_say.specs.Said.{Says}
+use Rattle.cw_write.specs.Said.{Says}
 use Rattle.cw_say.specs.Closing.{closing_line}
 use Rattle.cw_files.specs.Reading.{SameCounts as CountsStand}
 use Rattle.cw_correct.specs.Calls.{Surroundings, Call, SameCounts, IsUntouched, IsUnwritten}
@@ -13,7 +13,7 @@ use Rattle.cw_correct.specs.Results.{WritesOut, WritesFile}
 use Rattle.cw_results.specs.Closed.{IsClosed, Files, files_at, Out, out_at}
 use Rattle.cw_results.specs.Written.{GivesOut, GivesFile}
 use Rattle.cw_say.specs.declared.status.Status.{Status}
-use Rattle.cw_say.specs.declared.status.Status.TheVariants.{Ended, Usage, Refused, Unlinked, Stopped, Unfinished, NoFile, Outside, NoMemory, BadFile, TooLong, BadCode, Divided, TooMany}
+use Rattle.cw_say.specs.declared.status.Status.TheVariants.{Ended, Usage, Refused, Unlinked, Stopped, Unfinished, NoFile, Outside, NoMemory, BadFile, TooLong, BadCode, Divided, TooMany, NoPlace, NoItem}
 use Rattle.cw_say.specs.declared.status.Which.TheVariants.{Store, Input, Out as ToOut, Say}
 use Rattle.cw_say.specs.declared.status.Long.TheVariants.{File}
 use Rattle.cw_say.specs.declared.status.Long.TheVariants as long
@@ -42,6 +42,8 @@ first_part faults middle (TooLong long.Input) other = refl
 first_part faults middle (BadCode offset) other = refl
 first_part faults middle (Divided offset) other = refl
 first_part faults middle (TooMany count) other = refl
+first_part faults middle NoPlace other = refl
+first_part faults middle (NoItem index) other = refl
 
 -- `say` got the closing line alone
 pub says_last : (before after : Surroundings) (names : List (List ℕ)) (s : Status) → s ≢ Outside Say → IsClosed names s before.say after.say before.say_faults after.say_faults → SaysLast before after names [] s

@@ -2,7 +2,7 @@
 use Rattle.std.specs.Prelude.{◌≡◌, ℕ, List, [], Option}
 use Rattle.cw_unit.specs.declared.layout.Limits.{Limits}
 use Rattle.cw_words.specs.declared.action.Action.{Action}
-use Rattle.cw_say.specs.Said.{Says}
+use Rattle.cw_write.specs.Said.{Says}
 use Rattle.cw_say.specs.Closing.{closing_line}
 use Rattle.cw_say.specs.declared.status.Status.{Status}
 use Rattle.cw_say.specs.declared.status.Status.TheVariants.{Ended}

@@ -3,7 +3,8 @@ ghost use Rattle.cw_results.specs.Closed.{out_at};
 ghost use Rattle.cw_results.specs.Written.{GivesOut};
 
 use cw_io::Sink;
-use cw_say::{Status, Which, write_piece};
+use cw_say::{Status, Which};
+use cw_write::write_piece;
 
 /// Writes a text, and answers what the call comes to.
 pub fn write_text<O: Sink>(out: &mut O, text: &[u8]) -> Status

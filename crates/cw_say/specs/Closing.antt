@@ -1,7 +1,7 @@
 -- The number of each status, and the line that closes what is told of a run.
 use Rattle.std.specs.Prelude.{ℕ, ◌-◌, ◌==◌, List, [], ◌++◌, Option, None, Some, slice_get, slice_index_or, codes, decimal, if◌then◌else◌}
 use Rattle.cw_say.specs.declared.status.Status.{Status}
-use Rattle.cw_say.specs.declared.status.Status.TheVariants.{Ended, Usage, Refused, Unlinked, Stopped, Unfinished, NoFile, Outside, NoMemory, BadFile, TooLong, BadCode, Divided, TooMany}
+use Rattle.cw_say.specs.declared.status.Status.TheVariants.{Ended, Usage, Refused, Unlinked, Stopped, Unfinished, NoFile, Outside, NoMemory, BadFile, TooLong, BadCode, Divided, TooMany, NoPlace, NoItem}
 use Rattle.cw_link.specs.declared.fault.LinkFault.{LinkFault}
 use Rattle.cw_link.specs.declared.fault.LinkFault.TheVariants.{SegmentTwice, Differs, DefinedTwice, Undefined, AbsoluteOutside, DataTooBig, ControlTooBig, PresetClash, CodeTooBig}
 use Rattle.cw_link.specs.declared.fault.LinkFault.TheVariants as linking
@@ -50,6 +50,8 @@ status_code (TooLong long) = 10
 status_code (BadCode offset) = 11
 status_code (Divided offset) = 12
 status_code (TooMany count) = 13
+status_code NoPlace = 14
+status_code (NoItem index) = 15
 
 -- the file with this number
 abbrev pub file_name : (names : List (List ℕ)) → ℕ → List ℕ
@@ -213,7 +215,8 @@ abbrev pub long_name : List (List ℕ) → Long → List ℕ
 long_name names (File file) = file_name names file
 long_name names long.Input = codes "input"
 
--- The last line, for the names of the files and those of the segments.
+-- The last line, for the names of the files and those of the segments. At NoPlace the names are those of what the stop word names, its segment and line as one; at
+-- NoItem, of what it watches.
 abbrev pub closing_line : (names segments : List (List ℕ)) → Status → List ℕ
 closing_line names segments Ended = []
 closing_line names segments Usage = codes "usage: coral66 [--data N] [--frames N] [--depth N] [--steps N] ACTION WORD...\n"
@@ -230,3 +233,5 @@ closing_line names segments (TooLong long) = codes "too long: " ++ long_name nam
 closing_line names segments (BadCode offset) = codes "bad code: " ++ decimal offset ++ codes "\n"
 closing_line names segments (Divided offset) = codes "divided: " ++ decimal offset ++ codes "\n"
 closing_line names segments (TooMany count) = codes "too many: " ++ decimal count ++ codes "\n"
+closing_line names segments NoPlace = codes "no place: " ++ file_name names 0 ++ codes "\n"
+closing_line names segments (NoItem index) = codes "no item: " ++ file_name names index ++ codes "\n"

@@ -1,15 +1,15 @@
 // The lines that tell what is wrong with bytes that are not what an action takes.
 ghost use Rattle.std.specs.Prelude.{◌++◌, decimal, codes};
-ghost use Rattle.cw_say.specs.Said.{Writes};
+ghost use Rattle.cw_write.specs.Said.{Writes};
 ghost use Rattle.cw_say.specs.Closing.{bad_line, bad_place, object_line, image_line, hex_line, library_line, bad_file_line};
 
-use crate::saying::write_line;
 use crate::status::Bad;
 use cw_hex::HexFault;
 use cw_image::ImageFault;
 use cw_io::{Failed, Sink};
 use cw_lib::LibFault;
 use cw_view::ObjFault;
+use cw_write::write_line;
 
 // Writes what is wrong with a file behind a mark, and the place of it, if there is one.
 fn write_place_behind<S: Sink>(

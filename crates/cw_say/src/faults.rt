@@ -1,9 +1,8 @@
 // The lines that tell the faults of texts.
 ghost use Rattle.std.specs.Prelude.{◌≡◌, ◌++◌, decimal, codes};
-ghost use Rattle.cw_say.specs.Said.{Writes};
+ghost use Rattle.cw_write.specs.Said.{Writes};
 ghost use Rattle.cw_say.specs.Closing.{fault_line, named_line, lexical_line, expansion_line, syntax_line, scope_line, type_line, refusal_line, left_out};
 
-use crate::saying::write_line;
 use cw_compile::Refusal;
 use cw_grammar::fault::ParseFault;
 use cw_io::{Failed, Sink};
@@ -12,6 +11,7 @@ use cw_macro::MacroFault;
 use cw_scope::resolve::ScopeFault;
 use cw_type::check::TypeFault;
 use cw_word::Name;
+use cw_write::write_line;
 
 // Writes the name of a file, a line in it, and the name of what is wrong there.
 fn write_fault<S: Sink>(say: &mut S, file: &[u8], line: u32, name: &[u8]) -> Result<(), Failed>

@@ -1,15 +1,15 @@
 // The line that closes what is told of a run.
 ghost use Rattle.std.specs.Prelude.{◌≡◌, ◌++◌, map, option_map, decimal, codes};
-ghost use Rattle.cw_say.specs.Said.{Writes};
+ghost use Rattle.cw_write.specs.Said.{Writes};
 ghost use Rattle.cw_say.specs.Closing.{closing_line, file_name, long_name, stop_name, name_or_number, segment_name};
 
 use crate::bad::write_bad;
 use crate::faults::write_refusal;
 use crate::link::write_unlinked;
-use crate::saying::{write_line, write_name, write_number, write_piece};
 use crate::status::{Long, Status};
 use cw_io::{Failed, Sink};
 use cw_word::Name;
+use cw_write::{write_line, write_name, write_number, write_piece};
 
 const USAGE: &[u8] =
     b"usage: coral66 [--data N] [--frames N] [--depth N] [--steps N] ACTION WORD...\n";
@@ -61,6 +61,8 @@ pub fn write_last<S: Sink>(
         Status::BadCode { offset } => write_number(say, b"bad code: ", u64::from(*offset)),
         Status::Divided { offset } => write_number(say, b"divided: ", u64::from(*offset)),
         Status::TooMany { count } => write_number(say, b"too many: ", u64::from(*count)),
+        Status::NoPlace => write_name(say, b"no place: ", file_name(names, 0)),
+        Status::NoItem { index } => write_name(say, b"no item: ", file_name(names, *index)),
     }
 }
 

@@ -1,12 +1,12 @@
 // The lines that tell why segments do not link.
 ghost use Rattle.std.specs.Prelude.{◌++◌, decimal, codes};
-ghost use Rattle.cw_say.specs.Said.{Writes};
+ghost use Rattle.cw_write.specs.Said.{Writes};
 ghost use Rattle.cw_say.specs.Closing.{clash_line, link_line};
 
-use crate::saying::{write_line, write_name, write_number, write_piece};
 use crate::status::LinkFault;
 use cw_io::{Failed, Sink};
 use cw_word::Name;
+use cw_write::{write_line, write_name, write_number, write_piece};
 
 // Writes a text, two numbers and the end of the line.
 fn write_outside<S: Sink>(say: &mut S, text: &[u8], segment: u8, address: u16) -> Result<(), Failed>

@@ -37,6 +37,10 @@ pub enum Status {
     Divided { offset: u16 },
     /// So many objects are to be linked, more than 200.
     TooMany { count: u32 },
+    /// No statement begins at the segment and the line of the stop word.
+    NoPlace,
+    /// This watched name of the stop word, counted from 0, means no word that has an address.
+    NoItem { index: u16 },
 }
 
 /// The first thing that is wrong with bytes; never want of memory.
@@ -91,6 +95,8 @@ impl Status {
             Status::BadCode { .. } => 11,
             Status::Divided { .. } => 12,
             Status::TooMany { .. } => 13,
+            Status::NoPlace => 14,
+            Status::NoItem { .. } => 15,
         }
     }
 }

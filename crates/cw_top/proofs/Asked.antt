@@ -1,11 +1,13 @@
 -- What is done for an action is what the words ask for.
-use Rattle.std.proofs.Common.{◌≡◌, ℕ, ◌<◌, List, [], slice_index_or, Option, Some, None, refl, sym, subst}
+use Rattle.std.proofs.Common.{◌≡◌, ℕ, ◌<◌, List, [], ◌∷◌, map, drop, slice_index_or, option_map, Option, Some, None, refl, sym, subst}
 use Rattle.std.proofs.lemmas.List.Elements.{All-nil}
 use Rattle.cw_ports.specs.Running.{IsInput}
-use Rattle.cw_words.specs.Parts.{Parts, copies_in, copies_of}
+use Rattle.cw_words.specs.Parts.{Parts, copies_in, copies_of, stop_of}
+use Rattle.cw_stop.specs.Stopping.{stop_in}
+use Rattle.cw_stop.specs.declared.stopping.Stop.{Stop}
 use Rattle.cw_words.specs.declared.action.Action.{Action}
-use Rattle.cw_correct.specs.Calls.{Surroundings, Call, limits_of, call_as, call_of}
-use Rattle.cw_words.specs.declared.action.Action.TheVariants.{Compile, Lib, Link, List as Show, Map, Depth, Migrate, Big, Hex}
+use Rattle.cw_correct.specs.Calls.{Surroundings, Call, limits_of, call_as}
+use Rattle.cw_words.specs.declared.action.Action.TheVariants.{Compile, Lib, Link, List as Show, Map, Depth, Migrate, Big, Hex, Trace}
 use Rattle.cw_correct.specs.Correct.{Correct, IsCorrectCall, IsCorrectRequest}
 use Rattle.cw_correct.specs.Results.{MapsRight, DepthsRight, ShowsRight, CompilesRight, LibsRight, LinksRight, MigratesRight, HexesRight}
 use Rattle.cw_say.specs.declared.status.Status.{Status}
@@ -14,6 +16,28 @@ use Rattle.cw_say.specs.declared.status.Status.{Status}
 pub copies_told : (names : List (List ℕ)) (copies : ℕ) → copies_of Big names ≡ Some copies → copies_in (slice_index_or names 0 []) ≡ Some copies
 unfolding copies_of
 copies_told names copies e = e
+
+-- the stop of `trace` is told by its first WORD
+named_stop : (read : Option Stop) (stop : Stop) → ◌≡◌ {A = Option (Option Stop)} (option_map (λ s. Some s) read) (Some (Some stop)) → read ≡ Some stop
+named_stop None stop e = absurd (cc)
+named_stop (Some s) stop e = cc e
+
+pub stop_told : (names : List (List ℕ)) (stop : Stop) → stop_of Trace names ≡ Some (Some stop) → stop_in (slice_index_or names 0 []) ≡ Some stop
+unfolding stop_of
+stop_told names stop e = named_stop (stop_in (slice_index_or names 0 [])) stop e
+
+unnamed_stop : (read : Option Stop) → ◌≡◌ {A = Option (Option Stop)} (option_map (λ s. Some s) read) (Some None) → ⊥
+unnamed_stop None e = absurd (cc)
+unnamed_stop (Some s) e = absurd (cc)
+
+-- and there is one
+pub no_stop : (names : List (List ℕ)) → stop_of Trace names ≡ Some None → ⊥
+unfolding stop_of
+no_stop names e = unnamed_stop (stop_in (slice_index_or names 0 [])) e
+
+pub behind_first : {A B : Type 0} (f : A → B) (xs : List A) → map f (drop 1 xs) ≡ drop 1 (map f xs)
+behind_first f [] = refl
+behind_first f (x ∷ xs) = refl
 
 -- an input of a call that does not use it
 pub some_input : (left : Option (List ℕ)) → (input : List ℕ) × IsInput left input

@@ -1,7 +1,7 @@
 -- A call of the command, by what its parts answer.
 use Rattle.std.proofs.Common.{◌≡◌, ℕ, List, [], Option, Some, None, sym, subst}
 use Rattle.cw_words.specs.Parts.{Parts, parts_of}
-use Rattle.cw_say.specs.Said.{Says}
+use Rattle.cw_write.specs.Said.{Says}
 use Rattle.cw_say.specs.Closing.{closing_line}
 use Rattle.cw_correct.specs.Calls.{Surroundings}
 use Rattle.cw_correct.specs.Correct.{IsCorrectRequest, IsCorrect}

@@ -1,11 +1,13 @@
 -- Two statuses never come of one call, by its action.
-use Rattle.std.proofs.Common.{◌≡◌, ◌≢◌, ◌⊎◌, ℕ, List, map, Option, Some, sym, ◌∙◌, subst, arith}
+use Rattle.std.proofs.Common.{◌≡◌, ◌≢◌, ◌⊎◌, ℕ, List, map, drop, Option, Some, sym, ap, ◌∙◌, subst, arith}
 use Rattle.std.specs.Prelude.{All}
 use Rattle.cw_words.specs.declared.action.Action.{Action}
-use Rattle.cw_words.specs.declared.action.Action.TheVariants.{Go, Compile, Link, Exec, List as Show, Map, Migrate, Big, Hex, Lib, Depth}
+use Rattle.cw_words.specs.declared.action.Action.TheVariants.{Go, Compile, Link, Exec, List as Show, Map, Migrate, Big, Hex, Lib, Depth, Trace}
 use Rattle.cw_build.specs.Linking.{map_text}
 use Rattle.cw_big.specs.LargeProgram.{large_program}
-use Rattle.cw_correct.specs.Calls.{Call, told_files, NoFault}
+use Rattle.cw_stop.specs.declared.stopping.Stop.{Stop}
+use Rattle.cw_correct.specs.Calls.{Call, over_others, told_files, NoFault}
+use Rattle.cw_correct.specs.Tracing.{TracesRight}
 use Rattle.cw_correct.specs.Making.{program_line, in_memory, over_program, MakesRight}
 use Rattle.cw_correct.specs.Correct.{CorrectAs, TellsBytes, HasOneStatus}
 use Rattle.cw_correct.specs.Results.{MapsRight, DepthsRight, ShowsRight, CompilesRight, LibsRight, LinksRight, MigratesRight, HexesRight}
@@ -16,6 +18,8 @@ use Rattle.cw_go.specs.Laws as going
 use Rattle.cw_go.proofs.Called.{map_twice}
 use Rattle.cw_exec.specs.Laws as executing
 use Rattle.cw_results.specs.OneStatus.{AllowsOneStatus}
+use Rattle.cw_traces.specs.Laws as tracing
+use Rattle.cw_top.proofs.Asked.{behind_first}
 
 -- the same of each action
 pub record OneEach : Type 0 where
@@ -29,11 +33,15 @@ pub record OneEach : Type 0 where
   pub link : AllowsOneStatus LinksRight
   pub migrate : AllowsOneStatus MigratesRight
   pub hex : AllowsOneStatus HexesRight
+  pub trace : tracing.HasOneStatus
 
 module _ (each : OneEach) (c : Call) (input : List ℕ) (a b : Status) (found : List (Option (List ℕ))) (told : told_files c ≡ map Some found) (bytes : All TellsBytes found) (quiet : NoFault c.before c.after) (other : a ≢ NoMemory)
     (also : b ≢ NoMemory) (telling : (a ≡ TooLong long.Input) ⊎ (b ≡ TooLong long.Input) → (left : List ℕ) × (c.before.left ≡ Some left)) where
   number_of : {m n : ℕ} → ◌≡◌ {A = Option ℕ} (Some m) (Some n) → m ≡ n
   number_of e = cc e
+
+  stop_same : {s t : Stop} → ◌≡◌ {A = Option Stop} (Some s) (Some t) → s ≡ t
+  stop_same e = cc e
 
   -- what `big` runs is in no files
   in_memory_quiet : NoFault (in_memory c.before) (in_memory c.after)
@@ -54,6 +62,10 @@ module _ (each : OneEach) (c : Call) (input : List ℕ) (a b : Status) (found : 
       let same : n ≡ m = number_of (sym also_is ∙ is) in
       let again = subst (λ k. MakesRight k c input b) same y in
       each.texts (program_line m) (over_program m c) input a b (map Some (large_program m)) (map_twice Some Some (large_program m)) in_memory_quiet other also telling x.runs again.runs
+  one_of Trace (stop, is, x) (other_stop, also_is, y) =
+      let same : other_stop ≡ stop = stop_same (sym also_is ∙ is) in
+      let files = behind_first c.before.files c.names ∙ ap (λ all. drop 1 all) told ∙ sym (behind_first Some found) in
+      each.trace stop (over_others c) input a b (drop 1 found) files quiet other also telling x (subst (λ t. TracesRight t (over_others c) input b) same y)
 
 pub one_status : OneEach → HasOneStatus
 one_status each c input a b found told bytes quiet other also telling x y = one_of each c input a b found told bytes quiet other also telling c.action x y

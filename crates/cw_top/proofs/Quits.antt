@@ -1,11 +1,12 @@
 -- A call that did nothing but write its closing line keeps its promise.
-use Rattle.std.proofs.Common.{◌≡◌, ◌⊎◌, ℕ, List, [], Option, Some, None, refl, sym, ap, ◌∙◌, subst, inl, inr, arith, append-nil}
+use Rattle.std.proofs.Common.{◌≡◌, ◌⊎◌, ℕ, List, [], drop, Option, Some, None, refl, sym, ap, subst, inl, inr, arith, append-nil}
 use Rattle.cw_io.specs.Bytes.{after_told}
-use Rattle.cw_words.specs.Parts.{Parts, parts_of, copies_of}
-use Rattle.cw_words.specs.Copies.{TellsCopies}
+use Rattle.cw_words.specs.Parts.{Parts, parts_of, copies_of, stop_of}
+use Rattle.cw_words.specs.Copies.{TellsCopies, TellsStop}
+use Rattle.cw_stop.specs.declared.stopping.Stop.{Stop}
 use Rattle.cw_words.specs.declared.action.Action.{Action}
-use Rattle.cw_words.specs.declared.action.Action.TheVariants.{Go, Compile, Link, Exec, List as Show, Map, Migrate, Big, Hex, Lib, Depth}
-use Rattle.cw_say.specs.Said.{Says}
+use Rattle.cw_words.specs.declared.action.Action.TheVariants.{Go, Compile, Link, Exec, List as Show, Map, Migrate, Big, Hex, Lib, Depth, Trace}
+use Rattle.cw_write.specs.Said.{Says}
 use Rattle.cw_say.specs.Closing.{closing_line}
 use Rattle.cw_build.specs.Linking.{map_text}
 use Rattle.cw_big.specs.LargeProgram.{large_program}
@@ -20,8 +21,9 @@ use Rattle.cw_say.specs.declared.status.Status.TheVariants.{Usage, NoMemory}
 use Rattle.cw_go.specs.Laws as going
 use Rattle.cw_exec.specs.Laws as executing
 use Rattle.cw_results.specs.Idle.{IsIdle, AllowsIdle}
+use Rattle.cw_traces.specs.Laws as tracing
 use Rattle.cw_top.specs.Quits.{MayQuit}
-use Rattle.cw_top.proofs.Asked.{over_any, asked, copies_told}
+use Rattle.cw_top.proofs.Asked.{over_any, asked, copies_told, stop_told, no_stop}
 
 after_nothing : (told : Option (List ℕ)) → after_told told [] ≡ told
 after_nothing None = refl
@@ -39,6 +41,7 @@ pub record Idles : Type 0 where
   pub link : AllowsIdle LinksRight
   pub migrate : AllowsIdle MigratesRight
   pub hex : AllowsIdle HexesRight
+  pub trace : tracing.IsRightIdle
 
 module _ (before after : Surroundings) where
   says_last : (names : List (List ℕ)) (status : Status) → IsFirstPart [] before.say_faults before.say_faults status [] → Says before.say after.say before.say_faults after.say_faults (closing_line names [] status) → SaysLast before after names [] status
@@ -102,18 +105,18 @@ module _ (before after : Surroundings) where
       out_faults = closes.out_faults;
     }
 
-    of_action : (action : Action) → copies_of action parts.names ≡ Some parts.copies → parts.action ≡ action → IsCorrectRequest (Some parts) before after NoMemory
-    of_action Go told is = asked Go parts before after NoMemory is (idles.texts (λ us. map_text us (limits_of parts)) Go (limits_of parts) parts.steps parts.names before after (named parts.names closes))
-    of_action Exec told is = asked Exec parts before after NoMemory is (over_any (call Exec) NoMemory (λ input. idles.exec (call Exec) input (named parts.names closes)))
-    of_action Map told is = asked Map parts before after NoMemory is (over_any (call Map) NoMemory (λ input. idles.map (call Map) (is_idle Map)))
-    of_action Depth told is = asked Depth parts before after NoMemory is (over_any (call Depth) NoMemory (λ input. idles.depth (call Depth) (is_idle Depth)))
-    of_action Show told is = asked Show parts before after NoMemory is (over_any (call Show) NoMemory (λ input. idles.list (call Show) (is_idle Show)))
-    of_action Compile told is = asked Compile parts before after NoMemory is (over_any (call Compile) NoMemory (λ input. idles.compile (call Compile) (is_idle Compile)))
-    of_action Lib told is = asked Lib parts before after NoMemory is (over_any (call Lib) NoMemory (λ input. idles.lib (call Lib) (is_idle Lib)))
-    of_action Link told is = asked Link parts before after NoMemory is (over_any (call Link) NoMemory (λ input. idles.link (call Link) (is_idle Link)))
-    of_action Migrate told is = asked Migrate parts before after NoMemory is (over_any (call Migrate) NoMemory (λ input. idles.migrate (call Migrate) (is_idle Migrate)))
-    of_action Hex told is = asked Hex parts before after NoMemory is (over_any (call Hex) NoMemory (λ input. idles.hex (call Hex) (is_idle Hex)))
-    of_action Big told is =
+    of_action : (action : Action) → copies_of action parts.names ≡ Some parts.copies → stop_of action parts.names ≡ Some parts.stop → parts.action ≡ action → IsCorrectRequest (Some parts) before after NoMemory
+    of_action Go told stops is = asked Go parts before after NoMemory is (idles.texts (λ us. map_text us (limits_of parts)) Go (limits_of parts) parts.steps parts.names before after (named parts.names closes))
+    of_action Exec told stops is = asked Exec parts before after NoMemory is (over_any (call Exec) NoMemory (λ input. idles.exec (call Exec) input (named parts.names closes)))
+    of_action Map told stops is = asked Map parts before after NoMemory is (over_any (call Map) NoMemory (λ input. idles.map (call Map) (is_idle Map)))
+    of_action Depth told stops is = asked Depth parts before after NoMemory is (over_any (call Depth) NoMemory (λ input. idles.depth (call Depth) (is_idle Depth)))
+    of_action Show told stops is = asked Show parts before after NoMemory is (over_any (call Show) NoMemory (λ input. idles.list (call Show) (is_idle Show)))
+    of_action Compile told stops is = asked Compile parts before after NoMemory is (over_any (call Compile) NoMemory (λ input. idles.compile (call Compile) (is_idle Compile)))
+    of_action Lib told stops is = asked Lib parts before after NoMemory is (over_any (call Lib) NoMemory (λ input. idles.lib (call Lib) (is_idle Lib)))
+    of_action Link told stops is = asked Link parts before after NoMemory is (over_any (call Link) NoMemory (λ input. idles.link (call Link) (is_idle Link)))
+    of_action Migrate told stops is = asked Migrate parts before after NoMemory is (over_any (call Migrate) NoMemory (λ input. idles.migrate (call Migrate) (is_idle Migrate)))
+    of_action Hex told stops is = asked Hex parts before after NoMemory is (over_any (call Hex) NoMemory (λ input. idles.hex (call Hex) (is_idle Hex)))
+    of_action Big told stops is =
         let (input, is_input, runs) = idles.texts (program_line parts.copies) Big (limits_of parts) parts.steps (large_program parts.copies) (in_memory before) (in_memory after) (in_memory_closes (large_program parts.copies)) in
         let right : MakesRight parts.copies (call Big) input NoMemory = record {
           runs = runs;
@@ -123,10 +126,17 @@ module _ (before after : Surroundings) where
           stays = λ name. ap (λ files. files name) closes.files;
         } in
         asked Big parts before after NoMemory is (input, is_input, (parts.copies, copies_told parts.names parts.copies told, right))
+    of_action Trace told stops is = of_stop parts.stop stops
+      where
+        of_stop : (stop : Option Stop) → stop_of Trace parts.names ≡ Some stop → IsCorrectRequest (Some parts) before after NoMemory
+        of_stop None e = absurd (no_stop parts.names e)
+        of_stop (Some stop) e =
+            let (input, is_input, right) = idles.trace stop Trace (limits_of parts) parts.steps (drop 1 parts.names) before after (named (drop 1 parts.names) closes) in
+            asked Trace parts before after NoMemory is (input, is_input, (stop, stop_told parts.names stop e, right))
 
-pub may_quit : Idles → TellsCopies → MayQuit
-may_quit idles tells words before after closes = by (parts_of words) refl
+pub may_quit : Idles → TellsCopies → TellsStop → MayQuit
+may_quit idles tells stops words before after closes = by (parts_of words) refl
   where
     by : (parts : Option Parts) → parts_of words ≡ parts → IsCorrectRequest parts before after NoMemory
     by None is = does_nothing before after NoMemory (inr refl) refl closes
-    by (Some parts) is = of_action before after idles parts closes parts.action (tells words parts is) refl
+    by (Some parts) is = of_action before after idles parts closes parts.action (tells words parts is) (stops words parts is) refl

@@ -3,7 +3,7 @@ ghost use Rattle.std.specs.Prelude.{◌≡◌, [], Some};
 ghost use Rattle.cw_words.specs.Parts.{InRange, command_parts};
 ghost use Rattle.cw_correct.specs.Calls.{surroundings_of};
 ghost use Rattle.cw_correct.specs.Correct.{IsCorrectRequest};
-ghost use Rattle.cw_say.specs.Said.{Says};
+ghost use Rattle.cw_write.specs.Said.{Says};
 ghost use Rattle.cw_say.specs.Closing.{closing_line};
 
 use cw_big_run::big;
@@ -14,6 +14,7 @@ use cw_io::{Sink, Source, Store};
 use cw_libraries::{link, make_library};
 use cw_results::{compile, hex, map_files, migrate, show};
 use cw_say::{Status, write_last};
+use cw_traces::trace;
 use cw_unit::layout::Limits;
 use cw_words::{Action, Command};
 use std::alloc::Global;
@@ -59,5 +60,9 @@ pub(crate) fn perform<F: Store, I: Source, O: Sink, S: Sink>(
         Action::Migrate => migrate(alloc, names, &limits, steps, files, say),
         Action::Hex => hex(alloc, names, &limits, steps, files, say),
         Action::Big => big(alloc, command.copies, &limits, steps, input, out, say),
+        Action::Trace => match &command.stop {
+            Some(stop) => trace(alloc, names, &limits, steps, stop, files, input, out, say),
+            None => unreachable!(),
+        },
     }
 }

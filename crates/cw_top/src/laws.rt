@@ -6,6 +6,7 @@ use cw_exec::laws as executing;
 use cw_go::laws as going;
 use cw_libraries::laws::{idle_of_libraries, one_status_of_libraries};
 use cw_results::laws as results;
+use cw_traces::laws as tracing;
 use cw_words::laws::copies_told;
 
 /// A call that did nothing for want of memory keeps its promise.
@@ -16,6 +17,7 @@ pub(crate) fn quits()
     executing::idle();
     results::idle();
     idle_of_libraries();
+    tracing::idle();
     copies_told();
 }
 
@@ -28,4 +30,5 @@ pub fn one_status()
     executing::one_status_of_exec();
     results::one_status_of_results();
     one_status_of_libraries();
+    tracing::one_status();
 }

@@ -4,8 +4,8 @@ use Rattle.std.proofs.lemmas.List.{take-append-le}
 use Rattle.std.proofs.Math.Seq.{take-append-add}
 use Rattle.cw_io.specs.Bytes.{after_told}
 use Rattle.cw_io.specs.declared.source.Failed.{Failed}
-use Rattle.cw_say.specs.Said.{Writes}
-use Rattle.cw_say.proofs.Said.{after_told-append, writes_then}
+use Rattle.cw_write.specs.Said.{Writes}
+use Rattle.cw_write.proofs.Said.{after_told-append, writes_then}
 use Rattle.cw_trace.specs.Gathering.{Gathered, gathered, KeepsRest, Adds}
 
 pub keeps_none : (held : Option (List ℕ)) (waiting : List ℕ) → KeepsRest held waiting held waiting []

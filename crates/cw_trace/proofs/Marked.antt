@@ -10,7 +10,7 @@ use Rattle.std.proofs.lemmas.Option.{slice_get-get_or, slice_get_within, get_or_
 use Rattle.cw_io.specs.Bytes.{after_told}
 use Rattle.cw_io.specs.declared.source.Failed.{Failed}
 use Rattle.cw_i86.specs.State.{State}
-use Rattle.cw_say.specs.Said.{Writes}
+use Rattle.cw_write.specs.Said.{Writes}
 use Rattle.cw_trace.specs.Marks.{Marks}
 use Rattle.cw_trace.specs.Reports.{report_text, told_at}
 use Rattle.cw_trace.specs.declared.watch.Watch.{Watch}

@@ -11,8 +11,8 @@ use Rattle.cw_cpu86.specs.Answers.{Went, StepAnswers, PortFails}
 use Rattle.cw_cpu86.specs.declared.cpu.Step.TheVariants.{Ran}
 use Rattle.cw_cpu86.specs.declared.cpu.RunEnd.TheVariants as ends
 use Rattle.cw_cpu86.proofs.Told.{follows_more, follows_none}
-use Rattle.cw_say.specs.Said.{Writes}
-use Rattle.cw_say.proofs.Said.{after_told-append}
+use Rattle.cw_write.specs.Said.{Writes}
+use Rattle.cw_write.proofs.Said.{after_told-append}
 use Rattle.cw_trace.specs.Reports.{Reports, told_at}
 use Rattle.cw_trace.specs.Answers.{Tells, WatchAnswers}
 use Rattle.cw_trace.specs.declared.watch.Watch.{Watch}

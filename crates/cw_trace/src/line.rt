@@ -1,10 +1,10 @@
 // A line of text that is gathered before it is written.
 ghost use Rattle.std.specs.Prelude.{◌≡◌, [], ◌+◌, ◌≤◌, ◌++◌, length, OnOk};
-ghost use Rattle.cw_say.specs.Said.{joined, Writes};
+ghost use Rattle.cw_write.specs.Said.{joined, Writes};
 ghost use Rattle.cw_trace.specs.Gathering.{Adds, gathered};
 
 use cw_io::{Failed, Sink};
-use cw_say::write_piece;
+use cw_write::write_piece;
 use std::marker::Model;
 
 const ROOM: usize = 1024;

@@ -1,7 +1,7 @@
 // One line that tells what the watched words hold.
 ghost use Rattle.std.specs.Prelude.{◌≡◌, ◌*◌, ◌<◌, All, flat_map};
 ghost use Rattle.cw_i86.specs.State.{word_at, data_segment};
-ghost use Rattle.cw_say.specs.Said.{Writes};
+ghost use Rattle.cw_write.specs.Said.{Writes};
 ghost use Rattle.cw_trace.specs.Gathering.{Adds, gathered};
 ghost use Rattle.cw_trace.specs.Reports.{word_of, word_text, head_text, report_text};
 

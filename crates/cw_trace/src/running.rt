@@ -1,6 +1,6 @@
 // A run that tells of what is watched.
 ghost use Rattle.std.specs.Prelude.{◌<◌, All};
-ghost use Rattle.cw_say.specs.Said.{Writes};
+ghost use Rattle.cw_write.specs.Said.{Writes};
 ghost use Rattle.cw_trace.specs.Marks.{Marks};
 ghost use Rattle.cw_trace.specs.Reports.{told_at};
 ghost use Rattle.cw_trace.specs.Answers.{WatchAnswers, WatchCounts};

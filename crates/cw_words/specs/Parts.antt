@@ -1,13 +1,15 @@
 -- What the words of the command line mean.
-use Rattle.std.specs.Prelude.{◌≡◌, ℕ, ◌≤◌, ◌==◌, ◌&&◌, not, Bool, List, [], map, length, nat_eq, slice_index, slice_index_or, Option, None, Some, codes, if◌then◌else◌, nat_le, option_and_then}
+use Rattle.std.specs.Prelude.{◌≡◌, ℕ, ◌≤◌, ◌==◌, ◌&&◌, not, Bool, List, [], map, length, nat_eq, slice_index, slice_index_or, Option, None, Some, codes, if◌then◌else◌, nat_le, option_map, option_and_then}
 use Rattle.std.specs.Str.{bytes_eq}
 use Rattle.std.specs.Str.Parse.{digits_value, without_leading_plus}
 use Rattle.clap.specs.Walk.{Row, Text, first_of, all_of}
 use Rattle.clap.specs.ValueTests.{is_unsigned_in}
+use Rattle.cw_stop.specs.Stopping.{stop_in}
+use Rattle.cw_stop.specs.declared.stopping.Stop.{Stop}
 use Rattle.cw_words.specs.Command.{faults_of, rows_in}
 use Rattle.cw_words.specs.declared.request.Command.{Command}
 use Rattle.cw_words.specs.declared.action.Action.{Action}
-use Rattle.cw_words.specs.declared.action.Action.TheVariants.{Go, Compile, Link, Exec, List as Show, Map, Migrate, Big, Hex, Lib, Depth}
+use Rattle.cw_words.specs.declared.action.Action.TheVariants.{Go, Compile, Link, Exec, List as Show, Map, Migrate, Big, Hex, Lib, Depth, Trace}
 
 -- the action of a name
 unfoldable pub action_named : Text → Option Action
@@ -22,7 +24,8 @@ action_named name =
     else (if bytes_eq name (codes "big") then Some Big
     else (if bytes_eq name (codes "hex") then Some Hex
     else (if bytes_eq name (codes "lib") then Some Lib
-    else (if bytes_eq name (codes "depth") then Some Depth else None))))))))))
+    else (if bytes_eq name (codes "depth") then Some Depth
+    else (if bytes_eq name (codes "trace") then Some Trace else None)))))))))))
 
 -- the number of a text, where it has one in the range
 unfoldable pub number_in : ℕ → ℕ → Text → Option ℕ
@@ -44,9 +47,15 @@ unfoldable pub copies_of : Action → List Text → Option ℕ
 copies_of Big names = copies_in (slice_index_or names 0 [])
 copies_of _ names = Some 0
 
+-- what stop `trace` reports at by its first WORD, a stop word; the others report at none
+unfoldable pub stop_of : Action → List Text → Option (Option Stop)
+stop_of Trace names = option_map (λ stop. Some stop) (stop_in (slice_index_or names 0 []))
+stop_of _ names = Some None
+
 -- how many WORDs an action takes, at least and at most
 abbrev pub least_names : Action → ℕ
 least_names Lib = 2
+least_names Trace = 2
 least_names _ = 1
 
 abbrev pub most_names : Action → ℕ
@@ -55,6 +64,7 @@ most_names Link = 200
 most_names Map = 200
 most_names Depth = 200
 most_names Lib = 201
+most_names Trace = 201
 most_names _ = 1
 
 -- what the words mean
@@ -66,6 +76,7 @@ pub record Parts : Type 0 where
   pub steps : ℕ
   pub names : List Text
   pub copies : ℕ
+  pub stop : Option Stop
 
 -- frames aren't over data, and the action takes so many WORDs
 abbrev pub are_fit : Parts → Bool
@@ -77,9 +88,9 @@ fit_parts parts = if are_fit parts then Some parts else None
 -- what the rows that `clap` found mean
 abbrev pub parts_in : List Row → Option Parts
 parts_in rows =
-    option_and_then (λ action. option_and_then (λ area. option_and_then (λ frames. option_and_then (λ depth. option_and_then (λ steps. option_and_then (λ names. option_and_then (λ copies.
-    fit_parts (record { action = action; area = area; frames = frames; depth = depth; steps = steps; names = names; copies = copies }))
-    (copies_of action names))
+    option_and_then (λ action. option_and_then (λ area. option_and_then (λ frames. option_and_then (λ depth. option_and_then (λ steps. option_and_then (λ names. option_and_then (λ copies. option_and_then (λ stop.
+    fit_parts (record { action = action; area = area; frames = frames; depth = depth; steps = steps; names = names; copies = copies; stop = stop }))
+    (stop_of action names)) (copies_of action names))
     (all_of (codes "WORD") rows))
     (number_at 1 1000000000000 (codes "steps") rows)) (number_at 1 4096 (codes "depth") rows))
     (number_at 0 32768 (codes "frames") rows)) (number_at 1 32768 (codes "data") rows)) (action_at rows)
@@ -98,9 +109,10 @@ command_parts command = record {
   steps = command.steps;
   names = map (λ name. name.now) command.names.items;
   copies = command.copies;
+  stop = command.stop;
 }
 
--- the ranges of the numbers of a command, of how many WORDs it has, and of how many texts `big` makes by the first of them
+-- the ranges of the numbers of a command and of how many WORDs it has, and how many texts `big` makes and where `trace` reports by the first of them
 pub record InRange (command : Command) : Type 0 where
   pub area : (1 ≤ command.area) × (command.area ≤ 32768)
   pub frames : command.frames ≤ command.area
@@ -109,3 +121,4 @@ pub record InRange (command : Command) : Type 0 where
   pub names : (least_names command.action ≤ length command.names.items) × (length command.names.items ≤ most_names command.action)
   pub copies : copies_of command.action (map (λ name. name.now) command.names.items) ≡ Some command.copies
   pub made : command.action ≡ Big → (1 ≤ command.copies) × (command.copies ≤ 100)
+  pub stop : stop_of command.action (map (λ name. name.now) command.names.items) ≡ Some command.stop

@@ -16,6 +16,7 @@ pub enum Action {
     Hex,
     Lib,
     Depth,
+    Trace,
 }
 
 // The action of a name.
@@ -35,6 +36,7 @@ pub(crate) fn action_of(name: &str) -> Option<Action>
         "hex" => Some(Action::Hex),
         "lib" => Some(Action::Lib),
         "depth" => Some(Action::Depth),
+        "trace" => Some(Action::Trace),
         _ => None,
     }
 }
@@ -44,7 +46,7 @@ pub(crate) fn least_names_of(action: Action) -> usize
     ensures { result ≡ least_names action }
 {
     match action {
-        Action::Lib => 2,
+        Action::Lib | Action::Trace => 2,
         _ => 1,
     }
 }
@@ -55,7 +57,7 @@ pub(crate) fn most_names_of(action: Action) -> usize
 {
     match action {
         Action::Go | Action::Link | Action::Map | Action::Depth => 200,
-        Action::Lib => 201,
+        Action::Lib | Action::Trace => 201,
         _ => 1,
     }
 }

@@ -1,11 +1,13 @@
 // The command that the words ask for.
 ghost use Rattle.std.specs.Prelude.{◌≡◌, IfOk, IfSome, ◌≤◌, IsErrOf, Some, None, map, codes, option_map, string_bytes};
 ghost use Rattle.clap.specs.Words.{rows_of, found_of, all_of};
-ghost use Rattle.cw_words.specs.Parts.{InRange, copies_in, copies_of, number_in, number_at, action_at, parts_in, parts_of, command_parts};
+ghost use Rattle.cw_stop.specs.Stopping.{stop_in};
+ghost use Rattle.cw_words.specs.Parts.{InRange, copies_in, copies_of, stop_of, number_in, number_at, action_at, parts_in, parts_of, command_parts};
 
 use crate::action::{Action, action_of, least_names_of, most_names_of};
 use crate::simple::{WordsFault, matches_of};
 use clap::ArgMatches;
+use cw_stop::{Stop, StopFault, read_stop};
 use std::alloc::Global;
 
 /// What the words of the command line ask for.
@@ -24,6 +26,8 @@ pub struct Command<'a> {
     pub names: Vec<&'a str>,
     /// How many texts `big` makes, and 0 for the other actions.
     pub copies: u8,
+    /// Where `trace` reports, and none for the other actions.
+    pub stop: Option<Stop>,
 }
 
 // The number of a text, where it has one in the range.
@@ -96,6 +100,33 @@ fn copies_for(action: Action, names: &[&str]) -> Option<u64>
     }
 }
 
+// Where `trace` reports by its first WORD.
+fn stop_by(alloc: Global, text: &str) -> Result<Option<Stop>, WordsFault>
+    ensures ok { IfOk result (λ stop. option_map Some (stop_in text.now) ≡ Some stop) }
+    ensures usage { IsErrOf result WordsFault.Usage → option_map Some (stop_in text.now) ≡ None }
+{
+    match read_stop(alloc, text) {
+        Ok(stop) => Ok(Some(stop)),
+        Err(StopFault::NotAStop) => Err(WordsFault::Usage),
+        Err(StopFault::NoMemory) => Err(WordsFault::NoMemory),
+    }
+}
+
+// The same for an action and its WORDs.
+#[tactic(auto, unfolding(crate::specs::Parts::stop_of))]
+fn stop_for(alloc: Global, action: Action, names: &[&str]) -> Result<Option<Stop>, WordsFault>
+    ensures ok { IfOk result (λ stop. stop_of action (map (λ name. name.now) names.now) ≡ Some stop) }
+    ensures usage { IsErrOf result WordsFault.Usage → stop_of action (map (λ name. name.now) names.now) ≡ None }
+{
+    match action {
+        Action::Trace => match names.first() {
+            Some(name) => stop_by(alloc, name),
+            None => stop_by(alloc, ""),
+        },
+        _ => Ok(None),
+    }
+}
+
 // What the matches mean.
 fn read<'a>(alloc: Global, matches: &ArgMatches<'a>) -> Result<Command<'a>, WordsFault>
     ensures ok { IfOk result (λ command. parts_in (rows_of (found_of matches.now)) ≡ Some (command_parts command)) }
@@ -123,6 +154,7 @@ fn read<'a>(alloc: Global, matches: &ArgMatches<'a>) -> Result<Command<'a>, Word
     let Some(copies) = copies_for(action, names) else {
         return Err(WordsFault::Usage);
     };
+    let stop = stop_for(alloc, action, names)?;
     if frames > area {
         return Err(WordsFault::Usage);
     }
@@ -141,6 +173,7 @@ fn read<'a>(alloc: Global, matches: &ArgMatches<'a>) -> Result<Command<'a>, Word
             steps,
             names,
             copies: copies as u8,
+            stop,
         }),
         Err(_) => Err(WordsFault::NoMemory),
     }

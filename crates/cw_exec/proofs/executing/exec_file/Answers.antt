@@ -1,4 +1,4 @@
-use Rattle.cw_say.proofs.Said.{says}
+use Rattle.cw_write.proofs.Said.{says}
 use Rattle.cw_exec.proofs.Called.{ran, unread}
 use Rattle.cw_exec.proofs.executing.exec_file.Goals as goal
 

@@ -1,4 +1,4 @@
-use Rattle.cw_say.proofs.Said.{says}
+use Rattle.cw_write.proofs.Said.{says}
 use Rattle.cw_go.proofs.closing.close.Goals as goal
 
 pub returns-clause-line : goal.returns-clause-line

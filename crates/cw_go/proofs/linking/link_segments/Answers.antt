@@ -1,4 +1,4 @@
-use Rattle.std.proofs.Common.{refl, ◌∙◌}
+use Rattle.std.proofs.Common.{◌∙◌}
 use Rattle.cw_go.proofs.Unlinked.{unlinked}
 use Rattle.cw_go.proofs.linking.link_segments.Goals as goal
 

@@ -1,4 +1,4 @@
-use Rattle.std.proofs.Common.{arith, ap, length, subst, sym, ◌∙◌, inl, refl}
+use Rattle.std.proofs.Common.{arith, ap, length, ◌∙◌}
 use Rattle.cw_image.specs.declared.image.Image.{Image}
 use Rattle.cw_go.proofs.Library.{some_code, few_words}
 use Rattle.cw_go.proofs.Called.{map_is, runs_as}

@@ -1,4 +1,4 @@
-use Rattle.cw_say.proofs.Said.{says}
+use Rattle.cw_write.proofs.Said.{says}
 use Rattle.cw_results.proofs.closing.close.Goals as goal
 
 pub returns : goal.returns

@@ -1,8 +1,8 @@
 use Rattle.std.proofs.Common.{◌≡◌, List, ℕ, [], ◌++◌, Err, ap, subst, ◌∙◌, append_assoc, append-nil}
 use Rattle.std.specs.Prelude.{decimal, codes}
-use Rattle.cw_say.specs.Said.{Writes}
+use Rattle.cw_write.specs.Said.{Writes}
 use Rattle.cw_say.specs.Closing.{object_line}
-use Rattle.cw_say.proofs.Said.{writes_then, writes_cut}
+use Rattle.cw_write.proofs.Said.{writes_then, writes_cut}
 use Rattle.cw_say.proofs.bad.write_member_fault.Goals as goal
 
 three : (a b c rest : List ℕ) → (a ++ (b ++ (c ++ []))) ++ rest ≡ a ++ (b ++ (c ++ rest))

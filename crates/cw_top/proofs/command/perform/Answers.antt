@@ -1,7 +1,8 @@
-use Rattle.std.proofs.Common.{◌≡◌, ℕ, List, map, Some, Bor, subst}
-use Rattle.cw_words.specs.Parts.{command_parts, copies_of}
-use Rattle.cw_words.specs.declared.action.Action.TheVariants.{Big}
-use Rattle.cw_top.proofs.Asked.{asked, copies_told, asked_map, asked_depth, asked_list, asked_compile, asked_lib, asked_link, asked_migrate, asked_hex}
+use Rattle.std.proofs.Common.{◌≡◌, ℕ, List, [], map, slice_index_or, Some, Bor, sym, subst}
+use Rattle.cw_stop.specs.Stopping.{stop_in}
+use Rattle.cw_words.specs.Parts.{command_parts, copies_of, stop_of}
+use Rattle.cw_words.specs.declared.action.Action.TheVariants.{Big, Trace}
+use Rattle.cw_top.proofs.Asked.{asked, copies_told, stop_told, no_stop, asked_map, asked_depth, asked_list, asked_compile, asked_lib, asked_link, asked_migrate, asked_hex}
 use Rattle.cw_top.proofs.command.perform.Goals as goal
 
 pub returns-in-Compile : goal.returns-in-Compile
@@ -34,3 +35,19 @@ returns-in-Big g c =
     asked Big (command_parts c.args.command.now) _ _ _ c.in-Big.is
     (c.big.ensures names (g.F.Store.file c.args.files.now) (g.F.Store.faults c.args.files.now) (g.F.Store.absences c.args.files.now)
     (copies_told names c.args.command.now.copies (subst (λ action. copies_of action names ≡ Some c.args.command.now.copies) c.in-Big.is c.requires.copies)))
+
+pub trace-requires-clause-stop : goal.trace-requires-clause-stop
+trace-requires-clause-stop g c =
+    let names = map (λ (name : Bor (List ℕ)). name.now) c.args.command.now.names.items in
+    let asks : stop_of Trace names ≡ Some c.args.command.now.stop = subst (λ action. stop_of action names ≡ Some c.args.command.now.stop) c.in-Trace.is c.requires.stop in
+    let P : List (Bor (List ℕ)) → Type 0 = λ items. stop_in (slice_index_or (map (λ (name : Bor (List ℕ)). name.now) items) 0 []) ≡ Some c.in-Some.stop in
+    subst P (sym c.as_slice-names.ensures.value) (stop_told names c.in-Some.stop (subst (λ o. stop_of Trace names ≡ Some o) c.in-Some.is asks))
+
+pub returns-in-Some : goal.returns-in-Some
+returns-in-Some g c = asked Trace (command_parts c.args.command.now) _ _ _ c.in-Trace.is (rw c.as_slice-names.ensures.value at c.trace.ensures)
+
+pub unreachable-requires : goal.unreachable-requires
+unreachable-requires g c =
+    let names = map (λ (name : Bor (List ℕ)). name.now) c.args.command.now.names.items in
+    let asks : stop_of Trace names ≡ Some c.args.command.now.stop = subst (λ action. stop_of action names ≡ Some c.args.command.now.stop) c.in-Trace.is c.requires.stop in
+    no_stop names (subst (λ o. stop_of Trace names ≡ Some o) c.in-None.is asks)

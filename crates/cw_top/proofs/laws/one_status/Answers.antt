@@ -15,4 +15,5 @@ returns c =
       link = c.one_status_of_libraries.ensures.link;
       migrate = c.one_status_of_results.ensures.migrate;
       hex = c.one_status_of_results.ensures.hex;
+      trace = c.one_status.ensures;
     })

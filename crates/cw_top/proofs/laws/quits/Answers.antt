@@ -15,5 +15,6 @@ returns c =
       link = c.idle_of_libraries.ensures.link;
       migrate = c.idle-3.ensures.migrate;
       hex = c.idle-3.ensures.hex;
+      trace = c.idle-4.ensures;
     })
-    c.copies_told.ensures
+    c.copies_told.ensures.copies c.copies_told.ensures.stop

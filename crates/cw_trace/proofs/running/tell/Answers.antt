@@ -1,5 +1,5 @@
 use Rattle.std.proofs.Common.{◌≡◌, ◌<◌, [], arith, ◌∙◌, subst}
-use Rattle.cw_say.specs.Said.{Writes}
+use Rattle.cw_write.specs.Said.{Writes}
 use Rattle.cw_io.specs.declared.source.Failed.{Failed}
 use Rattle.cw_trace.specs.Reports.{told_at}
 use Rattle.cw_trace.proofs.Marked.{tells_there, tells_nothing, tells_not_elsewhere, writes_nothing}

@@ -1,5 +1,5 @@
 use Rattle.std.proofs.Common.{◌≡◌, take}
-use Rattle.cw_say.specs.Said.{joined}
+use Rattle.cw_write.specs.Said.{joined}
 use Rattle.cw_trace.specs.Gathering.{KeepsRest}
 use Rattle.cw_trace.proofs.line.Line.add_all.Given as goal
 

@@ -1,0 +1,3 @@
+pub mod Twice
+pub mod Said
+pub mod Linked

@@ -1,0 +1,5 @@
+mod Starting
+mod Silent
+mod Expressions
+mod Statements
+mod Units

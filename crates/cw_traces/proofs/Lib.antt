@@ -1,0 +1,4 @@
+mod Called
+mod Closed
+pub mod Kept
+mod OneStatus
