@@ -21,7 +21,7 @@ use Rattle.cw_scope.specs.Text.{first_name_fault, resolutions_of, declarations_o
 use Rattle.cw_type.specs.declared.check.TypeFault.{TypeFault}
 use Rattle.cw_type.specs.declared.check.TypeFault.TheVariants as typing
 use Rattle.cw_type.specs.Outcome.{Judges, MatchesFault as MatchesTypeFault}
-use Rattle.cw_judge.specs.Judged.{first_type_fault}
+use Rattle.cw_type.specs.judge.Judged.{first_type_fault}
 use Rattle.cw_unit.specs.declared.unit.Unit.{Unit as SourceUnit}
 use Rattle.cw_make.specs.Made.{unit_of}
 use Rattle.cw_compile.specs.declared.fault.Refusal.{Refusal}

@@ -12,7 +12,7 @@ use Rattle.cw_scope.specs.Text.{first_name_fault}
 use Rattle.cw_scale.specs.declared.fault.Fault.{Fault as TypeRuleFault}
 use Rattle.cw_scale.specs.declared.fault.Rule.{Rule as TypeRule}
 use Rattle.cw_scale.specs.declared.fault.Rule.TheVariants as type_rule
-use Rattle.cw_judge.specs.Judged.{first_type_fault}
+use Rattle.cw_type.specs.judge.Judged.{first_type_fault}
 use Rattle.cw_type.specs.declared.check.TypeFault.{TypeFault}
 use Rattle.cw_type.specs.declared.check.TypeFault.TheVariants as typing
 use Rattle.cw_type.specs.Outcome.{TellsFault, MatchesFault as MatchesTypeFault}

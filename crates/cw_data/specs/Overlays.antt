@@ -11,7 +11,7 @@ use Rattle.cw_tree.specs.declared.items.RawBounds.{RawBounds}
 use Rattle.cw_facts.specs.declared.fact.Kind.{Kind}
 use Rattle.cw_facts.specs.declared.fact.Kind.TheVariants as kind
 use Rattle.cw_facts.specs.Facts.{base_name}
-use Rattle.cw_scope.specs.declared.resolve.Named.{Named}
+use Rattle.cw_scale.specs.scope.declared.resolve.Named.{Named}
 use Rattle.cw_table.specs.Rows.{item_at}
 use Rattle.cw_scale.specs.declared.fault.Rule.TheVariants as rule
 use Rattle.cw_scale.specs.Faults.{Judgement, fine, unless, both}

@@ -18,7 +18,7 @@ use Rattle.cw_scale.specs.Faults.{Judgement, fine, wrong, unless, both}
 use Rattle.cw_scale.specs.Types.{int_judged, type_judged, answer_judged}
 use Rattle.cw_amount.specs.Amounts.{place_amount}
 use Rattle.cw_facts.specs.declared.fact.Signature.{Signature}
-use Rattle.cw_scope.specs.declared.resolve.Named.{Named}
+use Rattle.cw_scale.specs.scope.declared.resolve.Named.{Named}
 use Rattle.cw_table.specs.Rows.{item_at}
 use Rattle.cw_data.specs.Data.{range_judged, second_judged, good_bounds, size_judged, table_judged, data_judged}
 

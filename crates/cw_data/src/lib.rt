@@ -5,3 +5,6 @@ pub mod data;
 pub mod overlays;
 pub mod presets;
 pub mod specifications;
+
+pub use cw_scale::fault::{Fault, Rule, keep_unless};
+pub use cw_scale::kinds::kind_of;

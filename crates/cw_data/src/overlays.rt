@@ -9,10 +9,10 @@ ghost use Rattle.cw_data.specs.Overlays.{indexes_judged, not_above, within_range
 use crate::presets::table_words;
 use cw_amount::amount::{place_amount, place_sint};
 use cw_facts::fact::Kind;
+use cw_scale::Named;
 use cw_scale::fault::{Fault, Rule, keep_unless};
 use cw_scale::kinds::kind_of;
 use cw_scale::types::judge_int;
-use cw_scope::resolve::Named;
 use cw_tree::items::{RawBase, RawRange};
 use cw_tree::leaf::{RawName, RawSint, RawSize};
 

@@ -5,9 +5,9 @@ ghost use Rattle.cw_data.specs.Specifications.{plain_judged, plains_judged, proc
 
 use crate::data::{good_bounds, judge_range, judge_second, judge_size, judge_table};
 use cw_amount::amount::place_amount;
+use cw_scale::Named;
 use cw_scale::fault::{Fault, Rule, keep_unless};
 use cw_scale::types::{judge_answer, judge_int, judge_type};
-use cw_scope::resolve::Named;
 use cw_tree::items::RawBounds;
 use cw_tree::leaf::{RawInt, RawName, RawType};
 use cw_tree::segment::{RawAitem, RawIps, RawPs, RawSpec};

@@ -7,8 +7,8 @@ use Rattle.std.specs.Map.{lookup}
 use Rattle.indexmap.specs.IndexMap.{insert_entry}
 use Rattle.cw_table.specs.declared.table.Row.{Row}
 use Rattle.cw_table.specs.Rows.{item_at}
-use Rattle.cw_scale.specs.declared.fault.Rule.TheVariants as rule
-use Rattle.cw_scale.specs.Faults.{Judgement, fine, unless, both}
+use Rattle.cw_data.specs.scale.declared.fault.Rule.TheVariants as rule
+use Rattle.cw_data.specs.scale.Faults.{Judgement, fine, unless, both}
 use Rattle.cw_items.specs.declared.thing.Owner.{Owner}
 use Rattle.cw_items.specs.declared.thing.Base.{Base}
 use Rattle.cw_items.specs.declared.thing.Sort.{Sort}

@@ -43,7 +43,7 @@ use Rattle.cw_facts.specs.Uses.{expression_uses, condition_uses, reference_uses,
 use Rattle.cw_scope.specs.declared.resolve.Named.{Named}
 use Rattle.cw_table.specs.Rows.{item_at}
 use Rattle.cw_amount.specs.Amounts.{place_amount, place_sint}
-use Rattle.cw_scale.specs.Kinds.{kind_of}
+use Rattle.cw_data.specs.scale.Kinds.{kind_of}
 use Rattle.cw_data.specs.Data.{range_span}
 use Rattle.cw_data.specs.Presets.{array_words, table_words}
 use Rattle.cw_data.specs.Overlays.{can_be_laid_on}

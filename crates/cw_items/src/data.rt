@@ -6,10 +6,10 @@ ghost use Rattle.cw_items.specs.Things.{capped, thing, steps_to, array_word, tab
 use crate::thing::{Base, Owner, Sort, Thing, capped};
 use cw_amount::amount::place_amount;
 use cw_data::data::range_span;
+use cw_data::kind_of;
 use cw_data::overlays::{can_be_laid_on, name_of};
 use cw_data::presets::{array_words, table_words};
 use cw_facts::fact::Kind;
-use cw_scale::kinds::kind_of;
 use cw_scope::resolve::Named;
 use cw_tree::items::{RawBase, RawData, RawGroup, RawRange, RawTable};
 use cw_tree::leaf::{Position, RawName, RawSint};

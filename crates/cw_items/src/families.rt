@@ -5,7 +5,7 @@ ghost use Rattle.cw_items.specs.Families.{count_in, frame_of_owner, frame_of, ow
 
 use crate::counts::Counts;
 use crate::thing::{Base, Owner, Sort, Thing, capped, is_fixed};
-use cw_scale::fault::{Fault, Rule, keep_unless};
+use cw_data::{Fault, Rule, keep_unless};
 use cw_table::table::Table;
 use cw_word::NoMemory;
 use std::alloc::Global;

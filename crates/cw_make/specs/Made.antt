@@ -8,7 +8,7 @@ use Rattle.cw_facts.specs.declared.fact.Declaration.{Declaration}
 use Rattle.cw_facts.specs.declared.fact.Kind.{Kind}
 use Rattle.cw_facts.specs.declared.fact.Kind.TheVariants as kind
 use Rattle.cw_scope.specs.declared.resolve.Named.{Named}
-use Rattle.cw_items.specs.Things.{text_things}
+use Rattle.cw_number.specs.things.Things.{text_things}
 use Rattle.cw_number.specs.Listed.{listed_of}
 use Rattle.cw_number.specs.Numbers.{numbers_of}
 use Rattle.cw_make_items.specs.Lookup.{Numbers}

@@ -5,7 +5,7 @@ use Rattle.cw_tree.specs.declared.leaf.RawName.{RawName}
 use Rattle.cw_tree.specs.declared.segment.Raw.{Raw}
 use Rattle.cw_tree.specs.declared.statement.RawParam.{RawParam}
 use Rattle.cw_tree.specs.declared.statement.RawParam.TheVariants as raw
-use Rattle.cw_items.specs.Things.{is_recursive}
+use Rattle.cw_number.specs.things.Things.{is_recursive}
 use Rattle.cw_scope.specs.declared.resolve.Named.{Named}
 use Rattle.cw_number.specs.Numbers.{next_byte}
 use Rattle.cw_make_items.specs.Types.{scale_of, answer_of, width_of, plain_spec}

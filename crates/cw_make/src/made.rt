@@ -1,6 +1,6 @@
 //! The unit of a named text.
 ghost use Rattle.std.specs.Prelude.{◌≡◌, IfOk};
-ghost use Rattle.cw_items.specs.Things.{text_things};
+ghost use Rattle.cw_number.specs.things.Things.{text_things};
 ghost use Rattle.cw_number.specs.Listed.{listed_of};
 ghost use Rattle.cw_make_items.specs.Descriptors.{descs_of};
 ghost use Rattle.cw_make_items.specs.Items.{addresses_of, items_of};
@@ -12,13 +12,13 @@ use crate::labels::labels_of;
 use crate::procedures::procs_of;
 use crate::switches::switches_of;
 use cw_facts::fact::{Declaration, Kind};
-use cw_items::text::text_things;
 use cw_make_items::descriptors::descs_of;
 use cw_make_items::items::{addresses_of, items_of};
 use cw_make_stmt::statements::make_block;
 use cw_number::listed::listed_of;
 use cw_number::numbered::Numbered;
 use cw_number::numbers::numbers_of;
+use cw_number::text_things;
 use cw_preset::held::held_of;
 use cw_scope::resolve::Named;
 use cw_table::table::{Row, Table};

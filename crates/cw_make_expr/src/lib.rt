@@ -6,3 +6,5 @@ mod handed;
 mod making;
 mod nodes;
 pub mod parts;
+
+pub use cw_number::numbered::Numbered;

@@ -20,9 +20,9 @@ use Rattle.cw_tree.specs.declared.segment.RawCitem.TheVariants as citem
 use Rattle.cw_tree.specs.declared.segment.RawSpec.{RawSpec}
 use Rattle.cw_amount.specs.Amounts.{place_amount}
 use Rattle.cw_scale.specs.Kinds.{element_fraction, fraction_of_sint}
-use Rattle.cw_items.specs.declared.thing.Base.{Base}
-use Rattle.cw_items.specs.declared.thing.Thing.{Thing}
-use Rattle.cw_items.specs.Things.{amount_or_none}
+use Rattle.cw_number.specs.things.declared.thing.Base.{Base}
+use Rattle.cw_number.specs.things.declared.thing.Thing.{Thing}
+use Rattle.cw_number.specs.things.Things.{amount_or_none}
 use Rattle.cw_number.specs.declared.listed.Listing.{Listing}
 use Rattle.cw_number.specs.declared.numbered.Numbered.{Numbered}
 use Rattle.cw_number.specs.Listed.{is_built_in}

@@ -15,12 +15,12 @@ use Rattle.cw_amount.specs.Amounts.{place_amount}
 use Rattle.cw_facts.specs.declared.fact.Declaration.{Declaration}
 use Rattle.cw_facts.specs.declared.fact.Kind.{Kind}
 use Rattle.cw_facts.specs.declared.fact.Kind.TheVariants as declared
-use Rattle.cw_items.specs.declared.thing.Base.{Base}
-use Rattle.cw_items.specs.declared.thing.Owner.{Owner}
-use Rattle.cw_items.specs.declared.thing.Sort.{Sort}
-use Rattle.cw_items.specs.declared.thing.Sort.TheVariants as sort
-use Rattle.cw_items.specs.declared.thing.Thing.{Thing}
-use Rattle.cw_items.specs.Families.{frame_of}
+use Rattle.cw_number.specs.things.declared.thing.Base.{Base}
+use Rattle.cw_number.specs.things.declared.thing.Owner.{Owner}
+use Rattle.cw_number.specs.things.declared.thing.Sort.{Sort}
+use Rattle.cw_number.specs.things.declared.thing.Sort.TheVariants as sort
+use Rattle.cw_number.specs.things.declared.thing.Thing.{Thing}
+use Rattle.cw_number.specs.things.Families.{frame_of}
 use Rattle.cw_number.specs.declared.listed.Listing.{Listing}
 use Rattle.cw_number.specs.declared.numbered.Numbered.{Numbered}
 use Rattle.cw_unit.specs.declared.unit.Item.{Item}

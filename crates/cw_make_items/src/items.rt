@@ -1,7 +1,7 @@
 //! The items of a unit.
 ghost use Rattle.std.specs.Prelude.{◌≡◌, ◌++◌, ◌∷◌, [], IfOk, is_some};
 ghost use Rattle.cw_table.specs.Rows.{item_at, place_at};
-ghost use Rattle.cw_items.specs.Families.{frame_of};
+ghost use Rattle.cw_number.specs.things.Families.{frame_of};
 ghost use Rattle.cw_make_items.specs.Items.{address_row, aitem_address, aitems_addresses, communicator_addresses, addresses_of, kind_in, declared_kind, item_kind, whole_scale, declared_scale, item_scale, declared_name, item_name, item_line, proc_of_owner, home_in, home_on, home_at, home_listed, held_or_none, item_of, items_of};
 
 use crate::descriptors::short;
@@ -9,9 +9,9 @@ use crate::lookup::{item_here, line_of, proc_here};
 use crate::types::{scale_of, short_within};
 use cw_amount::amount::place_amount;
 use cw_facts::fact::{Declaration, Kind};
-use cw_items::thing::{Base, Owner, Sort, Thing};
 use cw_number::listed::Listing;
 use cw_number::numbered::Numbered;
+use cw_number::{Base, Owner, Sort, Thing};
 use cw_table::table::Table;
 use cw_tree::leaf::Position;
 use cw_tree::segment::{RawAitem, RawComm};

@@ -20,8 +20,8 @@ use Rattle.cw_tree.specs.declared.statement.RawStmt.{RawStmt, fold-RawStmt}
 use Rattle.cw_scope.specs.declared.resolve.Named.{Named}
 use Rattle.cw_table.specs.Rows.{item_at}
 use Rattle.cw_amount.specs.Amounts.{place_amount}
-use Rattle.cw_number.specs.declared.numbered.Numbered.{Numbered}
-use Rattle.cw_number.specs.declared.numbered.Numbered.TheVariants as numbered
+use Rattle.cw_make_expr.specs.number.declared.numbered.Numbered.{Numbered}
+use Rattle.cw_make_expr.specs.number.declared.numbered.Numbered.TheVariants as numbered
 use Rattle.cw_unit.specs.declared.unit.Cond.{Cond}
 use Rattle.cw_unit.specs.declared.unit.Ref.{Ref}
 use Rattle.cw_unit.specs.declared.unit.Expr.{Expr}

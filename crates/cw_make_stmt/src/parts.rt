@@ -5,9 +5,9 @@ ghost use Rattle.cw_make_expr.specs.Parts.{label_in};
 ghost use Rattle.cw_make_stmt.specs.Made.{line_of, ref_position, goal_of, switch_of, labels_of, mark, marked, row, conditional, repetition, felem_of, put, put_bits, assignment_of, bits_assignment_of, assignment, bits_assignment, jump, switch_jump, answer, call_statement};
 
 use cw_amount::amount::place_amount;
+use cw_make_expr::Numbered;
 use cw_make_expr::calls::{call_of, condition_of, expression_of, reference_of};
 use cw_make_expr::parts::{number_of, small};
-use cw_number::numbered::Numbered;
 use cw_scope::resolve::Named;
 use cw_table::table::Table;
 use cw_tree::expression::{RawBits, RawCond, RawExpr, RawRef};

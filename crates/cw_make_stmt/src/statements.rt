@@ -6,8 +6,8 @@ use crate::parts::{
     answer, assignment, bits_assignment, boxed_condition, boxed_reference, call_statement,
     conditional, felems_of, jump, line_of, marked, repetition, row, switch_jump,
 };
+use cw_make_expr::Numbered;
 use cw_make_expr::parts::item_here;
-use cw_number::numbered::Numbered;
 use cw_scope::resolve::Named;
 use cw_table::table::Table;
 use cw_tree::statement::{RawBlock, RawForm, RawSimple, RawStmt};

@@ -18,10 +18,10 @@ use Rattle.cw_tree.specs.declared.items.RawTable.{RawTable}
 use Rattle.cw_tree.specs.declared.items.RawData.{RawData}
 use Rattle.cw_tree.specs.declared.items.RawData.TheVariants as items
 use Rattle.cw_amount.specs.Amounts.{octal_word, is_negative, place_amount}
-use Rattle.cw_scale.specs.Kinds.{fraction_of, element_fraction}
+use Rattle.cw_make_items.specs.scale.Kinds.{fraction_of, element_fraction}
 use Rattle.cw_data.specs.Presets.{behind_each, table_entries}
-use Rattle.cw_items.specs.Things.{amount_or_none, group_words, words_of_table}
-use Rattle.cw_number.specs.Numbers.{next_short}
+use Rattle.cw_make_items.specs.things.Things.{amount_or_none, group_words, words_of_table}
+use Rattle.cw_make_items.specs.number.Numbers.{next_short}
 use Rattle.cw_make_items.specs.Types.{within, width_of}
 use Rattle.cw_preset.specs.Strings.{Words, Rows}
 

@@ -16,7 +16,7 @@ use Rattle.cw_tree.specs.declared.expression.RawPrim.{RawPrim, fold-RawPrim}
 use Rattle.cw_tree.specs.declared.expression.RawSum.{RawSum, fold-RawSum}
 use Rattle.cw_tree.specs.declared.expression.RawTerm.{RawTerm, fold-RawTerm}
 use Rattle.cw_tree.specs.declared.expression.RawUnion.{RawUnion, fold-RawUnion}
-use Rattle.cw_number.specs.Numbers.{next_short}
+use Rattle.cw_make_items.specs.number.Numbers.{next_short}
 
 -- words that are held at the start, each with its offset
 abbrev pub Words : Type 0

@@ -8,3 +8,5 @@ pub mod kinds;
 pub mod laws;
 pub mod scales;
 pub mod types;
+
+pub use cw_scope::resolve::Named;

@@ -1,1 +1,2 @@
 pub mod Outcome
+pub use Rattle.cw_judge.specs as judge
