@@ -10,8 +10,8 @@ use cw_big::laws::short_texts;
 use cw_big_units::laws::large_units;
 use cw_compile::laws::one_outcome;
 use cw_files::{Segment, Segments};
+use cw_go::compile_text;
 use cw_say::Status;
-use cw_texts::compile_text;
 use cw_word::NoMemory;
 use std::alloc::Global;
 

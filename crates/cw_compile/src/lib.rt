@@ -6,5 +6,6 @@ pub mod laws;
 mod making;
 mod tree;
 
+pub use cw_type::check::TypeFault;
 pub use fault::{Refusal, UnitFault};
 pub use making::{canonical, unit};

@@ -5,9 +5,9 @@ use Rattle.cw_io.specs.File.{AllStay}
 use Rattle.cw_i86.specs.MachineRun as run
 use Rattle.cw_ports.specs.Pieces.{input_limit}
 use Rattle.cw_ports.specs.Running.{Taken, TakenWithin}
-use Rattle.cw_files.specs.declared.images.Runnable.{Runnable}
-use Rattle.cw_files.specs.Texts.{HasRunnable, object_limit}
-use Rattle.cw_files.specs.Reading.{HaveBytes, HaveValues, AllTaken, StopsRunnables}
+use Rattle.cw_link_files.specs.files.declared.images.Runnable.{Runnable}
+use Rattle.cw_link_files.specs.files.Texts.{HasRunnable, object_limit}
+use Rattle.cw_link_files.specs.files.Reading.{HaveBytes, HaveValues, AllTaken, StopsRunnables}
 use Rattle.cw_correct.specs.Calls.{Call, told_files, NoFault}
 use Rattle.cw_correct.specs.Files.{counts_before, counts_after, AllAccepted}
 use Rattle.cw_correct.specs.Saying.{SaysLast}

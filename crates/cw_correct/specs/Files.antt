@@ -1,6 +1,6 @@
 -- When a call stops at one of its files.
 use Rattle.std.specs.Prelude.{◌≡◌, List, length}
-use Rattle.cw_files.specs.Reading.{Counts, counts_at}
+use Rattle.cw_link_files.specs.files.Reading.{Counts, counts_at}
 use Rattle.cw_correct.specs.Calls.{Call}
 
 -- the counts of the store before and after a call

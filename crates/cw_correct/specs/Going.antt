@@ -13,12 +13,12 @@ use Rattle.cw_unit.specs.Program.{program_of}
 use Rattle.cw_unit.specs.Configuration.{FramesApart, activations_of}
 use Rattle.cw_unit.specs.Behaviour.{configuration_after}
 use Rattle.cw_lex.specs.Lexical.{Lexeme}
-use Rattle.cw_compile.specs.Texts.{text_limit, ExpandsTo}
+use Rattle.cw_say.specs.compile.Texts.{text_limit, ExpandsTo}
 use Rattle.cw_link.specs.declared.fault.LinkFault.{LinkFault}
 use Rattle.cw_link.specs.declared.fault.LinkFault.TheVariants.{CodeTooBig}
 use Rattle.cw_build.specs.Linking.{Links, IsLinkFault, image_of, map_text}
-use Rattle.cw_files.specs.Texts.{HasUnit}
-use Rattle.cw_files.specs.Reading.{HaveBytes, HaveValues, StopsTexts}
+use Rattle.cw_link_files.specs.files.Texts.{HasUnit}
+use Rattle.cw_link_files.specs.files.Reading.{HaveBytes, HaveValues, StopsTexts}
 use Rattle.cw_correct.specs.Calls.{Call, told_files}
 use Rattle.cw_correct.specs.Files.{counts_before, counts_after, AllAccepted}
 use Rattle.cw_correct.specs.Saying.{SaysFirst}

@@ -10,10 +10,10 @@ use Rattle.cw_track.specs.Tracking.{step_ratio}
 use Rattle.cw_sim.specs.Preservation.{Preserves}
 use Rattle.cw_cpu86.specs.Ports.{AreBytes}
 use Rattle.cw_ports.specs.Pieces.{input_limit}
-use Rattle.cw_compile.specs.Texts.{text_limit}
+use Rattle.cw_say.specs.compile.Texts.{text_limit}
 use Rattle.cw_build.specs.Linking.{Links}
-use Rattle.cw_files.specs.Texts.{HasUnit}
-use Rattle.cw_files.specs.Reading.{AllTaken}
+use Rattle.cw_link_files.specs.files.Texts.{HasUnit}
+use Rattle.cw_link_files.specs.files.Reading.{AllTaken}
 use Rattle.cw_correct.specs.Calls.{Call, told_files, NoFault}
 use Rattle.cw_say.specs.declared.status.Status.{Status}
 use Rattle.cw_say.specs.declared.status.Status.TheVariants.{Ended, Stopped, Unfinished, Outside, NoMemory, TooLong, BadCode, Divided}

@@ -5,7 +5,7 @@ use Rattle.cw_io.specs.Count.{Rose}
 use Rattle.cw_io.specs.File.{as_file, KeptOrWhole, OthersStay, AllStay}
 use Rattle.cw_unit.specs.declared.unit.Unit.{Unit as SourceUnit}
 use Rattle.cw_unit.specs.declared.layout.Limits.{Limits}
-use Rattle.cw_compile.specs.Texts.{text_limit, IsCanonicalOf}
+use Rattle.cw_say.specs.compile.Texts.{text_limit, IsCanonicalOf}
 use Rattle.cw_link.specs.Contents.{Contents}
 use Rattle.cw_link.specs.LinkedImage.{linked_image}
 use Rattle.cw_image.specs.ImageFormat.{image_bytes}
@@ -15,11 +15,11 @@ use Rattle.cw_object.specs.ObjectContents.{contents_in}
 use Rattle.cw_obj.specs.Migration.{IsMigrated}
 use Rattle.cw_build.specs.Compiled.{object_of}
 use Rattle.cw_build.specs.Linking.{AreLinked, IsFault, Links, IsLinkFault, map_text}
-use Rattle.cw_files.specs.Texts.{HasUnit, HasObject, HasImage, object_limit}
+use Rattle.cw_link_files.specs.files.Texts.{HasUnit, HasObject, HasImage, object_limit}
 use Rattle.cw_lib.specs.LibraryFormat.{library_bytes}
 use Rattle.cw_link_files.specs.Parts.{Part, HasPart, IsLinkList}
 use Rattle.cw_link_files.specs.Taken.{StopsParts}
-use Rattle.cw_files.specs.Reading.{HaveBytes, HaveValues, AllTaken, StopsTexts, StopsObjects, StopsImages}
+use Rattle.cw_link_files.specs.files.Reading.{HaveBytes, HaveValues, AllTaken, StopsTexts, StopsObjects, StopsImages}
 use Rattle.cw_correct.specs.Calls.{Call, told_files, first_name, over_others, NoFault, SameCounts, IsUntouched, IsUnwritten}
 use Rattle.cw_correct.specs.Files.{counts_before, counts_after, AllAccepted}
 use Rattle.cw_correct.specs.Saying.{SaysLast}

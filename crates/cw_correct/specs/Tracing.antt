@@ -14,15 +14,15 @@ use Rattle.cw_unit.specs.ValidStorage.{ValidStorageMap}
 use Rattle.cw_unit.specs.Program.{program_of}
 use Rattle.cw_unit.specs.Configuration.{FramesApart, activations_of}
 use Rattle.cw_unit.specs.Behaviour.{configuration_after}
-use Rattle.cw_compile.specs.Texts.{text_limit}
+use Rattle.cw_say.specs.compile.Texts.{text_limit}
 use Rattle.cw_build.specs.Linking.{Links, image_of, map_text}
 use Rattle.cw_stop.specs.declared.stopping.Stop.{Stop}
 use Rattle.cw_trace.specs.declared.watch.Watch.{Watch}
 use Rattle.cw_watch.specs.declared.fault.WatchFault.{WatchFault}
 use Rattle.cw_watch.specs.declared.fault.WatchFault.TheVariants as faults
 use Rattle.cw_traced.specs.Reported.{MeansInUnits, ReportsUnits}
-use Rattle.cw_files.specs.Texts.{HasUnit}
-use Rattle.cw_files.specs.Reading.{HaveBytes, HaveValues}
+use Rattle.cw_link_files.specs.files.Texts.{HasUnit}
+use Rattle.cw_link_files.specs.files.Reading.{HaveBytes, HaveValues}
 use Rattle.cw_correct.specs.Calls.{Call, told_files, IsUntouched, IsUnwritten}
 use Rattle.cw_correct.specs.Files.{AllAccepted}
 use Rattle.cw_correct.specs.Saying.{SaysFirst, SaysLast}

@@ -5,7 +5,7 @@ ghost use Rattle.cw_compile.specs.Texts.{IsUnitOf};
 
 use cw_compile::laws::one_outcome;
 use cw_counted::laws::tokens_counted;
-use cw_sound_tokens::laws::unit_counted;
+use cw_sound_trees::laws::tokens::unit_counted;
 
 /// The procedures of a text's unit have numbers of two bytes: each takes four tokens of the text.
 pub fn few_procedures()

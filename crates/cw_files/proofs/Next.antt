@@ -2,7 +2,7 @@
 use Rattle.std.proofs.Common.{◌≡◌, ℕ, ◌<◌, ◌≤◌, List, [], ◌∷◌, ◌++◌, length, map, slice_get, Some, Result, Ok, Err, IfOk, IfErr, All, refl, ap, sym, subst, ◌∙◌}
 use Rattle.cw_io.specs.File.{Told, Is}
 use Rattle.cw_unit.specs.declared.unit.Unit.{Unit as SourceUnit}
-use Rattle.cw_compile.specs.Texts.{text_limit, IsUnitOf}
+use Rattle.cw_say.specs.compile.Texts.{text_limit, IsUnitOf}
 use Rattle.cw_build.specs.Building.{IsMadeOf}
 use Rattle.cw_image.specs.declared.image.Image.{Image}
 use Rattle.cw_say.specs.declared.status.Status.{Status}

@@ -1,3 +1,4 @@
 pub mod Texts
 pub mod Reading
 pub mod Taking
+pub use Rattle.cw_say.specs as say

@@ -6,8 +6,8 @@ use Rattle.cw_io.specs.File.{Told, Is, IsAbsent, IsLonger}
 use Rattle.cw_unit.specs.declared.unit.Unit.{Unit as SourceUnit}
 use Rattle.cw_unit.specs.declared.layout.Layout.{Layout}
 use Rattle.cw_list.specs.Rows.{layouts_of}
-use Rattle.cw_compile.specs.declared.fault.Refusal.{Refusal}
-use Rattle.cw_compile.specs.Texts.{text_limit, IsRefused}
+use Rattle.cw_say.specs.compile.declared.fault.Refusal.{Refusal}
+use Rattle.cw_say.specs.compile.Texts.{text_limit, IsRefused}
 use Rattle.cw_build.specs.Compiled.{object_of}
 use Rattle.cw_files.specs.Texts.{HasUnit, HasObject, HasRunnable, HasImage, IsBad, IsBadRunnable, object_limit}
 use Rattle.cw_files.specs.declared.images.Runnable.{Runnable}

@@ -2,7 +2,7 @@
 use Rattle.std.specs.Prelude.{◌≡◌, ℕ, List, [], ◌∷◌, ◌++◌, length, Result, Ok, Err}
 use Rattle.cw_io.specs.File.{Told}
 use Rattle.cw_unit.specs.declared.unit.Unit.{Unit as SourceUnit}
-use Rattle.cw_compile.specs.Texts.{text_limit}
+use Rattle.cw_say.specs.compile.Texts.{text_limit}
 use Rattle.cw_build.specs.Building.{IsMadeOf}
 use Rattle.cw_say.specs.declared.status.Status.{Status}
 use Rattle.cw_files.specs.Texts.{HasUnit, HasObject, object_limit}

@@ -11,7 +11,7 @@ use Rattle.cw_image.specs.declared.image.Image.{Image}
 use Rattle.cw_image.specs.declared.fault.ImageFault.TheVariants as images
 use Rattle.cw_link.specs.Contents.{Contents}
 use Rattle.cw_object.specs.ObjectContents.{contents_in}
-use Rattle.cw_compile.specs.Texts.{IsUnitOf}
+use Rattle.cw_say.specs.compile.Texts.{IsUnitOf}
 use Rattle.cw_say.specs.declared.status.Bad.{Bad}
 use Rattle.cw_say.specs.declared.status.Bad.TheVariants.{Object, Image as BadImage, Hex, Library}
 use Rattle.cw_files.specs.declared.images.Runnable.{Runnable}

@@ -7,6 +7,7 @@ mod objects;
 pub mod segments;
 
 pub use bytes::read_bytes;
+pub use cw_say::{Bad, Status};
 pub use images::{Runnable, read_image_file, read_runnable};
 pub use objects::read_objects;
 pub use segments::{Segment, Segments};

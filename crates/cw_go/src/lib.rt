@@ -9,6 +9,8 @@ mod running;
 mod statuses;
 
 pub use closing::close;
+pub use cw_texts::laws::compiled_units;
+pub use cw_texts::{compile_text, read_units};
 pub use going::go;
 pub use linking::link_segments;
 pub use running::load_and_run;

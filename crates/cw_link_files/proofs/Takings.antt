@@ -13,8 +13,8 @@ use Rattle.cw_files.proofs.Taking.{takes_more, stops_unread, stops_refused, coun
 use Rattle.cw_link_files.specs.Parts.{Part, Given, Members, begins_library, TellsPart, HasPart, given_objects, all_members}
 use Rattle.cw_link_files.specs.Taken.{StopsParts, AreFilesOf, AreObjects, AreMore, AnswersPart, TookFile, AnswersParts}
 use Rattle.cw_link_files.specs.declared.reading.LinkFiles.{LinkFiles}
-use Rattle.cw_say.specs.declared.status.Status.{Status}
-use Rattle.cw_say.specs.declared.status.Status.TheVariants.{Ended, Usage, Refused, Unlinked, Stopped, Unfinished, NoFile, Outside, NoMemory, BadFile, TooLong, BadCode, Divided, TooMany, NoPlace, NoItem}
+use Rattle.cw_files.specs.say.declared.status.Status.{Status}
+use Rattle.cw_files.specs.say.declared.status.Status.TheVariants.{Ended, Usage, Refused, Unlinked, Stopped, Unfinished, NoFile, Outside, NoMemory, BadFile, TooLong, BadCode, Divided, TooMany, NoPlace, NoItem}
 
 unread_part : (files : List Told) (texts : List (List ℕ)) (taken : ℕ) (before after : Counts) (status : Status) → IsUnread object_limit files taken before after status
     → StopsParts files texts taken before after status

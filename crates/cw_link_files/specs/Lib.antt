@@ -1,2 +1,3 @@
 pub mod Parts
 pub mod Taken
+pub use Rattle.cw_files.specs as files

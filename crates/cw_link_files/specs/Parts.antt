@@ -6,8 +6,8 @@ use Rattle.cw_view.specs.ObjectFormat.{IsObject}
 use Rattle.cw_lib.specs.LibraryFormat.{mark, IsLibrary}
 use Rattle.cw_pick.specs.Selection.{IsSelection}
 use Rattle.cw_files.specs.Texts.{IsBad}
-use Rattle.cw_say.specs.declared.status.Bad.{Bad}
-use Rattle.cw_say.specs.declared.status.Bad.TheVariants.{Object, Library}
+use Rattle.cw_files.specs.say.declared.status.Bad.{Bad}
+use Rattle.cw_files.specs.say.declared.status.Bad.TheVariants.{Object, Library}
 
 -- ---- files
 

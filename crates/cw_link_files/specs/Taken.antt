@@ -7,8 +7,8 @@ use Rattle.cw_files.specs.Reading.{Counts, SameCounts, IsBadAt, IsUnread, AllTak
 use Rattle.cw_files.specs.Taking.{Takes}
 use Rattle.cw_link_files.specs.Parts.{Part, HasPart, IsBadPart, given_objects, all_members}
 use Rattle.cw_link_files.specs.declared.reading.LinkFiles.{LinkFiles}
-use Rattle.cw_say.specs.declared.status.Status.{Status}
-use Rattle.cw_say.specs.declared.status.Status.TheVariants.{BadFile}
+use Rattle.cw_files.specs.say.declared.status.Status.{Status}
+use Rattle.cw_files.specs.say.declared.status.Status.TheVariants.{BadFile}
 
 -- the file behind those that were taken could not be read, or is neither an object nor a library
 abbrev pub StopsParts : List Told → (texts : List (List ℕ)) → (taken : ℕ) → (before after : Counts) → Status → Type 0

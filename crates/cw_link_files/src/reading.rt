@@ -9,10 +9,9 @@ ghost use Rattle.cw_link_files.specs.Parts.{Part, HasPart, begins_library};
 ghost use Rattle.cw_link_files.specs.Taken.{StopsParts, AreFilesOf, AnswersPart, TookFile, AnswersParts};
 
 use crate::listing::copied;
-use cw_files::read_bytes;
+use cw_files::{Bad, Status, read_bytes};
 use cw_io::Store;
 use cw_lib::{Lib, open_lib};
-use cw_say::{Bad, Status};
 use cw_view::View;
 use cw_word::{List, NoMemory};
 use std::alloc::Global;

@@ -15,6 +15,8 @@ mod unlinking;
 
 pub use closing::close;
 pub use compiling::compile;
+pub use cw_texts::laws::compiled_units;
+pub use cw_texts::read_units;
 pub use hexing::hex;
 pub use mapping::map_files;
 pub use migrating::migrate;

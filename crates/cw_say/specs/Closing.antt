@@ -27,8 +27,8 @@ use Rattle.cw_grammar.specs.declared.fault.ParseFault.{ParseFault}
 use Rattle.cw_grammar.specs.declared.fault.ParseFault.TheVariants as parsing
 use Rattle.cw_scope.specs.declared.resolve.ScopeFault.{ScopeFault}
 use Rattle.cw_scope.specs.declared.resolve.ScopeFault.TheVariants as naming
-use Rattle.cw_type.specs.declared.check.TypeFault.{TypeFault}
-use Rattle.cw_type.specs.declared.check.TypeFault.TheVariants as typing
+use Rattle.cw_compile.specs.types.declared.check.TypeFault.{TypeFault}
+use Rattle.cw_compile.specs.types.declared.check.TypeFault.TheVariants as typing
 use Rattle.cw_say.specs.declared.status.Which.{Which}
 use Rattle.cw_say.specs.declared.status.Which.TheVariants.{Store, Input, Out, Say}
 use Rattle.cw_say.specs.declared.status.Long.{Long}

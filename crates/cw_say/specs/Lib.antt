@@ -1,1 +1,2 @@
 pub mod Closing
+pub use Rattle.cw_compile.specs as compile

@@ -3,13 +3,12 @@ ghost use Rattle.std.specs.Prelude.{◌≡◌, ◌++◌, decimal, codes};
 ghost use Rattle.cw_write.specs.Said.{Writes};
 ghost use Rattle.cw_say.specs.Closing.{fault_line, named_line, lexical_line, expansion_line, syntax_line, scope_line, type_line, refusal_line, left_out};
 
-use cw_compile::Refusal;
+use cw_compile::{Refusal, TypeFault};
 use cw_grammar::fault::ParseFault;
 use cw_io::{Failed, Sink};
 use cw_lex::{LexFault, Word};
 use cw_macro::MacroFault;
 use cw_scope::resolve::ScopeFault;
-use cw_type::check::TypeFault;
 use cw_word::Name;
 use cw_write::write_line;
 

@@ -1,9 +1,8 @@
-pub mod Own
-mod Declared
-mod Answering
-mod Bodies
-mod Numbering
-mod Counting
-mod Procedures
-mod Parameters
-mod Building
+pub mod Units
+pub mod Need
+pub mod Ranged
+pub mod Ready
+pub mod Lines
+pub mod Written
+pub mod Front
+pub mod Presets

@@ -1,1 +1,5 @@
-pub mod TreeFits
+pub mod Units
+pub mod Ready
+pub mod Lines
+pub mod Written
+pub mod Presets

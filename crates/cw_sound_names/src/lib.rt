@@ -1,4 +1,4 @@
-//! What the names of a text stand for in its unit.
+//! TODO
 #![tactic(auto)]
 
 pub mod laws;

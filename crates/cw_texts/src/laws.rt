@@ -5,7 +5,7 @@ ghost use Rattle.cw_build.specs.Compiled.{IsCompilable};
 ghost use Rattle.cw_files.specs.Texts.{HasUnit};
 ghost use Rattle.cw_files.specs.Reading.{HaveValues};
 
-use cw_sound_text::laws::text_units;
+use cw_sound::laws::texts::text_units;
 
 /// The units of texts can be compiled.
 pub fn compiled_units()

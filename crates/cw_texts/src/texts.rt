@@ -11,10 +11,9 @@ ghost use Rattle.cw_files.specs.Taking.{Takes, AnswersUnit};
 
 use cw_build::compile;
 use cw_compile::{UnitFault, unit};
-use cw_files::{Segment, Segments, read_bytes};
+use cw_files::{Segment, Segments, Status, read_bytes};
 use cw_io::Store;
-use cw_say::Status;
-use cw_sound_text::laws::text_units;
+use cw_sound::laws::texts::text_units;
 use cw_unit::unit::Unit;
 use std::alloc::Global;
 

@@ -4,8 +4,8 @@ ghost use Rattle.cw_traces.specs.Laws.{KeepsStopped, KeepsFault, KeepsRun, IsRig
 use cw_build_laws::laws::loaded;
 use cw_compile::laws::one_outcome;
 use cw_cpu86::laws::{one_observation, one_start};
+use cw_go::compiled_units;
 use cw_go::laws::promises;
-use cw_texts::laws::compiled_units;
 use cw_traced::laws::reported;
 use cw_unit::laws::configurations;
 

@@ -1,0 +1,182 @@
+-- Statements, procedures and blocks have lines where their parts have them.
+use Rattle.std.proofs.Common.{◌<◌, Bool, true, ◌&&◌, IsTrue, List, [], ◌∷◌, map, Option, Some, None, refl, sym, subst}
+use Rattle.std.specs.List.{list_all}
+use Rattle.cw_tree.specs.declared.leaf.Position.{Position}
+use Rattle.cw_tree.specs.declared.leaf.RawName.{RawName}
+use Rattle.cw_tree.specs.declared.leaf.RawType.{RawType}
+use Rattle.cw_tree.specs.declared.expression.RawBits.{RawBits}
+use Rattle.cw_tree.specs.declared.expression.RawExpr.{RawExpr}
+use Rattle.cw_tree.specs.declared.expression.RawExpr.TheOpen as reference_layer
+use Rattle.cw_tree.specs.declared.expression.RawExpr.TheOpen.{RawRef-F}
+use Rattle.cw_tree.specs.declared.expression.RawExpr.TheViews.{out-roll-RawRef}
+use Rattle.cw_tree.specs.declared.expression.RawCond.{RawCond}
+use Rattle.cw_tree.specs.declared.expression.RawCand.{RawCand}
+use Rattle.cw_tree.specs.declared.expression.RawCmp.{RawCmp}
+use Rattle.cw_tree.specs.declared.expression.RawSum.{RawSum}
+use Rattle.cw_tree.specs.declared.expression.RawTerm.{RawTerm}
+use Rattle.cw_tree.specs.declared.expression.RawDiffer.{RawDiffer}
+use Rattle.cw_tree.specs.declared.expression.RawUnion.{RawUnion}
+use Rattle.cw_tree.specs.declared.expression.RawMask.{RawMask}
+use Rattle.cw_tree.specs.declared.expression.RawPrim.{RawPrim}
+use Rattle.cw_tree.specs.declared.expression.RawPrimary.{RawPrimary}
+use Rattle.cw_tree.specs.declared.expression.RawRef.{RawRef, roll-RawRef}
+use Rattle.cw_tree.specs.declared.expression.RawRef.TheVariants as ref_tree
+use Rattle.cw_tree.specs.declared.items.RawBase.{RawBase}
+use Rattle.cw_tree.specs.declared.items.RawData.{RawData}
+use Rattle.cw_tree.specs.declared.statement.RawPtag.{RawPtag}
+use Rattle.cw_tree.specs.declared.statement.RawParam.{RawParam}
+use Rattle.cw_tree.specs.declared.statement.RawFelem.{RawFelem}
+use Rattle.cw_tree.specs.declared.statement.RawStmt.{RawStmt, out-RawStmt}
+use Rattle.cw_tree.specs.declared.statement.RawBlock.{RawBlock}
+use Rattle.cw_tree.specs.declared.statement.RawForm.{RawForm}
+use Rattle.cw_tree.specs.declared.statement.RawForm.TheVariants as form_tree
+use Rattle.cw_tree.specs.declared.statement.RawSimple.{RawSimple}
+use Rattle.cw_tree.specs.declared.statement.RawSimple.TheVariants as simple_tree
+use Rattle.cw_tree.specs.declared.statement.RawDecl.{RawDecl}
+use Rattle.cw_tree.specs.declared.statement.RawDecl.TheVariants as decl_tree
+use Rattle.cw_tree.specs.declared.statement.RawDecl.TheOpen as layer
+use Rattle.cw_tree.specs.declared.segment.RawComm.{RawComm}
+use Rattle.cw_grammar.specs.Tokens.{Item, position}
+use Rattle.cw_grammar.specs.Rules.{indexed_name, ref_behind}
+use Rattle.cw_grammar.specs.Statements.{jump, block_tree, stmt_tree, simple_stmt, with_label, proc_tree, raw}
+use Rattle.cw_make_stmt.specs.Made.{ref_position, ref_position_in}
+use Rattle.cw_code_written.specs.Ready.{all}
+use Rattle.cw_sound_trees.proofs.Expressions.Truth.{both}
+use Rattle.cw_sound_trees.specs.Statements.Bodies as bodies
+use Rattle.cw_macro.specs.Premises.{Each}
+use Rattle.cw_macro.proofs.Lists.{each_append}
+use Rattle.cw_sound.specs.Ready.Lined as lined
+use Rattle.cw_sound.specs.Ready.Lined.{is_numbered, PositionsFit}
+use Rattle.cw_sound.proofs.Lines.Layers.{BodyLined, HasLines, SimpleLined, simple_rolled, FormLined, form_rolled, StmtLined, statement_rolled, statement_opened, BlockLined, block_rolled, DeclLined, declaration_rolled, ProcLined, procedure_rolled}
+use Rattle.cw_sound.proofs.Lines.Good.{OfOption}
+
+-- ---- references
+
+abbrev pub RefLined : RawRef → Type 0
+RefLined r = IsTrue (is_numbered (ref_position r))
+
+abbrev RefLayer : Type 0
+RefLayer = RawRef-F RawExpr RawPrimary RawRef RawCand RawCmp RawCond RawDiffer RawMask RawPrim RawSum RawTerm RawUnion
+
+ref_rolled : (l : RefLayer) → IsTrue (is_numbered (ref_position_in l)) → RefLined (roll-RawRef l)
+ref_rolled l h = subst (λ (z : RefLayer). IsTrue (is_numbered (ref_position_in z))) (sym (out-roll-RawRef l)) h
+
+pub name_lined : (f : RawName) → IsTrue (is_numbered f.at) → RefLined (ref_tree.Name f)
+name_lined f h = subst RefLined (ref_tree.rolls-Name f) (ref_rolled (reference_layer.Name f) h)
+
+pub index_lined : (f : RawName) (x : RawExpr) (o : Option RawExpr) → IsTrue (is_numbered f.at) → RefLined (indexed_name f x o)
+index_lined f x None h = subst RefLined (ref_tree.rolls-One f x) (ref_rolled (reference_layer.One f x) h)
+index_lined f x (Some y) h = subst RefLined (ref_tree.rolls-Two f x y) (ref_rolled (reference_layer.Two f x y) h)
+
+pub bare_lined : (at : Position) (x : RawExpr) → IsTrue (is_numbered at) → RefLined (ref_tree.Bare at x)
+bare_lined at x h = subst RefLined (ref_tree.rolls-Bare at x) (ref_rolled (reference_layer.Bare at x) h)
+
+pub ref_lined : (f : RawName) (o : Option (Item × (RawExpr × Option RawExpr))) → IsTrue (is_numbered f.at) → RefLined (ref_behind f o)
+ref_lined f None h = name_lined f h
+ref_lined f (Some x) h = index_lined f x.1.0 x.1.1 h
+
+-- ---- statements
+
+none_in : {is : Bool} → IsTrue is → HasLines is []
+none_in h = record { right = h; inner = tt }
+
+pub empty_lined : SimpleLined simple_tree.Empty
+empty_lined = subst SimpleLined simple_tree.rolls-Empty (simple_rolled layer.Empty (none_in refl))
+
+pub assign_lined : (r : RawRef) (x : RawExpr) → RefLined r → SimpleLined (simple_tree.Assign r x)
+assign_lined r x h = subst SimpleLined (simple_tree.rolls-Assign r x) (simple_rolled (layer.Assign r x) (none_in h))
+
+pub assign_bits_lined : (z : RawBits) (r : RawRef) (x : RawExpr) → IsTrue (is_numbered z.at) → SimpleLined (simple_tree.AssignBits z r x)
+assign_bits_lined z r x h = subst SimpleLined (simple_tree.rolls-AssignBits z r x) (simple_rolled (layer.AssignBits z r x) (none_in h))
+
+pub jump_lined : (t : Item) (f : RawName) (o : Option (Item × RawExpr)) → IsTrue (is_numbered (position t)) → SimpleLined (jump t f o)
+jump_lined t f None h = subst SimpleLined (simple_tree.rolls-Goto (position t) f) (simple_rolled (layer.Goto (position t) f) (none_in h))
+jump_lined t f (Some y) h = subst SimpleLined (simple_tree.rolls-GotoSwitch (position t) f y.1) (simple_rolled (layer.GotoSwitch (position t) f y.1) (none_in h))
+
+pub call_lined : (f : RawName) (xs : List RawExpr) → IsTrue (is_numbered f.at) → SimpleLined (simple_tree.Call f xs)
+call_lined f xs h = subst SimpleLined (simple_tree.rolls-Call f xs) (simple_rolled (layer.Call f xs) (none_in h))
+
+pub answer_lined : (at : Position) (x : RawExpr) → IsTrue (is_numbered at) → SimpleLined (simple_tree.Answer at x)
+answer_lined at x h = subst SimpleLined (simple_tree.rolls-Answer at x) (simple_rolled (layer.Answer at x) (none_in h))
+
+pub block_lined : (b : RawBlock) → BlockLined b → SimpleLined (simple_tree.Block b)
+block_lined b h = subst SimpleLined (simple_tree.rolls-Block b) (simple_rolled (layer.Block b) h)
+
+simple_lined : (s : RawSimple) → SimpleLined s → FormLined (form_tree.Simple s)
+simple_lined s h = subst FormLined (form_tree.rolls-Simple s) (form_rolled (layer.Simple s) h)
+
+pub if_lined : (at : Position) (c : RawCond) (ls : List RawName) (s : RawSimple) (o : Option RawStmt) → IsTrue (is_numbered at) → SimpleLined s → OfOption (λ y. StmtLined y) o → FormLined (form_tree.If at c ls s o)
+if_lined at c ls s None h k l =
+    subst FormLined (form_tree.rolls-If at c ls s None)
+    (form_rolled (layer.If at c ls s None)
+    (record {
+      right = both (is_numbered at) (lined.is_lined_simple s && true) h (both (lined.is_lined_simple s) true k.right refl);
+      inner = each_append BodyLined (bodies.simple_bodies s) [] k.inner tt;
+    }))
+if_lined at c ls s (Some x) h k l =
+    subst FormLined (form_tree.rolls-If at c ls s (Some x))
+    (form_rolled (layer.If at c ls s (Some x))
+    (record {
+      right = both (is_numbered at) (lined.is_lined_simple s && lined.is_lined_statement x) h (both (lined.is_lined_simple s) (lined.is_lined_statement x) k.right l.right);
+      inner = each_append BodyLined (bodies.simple_bodies s) (bodies.statement_bodies x) k.inner l.inner;
+    }))
+
+pub for_lined : (at : Position) (r : RawRef) (xs : List RawFelem) (s : RawStmt) → IsTrue (is_numbered at) → StmtLined s → FormLined (form_tree.For at r xs s)
+for_lined at r xs s h k =
+    subst FormLined (form_tree.rolls-For at r xs s) (form_rolled (layer.For at r xs s) (record { right = both (is_numbered at) (lined.is_lined_statement s) h k.right; inner = k.inner }))
+
+pub form_alone : (f : RawForm) → FormLined f → StmtLined (stmt_tree [] f)
+form_alone f h = statement_rolled (record { labels = []; form = f }) h
+
+pub labelled_lined : (n : RawName) (s : RawStmt) → StmtLined s → StmtLined (with_label n s)
+labelled_lined n s h = statement_rolled (record { labels = n ∷ (out-RawStmt s).labels; form = (out-RawStmt s).form }) (statement_opened s h)
+
+pub simple_alone : (s : RawSimple) → SimpleLined s → StmtLined (simple_stmt s)
+simple_alone s h = form_alone (form_tree.Simple s) (simple_lined s h)
+
+-- ---- blocks and procedures
+
+statements_in : (ss : List RawStmt) → Each StmtLined ss → HasLines (all (map lined.is_lined_statement ss)) (bodies.joined (map (λ s. (s, bodies.statement_bodies s)) ss))
+statements_in [] h = none_in refl
+statements_in (s ∷ ss) h =
+    let q = statements_in ss h.1 in
+    record {
+      right = both (lined.is_lined_statement s) (all (map lined.is_lined_statement ss)) h.0.right q.right;
+      inner = each_append BodyLined (bodies.statement_bodies s) (bodies.joined (map (λ z. (z, bodies.statement_bodies z)) ss)) h.0.inner q.inner;
+    }
+
+declarations_in : (ds : List RawDecl) → Each DeclLined ds → Each BodyLined (bodies.joined (map (λ d. (d, bodies.declaration_bodies d)) ds))
+declarations_in [] h = tt
+declarations_in (d ∷ ds) h = each_append BodyLined (bodies.declaration_bodies d) (bodies.joined (map (λ z. (z, bodies.declaration_bodies z)) ds)) h.0.inner (declarations_in ds h.1)
+
+pub whole_lined : (t : Item) (ds : List RawDecl) (ss : List RawStmt) → Each DeclLined ds → Each StmtLined ss → BlockLined (block_tree t ds ss)
+whole_lined t ds ss h k =
+    let q = statements_in ss k in
+    block_rolled (record { at = position t; decls = ds; stmts = ss })
+    (record {
+      right = q.right;
+      inner = each_append BodyLined (bodies.joined (map (λ d. (d, bodies.declaration_bodies d)) ds)) (bodies.joined (map (λ s. (s, bodies.statement_bodies s)) ss)) (declarations_in ds h) q.inner;
+    })
+
+pub data_lined : (d : RawData) → DeclLined (decl_tree.Data d)
+data_lined d = subst DeclLined (decl_tree.rolls-Data d) (declaration_rolled (layer.Data d) (none_in refl))
+
+pub overlay_lined : (at : Position) (b : RawBase) (d : RawData) → DeclLined (decl_tree.Overlay at b d)
+overlay_lined at b d = subst DeclLined (decl_tree.rolls-Overlay at b d) (declaration_rolled (layer.Overlay at b d) (none_in refl))
+
+pub switch_lined : (at : Position) (f : RawName) (xs : List RawName) → DeclLined (decl_tree.Switch at f xs)
+switch_lined at f xs = subst DeclLined (decl_tree.rolls-Switch at f xs) (declaration_rolled (layer.Switch at f xs) (none_in refl))
+
+pub proc_lined : (o : Option RawType) (g : RawPtag) (f : RawName) (ps : List RawParam) (s : RawStmt) → StmtLined s → DeclLined (decl_tree.Proc (proc_tree o g f ps s))
+proc_lined o g f ps s h =
+    let made : ProcLined (proc_tree o g f ps s) = procedure_rolled (record { answer = o; tag = g; name = f; params = ps; body = s }) (record { right = h.right; inner = (h.right, h.inner) }) in
+    subst DeclLined (decl_tree.rolls-Proc (proc_tree o g f ps s)) (declaration_rolled (layer.Proc (proc_tree o g f ps s)) (record { right = refl; inner = made.inner }))
+
+-- ---- texts
+
+bodies_lined : (bs : bodies.Bodies) → Each BodyLined bs → IsTrue (list_all (λ (x : bodies.Body). lined.is_lined_statement x.statement) bs)
+bodies_lined [] h = refl
+bodies_lined (b ∷ bs) h = both (lined.is_lined_statement b.statement) (list_all (λ (x : bodies.Body). lined.is_lined_statement x.statement) bs) h.0 (bodies_lined bs h.1)
+
+pub fits : (cs : List RawComm) (n : RawName) (b : Item × (List RawDecl × List RawStmt)) (finish : Item) → BlockLined (block_tree b.0 b.1.0 b.1.1) → finish.number < 4294967296 → PositionsFit (raw cs n b finish)
+fits cs n b finish h few = record { tokens = few; block = h.right; bodies = bodies_lined (bodies.block_bodies (block_tree b.0 b.1.0 b.1.1)) h.inner }

@@ -1,0 +1,12 @@
+pub mod Carried
+pub mod Tokens
+pub mod Small
+pub mod Layers
+pub mod Held
+pub mod Frames
+pub mod Trees
+pub mod Good
+pub mod Expressions
+pub mod Rules
+pub mod Items
+pub mod Texts

@@ -1,0 +1,3 @@
+pub mod Lines
+pub mod Definitions
+pub mod Goals

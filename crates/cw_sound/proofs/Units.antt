@@ -1,0 +1,9 @@
+pub mod Own
+pub mod Declared
+pub mod Answering
+pub mod Bodies
+pub mod Numbering
+pub mod Counting
+pub mod Procedures
+pub mod Parameters
+pub mod Building

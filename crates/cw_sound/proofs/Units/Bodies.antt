@@ -1,0 +1,278 @@
+-- The procedures that a text declares are those whose bodies it has, in order.
+use Rattle.std.proofs.Common.{◌≡◌, ℕ, arith, List, [], ◌∷◌, ◌++◌, map, length, Bool, true, false, not, ◌||◌, ◌==◌, Option, Some, None, sym, ap, subst, ◌∙◌}
+use Rattle.cw_tree.specs.declared.leaf.RawName.{RawName}
+use Rattle.cw_tree.specs.declared.statement.RawFelem.{RawFelem}
+use Rattle.cw_tree.specs.declared.statement.RawFelem.TheVariants as felem
+use Rattle.cw_tree.specs.declared.statement.RawDecl.{RawDecl, RawDecl-F, roll-RawDecl, map-RawDecl}
+use Rattle.cw_tree.specs.declared.statement.RawForm.{RawForm, roll-RawForm, map-RawForm}
+use Rattle.cw_tree.specs.declared.statement.RawSimple.{RawSimple, roll-RawSimple, map-RawSimple}
+use Rattle.cw_tree.specs.declared.statement.RawBlock.{RawBlock, roll-RawBlock, map-RawBlock}
+use Rattle.cw_tree.specs.declared.statement.RawProc.{RawProc, roll-RawProc, out-RawProc, map-RawProc}
+use Rattle.cw_tree.specs.declared.statement.RawStmt.{RawStmt, roll-RawStmt, map-RawStmt}
+use Rattle.cw_tree.specs.declared.statement.RawDecl.TheOpen as layer
+use Rattle.cw_tree.specs.declared.statement.RawDecl.TheOpen.{RawForm-F, RawSimple-F, RawBlock-F, RawProc-F, RawStmt-F}
+use Rattle.cw_tree.specs.declared.statement.RawDecl.TheViews.{out-roll-RawProc}
+use Rattle.cw_tree.specs.declared.statement.RawDecl.TheFolds.{fold-roll-RawDecl, fold-roll-RawForm, fold-roll-RawSimple, fold-roll-RawBlock, fold-roll-RawProc, fold-roll-RawStmt, para-roll-RawDecl, para-roll-RawForm, para-roll-RawSimple, para-roll-RawBlock, para-roll-RawProc, para-roll-RawStmt, ind-RawBlock}
+use Rattle.cw_facts.specs.declared.fact.Fact.{Fact}
+use Rattle.cw_facts.specs.declared.fact.Fact.TheVariants as fact
+use Rattle.cw_facts.specs.declared.fact.Form.TheVariants as use_form
+use Rattle.cw_facts.specs.declared.fact.Kind.TheVariants as kind
+use Rattle.cw_facts.specs.declared.fact.Reading.TheVariants as reading
+use Rattle.cw_facts.specs.Uses.{expression_uses, condition_uses, reference_uses, argument_uses}
+use Rattle.cw_facts.specs.Facts as facts
+use Rattle.cw_facts.specs.Facts.{BlockFacts, each_declares, each_uses, data_facts, base_name, felem_facts, felems_facts, enclosed, answer_name}
+use Rattle.cw_scope.specs.declared.resolve.Named.{Named}
+use Rattle.cw_make_items.specs.Lookup.{Numbers}
+use Rattle.cw_unit.specs.declared.unit.Switch.{Switch}
+use Rattle.cw_sound_names.specs.Uses.Mentions.{Mention, Here, declares, uses, stores, facts_mentions}
+use Rattle.cw_sound_names.specs.Names.Standing.{is_own_procedure}
+use Rattle.cw_sound_names.proofs.Names.Parts.{Part, Plain, plain, items, label, switch, procedure_with}
+use Rattle.cw_sound_names.proofs.Names.PartKinds.{procs_in, part_procs, shape, inner_procs, body, within_it}
+use Rattle.cw_sound_names.proofs.Names.Rows.{mentions_append}
+use Rattle.cw_sound_names.proofs.Names.Picking.{pick_append, Zip, zip_both}
+use Rattle.cw_sound_names.proofs.Names.Sorts.{of_kind}
+use Rattle.cw_sound_names.proofs.Names.MentionsOf.{block_alone}
+use Rattle.cw_sound_names.proofs.Names.PlainFacts.{plain_nothing, plain_both, plain_use, plain_loop}
+use Rattle.cw_sound_names.proofs.Names.ExpressionUses.{expression_plain, condition_plain, reference_plain, arguments_plain}
+use Rattle.cw_sound_trees.specs.Statements.Bodies.{Body, Bodies}
+use Rattle.cw_sound_trees.specs.Statements.Bodies as bodies
+
+-- a mention declares the procedure of a body
+abbrev pub Declares : Mention → (token : ℕ) → Type 0
+Declares (declares d) t = d.name.at.token ≡ t
+Declares (uses x) t = ⊥
+Declares (stores token n) t = ⊥
+
+abbrev pub BodyOf : Here → Body → Type 0
+BodyOf m b = Declares m.mention b.token
+
+no_bodies : (ms : List Here) → length ms ≡ 0 → Zip BodyOf ms []
+no_bodies [] e = tt
+no_bodies (m ∷ ms) e = absurd (omega (arith, e))
+
+module _ (named : Named) (numbers : Numbers) where
+  pub record Has (fs : List Fact) (bs : Bodies) : Type 0 where
+    pub zips : (q : Option ℕ) → Zip BodyOf (procs_in (facts_mentions numbers fs q)) bs
+
+  nothing : Has [] []
+  nothing = record { zips = λ q. tt }
+
+  two : {fs gs : List Fact} {bs cs : Bodies} → Has fs bs → Has gs cs → Has (fs ++ gs) (bs ++ cs)
+  two {fs} {gs} {bs} {cs} h k = record {
+    zips = λ q.
+        let xs : List Here = facts_mentions numbers fs q in
+        let ys : List Here = facts_mentions numbers gs q in
+        subst (λ ms. Zip BodyOf ms (bs ++ cs)) (sym (ap procs_in (mentions_append numbers fs gs q) ∙ pick_append (of_kind is_own_procedure) xs ys)) (zip_both BodyOf (procs_in xs) (procs_in ys) bs cs (h.zips q) (k.zips q));
+  }
+
+  -- what declares no procedure
+  none : {fs : List Fact} {ws : Option ℕ → List Switch} {s : ℕ → Bool} → Part named numbers fs ws [] s → Has fs []
+  none {fs} a = record { zips = λ q. no_bodies (procs_in (facts_mentions numbers fs q)) (part_procs named numbers a q) }
+
+  before : {fs gs : List Fact} {bs : Bodies} → Has fs [] → Has gs bs → Has (fs ++ gs) bs
+  before h k = two h k
+
+  within : {fs : List Fact} {bs : Bodies} → Has fs bs → Has (fact.Block None fs ∷ []) bs
+  within {fs} {bs} h = record { zips = λ q. subst (λ ms. Zip BodyOf (procs_in ms) bs) (sym (block_alone numbers None fs q)) (h.zips q) }
+
+  either : (b : Bool) {fs : List Fact} {bs : Bodies} → Has fs bs → Has (enclosed b fs) bs
+  either true h = within h
+  either false h = h
+
+  procedure : (p : RawProc) {fs : List Fact} {bs : Bodies} (b : Body) → (out-RawProc p).name.at.token ≡ b.token → Has fs bs → Has (procedure_with named numbers p fs) (b ∷ bs)
+  procedure p {fs} {bs} b e h = record {
+    zips = λ q.
+        subst (λ ms. Zip BodyOf (procs_in ms) (b ∷ bs)) (sym (shape named numbers p fs q))
+        (e, subst (λ ms. Zip BodyOf ms bs) (sym (inner_procs named numbers p fs q)) (h.zips (within_it named numbers p fs q)));
+  }
+
+  labels : (ns : List RawName) → Has (each_declares kind.Label ns) []
+  labels [] = nothing
+  labels (n ∷ ns) = two (none (label n)) (labels ns)
+
+  felem_plain : (e : RawFelem) → Plain numbers (felem_facts e)
+  felem_plain (felem.One e) = expression_plain numbers e reading.Value
+  felem_plain (felem.While e c) = plain_both numbers (expression_uses e reading.Value) (condition_uses c reading.Value) (expression_plain numbers e reading.Value) (condition_plain numbers c reading.Value)
+  felem_plain (felem.Step a b c) =
+      plain_both numbers (expression_uses a reading.Value) (expression_uses b reading.Value ++ expression_uses c reading.Value) (expression_plain numbers a reading.Value)
+      (plain_both numbers (expression_uses b reading.Value) (expression_uses c reading.Value) (expression_plain numbers b reading.Value) (expression_plain numbers c reading.Value))
+
+  felems_plain : (es : List RawFelem) → Plain numbers (felems_facts es)
+  felems_plain [] = plain_nothing numbers
+  felems_plain (e ∷ es) = plain_both numbers (felem_facts e) (felems_facts es) (felem_plain e) (felems_plain es)
+
+  -- ---- what each tree has
+
+  abbrev pub DeclHas : RawDecl → Type 0
+  DeclHas x = Has (facts.declaration_facts x) (bodies.declaration_bodies x)
+
+  abbrev pub FormHas : RawForm → Type 0
+  FormHas x = Has (facts.form_facts x) (bodies.form_bodies x)
+
+  abbrev pub SimpleHas : RawSimple → Type 0
+  SimpleHas x = Has (facts.simple_facts x) (bodies.simple_bodies x)
+
+  abbrev pub BlockHas : RawBlock → Type 0
+  BlockHas x = (outermost : Bool) → Has (facts.block_facts x outermost) (bodies.block_bodies x)
+
+  abbrev pub ProcHas : RawProc → Type 0
+  ProcHas x = Has (facts.procedure_facts x) (bodies.procedure_bodies x)
+
+  abbrev pub StmtHas : RawStmt → Type 0
+  StmtHas x = Has (facts.statement_facts x) (bodies.statement_bodies x)
+
+  -- ---- what each tree comes to, by its layer
+
+  abbrev facts_declaration : (x : RawDecl-F RawDecl RawForm RawSimple RawBlock RawProc RawStmt) → facts.declaration_facts (roll-RawDecl x) ≡ facts.declaration_step (map-RawDecl RawDecl RawForm RawSimple RawBlock RawProc RawStmt (List Fact) (List Fact) (List Fact) BlockFacts (List Fact) (List Fact) facts.declaration_facts facts.form_facts facts.simple_facts facts.block_facts facts.procedure_facts facts.statement_facts x)
+  facts_declaration x = fold-roll-RawDecl (List Fact) (List Fact) (List Fact) BlockFacts (List Fact) (List Fact) facts.declaration_step facts.form_step facts.simple_step facts.block_step facts.procedure_step facts.statement_step x
+
+  abbrev bodies_declaration : (x : RawDecl-F RawDecl RawForm RawSimple RawBlock RawProc RawStmt) → bodies.declaration_bodies (roll-RawDecl x) ≡ bodies.declaration_step (map-RawDecl RawDecl RawForm RawSimple RawBlock RawProc RawStmt (RawDecl × Bodies) (RawForm × Bodies) (RawSimple × Bodies) (RawBlock × Bodies) (RawProc × Bodies) (RawStmt × Bodies) (λ z. (z, bodies.declaration_bodies z)) (λ z. (z, bodies.form_bodies z)) (λ z. (z, bodies.simple_bodies z)) (λ z. (z, bodies.block_bodies z)) (λ z. (z, bodies.procedure_bodies z)) (λ z. (z, bodies.statement_bodies z)) x)
+  bodies_declaration x = para-roll-RawDecl Bodies Bodies Bodies Bodies Bodies Bodies bodies.declaration_step bodies.form_step bodies.simple_step bodies.block_step bodies.procedure_step bodies.statement_step x
+
+  abbrev facts_form : (x : RawForm-F RawDecl RawForm RawSimple RawBlock RawProc RawStmt) → facts.form_facts (roll-RawForm x) ≡ facts.form_step (map-RawForm RawDecl RawForm RawSimple RawBlock RawProc RawStmt (List Fact) (List Fact) (List Fact) BlockFacts (List Fact) (List Fact) facts.declaration_facts facts.form_facts facts.simple_facts facts.block_facts facts.procedure_facts facts.statement_facts x)
+  facts_form x = fold-roll-RawForm (List Fact) (List Fact) (List Fact) BlockFacts (List Fact) (List Fact) facts.declaration_step facts.form_step facts.simple_step facts.block_step facts.procedure_step facts.statement_step x
+
+  abbrev bodies_form : (x : RawForm-F RawDecl RawForm RawSimple RawBlock RawProc RawStmt) → bodies.form_bodies (roll-RawForm x) ≡ bodies.form_step (map-RawForm RawDecl RawForm RawSimple RawBlock RawProc RawStmt (RawDecl × Bodies) (RawForm × Bodies) (RawSimple × Bodies) (RawBlock × Bodies) (RawProc × Bodies) (RawStmt × Bodies) (λ z. (z, bodies.declaration_bodies z)) (λ z. (z, bodies.form_bodies z)) (λ z. (z, bodies.simple_bodies z)) (λ z. (z, bodies.block_bodies z)) (λ z. (z, bodies.procedure_bodies z)) (λ z. (z, bodies.statement_bodies z)) x)
+  bodies_form x = para-roll-RawForm Bodies Bodies Bodies Bodies Bodies Bodies bodies.declaration_step bodies.form_step bodies.simple_step bodies.block_step bodies.procedure_step bodies.statement_step x
+
+  abbrev facts_simple : (x : RawSimple-F RawDecl RawForm RawSimple RawBlock RawProc RawStmt) → facts.simple_facts (roll-RawSimple x) ≡ facts.simple_step (map-RawSimple RawDecl RawForm RawSimple RawBlock RawProc RawStmt (List Fact) (List Fact) (List Fact) BlockFacts (List Fact) (List Fact) facts.declaration_facts facts.form_facts facts.simple_facts facts.block_facts facts.procedure_facts facts.statement_facts x)
+  facts_simple x = fold-roll-RawSimple (List Fact) (List Fact) (List Fact) BlockFacts (List Fact) (List Fact) facts.declaration_step facts.form_step facts.simple_step facts.block_step facts.procedure_step facts.statement_step x
+
+  abbrev bodies_simple : (x : RawSimple-F RawDecl RawForm RawSimple RawBlock RawProc RawStmt) → bodies.simple_bodies (roll-RawSimple x) ≡ bodies.simple_step (map-RawSimple RawDecl RawForm RawSimple RawBlock RawProc RawStmt (RawDecl × Bodies) (RawForm × Bodies) (RawSimple × Bodies) (RawBlock × Bodies) (RawProc × Bodies) (RawStmt × Bodies) (λ z. (z, bodies.declaration_bodies z)) (λ z. (z, bodies.form_bodies z)) (λ z. (z, bodies.simple_bodies z)) (λ z. (z, bodies.block_bodies z)) (λ z. (z, bodies.procedure_bodies z)) (λ z. (z, bodies.statement_bodies z)) x)
+  bodies_simple x = para-roll-RawSimple Bodies Bodies Bodies Bodies Bodies Bodies bodies.declaration_step bodies.form_step bodies.simple_step bodies.block_step bodies.procedure_step bodies.statement_step x
+
+  abbrev facts_block : (x : RawBlock-F RawDecl RawForm RawSimple RawBlock RawProc RawStmt) → facts.block_facts (roll-RawBlock x) ≡ facts.block_step (map-RawBlock RawDecl RawForm RawSimple RawBlock RawProc RawStmt (List Fact) (List Fact) (List Fact) BlockFacts (List Fact) (List Fact) facts.declaration_facts facts.form_facts facts.simple_facts facts.block_facts facts.procedure_facts facts.statement_facts x)
+  facts_block x = fold-roll-RawBlock (List Fact) (List Fact) (List Fact) BlockFacts (List Fact) (List Fact) facts.declaration_step facts.form_step facts.simple_step facts.block_step facts.procedure_step facts.statement_step x
+
+  abbrev bodies_block : (x : RawBlock-F RawDecl RawForm RawSimple RawBlock RawProc RawStmt) → bodies.block_bodies (roll-RawBlock x) ≡ bodies.block_step (map-RawBlock RawDecl RawForm RawSimple RawBlock RawProc RawStmt (RawDecl × Bodies) (RawForm × Bodies) (RawSimple × Bodies) (RawBlock × Bodies) (RawProc × Bodies) (RawStmt × Bodies) (λ z. (z, bodies.declaration_bodies z)) (λ z. (z, bodies.form_bodies z)) (λ z. (z, bodies.simple_bodies z)) (λ z. (z, bodies.block_bodies z)) (λ z. (z, bodies.procedure_bodies z)) (λ z. (z, bodies.statement_bodies z)) x)
+  bodies_block x = para-roll-RawBlock Bodies Bodies Bodies Bodies Bodies Bodies bodies.declaration_step bodies.form_step bodies.simple_step bodies.block_step bodies.procedure_step bodies.statement_step x
+
+  abbrev facts_procedure : (x : RawProc-F RawDecl RawForm RawSimple RawBlock RawProc RawStmt) → facts.procedure_facts (roll-RawProc x) ≡ facts.procedure_step (map-RawProc RawDecl RawForm RawSimple RawBlock RawProc RawStmt (List Fact) (List Fact) (List Fact) BlockFacts (List Fact) (List Fact) facts.declaration_facts facts.form_facts facts.simple_facts facts.block_facts facts.procedure_facts facts.statement_facts x)
+  facts_procedure x = fold-roll-RawProc (List Fact) (List Fact) (List Fact) BlockFacts (List Fact) (List Fact) facts.declaration_step facts.form_step facts.simple_step facts.block_step facts.procedure_step facts.statement_step x
+
+  abbrev bodies_procedure : (x : RawProc-F RawDecl RawForm RawSimple RawBlock RawProc RawStmt) → bodies.procedure_bodies (roll-RawProc x) ≡ bodies.procedure_step (map-RawProc RawDecl RawForm RawSimple RawBlock RawProc RawStmt (RawDecl × Bodies) (RawForm × Bodies) (RawSimple × Bodies) (RawBlock × Bodies) (RawProc × Bodies) (RawStmt × Bodies) (λ z. (z, bodies.declaration_bodies z)) (λ z. (z, bodies.form_bodies z)) (λ z. (z, bodies.simple_bodies z)) (λ z. (z, bodies.block_bodies z)) (λ z. (z, bodies.procedure_bodies z)) (λ z. (z, bodies.statement_bodies z)) x)
+  bodies_procedure x = para-roll-RawProc Bodies Bodies Bodies Bodies Bodies Bodies bodies.declaration_step bodies.form_step bodies.simple_step bodies.block_step bodies.procedure_step bodies.statement_step x
+
+  abbrev facts_statement : (x : RawStmt-F RawDecl RawForm RawSimple RawBlock RawProc RawStmt) → facts.statement_facts (roll-RawStmt x) ≡ facts.statement_step (map-RawStmt RawDecl RawForm RawSimple RawBlock RawProc RawStmt (List Fact) (List Fact) (List Fact) BlockFacts (List Fact) (List Fact) facts.declaration_facts facts.form_facts facts.simple_facts facts.block_facts facts.procedure_facts facts.statement_facts x)
+  facts_statement x = fold-roll-RawStmt (List Fact) (List Fact) (List Fact) BlockFacts (List Fact) (List Fact) facts.declaration_step facts.form_step facts.simple_step facts.block_step facts.procedure_step facts.statement_step x
+
+  abbrev bodies_statement : (x : RawStmt-F RawDecl RawForm RawSimple RawBlock RawProc RawStmt) → bodies.statement_bodies (roll-RawStmt x) ≡ bodies.statement_step (map-RawStmt RawDecl RawForm RawSimple RawBlock RawProc RawStmt (RawDecl × Bodies) (RawForm × Bodies) (RawSimple × Bodies) (RawBlock × Bodies) (RawProc × Bodies) (RawStmt × Bodies) (λ z. (z, bodies.declaration_bodies z)) (λ z. (z, bodies.form_bodies z)) (λ z. (z, bodies.simple_bodies z)) (λ z. (z, bodies.block_bodies z)) (λ z. (z, bodies.procedure_bodies z)) (λ z. (z, bodies.statement_bodies z)) x)
+  bodies_statement x = para-roll-RawStmt Bodies Bodies Bodies Bodies Bodies Bodies bodies.declaration_step bodies.form_step bodies.simple_step bodies.block_step bodies.procedure_step bodies.statement_step x
+
+  like : {fs gs : List Fact} {bs cs : Bodies} → gs ≡ fs → cs ≡ bs → Has fs bs → Has gs cs
+  like {fs} {gs} {bs} {cs} e d h = subst (λ f. Has f cs) (sym e) (subst (Has fs) (sym d) h)
+
+  -- ---- trees with what is said of them
+
+  abbrev D : Type 0
+  D = (x : RawDecl) × DeclHas x
+
+  abbrev F : Type 0
+  F = (x : RawForm) × FormHas x
+
+  abbrev S : Type 0
+  S = (x : RawSimple) × SimpleHas x
+
+  abbrev B : Type 0
+  B = (x : RawBlock) × BlockHas x
+
+  abbrev Q : Type 0
+  Q = (x : RawProc) × ProcHas x
+
+  abbrev T : Type 0
+  T = (x : RawStmt) × StmtHas x
+
+  abbrev declaration_x : RawDecl-F D F S B Q T → RawDecl-F RawDecl RawForm RawSimple RawBlock RawProc RawStmt
+  declaration_x = map-RawDecl D F S B Q T RawDecl RawForm RawSimple RawBlock RawProc RawStmt (λ e. e.0) (λ e. e.0) (λ e. e.0) (λ e. e.0) (λ e. e.0) (λ e. e.0)
+
+  abbrev form_x : RawForm-F D F S B Q T → RawForm-F RawDecl RawForm RawSimple RawBlock RawProc RawStmt
+  form_x = map-RawForm D F S B Q T RawDecl RawForm RawSimple RawBlock RawProc RawStmt (λ e. e.0) (λ e. e.0) (λ e. e.0) (λ e. e.0) (λ e. e.0) (λ e. e.0)
+
+  abbrev simple_x : RawSimple-F D F S B Q T → RawSimple-F RawDecl RawForm RawSimple RawBlock RawProc RawStmt
+  simple_x = map-RawSimple D F S B Q T RawDecl RawForm RawSimple RawBlock RawProc RawStmt (λ e. e.0) (λ e. e.0) (λ e. e.0) (λ e. e.0) (λ e. e.0) (λ e. e.0)
+
+  abbrev block_x : RawBlock-F D F S B Q T → RawBlock-F RawDecl RawForm RawSimple RawBlock RawProc RawStmt
+  block_x = map-RawBlock D F S B Q T RawDecl RawForm RawSimple RawBlock RawProc RawStmt (λ e. e.0) (λ e. e.0) (λ e. e.0) (λ e. e.0) (λ e. e.0) (λ e. e.0)
+
+  abbrev procedure_x : RawProc-F D F S B Q T → RawProc-F RawDecl RawForm RawSimple RawBlock RawProc RawStmt
+  procedure_x = map-RawProc D F S B Q T RawDecl RawForm RawSimple RawBlock RawProc RawStmt (λ e. e.0) (λ e. e.0) (λ e. e.0) (λ e. e.0) (λ e. e.0) (λ e. e.0)
+
+  abbrev statement_x : RawStmt-F D F S B Q T → RawStmt-F RawDecl RawForm RawSimple RawBlock RawProc RawStmt
+  statement_x = map-RawStmt D F S B Q T RawDecl RawForm RawSimple RawBlock RawProc RawStmt (λ e. e.0) (λ e. e.0) (λ e. e.0) (λ e. e.0) (λ e. e.0) (λ e. e.0)
+
+  -- ---- rules of the grammar
+
+  declaration_rule : (y : RawDecl-F D F S B Q T) → DeclHas (roll-RawDecl (declaration_x y))
+  declaration_rule (layer.Data d) = like (facts_declaration (layer.Data d)) (bodies_declaration (layer.Data d)) (none (items d))
+  declaration_rule (layer.Overlay at b d) =
+      like (facts_declaration (layer.Overlay at b d)) (bodies_declaration (layer.Overlay at b d))
+      (before (none (plain (plain_use numbers (record { name = base_name b; form = use_form.Base }) [] (plain_nothing numbers)))) (none (items d)))
+  declaration_rule (layer.Switch at n ns) = like (facts_declaration (layer.Switch at n ns)) (bodies_declaration (layer.Switch at n ns)) (none (switch n ns))
+  declaration_rule (layer.Proc p) = like (facts_declaration (layer.Proc p.0)) (bodies_declaration (layer.Proc p.0)) p.1
+
+  form_rule : (y : RawForm-F D F S B Q T) → FormHas (roll-RawForm (form_x y))
+  form_rule (layer.Simple s) = like (facts_form (layer.Simple s.0)) (bodies_form (layer.Simple s.0)) s.1
+  form_rule (layer.If at test ns first None) =
+      like (facts_form (layer.If at test ns first.0 None)) (bodies_form (layer.If at test ns first.0 None))
+      (before (none (plain (condition_plain numbers test reading.Value))) (before (labels ns) (two first.1 nothing)))
+  form_rule (layer.If at test ns first (Some second)) =
+      like (facts_form (layer.If at test ns first.0 (Some second.0))) (bodies_form (layer.If at test ns first.0 (Some second.0)))
+      (before (none (plain (condition_plain numbers test reading.Value))) (before (labels ns) (two first.1 second.1)))
+  form_rule (layer.For at variable elems body) =
+      like (facts_form (layer.For at variable elems body.0)) (bodies_form (layer.For at variable elems body.0))
+      (before (none (plain (plain_loop numbers at (reference_uses variable reading.Whole) (reference_plain numbers variable reading.Whole)))) (before (none (plain (felems_plain elems))) body.1))
+
+  simple_rule : (y : RawSimple-F D F S B Q T) → SimpleHas (roll-RawSimple (simple_x y))
+  simple_rule layer.Empty = like (facts_simple (layer.Empty)) (bodies_simple (layer.Empty)) nothing
+  simple_rule (layer.Assign r e) =
+      like (facts_simple (layer.Assign r e)) (bodies_simple (layer.Assign r e))
+      (none (plain (plain_both numbers (reference_uses r reading.Target) (expression_uses e reading.Value) (reference_plain numbers r reading.Target) (expression_plain numbers e reading.Value))))
+  simple_rule (layer.AssignBits bits r e) =
+      like (facts_simple (layer.AssignBits bits r e)) (bodies_simple (layer.AssignBits bits r e))
+      (none (plain (plain_both numbers (reference_uses r reading.Whole) (expression_uses e reading.Value) (reference_plain numbers r reading.Whole) (expression_plain numbers e reading.Value))))
+  simple_rule (layer.Goto at n) =
+      like (facts_simple (layer.Goto at n)) (bodies_simple (layer.Goto at n)) (none (plain (plain_use numbers (record { name = n; form = use_form.Goto }) [] (plain_nothing numbers))))
+  simple_rule (layer.GotoSwitch at n e) =
+      like (facts_simple (layer.GotoSwitch at n e)) (bodies_simple (layer.GotoSwitch at n e))
+      (none (plain (plain_use numbers (record { name = n; form = use_form.GotoSwitch }) (expression_uses e reading.Value) (expression_plain numbers e reading.Value))))
+  simple_rule (layer.Call n es) =
+      like (facts_simple (layer.Call n es)) (bodies_simple (layer.Call n es))
+      (none (plain (plain_use numbers (record { name = n; form = use_form.Call }) (argument_uses es) (arguments_plain numbers es))))
+  simple_rule (layer.Answer at e) =
+      like (facts_simple (layer.Answer at e)) (bodies_simple (layer.Answer at e))
+      (none (plain (plain_use numbers (record { name = answer_name at; form = use_form.Answer }) (expression_uses e reading.Value) (expression_plain numbers e reading.Value))))
+  simple_rule (layer.Block b) = like (facts_simple (layer.Block b.0)) (bodies_simple (layer.Block b.0)) (b.1 false)
+
+  all_declarations : (ts : List D) → let zs : List RawDecl = map (λ e. e.0) ts in Has (facts.joined (map facts.declaration_facts zs)) (bodies.joined (map (λ z. (z, bodies.declaration_bodies z)) zs))
+  all_declarations [] = nothing
+  all_declarations (t ∷ ts) = two t.1 (all_declarations ts)
+
+  all_statements : (ts : List T) → let zs : List RawStmt = map (λ e. e.0) ts in Has (facts.joined (map facts.statement_facts zs)) (bodies.joined (map (λ z. (z, bodies.statement_bodies z)) zs))
+  all_statements [] = nothing
+  all_statements (t ∷ ts) = two t.1 (all_statements ts)
+
+  block_rule : (y : RawBlock-F D F S B Q T) → BlockHas (roll-RawBlock (block_x y))
+  block_rule y outermost =
+      like (ap (λ f. f outermost) (facts_block (block_x y))) (bodies_block (block_x y))
+      (either (outermost || not (length (map facts.declaration_facts (map (λ e. e.0) y.decls)) == 0)) (two (all_declarations y.decls) (all_statements y.stmts)))
+
+  procedure_rule : (y : RawProc-F D F S B Q T) → ProcHas (roll-RawProc (procedure_x y))
+  procedure_rule y =
+      let p : RawProc = roll-RawProc (procedure_x y) in
+      let b : Body = record { token = y.name.at.token; statement = y.body.0 } in
+      like (facts_procedure (procedure_x y)) (bodies_procedure (procedure_x y))
+      (subst (λ z. Has (facts.procedure_step (map-RawProc RawDecl RawForm RawSimple RawBlock RawProc RawStmt (List Fact) (List Fact) (List Fact) BlockFacts (List Fact) (List Fact) facts.declaration_facts facts.form_facts facts.simple_facts facts.block_facts facts.procedure_facts facts.statement_facts z)) (b ∷ bodies.statement_bodies y.body.0)) (out-roll-RawProc (procedure_x y))
+      (procedure p b (ap (λ z. z.name.at.token) (out-roll-RawProc (procedure_x y))) (subst (λ z. Has (facts.statement_facts z.body) (bodies.statement_bodies y.body.0)) (sym (out-roll-RawProc (procedure_x y))) y.body.1)))
+
+  statement_rule : (y : RawStmt-F D F S B Q T) → StmtHas (roll-RawStmt (statement_x y))
+  statement_rule y = like (facts_statement (statement_x y)) (bodies_statement (statement_x y)) (before (labels y.labels) y.form.1)
+
+  pub block_has : (b : RawBlock) → BlockHas b
+  block_has =
+      ind-RawBlock DeclHas FormHas SimpleHas BlockHas ProcHas StmtHas
+      (λ x y is. subst (λ z. DeclHas (roll-RawDecl z)) is (declaration_rule y))
+      (λ x y is. subst (λ z. FormHas (roll-RawForm z)) is (form_rule y))
+      (λ x y is. subst (λ z. SimpleHas (roll-RawSimple z)) is (simple_rule y))
+      (λ x y is. subst (λ z. BlockHas (roll-RawBlock z)) is (block_rule y))
+      (λ x y is. subst (λ z. ProcHas (roll-RawProc z)) is (procedure_rule y))
+      (λ x y is. subst (λ z. StmtHas (roll-RawStmt z)) is (statement_rule y))

@@ -1,0 +1,5 @@
+pub mod Homes
+pub mod Segment
+pub mod Descriptors
+pub mod Texts
+pub mod Titles

@@ -1,7 +1,0 @@
--- The bodies of a text by the numbers of their procedures.
-use Rattle.cw_number.specs.Numbers.{numbers_of}
-use Rattle.cw_sound.proofs.Counting.{bodies_counted}
-use Rattle.cw_sound.proofs.laws.bodies_counted.Goals as goal
-
-pub returns : goal.returns
-returns c named resolves placed items = bodies_counted named (numbers_of named) placed (c.counts.ensures named resolves placed items)

@@ -1,0 +1,79 @@
+//! Laws of the numbers of a text's unit: each is a function without a body, whose contract is the law.
+ghost use Rattle.std.specs.Prelude.{◌≡◌, ℕ, ◌≤◌, Bool, true, IsTrue, List, Option, None};
+ghost use Rattle.std.specs.List.{list_all};
+ghost use Rattle.std.specs.declared.result.Result.TheVariants.{Ok};
+ghost use Rattle.cw_table.specs.declared.table.Row.{Row};
+ghost use Rattle.cw_tree.specs.declared.segment.Raw.{Raw};
+ghost use Rattle.cw_tree.specs.declared.statement.RawBlock.{RawBlock};
+ghost use Rattle.cw_tree.specs.declared.statement.RawStmt.{RawStmt};
+ghost use Rattle.cw_facts.specs.Facts.{statement_facts, block_facts};
+ghost use Rattle.cw_scope.specs.declared.resolve.Named.{Named};
+ghost use Rattle.cw_scope.specs.Outcome.{Resolves};
+ghost use Rattle.cw_items.specs.declared.families.Site.{Site};
+ghost use Rattle.cw_judge.specs.Judged.{first_type_fault, statement_judged, block_judged};
+ghost use Rattle.cw_make_expr.specs.Parts.{Numbers};
+ghost use Rattle.cw_make_stmt.specs.Made.{statement_of, block_of};
+ghost use Rattle.cw_make.specs.Procedures.{block_procs};
+ghost use Rattle.cw_make.specs.Made.{unit_of};
+ghost use Rattle.cw_unit.specs.declared.unit.Switch.{Switch};
+ghost use Rattle.cw_unit.specs.declared.unit.Unit.{Unit as SourceUnit};
+ghost use Rattle.cw_gen_expr.specs.BuiltExpressions.{most_levels};
+ghost use Rattle.cw_gen_unit.specs.ReferenceUnits.{answer_of};
+ghost use Rattle.cw_built.specs.Coded.{has_few};
+ghost use Rattle.cw_coded.specs.RangedUnits.{is_ranged_statement, are_ranged_procedures, is_ranged};
+ghost use Rattle.cw_sound_names.specs.Uses.Stands.{FactsStand};
+ghost use Rattle.cw_sound_trees.specs.Ranges.Declared.{DeclarationsInRange};
+ghost use Rattle.cw_sound_trees.specs.Statements.Answers.{AnswersStand};
+ghost use Rattle.cw_sound_trees.specs.Statements.Bodies.{block_bodies};
+ghost use Rattle.cw_sound_trees.specs.Statements.Counted.{Counted, BodiesFit};
+ghost use Rattle.cw_sound_trees.specs.Statements.Levels.{statement_levels, block_levels};
+ghost use Rattle.cw_sound_trees.specs.Statements.Regular.{is_regular_statement, is_regular_block};
+ghost use Rattle.cw_sound_names.specs.Storage.Frames.{FramesFit};
+ghost use Rattle.cw_sound.specs.Units.TreeFits.{TreeFits};
+
+use crate::laws::units::{answers_stand, bodies_counted, items_declared};
+use cw_sound_names::laws::items::{items_stand, parts_free};
+use cw_sound_names::laws::names::all_stand;
+use cw_sound_names::laws::storage::frames_fit;
+
+/// The numbers of what a text declares are in range.
+pub fn declarations()
+    ensures { (named : Named) → Resolves named.raw.now (Ok named) → first_type_fault named ≡ None → DeclarationsInRange named }
+{
+    parts_free();
+}
+
+/// Each switch has few labels.
+pub fn switches()
+    ensures { (named : Named) → first_type_fault named ≡ None → IsTrue (list_all (λ (s : Switch). has_few s.list) (unit_of named).switches) }
+{
+    parts_free();
+}
+
+/// The numbers of the trees are in range, where those of declarations are.
+pub fn statements()
+    ensures statement { (named : Named) (sites : List (Row Site)) (numbers : Numbers) (u : SourceUnit) (who : Option ℕ) (s : RawStmt) → DeclarationsInRange named → IsTrue (is_regular_statement s) → FactsStand named numbers u (statement_facts s) who → AnswersStand named numbers u (statement_facts s) who → statement_judged named sites s None ≡ None → statement_levels s ≤ most_levels → IsTrue (is_ranged_statement u (answer_of u who) (statement_of named numbers s)) }
+    ensures block { (named : Named) (sites : List (Row Site)) (numbers : Numbers) (u : SourceUnit) (who : Option ℕ) (outermost : Bool) (b : RawBlock) → DeclarationsInRange named → IsTrue (is_regular_block b) → FactsStand named numbers u (block_facts b outermost) who → AnswersStand named numbers u (block_facts b outermost) who → block_judged named sites b None ≡ None → block_levels b ≤ most_levels → IsTrue (is_ranged_statement u (answer_of u who) (block_of named numbers b)) }
+{}
+
+/// The numbers of the procedures of a text's outermost block are in range, where they have the numbers from 0 on and their frames have room.
+pub fn procedures()
+    ensures { (named : Named) (sites : List (Row Site)) (numbers : Numbers) (u : SourceUnit) (b : RawBlock) → DeclarationsInRange named → u.procs ≡ block_procs named numbers b → BodiesFit (block_bodies b) → Counted numbers 0 (block_bodies b) → FactsStand named numbers u (block_facts b true) None → AnswersStand named numbers u (block_facts b true) None → block_judged named sites b None ≡ None → FramesFit u → IsTrue (are_ranged_procedures u 0 u.procs) }
+{}
+
+/// The numbers of a text's unit are in the ranges of the language.
+pub fn unit_ranged()
+    ensures { (raw : Raw) (named : Named) → Resolves raw (Ok named) → first_type_fault named ≡ None → TreeFits raw → IsTrue (is_ranged (unit_of named)) }
+{
+    items_stand();
+    parts_free();
+    items_declared();
+    bodies_counted();
+    answers_stand();
+    all_stand();
+    frames_fit();
+    declarations();
+    switches();
+    statements();
+    procedures();
+}

@@ -1,6 +1,0 @@
-mod Counts
-mod Layers
-mod Good
-mod Trees
-mod Rules
-mod Texts

@@ -1,0 +1,14 @@
+pub mod SortsOf
+pub mod Origins
+pub mod OwnFaults
+pub mod SameKinds
+pub mod OwnNumbers
+pub mod Meeting
+pub mod Passing
+pub mod Owners
+pub mod OwnersOfTrees
+pub mod FramesOwned
+pub mod FrameTotals
+pub mod ProcedureNumbers
+pub mod Extents
+pub mod FramesFit

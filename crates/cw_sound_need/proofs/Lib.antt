@@ -1,7 +1,0 @@
-mod Nodes
-mod Rules
-mod Calls
-mod Layers
-mod Trees
-mod Texts
-mod Units

@@ -1,9 +1,0 @@
-mod Fits
-mod Lists
-mod Bracketed
-mod Operands
-mod Smalls
-mod Good
-mod Expressions
-mod Statements
-mod Texts

@@ -1,9 +1,0 @@
-mod Nodes
-mod Parts
-mod Operands
-mod Primaries
-mod Layers
-mod Expressions
-mod StatementNodes
-mod StatementLayers
-mod Statements

@@ -1,0 +1,13 @@
+pub mod Parts
+pub mod Nodes
+pub mod Operands
+pub mod Places
+pub mod Calls
+pub mod Arguments
+pub mod Rules
+pub mod Primaries
+pub mod References
+pub mod Conditions
+pub mod Layers
+pub mod Trees
+pub mod Whole

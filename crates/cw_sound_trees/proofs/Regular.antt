@@ -1,0 +1,9 @@
+pub mod Fits
+pub mod Lists
+pub mod Bracketed
+pub mod Operands
+pub mod Smalls
+pub mod Good
+pub mod Expressions
+pub mod Statements
+pub mod Texts

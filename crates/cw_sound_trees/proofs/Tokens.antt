@@ -1,0 +1,9 @@
+pub mod Nodes
+pub mod Parts
+pub mod Operands
+pub mod Primaries
+pub mod Layers
+pub mod Expressions
+pub mod StatementNodes
+pub mod StatementLayers
+pub mod Statements

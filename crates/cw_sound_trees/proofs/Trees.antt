@@ -1,0 +1,10 @@
+pub mod Many
+pub mod Trees
+pub mod Tall
+pub mod Core
+pub mod Spread
+pub mod Said
+pub mod Leaves
+pub mod Texts
+pub mod Rising
+pub mod Standing

@@ -1,0 +1,4 @@
+//! TODO
+#![tactic(auto)]
+
+pub mod laws;

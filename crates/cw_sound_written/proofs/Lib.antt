@@ -1,5 +1,0 @@
-mod Homes
-mod Segment
-mod Descriptors
-mod Texts
-pub mod Titles
