@@ -196,6 +196,68 @@ fn each_byte_changed(rt: HostRuntime) -> Result<(), Fail> {
 }
 
 #[test]
+fn older_object(rt: HostRuntime) -> Result<(), Fail> {
+    let alloc = rt.alloc();
+    // The one statement has a record of eleven bytes before the record of five that ends the object; version 1 has none of these.
+    let object = made(alloc, "compile o", "o.SEG")?;
+    let Some(before) = object.len().checked_sub(16) else {
+        return Err(AllocError.into());
+    };
+    let mut older = changed(alloc, &object[..before], 4, 1)?;
+    older.extend_from_slice(&object[before + 11..])?;
+    let mut files = store(alloc, older.as_slice(), 4096, "")?;
+    let mut count = 0_u32;
+    for line in "link strange;exec A.IMG;migrate strange;link strange.SG2;exec A.IMG;migrate strange.SG2".split(
+        ';',
+    ) {
+        assert_eq!(rt; told(alloc, &mut files, line, 4096, "")?.as_str(), "0||");
+        count = count.wrapping_add(1);
+    }
+    assert_eq!(rt; count, 6);
+    if let (Ok(once), Ok(twice)) = (
+        read_file(alloc, &mut files, "strange.SG2", 65_536),
+        read_file(alloc, &mut files, "strange.SG2.SG2", 65_536),
+    ) {
+        assert_eq!(rt; once.as_slice(), twice.as_slice());
+        return Ok(());
+    }
+    Err(AllocError.into())
+}
+
+// An image that takes a byte again and again.
+const TAKING: [u8; 8] = [4, 0, 0, 0, 0xE4, 0x10, 0xEB, 0xFC];
+
+#[test]
+fn longest_input(rt: HostRuntime) -> Result<(), Fail> {
+    let alloc = rt.alloc();
+    let mut image = HEAD.to_vec(alloc)?;
+    image.extend_from_slice(&TAKING)?;
+    let mut files = store(alloc, image.as_slice(), 4096, "")?;
+    let bytes = List::of(vec![in alloc; 0_u8; 16_777_217]?);
+    let mut input = MemSource::new(bytes, 4096, List::of(Vec::new(alloc)));
+    let Ok(mut out) = MemSink::new(alloc, 1, 1, List::of(Vec::new(alloc))) else {
+        return Err(AllocError.into());
+    };
+    let Ok(mut say) = MemSink::new(alloc, 100, 100, List::of(Vec::new(alloc))) else {
+        return Err(AllocError.into());
+    };
+    let words = words_of(alloc, "--steps 40000000 exec strange")?;
+    let status = coral66(
+        alloc,
+        words.as_slice(),
+        &mut files,
+        &mut input,
+        &mut out,
+        &mut say,
+    );
+    assert_eq!(rt;
+        (status.code(), say.held()),
+        (10, &b"too long: input\n"[..])
+    );
+    Ok(())
+}
+
+#[test]
 fn large_numbers(rt: HostRuntime) -> Result<(), Fail> {
     let alloc = rt.alloc();
     let mut object = made(alloc, "compile o", "o.SEG")?;
@@ -214,6 +276,12 @@ fn large_numbers(rt: HostRuntime) -> Result<(), Fail> {
     assert_eq!(rt;
         over(alloc, image.as_slice(), "--steps 70000 exec strange")?.as_str(),
         "5||unfinished: 70000~"
+    );
+    let mut image = HEAD.to_vec(alloc)?;
+    image.extend_from_slice(&[2, 0, 0, 0, 0xF6, 0xF0])?;
+    assert_eq!(rt;
+        over(alloc, image.as_slice(), "exec strange")?.as_str(),
+        "12||divided: 0~"
     );
     let text = vec![in alloc; b';'; 1_048_576]?;
     assert_eq!(rt;
