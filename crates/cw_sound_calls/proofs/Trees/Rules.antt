@@ -52,7 +52,7 @@ logic_nameless : (s : Shape) (js : List Judged) → s.bare ≡ None → (logic_s
 logic_nameless s [] e = e
 logic_nameless s (j ∷ js) e = logic_nameless (logic_merged false j.shape) js refl
 
-factor_keeps : (s : RawFactorSign) (asked f1 f2 : ℕ) → Keeps (factor_faults s asked f1 f2)
+pub factor_keeps : (s : RawFactorSign) (asked f1 f2 : ℕ) → Keeps (factor_faults s asked f1 f2)
 factor_keeps s asked f1 f2 = by_sort (is_division s.op)
   where
     by_sort : (b : Bool) → Keeps (division_faults b s asked f1 f2)
