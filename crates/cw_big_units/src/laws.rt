@@ -6,7 +6,7 @@ ghost use Rattle.cw_unit.specs.declared.unit.Unit.{Unit as SourceUnit};
 ghost use Rattle.cw_compile.specs.Texts.{HasTree, HasNames, IsUnitOf};
 ghost use Rattle.cw_big.specs.LargeProgram.{large_text};
 
-use cw_plain::laws::expands_to_itself;
+use cw_read_back::laws::plain::expands_to_itself;
 
 /// Each text of a large program is a text of the grammar.
 pub fn large_trees()

@@ -117,3 +117,38 @@ fn image(rt: HostRuntime) -> Result<(), Fail> {
     );
     Ok(())
 }
+
+// The faults of objects and of images, in one order, and the texts of both.
+const OBJECT_FAULTS: [ObjFault; 5] = [
+    ObjFault::NotObject,
+    ObjFault::BadVersion,
+    ObjFault::Truncated { at: 7 },
+    ObjFault::BadRecord { at: 7 },
+    ObjFault::Trailing { at: 7 },
+];
+
+const IMAGE_FAULTS: [ImageFault; 6] = [
+    ImageFault::NotImage,
+    ImageFault::BadVersion,
+    ImageFault::Truncated { at: 7 },
+    ImageFault::BadField { at: 7 },
+    ImageFault::Trailing { at: 7 },
+    ImageFault::NoMemory,
+];
+
+const TEXTS: &str =
+    "NotObject BadVersion Truncated BadRecord Trailing NotImage BadVersion Truncated BadField Trailing NoMemory ";
+
+#[test]
+fn texts_of_faults(rt: HostRuntime) -> Result<(), Fail> {
+    let alloc = rt.alloc();
+    let mut texts = String::new(alloc);
+    for fault in OBJECT_FAULTS {
+        texts.push_str(format!(in alloc; "{fault} ")?.as_str())?;
+    }
+    for fault in IMAGE_FAULTS {
+        texts.push_str(format!(in alloc; "{fault} ")?.as_str())?;
+    }
+    assert_eq!(rt; texts.as_str(), TEXTS);
+    Ok(())
+}

@@ -1,5 +1,5 @@
 //! The actions on several files, over a store in memory that takes files.
-use crate::command::{list, words_of};
+use crate::command::{flat, list, words_of};
 use cw_io::{MemFile, MemSink, MemSource, MemStore};
 use cw_top::coral66;
 use cw_word::List;
@@ -125,7 +125,8 @@ big 100?0|3708~|big 100 words 10901~
 --data 109 --frames 0 big 1?3||link: P1 DataTooBig 110~
 --steps 1000 big 1?5||big 1 words 110~unfinished: 1000~";
 
-fn file(alloc: Global, name: &[u8], bytes: &[u8]) -> Result<MemFile, AllocError> {
+/// A file of the store.
+pub fn file(alloc: Global, name: &[u8], bytes: &[u8]) -> Result<MemFile, AllocError> {
     Ok(MemFile {
         name: list(alloc, name)?,
         bytes: list(alloc, bytes)?,
@@ -219,15 +220,6 @@ fn shown(alloc: Global, files: &mut MemStore, line: &str) -> Result<String, Allo
     let held = String::from_utf8_lossy(alloc, out.held())?;
     let said = String::from_utf8_lossy(alloc, say.held())?;
     format!(in alloc; "{code}|{held}|{said}")
-}
-
-// The text with `~` for the end of a line.
-fn flat(alloc: Global, text: &str) -> Result<String, AllocError> {
-    let mut out = String::new(alloc);
-    for character in text.chars() {
-        out.push(if character == '\n' { '~' } else { character })?;
-    }
-    Ok(out)
 }
 
 #[test]

@@ -7,3 +7,5 @@ mod actions;
 mod command;
 #[cfg(test)]
 mod programs;
+#[cfg(test)]
+mod strange;

@@ -3,7 +3,7 @@ ghost use Rattle.cw_go.specs.Apart.{LinksWhatRuns, LinksAsMigrated};
 ghost use Rattle.cw_go.specs.Laws.{KeepsPromise, KeepsRun, KeepsListing, IsRightIdle, HasOneStatus};
 
 use cw_build::laws::linked_units;
-use cw_build_laws::laws::{loaded, separate_objects};
+use cw_build_laws::laws::images::{loaded, separate_objects};
 use cw_compile::laws::one_outcome;
 use cw_cpu86::laws::{one_observation, one_start};
 use cw_link_files::laws::one_link_list;

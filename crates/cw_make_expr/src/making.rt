@@ -83,15 +83,14 @@ fn signed_term(
 fn bits_around(alloc: Global, all: &[RawBits], e: Boxed<Expr>) -> Result<Boxed<Expr>, NoMemory>
     ensures { IfOk result (λ t. t ≡ bits_around all.now e) }
 {
-    match all {
-        [] => Ok(e),
-        [outer, others @ ..] => {
-            let inner = bits_around(alloc, others, e)?;
-            let t = small(&place_amount(&outer.size.first));
-            let b = small(&place_amount(&outer.size.second));
-            bits(alloc, t, b, inner)
-        }
+    let mut inner = e;
+    for i in (0..all.len()).rev() {
+        let size = &all[i].size;
+        let t = small(&place_amount(&size.first));
+        let b = small(&place_amount(&size.second));
+        inner = bits(alloc, t, b, inner)?;
     }
+    Ok(inner)
 }
 
 // ---- rules of the grammar

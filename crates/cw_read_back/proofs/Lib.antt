@@ -1,8 +1,5 @@
-pub mod Back
-pub mod Comments
-pub mod Data
-pub mod Forms
-pub mod Specifications
-pub mod Spelled
-pub mod StatementLayers
-pub mod Statements
+pub mod Expressions
+pub mod Plain
+pub mod Trees
+pub mod Shorter
+pub mod Texts

@@ -1,3 +1,2 @@
-pub mod ReadBack
-pub mod UnplacedItems
-pub mod UnplacedStatements
+pub mod Expressions
+pub mod Trees

@@ -63,16 +63,23 @@ fn is_passed(kind: &Kind) -> bool
 fn takes_these(params: &[RawPs], these: &[RawIps]) -> bool
     ensures { result ≡ takes_these params.now these.now }
 {
-    match params {
-        [] => these.is_empty(),
-        [x, xs @ ..] => match these {
-            [] => false,
-            [y, ys @ ..] => match x {
-                RawPs::Plain(x) => same_plain(x, y) && takes_these(xs, ys),
-                RawPs::Proc(..) => false,
-            },
-        },
+    let mut rest = these;
+    for param in params {
+        match rest {
+            [] => return false,
+            [one, others @ ..] => {
+                let same = match param {
+                    RawPs::Plain(plain) => same_plain(plain, one),
+                    RawPs::Proc(..) => false,
+                };
+                if !same {
+                    return false;
+                }
+                rest = others;
+            }
+        }
     }
+    rest.is_empty()
 }
 
 fn name_is_value(named: &Named, name: &RawName) -> bool
@@ -174,13 +181,17 @@ fn takes(param: &RawPs, shape: &Shape, named: &Named) -> bool
 pub(crate) fn all_taken(params: &[RawPs], arguments: &[RawExpr], named: &Named) -> bool
     ensures { result ≡ all_taken named.now params.now (map (expression named.now) arguments.now) }
 {
-    match params {
-        [] => arguments.is_empty(),
-        [p, others @ ..] => match arguments {
-            [] => false,
-            [x, xs @ ..] => {
-                takes(p, &expression_shape(x, named), named) && all_taken(others, xs, named)
+    let mut rest = arguments;
+    for param in params {
+        match rest {
+            [] => return false,
+            [argument, others @ ..] => {
+                if !takes(param, &expression_shape(argument, named), named) {
+                    return false;
+                }
+                rest = others;
             }
-        },
+        }
     }
+    rest.is_empty()
 }

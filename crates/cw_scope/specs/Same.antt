@@ -4,6 +4,9 @@ use Rattle.cw_word.specs.Number.{Number}
 use Rattle.cw_tree.specs.declared.leaf.RawInt.{RawInt}
 use Rattle.cw_tree.specs.declared.leaf.RawInt.TheVariants as int
 use Rattle.cw_tree.specs.declared.leaf.RawSint.{RawSint}
+use Rattle.cw_tree.specs.declared.leaf.RawSign.{RawSign}
+use Rattle.cw_tree.specs.declared.leaf.AddOp.{AddOp}
+use Rattle.cw_tree.specs.declared.leaf.AddOp.TheVariants as op
 use Rattle.cw_tree.specs.declared.leaf.RawType.{RawType}
 use Rattle.cw_tree.specs.declared.leaf.RawType.TheVariants as type
 use Rattle.cw_tree.specs.declared.segment.RawIps.{RawIps}
@@ -16,7 +19,7 @@ use Rattle.cw_amount.specs.Amounts.{int_amount, sint_amount}
 abbrev pub same_number : Number → Number → Bool
 same_number a b = a.whole == b.whole && (a.digits == b.digits && a.places == b.places)
 
--- numbers that amount to nothing are refused elsewhere; here they are the same where they are spelled alike
+-- numbers that amount to nothing are refused elsewhere; here they are the same where they are spelled alike, signs with them
 abbrev pub spelled_alike : RawInt → RawInt → Bool
 spelled_alike (int.Number a) (int.Number b) = same_number a.number b.number
 spelled_alike (int.Octal a) (int.Octal b) = same_number a.number.number b.number.number
@@ -35,8 +38,19 @@ same_signed (Some a) (Some b) alike = int_le a b && int_le b a
 same_signed None None alike = alike
 same_signed _ _ alike = false
 
+abbrev pub same_operator : AddOp → AddOp → Bool
+same_operator op.Plus op.Plus = true
+same_operator op.Minus op.Minus = true
+same_operator _ _ = false
+
+-- a `+` is spelled too
+abbrev pub same_sign : Option RawSign → Option RawSign → Bool
+same_sign None None = true
+same_sign (Some a) (Some b) = same_operator a.op b.op
+same_sign _ _ = false
+
 abbrev pub same_sint : RawSint → RawSint → Bool
-same_sint a b = same_signed (sint_amount a) (sint_amount b) (spelled_alike a.value b.value)
+same_sint a b = same_signed (sint_amount a) (sint_amount b) (same_sign a.sign b.sign && spelled_alike a.value b.value)
 
 -- INTEGER is FIXED(16,0)
 abbrev pub is_word : RawInt → RawSint → Bool

@@ -1,10 +1,10 @@
 //! Whether specifications are the same.
 ghost use Rattle.std.specs.Prelude.{◌≡◌};
-ghost use Rattle.cw_scope.specs.Same.{same_number, spelled_alike, same_int, same_sint, is_word, same_type, is_integer, same_answer, same_plain, each_same_plain, same_param, each_same, same_signature};
+ghost use Rattle.cw_scope.specs.Same.{same_number, spelled_alike, same_int, same_sign, same_sint, is_word, same_type, is_integer, same_answer, same_plain, each_same_plain, same_param, each_same, same_signature};
 
 use cw_amount::amount::{int_amount, sint_amount};
 use cw_facts::fact::Signature;
-use cw_tree::leaf::{RawInt, RawSint, RawType};
+use cw_tree::leaf::{RawInt, RawSign, RawSint, RawType};
 use cw_tree::segment::{RawIps, RawPs};
 use cw_word::Num;
 
@@ -45,6 +45,18 @@ pub fn same_int(a: &RawInt, b: &RawInt) -> bool
     }
 }
 
+fn same_sign(a: &Option<RawSign>, b: &Option<RawSign>) -> bool
+    ensures { result ≡ same_sign a.now b.now }
+{
+    match a {
+        Some(x) => match b {
+            Some(y) => x.op == y.op,
+            None => false,
+        },
+        None => b.is_none(),
+    }
+}
+
 fn same_sint(a: &RawSint, b: &RawSint) -> bool
     ensures { result ≡ same_sint a.now b.now }
 {
@@ -55,7 +67,7 @@ fn same_sint(a: &RawSint, b: &RawSint) -> bool
         },
         None => match sint_amount(b) {
             Some(_) => false,
-            None => spelled_alike(&a.value, &b.value),
+            None => same_sign(&a.sign, &b.sign) && spelled_alike(&a.value, &b.value),
         },
     }
 }
@@ -142,13 +154,19 @@ pub fn same_plain(a: &RawIps, b: &RawIps) -> bool
 fn each_same_plain(a: &[RawIps], b: &[RawIps]) -> bool
     ensures { result ≡ each_same_plain a.now b.now }
 {
-    match a {
-        [] => b.is_empty(),
-        [x, xs @ ..] => match b {
-            [] => false,
-            [y, ys @ ..] => same_plain(x, y) && each_same_plain(xs, ys),
-        },
+    let mut rest = b;
+    for x in a {
+        match rest {
+            [] => return false,
+            [y, others @ ..] => {
+                if !same_plain(x, y) {
+                    return false;
+                }
+                rest = others;
+            }
+        }
     }
+    rest.is_empty()
 }
 
 fn same_param(a: &RawPs, b: &RawPs) -> bool
@@ -171,13 +189,19 @@ fn same_param(a: &RawPs, b: &RawPs) -> bool
 fn each_same(a: &[RawPs], b: &[RawPs]) -> bool
     ensures { result ≡ each_same a.now b.now }
 {
-    match a {
-        [] => b.is_empty(),
-        [x, xs @ ..] => match b {
-            [] => false,
-            [y, ys @ ..] => same_param(x, y) && each_same(xs, ys),
-        },
+    let mut rest = b;
+    for x in a {
+        match rest {
+            [] => return false,
+            [y, others @ ..] => {
+                if !same_param(x, y) {
+                    return false;
+                }
+                rest = others;
+            }
+        }
     }
+    rest.is_empty()
 }
 
 /// Whether specifications are the same.

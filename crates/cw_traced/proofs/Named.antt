@@ -13,7 +13,7 @@ use Rattle.cw_comm.specs.Agreement.{Name, first_twice}
 use Rattle.cw_link.specs.LinkedImage.{face_of}
 use Rattle.cw_build.specs.Compiled.{contents_of_unit, contents_of_units}
 use Rattle.cw_build.specs.Linking.{Links}
-use Rattle.cw_build_laws.proofs.Storage.{get-map}
+use Rattle.cw_build_laws.proofs.Images.Storage.{get-map}
 
 abbrev pub has : List Name → Name → Bool
 has seen name = list_any (bytes_eq name) seen

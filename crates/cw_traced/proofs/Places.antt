@@ -23,7 +23,7 @@ use Rattle.cw_object.specs.ObjectContents.{payloads_of}
 use Rattle.cw_sim.specs.Statements.{image_places}
 use Rattle.cw_build.specs.Compiled.{IsCompilable, code_of, object_of, contents_of_units}
 use Rattle.cw_build.specs.Linking.{Links}
-use Rattle.cw_build_laws.proofs.Definitions.{IsRest, all-rest, one-less}
+use Rattle.cw_build_laws.proofs.Images.Definitions.{IsRest, all-rest, one-less}
 use Rattle.cw_stop.specs.declared.stopping.Stop.{Stop}
 use Rattle.cw_trace.specs.Statements.{places_of}
 use Rattle.cw_watch.specs.Watching.{places_at, segment_places, stop_places}

@@ -21,7 +21,7 @@ ghost use Rattle.cw_trace.specs.declared.watch.Watch.{Watch};
 ghost use Rattle.cw_watch.specs.Watching.{stop_places};
 ghost use Rattle.cw_traced.specs.Reported.{MeansInUnits, IsNamed, ReportsUnits};
 
-use cw_build_laws::laws::loaded;
+use cw_build_laws::laws::images::loaded;
 use cw_lines::laws::lines_of_code;
 use cw_obj::laws::object_written;
 use cw_object::laws::{object_of_unit, writable};

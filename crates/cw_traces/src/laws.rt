@@ -1,7 +1,7 @@
 //! What a call of `trace` promises, from how it goes; and that no two statuses come of one call.
 ghost use Rattle.cw_traces.specs.Laws.{KeepsStopped, KeepsFault, KeepsRun, IsRightIdle, HasOneStatus};
 
-use cw_build_laws::laws::loaded;
+use cw_build_laws::laws::images::loaded;
 use cw_compile::laws::one_outcome;
 use cw_cpu86::laws::{one_observation, one_start};
 use cw_go::compiled_units;

@@ -10,7 +10,7 @@ ghost use Rattle.cw_traces.specs.Laws.{IsTraced};
 use crate::closing::{close_no_item, close_no_place};
 use crate::laws::traces;
 use crate::running::watch_segments;
-use cw_build_laws::laws::separate_objects;
+use cw_build_laws::laws::images::separate_objects;
 use cw_go::{close, compiled_units, link_segments, read_units};
 use cw_io::{Sink, Source, Store};
 use cw_say::Status;

@@ -32,7 +32,7 @@ use Rattle.cw_unit.specs.declared.descriptor.Desc.{Desc}
 use Rattle.cw_view.specs.ObjectFormat.{has_base}
 use Rattle.cw_object.specs.Fits.{fits_descriptor}
 use Rattle.cw_object.specs.IsWritable.{is_listed, are_listed}
-use Rattle.cw_front.proofs.Truth.{lt_true, both, first_of_two, second_of_two}
+use Rattle.cw_writable.proofs.Front.Truth.{lt_true, both, first_of_two, second_of_two}
 use Rattle.cw_sound_names.specs.Items.Derived.{IsRising, declared_token, facts_tokens, HasRisingTokens}
 use Rattle.cw_sound_names.specs.Items.Bases.{BasesStand}
 use Rattle.cw_sound_names.specs.Items.Items.{things_of}

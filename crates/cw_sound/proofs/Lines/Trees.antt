@@ -40,7 +40,7 @@ use Rattle.cw_grammar.specs.Tokens.{Item, position}
 use Rattle.cw_grammar.specs.Rules.{indexed_name, ref_behind}
 use Rattle.cw_grammar.specs.Statements.{jump, block_tree, stmt_tree, simple_stmt, with_label, proc_tree, raw}
 use Rattle.cw_make_stmt.specs.Made.{ref_position, ref_position_in}
-use Rattle.cw_code_written.specs.Ready.{all}
+use Rattle.cw_writable.specs.Back.Ready.{all}
 use Rattle.cw_sound_trees.proofs.Expressions.Truth.{both}
 use Rattle.cw_sound_trees.specs.Statements.Bodies as bodies
 use Rattle.cw_macro.specs.Premises.{Each}

@@ -22,7 +22,7 @@ use Rattle.cw_make.specs.Made.{unit_of}
 use Rattle.cw_unit.specs.declared.unit.Item.{Item}
 use Rattle.cw_unit.specs.declared.unit.Home.TheVariants as home
 use Rattle.cw_unit.specs.Storage.{root_of}
-use Rattle.cw_front.proofs.Truth.{lt_true, both}
+use Rattle.cw_writable.proofs.Front.Truth.{lt_true, both}
 use Rattle.cw_sound_names.specs.Items.Derived.{HasRisingTokens, IsRising}
 use Rattle.cw_sound_names.specs.Items.Bases.{BasesStand}
 use Rattle.cw_sound_names.specs.Items.Free.{PartsFree}

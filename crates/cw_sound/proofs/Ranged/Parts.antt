@@ -26,8 +26,8 @@ use Rattle.cw_make_stmt.specs.Made.{line_of, goal_of, switch_of, felem_of}
 use Rattle.cw_unit.specs.declared.unit.Unit.{Unit as SourceUnit}
 use Rattle.cw_unit.specs.declared.unit.Expr.{Expr}
 use Rattle.cw_gen_expr.specs.BuiltExpressions.{most_levels}
-use Rattle.cw_coded.specs.RangedExpressions.{all_ranged, ranged_value, is_ranged_expression, is_ranged_condition, is_ranged_argument, ranged_reference}
-use Rattle.cw_coded.specs.RangedUnits.{is_line, is_ranged_jump, is_ranged_element, are_ranged_elements}
+use Rattle.cw_writable.specs.Coded.RangedExpressions.{all_ranged, ranged_value, is_ranged_expression, is_ranged_condition, is_ranged_argument, ranged_reference}
+use Rattle.cw_writable.specs.Coded.RangedUnits.{is_line, is_ranged_jump, is_ranged_element, are_ranged_elements}
 use Rattle.cw_sound_names.specs.Uses.Stands.{FactsStand}
 use Rattle.cw_sound_trees.specs.Expressions.Levels.{largest, then_levels, condition_levels, reference_levels}
 use Rattle.cw_sound_trees.specs.Expressions.Readings.{is_placed}

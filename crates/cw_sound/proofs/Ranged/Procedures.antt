@@ -14,7 +14,7 @@ use Rattle.cw_unit.specs.declared.unit.Proc.{Proc}
 use Rattle.cw_unit.specs.declared.unit.Stmt.{Stmt}
 use Rattle.cw_unit.specs.Storage.{frame_size}
 use Rattle.cw_gen_unit.specs.ReferenceUnits.{answer_of}
-use Rattle.cw_coded.specs.RangedUnits.{is_ranged_statement, is_ranged_procedure, are_ranged_procedures}
+use Rattle.cw_writable.specs.Coded.RangedUnits.{is_ranged_statement, is_ranged_procedure, are_ranged_procedures}
 use Rattle.cw_sound_names.specs.Uses.Mentions.{In}
 use Rattle.cw_sound_trees.proofs.Expressions.Truth.{both, le_true}
 use Rattle.cw_sound_trees.proofs.Expressions.Judging.{NoFault}

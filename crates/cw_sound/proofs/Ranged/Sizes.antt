@@ -14,7 +14,7 @@ use Rattle.cw_scale.specs.Types.{int_judged, scale_judged, type_judged, is_field
 use Rattle.cw_data.specs.Data.{range_span, fits_area, good_bounds, good_size, size_judged, is_within, element_judged}
 use Rattle.cw_data.specs.Presets.{table_words}
 use Rattle.cw_make_expr.specs.Parts.{within, element_word, element_field}
-use Rattle.cw_coded.specs.RangedExpressions as ranged
+use Rattle.cw_writable.specs.Coded.RangedExpressions as ranged
 use Rattle.cw_sound_trees.proofs.Expressions.Truth.{no, both as both_true, parts, le_true, le_of, lt_true, lt_of}
 use Rattle.cw_sound_trees.proofs.Expressions.Judging.{Keeps, NoFault, keeps_both, keeps_unless, keeps_int, both_free, holds}
 use Rattle.cw_sound_names.proofs.Names.TypeFaults.{keeps_scale}

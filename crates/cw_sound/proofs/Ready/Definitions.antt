@@ -13,9 +13,9 @@ use Rattle.cw_make.specs.Definitions.{outermost_declared, def_if, def_of, defs_f
 use Rattle.cw_make.specs.Made.{unit_of}
 use Rattle.cw_unit.specs.declared.unit.Def.{Def}
 use Rattle.cw_unit.specs.declared.descriptor.Desc.{Desc}
-use Rattle.cw_coded.proofs.Fine.{both}
-use Rattle.cw_coded.proofs.Numbers.{le_true}
-use Rattle.cw_code_written.specs.Ready.{are_rising}
+use Rattle.cw_writable.proofs.Coded.Fine.{both}
+use Rattle.cw_writable.proofs.Coded.Numbers.{le_true}
+use Rattle.cw_writable.specs.Back.Ready.{are_rising}
 use Rattle.cw_sound_names.specs.Items.Derived.{HasRisingTokens}
 use Rattle.cw_sound_names.proofs.Items.Naming.{few-descriptors}
 use Rattle.cw_sound_names.proofs.Names.ListedParts.{Listed, none, also, used, stored, unlisted, label, switch, procedure, special, communicators_parts}

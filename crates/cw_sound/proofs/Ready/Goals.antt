@@ -11,9 +11,9 @@ use Rattle.cw_make_items.specs.Lookup.{Numbers}
 use Rattle.cw_scope.specs.declared.resolve.Named.{Named}
 use Rattle.cw_built.specs.Built.{alone, at_work}
 use Rattle.cw_built.specs.Listed.{are_named}
-use Rattle.cw_coded.proofs.Fine.{both, parts}
-use Rattle.cw_code_written.specs.Ready.{is_goal}
-use Rattle.cw_code_written.proofs.Names.{listed}
+use Rattle.cw_writable.proofs.Coded.Fine.{both, parts}
+use Rattle.cw_writable.specs.Back.Ready.{is_goal}
+use Rattle.cw_writable.proofs.Back.Names.{listed}
 use Rattle.cw_sound_names.specs.Uses.Mentions.{Here}
 use Rattle.cw_sound_names.proofs.Names.Picking.{Zip}
 use Rattle.cw_sound_names.proofs.Names.SwitchNumbers.{AllReached, SwitchOf}

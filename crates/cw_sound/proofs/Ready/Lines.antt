@@ -20,9 +20,9 @@ use Rattle.cw_make_stmt.specs.Made as made
 use Rattle.cw_make_stmt.specs.Made.{line_of, ref_position, labels_of, mark, marked, row, row_if}
 use Rattle.cw_unit.specs.declared.unit.Stmt.{Stmt, Stmt-F, roll-Stmt, map-Stmt, fold-roll-Stmt}
 use Rattle.cw_unit.specs.declared.unit.Stmt.TheOpen as statement
-use Rattle.cw_coded.proofs.Fine.{both, parts}
-use Rattle.cw_coded.proofs.Numbers.{le_true}
-use Rattle.cw_code_written.specs.Ready.{all, is_line, lines_step, has_lines}
+use Rattle.cw_writable.proofs.Coded.Fine.{both, parts}
+use Rattle.cw_writable.proofs.Coded.Numbers.{le_true}
+use Rattle.cw_writable.specs.Back.Ready.{all, is_line, lines_step, has_lines}
 use Rattle.cw_sound.specs.Ready.Lined as lined
 use Rattle.cw_sound.specs.Ready.Lined.{is_numbered, lined_if}
 

@@ -43,8 +43,8 @@ use Rattle.cw_unit.specs.declared.descriptor.SpecParam.TheViews.{out-roll-SpecPa
 use Rattle.cw_word.specs.FixedPoint.{fits_word}
 use Rattle.cw_fields.specs.Names.{is_name}
 use Rattle.cw_object.specs.Fits.{is_byte, is_word, fits_scale, fits_answer, fits_plain_parameter, fits_spec, fits_layer, fits_parameter, fits_bounds, fits_element, is_few, fits_body, fits_overlay, fits_descriptor}
-use Rattle.cw_front.proofs.Truth.{lt_true, both, first_of_two, second_of_two}
-use Rattle.cw_front.proofs.Families.{all_append}
+use Rattle.cw_writable.proofs.Front.Truth.{lt_true, both, first_of_two, second_of_two}
+use Rattle.cw_writable.proofs.Front.Families.{all_append}
 use Rattle.cw_sound.specs.Written.Counts.{Each, HasFewPlain, SpecCounts, DataCounts, CitemCounts, CommCounts, CountsFit}
 use Rattle.cw_sound.proofs.Written.Homes.{within_limit}
 use Rattle.cw_sound.proofs.Written.Segment.{identifier_is_name}

@@ -29,7 +29,7 @@ use Rattle.cw_sound_names.proofs.Items.Naming.{few-descriptors}
 use Rattle.cw_sound_names.proofs.Items.Numbering.{made-of, row-at}
 use Rattle.cw_sound_names.proofs.Items.Overlaying.{as-many}
 use Rattle.cw_sound_names.specs.Storage.Frames.{FramesOwned, FramesFit}
-use Rattle.cw_front.specs.Front.{HomesFit}
+use Rattle.cw_writable.specs.Front.Front.{HomesFit}
 
 -- ---- addresses are words
 

@@ -12,7 +12,7 @@ use Rattle.cw_tree.specs.declared.statement.RawBlock.{RawBlock, fold-RawBlock}
 use Rattle.cw_tree.specs.declared.statement.RawProc.{RawProc, fold-RawProc}
 use Rattle.cw_tree.specs.declared.statement.RawStmt.{RawStmt, fold-RawStmt}
 use Rattle.cw_make_stmt.specs.Made.{ref_position}
-use Rattle.cw_code_written.specs.Ready.{all}
+use Rattle.cw_writable.specs.Back.Ready.{all}
 use Rattle.cw_sound_trees.specs.Statements.Bodies.{Body, block_bodies}
 
 abbrev pub is_numbered : Position → Bool

@@ -13,7 +13,7 @@ ghost use Rattle.cw_scope.specs.Outcome.{Resolves};
 ghost use Rattle.cw_judge.specs.Judged.{first_type_fault};
 ghost use Rattle.cw_make.specs.Made.{unit_of};
 ghost use Rattle.cw_sound_names.specs.Items.Derived.{HasRisingTokens, HasPlainProcedures};
-ghost use Rattle.cw_front.specs.Front.{PresetsFit};
+ghost use Rattle.cw_writable.specs.Front.Front.{PresetsFit};
 ghost use Rattle.cw_sound.specs.Presets.Bytes.{AreBytes, HasBytes};
 
 use cw_sound_names::laws::items::{bases_stand, parts_free, unit_storable};

@@ -20,7 +20,7 @@ ghost use Rattle.cw_unit.specs.declared.unit.Unit.{Unit as SourceUnit};
 ghost use Rattle.cw_gen_expr.specs.BuiltExpressions.{most_levels};
 ghost use Rattle.cw_gen_unit.specs.ReferenceUnits.{answer_of};
 ghost use Rattle.cw_built.specs.Coded.{has_few};
-ghost use Rattle.cw_coded.specs.RangedUnits.{is_ranged_statement, are_ranged_procedures, is_ranged};
+ghost use Rattle.cw_writable.specs.Coded.RangedUnits.{is_ranged_statement, are_ranged_procedures, is_ranged};
 ghost use Rattle.cw_sound_names.specs.Uses.Stands.{FactsStand};
 ghost use Rattle.cw_sound_trees.specs.Ranges.Declared.{DeclarationsInRange};
 ghost use Rattle.cw_sound_trees.specs.Statements.Answers.{AnswersStand};

@@ -10,7 +10,7 @@ ghost use Rattle.cw_number.specs.Numbers.{numbers_of};
 ghost use Rattle.cw_make.specs.Made.{unit_of};
 ghost use Rattle.cw_unit.specs.declared.unit.Proc.{Proc};
 ghost use Rattle.cw_unit.specs.declared.unit.Switch.{Switch};
-ghost use Rattle.cw_code_written.specs.Ready.{has_lines, is_goal, are_rising, IsReady};
+ghost use Rattle.cw_writable.specs.Back.Ready.{has_lines, is_goal, are_rising, IsReady};
 ghost use Rattle.cw_sound_names.specs.Items.Derived.{HasRisingTokens};
 ghost use Rattle.cw_sound_names.specs.Names.Placed.{Placed};
 ghost use Rattle.cw_sound_names.specs.Names.Standing.{ItemsStand};

@@ -14,11 +14,8 @@ use crate::laws::ranged::unit_ranged;
 use crate::laws::ready::unit_ready;
 use crate::laws::units::{items_declared, unit_built, unit_formed};
 use crate::laws::written::{homes_fit, items_fit, items_titled, segment_named};
-use cw_code_written::laws::back_writable;
-use cw_coded::laws::coded;
 use cw_compile::laws::one_outcome;
 use cw_counted::laws::tokens_counted;
-use cw_front::laws::front_of_parts;
 use cw_size::laws::short_code;
 use cw_sound_names::laws::items::{descriptors_named, items_stand};
 use cw_sound_names::laws::labels::labels_set;
@@ -27,6 +24,9 @@ use cw_sound_trees::laws::regular::regular;
 use cw_sound_trees::laws::tokens::unit_counted;
 use cw_sound_trees::laws::trees::{items_derived, placed, within_levels};
 use cw_spelled::laws::spelled;
+use cw_writable::laws::back::back_writable;
+use cw_writable::laws::coded::coded;
+use cw_writable::laws::front::front_of_parts;
 
 /// The tree of a text is as the laws of its unit ask.
 pub fn text_trees()

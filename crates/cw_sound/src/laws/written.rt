@@ -20,7 +20,7 @@ ghost use Rattle.cw_sound_names.specs.Items.Derived.{HasRisingTokens, HasPlainPr
 ghost use Rattle.cw_fields.specs.Names.{is_name};
 ghost use Rattle.cw_object.specs.Fits.{fits_descriptor};
 ghost use Rattle.cw_obj.specs.ReferenceObject.{entry_of};
-ghost use Rattle.cw_front.specs.Front.{ItemsFit, HomesFit, is_titled};
+ghost use Rattle.cw_writable.specs.Front.Front.{ItemsFit, HomesFit, is_titled};
 ghost use Rattle.cw_sound.specs.Written.Counts.{CountsFit};
 ghost use Rattle.cw_sound.specs.Written.Identified.{HasIdentifiers};
 

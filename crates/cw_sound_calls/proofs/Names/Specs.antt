@@ -12,7 +12,7 @@ use Rattle.cw_tree.specs.declared.segment.RawPs.{RawPs}
 use Rattle.cw_tree.specs.declared.segment.RawPs.TheVariants as ps
 use Rattle.cw_facts.specs.declared.fact.Signature.{Signature}
 use Rattle.cw_amount.specs.Amounts.{int_amount, place_amount, octal, word_of, with_sign, signed_if, is_negative}
-use Rattle.cw_scope.specs.Same.{spelled_alike, same_amount, same_int, same_signed, same_sint, is_word, same_type, same_answer, same_plain, each_same_plain, same_param, each_same, same_signature}
+use Rattle.cw_scope.specs.Same.{spelled_alike, same_amount, same_int, same_sign, same_signed, same_sint, is_word, same_type, same_answer, same_plain, each_same_plain, same_param, each_same, same_signature}
 use Rattle.cw_scale.specs.Arguments.{takes_these}
 use Rattle.cw_scale.specs.Kinds.{fraction_in, fraction_of_sint}
 use Rattle.cw_make_items.specs.Types.{within, scale_of, answer_of, width_of, plain_taken, each_plain_taken, plain_spec, taken, each_taken, spec_of}
@@ -116,7 +116,7 @@ fraction_signed false true alike (Some m) (Some n) h = ap (λ (k : ℕ). fractio
 sint_same : (a b : RawSint) → IsTrue (same_sint a b) → fraction_of_sint a ≡ fraction_of_sint b
 sint_same a b h =
     fraction_place (is_negative a.sign) a.value
-    ∙ fraction_signed (is_negative a.sign) (is_negative b.sign) (spelled_alike a.value b.value) (int_amount a.value) (int_amount b.value) h
+    ∙ fraction_signed (is_negative a.sign) (is_negative b.sign) (same_sign a.sign b.sign && spelled_alike a.value b.value) (int_amount a.value) (int_amount b.value) h
     ∙ sym (fraction_place (is_negative b.sign) b.value)
 
 -- ---- types

@@ -30,9 +30,9 @@ use Rattle.cw_unit.specs.declared.unit.Arg.TheOpen.{Arg-F}
 use Rattle.cw_unit.specs.declared.unit.Arg.TheFolds.{fold-roll-Arg}
 use Rattle.cw_unit.specs.declared.unit.Arg.TheViews.{out-roll-Expr}
 use Rattle.cw_gen_expr.specs.BuiltExpressions.{most_levels}
-use Rattle.cw_coded.specs.RangedExpressions as ranged
-use Rattle.cw_coded.specs.RangedExpressions.{RangedValue, RangedReference, in_range, all_ranged, is_ranged_argument, ranged_reference}
-use Rattle.cw_coded.proofs.RangedLayers.{ranged_argument_layer}
+use Rattle.cw_writable.specs.Coded.RangedExpressions as ranged
+use Rattle.cw_writable.specs.Coded.RangedExpressions.{RangedValue, RangedReference, in_range, all_ranged, is_ranged_argument, ranged_reference}
+use Rattle.cw_writable.proofs.Coded.RangedLayers.{ranged_argument_layer}
 use Rattle.cw_sound_trees.specs.Expressions.Levels.{largest}
 use Rattle.cw_sound_trees.proofs.Expressions.Truth.{no, both, parts, le_true}
 use Rattle.cw_sound_trees.proofs.Expressions.Judging.{Keeps, NoFault, keeps_fine, keeps_wrong, keeps_both, both_free}

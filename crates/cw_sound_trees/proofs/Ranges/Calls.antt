@@ -13,7 +13,7 @@ use Rattle.cw_unit.specs.declared.unit.Arg.{Arg}
 use Rattle.cw_unit.specs.declared.unit.Target.{Target}
 use Rattle.cw_unit.specs.declared.unit.Arg.TheOpen as layer
 use Rattle.cw_unit.specs.Scales.{answer_scale}
-use Rattle.cw_coded.specs.RangedExpressions.{all_ranged, is_ranged_argument, is_field}
+use Rattle.cw_writable.specs.Coded.RangedExpressions.{all_ranged, is_ranged_argument, is_field}
 use Rattle.cw_sound_names.specs.Uses.Stands.{StandsAs}
 use Rattle.cw_sound_trees.proofs.Expressions.Truth.{both, le_true}
 use Rattle.cw_sound_trees.proofs.Expressions.Numbers.{name_small}

@@ -16,10 +16,10 @@ use Rattle.cw_unit.specs.declared.unit.Expr.{Expr}
 use Rattle.cw_unit.specs.declared.unit.Ref.{Ref}
 use Rattle.cw_unit.specs.declared.unit.Arg.TheOpen as unit_layer
 use Rattle.cw_gen_expr.specs.BuiltExpressions.{most_levels}
-use Rattle.cw_coded.specs.RangedExpressions.{RangedValue, in_range, is_ranged_condition, is_ranged_argument, ranged_reference}
-use Rattle.cw_coded.specs.RangedExpressions as ranged
-use Rattle.cw_coded.specs.RangedExpressions.{RangedReference}
-use Rattle.cw_coded.proofs.RangedLayers.{ranged_condition_layer}
+use Rattle.cw_writable.specs.Coded.RangedExpressions.{RangedValue, in_range, is_ranged_condition, is_ranged_argument, ranged_reference}
+use Rattle.cw_writable.specs.Coded.RangedExpressions as ranged
+use Rattle.cw_writable.specs.Coded.RangedExpressions.{RangedReference}
+use Rattle.cw_writable.proofs.Coded.RangedLayers.{ranged_condition_layer}
 use Rattle.cw_sound_trees.proofs.Expressions.Truth.{le_true}
 use Rattle.cw_sound_trees.specs.Expressions.Levels.{largest}
 use Rattle.cw_sound_trees.proofs.Expressions.Truth.{both as both_true, max_small}

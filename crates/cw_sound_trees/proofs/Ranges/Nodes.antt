@@ -14,10 +14,10 @@ use Rattle.cw_unit.specs.declared.unit.Spot.{Spot}
 use Rattle.cw_unit.specs.declared.unit.Ref.{Ref}
 use Rattle.cw_unit.specs.declared.unit.Arg.TheOpen as layer
 use Rattle.cw_unit.specs.declared.unit.Arg.TheFolds.{fold-roll-Expr}
-use Rattle.cw_coded.specs.RangedExpressions as ranged
-use Rattle.cw_coded.specs.RangedExpressions.{RangedValue, RangedReference, in_range, can_divide, ranged_scaled}
+use Rattle.cw_writable.specs.Coded.RangedExpressions as ranged
+use Rattle.cw_writable.specs.Coded.RangedExpressions.{RangedValue, RangedReference, in_range, can_divide, ranged_scaled}
 use Rattle.cw_built.specs.Coded.{is_part}
-use Rattle.cw_coded.proofs.RangedLayers.{ranged_value_layer, value-ranged}
+use Rattle.cw_writable.proofs.Coded.RangedLayers.{ranged_value_layer, value-ranged}
 use Rattle.cw_sound_trees.proofs.Expressions.Truth.{both, le_true}
 use Rattle.cw_sound_trees.proofs.Ranges.Parts.{value, Ready, Result, Addend}
 

@@ -13,7 +13,7 @@ use Rattle.cw_unit.specs.declared.unit.Expr.{Expr}
 use Rattle.cw_unit.specs.declared.unit.Cond.{Cond}
 use Rattle.cw_unit.specs.declared.unit.Ref.{Ref}
 use Rattle.cw_gen_expr.specs.BuiltExpressions.{most_levels}
-use Rattle.cw_coded.specs.RangedExpressions.{RangedValue, in_range, ranged_value, is_ranged_condition, is_ranged_argument, ranged_reference}
+use Rattle.cw_writable.specs.Coded.RangedExpressions.{RangedValue, in_range, ranged_value, is_ranged_condition, is_ranged_argument, ranged_reference}
 use Rattle.cw_sound_names.specs.Uses.Stands.{FactsStand}
 use Rattle.cw_sound_trees.specs.Expressions.Readings.{is_placed}
 use Rattle.cw_sound_trees.proofs.Expressions.Parts.{AsValue, made_of}

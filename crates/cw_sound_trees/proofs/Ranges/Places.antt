@@ -25,9 +25,9 @@ use Rattle.cw_word.specs.FixedPoint.{fits_word}
 use Rattle.cw_amount.specs.Amounts.{place_sint}
 use Rattle.cw_tree.specs.declared.leaf.RawSint.{RawSint}
 use Rattle.cw_make_expr.specs.Parts.{bound_in, field_of, element_field}
-use Rattle.cw_coded.specs.RangedExpressions as ranged
-use Rattle.cw_coded.specs.RangedExpressions.{RangedValue, RangedReference, in_range, are_bounds, is_field, ranged_reference, is_ranged_spot}
-use Rattle.cw_coded.proofs.RangedLayers.{ranged_spot_layer, ranged_reference_layer}
+use Rattle.cw_writable.specs.Coded.RangedExpressions as ranged
+use Rattle.cw_writable.specs.Coded.RangedExpressions.{RangedValue, RangedReference, in_range, are_bounds, is_field, ranged_reference, is_ranged_spot}
+use Rattle.cw_writable.proofs.Coded.RangedLayers.{ranged_spot_layer, ranged_reference_layer}
 use Rattle.cw_scale.specs.Kinds.{kind_of, kind_in}
 use Rattle.cw_sound_trees.specs.Ranges.Declared.{has_ranges, is_row, is_size, DeclarationsInRange}
 use Rattle.cw_sound_trees.proofs.Expressions.Truth.{no, both, parts, le_true, le_of, lt_true}

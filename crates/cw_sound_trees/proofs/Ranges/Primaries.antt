@@ -32,7 +32,7 @@ use Rattle.cw_unit.specs.declared.unit.Spot.{Spot}
 use Rattle.cw_unit.specs.declared.unit.Ref.{Ref}
 use Rattle.cw_unit.specs.declared.unit.Arg.TheOpen as unit_layer
 use Rattle.cw_gen_expr.specs.BuiltExpressions.{most_levels}
-use Rattle.cw_coded.specs.RangedExpressions.{RangedValue, in_range, is_ranged_condition, ranged_reference}
+use Rattle.cw_writable.specs.Coded.RangedExpressions.{RangedValue, in_range, is_ranged_condition, ranged_reference}
 use Rattle.cw_sound_trees.specs.Expressions.Levels.{largest}
 use Rattle.cw_sound_trees.proofs.Expressions.Truth.{no, both as both_true, le_true, max_small}
 use Rattle.cw_sound_trees.proofs.Expressions.Judging.{keeps_fine, keeps_unless, keeps_both, both_free, keeps_type}

@@ -45,7 +45,7 @@ use Rattle.cw_sound_trees.proofs.Ranges.Calls.{field_in}
 use Rattle.cw_sound_trees.proofs.Ranges.Arguments.{handed_given, nothing_given}
 use Rattle.cw_sound_trees.specs.Ranges.Declared.{DeclarationsInRange}
 use Rattle.cw_gen_expr.specs.BuiltExpressions.{most_levels}
-use Rattle.cw_coded.specs.RangedExpressions.{is_field}
+use Rattle.cw_writable.specs.Coded.RangedExpressions.{is_field}
 
 -- ---- what a name may be
 

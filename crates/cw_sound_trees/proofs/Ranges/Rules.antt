@@ -23,7 +23,7 @@ use Rattle.cw_unit.specs.declared.unit.Expr.{Expr}
 use Rattle.cw_unit.specs.declared.unit.Ref.{Ref}
 use Rattle.cw_unit.specs.declared.unit.Arg.TheOpen as unit_layer
 use Rattle.cw_gen_expr.specs.BuiltExpressions.{most_levels}
-use Rattle.cw_coded.specs.RangedExpressions.{RangedValue, is_ranged_argument}
+use Rattle.cw_writable.specs.Coded.RangedExpressions.{RangedValue, is_ranged_argument}
 use Rattle.cw_sound_trees.proofs.Ranges.Arguments.{nothing_given}
 use Rattle.cw_sound_names.specs.Uses.Stands.{FactsStand}
 use Rattle.cw_sound_trees.specs.Expressions.Levels.{largest}

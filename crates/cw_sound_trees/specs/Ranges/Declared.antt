@@ -7,7 +7,7 @@ use Rattle.cw_facts.specs.declared.fact.Kind.{Kind}
 use Rattle.cw_facts.specs.declared.fact.Kind.TheVariants as kind
 use Rattle.cw_scope.specs.declared.resolve.Named.{Named}
 use Rattle.cw_make_expr.specs.Parts.{words_of, width_of, entries_of, element_word, element_field, row_length, kind_here}
-use Rattle.cw_coded.specs.RangedExpressions.{is_field}
+use Rattle.cw_writable.specs.Coded.RangedExpressions.{is_field}
 
 abbrev pub is_size : RawSize → Bool
 is_size s = nat_le (words_of s) 32768 && (nat_le (width_of s) 32768 && nat_le (entries_of s) 32768)

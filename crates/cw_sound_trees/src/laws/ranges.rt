@@ -21,7 +21,7 @@ ghost use Rattle.cw_sound_trees.specs.Expressions.Readings.{is_evaluated, is_pla
 ghost use Rattle.cw_sound_trees.specs.Expressions.Levels.{largest, then_levels, condition_levels, reference_levels};
 ghost use Rattle.cw_sound_trees.specs.Expressions.Regular.{all, is_regular, is_regular_condition, is_regular_reference};
 ghost use Rattle.cw_gen_expr.specs.BuiltExpressions.{most_levels};
-ghost use Rattle.cw_coded.specs.RangedExpressions.{all_ranged, is_ranged_expression, is_ranged_condition, is_ranged_argument, ranged_reference};
+ghost use Rattle.cw_writable.specs.Coded.RangedExpressions.{all_ranged, is_ranged_expression, is_ranged_condition, is_ranged_argument, ranged_reference};
 ghost use Rattle.cw_sound_trees.specs.Ranges.Declared.{DeclarationsInRange};
 
 /// The numbers of the trees are in range.

@@ -4,7 +4,7 @@ use Rattle.cw_facts.specs.declared.fact.Form.TheVariants as form
 use Rattle.cw_facts.specs.Uses.{argument_uses, uses_of}
 use Rattle.cw_scale.specs.TypeRules.{expression}
 use Rattle.cw_make_expr.specs.Made.{expression_of}
-use Rattle.cw_coded.specs.RangedExpressions.{ranged_value}
+use Rattle.cw_writable.specs.Coded.RangedExpressions.{ranged_value}
 use Rattle.cw_sound_trees.proofs.Expressions.Truth.{both, le_true}
 use Rattle.cw_sound_trees.proofs.Expressions.Standing.{split}
 use Rattle.cw_sound_trees.proofs.Expressions.Whole.{as_value}

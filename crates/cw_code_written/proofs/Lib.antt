@@ -1,8 +1,0 @@
-mod Fit
-pub mod Names
-mod Expressions
-mod Statements
-mod Units
-mod Targets
-mod Places
-mod Back

@@ -1,5 +1,0 @@
-use Rattle.cw_coded.proofs.Expressions.{expression_good}
-use Rattle.cw_coded.proofs.laws.expressions.Goals as goal
-
-pub returns : goal.returns
-returns c s few e f h place next = ((expression_good s few e f h).at place next).coded

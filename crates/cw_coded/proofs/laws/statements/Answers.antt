@@ -1,5 +1,0 @@
-use Rattle.cw_coded.proofs.Statements.{statement_good}
-use Rattle.cw_coded.proofs.laws.statements.Goals as goal
-
-pub returns : goal.returns
-returns c s who few answer t h place next = ((statement_good s few who answer t h).at place next).coded

@@ -1,3 +1,0 @@
-pub mod Truth
-pub mod Families
-mod Entries

@@ -1,6 +1,0 @@
--- The items are in the format.
-use Rattle.cw_front.proofs.Entries.{entries_stand}
-use Rattle.cw_front.proofs.laws.entries_stand.Goals as goal
-
-pub returns : goal.returns
-returns c u fit named = entries_stand u fit named

@@ -1,0 +1,261 @@
+-- A bracket that is not needed is gone, and what stood in it has no more tokens than it had with the bracket.
+use Rattle.std.proofs.Common.{◌≡◌, ℕ, suc, ◌+◌, ◌≤◌, List, [], ◌∷◌, ◌++◌, length, length-append, map, Option, Some, None, refl, sym, ap, ◌∙◌, arith}
+use Rattle.cw_lex.specs.declared.token.Word.TheVariants as words
+use Rattle.cw_tree.specs.declared.leaf.Position.{Position}
+use Rattle.cw_tree.specs.declared.leaf.RawSign.{RawSign}
+use Rattle.cw_tree.specs.declared.leaf.RawFactorSign.{RawFactorSign}
+use Rattle.cw_tree.specs.declared.expression.RawBits.{RawBits}
+use Rattle.cw_tree.specs.declared.expression.RawExpr.TheOpen as layer
+use Rattle.cw_tree.specs.declared.expression.RawExpr.TheVariants as expr_tree
+use Rattle.cw_tree.specs.declared.expression.RawPrimary.TheVariants as primary_tree
+use Rattle.cw_tree.specs.declared.expression.RawExpr.TheViews.{roll-out-RawExpr, roll-out-RawPrimary, roll-out-RawDiffer, roll-out-RawMask, roll-out-RawPrim, roll-out-RawSum, roll-out-RawTerm, roll-out-RawUnion}
+use Rattle.cw_tree.specs.declared.expression.RawExpr.{RawExpr, RawExpr-F, out-RawExpr, roll-RawExpr}
+use Rattle.cw_tree.specs.declared.expression.RawPrimary.{RawPrimary, out-RawPrimary, roll-RawPrimary}
+use Rattle.cw_tree.specs.declared.expression.RawRef.{RawRef}
+use Rattle.cw_tree.specs.declared.expression.RawCand.{RawCand}
+use Rattle.cw_tree.specs.declared.expression.RawCmp.{RawCmp}
+use Rattle.cw_tree.specs.declared.expression.RawCond.{RawCond}
+use Rattle.cw_tree.specs.declared.expression.RawDiffer.{RawDiffer, out-RawDiffer}
+use Rattle.cw_tree.specs.declared.expression.RawMask.{RawMask, out-RawMask}
+use Rattle.cw_tree.specs.declared.expression.RawPrim.{RawPrim, out-RawPrim}
+use Rattle.cw_tree.specs.declared.expression.RawSum.{RawSum, out-RawSum}
+use Rattle.cw_tree.specs.declared.expression.RawTerm.{RawTerm, out-RawTerm}
+use Rattle.cw_tree.specs.declared.expression.RawUnion.{RawUnion, out-RawUnion}
+use Rattle.cw_grammar.specs.Trees.{sole, ◌>>-◌, Operands, extended, as_sum, sole_term, as_term, as_differ, as_union, as_mask, as_prim, bracket_primary, bracket_prim, bracket_mask, bracket_union, bracket_differ, bracket_term, bracket_sum, mask_start, union_start, differ_start, term_start, mask_tree, union_tree, differ_tree, term_tree, Terms, sum_tree, terms_of, sum_start, more_terms, expr_or, expr_of, prim_or, prim_of}
+use Rattle.cw_show.specs.Spelling.{Spelling, word}
+use Rattle.cw_show.specs.Canonical.{add_symbol, multiply_symbol, sign_tokens, between, operation, joined, bracketed}
+use Rattle.cw_show.specs.ExpressionTokens.{bits_tokens, expr_tokens, primary_tokens, differ_tokens, mask_tokens, prim_tokens, sum_tokens, term_tokens, union_tokens}
+use Rattle.cw_read_back.proofs.Expressions.Stays.{PrimaryLayer, inside}
+use Rattle.cw_read_back.proofs.Expressions.ExpressionLayers.{sum_expr-tokens, bracket-tokens, differ-tokens, mask-tokens, prim-tokens, sum-tokens, term-tokens, union-tokens}
+use Rattle.cw_tokens.specs.LeastTokens.{separated}
+use Rattle.cw_tokens.specs.TreeTokens.{total}
+use Rattle.cw_derived.proofs.Held.{not_none, same_some}
+use Rattle.cw_read_back.proofs.Shorter.Lengths.{joined_length, between_grows, operation_grows, extended_most, first_most, Falls, then_falls, sole_between, sole_operation}
+
+-- ---- trees by their operands
+
+mask_layer : (x : RawMask) → length (mask_tokens x) ≡ length (between (word words.Mask) (map prim_tokens (out-RawMask x).operands))
+mask_layer x = ap (λ y. length (mask_tokens y)) (sym (roll-out-RawMask x)) ∙ ap length (mask-tokens (out-RawMask x).operands (out-RawMask x).operators)
+
+union_layer : (x : RawUnion) → length (union_tokens x) ≡ length (between (word words.Union) (map mask_tokens (out-RawUnion x).operands))
+union_layer x = ap (λ y. length (union_tokens y)) (sym (roll-out-RawUnion x)) ∙ ap length (union-tokens (out-RawUnion x).operands (out-RawUnion x).operators)
+
+differ_layer : (x : RawDiffer) → length (differ_tokens x) ≡ length (between (word words.Differ) (map union_tokens (out-RawDiffer x).operands))
+differ_layer x = ap (λ y. length (differ_tokens y)) (sym (roll-out-RawDiffer x)) ∙ ap length (differ-tokens (out-RawDiffer x).operands (out-RawDiffer x).operators)
+
+term_layer : (x : RawTerm) → length (term_tokens x) ≡ length (operation (map (λ s. multiply_symbol s.op) (out-RawTerm x).operators) (map differ_tokens (out-RawTerm x).operands))
+term_layer x = ap (λ y. length (term_tokens y)) (sym (roll-out-RawTerm x)) ∙ ap length (term-tokens (out-RawTerm x).operands (out-RawTerm x).operators)
+
+sum_made : (o : Option RawSign) (xs : List RawTerm) (os : List RawSign) → length (sum_tokens (sum_tree (o, (xs, os)))) ≡ length (sign_tokens o) + length (operation (map (λ s. add_symbol s.op) os) (map term_tokens xs))
+sum_made o xs os = ap length (sum-tokens o xs os) ∙ length-append (sign_tokens o) (operation (map (λ s. add_symbol s.op) os) (map term_tokens xs))
+
+sum_layer : (x : RawSum) → length (sum_tokens x) ≡ length (sign_tokens (out-RawSum x).sign) + length (operation (map (λ s. add_symbol s.op) (out-RawSum x).operators) (map term_tokens (out-RawSum x).operands))
+sum_layer x = ap (λ y. length (sum_tokens y)) (sym (roll-out-RawSum x)) ∙ sum_made (out-RawSum x).sign (out-RawSum x).operands (out-RawSum x).operators
+
+prim_made : (bits : List RawBits) (x : RawPrimary) → length (prim_tokens (prim_or None bits x)) ≡ total (map (λ b. length (bits_tokens b)) bits) + length (primary_tokens x)
+prim_made bits x =
+    let a : length (prim_tokens (prim_or None bits x)) ≡ length (joined (map bits_tokens bits) ++ primary_tokens x) = ap length (prim-tokens bits x) in
+    omega (arith, a, length-append (joined (map bits_tokens bits)) (primary_tokens x), joined_length bits_tokens bits)
+
+prim_layer : (x : RawPrim) → length (prim_tokens x) ≡ total (map (λ b. length (bits_tokens b)) (out-RawPrim x).bits) + length (primary_tokens (out-RawPrim x).primary)
+prim_layer x = ap (λ y. length (prim_tokens y)) (sym (roll-out-RawPrim x)) ∙ prim_made (out-RawPrim x).bits (out-RawPrim x).primary
+
+-- ---- an expression that is a tree of a narrower rule
+
+abbrev ExprLayer : Type 0
+ExprLayer = RawExpr-F RawExpr RawPrimary RawRef RawCand RawCmp RawCond RawDiffer RawMask RawPrim RawSum RawTerm RawUnion
+
+abbrev summed : ExprLayer → Option RawSum
+summed y = elim y [ layer.Choice at c a b ↦ None | layer.Sum s ↦ Some s ]
+
+sum_in_layer : (x : ExprLayer) (s : RawSum) → summed x ≡ Some s → length (sum_tokens s) ≤ length (expr_tokens (roll-RawExpr x))
+sum_in_layer (layer.Choice at c a b) s e = absurd (not_none e)
+sum_in_layer (layer.Sum t) s e =
+    let a = ap (λ y. length (sum_tokens y)) (same_some e) in
+    let b = ap length (sum_expr-tokens t) in
+    let c = ap (λ y. length (expr_tokens y)) (expr_tree.rolls-Sum t) in
+    omega (arith, a, b, c)
+
+as_sum_falls : Falls expr_tokens sum_tokens as_sum
+as_sum_falls e s q = let a = ap (λ y. length (expr_tokens y)) (roll-out-RawExpr e) in omega (arith, sum_in_layer (out-RawExpr e) s q, a)
+
+abbrev unsigned : Option RawSign → List RawTerm → Option RawTerm
+unsigned o xs = elim o [ None ↦ sole xs | Some sign ↦ None ]
+
+unsigned_falls : (o : Option RawSign) (os : List Spelling) (xs : List RawTerm) (t : RawTerm) → unsigned o xs ≡ Some t → length (term_tokens t) ≤ length (sign_tokens o) + length (operation os (map term_tokens xs))
+unsigned_falls None os xs t e = omega (arith, sole_operation term_tokens os xs t e)
+unsigned_falls (Some s) os xs t e = absurd (not_none e)
+
+sole_term_falls : Falls sum_tokens term_tokens sole_term
+sole_term_falls s t e = omega (arith, unsigned_falls (out-RawSum s).sign (map (λ s. add_symbol s.op) (out-RawSum s).operators) (out-RawSum s).operands t e, sum_layer s)
+
+as_term_falls : Falls expr_tokens term_tokens as_term
+as_term_falls e t q = then_falls (length (expr_tokens e)) sum_tokens term_tokens (as_sum e) sole_term t (as_sum_falls e) sole_term_falls q
+
+sole_differ_falls : Falls term_tokens differ_tokens (λ x. sole (out-RawTerm x).operands)
+sole_differ_falls x y e = omega (arith, sole_operation differ_tokens (map (λ s. multiply_symbol s.op) (out-RawTerm x).operators) (out-RawTerm x).operands y e, term_layer x)
+
+as_differ_falls : Falls expr_tokens differ_tokens as_differ
+as_differ_falls e t q = then_falls (length (expr_tokens e)) term_tokens differ_tokens (as_term e) (λ x. sole (out-RawTerm x).operands) t (as_term_falls e) sole_differ_falls q
+
+sole_union_falls : Falls differ_tokens union_tokens (λ x. sole (out-RawDiffer x).operands)
+sole_union_falls x y e = omega (arith, sole_between union_tokens (word words.Differ) (out-RawDiffer x).operands y e, differ_layer x)
+
+as_union_falls : Falls expr_tokens union_tokens as_union
+as_union_falls e t q = then_falls (length (expr_tokens e)) differ_tokens union_tokens (as_differ e) (λ x. sole (out-RawDiffer x).operands) t (as_differ_falls e) sole_union_falls q
+
+sole_mask_falls : Falls union_tokens mask_tokens (λ x. sole (out-RawUnion x).operands)
+sole_mask_falls x y e = omega (arith, sole_between mask_tokens (word words.Union) (out-RawUnion x).operands y e, union_layer x)
+
+as_mask_falls : Falls expr_tokens mask_tokens as_mask
+as_mask_falls e t q = then_falls (length (expr_tokens e)) union_tokens mask_tokens (as_union e) (λ x. sole (out-RawUnion x).operands) t (as_union_falls e) sole_mask_falls q
+
+sole_prim_falls : Falls mask_tokens prim_tokens (λ x. sole (out-RawMask x).operands)
+sole_prim_falls x y e = omega (arith, sole_between prim_tokens (word words.Mask) (out-RawMask x).operands y e, mask_layer x)
+
+as_prim_falls : Falls expr_tokens prim_tokens as_prim
+as_prim_falls e t q = then_falls (length (expr_tokens e)) mask_tokens prim_tokens (as_mask e) (λ x. sole (out-RawMask x).operands) t (as_mask_falls e) sole_prim_falls q
+
+-- ---- what a bracket alone holds
+
+held_in_layer : (x : PrimaryLayer) (e : RawExpr) → inside x ≡ Some e → length (expr_tokens e) ≤ length (primary_tokens (roll-RawPrimary x))
+held_in_layer (layer.Number n) e q = absurd (not_none q)
+held_in_layer (layer.Octal n) e q = absurd (not_none q)
+held_in_layer (layer.Literal c) e q = absurd (not_none q)
+held_in_layer (layer.Text at cs) e q = absurd (not_none q)
+held_in_layer (layer.Location at r) e q = absurd (not_none q)
+held_in_layer (layer.Forced t x) e q = absurd (not_none q)
+held_in_layer (layer.Bracket at x) e q =
+    let a = ap (λ y. length (expr_tokens y)) (same_some q) in
+    let b : length (primary_tokens (primary_tree.Bracket at x)) ≡ length (bracketed (expr_tokens x)) = ap length (bracket-tokens at x) in
+    let c = ap (λ y. length (primary_tokens y)) (primary_tree.rolls-Bracket at x) in
+    let d : length (bracketed (expr_tokens x)) ≡ suc (length (expr_tokens x) + 1) = ap suc (length-append (expr_tokens x) _) in
+    omega (arith, a, b, c, d)
+held_in_layer (layer.Ref r) e q = absurd (not_none q)
+held_in_layer (layer.Call f xs) e q = absurd (not_none q)
+
+primary_held : Falls primary_tokens expr_tokens bracket_primary
+primary_held x e q = let a = ap (λ y. length (primary_tokens y)) (roll-out-RawPrimary x) in omega (arith, held_in_layer (out-RawPrimary x) e q, a)
+
+abbrev bare_of : List RawBits → RawPrimary → Option RawExpr
+bare_of bits x = elim bits [ [] ↦ bracket_primary x | b ∷ bs ↦ None ]
+
+bare_held : (bits : List RawBits) (x : RawPrimary) (e : RawExpr) → bare_of bits x ≡ Some e → length (expr_tokens e) ≤ length (primary_tokens x)
+bare_held [] x e q = primary_held x e q
+bare_held (b ∷ bits) x e q = absurd (not_none q)
+
+prim_held : Falls prim_tokens expr_tokens bracket_prim
+prim_held x e q = omega (arith, bare_held (out-RawPrim x).bits (out-RawPrim x).primary e q, prim_layer x)
+
+mask_held : Falls mask_tokens expr_tokens bracket_mask
+mask_held x e q = then_falls (length (mask_tokens x)) prim_tokens expr_tokens (sole (out-RawMask x).operands) bracket_prim e (sole_prim_falls x) prim_held q
+
+union_held : Falls union_tokens expr_tokens bracket_union
+union_held x e q = then_falls (length (union_tokens x)) mask_tokens expr_tokens (sole (out-RawUnion x).operands) bracket_mask e (sole_mask_falls x) mask_held q
+
+differ_held : Falls differ_tokens expr_tokens bracket_differ
+differ_held x e q = then_falls (length (differ_tokens x)) union_tokens expr_tokens (sole (out-RawDiffer x).operands) bracket_union e (sole_union_falls x) union_held q
+
+term_held : Falls term_tokens expr_tokens bracket_term
+term_held x e q = then_falls (length (term_tokens x)) differ_tokens expr_tokens (sole (out-RawTerm x).operands) bracket_differ e (sole_differ_falls x) differ_held q
+
+sum_held : Falls sum_tokens expr_tokens bracket_sum
+sum_held s e q = then_falls (length (sum_tokens s)) term_tokens expr_tokens (sole_term s) bracket_term e (sole_term_falls s) term_held q
+
+-- ---- operands: the first, and more behind their operators
+
+pub mask_most : (x : RawPrim) (more : List (Position × RawPrim)) → length (mask_tokens (mask_tree (extended (mask_start x) more))) ≤ length (prim_tokens x) + separated (map (λ z. length (prim_tokens z.1)) more)
+mask_most x more =
+    let ops : Operands RawPrim Position = extended (mask_start x) more in
+    let size : Operands RawPrim Position → ℕ = λ o. length (between (word words.Mask) (map prim_tokens o.0)) in
+    let all : length (mask_tokens (mask_tree ops)) ≡ size ops = ap length (mask-tokens ops.0 ops.1) in
+    let grown : size ops ≤ size (mask_start x) + separated (map (λ z. length (prim_tokens z.1)) more) = extended_most size (λ y. length (prim_tokens y)) (λ o b y. between_grows (word words.Mask) prim_tokens o.0 y) (mask_start x) more in
+    let begun : size (mask_start x) ≤ length (prim_tokens x) =
+    first_most size (λ y. length (prim_tokens y)) (λ m. ((out-RawMask m).operands, (out-RawMask m).operators)) (bracket_prim x >>- as_mask) x
+    (omega (arith, length-append (prim_tokens x) []))
+    (λ m e. omega (arith, mask_layer m, then_falls (length (prim_tokens x)) expr_tokens mask_tokens (bracket_prim x) as_mask m (prim_held x) as_mask_falls e)) in
+    omega (arith, all, grown, begun)
+
+pub union_most : (x : RawMask) (more : List (Position × RawMask)) → length (union_tokens (union_tree (extended (union_start x) more))) ≤ length (mask_tokens x) + separated (map (λ z. length (mask_tokens z.1)) more)
+union_most x more =
+    let ops : Operands RawMask Position = extended (union_start x) more in
+    let size : Operands RawMask Position → ℕ = λ o. length (between (word words.Union) (map mask_tokens o.0)) in
+    let all : length (union_tokens (union_tree ops)) ≡ size ops = ap length (union-tokens ops.0 ops.1) in
+    let grown : size ops ≤ size (union_start x) + separated (map (λ z. length (mask_tokens z.1)) more) = extended_most size (λ y. length (mask_tokens y)) (λ o b y. between_grows (word words.Union) mask_tokens o.0 y) (union_start x) more in
+    let begun : size (union_start x) ≤ length (mask_tokens x) =
+    first_most size (λ y. length (mask_tokens y)) (λ m. ((out-RawUnion m).operands, (out-RawUnion m).operators)) (bracket_mask x >>- as_union) x
+    (omega (arith, length-append (mask_tokens x) []))
+    (λ m e. omega (arith, union_layer m, then_falls (length (mask_tokens x)) expr_tokens union_tokens (bracket_mask x) as_union m (mask_held x) as_union_falls e)) in
+    omega (arith, all, grown, begun)
+
+pub differ_most : (x : RawUnion) (more : List (Position × RawUnion)) → length (differ_tokens (differ_tree (extended (differ_start x) more))) ≤ length (union_tokens x) + separated (map (λ z. length (union_tokens z.1)) more)
+differ_most x more =
+    let ops : Operands RawUnion Position = extended (differ_start x) more in
+    let size : Operands RawUnion Position → ℕ = λ o. length (between (word words.Differ) (map union_tokens o.0)) in
+    let all : length (differ_tokens (differ_tree ops)) ≡ size ops = ap length (differ-tokens ops.0 ops.1) in
+    let grown : size ops ≤ size (differ_start x) + separated (map (λ z. length (union_tokens z.1)) more) = extended_most size (λ y. length (union_tokens y)) (λ o b y. between_grows (word words.Differ) union_tokens o.0 y) (differ_start x) more in
+    let begun : size (differ_start x) ≤ length (union_tokens x) =
+    first_most size (λ y. length (union_tokens y)) (λ m. ((out-RawDiffer m).operands, (out-RawDiffer m).operators)) (bracket_union x >>- as_differ) x
+    (omega (arith, length-append (union_tokens x) []))
+    (λ m e. omega (arith, differ_layer m, then_falls (length (union_tokens x)) expr_tokens differ_tokens (bracket_union x) as_differ m (union_held x) as_differ_falls e)) in
+    omega (arith, all, grown, begun)
+
+pub term_most : (x : RawDiffer) (more : List (RawFactorSign × RawDiffer)) → length (term_tokens (term_tree (extended (term_start x) more))) ≤ length (differ_tokens x) + separated (map (λ z. length (differ_tokens z.1)) more)
+term_most x more =
+    let ops : Operands RawDiffer RawFactorSign = extended (term_start x) more in
+    let size : Operands RawDiffer RawFactorSign → ℕ = λ o. length (operation (map (λ s. multiply_symbol s.op) o.1) (map differ_tokens o.0)) in
+    let all : length (term_tokens (term_tree ops)) ≡ size ops = ap length (term-tokens ops.0 ops.1) in
+    let grown : size ops ≤ size (term_start x) + separated (map (λ z. length (differ_tokens z.1)) more) =
+    extended_most size (λ y. length (differ_tokens y)) (λ o b y. operation_grows (λ s. multiply_symbol s.op) differ_tokens o.1 o.0 b y) (term_start x) more in
+    let begun : size (term_start x) ≤ length (differ_tokens x) =
+    first_most size (λ y. length (differ_tokens y)) (λ m. ((out-RawTerm m).operands, (out-RawTerm m).operators)) (bracket_differ x >>- as_term) x
+    (omega (arith, length-append (differ_tokens x) []))
+    (λ m e. omega (arith, term_layer m, then_falls (length (differ_tokens x)) expr_tokens term_tokens (bracket_differ x) as_term m (differ_held x) as_term_falls e)) in
+    omega (arith, all, grown, begun)
+
+-- ---- sums
+
+abbrev operands_length : Operands RawTerm RawSign → ℕ
+operands_length o = length (operation (map (λ s. add_symbol s.op) o.1) (map term_tokens o.0))
+
+abbrev terms_length : Terms → ℕ
+terms_length x = length (sign_tokens x.0) + operands_length x.1
+
+terms_fall : (o : Option RawSum) (t : RawTerm) → ((s : RawSum) → o ≡ Some s → length (sum_tokens s) ≤ length (term_tokens t)) → terms_length (terms_of o t) ≤ length (term_tokens t)
+terms_fall None t k = omega (arith, length-append (term_tokens t) [])
+terms_fall (Some s) t k = omega (arith, sum_layer s, k s refl)
+
+sum_begun : (o : Option RawSign) (t : RawTerm) → terms_length (sum_start o t) ≤ length (sign_tokens o) + length (term_tokens t)
+sum_begun None t =
+    let h = terms_fall (bracket_term t >>- as_sum) t (λ s e. then_falls (length (term_tokens t)) expr_tokens sum_tokens (bracket_term t) as_sum s (term_held t) as_sum_falls e) in
+    omega (arith, h)
+sum_begun (Some s) t = omega (arith, length-append (term_tokens t) [])
+
+pub sum_most : (o : Option RawSign) (t : RawTerm) (more : List (RawSign × RawTerm)) → length (sum_tokens (sum_tree (more_terms (sum_start o t) more))) ≤ length (sign_tokens o) + length (term_tokens t) + separated (map (λ z. length (term_tokens z.1)) more)
+sum_most o t more =
+    let start : Terms = sum_start o t in
+    let ops : Operands RawTerm RawSign = extended start.1 more in
+    let all = sum_made start.0 ops.0 ops.1 in
+    let grown : operands_length ops ≤ operands_length start.1 + separated (map (λ z. length (term_tokens z.1)) more) =
+    extended_most operands_length (λ y. length (term_tokens y)) (λ p b y. operation_grows (λ s. add_symbol s.op) term_tokens p.1 p.0 b y) start.1 more in
+    omega (arith, all, grown, sum_begun o t)
+
+-- ---- expressions and primaries
+
+expr_or_falls : (o : Option RawExpr) (s : RawSum) → ((e : RawExpr) → o ≡ Some e → length (expr_tokens e) ≤ length (sum_tokens s)) → length (expr_tokens (expr_or o s)) ≤ length (sum_tokens s)
+expr_or_falls None s k = let a = ap length (sum_expr-tokens s) in omega (arith, a)
+expr_or_falls (Some e) s k = k e refl
+
+pub expr_of_falls : (s : RawSum) → length (expr_tokens (expr_of s)) ≤ length (sum_tokens s)
+expr_of_falls s = expr_or_falls (bracket_sum s) s (sum_held s)
+
+bits_joined : (xs ys : List RawBits) → total (map (λ b. length (bits_tokens b)) (xs ++ ys)) ≡ total (map (λ b. length (bits_tokens b)) xs) + total (map (λ b. length (bits_tokens b)) ys)
+bits_joined [] ys = omega arith
+bits_joined (x ∷ xs) ys = omega (arith, bits_joined xs ys)
+
+prim_or_falls : (o : Option RawPrim) (bits : List RawBits) (x : RawPrimary) → ((q : RawPrim) → o ≡ Some q → length (prim_tokens q) ≤ length (primary_tokens x)) → length (prim_tokens (prim_or o bits x)) ≤ total (map (λ b. length (bits_tokens b)) bits) + length (primary_tokens x)
+prim_or_falls None bits x k = omega (arith, prim_made bits x)
+prim_or_falls (Some q) bits x k = omega (arith, prim_made (bits ++ (out-RawPrim q).bits) (out-RawPrim q).primary, bits_joined bits (out-RawPrim q).bits, prim_layer q, k q refl)
+
+pub prim_of_falls : (bits : List RawBits) (x : RawPrimary) → length (prim_tokens (prim_of bits x)) ≤ total (map (λ b. length (bits_tokens b)) bits) + length (primary_tokens x)
+prim_of_falls bits x = prim_or_falls (bracket_primary x >>- as_prim) bits x (λ q e. then_falls (length (primary_tokens x)) expr_tokens prim_tokens (bracket_primary x) as_prim q (primary_held x) as_prim_falls e)

@@ -1,0 +1,10 @@
+pub mod Spelled
+pub mod Plain
+pub mod Tokens
+pub mod Bracketed
+pub mod Operands
+pub mod Good
+pub mod Expressions
+pub mod Items
+pub mod Statements
+pub mod Texts

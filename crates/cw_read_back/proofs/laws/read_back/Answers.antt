@@ -1,5 +1,0 @@
-use Rattle.cw_read_back.proofs.Spelled.{read_again}
-use Rattle.cw_read_back.proofs.laws.read_back.Goals as goal
-
-pub returns : goal.returns
-returns c n x marks h l = read_again h l

@@ -1,4 +1,0 @@
-//! What is shown of an expression is read back as the expression, the same but for its positions.
-#![tactic(auto)]
-
-pub mod laws;

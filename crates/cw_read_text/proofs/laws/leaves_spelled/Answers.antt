@@ -1,5 +1,0 @@
-use Rattle.cw_read_text.proofs.Texts.{leaves_of}
-use Rattle.cw_read_text.proofs.laws.leaves_spelled.Goals as goal
-
-pub returns : goal.returns
-returns c n ts raw h d = leaves_of n ts raw h d

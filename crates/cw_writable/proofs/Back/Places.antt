@@ -1,0 +1,244 @@
+-- Places in the code of a unit: where statements begin, and where what is defined begins.
+use Rattle.std.proofs.Common.{◌≡◌, ℕ, zero, suc, ◌+◌, ◌*◌, ◌<◌, ◌≤◌, nat_eq, nat_le, nat_lt, List, [], ◌∷◌, ◌++◌, map, length, Bool, true, false, IsTrue, ◌&&◌, ◌||◌, if◌then◌else◌, Option, Some, None, slice_get, slice_index, refl, sym, ap, ◌∙◌, subst, arith, length-append}
+use Rattle.std.proofs.lemmas.Bool.{eqb-true}
+use Rattle.std.proofs.lemmas.Option.{slice_get_within}
+use Rattle.std.specs.List.{list_all}
+use Rattle.cw_order.specs.declared.order.Order.{Order}
+use Rattle.cw_order.specs.declared.order.Order.TheVariants as order
+use Rattle.cw_order.specs.declared.order.Orders.{Orders}
+use Rattle.cw_order.specs.declared.order.LabelMark.{LabelMark}
+use Rattle.cw_unit.specs.declared.unit.Unit.{Unit as SourceUnit}
+use Rattle.cw_unit.specs.declared.unit.Goal.{Goal}
+use Rattle.cw_unit.specs.declared.unit.Def.{Def}
+use Rattle.cw_unit.specs.declared.unit.Def.TheVariants as def
+use Rattle.cw_unit.specs.declared.descriptor.Desc.{Desc}
+use Rattle.cw_unit.specs.declared.layout.Family.{Family}
+use Rattle.cw_tmpl.specs.declared.blocks.Block.TheVariants as block
+use Rattle.cw_tmpl.specs.Pieces.{blanks}
+use Rattle.cw_tmpl.specs.Names.{mark_place, way_to_label, landing_start, switch_size}
+use Rattle.cw_tmpl.specs.Blocks.{use_of, with_number, with_variable, after_home, after_frame_home, block_at, orders_left}
+use Rattle.cw_tmpl.specs.Templates.{block_size, entry_pieces}
+use Rattle.cw_tmpl.specs.ReferenceCode.{templates, landings, switches, entry_size, order_places, switch_places, switch_sizes, landings_place, switches_place, names_of, mark_starts, label_starts, statement_at, statements_from, orders_code}
+use Rattle.cw_tmpl.proofs.Growing.{blanks-append}
+use Rattle.cw_tmpl.proofs.Sizes.{size_to, places_are, size_of_templates, size_of_landings, size_of_switches, landings_at}
+use Rattle.cw_obj.specs.ReferenceObject.{definition_of, definition_place}
+use Rattle.cw_object.specs.Fits.{is_word, is_long, fits_definition, fits_statement}
+use Rattle.cw_object.specs.IsWritable.{is_defined, are_defined, is_begun, are_begun}
+use Rattle.cw_built.specs.Coded.{has_code, ends_block, begins_block, is_mark}
+use Rattle.cw_built.specs.Built.{meets}
+use Rattle.cw_writable.proofs.Coded.Fine.{no, both, parts}
+use Rattle.cw_writable.proofs.Coded.Numbers.{le_true, lt_true}
+use Rattle.cw_writable.specs.Back.Ready.{are_rising}
+use Rattle.cw_writable.proofs.Back.Fit.{names_well, Fit, none, next, begun}
+use Rattle.cw_writable.proofs.Back.Units.{is_last, closes}
+
+-- ---- what is left of a block
+
+-- the orders that are left of the block before end it
+abbrev pub left_over : (left : ℕ) → List Order → Bool
+left_over zero os = true
+left_over (suc n) [] = false
+left_over (suc n) (o ∷ os) = ends_block o && left_over n os
+
+left-number : (w : ℕ) (os : List Order) → IsTrue (left_over (orders_left (with_number w (use_of (slice_get os 0)))) os)
+left-number w [] = refl
+left-number w (order.Add ∷ os) = refl
+left-number w (order.Sub ∷ os) = refl
+left-number w (order.JumpIf c m ∷ os) = refl
+left-number w (x ∷ os) = refl
+
+left-variable : (f n : ℕ) (os : List Order) → IsTrue (left_over (orders_left (with_variable f n (use_of (slice_get os 0)))) (order.Load ∷ os))
+left-variable f n [] = refl
+left-variable f n (order.Add ∷ os) = refl
+left-variable f n (order.Sub ∷ os) = refl
+left-variable f n (order.JumpIf c m ∷ os) = refl
+left-variable f n (x ∷ os) = refl
+
+left-home : (f n : ℕ) (os : List Order) → IsTrue (left_over (orders_left (after_home f n (slice_get os 0) (slice_get os 1))) os)
+left-home f n [] = refl
+left-home f n (order.Load ∷ os) = left-variable f n os
+left-home f n (order.Store ∷ os) = refl
+left-home f n (x ∷ os) = refl
+
+left-frame : (n : ℕ) (os : List Order) → IsTrue (left_over (orders_left (after_frame_home n (slice_get os 0))) os)
+left-frame n [] = refl
+left-frame n (order.Load ∷ os) = refl
+left-frame n (order.Store ∷ os) = refl
+left-frame n (x ∷ os) = refl
+
+left-next : (left : ℕ) (o : Order) (os : List Order) → IsTrue (left_over left (o ∷ os)) → IsTrue (left_over (orders_left (block_at left (o ∷ os))) os)
+left-next (suc n) o os h = (parts (ends_block o) (left_over n os) h).1
+left-next zero (order.Const w) os h = left-number w os
+left-next zero (order.Home f n) os h = left-home f n os
+left-next zero (order.FrameHome n) os h = left-frame n os
+left-next zero o os h = refl
+
+-- ---- places of orders
+
+last-long : (left : ℕ) (o : Order) → IsTrue (is_last o) → IsTrue (left_over left (o ∷ [])) → 0 < block_size (block_at left (o ∷ [])) o
+last-long zero order.NextBody h l = omega arith
+last-long zero (order.Return n true) h l = omega arith
+last-long zero (order.Return n false) h l = omega arith
+last-long (suc n) order.NextBody h l = no l
+last-long (suc n) (order.Return m answers) h l = no l
+last-long left o h l = no h
+
+-- the code of each order begins before the end
+before-end : (left : ℕ) (os : List Order) → IsTrue (closes os) → IsTrue (left_over left os) → (k : ℕ) → k < length os → size_to left os k < size_to left os (length os)
+before-end left [] h l k lt = absurd (omega (arith, lt))
+before-end left (o ∷ []) h l zero lt = let z = last-long left o h l in omega (arith, z)
+before-end left (o ∷ []) h l (suc k) lt = absurd (omega (arith, lt))
+before-end left (o ∷ x ∷ xs) h l zero lt =
+    let z = before-end (orders_left (block_at left (o ∷ x ∷ xs))) (x ∷ xs) h (left-next left o (x ∷ xs) l) 0 (let y : 0 < suc (length xs) = omega arith in y) in
+    omega (arith, z)
+before-end left (o ∷ x ∷ xs) h l (suc k) lt =
+    let z = before-end (orders_left (block_at left (o ∷ x ∷ xs))) (x ∷ xs) h (left-next left o (x ∷ xs) l) k (let y : k < suc (length xs) = omega (arith, lt) in y) in
+    omega (arith, z)
+
+-- ---- statements
+
+no-statement : (n : ℕ) (fs : List Family) (at : ℕ) (o : Order) → IsTrue (names_well n fs o) → statement_at at o ≡ []
+no-statement n fs at (order.Start line) h = no h
+no-statement n fs at o h = refl
+
+module _ (n : ℕ) (fs : List Family) (places : List ℕ) (size : ℕ) (small : size ≤ 2097120) where
+  pub begun-from : (os : List Order) → Fit n fs os → (left at low k : ℕ) → IsTrue (left_over left os) → low ≤ at → at + size_to left os (length os) ≤ size → ((j : ℕ) → j ≤ length os → slice_index places (k + j) ≡ at + size_to left os j) → IsTrue (list_all has_code os) → IsTrue (are_begun size low (statements_from k places os))
+  begun-from _ none left at low k l le end here c = refl
+  begun-from _ (next o os h r) left at low k l le end here c =
+      let b = block_at left (o ∷ os) in
+      let s = block_size b o in
+      let rest = begun-from os r (orders_left b) (at + s) low (k + 1) (left-next left o os l) (let z : low ≤ at + s = omega (arith, le) in z) (let z : at + s + size_to (orders_left b) os (length os) ≤ size = omega (arith, end) in z)
+      (λ j lt. let e : k + 1 + j ≡ k + suc j = omega arith in let z : at + (s + size_to (orders_left b) os j) ≡ at + s + size_to (orders_left b) os j = omega arith in ap (slice_index places) e ∙ here (suc j) (let y : suc j ≤ suc (length os) = omega (arith, lt) in y) ∙ z)
+      (parts (has_code o) (list_all has_code os) c).1 in
+      subst (λ xs. IsTrue (are_begun size low (xs ++ statements_from (k + 1) places os))) (sym (no-statement n fs (slice_index places k) o h)) rest
+  begun-from _ (begun line os h r) (suc left) at low k l le end here c = no l
+  begun-from _ (begun line os h r) zero at low k l le end here c =
+      let five : block_size block.Single (order.Start line) ≡ 5 = refl in
+      let p = slice_index places k in
+      let e : k + 0 ≡ k = omega arith in
+      let place : p ≡ at = ap (slice_index places) (sym e) ∙ here 0 (let z : 0 ≤ suc (length os) = omega arith in z) ∙ (let z : at + 0 ≡ at = omega arith in z) in
+      let a = parts (has_code (order.Start line)) (list_all has_code os) c in
+      let inside : p < size = omega (arith, place, end, five) in
+      let long : p < 4294967296 = omega (arith, inside, small) in
+      let above : low ≤ p = omega (arith, place, le) in
+      let rest = begun-from os r 0 (at + 5) (p + 1) (k + 1) refl (let z : p + 1 ≤ at + 5 = omega (arith, place) in z) (let z : at + 5 + size_to 0 os (length os) ≤ size = omega (arith, end, five) in z)
+      (λ j lt. let f : k + 1 + j ≡ k + suc j = omega arith in let z : at + size_to 0 (order.Start line ∷ os) (suc j) ≡ at + 5 + size_to 0 os j = omega (arith, five) in ap (slice_index places) f ∙ here (suc j) (let y : suc j ≤ suc (length os) = omega (arith, lt) in y) ∙ z)
+      a.1 in
+      both (is_begun size low (p, line)) (are_begun size (p + 1) (statements_from (k + 1) places os))
+      (both (fits_statement (p, line)) (nat_le low p && nat_lt p size) (both (is_long p) (is_word line && nat_le 1 line) (lt_true p 4294967296 long) (both (is_word line) (nat_le 1 line) a.0 (le_true 1 line h)))
+      (both (nat_le low p) (nat_lt p size) (le_true low p above) (lt_true p size inside)))
+      rest
+
+-- ---- the length of the code
+
+module _ (o : Orders) where
+  abbrev pub Whole : ℕ
+  Whole = length (orders_code o).bytes
+
+  pub code-long : Whole ≡ entry_size + (size_to 0 o.list (length o.list) + (15 * length o.labels + switch_sizes o.switches))
+  code-long =
+      let N = names_of o in
+      let T = templates N entry_size 0 o.list in
+      let L = landings N (landings_place o) o.labels in
+      let S = switches N (switches_place o) o.switches in
+      let first = ap length (blanks-append entry_pieces (T ++ (L ++ S))) ∙ length-append (blanks entry_pieces) (blanks (T ++ (L ++ S))) in
+      let second = ap length (blanks-append T (L ++ S)) ∙ length-append (blanks T) (blanks (L ++ S)) in
+      let third = ap length (blanks-append L S) ∙ length-append (blanks L) (blanks S) in
+      omega (arith, first, second, third, size_of_templates N entry_size 0 o.list, size_of_landings N (landings_place o) o.labels, size_of_switches N (switches_place o) o.switches)
+
+  pub statements : (n : ℕ) (fs : List Family) → Whole ≤ 2097120 → Fit n fs o.list → IsTrue (list_all has_code o.list) → IsTrue (are_begun Whole 0 (orders_code o).statements)
+  statements n fs small fit coded =
+      let long = code-long in
+      begun-from n fs (order_places o.list) Whole small o.list fit 0 entry_size 0 0 refl (let z : 0 ≤ entry_size = omega arith in z) (let z : entry_size + size_to 0 o.list (length o.list) ≤ Whole = omega (arith, long) in z)
+      (λ j le. let e : 0 + j ≡ j = omega arith in ap (slice_index (order_places o.list)) e ∙ places_are entry_size 0 o.list j le) coded
+
+  -- ---- definitions
+
+  module _ (closed : IsTrue (closes o.list)) (some : 0 < length o.list) (marked : IsTrue (list_all (is_mark o.list) o.marks)) where
+    order-inside : (k : ℕ) → k < length o.list → slice_index (order_places o.list) k < Whole
+    order-inside k lt =
+        let long = code-long in
+        let place : slice_index (order_places o.list) k ≡ entry_size + size_to 0 o.list k = places_are entry_size 0 o.list k (let z : k ≤ length o.list = omega (arith, lt) in z) in
+        let before = before-end 0 o.list closed refl k lt in
+        omega (arith, long, place, before)
+
+    index-mark : (ms : List ℕ) → IsTrue (list_all (is_mark o.list) ms) → (k : ℕ) → IsTrue (is_mark o.list (slice_index ms k))
+    index-mark [] h k = refl
+    index-mark (m ∷ ms) h zero = (parts (is_mark o.list m) (list_all (is_mark o.list) ms) h).0
+    index-mark (m ∷ ms) h (suc k) = index-mark ms (parts (is_mark o.list m) (list_all (is_mark o.list) ms) h).1 k
+
+    marked-inside : (place : ℕ) → IsTrue (is_mark o.list place) → slice_index (order_places o.list) place < Whole
+    marked-inside place h = by_test (nat_eq place 0) refl h
+      where
+        by_order : (x : Option Order) → slice_get o.list place ≡ x → IsTrue (begins_block x) → slice_index (order_places o.list) place < Whole
+        by_order None e h = no h
+        by_order (Some x) e h = order-inside place (slice_get_within o.list place x e)
+
+        by_test : (b : Bool) → nat_eq place 0 ≡ b → IsTrue (b || begins_block (slice_get o.list place)) → slice_index (order_places o.list) place < Whole
+        by_test true e h = subst (λ k. slice_index (order_places o.list) k < Whole) (sym (eqb-true place 0 e)) (order-inside 0 some)
+        by_test false e h = by_order (slice_get o.list place) refl h
+
+    mark-inside : (m : ℕ) → mark_starts o m < Whole
+    mark-inside m = marked-inside (slice_index o.marks m) (index-mark o.marks marked m)
+
+    some-code : 0 < Whole
+    some-code = let long = code-long in let entry : entry_size ≡ 15 = refl in omega (arith, long, entry)
+
+    procedure-inside : (ms : List ℕ) (q : ℕ) → slice_index (map (mark_starts o) ms) q < Whole
+    procedure-inside [] q = some-code
+    procedure-inside (m ∷ ms) zero = mark-inside m
+    procedure-inside (m ∷ ms) (suc q) = procedure-inside ms q
+
+    landing-inside : (l : ℕ) → l < length o.labels → landing_start (names_of o) l < Whole
+    landing-inside l lt =
+        let long = code-long in
+        let at = landings_at o in
+        omega (arith, long, at, lt)
+
+    way-inside : (l : ℕ) (m : LabelMark) → l < length o.labels → way_to_label (names_of o) l (Some m) < Whole
+    way-inside l m lt = by_body m.in_procedure
+      where
+        by_body : (b : Bool) → (if b then mark_place (names_of o) m.mark else landing_start (names_of o) l) < Whole
+        by_body true = mark-inside m.mark
+        by_body false = landing-inside l lt
+
+    label-inside : (first : ℕ) (ms : List LabelMark) (l : ℕ) → first + length ms ≤ length o.labels → slice_index (label_starts (names_of o) first ms) l < Whole
+    label-inside first [] l le = some-code
+    label-inside first (m ∷ ms) zero le = way-inside first m (let z : first < length o.labels = omega (arith, le) in z)
+    label-inside first (m ∷ ms) (suc l) le = label-inside (first + 1) ms l (let z : first + 1 + length ms ≤ length o.labels = omega (arith, le) in z)
+
+    switch-inside : (at : ℕ) (list : List (List Goal)) (s : ℕ) → at + switch_sizes list ≤ Whole → slice_index (switch_places at list) s < Whole
+    switch-inside at [] s le = some-code
+    switch-inside at (gs ∷ rest) zero le = omega (arith, le)
+    switch-inside at (gs ∷ rest) (suc s) le = switch-inside (at + switch_size gs) rest s (let z : at + switch_size gs + switch_sizes rest ≤ Whole = omega (arith, le) in z)
+
+    definition-inside : (d : Def) → definition_place (orders_code o) d < Whole
+    definition-inside (def.Proc q) = procedure-inside o.procedures q
+    definition-inside (def.Label l) = label-inside 0 o.labels l (let z : 0 + length o.labels ≤ length o.labels = omega arith in z)
+    definition-inside (def.Switch s) =
+        let long = code-long in
+        let at = landings_at o in
+        switch-inside (switches_place o) o.switches s (let z : switches_place o + switch_sizes o.switches ≤ Whole = omega (arith, long, at) in z)
+
+    module _ (u : SourceUnit) (few : length u.descs ≤ 65536) (small : Whole ≤ 2097120) where
+      listed : (d : ℕ) (x : Def) → IsTrue (meets u (slice_get u.descs d) x) → d < length u.descs
+      listed d x h = by_descriptor (slice_get u.descs d) refl h
+        where
+          by_descriptor : (y : Option Desc) → slice_get u.descs d ≡ y → IsTrue (meets u y x) → d < length u.descs
+          by_descriptor None e h = no h
+          by_descriptor (Some y) e h = slice_get_within u.descs d y e
+
+      pub definitions : (low : ℕ) (ds : List (ℕ × Def)) → IsTrue (are_rising low ds) → IsTrue (list_all (λ (d : ℕ × Def). meets u (slice_get u.descs d.0) d.1) ds) → IsTrue (are_defined (length u.descs) (orders_code o) low ds)
+      definitions low [] rise met = refl
+      definitions low (d ∷ ds) rise met =
+          let p = parts (nat_le low d.0) (are_rising (d.0 + 1) ds) rise in
+          let q = parts (meets u (slice_get u.descs d.0) d.1) (list_all (λ (x : ℕ × Def). meets u (slice_get u.descs x.0) x.1) ds) met in
+          let there = listed d.0 d.1 q.0 in
+          let word : d.0 < 65536 = omega (arith, there, few) in
+          let place = definition_place (orders_code o) d.1 in
+          let inside : place < Whole = definition-inside d.1 in
+          let long : place < 4294967296 = omega (arith, inside, small) in
+          both (is_defined (length u.descs) Whole low (definition_of (orders_code o) d)) (are_defined (length u.descs) (orders_code o) (d.0 + 1) ds)
+          (both (fits_definition (d.0, place)) (nat_le low d.0 && (nat_lt d.0 (length u.descs) && nat_lt place Whole)) (both (is_word d.0) (is_long place) (lt_true d.0 65536 word) (lt_true place 4294967296 long))
+          (both (nat_le low d.0) (nat_lt d.0 (length u.descs) && nat_lt place Whole) p.0 (both (nat_lt d.0 (length u.descs)) (nat_lt place Whole) (lt_true d.0 (length u.descs) there) (lt_true place Whole inside))))
+          (definitions (d.0 + 1) ds p.1 q.1)

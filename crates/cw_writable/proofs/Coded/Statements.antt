@@ -1,0 +1,245 @@
+-- The orders of statements whose numbers are in range have code, and their marks and labels stand at places of marks.
+use Rattle.std.proofs.Common.{◌≡◌, ℕ, zero, suc, ◌+◌, ◌<◌, ◌≤◌, nat_lt, List, [], ◌∷◌, map, length, Bool, true, false, IsTrue, ◌&&◌, Option, Some, None, slice_get, refl, sym, ap, subst, arith}
+use Rattle.std.specs.List.{list_all}
+use Rattle.cw_order.specs.declared.order.Order.{Order}
+use Rattle.cw_order.specs.declared.order.Order.TheVariants as order
+use Rattle.cw_unit.specs.declared.layout.Layout.{Layout}
+use Rattle.cw_unit.specs.declared.unit.Unit.{Unit as SourceUnit}
+use Rattle.cw_unit.specs.declared.unit.Label.{Label}
+use Rattle.cw_unit.specs.declared.unit.Goal.{Goal}
+use Rattle.cw_unit.specs.declared.unit.Goal.TheVariants as goal
+use Rattle.cw_unit.specs.declared.unit.Dest.{Dest}
+use Rattle.cw_unit.specs.declared.unit.Dest.TheVariants as dest
+use Rattle.cw_unit.specs.declared.unit.Target.{Target}
+use Rattle.cw_unit.specs.declared.unit.Target.TheVariants as target
+use Rattle.cw_unit.specs.declared.unit.Felem.{Felem}
+use Rattle.cw_unit.specs.declared.unit.Felem.TheVariants as element
+use Rattle.cw_unit.specs.declared.unit.Expr.{Expr}
+use Rattle.cw_unit.specs.declared.unit.Cond.{Cond}
+use Rattle.cw_unit.specs.declared.unit.Ref.{out-Ref}
+use Rattle.cw_unit.specs.declared.unit.Stmt.{Stmt, Stmt-F, out-Stmt, map-Stmt, fold-Stmt, fold_out-Stmt}
+use Rattle.cw_unit.specs.declared.unit.Stmt.TheOpen as statement
+use Rattle.cw_gen_expr.specs.Pieces.{Piece, plain, followed_by, sequence, with_end}
+use Rattle.cw_gen_expr.specs.ReferenceExpressions.{Scope, argument_words, control_place, item_order, store_orders, call_order, condition_piece, expression_piece}
+use Rattle.cw_gen_expr.specs.UnitTables.{label_mark}
+use Rattle.cw_gen_expr.proofs.Layers.{total}
+use Rattle.cw_gen_unit.specs.ReferenceStatements as made
+use Rattle.cw_gen_unit.specs.ReferenceStatements.{begin_orders, after_statement_call, from_procedure, own_order, goal_order, jump_piece, with_middle, number_orders, set_orders, bump_orders, turn_piece, while_values, step_values, element_piece, elements_piece, element_ways, ring_piece, loop_piece, statement_piece}
+use Rattle.cw_built.specs.Coded.{is_part, has_code}
+use Rattle.cw_writable.specs.Coded.RangedExpressions.{all_ranged, is_ranged_expression, is_ranged_condition, is_ranged_argument, ranged_reference}
+use Rattle.cw_writable.specs.Coded.RangedUnits as ranged
+use Rattle.cw_writable.specs.Coded.RangedUnits.{is_line, is_ranged_jump, is_ranged_element, are_ranged_elements, is_ranged_statement}
+use Rattle.cw_writable.proofs.Coded.Fine.{parts, Good, plainly, both_good, ended_good, labels_good}
+use Rattle.cw_writable.proofs.Coded.Numbers.{lt_true, first, item-first, store-coded, control-coded, call-coded}
+use Rattle.cw_writable.proofs.Coded.Expressions.{choice_good, expression_good, condition_ranged_good, address_good, arguments_good, reference-ranges}
+
+-- ---- layers
+
+abbrev statement_layer : Scope → Option ℕ → ℕ → Stmt-F Stmt → Piece
+statement_layer s who f x = made.statement_step s who f (map-Stmt Stmt Piece (statement_piece s who f) x)
+
+statement-made : (s : Scope) (who : Option ℕ) (f : ℕ) (x : Stmt) → statement_piece s who f x ≡ statement_layer s who f (out-Stmt x)
+statement-made s who f = fold_out-Stmt Piece (made.statement_step s who f)
+
+abbrev ranged_layer : SourceUnit → ℕ → Stmt-F Stmt → Bool
+ranged_layer u f x = ranged.statement_step u f (map-Stmt Stmt Bool (is_ranged_statement u f) x)
+
+statement-ranged : (u : SourceUnit) (f : ℕ) (x : Stmt) → is_ranged_statement u f x ≡ ranged_layer u f (out-Stmt x)
+statement-ranged u f = fold_out-Stmt Bool (ranged.statement_step u f)
+
+abbrev size_step : Stmt-F ℕ → ℕ
+size_step (statement.If line c a b) = 1 + (a + b)
+size_step (statement.For line item r es a) = 1 + a
+size_step (statement.Seq ss) = 1 + total ss
+size_step (statement.Mark ls a) = 1 + a
+size_step _ = 0
+
+abbrev statement_size : Stmt → ℕ
+statement_size = fold-Stmt ℕ size_step
+
+abbrev size_layer : Stmt-F Stmt → ℕ
+size_layer x = size_step (map-Stmt Stmt ℕ statement_size x)
+
+statement-size : (x : Stmt) → statement_size x ≡ size_layer (out-Stmt x)
+statement-size = fold_out-Stmt ℕ size_step
+
+-- ---- lists of orders
+
+begin-coded : (line : ℕ) → IsTrue (is_line line) → IsTrue (list_all has_code (begin_orders line))
+begin-coded line h = first (order.Start line) [] h refl
+
+begin_good : (line : ℕ) → IsTrue (is_line line) → Good (plain (begin_orders line))
+begin_good line h = plainly (begin_orders line) (begin-coded line h)
+
+after-coded : (t : Target) → IsTrue (list_all has_code (after_statement_call t))
+after-coded (target.Own q) = refl
+after-coded (target.Common d) = refl
+after-coded (target.Special k f) = refl
+after-coded target.Read = refl
+after-coded target.Write = refl
+
+from-coded : (x : Option Label) (m : ℕ) → IsTrue (has_code (from_procedure x m))
+from-coded None m = refl
+from-coded (Some x) m = by_owner x.proc
+  where
+    by_owner : (o : Option ℕ) → IsTrue (has_code (elim o [ None ↦ order.GoMain m | Some q ↦ order.Jump m ]))
+    by_owner None = refl
+    by_owner (Some q) = refl
+
+own-coded : (who : Option ℕ) (x : Option Label) (m : ℕ) → IsTrue (has_code (own_order who x m))
+own-coded None x m = refl
+own-coded (Some q) x m = from-coded x m
+
+goal-coded : (u : SourceUnit) (who : Option ℕ) (g : Goal) → IsTrue (has_code (goal_order u who g))
+goal-coded u who (goal.Own l) = own-coded who (slice_get u.labels l) (label_mark u l)
+goal-coded u who (goal.Common d) = refl
+
+-- ---- FOR
+
+middle_good : (a b : ℕ → Piece) → ((mark : ℕ) → Good (a mark)) → ((mark : ℕ) → Good (b mark)) → Good (with_middle a b)
+middle_good a b ha hb = record { at = λ place next. (both_good (ended_good a ha) (hb next)).at place next }
+
+numbered_good : (y : Layout) (item i : ℕ) → Good (plain (number_orders y item i))
+numbered_good y item i = plainly (number_orders y item i) (item-first y item 3 (order.Store ∷ []) refl)
+
+set_good : (y : Layout) (item : ℕ) → Good (plain (set_orders y item))
+set_good y item = plainly (set_orders y item) (item-first y item 0 (order.SetVariable ∷ []) refl)
+
+bump_good : (y : Layout) (item : ℕ) → Good (plain (bump_orders y item))
+bump_good y item = plainly (bump_orders y item) (item-first y item 0 (order.AddStep ∷ []) refl)
+
+turn_good : (y : Layout) (item body : ℕ) → Good (turn_piece y item body)
+turn_good y item body =
+    ended_good (λ next. plain (item_order y item 0 ∷ order.PutVariable ∷ order.Exhausted next ∷ order.Jump body ∷ []))
+    (λ next. plainly (item_order y item 0 ∷ order.PutVariable ∷ order.Exhausted next ∷ order.Jump body ∷ [])
+    (item-first y item 0 (order.PutVariable ∷ order.Exhausted next ∷ order.Jump body ∷ []) refl))
+
+kept_good : (y : Layout) (item word : ℕ) (os : List Order) → IsTrue (list_all has_code os) → Good (plain (item_order y item word ∷ order.Store ∷ os))
+kept_good y item word os h = plainly (item_order y item word ∷ order.Store ∷ os) (item-first y item word (order.Store ∷ os) h)
+
+module _ (s : Scope) (few : argument_words s.parameters < 256) where
+  while_good : (item f body next i : ℕ) (e : Expr) (c : Cond) → IsTrue (is_ranged_expression s.unit e f) → IsTrue (is_ranged_condition s.unit c) → Good (while_values s item f body next i e c)
+  while_good item f body next i e c he hc =
+      both_good (numbered_good s.layout item i)
+      (both_good (expression_good s few e f he) (both_good (set_good s.layout item) (both_good (condition_ranged_good s few c hc false next) (plainly (order.Jump body ∷ []) refl))))
+
+  step_good : (item f turn i : ℕ) (a b d : Expr) → IsTrue (is_ranged_expression s.unit a f) → IsTrue (is_ranged_expression s.unit b f) → IsTrue (is_ranged_expression s.unit d f) → Good (step_values s item f turn i a b d)
+  step_good item f turn i a b d ha hb hd =
+      both_good (numbered_good s.layout item i)
+      (both_good (expression_good s few a f ha)
+      (both_good (set_good s.layout item)
+      (both_good (expression_good s few b f hb)
+      (both_good (kept_good s.layout item 1 [] refl)
+      (both_good (expression_good s few d f hd) (kept_good s.layout item 2 (order.Jump turn ∷ []) refl))))))
+
+  element_good : (item f set body i : ℕ) (e : Felem) → IsTrue (is_ranged_element s.unit f e) → Good (element_piece s item f set body i e)
+  element_good item f set body i (element.One e) h =
+      ended_good (λ next. followed_by (plain (number_orders s.layout item i)) (followed_by (expression_piece s e f) (plain (order.Jump set ∷ []))))
+      (λ next. both_good (numbered_good s.layout item i) (both_good (expression_good s few e f h) (plainly (order.Jump set ∷ []) refl)))
+  element_good item f set body i (element.While e c) h =
+      let p = parts (is_ranged_expression s.unit e f) (is_ranged_condition s.unit c) h in
+      middle_good (λ own. plain []) (λ own. with_end (λ next. while_values s item f body next i e c)) (λ own. plainly [] refl)
+      (λ own. ended_good (λ next. while_values s item f body next i e c) (λ next. while_good item f body next i e c p.0 p.1))
+  element_good item f set body i (element.Step a b d) h =
+      let p = parts (is_ranged_expression s.unit a f) (is_ranged_expression s.unit b f && is_ranged_expression s.unit d f) h in
+      let q = parts (is_ranged_expression s.unit b f) (is_ranged_expression s.unit d f) p.1 in
+      middle_good (λ turn. followed_by (with_end (λ bump. step_values s item f turn i a b d)) (plain (bump_orders s.layout item))) (λ turn. turn_piece s.layout item body)
+      (λ turn. both_good (ended_good (λ bump. step_values s item f turn i a b d) (λ bump. step_good item f turn i a b d p.0 q.0 q.1)) (bump_good s.layout item))
+      (λ turn. turn_good s.layout item body)
+
+  elements_good : (item f set body i : ℕ) (es : List Felem) → IsTrue (are_ranged_elements s.unit f es) → Good (elements_piece s item f set body i es)
+  elements_good item f set body i [] h = plainly [] refl
+  elements_good item f set body i (e ∷ es) h =
+      let p = parts (is_ranged_element s.unit f e) (are_ranged_elements s.unit f es) h in
+      both_good (element_good item f set body i e p.0) (elements_good item f set body (i + 1) es p.1)
+
+  ways-long : (item f set body i : ℕ) (es : List Felem) (place next : ℕ) → length (element_ways s item f set body i es place next) ≡ length es
+  ways-long item f set body i [] place next = refl
+  ways-long item f set body i (e ∷ es) place next =
+      let x = element_piece s item f set body i e place next in
+      ap suc (ways-long item f set body (i + 1) es (place + length x.orders) (next + length x.marks))
+
+  ring_good : (line item f : ℕ) (es : List Felem) (body : Piece) → IsTrue (is_line line) → IsTrue (nat_lt (length es) 32768) → IsTrue (are_ranged_elements s.unit f es) → Good body → Good (ring_piece s line item f es body)
+  ring_good line item f es body hl hn he hb = record { at = λ place next. (laid (element_ways s item f (next + 1 + 1) (next + 1) 1 es place (next + 1 + 1 + 1)) (ways-long item f (next + 1 + 1) (next + 1) 1 es place (next + 1 + 1 + 1))).at place next }
+    where
+      way_coded : (ways : List ℕ) → length ways ≡ length es → IsTrue (list_all has_code (order.Line line ∷ item_order s.layout item 3 ∷ order.Load ∷ order.LoopWay ways ∷ []))
+      way_coded ways e =
+          first (order.Line line) (item_order s.layout item 3 ∷ order.Load ∷ order.LoopWay ways ∷ []) hl
+          (item-first s.layout item 3 (order.Load ∷ order.LoopWay ways ∷ []) (first (order.LoopWay ways) [] (subst (λ k. IsTrue (nat_lt k 32768)) (sym e) hn) refl))
+
+      laid : (ways : List ℕ) → length ways ≡ length es → Good (with_end (λ end. with_middle (λ start. followed_by (with_end (λ set. followed_by (elements_piece s item f set start 1 es) (plain (order.Jump end ∷ [])))) (plain (set_orders s.layout item))) (λ start. followed_by body (plain (order.Line line ∷ item_order s.layout item 3 ∷ order.Load ∷ order.LoopWay ways ∷ [])))))
+      laid ways e =
+          ended_good (λ end. with_middle (λ start. followed_by (with_end (λ set. followed_by (elements_piece s item f set start 1 es) (plain (order.Jump end ∷ [])))) (plain (set_orders s.layout item))) (λ start. followed_by body (plain (order.Line line ∷ item_order s.layout item 3 ∷ order.Load ∷ order.LoopWay ways ∷ []))))
+          (λ end. middle_good (λ start. followed_by (with_end (λ set. followed_by (elements_piece s item f set start 1 es) (plain (order.Jump end ∷ [])))) (plain (set_orders s.layout item))) (λ start. followed_by body (plain (order.Line line ∷ item_order s.layout item 3 ∷ order.Load ∷ order.LoopWay ways ∷ [])))
+          (λ start. both_good (ended_good (λ set. followed_by (elements_piece s item f set start 1 es) (plain (order.Jump end ∷ []))) (λ set. both_good (elements_good item f set start 1 es he) (plainly (order.Jump end ∷ []) refl))) (set_good s.layout item))
+          (λ start. both_good hb (plainly (order.Line line ∷ item_order s.layout item 3 ∷ order.Load ∷ order.LoopWay ways ∷ []) (way_coded ways e))))
+
+-- ---- statements
+
+module _ (s : Scope) (few : argument_words s.parameters < 256) (who : Option ℕ) (answer : ℕ) where
+  jump_good : (d : Dest) → IsTrue (is_ranged_jump s.unit d) → Good (jump_piece s who d)
+  jump_good (dest.Goal g) h = plainly (goal_order s.unit who g ∷ []) (first (goal_order s.unit who g) [] (goal-coded s.unit who g) refl)
+  jump_good (dest.Special k) h = plainly (order.GoSpecial (control_place s.parameters k) ∷ []) (first (order.GoSpecial (control_place s.parameters k)) [] (control-coded s.parameters k few) refl)
+  jump_good (dest.Switch n e) h = both_good (expression_good s few e 0 h) (plainly (order.GoSwitch n ∷ []) refl)
+  jump_good (dest.CommonSwitch d e) h = both_good (expression_good s few e 0 h) (plainly (order.GoSwitchCommon d ∷ []) refl)
+  jump_good (dest.SpecialSwitch k e) h =
+      both_good (expression_good s few e 0 h) (plainly (order.GoSwitchSpecial (control_place s.parameters k) ∷ []) (first (order.GoSwitchSpecial (control_place s.parameters k)) [] (control-coded s.parameters k few) refl))
+
+  module _ (n : ℕ) (below : (t : Stmt) → statement_size t < n → IsTrue (is_ranged_statement s.unit answer t) → Good (statement_piece s who answer t)) where
+    all_good : (ss : List Stmt) → total (map statement_size ss) < n → IsTrue (all_ranged (map (is_ranged_statement s.unit answer) ss)) → Good (sequence (map (statement_piece s who answer) ss))
+    all_good [] lt h = plainly [] refl
+    all_good (t ∷ ts) lt h =
+        let p = parts (is_ranged_statement s.unit answer t) (all_ranged (map (is_ranged_statement s.unit answer) ts)) h in
+        both_good (below t (let z : statement_size t < n = omega (arith, lt) in z) p.0) (all_good ts (let z : total (map statement_size ts) < n = omega (arith, lt) in z) p.1)
+
+    layer_good : (x : Stmt-F Stmt) → size_layer x ≤ n → IsTrue (ranged_layer s.unit answer x) → Good (statement_layer s who answer x)
+    layer_good (statement.Put line r e) le h =
+        let p = parts (is_line line) ((ranged_reference s.unit r).good && is_ranged_expression s.unit e (out-Ref r).f) h in
+        let q = parts (ranged_reference s.unit r).good (is_ranged_expression s.unit e (out-Ref r).f) p.1 in
+        both_good (begin_good line p.0)
+        (both_good (expression_good s few e (out-Ref r).f q.1) (both_good (address_good s few r q.0) (plainly (store_orders (out-Ref r).field) (store-coded (out-Ref r).field (reference-ranges s few r q.0).0))))
+    layer_good (statement.PutBits line t b r e) le h =
+        let p = parts (is_line line) (is_part t b && ((ranged_reference s.unit r).good && is_ranged_expression s.unit e 0)) h in
+        let q = parts (is_part t b) ((ranged_reference s.unit r).good && is_ranged_expression s.unit e 0) p.1 in
+        let k = parts (ranged_reference s.unit r).good (is_ranged_expression s.unit e 0) q.1 in
+        both_good (begin_good line p.0)
+        (both_good (expression_good s few e 0 k.1) (both_good (address_good s few r k.0) (plainly (order.StorePart t b ∷ []) (first (order.StorePart t b) [] q.0 refl))))
+    layer_good (statement.Go line d) le h =
+        let p = parts (is_line line) (is_ranged_jump s.unit d) h in
+        both_good (begin_good line p.0) (jump_good d p.1)
+    layer_good (statement.Call line t args) le h =
+        let p = parts (is_line line) (all_ranged (map (is_ranged_argument s.unit) args)) h in
+        both_good (begin_good line p.0)
+        (both_good (arguments_good s few args p.1) (plainly (call_order s t ∷ after_statement_call t) (first (call_order s t) (after_statement_call t) (call-coded s t few) (after-coded t))))
+    layer_good (statement.Answer line e) le h =
+        let p = parts (is_line line) (is_ranged_expression s.unit e answer) h in
+        both_good (begin_good line p.0)
+        (both_good (expression_good s few e answer p.1) (plainly (order.Return (argument_words s.parameters) true ∷ []) (first (order.Return (argument_words s.parameters) true) [] (lt_true (argument_words s.parameters) 256 few) refl)))
+    layer_good (statement.If line c a b) le h =
+        let p = parts (is_line line) (is_ranged_condition s.unit c && (is_ranged_statement s.unit answer a && is_ranged_statement s.unit answer b)) h in
+        let q = parts (is_ranged_condition s.unit c) (is_ranged_statement s.unit answer a && is_ranged_statement s.unit answer b) p.1 in
+        let k = parts (is_ranged_statement s.unit answer a) (is_ranged_statement s.unit answer b) q.1 in
+        both_good (begin_good line p.0)
+        (choice_good (condition_piece s c) (statement_piece s who answer a) (statement_piece s who answer b) (condition_ranged_good s few c q.0)
+        (below a (let z : statement_size a < n = omega (arith, le) in z) k.0) (below b (let z : statement_size b < n = omega (arith, le) in z) k.1))
+    layer_good (statement.For line item r es t) le h =
+        let f = (out-Ref r).f in
+        let p = parts (is_line line) ((ranged_reference s.unit r).good && (nat_lt (length es) 32768 && (are_ranged_elements s.unit f es && is_ranged_statement s.unit answer t))) h in
+        let q = parts (ranged_reference s.unit r).good (nat_lt (length es) 32768 && (are_ranged_elements s.unit f es && is_ranged_statement s.unit answer t)) p.1 in
+        let k = parts (nat_lt (length es) 32768) (are_ranged_elements s.unit f es && is_ranged_statement s.unit answer t) q.1 in
+        let m = parts (are_ranged_elements s.unit f es) (is_ranged_statement s.unit answer t) k.1 in
+        both_good (begin_good line p.0)
+        (both_good (address_good s few r q.0)
+        (both_good (kept_good s.layout item 0 [] refl)
+        (ring_good s few line item f es (statement_piece s who answer t) p.0 k.0 m.0 (below t (let z : statement_size t < n = omega (arith, le) in z) m.1))))
+    layer_good (statement.Seq ss) le h = all_good ss (let z : total (map statement_size ss) < n = omega (arith, le) in z) h
+    layer_good (statement.Mark ls t) le h = both_good (labels_good ls) (below t (let z : statement_size t < n = omega (arith, le) in z) h)
+
+  good_below : (n : ℕ) (t : Stmt) → statement_size t < n → IsTrue (is_ranged_statement s.unit answer t) → Good (statement_piece s who answer t)
+  good_below zero t lt h = absurd (omega (arith, lt))
+  good_below (suc n) t lt h =
+      subst Good (sym (statement-made s who answer t))
+      (layer_good n (good_below n) (out-Stmt t) (let z : size_layer (out-Stmt t) ≤ n = omega (arith, lt, statement-size t) in z) (subst IsTrue (statement-ranged s.unit answer t) h))
+
+  pub statement_good : (t : Stmt) → IsTrue (is_ranged_statement s.unit answer t) → Good (statement_piece s who answer t)
+  statement_good t h = good_below (suc (statement_size t)) t (let z : statement_size t < suc (statement_size t) = omega arith in z) h

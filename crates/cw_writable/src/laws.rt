@@ -1,0 +1,4 @@
+//! The laws, by what they speak of: each is a function without a body, whose contract is the law.
+pub mod back;
+pub mod coded;
+pub mod front;
