@@ -1,2 +1,4 @@
 pub mod Specs
 pub mod Taken
+pub mod Controls
+pub mod Numbered
