@@ -1,6 +1,6 @@
 -- The control parameters of each procedure have the numbers from 0 on, and the specifications of their declarations: part by part, each part with
 -- what the whole mentions before it and behind it, and with the procedures before it and behind it.
-use Rattle.std.proofs.Common.{◌≡◌, ◌⊎◌, inl, inr, ℕ, ◌+◌, ◌<◌, ◌≤◌, List, [], ◌∷◌, ◌++◌, length, Bool, true, false, cond, IsTrue, Option, Some, None, slice_get, refl, sym, ap, ap₂, subst, ◌∙◌, arith, append_assoc, append-nil, length-append}
+use Rattle.std.proofs.Common.{◌≡◌, ◌⊎◌, inl, inr, ℕ, ◌+◌, ◌<◌, ◌≤◌, List, [], ◌∷◌, ◌++◌, length, Bool, true, false, cond, IsTrue, Option, Some, None, is_some, slice_get, refl, sym, ap, ap₂, subst, ◌∙◌, arith, append_assoc, append-nil, length-append}
 use Rattle.cw_table.specs.declared.table.Row.{Row}
 use Rattle.cw_table.specs.Rows.{item_at}
 use Rattle.cw_tree.specs.declared.leaf.RawName.{RawName}
@@ -58,8 +58,8 @@ either (inr y) h k = k y
 module _ (named : Named) (numbers : Numbers) (u : SourceUnit) where
   -- ---- what a control parameter is in the unit
 
-  abbrev ControlAt : Option ℕ → (token : ℕ) → Option Spec → Type 0
-  ControlAt q t o = (c : ℕ) × (item_at numbers t ≡ Some (numbered.Control c)) × (parameter_in u q c ≡ o)
+  abbrev pub ControlAt : Option ℕ → (token : ℕ) → Option Spec → Type 0
+  ControlAt q t o = (c : ℕ) × (item_at numbers t ≡ Some (numbered.Control c)) × (parameter_in u q c ≡ o) × IsTrue (is_some q)
 
   abbrev pub Goal : Option ℕ → RawName → NameKind → Type 0
   Goal q n kind.LabelParam = ControlAt q n.at.token None
@@ -86,25 +86,25 @@ module _ (named : Named) (numbers : Numbers) (u : SourceUnit) where
   quiet q (uses x) h = tt
   quiet q (stores token n) h = tt
 
-  from_control : (q : Option ℕ) (n : RawName) (k : NameKind) (x : Control) (c : ℕ) → item_at numbers n.at.token ≡ Some (numbered.Control c) → parameter_in u q c ≡ x.1 → ControlOfKind numbers named.signatures k n.at.token x → Goal q n k
-  from_control q n kind.LabelParam x c is e h = (c, is, e ∙ ap (λ (y : Control). y.1) h)
-  from_control q n kind.SwitchParam x c is e h = (c, is, e ∙ ap (λ (y : Control). y.1) h)
-  from_control q n (kind.ProcParam answer) x c is e h = (h.0, (c, is, e ∙ ap (λ (y : Control). y.1) h.1), h.2)
-  from_control q n (kind.Single t) x c is e h = absurd h
-  from_control q n (kind.Array t b) x c is e h = absurd h
-  from_control q n (kind.Table s) x c is e h = absurd h
-  from_control q n (kind.Element t y) x c is e h = absurd h
-  from_control q n (kind.Value t) x c is e h = absurd h
-  from_control q n (kind.Location t) x c is e h = absurd h
-  from_control q n (kind.ArrayParam t) x c is e h = absurd h
-  from_control q n (kind.TableParam s) x c is e h = absurd h
-  from_control q n kind.Label x c is e h = absurd h
-  from_control q n kind.Switch x c is e h = absurd h
-  from_control q n (kind.Proc t) x c is e h = absurd h
-  from_control q n kind.ReadByte x c is e h = absurd h
-  from_control q n kind.WriteByte x c is e h = absurd h
-  from_control q n kind.Bounds x c is e h = absurd h
-  from_control q n (kind.Answer t) x c is e h = absurd h
+  from_control : (q : Option ℕ) (n : RawName) (k : NameKind) (x : Control) (c : ℕ) → item_at numbers n.at.token ≡ Some (numbered.Control c) → parameter_in u q c ≡ x.1 → IsTrue (is_some q) → ControlOfKind numbers named.signatures k n.at.token x → Goal q n k
+  from_control q n kind.LabelParam x c is e w h = (c, is, e ∙ ap (λ (y : Control). y.1) h, w)
+  from_control q n kind.SwitchParam x c is e w h = (c, is, e ∙ ap (λ (y : Control). y.1) h, w)
+  from_control q n (kind.ProcParam answer) x c is e w h = (h.0, (c, is, e ∙ ap (λ (y : Control). y.1) h.1, w), h.2)
+  from_control q n (kind.Single t) x c is e w h = absurd h
+  from_control q n (kind.Array t b) x c is e w h = absurd h
+  from_control q n (kind.Table s) x c is e w h = absurd h
+  from_control q n (kind.Element t y) x c is e w h = absurd h
+  from_control q n (kind.Value t) x c is e w h = absurd h
+  from_control q n (kind.Location t) x c is e w h = absurd h
+  from_control q n (kind.ArrayParam t) x c is e w h = absurd h
+  from_control q n (kind.TableParam s) x c is e w h = absurd h
+  from_control q n kind.Label x c is e w h = absurd h
+  from_control q n kind.Switch x c is e w h = absurd h
+  from_control q n (kind.Proc t) x c is e w h = absurd h
+  from_control q n kind.ReadByte x c is e w h = absurd h
+  from_control q n kind.WriteByte x c is e w h = absurd h
+  from_control q n kind.Bounds x c is e w h = absurd h
+  from_control q n (kind.Answer t) x c is e w h = absurd h
 
   its_number : (k : NameKind) (t : ℕ) (x : Control) → ControlOfKind numbers named.signatures k t x → x.0 ≡ control_here numbers t
   its_number kind.LabelParam t x h = ap (λ (y : Control). y.0) h
@@ -273,7 +273,7 @@ module _ (named : Named) (numbers : Numbers) (u : SourceUnit) (placed : Placed n
         let start : c ≡ 0 + c = omega arith in
         let spec : spec_in c qs ≡ there.0.1 = spec_at qs 0 c c there.0 start numbered_here there.1 in
         let here_spec : parameter_in u q' c ≡ there.0.1 = ap (λ o. parameter_in u o c) same ∙ ap (spec_in_procedure c) here_proc ∙ spec in
-        from_control named numbers u q' d.name d.kind there.0 c (number_at cut.0 cut.1 q' d cut.2 test) here_spec there.2
+        from_control named numbers u q' d.name d.kind there.0 c (number_at cut.0 cut.1 q' d cut.2 test) here_spec (ap is_some same) there.2
 
     of_param : (m : Here) → In m xs → HereGoal named numbers u m
     of_param m i = by_mention m.who m.mention i (parameters_say numbers (out-RawProc p).params who m i)
