@@ -5,3 +5,4 @@ pub mod Numbered
 pub mod Known
 pub mod Listed
 pub mod Defined
+pub mod Uses

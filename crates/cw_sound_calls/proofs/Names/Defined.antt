@@ -110,6 +110,20 @@ is_so : (b : Bool) (r : Rule) → rule_unless b r ≡ None → b ≡ true
 is_so true r e = refl
 is_so false r e = absurd (cc)
 
+-- ---- what a definition is of
+
+module _ (u : SourceUnit) where
+  -- a definition of a descriptor that says a procedure has its specification
+  abbrev pub MeetsSaid : DescBody → Def → Type 0
+  MeetsSaid (bodies.Proc s) (def.Proc q) = (x : Proc) → slice_get u.procs q ≡ Some x → proc_spec x ≡ s
+  MeetsSaid b y = Unit {0}
+
+  -- the descriptor of a definition, and what it says
+  pub record MetAt (d : ℕ) (y : Def) : Type 0 where
+    pub descriptor : Desc
+    pub is_there : slice_get u.descs d ≡ Some descriptor
+    pub meets_it : MeetsSaid descriptor.body y
+
 module _ (named : Named) (numbers : Numbers) (u : SourceUnit) (resolves : Resolves named.raw.now (result.Ok named)) (placed : Placed named.raw.now)
     (counts : CountsOwn named numbers) (made : Made named numbers u) where
   abbrev facts : List Fact
@@ -182,12 +196,7 @@ module _ (named : Named) (numbers : Numbers) (u : SourceUnit) (resolves : Resolv
   signature_found : (t : ℕ) (answer : Option RawType) (params : List RawPs) → In (specified t answer params) named.signatures → item_at named.signatures t ≡ Some (record { answer = answer; params = params })
   signature_found t answer params i = found named.signatures (specified t answer params) (subst (λ rs. Differ (tokens rs)) (sym resolves.4) placed.signatures) i
 
-  -- a definition of a descriptor that says a procedure has its specification
-  abbrev pub MeetsSaid : DescBody → Def → Type 0
-  MeetsSaid (bodies.Proc s) (def.Proc q) = (x : Proc) → slice_get u.procs q ≡ Some x → proc_spec x ≡ s
-  MeetsSaid b y = Unit {0}
-
-  procedure_met : (answer : Option RawType) (params : List RawPs) (c : Declaration) → In c cs → c.kind ≡ kind.Proc answer → In (specified c.name.at.token answer params) named.signatures → (y : Def) → Definition c y → MeetsSaid (bodies.Proc (spec_of answer params)) y
+  procedure_met : (answer : Option RawType) (params : List RawPs) (c : Declaration) → In c cs → c.kind ≡ kind.Proc answer → In (specified c.name.at.token answer params) named.signatures → (y : Def) → Definition c y → MeetsSaid u (bodies.Proc (spec_of answer params)) y
   procedure_met answer params c i k signed y x =
       let d = x.declaration in
       let broken = subst (λ z. broken_rule z d.kind (same_specified named.signatures c.name.at.token d.name.at.token) ≡ None) k (kept c d i x.is_own x.is_name) in
@@ -199,7 +208,7 @@ module _ (named : Named) (numbers : Numbers) (u : SourceUnit) (resolves : Resolv
       subst IsTrue (ap₂ same_if (signature_found c.name.at.token answer params signed) (signature_found d.name.at.token p.0 specs at.signature)) both.1 in
       let ours : proc_spec (proc_of named numbers at.proc) ≡ spec_of answer params =
       declared_spec numbers named at.proc ∙ ap (λ a. spec_of a specs) at.is_answer ∙ sym (signature_spec (record { answer = answer; params = params }) (record { answer = p.0; params = specs }) same) in
-      subst (MeetsSaid (bodies.Proc (spec_of answer params))) (same_Some (def.Proc at.number) y (ap def_in (sym at.is_number) ∙ x.is_def))
+      subst (MeetsSaid u (bodies.Proc (spec_of answer params))) (same_Some (def.Proc at.number) y (ap def_in (sym at.is_number) ∙ x.is_def))
       (λ z e. ap proc_spec (same_Some z (proc_of named numbers at.proc) (sym e ∙ at.is_proc)) ∙ ours)
 
   -- ---- beside the descriptors
@@ -207,27 +216,21 @@ module _ (named : Named) (numbers : Numbers) (u : SourceUnit) (resolves : Resolv
   named_by : (token : ℕ) (c : Declaration) (y : Def) → c.name.at.token ≡ token → In c cs → def_named named numbers own (item_at named.declarations token) ≡ Some y → Definition c y
   named_by token c y t i e = definition c y i (ap (λ s. def_named named numbers own (item_at named.declarations s)) t ∙ e)
 
-  row_met : (token : ℕ) (l : Listing) (b : DescBody) → Says cs named.signatures token l b → (y : Def) → def_of named numbers own l token ≡ Some y → MeetsSaid b y
+  row_met : (token : ℕ) (l : Listing) (b : DescBody) → Says cs named.signatures token l b → (y : Def) → def_of named numbers own l token ≡ Some y → MeetsSaid u b y
   row_met token listing.Data b s y e = absurd (cc)
-  row_met token listing.Label b s y e = subst (λ z. MeetsSaid z y) (sym s.1) tt
-  row_met token listing.Switch b s y e = subst (λ z. MeetsSaid z y) (sym s.1) tt
+  row_met token listing.Label b s y e = subst (λ z. MeetsSaid u z y) (sym s.1) tt
+  row_met token listing.Switch b s y e = subst (λ z. MeetsSaid u z y) (sym s.1) tt
   row_met token listing.Proc b s y e =
       let f = s.2 in
-      subst (λ z. MeetsSaid z y) (sym s.3)
+      subst (λ z. MeetsSaid u z y) (sym s.3)
       (procedure_met s.0 s.1 f.declaration f.is_in f.is_kind (subst (λ t. In (specified t s.0 s.1) named.signatures) (sym f.is_token) s.4) y (named_by token f.declaration y f.is_token f.is_in e))
 
-  -- the descriptor of a definition, and what it says
-  pub record MetAt (d : ℕ) (y : Def) : Type 0 where
-    pub descriptor : Desc
-    pub is_there : slice_get u.descs d ≡ Some descriptor
-    pub meets_it : MeetsSaid descriptor.body y
-
   abbrev AllMet : List (ℕ × Def) → Type 0
-  AllMet ds = (x : ℕ × Def) → In x ds → MetAt x.0 x.1
+  AllMet ds = (x : ℕ × Def) → In x ds → MetAt u x.0 x.1
 
-  one_met : (d : ℕ) (x : Desc) (o : Option Def) → ((y : Def) → o ≡ Some y → MeetsSaid x.body y) → slice_get u.descs d ≡ Some x → AllMet (def_if d o)
+  one_met : (d : ℕ) (x : Desc) (o : Option Def) → ((y : Def) → o ≡ Some y → MeetsSaid u x.body y) → slice_get u.descs d ≡ Some x → AllMet (def_if d o)
   one_met d x None h e z i = absurd i
-  one_met d x (Some y) h e z (inl is) = subst (λ (w : ℕ × Def). MetAt w.0 w.1) is (record { descriptor = x; is_there = e; meets_it = h y refl })
+  one_met d x (Some y) h e z (inl is) = subst (λ (w : ℕ × Def). MetAt u w.0 w.1) is (record { descriptor = x; is_there = e; meets_it = h y refl })
   one_met d x (Some y) h e z (inr i) = absurd i
 
   rows_met : (d : ℕ) (rs : List (Row Listing)) (ds : List Desc) → AllSay cs named.signatures rs ds → ((i : ℕ) (x : Desc) → slice_get ds i ≡ Some x → slice_get u.descs (d + i) ≡ Some x) → d + length rs ≤ 65535

@@ -118,18 +118,18 @@ module _ (named : Named) (numbers : Numbers) (u : SourceUnit) where
     pub specs_as : SpecsAs who named_kind n
 
   module _ (who : Option ℕ) where
-    abbrev scope : Scope
+    abbrev pub scope : Scope
     scope = scope_in u who
 
     abbrev pub Stood : List Fact → Type 0
     Stood facts = FactsStand named numbers u facts who × UsesKnown facts who
 
-    stood_split : (fs gs : List Fact) → Stood (fs ++ gs) → Stood fs × Stood gs
+    pub stood_split : (fs gs : List Fact) → Stood (fs ++ gs) → Stood fs × Stood gs
     stood_split fs gs h =
         let facts = split named numbers u who fs gs h.0 in
         ((facts.0, λ m i. h.1 m (all_left named numbers u who m fs gs i)), (facts.1, λ m i. h.1 m (all_right named numbers u who m fs gs i)))
 
-    known_of : (n : RawName) (f : Form) → Stood (uses_of n f) → Known who n
+    pub known_of : (n : RawName) (f : Form) → Stood (uses_of n f) → Known who n
     known_of n f h =
         let s = use_stands named numbers u who n f h.0 in
         let x : Use = record { name = n; form = f } in
@@ -153,14 +153,14 @@ module _ (named : Named) (numbers : Numbers) (u : SourceUnit) where
     form_called form.Call k h e = procedure_called k e
     form_called _ k h e = no h
 
-    callable_of : (n : RawName) (f : Form) → IsTrue (is_call_form f) → Stood (uses_of n f) → IsTrue (is_called (kind_of named n))
+    pub callable_of : (n : RawName) (f : Form) → IsTrue (is_call_form f) → Stood (uses_of n f) → IsTrue (is_called (kind_of named n))
     callable_of n f is h =
         let s = use_stands named numbers u who n f h.0 in
         subst (λ (o : Option NameKind). IsTrue (is_called o)) (sym s.is_kind) (form_called f s.named_kind is s.fits_use)
 
     -- ---- what a name passes
 
-    abbrev Hands : Arg → List (Option Spec) → Type 0
+    abbrev pub Hands : Arg → List (Option Spec) → Type 0
     Hands a ws = (map (spec_passed scope) (of_argument a).passed ≡ ws) × ((of_argument a).calls ≡ [])
 
     hands_of : (x : Arg-F Arg Cond Expr Spot Ref) (ws : List (Option Spec)) → map (spec_passed scope) (argument_layer x).passed ≡ ws → (argument_layer x).calls ≡ [] → Hands (roll-Arg x) ws
@@ -210,7 +210,7 @@ module _ (named : Named) (numbers : Numbers) (u : SourceUnit) where
     plain_hands (inner.Label at) k n x s h = label_hands k n x s h
     plain_hands (inner.Switch at) k n x s h = switch_hands k n x s h
 
-    plain_of_name : (n : RawName) (p : RawIps) → Known who n → IsTrue (kind_fits_if p (kind_of named n)) → Hands (handed (kind_of named n) (number_of named numbers n)) (plain_wanted p)
+    pub plain_of_name : (n : RawName) (p : RawIps) → Known who n → IsTrue (kind_fits_if p (kind_of named n)) → Hands (handed (kind_of named n) (number_of named numbers n)) (plain_wanted p)
     plain_of_name n p k h =
         subst (λ (o : Option NameKind). Hands (handed o (number_of named numbers n)) (plain_wanted p)) (sym k.is_kind)
         (plain_hands p k.named_kind n k.stands_as k.specs_as (subst (λ (o : Option NameKind). IsTrue (kind_fits_if p o)) k.is_kind h))
@@ -235,7 +235,7 @@ module _ (named : Named) (numbers : Numbers) (u : SourceUnit) where
         (control_hands (kind.ProcParam own) (number_of named numbers n) s.1 (Some (plain_spec own s.0)) s.2 s.3)
     procedure_hands _ n answer params s h e = no h
 
-    procedure_of_name : (n : RawName) (answer : Option RawType) (params : List RawIps) → Known who n → IsTrue (takes_procedure named answer params (Some n)) → Hands (handed (kind_of named n) (number_of named numbers n)) (Some (plain_spec answer params) ∷ [])
+    pub procedure_of_name : (n : RawName) (answer : Option RawType) (params : List RawIps) → Known who n → IsTrue (takes_procedure named answer params (Some n)) → Hands (handed (kind_of named n) (number_of named numbers n)) (Some (plain_spec answer params) ∷ [])
     procedure_of_name n answer params k h =
         let halves = both_true (is_passed_if (kind_of named n)) (specified_so (signature_of named n) answer params) h in
         subst (λ (o : Option NameKind). Hands (handed o (number_of named numbers n)) (Some (plain_spec answer params) ∷ [])) (sym k.is_kind)
@@ -291,13 +291,13 @@ module _ (named : Named) (numbers : Numbers) (u : SourceUnit) where
         wanted_of n (record { answer = x.0; params = c.params }) c.signature ∙ writer_takes kind.WriteByte (number_of named numbers n) c.params taken c.is t
     call_takes _ n taken x s h t = no h
 
-    called_of : (n : RawName) (args : List Argument) → Known who n → IsTrue (is_called (kind_of named n)) → map (spec_passed scope) (passed_by args) ≡ wanted (params_of (signature_of named n)) → Fits scope (record { target = target named numbers n; passed = passed_by args })
+    pub called_of : (n : RawName) (args : List Argument) → Known who n → IsTrue (is_called (kind_of named n)) → map (spec_passed scope) (passed_by args) ≡ wanted (params_of (signature_of named n)) → Fits scope (record { target = target named numbers n; passed = passed_by args })
     called_of n args k h e taken t =
         e
         ∙ call_takes k.named_kind n taken k.stands_as k.specs_as (subst (λ (o : Option NameKind). IsTrue (is_called o)) k.is_kind h)
         (subst (λ (o : Option NameKind). Takes scope (target_of o (number_of named numbers n)) taken) k.is_kind t)
 
-    pub inside : Context named numbers
+    abbrev pub inside : Context named numbers
     inside = record {
       Fit = Fits scope;
       spec = spec_passed scope;
