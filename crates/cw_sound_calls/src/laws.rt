@@ -17,7 +17,9 @@ ghost use Rattle.cw_sound_trees.specs.Statements.Counted.{Counted};
 use cw_sound::laws::texts::text_trees;
 use cw_sound::laws::units::{bodies_counted, items_declared};
 use cw_sound_names::laws::items::{items_stand, parts_free};
-use cw_sound_names::laws::names::{all_stand, counts, descriptors_named, few_parameters, uses_found};
+use cw_sound_names::laws::names::{
+    all_stand, counts, descriptors_named, few_parameters, uses_found,
+};
 use cw_sound_trees::laws::statements::bodies;
 
 /// The unit of what is named fits, where it has no fault, its items stand, and its bodies are those of the procedures from 0 on.

@@ -1,10 +1,8 @@
 -- The procedure that defines a name has the specification of the name's descriptor.
 use Rattle.std.proofs.Common.{◌≡◌, inl, inr, ℕ, suc, ◌+◌, ◌≤◌, List, [], ◌∷◌, map, length, Bool, true, false, cond, ◌&&◌, IsTrue, Option, Some, None, slice_get, refl, sym, ap, ap₂, subst, ◌∙◌, arith, length-append}
 use Rattle.std.specs.Prelude.{find}
-use Rattle.std.specs.List.{list_all}
 use Rattle.std.specs.Cmp.Lexicographic.{bytes_decides}
 use Rattle.std.specs.declared.result.Result.TheVariants as result
-use Rattle.std.proofs.lemmas.List.Folds.{list_all-append}
 use Rattle.std.proofs.lemmas.Option.{same_Some}
 use Rattle.cw_table.specs.declared.table.Row.{Row}
 use Rattle.cw_table.specs.Rows.{item_at}
@@ -27,9 +25,9 @@ use Rattle.cw_scope.specs.declared.fault.Rule.TheVariants as rule
 use Rattle.cw_tree.specs.declared.leaf.RawName.{RawName}
 use Rattle.cw_scope.specs.Outcome.{Resolves}
 use Rattle.cw_scope.specs.Scope.{has_name, declared_in}
-use Rattle.cw_scope.specs.Same.{same_signature, same_answer, each_same}
+use Rattle.cw_scope.specs.Same.{same_signature}
 use Rattle.cw_scope.specs.Resolved.{text_declarations, text_signatures}
-use Rattle.cw_scope.specs.NameRules.{said, all_declared as all_said, name_faults, is_own_label, is_own_switch}
+use Rattle.cw_scope.specs.NameRules.{said, all_declared as all_said, name_faults}
 use Rattle.cw_scope.specs.Definitions.{definitions_judged, definition_faults, broken_rule, rule_unless, wrong_if, same_if, same_specified, is_own_procedure}
 use Rattle.cw_number.specs.declared.listed.Listing.{Listing}
 use Rattle.cw_number.specs.declared.listed.Listing.TheVariants as listing
@@ -47,9 +45,7 @@ use Rattle.cw_unit.specs.declared.unit.Def.TheVariants as def
 use Rattle.cw_unit.specs.declared.descriptor.Desc.{Desc}
 use Rattle.cw_unit.specs.declared.descriptor.DescBody.{DescBody}
 use Rattle.cw_unit.specs.declared.descriptor.DescBody.TheVariants as bodies
-use Rattle.cw_built.specs.Listed.{procedure_as}
 use Rattle.cw_sound_names.specs.Uses.Mentions.{In, here, declares, facts_mentions, block_mentions}
-use Rattle.cw_sound_names.specs.Uses.Stands.{FactsStand}
 use Rattle.cw_sound_names.specs.Names.Placed.{Placed, tokens, Differ}
 use Rattle.cw_sound_names.specs.Names.Standing.{CountsOwn}
 use Rattle.cw_sound_names.proofs.Names.Lists.{in_left, in_right}

@@ -1,7 +1,6 @@
 -- What the names of a body pass and take, by what they stand for and by the specifications of their declarations.
-use Rattle.std.proofs.Common.{◌≡◌, inl, inr, ℕ, List, [], ◌∷◌, ◌++◌, map, Bool, true, false, IsTrue, ◌&&◌, Option, Some, None, slice_get, refl, sym, ap, subst, ◌∙◌}
-use Rattle.std.proofs.lemmas.Option.{none-some, same_Some}
-use Rattle.cw_table.specs.Rows.{item_at}
+use Rattle.std.proofs.Common.{◌≡◌, ℕ, List, [], ◌∷◌, ◌++◌, map, Bool, true, false, IsTrue, ◌&&◌, Option, Some, None, slice_get, refl, sym, ap, subst, ◌∙◌}
+use Rattle.std.proofs.lemmas.Option.{same_Some}
 use Rattle.cw_tree.specs.declared.leaf.RawName.{RawName}
 use Rattle.cw_tree.specs.declared.leaf.RawType.{RawType}
 use Rattle.cw_tree.specs.declared.leaf.RawSize.{RawSize}
@@ -26,14 +25,11 @@ use Rattle.cw_scale.specs.Kinds.{kind_of, signature_of}
 use Rattle.cw_number.specs.declared.numbered.Numbered.{Numbered}
 use Rattle.cw_number.specs.declared.numbered.Numbered.TheVariants as numbered
 use Rattle.cw_make.specs.Labels.{proc_within}
-use Rattle.cw_make_expr.specs.Parts.{Numbers, number_of, bound, is_called, answer_of, target_of, params_of, handed, handed_item}
+use Rattle.cw_make_expr.specs.Parts.{Numbers, number_of, bound, is_called, target_of, params_of, handed, handed_item}
 use Rattle.cw_make_expr.specs.Made.{target}
 use Rattle.cw_make_items.specs.Types as types
 use Rattle.cw_make_items.specs.Types.{plain_spec, each_taken, each_plain_taken, plain_taken}
 use Rattle.cw_unit.specs.declared.unit.Unit.{Unit as SourceUnit}
-use Rattle.cw_unit.specs.declared.unit.Proc.{Proc}
-use Rattle.cw_unit.specs.declared.unit.Target.{Target}
-use Rattle.cw_unit.specs.declared.unit.Target.TheVariants as target_of_call
 use Rattle.cw_unit.specs.declared.unit.Goal.TheVariants as goal
 use Rattle.cw_unit.specs.declared.unit.Arg.{Arg, roll-Arg}
 use Rattle.cw_unit.specs.declared.unit.Cond.{Cond}
@@ -45,18 +41,18 @@ use Rattle.cw_unit.specs.declared.unit.Arg.TheOpen.{Arg-F}
 use Rattle.cw_unit.specs.declared.descriptor.Scale.{Scale}
 use Rattle.cw_unit.specs.declared.descriptor.Spec.{Spec}
 use Rattle.cw_unit.specs.declared.descriptor.SpecParam.{SpecParam}
-use Rattle.cw_safety.specs.Kinds.{Kind, WordKind, LabelKind, SwitchKind, ProcedureKind}
+use Rattle.cw_safety.specs.Kinds.{WordKind}
 use Rattle.cw_built.specs.Listed.{body_at}
 use Rattle.cw_depth.specs.CallGraph.{spec_of}
-use Rattle.cw_deepest.specs.Calls.{Passed, Argument, Call, passed_by, of_argument}
-use Rattle.cw_deepest.specs.Fitting.{Scope, spec_passed, TakenAs, Takes, Fits, spec_if, taken_in}
+use Rattle.cw_deepest.specs.Calls.{Argument, passed_by, of_argument}
+use Rattle.cw_deepest.specs.Fitting.{Scope, spec_passed, TakenAs, Takes, Fits, spec_if}
 use Rattle.cw_deepest_linked.specs.UnitFits.{spec_said, parameter_in, scope_in}
 use Rattle.cw_sound_names.specs.Uses.Mentions.{In, Here, here, uses, facts_mentions}
-use Rattle.cw_sound_names.specs.Uses.Stands.{kind_specified, IsItem, IsLabel, IsSwitch, Called, IsReader, IsWriter, StandsAs, FactsStand}
+use Rattle.cw_sound_names.specs.Uses.Stands.{kind_specified, IsItem, IsLabel, IsSwitch, IsReader, IsWriter, StandsAs, FactsStand}
 use Rattle.cw_sound_trees.proofs.Expressions.Standing.{split, all_left, all_right, use_is_in, use_stands, owned_is_in}
 use Rattle.cw_sound_calls.proofs.Names.Specs.{passed_spec}
 use Rattle.cw_sound_calls.proofs.Names.Taken.{taken_of_spec}
-use Rattle.cw_sound_calls.proofs.Trees.Parts.{plain_wanted, one_wanted, wanted, is_call_form, Context}
+use Rattle.cw_sound_calls.proofs.Trees.Parts.{plain_wanted, wanted, is_call_form, Context}
 use Rattle.cw_sound_calls.proofs.Trees.Nodes.{argument_layer, argument_rolled}
 
 no : {A : Type 0} → IsTrue false → A

@@ -1,6 +1,6 @@
 -- The control parameters of each procedure have the numbers from 0 on, and the specifications of their declarations: part by part, each part with
 -- what the whole mentions before it and behind it, and with the procedures before it and behind it.
-use Rattle.std.proofs.Common.{◌≡◌, ◌⊎◌, inl, inr, ℕ, ◌+◌, ◌<◌, ◌≤◌, List, [], ◌∷◌, ◌++◌, length, Bool, true, false, cond, IsTrue, Option, Some, None, is_some, slice_get, refl, sym, ap, ap₂, subst, ◌∙◌, arith, append_assoc, append-nil, length-append}
+use Rattle.std.proofs.Common.{◌≡◌, ◌⊎◌, inl, inr, ℕ, ◌+◌, ◌≤◌, List, [], ◌∷◌, ◌++◌, length, Bool, true, false, IsTrue, Option, Some, None, is_some, slice_get, refl, sym, ap, ap₂, subst, ◌∙◌, arith, append_assoc, append-nil, length-append}
 use Rattle.cw_table.specs.declared.table.Row.{Row}
 use Rattle.cw_table.specs.Rows.{item_at}
 use Rattle.cw_tree.specs.declared.leaf.RawName.{RawName}
@@ -13,14 +13,13 @@ use Rattle.cw_facts.specs.declared.fact.Declaration.{Declaration}
 use Rattle.cw_facts.specs.declared.fact.Kind.{Kind as NameKind}
 use Rattle.cw_facts.specs.declared.fact.Kind.TheVariants as kind
 use Rattle.cw_facts.specs.declared.fact.Signature.{Signature}
-use Rattle.cw_facts.specs.Facts.{declares, specifies, each_uses, data_facts, parameters_facts, answer_facts, answer_name, type_position}
+use Rattle.cw_facts.specs.Facts.{specifies, each_uses, parameters_facts, answer_facts, answer_name, type_position}
 use Rattle.cw_facts.specs.Signatures.{plain as as_plain, flattened}
 use Rattle.cw_scope.specs.declared.resolve.Named.{Named}
 use Rattle.cw_scope.specs.Resolved.{fact_signatures, text_signatures}
 use Rattle.cw_number.specs.declared.numbers.Counts.{Counts}
-use Rattle.cw_number.specs.declared.numbered.Numbered.{Numbered}
 use Rattle.cw_number.specs.declared.numbered.Numbered.TheVariants as numbered
-use Rattle.cw_number.specs.Numbers.{none_counted, counted, own_number}
+use Rattle.cw_number.specs.Numbers.{none_counted, counted}
 use Rattle.cw_make_items.specs.Lookup.{Numbers, proc_in, proc_here, control_in, control_here}
 use Rattle.cw_make_items.specs.Types.{plain_spec}
 use Rattle.cw_make.specs.Procedures.{params_of, proc_of}
@@ -36,16 +35,16 @@ use Rattle.cw_sound_names.specs.Uses.Mentions.{In, Mention, Here, here, declares
 use Rattle.cw_sound_names.specs.Names.Placed.{Placed}
 use Rattle.cw_sound_names.specs.Names.Standing.{is_control, is_own_procedure, counted_from, CountsOwn, FewParameters}
 use Rattle.cw_sound_names.proofs.Names.Params.{controls}
-use Rattle.cw_sound_names.proofs.Names.Parts.{Part, Plain, is_plain, empty, both, plain, items as data_items, label, switch, block, procedure, more, procedure_with}
+use Rattle.cw_sound_names.proofs.Names.Parts.{Part, empty, both, plain, items as data_items, label, switch, block, procedure, more, procedure_with}
 use Rattle.cw_sound_names.proofs.Names.Lists.{in_either, Sub, sub_left, sub_right, split}
 use Rattle.cw_sound_names.proofs.Names.Rows.{mentions_append}
 use Rattle.cw_sound_names.proofs.Names.Picking.{pick_append, Zip, zip_at, picked_at}
 use Rattle.cw_sound_names.proofs.Names.Sorts.{of_kind, few_before, procedures_before}
 use Rattle.cw_sound_names.proofs.Names.MentionsOf.{declared_first, block_alone, signatures_append, declared_before, specified_before, signatures_block}
-use Rattle.cw_sound_names.proofs.Names.InProcedure.{IsParameter, is_parameter, parameters_say, control_number, controls_before, counted_append}
+use Rattle.cw_sound_names.proofs.Names.InProcedure.{IsParameter, parameters_say, control_number, controls_before, counted_append}
 use Rattle.cw_sound_names.proofs.Names.PartKinds.{IsData, IsPlain, is_data, data_say, uses_say, procs_in, within_it, inner_facts, first_mention, answers, params, body, shape, no_procs_before, part_procs}
 use Rattle.cw_sound_calls.proofs.Names.Taken.{controls_listed, numbered_from, spec_at}
-use Rattle.cw_sound_calls.proofs.Names.Controls.{Control, ControlOfKind, ControlOf, Picked, picked_of, all_controls}
+use Rattle.cw_sound_calls.proofs.Names.Controls.{Control, ControlOfKind, ControlOf, picked_of, all_controls}
 
 slice_at : {X : Type 0} → (xs ys : List X) (y : X) → slice_get (xs ++ y ∷ ys) (length xs) ≡ Some y
 slice_at [] ys y = refl

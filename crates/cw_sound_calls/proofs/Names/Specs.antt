@@ -1,5 +1,5 @@
 -- What a text specifies the same has one specification in its unit.
-use Rattle.std.proofs.Common.{◌≡◌, ℕ, zero, suc, ◌<◌, ◌≤◌, ℤ, pos, negsuc, neg_ℤ, int_le, List, [], ◌∷◌, Bool, true, false, ◌&&◌, ◌==◌, if◌then◌else◌, nat_le, nat_lt, IsTrue, Option, Some, None, refl, sym, ap, ap₂, subst, ◌∙◌, arith}
+use Rattle.std.proofs.Common.{◌≡◌, ℕ, zero, suc, ◌<◌, ◌≤◌, pos, neg_ℤ, int_le, List, [], ◌∷◌, Bool, true, false, ◌&&◌, ◌==◌, if◌then◌else◌, nat_le, nat_lt, IsTrue, Option, Some, None, refl, sym, ap, ap₂, ◌∙◌, arith}
 use Rattle.std.proofs.lemmas.Bool.Decides.{nat_tests}
 use Rattle.cw_tree.specs.declared.leaf.RawInt.{RawInt}
 use Rattle.cw_tree.specs.declared.leaf.RawInt.TheVariants as int
@@ -11,11 +11,11 @@ use Rattle.cw_tree.specs.declared.segment.RawIps.TheVariants as inner
 use Rattle.cw_tree.specs.declared.segment.RawPs.{RawPs}
 use Rattle.cw_tree.specs.declared.segment.RawPs.TheVariants as ps
 use Rattle.cw_facts.specs.declared.fact.Signature.{Signature}
-use Rattle.cw_amount.specs.Amounts.{int_amount, place_amount, octal, word_of, with_sign, signed_if, is_negative}
+use Rattle.cw_amount.specs.Amounts.{int_amount, place_amount, octal, word_of, signed_if, is_negative}
 use Rattle.cw_scope.specs.Same.{spelled_alike, same_amount, same_int, same_sign, same_signed, same_sint, is_word, same_type, same_answer, same_plain, each_same_plain, same_param, each_same, same_signature}
 use Rattle.cw_scale.specs.Arguments.{takes_these}
 use Rattle.cw_scale.specs.Kinds.{fraction_in, fraction_of_sint}
-use Rattle.cw_make_items.specs.Types.{within, scale_of, answer_of, width_of, plain_taken, each_plain_taken, plain_spec, taken, each_taken, spec_of}
+use Rattle.cw_make_items.specs.Types.{within, scale_of, answer_of, plain_taken, each_plain_taken, plain_spec, taken, each_taken, spec_of}
 use Rattle.cw_unit.specs.declared.descriptor.Scale.{Scale}
 use Rattle.cw_unit.specs.declared.descriptor.Spec.{Spec}
 use Rattle.cw_unit.specs.declared.descriptor.SpecParam.{SpecParam}

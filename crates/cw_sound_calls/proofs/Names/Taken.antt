@@ -5,7 +5,6 @@ use Rattle.std.proofs.lemmas.Option.{none-some, same_Some}
 use Rattle.cw_tree.specs.declared.leaf.Position.{Position}
 use Rattle.cw_tree.specs.declared.leaf.RawName.{RawName}
 use Rattle.cw_tree.specs.declared.leaf.RawType.{RawType}
-use Rattle.cw_tree.specs.declared.segment.RawIps.{RawIps}
 use Rattle.cw_tree.specs.declared.segment.RawIps.TheVariants as inner
 use Rattle.cw_tree.specs.declared.segment.RawPs.{RawPs}
 use Rattle.cw_tree.specs.declared.segment.RawPs.TheVariants as ps
@@ -29,7 +28,7 @@ use Rattle.cw_unit.specs.declared.unit.Param.TheVariants as param
 use Rattle.cw_unit.specs.declared.unit.Proc.{Proc}
 use Rattle.cw_depth.specs.CallGraph.{taken_by, spec_of, spec_in}
 use Rattle.cw_deepest.specs.Fitting.{taken_in, AreNumbered}
-use Rattle.cw_sound_calls.proofs.Trees.Parts.{plain_wanted, one_wanted, wanted}
+use Rattle.cw_sound_calls.proofs.Trees.Parts.{one_wanted, wanted}
 
 -- ---- what a specification says
 

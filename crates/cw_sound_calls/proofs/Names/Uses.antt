@@ -1,5 +1,5 @@
 -- Each name that a text uses has in its unit the specification of its declaration.
-use Rattle.std.proofs.Common.{◌≡◌, ◌⊎◌, inl, inr, ℕ, zero, suc, List, [], ◌∷◌, ◌++◌, Bool, true, false, IsTrue, Option, Some, None, is_some, slice_get, refl, sym, ap, subst, ◌∙◌, append-nil}
+use Rattle.std.proofs.Common.{◌≡◌, ◌⊎◌, inl, inr, ℕ, zero, suc, List, [], ◌∷◌, ◌++◌, true, false, IsTrue, Option, Some, None, is_some, slice_get, refl, sym, ap, subst, ◌∙◌, append-nil}
 use Rattle.std.specs.Prelude.{option_map, option_and_then}
 use Rattle.std.specs.declared.result.Result.TheVariants as result
 use Rattle.std.proofs.lemmas.Option.{same_Some}
@@ -14,7 +14,7 @@ use Rattle.cw_facts.specs.declared.fact.Kind.TheVariants as kind
 use Rattle.cw_facts.specs.declared.fact.Use.{Use}
 use Rattle.cw_facts.specs.Facts.{block_facts}
 use Rattle.cw_facts.specs.Signatures.{plain, flattened}
-use Rattle.cw_facts.specs.Text.{communicators_facts, text_facts}
+use Rattle.cw_facts.specs.Text.{communicators_facts}
 use Rattle.cw_scope.specs.declared.resolve.Named.{Named}
 use Rattle.cw_scope.specs.Outcome.{Resolves}
 use Rattle.cw_scope.specs.Resolved.{text_signatures}
@@ -22,18 +22,18 @@ use Rattle.cw_scale.specs.Kinds.{kind_in, kind_of}
 use Rattle.cw_items.specs.Things.{text_things}
 use Rattle.cw_number.specs.Listed.{listed_of}
 use Rattle.cw_number.specs.Numbers.{numbers_of}
-use Rattle.cw_make.specs.Procedures.{block_procs, proc_of}
+use Rattle.cw_make.specs.Procedures.{block_procs}
 use Rattle.cw_make_items.specs.Descriptors.{descs_of}
 use Rattle.cw_make_items.specs.Lookup.{Numbers}
-use Rattle.cw_make_items.specs.Types.{plain_spec, spec_of}
+use Rattle.cw_make_items.specs.Types.{spec_of}
 use Rattle.cw_unit.specs.declared.unit.Unit.{Unit as SourceUnit}
 use Rattle.cw_unit.specs.declared.unit.Proc.{Proc}
 use Rattle.cw_unit.specs.declared.descriptor.Spec.{Spec}
 use Rattle.cw_deepest.specs.Fitting.{AreNumbered, spec_if}
 use Rattle.cw_deepest_linked.specs.UnitFits.{parameter_in}
-use Rattle.cw_sound_names.specs.Uses.Mentions.{In, Mention, Here, here, declares, uses, facts_mentions, listed_mentions, block_mentions, text_mentions}
+use Rattle.cw_sound_names.specs.Uses.Mentions.{In, Mention, Here, here, declares, listed_mentions, block_mentions, text_mentions}
 use Rattle.cw_sound_names.specs.Names.Found.{Refers, Found, UsesFound}
-use Rattle.cw_sound_names.specs.Names.Placed.{Placed, tokens, Differ}
+use Rattle.cw_sound_names.specs.Names.Placed.{Placed}
 use Rattle.cw_sound_names.specs.Names.Standing.{CountsOwn, FewParameters, ItemsStand}
 use Rattle.cw_sound_names.proofs.Names.Inside.{ProcedureAt}
 use Rattle.cw_sound_names.proofs.Names.Inside as inside

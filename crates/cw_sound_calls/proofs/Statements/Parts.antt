@@ -1,6 +1,5 @@
 -- The calls of statements fit, where those of their expressions do.
-use Rattle.std.proofs.Common.{◌≡◌, ℕ, List, [], ◌∷◌, ◌++◌, length, map, Bool, true, false, ◌==◌, if◌then◌else◌, Option, Some, None, refl, sym, subst}
-use Rattle.std.specs.List.{AllByRecursion}
+use Rattle.std.proofs.Common.{◌≡◌, ℕ, List, [], ◌∷◌, ◌++◌, length, map, Bool, true, false, ◌==◌, if◌then◌else◌, Option, Some, refl, sym, subst}
 use Rattle.cw_tree.specs.declared.leaf.Position.{Position}
 use Rattle.cw_tree.specs.declared.leaf.RawName.{RawName}
 use Rattle.cw_tree.specs.declared.expression.RawBits.{RawBits}
@@ -27,7 +26,6 @@ use Rattle.cw_make_expr.specs.Parts.{Numbers, number_of, item_here}
 use Rattle.cw_make_expr.specs.Made.{expression_made, expression_of, condition_of, reference_of, call_of}
 use Rattle.cw_make_stmt.specs.Made as made
 use Rattle.cw_make_stmt.specs.Made.{goal_of, switch_of, felem_of}
-use Rattle.cw_unit.specs.declared.unit.Dest.{Dest}
 use Rattle.cw_unit.specs.declared.unit.Expr.{Expr}
 use Rattle.cw_unit.specs.declared.unit.Stmt.{Stmt, Stmt-F, roll-Stmt, map-Stmt}
 use Rattle.cw_unit.specs.declared.unit.Stmt.TheOpen as statement
@@ -127,7 +125,7 @@ module _ (named : Named) (numbers : Numbers) (body : Context named numbers) wher
 
   pub switch_jump_fits : (at : Position) (n : RawName) (e : RawExpr) → body.Stood (expression_uses e reading.Value) → NoFault (expression_judged named 0 e) → Fits (made.switch_jump named numbers at n e)
   switch_jump_fits at n e s free =
-      fits_of (statement.Go (made.line_of at) (switch_of (number_of named numbers n) (expression_of named numbers e))) 
+      fits_of (statement.Go (made.line_of at) (switch_of (number_of named numbers n) (expression_of named numbers e)))
       (subst All (sym (calls_of_switch (number_of named numbers n) (expression_of named numbers e))) (expression_fits e 0 s free))
 
   -- ---- other simple statements

@@ -2,11 +2,11 @@
 use Rattle.std.proofs.Common.{◌≡◌, inl, inr, ℕ, List, [], ◌∷◌, ◌++◌, length, map, Bool, true, false, not, ◌||◌, ◌==◌, Option, Some, None, sym, subst}
 use Rattle.cw_table.specs.declared.table.Row.{Row}
 use Rattle.cw_tree.specs.declared.statement.RawDecl.{RawDecl, RawDecl-F, roll-RawDecl, map-RawDecl, fold-RawDecl, fold-roll-RawDecl}
-use Rattle.cw_tree.specs.declared.statement.RawForm.{RawForm, roll-RawForm, map-RawForm, fold-RawForm, fold-roll-RawForm}
-use Rattle.cw_tree.specs.declared.statement.RawSimple.{RawSimple, roll-RawSimple, map-RawSimple, fold-RawSimple, fold-roll-RawSimple}
-use Rattle.cw_tree.specs.declared.statement.RawBlock.{RawBlock, roll-RawBlock, map-RawBlock, fold-RawBlock, fold-roll-RawBlock}
+use Rattle.cw_tree.specs.declared.statement.RawForm.{RawForm, roll-RawForm, map-RawForm, fold-roll-RawForm}
+use Rattle.cw_tree.specs.declared.statement.RawSimple.{RawSimple, roll-RawSimple, map-RawSimple, fold-roll-RawSimple}
+use Rattle.cw_tree.specs.declared.statement.RawBlock.{RawBlock, roll-RawBlock, map-RawBlock, fold-roll-RawBlock}
 use Rattle.cw_tree.specs.declared.statement.RawProc.{RawProc, roll-RawProc, map-RawProc, fold-RawProc, fold-roll-RawProc}
-use Rattle.cw_tree.specs.declared.statement.RawStmt.{RawStmt, roll-RawStmt, map-RawStmt, fold-RawStmt, fold-roll-RawStmt}
+use Rattle.cw_tree.specs.declared.statement.RawStmt.{RawStmt, roll-RawStmt, map-RawStmt, fold-roll-RawStmt}
 use Rattle.cw_tree.specs.declared.statement.RawDecl.TheOpen as layer
 use Rattle.cw_tree.specs.declared.statement.RawDecl.TheOpen.{RawForm-F, RawSimple-F, RawBlock-F, RawProc-F, RawStmt-F}
 use Rattle.cw_tree.specs.declared.statement.RawDecl.TheFolds.{ind-RawBlock, para-roll-RawDecl, para-roll-RawForm, para-roll-RawSimple, para-roll-RawBlock, para-roll-RawProc, para-roll-RawStmt}
@@ -16,13 +16,12 @@ use Rattle.cw_facts.specs.declared.fact.Form.TheVariants as form
 use Rattle.cw_facts.specs.declared.fact.Kind.TheVariants as kind
 use Rattle.cw_facts.specs.declared.fact.Reading.TheVariants as reading
 use Rattle.cw_facts.specs.Signatures.{flattened}
-use Rattle.cw_facts.specs.Uses.{uses_of, expression_uses, condition_uses, reference_uses, argument_uses}
+use Rattle.cw_facts.specs.Uses.{uses_of, expression_uses, condition_uses, reference_uses}
 use Rattle.cw_facts.specs.Facts.{BlockFacts, joined, enclosed, declares, specifies, each_declares, answer_facts, answer_name, parameters_facts, felems_facts, facts_if}
 use Rattle.cw_facts.specs.Facts as facts
 use Rattle.cw_scope.specs.declared.resolve.Named.{Named}
 use Rattle.cw_scale.specs.Faults.{Judgement, both}
 use Rattle.cw_scale.specs.Kinds.{kind_of, signature_of, fraction_of_kind}
-use Rattle.cw_scale.specs.Types.{bits_judged}
 use Rattle.cw_scale.specs.TypeRules.{expression, call_faults}
 use Rattle.cw_data.specs.Specifications.{heading_judged}
 use Rattle.cw_items.specs.declared.families.Site.{Site}
@@ -36,11 +35,11 @@ use Rattle.cw_deepest.specs.Calls.{in_statement}
 use Rattle.cw_sound_names.specs.Uses.Mentions.{In}
 use Rattle.cw_sound_names.proofs.Names.Lists.{in_either}
 use Rattle.cw_sound_trees.proofs.Expressions.Judging.{Keeps, NoFault, keeps_fine, keeps_both, both_free}
-use Rattle.cw_sound_trees.proofs.Statements.Keeping.{counted_keeps, whole_keeps, place_keeps, elements_keep, declaration_keeps, simple_keeps, statement_keeps}
+use Rattle.cw_sound_trees.proofs.Statements.Keeping.{counted_keeps, elements_keep, declaration_keeps, simple_keeps, statement_keeps}
 use Rattle.cw_sound_trees.specs.Statements.Bodies.{Body, Bodies}
 use Rattle.cw_sound_trees.specs.Statements.Bodies as bodies
 use Rattle.cw_sound_calls.proofs.Trees.Parts.{Context, AllFit}
-use Rattle.cw_sound_calls.proofs.Statements.Parts.{expression_fits, test_fits, place_fits, elements_fit, call_statement_fits, no_row, row_more, marked_fits, conditional_fits, repetition_fits, assign_fits, bits_fit, jump_fits, switch_jump_fits, answer_fits}
+use Rattle.cw_sound_calls.proofs.Statements.Parts.{call_statement_fits, no_row, row_more, marked_fits, conditional_fits, repetition_fits, assign_fits, bits_fit, jump_fits, switch_jump_fits, answer_fits}
 
 module _ (named : Named) (numbers : Numbers) where
   abbrev declaration_of : RawDecl → Stmt

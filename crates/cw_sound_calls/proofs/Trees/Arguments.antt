@@ -1,6 +1,5 @@
 -- Arguments pass what the parameters take, so that their call fits.
-use Rattle.std.proofs.Common.{◌≡◌, ℕ, List, [], ◌∷◌, ◌++◌, map, Bool, true, false, IsTrue, ◌==◌, ◌&&◌, Option, Some, None, refl, sym, ap, ap₂, subst, ◌∙◌}
-use Rattle.std.specs.List.{AllByRecursion}
+use Rattle.std.proofs.Common.{◌≡◌, List, [], ◌∷◌, ◌++◌, map, Bool, true, false, IsTrue, ◌&&◌, Option, Some, None, refl, sym, ap, ap₂, subst, ◌∙◌}
 use Rattle.cw_tree.specs.declared.leaf.RawName.{RawName}
 use Rattle.cw_tree.specs.declared.leaf.RawType.{RawType}
 use Rattle.cw_tree.specs.declared.segment.RawIps.{RawIps}
@@ -18,7 +17,7 @@ use Rattle.cw_make_expr.specs.Made.{Made, argument_for, arguments_for, arguments
 use Rattle.cw_make_items.specs.Types.{plain_spec}
 use Rattle.cw_unit.specs.declared.unit.Arg.{Arg}
 use Rattle.cw_unit.specs.declared.descriptor.Spec.{Spec}
-use Rattle.cw_deepest.specs.Calls.{Passed, Argument, Call, Calls, of_word, of_call, passed_by, calls_by, of_argument, in_expression}
+use Rattle.cw_deepest.specs.Calls.{Argument, Calls, of_word, of_call, passed_by, calls_by, of_argument, in_expression}
 use Rattle.cw_sound_trees.proofs.Expressions.Judging.{Keeps, NoFault, keeps_fine, keeps_wrong, keeps_both, both_free}
 use Rattle.cw_sound_calls.proofs.Trees.Parts.{Context, plain_wanted, one_wanted, wanted, AllFit, Sound, Sounds, no_sound, more_sounds}
 use Rattle.cw_sound_calls.proofs.Trees.Nodes.{value_argument_calls, place_argument_calls, joined}

@@ -1,5 +1,5 @@
 -- Conditions: where their parts are right, so are they.
-use Rattle.std.proofs.Common.{◌≡◌, ℕ, max, List, [], ◌∷◌, ◌++◌, false}
+use Rattle.std.proofs.Common.{ℕ, max, List, [], ◌∷◌, ◌++◌, false}
 use Rattle.cw_tree.specs.declared.leaf.Position.{Position}
 use Rattle.cw_tree.specs.declared.leaf.RawCompareSign.{RawCompareSign}
 use Rattle.cw_facts.specs.declared.fact.Reading.TheVariants as reading
@@ -14,7 +14,7 @@ use Rattle.cw_unit.specs.declared.unit.CompareOp.TheVariants as compare
 use Rattle.cw_unit.specs.declared.unit.Cond.{Cond}
 use Rattle.cw_deepest.specs.Calls.{in_condition}
 use Rattle.cw_sound_trees.proofs.Expressions.Judging.{Keeps, NoFault, keeps_fine, keeps_both, both_free}
-use Rattle.cw_sound_calls.proofs.Trees.Parts.{Context, AllFit, Tested, Right, RightTest, RightTests, no_test, more_tests, Tests, no_tests, more_tested}
+use Rattle.cw_sound_calls.proofs.Trees.Parts.{Context, AllFit, Right, RightTest, RightTests, no_test, more_tests, Tests, no_tests, more_tested}
 use Rattle.cw_sound_calls.proofs.Trees.Nodes.{nothing_fits, comparison_fits, both_fit, either_fits}
 
 module _ (named : Named) (numbers : Numbers) (body : Context named numbers) where

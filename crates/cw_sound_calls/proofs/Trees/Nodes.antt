@@ -1,11 +1,10 @@
 -- The calls in the nodes of a unit's trees, by those in their parts.
-use Rattle.std.proofs.Common.{◌≡◌, ℕ, List, [], ◌∷◌, ◌++◌, map, Bool, true, false, Option, Some, None, refl, sym, ap, ap₂, subst, ◌∙◌, append-nil}
+use Rattle.std.proofs.Common.{◌≡◌, ℕ, [], ◌∷◌, ◌++◌, Bool, true, false, Option, Some, None, sym, ap, subst, ◌∙◌}
 use Rattle.std.specs.List.{AllByRecursion}
 use Rattle.cw_tree.specs.declared.leaf.AddOp.{AddOp}
 use Rattle.cw_tree.specs.declared.leaf.AddOp.TheVariants as add
 use Rattle.cw_tree.specs.declared.leaf.MulOp.{MulOp}
 use Rattle.cw_tree.specs.declared.leaf.MulOp.TheVariants as mul
-use Rattle.cw_tree.specs.declared.leaf.RawName.{RawName}
 use Rattle.cw_tree.specs.declared.items.RawRange.{RawRange}
 use Rattle.cw_facts.specs.declared.fact.Kind.{Kind}
 use Rattle.cw_facts.specs.declared.fact.Kind.TheVariants as kind
@@ -15,7 +14,6 @@ use Rattle.cw_make_expr.specs.Nodes.{whole_part_in, whole_part, whole_part_if, p
 use Rattle.cw_make_expr.specs.Parts.{Numbers, kind_here, item_here, named_spot, element_spot, element_word, double_spot, twice_indexed_spot, indexed_spot}
 use Rattle.cw_unit.specs.declared.unit.LogicOp.{LogicOp}
 use Rattle.cw_unit.specs.declared.unit.Field.{Field}
-use Rattle.cw_unit.specs.declared.unit.Target.{Target}
 use Rattle.cw_unit.specs.declared.unit.Arg.{Arg, roll-Arg, map-Arg}
 use Rattle.cw_unit.specs.declared.unit.Cond.{Cond, roll-Cond, map-Cond}
 use Rattle.cw_unit.specs.declared.unit.Expr.{Expr, Expr-F, roll-Expr, out-Expr, map-Expr}

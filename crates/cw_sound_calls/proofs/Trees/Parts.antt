@@ -20,7 +20,6 @@ use Rattle.cw_make_expr.specs.Parts.{Numbers, number_of, is_called, params_of, h
 use Rattle.cw_make_expr.specs.Made.{Made, Placed, target}
 use Rattle.cw_make_items.specs.Types.{plain_spec}
 use Rattle.cw_unit.specs.declared.descriptor.Spec.{Spec}
-use Rattle.cw_unit.specs.declared.unit.Arg.{Arg}
 use Rattle.cw_unit.specs.declared.unit.Cond.{Cond}
 use Rattle.cw_deepest.specs.Calls.{Passed, Argument, Call, Calls, passed_by, of_argument, in_expression, in_condition, in_reference}
 use Rattle.cw_sound_trees.proofs.Expressions.Judging.{Keeps, NoFault}

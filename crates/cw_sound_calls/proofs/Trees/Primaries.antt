@@ -1,19 +1,18 @@
 -- Primaries, references and conditional expressions: where their parts are right, so are they.
-use Rattle.std.proofs.Common.{◌≡◌, ℕ, max, List, [], ◌∷◌, ◌++◌, length, map, Bool, true, false, IsTrue, Option, Some, None, is_some, refl, sym, ap, subst, ◌∙◌}
+use Rattle.std.proofs.Common.{◌≡◌, ℕ, List, [], ◌++◌, Bool, true, false, Some, None, is_some, refl, subst}
 use Rattle.cw_tree.specs.declared.leaf.Position.{Position}
 use Rattle.cw_tree.specs.declared.leaf.RawName.{RawName}
 use Rattle.cw_tree.specs.declared.leaf.RawType.{RawType}
 use Rattle.cw_tree.specs.declared.leaf.RawNumber.{RawNumber}
 use Rattle.cw_tree.specs.declared.expression.RawExpr.TheOpen as layer
 use Rattle.cw_facts.specs.declared.fact.Form.TheVariants as form
-use Rattle.cw_facts.specs.declared.fact.Reading.{Reading}
 use Rattle.cw_facts.specs.declared.fact.Reading.TheVariants as reading
 use Rattle.cw_facts.specs.Uses.{Uses, uses_of, each_for}
 use Rattle.cw_facts.specs.Uses as uses
 use Rattle.cw_scope.specs.declared.resolve.Named.{Named}
 use Rattle.cw_amount.specs.Amounts.{octal_word}
 use Rattle.cw_scale.specs.declared.fault.Rule.TheVariants as rule
-use Rattle.cw_scale.specs.Faults.{Judgement, both}
+use Rattle.cw_scale.specs.Faults.{both}
 use Rattle.cw_scale.specs.Kinds.{kind_of, signature_of, fraction_of}
 use Rattle.cw_scale.specs.Types.{type_judged}
 use Rattle.cw_scale.specs.TypeRules as judged
@@ -23,12 +22,12 @@ use Rattle.cw_make_expr.specs.Nodes as nodes
 use Rattle.cw_make_expr.specs.Made as made
 use Rattle.cw_make_expr.specs.Made.{Made, Placed, simply, value_of_name, target, place_of_name, item_of}
 use Rattle.cw_unit.specs.declared.unit.Cond.{Cond}
-use Rattle.cw_unit.specs.declared.unit.Expr.{Expr, Expr-F}
+use Rattle.cw_unit.specs.declared.unit.Expr.{Expr}
 use Rattle.cw_unit.specs.declared.unit.Ref.{Ref}
 use Rattle.cw_unit.specs.declared.unit.Arg.TheOpen as unit_layer
-use Rattle.cw_deepest.specs.Calls.{in_expression, in_condition, in_reference}
+use Rattle.cw_deepest.specs.Calls.{in_expression, in_reference}
 use Rattle.cw_sound_trees.proofs.Expressions.Judging.{Keeps, NoFault, keeps_fine, keeps_unless, keeps_type, keeps_both, both_free}
-use Rattle.cw_sound_calls.proofs.Trees.Parts.{Context, AllFit, made_of, Sound, Tested, Located, Right, RightTest, RightPlace, Rights, Sounds, no_sound}
+use Rattle.cw_sound_calls.proofs.Trees.Parts.{Context, AllFit, made_of, Located, Right, RightTest, RightPlace, Rights, no_sound}
 use Rattle.cw_sound_calls.proofs.Trees.Nodes.{expression_of, whole_part_fits, choice_fits, reference_fits, read_fits, bare_fits, named_fits, indexed_fits, twice_indexed_fits}
 use Rattle.cw_sound_calls.proofs.Trees.Rules.{compound, sounds_for}
 use Rattle.cw_sound_calls.proofs.Trees.Arguments.{call_keeps, call_fits}
@@ -87,7 +86,7 @@ module _ (named : Named) (numbers : Numbers) (body : Context named numbers) wher
       (λ f. call_keeps named numbers body (signature_of named n) n ss)
       (λ f free operand.
       expression_of body.Fit (unit_layer.Call (made.target named numbers n) (made.arguments named numbers n ms))
-          (call_fits named numbers body n (body.known n form.CallValue halves.0) (body.callable n form.CallValue refl halves.0) ss free))
+      (call_fits named numbers body n (body.known n form.CallValue halves.0) (body.callable n form.CallValue refl halves.0) ss free))
 
   -- ---- conditional expressions
 

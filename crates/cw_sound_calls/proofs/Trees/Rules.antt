@@ -1,16 +1,11 @@
 -- One lemma for each rule of expressions with operands: where its parts are right, so is the whole.
-use Rattle.std.proofs.Common.{◌≡◌, ℕ, suc, max, List, [], ◌∷◌, ◌++◌, length, Bool, true, false, IsTrue, ◌&&◌, ◌==◌, if◌then◌else◌, Option, Some, None, is_none, refl, sym, ap, subst, ◌∙◌, arith}
-use Rattle.std.specs.List.{AllByRecursion}
+use Rattle.std.proofs.Common.{◌≡◌, ℕ, max, List, [], ◌∷◌, length, Bool, true, false, ◌&&◌, ◌==◌, if◌then◌else◌, Option, Some, None, is_none, refl, sym, ap, ◌∙◌, arith}
 use Rattle.std.proofs.lemmas.Bool.Decides.{nat_tests}
 use Rattle.std.proofs.lemmas.Option.{none-some}
-use Rattle.cw_tree.specs.declared.leaf.RawName.{RawName}
 use Rattle.cw_tree.specs.declared.leaf.RawSign.{RawSign}
 use Rattle.cw_tree.specs.declared.leaf.RawFactorSign.{RawFactorSign}
-use Rattle.cw_tree.specs.declared.leaf.MulOp.{MulOp}
-use Rattle.cw_tree.specs.declared.leaf.MulOp.TheVariants as op
 use Rattle.cw_tree.specs.declared.expression.RawBits.{RawBits}
 use Rattle.cw_facts.specs.declared.fact.Reading.{Reading}
-use Rattle.cw_facts.specs.declared.fact.Reading.TheVariants as reading
 use Rattle.cw_facts.specs.Uses.{Uses, reading_of, each_for, operands_for}
 use Rattle.cw_scope.specs.declared.resolve.Named.{Named}
 use Rattle.cw_amount.specs.Amounts.{is_negative}

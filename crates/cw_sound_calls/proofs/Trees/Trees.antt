@@ -25,7 +25,7 @@ use Rattle.cw_make_expr.specs.Made.{Made, Placed}
 use Rattle.cw_make_expr.specs.Made as made
 use Rattle.cw_unit.specs.declared.unit.LogicOp.TheVariants as logic_op
 use Rattle.cw_unit.specs.declared.unit.Cond.{Cond}
-use Rattle.cw_sound_calls.proofs.Trees.Parts.{Context, Right, RightTest, Rights, none, more, RightTests, no_test, more_tests, Located}
+use Rattle.cw_sound_calls.proofs.Trees.Parts.{Context, Right, RightTest, Rights, none, more, RightTests, no_test, more_tests}
 use Rattle.cw_sound_calls.proofs.Trees.Rules.{logic_right, prim_right, term_right, sum_right}
 use Rattle.cw_sound_calls.proofs.Trees.Primaries.{number_right, octal_right, literal_right, string_right, location_right, forced_right, bracket_right, call_right, choice_right, name_right, one_right, two_right, bare_right}
 use Rattle.cw_sound_calls.proofs.Trees.Conditions.{conjunction_right, condition_right, comparison_right}

@@ -8,7 +8,6 @@ use Rattle.cw_unit.specs.declared.unit.Unit.{Unit as SourceUnit}
 use Rattle.cw_make_expr.specs.Parts.{Numbers}
 use Rattle.cw_sound_names.proofs.Names.OwnDeclarations.{Made}
 use Rattle.cw_sound_calls.proofs.Names.Defined.{all_met}
-use Rattle.cw_sound_calls.proofs.Names.Known.{Stood}
 use Rattle.cw_sound_calls.proofs.Names.Uses.{procedures_numbered, uses_known}
 use Rattle.cw_sound_calls.proofs.Units.{calls_fit, definition_fits}
 use Rattle.cw_sound_calls.proofs.laws.named_units_fit.Goals as goal
