@@ -15,9 +15,7 @@ ghost use Rattle.cw_files.specs.Texts.{HasUnit};
 use cw_compile::laws::one_outcome;
 use cw_counted::laws::tokens_counted;
 use cw_deepest_linked::laws::no_depth_stop;
-use cw_sound_calls::laws::units_fit;
-use cw_sound_trees::laws::tokens::unit_counted;
-use cw_texts::laws::compiled_units;
+use cw_sound_calls::laws::{text_units, unit_counted, units_fit};
 
 /// The procedures of a text's unit have numbers of two bytes: each takes four tokens of the text.
 pub fn few_procedures()
@@ -34,7 +32,7 @@ pub fn report_bounds_runs()
     ensures { (texts : List (List ℕ)) (units : List SourceUnit) (limits : Limits) (chain : List (ℕ × ℕ)) (input : List ℕ) (m segment line : ℕ) → units ≢ [] → HaveValues HasUnit texts units → Links units limits → IsReport units (Bound chain) → length chain ≤ limits.depth →
         (observed (program_of units limits) input m).end ≢ Stopped DepthReached segment line }
 {
-    compiled_units();
+    text_units();
     units_fit();
     no_depth_stop();
 }

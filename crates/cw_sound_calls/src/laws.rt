@@ -22,6 +22,10 @@ use cw_sound_names::laws::names::{
 };
 use cw_sound_trees::laws::statements::bodies;
 
+// what the crate above uses beside these laws
+pub use cw_sound::laws::texts::text_units;
+pub use cw_sound_trees::laws::tokens::unit_counted;
+
 /// The unit of what is named fits, where it has no fault, its items stand, and its bodies are those of the procedures from 0 on.
 pub fn named_units_fit()
     ensures { (named : Named) → Resolves named.raw.now (Ok named) → first_type_fault named ≡ None → Placed named.raw.now → ItemsStand named (numbers_of named) (unit_of named) → Counted (numbers_of named) 0 (block_bodies named.raw.now.block) → UnitFits (unit_of named) }
