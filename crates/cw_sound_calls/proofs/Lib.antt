@@ -1,0 +1,4 @@
+pub mod Names
+pub mod Trees
+pub mod Statements
+pub mod Units

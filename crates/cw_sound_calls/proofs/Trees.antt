@@ -1,0 +1,8 @@
+pub mod Parts
+pub mod Nodes
+pub mod Rules
+pub mod Conditions
+pub mod Arguments
+pub mod Primaries
+pub mod Layers
+pub mod Trees
