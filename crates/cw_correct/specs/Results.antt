@@ -1,5 +1,5 @@
 -- What the actions promise that run nothing: `map`, `depth` and `list` write their result to `out`; `compile`, `lib`, `link`, `migrate` and `hex` write it to a file.
-use Rattle.std.specs.Prelude.{◌≡◌, ◌⊎◌, ℕ, ◌<◌, ◌≤◌, List, [], ◌∷◌, ◌++◌, length, map, take, codes}
+use Rattle.std.specs.Prelude.{◌≡◌, ◌≢◌, ◌⊎◌, ℕ, ◌<◌, ◌≤◌, List, [], ◌∷◌, ◌++◌, length, map, take, codes}
 use Rattle.cw_io.specs.Bytes.{after_told}
 use Rattle.cw_io.specs.Count.{Rose}
 use Rattle.cw_io.specs.File.{as_file, KeptOrWhole, OthersStay, AllStay}
@@ -23,7 +23,11 @@ use Rattle.cw_link_files.specs.files.Reading.{HaveBytes, HaveValues, AllTaken, S
 use Rattle.cw_correct.specs.Calls.{Call, told_files, first_name, over_others, NoFault, SameCounts, IsUntouched, IsUnwritten}
 use Rattle.cw_correct.specs.Files.{counts_before, counts_after, AllAccepted}
 use Rattle.cw_correct.specs.Saying.{SaysLast}
+use Rattle.cw_unit.specs.Program.{program_of}
+use Rattle.cw_unit.specs.Stop.{Stopped, DepthReached}
+use Rattle.cw_unit.specs.Behaviour.{observed}
 use Rattle.cw_depth.specs.declared.depth_report.Report.{Report}
+use Rattle.cw_depth.specs.declared.depth_report.Report.TheVariants.{Bound, Unbounded}
 use Rattle.cw_depth.specs.Told.{IsReport}
 use Rattle.cw_correct.specs.Depths.{depth_text}
 use Rattle.cw_correct.specs.Going.{HasCause}
@@ -94,9 +98,16 @@ MapsRight c status = TellsOfUnits IsMap c status
 
 -- ---- depth
 
+-- What a report says of runs: where it tells a longest chain, no run of the units at limits at which they link, and that allow as many calls or more, is
+-- stopped by the depth of its calls, over any input and after any number of steps.
+abbrev pub BoundsRuns : List SourceUnit → Report → Type 0
+BoundsRuns us (Bound chain) =
+    (limits : Limits) (input : List ℕ) (m segment line : ℕ) → Links us limits → length chain ≤ limits.depth → (observed (program_of us limits) input m).end ≢ Stopped DepthReached segment line
+BoundsRuns us (Unbounded segment number) = Unit {0}
+
 -- the depth report
 abbrev pub IsDepth : List SourceUnit → Limits → (text : List ℕ) → Type 0
-IsDepth us limits text = (report : Report) × IsReport us report × (text ≡ depth_text us report)
+IsDepth us limits text = (report : Report) × IsReport us report × BoundsRuns us report × (text ≡ depth_text us report)
 
 abbrev pub DepthsRight : Call → Status → Type 0
 DepthsRight c status = TellsOfUnits IsDepth c status

@@ -3,18 +3,20 @@ ghost use Rattle.std.specs.Prelude.{◌≡◌, ◌≤◌, OnOk, IfErr, ℕ, List
 ghost use Rattle.cw_unit.specs.declared.unit.Unit.{Unit as SourceUnit};
 ghost use Rattle.cw_place.specs.Placement.{IsLimits};
 ghost use Rattle.cw_unit.specs.declared.layout.Limits.{Limits as SourceLimits};
+ghost use Rattle.cw_depth.specs.declared.depth_report.Report.{Report as DepthReport};
 ghost use Rattle.cw_depth.specs.Numbering.{AreFew};
+ghost use Rattle.cw_depth.specs.Told.{IsReport};
 ghost use Rattle.cw_build.specs.Building.{FailsToLink};
 ghost use Rattle.cw_build.specs.Compiled.{IsCompilable, object_of};
 ghost use Rattle.cw_build.specs.Linking.{Links};
 ghost use Rattle.cw_files.specs.Reading.{AreSegmentsOf};
 ghost use Rattle.cw_words.specs.declared.action.Action.TheVariants.{Depth};
 ghost use Rattle.cw_correct.specs.Calls.{surroundings_of, call_as};
-ghost use Rattle.cw_correct.specs.Results.{IsDepth, DepthsRight};
+ghost use Rattle.cw_correct.specs.Results.{BoundsRuns, IsDepth, DepthsRight};
 ghost use Rattle.cw_results.specs.Closed.{files_at, out_at, KeepsClosed};
 ghost use Rattle.cw_results.specs.Results.{TellsUnits};
 
-use crate::laws::few_procedures;
+use crate::laws::{few_procedures, report_bounds_runs};
 use crate::text::report_text;
 use cw_build::laws::linked_units;
 use cw_build::link_units;
@@ -31,7 +33,8 @@ use std::alloc::Global;
 
 // Writes the depth report of units.
 fn write_depth<O: Sink>(alloc: Global, units: &[Unit], out: &mut O) -> Status
-    requires { AreFew units.now }
+    requires few { AreFew units.now }
+    requires bounds { (report : DepthReport) → IsReport units.now report → BoundsRuns units.now report }
     ensures { (limits : SourceLimits) → Links units.now limits → TellsUnits IsDepth units.now limits (out_at (O.held out.old) (O.faults out.old)) (out_at (O.held out.new) (O.faults out.new)) result }
 {
     match depth(alloc, units) {
@@ -65,6 +68,7 @@ fn depth_units<O: Sink>(alloc: Global, segments: &Segments, limits: &Limits, out
     requires segments { AreSegmentsOf us segments.now }
     requires compiled { All IsCompilable us }
     requires few { AreFew us }
+    requires bounds { (report : DepthReport) → IsReport us report → BoundsRuns us report }
     requires limits { IsLimits limits.now }
     ensures { TellsUnits IsDepth us limits.now (out_at (O.held out.old) (O.faults out.old)) (out_at (O.held out.new) (O.faults out.new)) result }
 {
@@ -91,6 +95,7 @@ fn depth_all<F: Store, O: Sink>(
     compiled_units();
     linked_units();
     few_procedures();
+    report_bounds_runs();
     match read_units(alloc, files, names) {
         Ok(segments) => depth_units(alloc, &segments, limits, out),
         Err(status) => status,

@@ -1,5 +1,6 @@
 -- What links is built and agrees, and the calls of the units of texts fit.
-use Rattle.std.proofs.Common.{ℕ, ◌<◌, List, [], ◌∷◌, All, IsTrue, subst}
+use Rattle.std.proofs.Common.{◌≢◌, ℕ, ◌<◌, List, [], ◌∷◌, length, All, IsTrue, subst, arith, tt}
+use Rattle.cw_depth.specs.declared.depth_report.Report.TheVariants.{Bound, Unbounded}
 use Rattle.std.proofs.lemmas.List.Elements.{All-nil, All-cons}
 use Rattle.cw_unit.specs.declared.unit.Unit.{Unit as SourceUnit}
 use Rattle.cw_comm.specs.Clashes.{Agree}
@@ -22,7 +23,12 @@ all_fit one texts [] have = All-nil UnitFits
 all_fit one [] (u ∷ us) have = absurd have
 all_fit one (text ∷ texts) (u ∷ us) have = All-cons UnitFits u us (one text u have.0.is_unit) (all_fit one texts us have.1)
 
+some_units : (us : List SourceUnit) → 0 < length us → us ≢ []
+some_units [] some = absurd (omega (arith, some))
+some_units (u ∷ us) some = λ e. absurd (cc e)
+
 pub returns : goal.returns
-returns c texts units limits chain input m segment line some have links told low =
-    c.no_depth_stop.ensures units limits chain input m segment line some (all_built c.text_units.ensures texts units have) (subst Agree (faces-same units) links.words.agree)
+returns c texts units (Bound chain) some have told = λ limits input m segment line links low.
+    c.no_depth_stop.ensures units limits chain input m segment line (some_units units some) (all_built c.text_units.ensures texts units have) (subst Agree (faces-same units) links.words.agree)
     (all_fit c.units_fit.ensures texts units have) told low
+returns c texts units (Unbounded segment number) some have told = tt

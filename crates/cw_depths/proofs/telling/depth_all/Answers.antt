@@ -3,7 +3,9 @@ use Rattle.std.specs.Prelude.{All}
 use Rattle.cw_build.specs.Compiled.{IsCompilable}
 use Rattle.cw_files.specs.Reading.{AreSegmentsOf}
 use Rattle.std.proofs.lemmas.List.{length-map}
-use Rattle.cw_correct.specs.Results.{IsDepth}
+use Rattle.cw_correct.specs.Results.{BoundsRuns, IsDepth}
+use Rattle.cw_depth.specs.declared.depth_report.Report.{Report}
+use Rattle.cw_depth.specs.Told.{IsReport}
 use Rattle.cw_results.proofs.Texts.{OneOfText}
 use Rattle.cw_results.proofs.Told.{units_taken, units_stopped}
 use Rattle.cw_results.proofs.Maps.{HasSizes, stopped, written}
@@ -19,7 +21,8 @@ depth_units-requires g c =
     let few : AreFew us = are_few c.few_procedures.ensures taken.0.texts us taken.0.have_values (omega (arith, c.requires.some, taken.0.all, count)) (omega (arith, c.requires.few, taken.0.all, count)) in
     let segments : AreSegmentsOf us c.in-Ok.segments = taken.1 in
     let all : All IsCompilable us = c.compiled_units.ensures taken.0.texts us taken.0.have_values in
-    search (rules, segments, all, few, c.requires.limits)
+    let bounds : (report : Report) → IsReport us report → BoundsRuns us report = λ report told. c.report_bounds_runs.ensures taken.0.texts us report few.some taken.0.have_values told in
+    search (rules, segments, all, few, bounds, c.requires.limits)
 
 pub returns-in-Ok : goal.returns-in-Ok
 returns-in-Ok g c = λ steps left input_faults said said' faults faults' closed.
