@@ -1,4 +1,6 @@
 //! Strange files and failing outsides: damaged files, and each call of the outside failing in turn.
+ghost use Rattle.std.specs.Prelude.{◌≤◌};
+
 use crate::actions::file;
 use crate::command::{failing, flat, words_of};
 use cw_io::{MemSink, MemSource, MemStore, read_file};
@@ -28,12 +30,9 @@ const HEAD: [u8; 17] = [
 ];
 
 // The texts `f`, `c` and `o`, and this file `strange`, in a store that moves so many bytes a call.
-fn store(
-    alloc: Global,
-    strange: &[u8],
-    piece: usize,
-    faults: &str,
-) -> Result<MemStore, AllocError> {
+fn store(alloc: Global, strange: &[u8], piece: usize, faults: &str) -> Result<MemStore, AllocError>
+    requires { 1 ≤ piece }
+{
     let mut files = Vec::new(alloc);
     files.push(file(alloc, b"f", FILTER.as_bytes())?)?;
     files.push(file(alloc, b"c", CONTROL.as_bytes())?)?;
@@ -53,7 +52,9 @@ fn told(
     line: &str,
     piece: usize,
     faults: &str,
-) -> Result<String, AllocError> {
+) -> Result<String, AllocError>
+    requires { 1 ≤ piece }
+{
     let bytes = List::of(vec![in alloc; 64_u8; 200]?);
     let mut input = MemSource::new(bytes, piece, failing(alloc, faults, "input")?);
     let Ok(mut out) = MemSink::new(alloc, 64, piece, failing(alloc, faults, "out")?) else {
@@ -320,7 +321,7 @@ fn faults_in_turn(rt: HostRuntime) -> Result<(), Fail> {
             parts.next(),
             parts.next(),
         ) {
-            let piece = piece.parse::<usize>().unwrap_or(1);
+            let piece = piece.parse::<usize>().unwrap_or(1).max(1);
             let mut files = store(alloc, &[], piece, faults)?;
             let text = told(alloc, &mut files, "go f c", piece, faults)?;
             let wanted = wanted.replace(alloc, "MAP", MAP)?;
