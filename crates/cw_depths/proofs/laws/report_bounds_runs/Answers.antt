@@ -1,5 +1,5 @@
 -- What links is built and agrees, and the calls of the units of texts fit.
-use Rattle.std.proofs.Common.{◌≢◌, ℕ, ◌<◌, List, [], ◌∷◌, length, All, IsTrue, subst, arith, tt}
+use Rattle.std.proofs.Common.{◌≢◌, ℕ, ◌<◌, List, [], ◌∷◌, length, All, IsTrue, subst, arith}
 use Rattle.cw_depth.specs.declared.depth_report.Report.TheVariants.{Bound, Unbounded}
 use Rattle.std.proofs.lemmas.List.Elements.{All-nil, All-cons}
 use Rattle.cw_unit.specs.declared.unit.Unit.{Unit as SourceUnit}
