@@ -20,7 +20,7 @@ use Rattle.cw_stop.specs.declared.stopping.Stop.{Stop}
 use Rattle.cw_trace.specs.declared.watch.Watch.{Watch}
 use Rattle.cw_watch.specs.declared.fault.WatchFault.{WatchFault}
 use Rattle.cw_watch.specs.declared.fault.WatchFault.TheVariants as faults
-use Rattle.cw_traced.specs.Reported.{MeansInUnits, ReportsUnits}
+use Rattle.cw_traced.specs.Places.Reported.{MeansInUnits, ReportsUnits}
 use Rattle.cw_link_files.specs.files.Texts.{HasUnit}
 use Rattle.cw_link_files.specs.files.Reading.{HaveBytes, HaveValues}
 use Rattle.cw_correct.specs.Calls.{Call, told_files, IsUntouched, IsUnwritten}

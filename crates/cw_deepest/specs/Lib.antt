@@ -1,2 +1,2 @@
-pub mod Calls
-pub mod Fitting
+pub mod Programs
+pub mod Linked

@@ -16,7 +16,7 @@ ghost use Rattle.cw_follow.specs.Passing.{passes};
 ghost use Rattle.cw_sim.specs.Preservation.{IsLoaded, Preserves, Completes};
 ghost use Rattle.cw_sim.specs.Statements.{image_places, BeginsStatements};
 
-use cw_carry_run::laws::orders_follow_meaning;
+use cw_carry::laws::runs::orders_follow_meaning;
 use cw_cpu86::laws::one_observation;
 use cw_dec86::no_instruction_begins_another;
 use cw_follow::laws::{code_follows_orders, places_stand};

@@ -28,9 +28,9 @@ use Rattle.cw_built.specs.Listed.{are_named, body_in, body_at}
 use Rattle.cw_built.proofs.Apart.{name-equal, listing-is}
 use Rattle.cw_comm.specs.Agreement.{listing_of}
 use Rattle.cw_depth.specs.CallGraph.{spec_of}
-use Rattle.cw_deepest.specs.Calls.{in_statement}
-use Rattle.cw_deepest.specs.Fitting.{Fits, calls_of_procedure}
-use Rattle.cw_deepest_linked.specs.UnitFits.{scope_in, calls_in}
+use Rattle.cw_deepest.specs.Programs.Calls.{in_statement}
+use Rattle.cw_deepest.specs.Programs.Fitting.{Fits, calls_of_procedure}
+use Rattle.cw_deepest.specs.Linked.UnitFits.{scope_in, calls_in}
 use Rattle.cw_sound_names.specs.Uses.Mentions.{In}
 use Rattle.cw_sound_trees.proofs.Expressions.Judging.{NoFault}
 use Rattle.cw_sound_trees.specs.Statements.Bodies.{Body, Bodies, block_bodies}

@@ -7,7 +7,7 @@ ghost use Rattle.cw_judge.specs.Judged.{first_type_fault};
 ghost use Rattle.cw_number.specs.Numbers.{numbers_of};
 ghost use Rattle.cw_make.specs.Made.{unit_of};
 ghost use Rattle.cw_unit.specs.declared.unit.Unit.{Unit as SourceUnit};
-ghost use Rattle.cw_deepest_linked.specs.UnitFits.{UnitFits};
+ghost use Rattle.cw_deepest.specs.Linked.UnitFits.{UnitFits};
 ghost use Rattle.cw_compile.specs.Texts.{IsUnitOf};
 ghost use Rattle.cw_sound_names.specs.Names.Placed.{Placed};
 ghost use Rattle.cw_sound_names.specs.Names.Standing.{ItemsStand};

@@ -1,4 +1,2 @@
-pub mod Told
-pub mod Named
+pub mod Lines
 pub mod Places
-pub mod Joined

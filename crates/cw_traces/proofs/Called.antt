@@ -17,7 +17,7 @@ use Rattle.cw_trace.specs.declared.watch.Watch.{Watch}
 use Rattle.cw_watch.specs.Watching.{AnswersWatch}
 use Rattle.cw_watch.specs.declared.fault.WatchFault.{WatchFault}
 use Rattle.cw_watch.specs.declared.fault.WatchFault.TheVariants as faults
-use Rattle.cw_traced.specs.Reported.{MeansInUnits}
+use Rattle.cw_traced.specs.Places.Reported.{MeansInUnits}
 use Rattle.cw_write.specs.Said.{Says}
 use Rattle.cw_say.specs.Closing.{closing_line}
 use Rattle.cw_say.specs.declared.status.Status.{Status}

@@ -33,7 +33,7 @@ use Rattle.cw_watch.specs.declared.fault.WatchFault.TheVariants as faults
 use Rattle.cw_watched.specs.Watched.{TellsOf, ToldRun, CutShort, WatchedShows, said_at}
 use Rattle.cw_watched.specs.declared.running.WatchedEnd.{WatchedEnd}
 use Rattle.cw_watched.specs.declared.running.WatchedEnd.TheVariants as watched
-use Rattle.cw_traced.specs.Reported.{MeansInUnits, ReportsUnits}
+use Rattle.cw_traced.specs.Places.Reported.{MeansInUnits, ReportsUnits}
 use Rattle.cw_write.specs.Said.{Says}
 use Rattle.cw_write.proofs.Said.{after_told-append}
 use Rattle.cw_say.specs.Closing.{closing_line}

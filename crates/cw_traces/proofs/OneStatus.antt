@@ -13,7 +13,7 @@ use Rattle.cw_trace.specs.declared.watch.WatchedWord.{WatchedWord}
 use Rattle.cw_watch.specs.Watching.{MeanWords, IsFirstNone, watched_address, stop_places, lines_from}
 use Rattle.cw_watch.specs.declared.fault.WatchFault.{WatchFault}
 use Rattle.cw_watch.specs.declared.fault.WatchFault.TheVariants as faults
-use Rattle.cw_traced.specs.Reported.{MeansInUnits}
+use Rattle.cw_traced.specs.Places.Reported.{MeansInUnits}
 use Rattle.cw_say.specs.declared.status.Status.{Status}
 use Rattle.cw_say.specs.declared.status.Status.TheVariants.{Ended, Usage, Refused, Unlinked, Stopped, Unfinished, NoFile, NoMemory, BadFile, TooLong, BadCode, Divided, TooMany, NoPlace, NoItem}
 use Rattle.cw_say.specs.declared.status.Status.TheVariants as statuses

@@ -10,7 +10,7 @@ use Rattle.cw_build.specs.Linking.{Links, image_of, map_text}
 use Rattle.cw_stop.specs.declared.stopping.Stop.{Stop}
 use Rattle.cw_trace.specs.declared.watch.Watch.{Watch}
 use Rattle.cw_watch.specs.declared.fault.WatchFault.{WatchFault}
-use Rattle.cw_traced.specs.Reported.{MeansInUnits}
+use Rattle.cw_traced.specs.Places.Reported.{MeansInUnits}
 use Rattle.cw_words.specs.declared.action.Action.{Action}
 use Rattle.cw_correct.specs.Calls.{Surroundings, Call, call_as, told_files, NoFault}
 use Rattle.cw_correct.specs.Closing.{Closes}

@@ -6,7 +6,7 @@ use cw_compile::laws::one_outcome;
 use cw_cpu86::laws::{one_observation, one_start};
 use cw_go::compiled_units;
 use cw_go::laws::promises;
-use cw_traced::laws::reported;
+use cw_traced::laws::places::reported;
 use cw_unit::laws::configurations;
 
 /// A call that goes so up to its closing line, and is closed so, keeps its promise.

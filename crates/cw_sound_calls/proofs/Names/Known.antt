@@ -44,9 +44,9 @@ use Rattle.cw_unit.specs.declared.descriptor.SpecParam.{SpecParam}
 use Rattle.cw_safety.specs.Kinds.{WordKind}
 use Rattle.cw_built.specs.Listed.{body_at}
 use Rattle.cw_depth.specs.CallGraph.{spec_of}
-use Rattle.cw_deepest.specs.Calls.{Argument, passed_by, of_argument}
-use Rattle.cw_deepest.specs.Fitting.{Scope, spec_passed, TakenAs, Takes, Fits, spec_if}
-use Rattle.cw_deepest_linked.specs.UnitFits.{spec_said, parameter_in, scope_in}
+use Rattle.cw_deepest.specs.Programs.Calls.{Argument, passed_by, of_argument}
+use Rattle.cw_deepest.specs.Programs.Fitting.{Scope, spec_passed, TakenAs, Takes, Fits, spec_if}
+use Rattle.cw_deepest.specs.Linked.UnitFits.{spec_said, parameter_in, scope_in}
 use Rattle.cw_sound_names.specs.Uses.Mentions.{In, Here, here, uses, facts_mentions}
 use Rattle.cw_sound_names.specs.Uses.Stands.{kind_specified, IsItem, IsLabel, IsSwitch, IsReader, IsWriter, StandsAs, FactsStand}
 use Rattle.cw_sound_trees.proofs.Expressions.Standing.{split, all_left, all_right, use_is_in, use_stands, owned_is_in}

@@ -29,7 +29,7 @@ use Rattle.cw_unit.specs.declared.descriptor.Desc.{Desc}
 use Rattle.cw_unit.specs.declared.descriptor.DescBody.{DescBody}
 use Rattle.cw_unit.specs.declared.descriptor.DescBody.TheVariants as bodies
 use Rattle.cw_built.specs.Listed.{body_in, body_at}
-use Rattle.cw_deepest_linked.specs.UnitFits.{spec_said}
+use Rattle.cw_deepest.specs.Linked.UnitFits.{spec_said}
 use Rattle.cw_sound_names.specs.Uses.Mentions.{In, here, declares, listed_mentions, block_mentions, text_mentions}
 use Rattle.cw_sound_names.specs.Names.Placed.{Placed, tokens, Differ}
 use Rattle.cw_sound_names.specs.Names.Found.{Refers}

@@ -29,8 +29,8 @@ use Rattle.cw_unit.specs.declared.unit.Proc.{Proc}
 use Rattle.cw_unit.specs.declared.unit.Param.{Param}
 use Rattle.cw_unit.specs.declared.unit.Switch.{Switch}
 use Rattle.cw_depth.specs.CallGraph.{spec_in, spec_in_procedure}
-use Rattle.cw_deepest.specs.Fitting.{AreNumbered}
-use Rattle.cw_deepest_linked.specs.UnitFits.{parameter_in}
+use Rattle.cw_deepest.specs.Programs.Fitting.{AreNumbered}
+use Rattle.cw_deepest.specs.Linked.UnitFits.{parameter_in}
 use Rattle.cw_sound_names.specs.Uses.Mentions.{In, Mention, Here, here, declares as declared, uses, stores, facts_mentions, block_mentions}
 use Rattle.cw_sound_names.specs.Names.Placed.{Placed}
 use Rattle.cw_sound_names.specs.Names.Standing.{is_control, is_own_procedure, counted_from, CountsOwn, FewParameters}

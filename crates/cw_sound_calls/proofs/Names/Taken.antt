@@ -27,7 +27,7 @@ use Rattle.cw_unit.specs.declared.unit.Param.{Param}
 use Rattle.cw_unit.specs.declared.unit.Param.TheVariants as param
 use Rattle.cw_unit.specs.declared.unit.Proc.{Proc}
 use Rattle.cw_depth.specs.CallGraph.{taken_by, spec_of, spec_in}
-use Rattle.cw_deepest.specs.Fitting.{taken_in, AreNumbered}
+use Rattle.cw_deepest.specs.Programs.Fitting.{taken_in, AreNumbered}
 use Rattle.cw_sound_calls.proofs.Trees.Parts.{one_wanted, wanted}
 
 -- ---- what a specification says

@@ -29,8 +29,8 @@ use Rattle.cw_make_items.specs.Types.{spec_of}
 use Rattle.cw_unit.specs.declared.unit.Unit.{Unit as SourceUnit}
 use Rattle.cw_unit.specs.declared.unit.Proc.{Proc}
 use Rattle.cw_unit.specs.declared.descriptor.Spec.{Spec}
-use Rattle.cw_deepest.specs.Fitting.{AreNumbered, spec_if}
-use Rattle.cw_deepest_linked.specs.UnitFits.{parameter_in}
+use Rattle.cw_deepest.specs.Programs.Fitting.{AreNumbered, spec_if}
+use Rattle.cw_deepest.specs.Linked.UnitFits.{parameter_in}
 use Rattle.cw_sound_names.specs.Uses.Mentions.{In, Mention, Here, here, declares, listed_mentions, block_mentions, text_mentions}
 use Rattle.cw_sound_names.specs.Names.Found.{Refers, Found, UsesFound}
 use Rattle.cw_sound_names.specs.Names.Placed.{Placed}

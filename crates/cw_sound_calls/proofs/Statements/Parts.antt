@@ -30,8 +30,8 @@ use Rattle.cw_unit.specs.declared.unit.Expr.{Expr}
 use Rattle.cw_unit.specs.declared.unit.Stmt.{Stmt, Stmt-F, roll-Stmt, map-Stmt}
 use Rattle.cw_unit.specs.declared.unit.Stmt.TheOpen as statement
 use Rattle.cw_unit.specs.declared.unit.Stmt.TheFolds.{fold-roll-Stmt}
-use Rattle.cw_deepest.specs.Calls as calls
-use Rattle.cw_deepest.specs.Calls.{Calls, in_expression, in_condition, in_reference, in_element, in_jump, in_statement, statement_step}
+use Rattle.cw_deepest.specs.Programs.Calls as calls
+use Rattle.cw_deepest.specs.Programs.Calls.{Calls, in_expression, in_condition, in_reference, in_element, in_jump, in_statement, statement_step}
 use Rattle.cw_sound_trees.proofs.Expressions.Judging.{NoFault, keeps_both, both_free}
 use Rattle.cw_sound_trees.proofs.Statements.Keeping.{few_keeps, few_each_keeps, whole_keeps, test_keeps, place_keeps, elements_keep}
 use Rattle.cw_sound_calls.proofs.Trees.Parts.{Context, AllFit, Rights, none, more}

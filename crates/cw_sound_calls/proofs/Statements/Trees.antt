@@ -31,7 +31,7 @@ use Rattle.cw_make.specs.Labels.{proc_within}
 use Rattle.cw_make_expr.specs.Parts.{Numbers}
 use Rattle.cw_make_stmt.specs.Made as made
 use Rattle.cw_unit.specs.declared.unit.Stmt.{Stmt}
-use Rattle.cw_deepest.specs.Calls.{in_statement}
+use Rattle.cw_deepest.specs.Programs.Calls.{in_statement}
 use Rattle.cw_sound_names.specs.Uses.Mentions.{In}
 use Rattle.cw_sound_names.proofs.Names.Lists.{in_either}
 use Rattle.cw_sound_trees.proofs.Expressions.Judging.{Keeps, NoFault, keeps_fine, keeps_both, both_free}

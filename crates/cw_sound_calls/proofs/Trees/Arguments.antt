@@ -17,7 +17,7 @@ use Rattle.cw_make_expr.specs.Made.{Made, argument_for, arguments_for, arguments
 use Rattle.cw_make_items.specs.Types.{plain_spec}
 use Rattle.cw_unit.specs.declared.unit.Arg.{Arg}
 use Rattle.cw_unit.specs.declared.descriptor.Spec.{Spec}
-use Rattle.cw_deepest.specs.Calls.{Argument, Calls, of_word, of_call, passed_by, calls_by, of_argument, in_expression}
+use Rattle.cw_deepest.specs.Programs.Calls.{Argument, Calls, of_word, of_call, passed_by, calls_by, of_argument, in_expression}
 use Rattle.cw_sound_trees.proofs.Expressions.Judging.{Keeps, NoFault, keeps_fine, keeps_wrong, keeps_both, both_free}
 use Rattle.cw_sound_calls.proofs.Trees.Parts.{Context, plain_wanted, one_wanted, wanted, AllFit, Sound, Sounds, no_sound, more_sounds}
 use Rattle.cw_sound_calls.proofs.Trees.Nodes.{value_argument_calls, place_argument_calls, joined}

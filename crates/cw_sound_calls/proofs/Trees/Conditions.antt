@@ -12,7 +12,7 @@ use Rattle.cw_make_expr.specs.Nodes as nodes
 use Rattle.cw_make_expr.specs.Made.{Made, all_from, any_from, all_of, any_of}
 use Rattle.cw_unit.specs.declared.unit.CompareOp.TheVariants as compare
 use Rattle.cw_unit.specs.declared.unit.Cond.{Cond}
-use Rattle.cw_deepest.specs.Calls.{in_condition}
+use Rattle.cw_deepest.specs.Programs.Calls.{in_condition}
 use Rattle.cw_sound_trees.proofs.Expressions.Judging.{Keeps, NoFault, keeps_fine, keeps_both, both_free}
 use Rattle.cw_sound_calls.proofs.Trees.Parts.{Context, AllFit, Right, RightTest, RightTests, no_test, more_tests, Tests, no_tests, more_tested}
 use Rattle.cw_sound_calls.proofs.Trees.Nodes.{nothing_fits, comparison_fits, both_fit, either_fits}

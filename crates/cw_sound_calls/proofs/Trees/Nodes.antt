@@ -22,8 +22,8 @@ use Rattle.cw_unit.specs.declared.unit.Ref.{Ref, roll-Ref}
 use Rattle.cw_unit.specs.declared.unit.Arg.TheOpen as layer
 use Rattle.cw_unit.specs.declared.unit.Arg.TheOpen.{Arg-F, Cond-F, Spot-F, Ref-F}
 use Rattle.cw_unit.specs.declared.unit.Arg.TheFolds.{fold-roll-Arg, fold-roll-Cond, fold-roll-Expr, fold-roll-Spot, fold-roll-Ref, fold_out-Expr}
-use Rattle.cw_deepest.specs.Calls as calls
-use Rattle.cw_deepest.specs.Calls.{Argument, Call, Calls, of_word, of_call, of_argument, in_condition, in_expression, in_spot, in_reference}
+use Rattle.cw_deepest.specs.Programs.Calls as calls
+use Rattle.cw_deepest.specs.Programs.Calls.{Argument, Call, Calls, of_word, of_call, of_argument, in_condition, in_expression, in_spot, in_reference}
 
 abbrev pub expression_layer : Expr-F Arg Cond Expr Spot Ref → Calls
 expression_layer x = calls.expression_step (map-Expr Arg Cond Expr Spot Ref Argument Calls Calls Calls Calls of_argument in_condition in_expression in_spot in_reference x)

@@ -21,7 +21,7 @@ use Rattle.cw_make_expr.specs.Made.{Made, Placed, target}
 use Rattle.cw_make_items.specs.Types.{plain_spec}
 use Rattle.cw_unit.specs.declared.descriptor.Spec.{Spec}
 use Rattle.cw_unit.specs.declared.unit.Cond.{Cond}
-use Rattle.cw_deepest.specs.Calls.{Passed, Argument, Call, Calls, passed_by, of_argument, in_expression, in_condition, in_reference}
+use Rattle.cw_deepest.specs.Programs.Calls.{Passed, Argument, Call, Calls, passed_by, of_argument, in_expression, in_condition, in_reference}
 use Rattle.cw_sound_trees.proofs.Expressions.Judging.{Keeps, NoFault}
 
 -- ---- what parameters take that is no word

@@ -25,7 +25,7 @@ use Rattle.cw_unit.specs.declared.unit.Cond.{Cond}
 use Rattle.cw_unit.specs.declared.unit.Expr.{Expr}
 use Rattle.cw_unit.specs.declared.unit.Ref.{Ref}
 use Rattle.cw_unit.specs.declared.unit.Arg.TheOpen as unit_layer
-use Rattle.cw_deepest.specs.Calls.{in_expression, in_reference}
+use Rattle.cw_deepest.specs.Programs.Calls.{in_expression, in_reference}
 use Rattle.cw_sound_trees.proofs.Expressions.Judging.{Keeps, NoFault, keeps_fine, keeps_unless, keeps_type, keeps_both, both_free}
 use Rattle.cw_sound_calls.proofs.Trees.Parts.{Context, AllFit, made_of, Located, Right, RightTest, RightPlace, Rights, no_sound}
 use Rattle.cw_sound_calls.proofs.Trees.Nodes.{expression_of, whole_part_fits, choice_fits, reference_fits, read_fits, bare_fits, named_fits, indexed_fits, twice_indexed_fits}

@@ -21,7 +21,7 @@ use Rattle.cw_make_expr.specs.Made.{Made, simply, operand_for, logic_from, logic
 use Rattle.cw_unit.specs.declared.unit.LogicOp.{LogicOp}
 use Rattle.cw_unit.specs.declared.unit.Expr.{Expr}
 use Rattle.cw_unit.specs.declared.unit.Arg.TheOpen as layer
-use Rattle.cw_deepest.specs.Calls.{in_expression}
+use Rattle.cw_deepest.specs.Programs.Calls.{in_expression}
 use Rattle.cw_sound_trees.proofs.Expressions.Judging.{Keeps, NoFault, keeps_fine, keeps_unless, keeps_both, both_free, keeps_each_bits}
 use Rattle.cw_sound_calls.proofs.Trees.Parts.{Context, AllFit, Sound, Right, Rights, none, more, Sounds, no_sound, more_sounds}
 use Rattle.cw_sound_calls.proofs.Trees.Nodes.{expression_of, nothing_fits, logic_fits, added_fits, multiplied_fits, whole_part_fits}

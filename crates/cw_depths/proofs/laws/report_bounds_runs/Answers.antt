@@ -8,7 +8,7 @@ use Rattle.cw_built.specs.Built.{is_built}
 use Rattle.cw_build.specs.Compiled.{IsCompilable}
 use Rattle.cw_build_laws.proofs.Images.Faces.{faces-same}
 use Rattle.cw_compile.specs.Texts.{IsUnitOf}
-use Rattle.cw_deepest_linked.specs.UnitFits.{UnitFits}
+use Rattle.cw_deepest.specs.Linked.UnitFits.{UnitFits}
 use Rattle.cw_files.specs.Reading.{HaveValues}
 use Rattle.cw_files.specs.Texts.{HasUnit}
 use Rattle.cw_depths.proofs.laws.report_bounds_runs.Goals as goal

@@ -1,6 +1,6 @@
 -- The unit of a text, by what its tree is like.
 use Rattle.std.proofs.Common.{sym, subst}
-use Rattle.cw_deepest_linked.specs.UnitFits.{UnitFits}
+use Rattle.cw_deepest.specs.Linked.UnitFits.{UnitFits}
 use Rattle.cw_sound_calls.proofs.laws.units_fit.Goals as goal
 
 pub returns : goal.returns

@@ -1,0 +1,16 @@
+pub mod Standing
+pub mod Effects
+pub mod Carried
+pub mod Operations
+pub mod Stepping
+pub mod Moments
+pub mod Addresses
+pub mod Values
+pub mod Conditions
+pub mod Arguments
+pub mod Binding
+pub mod Calls
+pub mod Returns
+pub mod Jumps
+pub mod Ways
+pub mod Whole

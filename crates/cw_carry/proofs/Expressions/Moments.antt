@@ -1,0 +1,159 @@
+-- A moment of a run at which source and orders belong together, and the facts of the step from it.
+use Rattle.std.proofs.Common.{◌≡◌, inl, ℕ, ◌+◌, ◌*◌, ◌<◌, ◌≤◌, List, length, Bool, true, false, Option, Some, None, refl, ap, ◌∙◌, arith}
+use Rattle.std.specs.Prelude.{slice_get, slice_index_or, IsTrue, ◌&&◌}
+use Rattle.std.proofs.lemmas.Bool.{false≢true}
+use Rattle.cw_unit.specs.declared.unit.Unit.{Unit as SourceUnit}
+use Rattle.cw_unit.specs.declared.layout.Layout.{Layout}
+use Rattle.cw_unit.specs.declared.layout.Family.{Family}
+use Rattle.cw_unit.specs.declared.layout.Sort.{Sort}
+use Rattle.cw_unit.specs.declared.layout.Sort.TheVariants as sort
+use Rattle.cw_unit.specs.Storage.{layout_of}
+use Rattle.cw_unit.specs.Stop.{Running}
+use Rattle.cw_unit.specs.Words.{Words, Outcome, Changed}
+use Rattle.cw_unit.specs.Work.{Work}
+use Rattle.cw_unit.specs.Configuration.{Configuration, at as configuration, Activation, segment_of}
+use Rattle.cw_unit.specs.Step.{after as source_after}
+use Rattle.cw_order.specs.declared.order.Order.{Order}
+use Rattle.cw_track.proofs.Paths.{Path, stay, next as move, weaken}
+use Rattle.cw_unit.specs.Behaviour.{shown}
+use Rattle.cw_order.specs.OrderProgram.{order_at}
+use Rattle.cw_order.specs.OrderState.{OrderActivation, OrderState, at as state, stack_words}
+use Rattle.cw_order.specs.OrderActions.{action_of}
+use Rattle.cw_order.specs.OrderMachine.{act, carry_out}
+use Rattle.cw_order.specs.Starting.{started_by}
+use Rattle.cw_order.specs.OrderCosts.{weight_of, weight_at}
+use Rattle.cw_order.specs.FittingWords.{WordsFit}
+use Rattle.cw_gen_expr.specs.ReferenceExpressions.{Scope, placed_by, placed_in, item_order}
+use Rattle.cw_carry.proofs.Expressions.Standing.{Stands}
+use Rattle.cw_carry.proofs.Expressions.Effects.{IsPossible, BeginsNone, is_silent, all_silent, total_weight, run_orders}
+use Rattle.cw_carry.proofs.Expressions.Carried.{here, Ready, who_of}
+use Rattle.cw_gen_expr.specs.ReferenceEntries.{scope_of}
+use Rattle.cw_carry.proofs.Expressions.Operations.{ItemsStand}
+use Rattle.cw_carry.proofs.Expressions.Stepping.{Quiet, Compiled, source, target, A, B, AllCalls, work_size, Carried, Leading, From, FromNoting, IsSane, Seen, order_here, lands, silent, straight}
+
+pub both : (a b : Bool) → IsTrue (a && b) → IsTrue a × IsTrue b
+both true b h = (refl, h)
+both false b h = absurd (false≢true h)
+
+-- ---- the order that puts the address of an item
+
+pub item_silent : (y : Layout) (i n : ℕ) → IsTrue (is_silent (item_order y i n))
+item_silent y i n = of_family (slice_get y.families (slice_index_or y.homes i (0, 0)).0) (slice_index_or y.homes i (0, 0)).0 ((slice_index_or y.homes i (0, 0)).1 + n)
+  where
+    of_sort : (x : Sort) (f o : ℕ) → IsTrue (is_silent (placed_by x f o))
+    of_sort (sort.Common d) f o = refl
+    of_sort sort.Own f o = refl
+    of_sort (sort.Absolute a) f o = refl
+    of_sort (sort.Frame b) f o = refl
+
+    of_family : (x : Option Family) (f o : ℕ) → IsTrue (is_silent (placed_in x f o))
+    of_family None f o = refl
+    of_family (Some x) f o = of_sort x.sort f o
+
+pub item_light : (y : Layout) (i n : ℕ) → (0 < weight_of (item_order y i n)) × (weight_of (item_order y i n) ≤ 4)
+item_light y i n = of_family (slice_get y.families (slice_index_or y.homes i (0, 0)).0) (slice_index_or y.homes i (0, 0)).0 ((slice_index_or y.homes i (0, 0)).1 + n)
+  where
+    of_sort : (x : Sort) (f o : ℕ) → (0 < weight_of (placed_by x f o)) × (weight_of (placed_by x f o) ≤ 4)
+    of_sort (sort.Common d) f o = (omega arith, omega arith)
+    of_sort sort.Own f o = (omega arith, omega arith)
+    of_sort (sort.Absolute a) f o = (omega arith, omega arith)
+    of_sort (sort.Frame b) f o = (omega arith, omega arith)
+
+    of_family : (x : Option Family) (f o : ℕ) → (0 < weight_of (placed_in x f o)) × (weight_of (placed_in x f o) ≤ 4)
+    of_family None f o = (omega arith, omega arith)
+    of_family (Some x) f o = of_sort x.sort f o
+
+-- a list of orders that writes nothing, costs something, and is not too dear or too long
+pub record IsLight (os : List Order) : Type 0 where
+  pub quiet : IsTrue (all_silent os)
+  pub light : total_weight os ≤ 160
+  pub some : 0 < total_weight os
+  pub short : length os ≤ 12
+
+-- with the order of an item before or within
+pub silent_and : (a b : Bool) → IsTrue a → IsTrue b → IsTrue (a && b)
+silent_and true b x y = y
+silent_and false b x y = absurd (false≢true x)
+
+module _ (c : Compiled) where
+  pub record Moment : Type 0 where
+    pub segment : ℕ
+    pub acts : List Activation
+    pub calls_below : List OrderActivation
+    pub unit : SourceUnit
+    pub unit_is : slice_get c.units (segment_of segment acts) ≡ Some unit
+    pub calls : AllCalls c segment acts calls_below
+    pub in_words : c.limits.area ≤ 32768
+    pub stand : ItemsStand (target c) (segment_of segment acts) calls_below (source c) segment acts (layout_of unit) (c.has_words (segment_of segment acts) unit (who_of acts))
+
+  module _ (t : Moment) where
+    abbrev pub here_in : ℕ
+    here_in = segment_of t.segment t.acts
+
+    abbrev pub layout : Layout
+    layout = layout_of t.unit
+
+    abbrev pub scope : Scope
+    scope = scope_of t.unit (who_of t.acts)
+
+    abbrev pub has_words : (item words : ℕ) → Bool
+    has_words = c.has_words here_in t.unit (who_of t.acts)
+
+    abbrev pub code : List Order
+    code = (c.orders_for t.unit).list
+
+    abbrev pub marks : List ℕ
+    marks = (c.orders_for t.unit).marks
+
+    abbrev pub At : (place line : ℕ) → (ready : Bool) → Work → Type 0
+    At = Carried c t.segment t.acts t.calls_below t.unit t.unit_is
+
+    abbrev pub Leads_to : (place line : ℕ) → (ready : Bool) → Work → Type 0
+    Leads_to = Leading c t.segment t.acts t.calls_below t.unit t.unit_is
+
+    abbrev pub Steps : Work → (q l : ℕ) → Words → Type 0
+    Steps = From c t.segment t.acts t.calls_below t.unit t.unit_is
+
+    abbrev pub StepsNoting : Work → (q l : ℕ) → Words → Type 0
+    StepsNoting = FromNoting c t.segment t.acts t.calls_below t.unit t.unit_is
+
+    abbrev pub config : Work → Words → Configuration
+    config k w = configuration t.segment k t.acts w Running
+
+    abbrev pub next : Work → Words → Configuration
+    next k w = (A c).step (config k w)
+
+    abbrev pub run : List Order → Words → Outcome
+    run = run_orders (target c) here_in t.calls_below
+
+    -- the words fit, the control stack has room for what an operation needs, and the source is not stuck
+    pub record Facts (k : Work) (w : Words) : Type 0 where
+      pub fits : WordsFit w
+      pub room : 24 + stack_words w.operands t.calls_below ≤ c.room
+      pub sane : IsSane (next k w)
+
+    pub at_once : (q l : ℕ) (r : Bool) (k : Work) → At q l r k → Leads_to q l r k
+    at_once q l r k h = (q, here refl, h)
+
+    -- by no order, to works that are carried out at this place
+    pub becomes : (now k : Work) (q l : ℕ) (w : Words) → next now w ≡ config k w → At q l false k → work_size c k < work_size c now → Steps now q l w
+    becomes now k q l w e carried less =
+        silent c t.segment t.acts t.calls_below t.unit t.unit_is t.calls now k q l false w e tt (at_once q l false k carried) less
+
+    -- by orders that do what the source does
+    pub done_by : (now k : Work) (line q n l : ℕ) (os : List Order) (w : Words) (r : Bool) (out : Outcome) → line ≡ l → Stands code q os n → IsLight os → Facts now w → next now w ≡ source_after out t.segment line now k t.acts w → (IsPossible out → run os w ≡ out) → ((v : Words) → out ≡ Changed v → Ready c.limits.area r v.operands) → Leads_to n l r k → Steps now q l w
+    done_by now k line q n l os w r out same stands light facts e runs ready carried =
+        straight c t.segment t.acts t.calls_below t.unit t.unit_is t.calls now k line q n l os w r same stands light.quiet light.light light.some (let z : 2 * length os + stack_words w.operands t.calls_below ≤ c.room = omega (arith, light.short, facts.room) in z) out e runs ready carried facts.sane
+
+    -- one order, whatever it does, where no statement begins
+    pub one_order : (o : Order) (q l : ℕ) (w : Words) (u : OrderState) → BeginsNone o → slice_get code q ≡ Some o → act (target c) (action_of (target c) here_in t.calls_below o) here_in q l t.calls_below w ≡ u → Path (Seen c t.segment t.acts t.calls_below t.unit t.unit_is w) (B c) (weight_of o) (state here_in q l t.calls_below w Running) u
+    one_order o q l w u none h f =
+        let at_q = order_here c t.segment t.acts t.calls_below t.unit t.unit_is q o h in
+        move (refl, ap (λ x. started_by x here_in w) at_q ∙ none here_in w) (ap (λ x. carry_out (target c) x here_in q l t.calls_below w) at_q ∙ f) (let z : weight_of o ≡ weight_at (order_at (target c) here_in q) + 0 = omega (arith, ap weight_at at_q) in z) (stay refl refl)
+
+    -- by one order, which changes words and place
+    pub acts_once : (now k : Work) (o : Order) (q p l : ℕ) (r : Bool) (w v : Words) → BeginsNone o → slice_get code q ≡ Some o → 0 < weight_of o → weight_of o ≤ 160 → next now w ≡ configuration t.segment k t.acts v Running → act (target c) (action_of (target c) here_in t.calls_below o) here_in q l t.calls_below w ≡ state here_in p l t.calls_below v Running → Ready c.limits.area r v.operands → Leads_to p l r k → Steps now q l w
+    acts_once now k o q p l r w v none h some light e f ready carried =
+        lands c t.segment t.acts t.calls_below t.unit t.unit_is t.calls now k q p l l r w v (weight_of o) e
+        (weaken (Seen c t.segment t.acts t.calls_below t.unit t.unit_is w) (Quiet (shown (config now w)) (shown (configuration t.segment k t.acts v Running))) (B c) (weight_of o) (state here_in q l t.calls_below w Running) (state here_in p l t.calls_below v Running) (λ x y. (inl y.0, y.1)) (one_order o q l w (state here_in p l t.calls_below v Running) none h f))
+        light ready carried (inl some)

@@ -1,0 +1,258 @@
+-- The orders that put and bind items find them where a valid storage map says.
+use Rattle.std.proofs.Common.{◌≡◌, ℕ, zero, suc, ◌+◌, ◌-◌, ◌<◌, ◌≤◌, ℤ, pos, List, [], ◌∷◌, map, set, true, false, IsTrue, Option, Some, None, refl, sym, ap, ap₂, ◌∙◌, subst, arith, nat_le, leb-true}
+use Rattle.std.specs.Prelude.{◌%◌, slice_get, slice_index, slice_index_or, if◌then◌else◌}
+use Rattle.std.proofs.lemmas.Bool.{lt-ltb}
+use Rattle.std.proofs.lemmas.Int.{ints}
+use Rattle.std.proofs.lemmas.Option.{none-some, same_Some}
+use Rattle.cw_word.specs.Word.{signed}
+use Rattle.cw_unit.specs.declared.unit.Unit.{Unit as SourceUnit}
+use Rattle.cw_unit.specs.declared.unit.Item.{Item}
+use Rattle.cw_unit.specs.declared.unit.Proc.{Proc}
+use Rattle.cw_unit.specs.declared.layout.Family.{Family}
+use Rattle.cw_unit.specs.declared.layout.Limits.{Limits}
+use Rattle.cw_unit.specs.declared.layout.Map.{Map}
+use Rattle.cw_unit.specs.declared.layout.Sort.{Sort}
+use Rattle.cw_unit.specs.declared.layout.Sort.TheVariants as sort
+use Rattle.cw_unit.specs.Storage.{root_of, family_of, family_offset, positions_from, frame_size, frame_sizes_from, layout_of}
+use Rattle.cw_unit.specs.ValidStorage.{StoredItem, sort_in, owner_in, sort_of_family, as_stored, IsInFrame, frame_size_in, InPlace, ValidStorageMap}
+use Rattle.cw_unit.specs.Program.{Program, no_layout, is_frame_family, item_address}
+use Rattle.cw_unit.specs.Words.{Operand, Word, Words, Changed, with_memory, put, through}
+use Rattle.cw_unit.specs.Configuration.{frame_size_of}
+use Rattle.cw_order.specs.declared.order.Order.TheVariants as order
+use Rattle.cw_order.specs.OrderState.{OrderActivation, argument_behind}
+use Rattle.cw_order.specs.OrderChanges.{bind}
+use Rattle.cw_order.specs.OrderMachine.{unrefused}
+use Rattle.cw_gen_expr.specs.ReferenceExpressions.{placed_by, placed_in, item_order}
+use Rattle.cw_gen_expr.specs.ReferenceEntries.{bound_by, bound_in, bound_order}
+use Rattle.cw_gen_expr.specs.NamedItems.{is_same_procedure, may_name, item_has, has_words}
+use Rattle.cw_safety.proofs.Truth.{no, both, nat_same}
+use Rattle.cw_carry.proofs.Expressions.Effects.{effect}
+use Rattle.cw_carry.proofs.Expressions.Stepping.{Compiled, source, target}
+use Rattle.cw_carry.proofs.Statements.Following.{compiled}
+
+-- ---- words
+
+signed-small : (n : ℕ) → n < 32768 → signed n ≡ pos n
+signed-small n h = omega (arith, ints, h)
+
+-- ---- layouts
+
+layout-at : (us : List SourceUnit) (g : ℕ) (u : SourceUnit) → slice_get us g ≡ Some u → slice_index_or (map layout_of us) g no_layout ≡ layout_of u
+layout-at [] g u h = absurd (none-some u h)
+layout-at (v ∷ us) zero u h = ap layout_of (same_Some v u h)
+layout-at (v ∷ us) (suc g) u h = layout-at us g u h
+
+position-from : (u : SourceUnit) (n : ℕ) (is : List Item) (k : ℕ) (i : Item) → slice_get is k ≡ Some i → slice_index_or (positions_from n u is) k (0, 0) ≡ (family_of u (n + k), family_offset u (n + k))
+position-from u n [] k i e = absurd (none-some i e)
+position-from u n (j ∷ js) zero i e = let at : n ≡ n + 0 = omega arith in ap (λ k. (family_of u k, family_offset u k)) at
+position-from u n (j ∷ js) (suc k) i e =
+    let at : n + 1 + k ≡ n + suc k = omega arith in position-from u (n + 1) js k i e ∙ ap (λ k. (family_of u k, family_offset u k)) at
+
+position-of : (u : SourceUnit) (k : ℕ) (i : Item) → slice_get u.items k ≡ Some i → slice_index_or (layout_of u).homes k (0, 0) ≡ (family_of u k, family_offset u k)
+position-of u k i e = let at : 0 + k ≡ k = omega arith in position-from u 0 u.items k i e ∙ ap (λ k. (family_of u k, family_offset u k)) at
+
+frame-from : (u : SourceUnit) (n : ℕ) (ps : List Proc) (k : ℕ) (q : Proc) → slice_get ps k ≡ Some q → slice_index (frame_sizes_from n u ps) k ≡ frame_size u (n + k)
+frame-from u n [] k q e = absurd (none-some q e)
+frame-from u n (p ∷ ps) zero q e = let at : n ≡ n + 0 = omega arith in ap (frame_size u) at
+frame-from u n (p ∷ ps) (suc k) q e = let at : n + 1 + k ≡ n + suc k = omega arith in frame-from u (n + 1) ps k q e ∙ ap (frame_size u) at
+
+-- ---- sorts
+
+data Sorted (s : Sort) : Type 0 where
+  in_a_frame : (d : ℕ) → s ≡ sort.Frame d → Sorted s
+  elsewhere : ¬ IsInFrame s → Sorted s
+
+sorted : (s : Sort) → Sorted s
+sorted (sort.Frame d) = in_a_frame d refl
+sorted (sort.Common d) = elsewhere (λ h. h)
+sorted sort.Own = elsewhere (λ h. h)
+sorted (sort.Absolute a) = elsewhere (λ h. h)
+
+in-frame : (s : Sort) (d : ℕ) → s ≡ sort.Frame d → IsInFrame s
+in-frame s d e = subst IsInFrame (sym e) tt
+
+placed-elsewhere : (x : Option Family) (f o : ℕ) → ¬ IsInFrame (sort_in x) → placed_in x f o ≡ order.Home f (o % 65536)
+placed-elsewhere None f o h = refl
+placed-elsewhere (Some x) f o h = by_sort x.sort h
+  where
+    by_sort : (s : Sort) → ¬ IsInFrame s → placed_by s f o ≡ order.Home f (o % 65536)
+    by_sort (sort.Frame d) h = absurd (h tt)
+    by_sort (sort.Common d) h = refl
+    by_sort sort.Own h = refl
+    by_sort (sort.Absolute a) h = refl
+
+bound-elsewhere : (j : ℕ) (x : Option Family) (f o : ℕ) → ¬ IsInFrame (sort_in x) → bound_in j x f o ≡ order.Bind j f (o % 65536)
+bound-elsewhere j None f o h = refl
+bound-elsewhere j (Some x) f o h = by_sort x.sort h
+  where
+    by_sort : (s : Sort) → ¬ IsInFrame s → bound_by j s f o ≡ order.Bind j f (o % 65536)
+    by_sort (sort.Frame d) h = absurd (h tt)
+    by_sort (sort.Common d) h = refl
+    by_sort sort.Own h = refl
+    by_sort (sort.Absolute a) h = refl
+
+family-elsewhere : (x : Option Family) → ¬ IsInFrame (sort_in x) → is_frame_family x ≡ false
+family-elsewhere None h = refl
+family-elsewhere (Some x) h = by_sort x.sort h
+  where
+    by_sort : (s : Sort) → ¬ IsInFrame s → Rattle.cw_unit.specs.Program.is_frame_sort s ≡ false
+    by_sort (sort.Frame d) h = absurd (h tt)
+    by_sort (sort.Common d) h = refl
+    by_sort sort.Own h = refl
+    by_sort (sort.Absolute a) h = refl
+
+placed-in-frame : (x : Option Family) (d f o : ℕ) → sort_in x ≡ sort.Frame d → placed_in x f o ≡ order.FrameHome ((d + o) % 65536)
+placed-in-frame None d f o e = absurd (in-frame sort.Own d e)
+placed-in-frame (Some x) d f o e = ap (λ s. placed_by s f o) e
+
+bound-in-frame : (j : ℕ) (x : Option Family) (d f o : ℕ) → sort_in x ≡ sort.Frame d → bound_in j x f o ≡ order.BindFrame j ((d + o) % 65536)
+bound-in-frame j None d f o e = absurd (in-frame sort.Own d e)
+bound-in-frame j (Some x) d f o e = ap (λ s. bound_by j s f o) e
+
+family-in-frame : (x : Option Family) (d : ℕ) → sort_in x ≡ sort.Frame d → is_frame_family x ≡ true
+family-in-frame None d e = absurd (in-frame sort.Own d e)
+family-in-frame (Some x) d e = ap Rattle.cw_unit.specs.Program.is_frame_sort e
+
+-- ---- names
+
+same-procedure : (who owner : Option ℕ) → IsTrue (is_same_procedure who owner) → (p : ℕ) × (who ≡ Some p) × (owner ≡ Some p)
+same-procedure None owner h = no h
+same-procedure (Some p) None h = no h
+same-procedure (Some p) (Some q) h = (p, refl, ap (λ n. Some n) (sym (nat_same p q h)))
+
+record Named (u : SourceUnit) (who : Option ℕ) (i n : ℕ) : Type 0 where
+  item : Item
+  found : slice_get u.items i ≡ Some item
+  words : n ≤ item.words
+  named : IsTrue (may_name who (owner_in (slice_get u.items (root_of u i))) (sort_of_family u (family_of u i)))
+
+named-item : (u : SourceUnit) (who : Option ℕ) (i n : ℕ) → IsTrue (has_words u who i n) → Named u who i n
+named-item u who i n h = by_item (slice_get u.items i) refl h
+  where
+    by_item : (x : Option Item) → slice_get u.items i ≡ x → IsTrue (item_has u who i x n) → Named u who i n
+    by_item None e h = no h
+    by_item (Some x) e h =
+        let parts = both (nat_le n x.words) (may_name who (owner_in (slice_get u.items (root_of u i))) (sort_of_family u (family_of u i))) h in
+        record { item = x; found = e; words = leb-true n x.words parts.0; named = parts.1 }
+
+module _ (us : List SourceUnit) (m : Map) (limits : Limits) (room : ℕ) where
+  abbrev pub c : Compiled
+  c = compiled us m limits room (λ g u who. has_words u who)
+
+  -- the address of a family of a segment, in a frame its offset
+  abbrev family_start : (segment family : ℕ) → ℕ
+  family_start g f = slice_index (slice_index_or m.homes g []) f
+
+  -- where an item stands, as the orders have it, and as the source has it
+  data Placed (g : ℕ) (u : SourceUnit) (who : Option ℕ) (base i k : ℕ) : Type 0 where
+    at_home : (f o : ℕ) → ((n : ℕ) → item_order (layout_of u) i n ≡ order.Home f ((o + n) % 65536)) → ((j : ℕ) → bound_order (layout_of u) j i ≡ order.Bind j f (o % 65536)) → item_address (source c) g i base ≡ family_start g f + o → family_start g f + (o + k) ≤ limits.area → Placed g u who base i k
+    in_frame : (p d o : ℕ) → who ≡ Some p → ((n : ℕ) → item_order (layout_of u) i n ≡ order.FrameHome ((d + (o + n)) % 65536)) → ((j : ℕ) → bound_order (layout_of u) j i ≡ order.BindFrame j ((d + o) % 65536)) → item_address (source c) g i base ≡ base + (d + o) → d + (o + k) ≤ frame_size_in us g (Some p) → Placed g u who base i k
+
+  pub frame-size : (g p : ℕ) (u : SourceUnit) (q : Proc) → slice_get us g ≡ Some u → slice_get u.procs p ≡ Some q → frame_size_of (source c) g p ≡ frame_size_in us g (Some p)
+  frame-size g p u q u-is q-is =
+      let at : 0 + p ≡ p = omega arith in
+      ap (λ y. slice_index y.frames p) (layout-at us g u u-is) ∙ frame-from u 0 u.procs p q q-is ∙ ap (frame_size u) at
+      ∙ sym (ap (λ x. elim x [ None ↦ 0 | Some v ↦ frame_size v p ]) u-is)
+
+  module _ (valid : ValidStorageMap us limits m) (in_words : limits.area ≤ 32768) where
+    module _ (g : ℕ) (u : SourceUnit) (who : Option ℕ) (base i k : ℕ) (u-is : slice_get us g ≡ Some u) (h : IsTrue (has_words u who i k)) where
+      abbrev x : Named u who i k
+      x = named-item u who i k h
+
+      abbrev f : ℕ
+      f = family_of u i
+
+      abbrev o : ℕ
+      o = family_offset u i
+
+      abbrev family : Option Family
+      family = slice_get (layout_of u).families f
+
+      at_map : slice_index_or (layout_of u).homes i (0, 0) ≡ (f, o)
+      at_map = position-of u i x.item x.found
+
+      abbrev stored : StoredItem
+      stored = as_stored g u (slice_index_or m.homes g []) i x.item
+
+      place : InPlace us limits stored
+      place = valid.each stored (g, i, u, x.item, u-is, x.found, refl)
+
+      ordered : (n : ℕ) → item_order (layout_of u) i n ≡ placed_in family f (o + n)
+      ordered n = ap (λ home. placed_in (slice_get (layout_of u).families home.0) home.0 (home.1 + n)) at_map
+
+      bound : (j : ℕ) → bound_order (layout_of u) j i ≡ bound_in j family f o
+      bound j = ap (λ home. bound_in j (slice_get (layout_of u).families home.0) home.0 home.1) at_map
+
+      address : item_address (source c) g i base ≡ (if is_frame_family family then base else 0) + (family_start g f + o)
+      address =
+          ap (λ y. let r = slice_index_or y.homes i (0, 0) in (if is_frame_family (slice_get y.families r.0) then base else 0) + (family_start g r.0 + r.1)) (layout-at us g u u-is)
+          ∙ ap (λ r. (if is_frame_family (slice_get (layout_of u).families r.0) then base else 0) + (family_start g r.0 + r.1)) at_map
+
+      by_sort : Sorted (sort_of_family u f) → Placed g u who base i k
+      by_sort (elsewhere away) =
+          let none : 0 + (family_start g f + o) ≡ family_start g f + o = omega arith in
+          at_home f o (λ n. ordered n ∙ placed-elsewhere family f (o + n) away) (λ j. bound j ∙ bound-elsewhere j family f o away)
+          (address ∙ ap (λ b. (if b then base else 0) + (family_start g f + o)) (family-elsewhere family away) ∙ none)
+          (let le : family_start g f + (o + x.item.words) ≤ limits.area - limits.frames = place.below_frames away in let z : family_start g f + (o + k) ≤ limits.area = omega (arith, le, x.words) in z)
+      by_sort (in_a_frame d is) =
+          let p = same-procedure who (owner_in (slice_get u.items (root_of u i))) (subst (λ s. IsTrue (may_name who (owner_in (slice_get u.items (root_of u i))) s)) is x.named) in
+          let offset : family_start g f ≡ d = place.at_offset d is in
+          let inside : family_start g f + (o + x.item.words) ≤ frame_size_in us g (owner_in (slice_get u.items (root_of u i))) = place.inside_frame (in-frame (sort_of_family u f) d is) in
+          let size : frame_size_in us g (owner_in (slice_get u.items (root_of u i))) ≡ frame_size_in us g (Some p.0) = ap (frame_size_in us g) p.2 in
+          Placed.in_frame p.0 d o p.1 (λ n. ordered n ∙ placed-in-frame family d f (o + n) is) (λ j. bound j ∙ bound-in-frame j family d f o is)
+          (address ∙ ap (λ b. (if b then base else 0) + (family_start g f + o)) (family-in-frame family d is) ∙ ap (λ a. base + (a + o)) offset)
+          (let z : d + (o + k) ≤ frame_size_in us g (Some p.0) = omega (arith, offset, inside, size, x.words) in z)
+
+      placement : Placed g u who base i k
+      placement = by_sort (sorted (sort_of_family u f))
+
+    -- the frame at work is that of this procedure, and ends in the area
+    abbrev pub FrameHere : (g : ℕ) → (who : Option ℕ) → (base : ℕ) → List OrderActivation → Type 0
+    FrameHere g who base bs = (p : ℕ) → who ≡ Some p → (b : OrderActivation) × (rest : List OrderActivation) × (bs ≡ b ∷ rest) × (b.frame_base ≡ base) × (base + frame_size_in us g (Some p) ≤ limits.area)
+
+    pub item-put : (g : ℕ) (u : SourceUnit) (who : Option ℕ) (base : ℕ) (bs : List OrderActivation) (i n k : ℕ) (w : Words) → slice_get us g ≡ Some u → FrameHere g who base bs → IsTrue (has_words u who i k) → n < k → (effect (target c) g bs (item_order (layout_of u) i n) w ≡ Changed (put (pos (item_address (source c) g i base + n)) w)) × (item_address (source c) g i base + n < limits.area)
+    item-put g u who base bs i n k w u-is frame h lt = of (placement g u who base i k u-is h)
+      where
+        of : Placed g u who base i k → (effect (target c) g bs (item_order (layout_of u) i n) w ≡ Changed (put (pos (item_address (source c) g i base + n)) w)) × (item_address (source c) g i base + n < limits.area)
+        of (at_home f o orders binds address within) =
+            let a : ℕ = family_start g f in
+            let word : (a + (o + n) % 65536) % 65536 ≡ a + (o + n) = omega (arith, within, lt, in_words) in
+            let small : a + (o + n) < 32768 = omega (arith, within, lt, in_words) in
+            let same : a + (o + n) ≡ item_address (source c) g i base + n = omega (arith, address) in (
+              ap (λ x. effect (target c) g bs x w) (orders n) ∙ ap (λ x. Changed (put (signed x) w)) word ∙ ap (λ z. Changed (put z w)) (signed-small (a + (o + n)) small) ∙ ap (λ x. Changed (put (pos x) w)) same,
+              (let z : item_address (source c) g i base + n < limits.area = omega (arith, address, within, lt) in z),
+            )
+        of (in_frame p d o who-is orders binds address within) =
+            let here = frame p who-is in
+            let b : OrderActivation = here.0 in
+            let base-is : b.frame_base ≡ base = here.3 in
+            let ends : base + frame_size_in us g (Some p) ≤ limits.area = here.4 in
+            let word : (b.frame_base + (d + (o + n)) % 65536) % 65536 ≡ base + (d + (o + n)) = omega (arith, base-is, ends, within, lt, in_words) in
+            let small : base + (d + (o + n)) < 32768 = omega (arith, ends, within, lt, in_words) in
+            let same : base + (d + (o + n)) ≡ item_address (source c) g i base + n = omega (arith, address) in (
+              ap₂ (λ xs x. effect (target c) g xs x w) here.2 (orders n) ∙ ap (λ x. Changed (put (signed x) w)) word ∙ ap (λ z. Changed (put z w)) (signed-small (base + (d + (o + n))) small) ∙ ap (λ x. Changed (put (pos x) w)) same,
+              (let z : item_address (source c) g i base + n < limits.area = omega (arith, address, ends, within, lt) in z),
+            )
+
+    -- a word argument is stored at an address in the area
+    bound-at : (a z-at : ℕ) (z : ℤ) (x : Words) (argument : Option Operand) → argument ≡ Some (Word z) → a ≡ z-at → z-at < limits.area → unrefused (bind limits.area argument (Some a) x) ≡ Changed (with_memory x (set x.memory z-at z))
+    bound-at a z-at z x argument arg-is e lt =
+        ap₂ (λ v y. unrefused (bind limits.area v (Some y) x)) arg-is e
+        ∙ ap (λ b. unrefused (through b (λ i v. Changed (with_memory v (set v.memory i z))) (pos z-at) x)) (lt-ltb z-at limits.area lt)
+
+    pub item-bound : (g : ℕ) (u : SourceUnit) (who : Option ℕ) (base : ℕ) (b : OrderActivation) (bs : List OrderActivation) (j i : ℕ) (z : ℤ) (x : Words) → slice_get us g ≡ Some u → FrameHere g who base (b ∷ bs) → IsTrue (has_words u who i 1) → argument_behind j b.arguments ≡ Some (Word z) → effect (target c) g (b ∷ bs) (bound_order (layout_of u) j i) x ≡ Changed (with_memory x (set x.memory (item_address (source c) g i base) z))
+    item-bound g u who base b bs j i z x u-is frame h arg-is = of (placement g u who base i 1 u-is h)
+      where
+        of : Placed g u who base i 1 → effect (target c) g (b ∷ bs) (bound_order (layout_of u) j i) x ≡ Changed (with_memory x (set x.memory (item_address (source c) g i base) z))
+        of (at_home f o orders binds address within) =
+            let a : ℕ = family_start g f in
+            let word : (a + o % 65536) % 65536 ≡ item_address (source c) g i base = omega (arith, within, in_words, address) in
+            ap (λ y. effect (target c) g (b ∷ bs) y x) (binds j)
+            ∙ bound-at ((a + o % 65536) % 65536) (item_address (source c) g i base) z x (argument_behind j b.arguments) arg-is word (let y : item_address (source c) g i base < limits.area = omega (arith, address, within) in y)
+        of (in_frame p d o who-is orders binds address within) =
+            let here = frame p who-is in
+            let base-is : b.frame_base ≡ base = ap (λ xs. elim xs [ [] ↦ 0 | y ∷ ys ↦ y.frame_base ]) here.2 ∙ here.3 in
+            let ends : base + frame_size_in us g (Some p) ≤ limits.area = here.4 in
+            let word : (b.frame_base + (d + o) % 65536) % 65536 ≡ item_address (source c) g i base = omega (arith, base-is, ends, within, in_words, address) in
+            ap (λ y. effect (target c) g (b ∷ bs) y x) (binds j)
+            ∙ bound-at ((b.frame_base + (d + o) % 65536) % 65536) (item_address (source c) g i base) z x (argument_behind j b.arguments) arg-is word (let y : item_address (source c) g i base < limits.area = omega (arith, address, ends, within) in y)

@@ -1,0 +1,194 @@
+-- The parts of a FOR stand where its orders do.
+use Rattle.std.proofs.Common.{◌≡◌, ℕ, zero, suc, ◌+◌, ◌<◌, pos, List, [], ◌∷◌, ◌++◌, length, Bool, false, Option, Some, None, refl, sym, ap, ap₂, ◌∙◌, subst, arith, append-nil}
+use Rattle.std.specs.Prelude.{slice_get, IsTrue}
+use Rattle.std.proofs.lemmas.Option.{none-some, same_Some}
+use Rattle.cw_unit.specs.declared.unit.Unit.{Unit as SourceUnit}
+use Rattle.cw_unit.specs.declared.unit.Felem.{Felem}
+use Rattle.cw_unit.specs.declared.unit.Felem.TheVariants as element
+use Rattle.cw_unit.specs.declared.unit.Ref.{Ref, out-Ref}
+use Rattle.cw_unit.specs.declared.unit.Stmt.{Stmt}
+use Rattle.cw_unit.specs.Work.{loop_of, element_at}
+use Rattle.cw_order.specs.declared.order.Order.{Order}
+use Rattle.cw_order.specs.declared.order.Order.TheVariants as order
+use Rattle.cw_order.specs.declared.order.Orders.{Orders}
+use Rattle.cw_order.specs.OrderChanges.{mark_of_number}
+use Rattle.cw_gen_expr.specs.Pieces.{plain, followed_by, with_end}
+use Rattle.cw_gen_expr.specs.ReferenceExpressions.{Scope, item_order}
+use Rattle.cw_gen_expr.proofs.NoLabels.{value_unlabelled, condition_unlabelled}
+use Rattle.cw_carry.proofs.Expressions.Standing.{Stands, ends_at, Made, both_made, end_made}
+use Rattle.cw_gen_expr.specs.ReferenceEntries.{scope_of}
+use Rattle.cw_gen_unit.specs.ReferenceStatements.{set_orders, element_piece, elements_piece, element_ways, way_mark, with_middle, ring_piece, statement_piece}
+use Rattle.cw_gen_unit.specs.BuiltStatements.{is_statement, are_elements}
+use Rattle.cw_carry.proofs.Statements.Sites.{LoopSite}
+use Rattle.cw_gen_unit.specs.ReferenceUnits.{answer_of}
+
+nothing : {a b : List (ℕ × ℕ)} → a ≡ [] → b ≡ [] → a ++ b ≡ []
+nothing x y = ap₂ (λ l m. l ++ m) x y
+
+-- no label stands among the elements of a FOR
+module _ (s : Scope) (who : Option ℕ) (answer item f set body : ℕ) where
+  element_unlabelled : (i : ℕ) (e : Felem) (q free : ℕ) → (element_piece s item f set body i e q free).labels ≡ []
+  element_unlabelled i (element.One e) q free = nothing (value_unlabelled s e f _ _) refl
+  element_unlabelled i (element.While e c) q free = nothing (value_unlabelled s e f _ _) (nothing (condition_unlabelled s c false _ _ _) refl)
+  element_unlabelled i (element.Step a b d) q free =
+      nothing (nothing (nothing (value_unlabelled s a f _ _) (nothing (value_unlabelled s b f _ _) (nothing (value_unlabelled s d f _ _) refl))) refl) refl
+
+  pub elements_unlabelled : (i : ℕ) (es : List Felem) (q free : ℕ) → (elements_piece s item f set body i es q free).labels ≡ []
+  elements_unlabelled i [] q free = refl
+  elements_unlabelled i (e ∷ es) q free = nothing (element_unlabelled i e q free) (elements_unlabelled (i + 1) es _ _)
+
+module _ (code : List Order) (marks : List ℕ) (s : Scope) (who : Option ℕ) (answer : ℕ) (item f set body : ℕ) where
+  abbrev Elements : (i : ℕ) → List Felem → (q r free last : ℕ) → Type 0
+  Elements i es q r free last = Made code marks (elements_piece s item f set body i es q free) q r free last
+
+  pub rest_made : (i : ℕ) (e : Felem) (es : List Felem) (q r free last : ℕ) → Elements i (e ∷ es) q r free last → (x : ℕ) × (m : ℕ) × Made code marks (element_piece s item f set body i e q free) q x free m × Elements (i + 1) es x r m last
+  rest_made i e es q r free last made =
+      let parts = both_made code marks (element_piece s item f set body i e) (elements_piece s item f set body (i + 1) es) q r free last made in
+      (parts.0, parts.1, parts.2, parts.3)
+
+  -- where an element stands, counted from 0, and where its marks begin
+  abbrev pub place_at : (i : ℕ) (es : List Felem) (q r free last : ℕ) → Elements i es q r free last → ℕ → ℕ
+  place_at i es q r free last made zero = q
+  place_at i [] q r free last made (suc n) = q
+  place_at i (e ∷ es) q r free last made (suc n) = let x = rest_made i e es q r free last made in place_at (i + 1) es x.0 r x.1 last x.3 n
+
+  abbrev pub free_at : (i : ℕ) (es : List Felem) (q r free last : ℕ) → Elements i es q r free last → ℕ → ℕ
+  free_at i es q r free last made zero = free
+  free_at i [] q r free last made (suc n) = free
+  free_at i (e ∷ es) q r free last made (suc n) = let x = rest_made i e es q r free last made in free_at (i + 1) es x.0 r x.1 last x.3 n
+
+  last_at : (i : ℕ) (es : List Felem) (q r free last : ℕ) (made : Elements i es q r free last) → place_at i es q r free last made (length es) ≡ r
+  last_at i [] q r free last made = made.0
+  last_at i (e ∷ es) q r free last made = let x = rest_made i e es q r free last made in last_at (i + 1) es x.0 r x.1 last x.3
+
+  each_at : (i : ℕ) (es : List Felem) (q r free last : ℕ) (made : Elements i es q r free last) (n : ℕ) (e : Felem) → slice_get es n ≡ Some e → Made code marks (element_piece s item f set body (i + n) e (place_at i es q r free last made n) (free_at i es q r free last made n)) (place_at i es q r free last made n) (place_at i es q r free last made (suc n)) (free_at i es q r free last made n) (free_at i es q r free last made (suc n))
+  each_at i [] q r free last made n e h = absurd (none-some e h)
+  each_at i (d ∷ es) q r free last made zero e h =
+      let x = rest_made i d es q r free last made in
+      let none : i ≡ i + 0 = omega arith in
+      subst (λ j. Made code marks (element_piece s item f set body j e q free) q (place_at (i + 1) es x.0 r x.1 last x.3 0) free (free_at (i + 1) es x.0 r x.1 last x.3 0)) none
+      (subst (λ y. Made code marks (element_piece s item f set body i y q free) q x.0 free x.1) (same_Some d e h) x.2)
+  each_at i (d ∷ es) q r free last made (suc n) e h =
+      let x = rest_made i d es q r free last made in
+      let moved : i + 1 + n ≡ i + suc n = omega arith in
+      subst (λ j. Made code marks (element_piece s item f set body j e (place_at (i + 1) es x.0 r x.1 last x.3 n) (free_at (i + 1) es x.0 r x.1 last x.3 n)) (place_at (i + 1) es x.0 r x.1 last x.3 n) (place_at (i + 1) es x.0 r x.1 last x.3 (suc n)) (free_at (i + 1) es x.0 r x.1 last x.3 n) (free_at (i + 1) es x.0 r x.1 last x.3 (suc n))) moved (each_at (i + 1) es x.0 r x.1 last x.3 n e h)
+
+  ways_next : (i : ℕ) (e : Felem) (es : List Felem) (q r free last : ℕ) (made : Elements i (e ∷ es) q r free last) → element_ways s item f set body (i + 1) es (q + length (element_piece s item f set body i e q free).orders) (free + length (element_piece s item f set body i e q free).marks) ≡ element_ways s item f set body (i + 1) es (rest_made i e es q r free last made).0 (rest_made i e es q r free last made).1
+  ways_next i e es q r free last made =
+      let x = rest_made i e es q r free last made in
+      let y = element_piece s item f set body i e q free in
+      ap₂ (λ a b. element_ways s item f set body (i + 1) es a b) (ends_at code q y.orders x.0 x.2.0) (ends_at marks free y.marks x.1 x.2.1)
+
+  way_at : (i : ℕ) (es : List Felem) (q r free last : ℕ) (made : Elements i es q r free last) (n : ℕ) (e : Felem) → slice_get es n ≡ Some e → slice_get (element_ways s item f set body i es q free) n ≡ Some (way_mark e (free_at i es q r free last made n))
+  way_at i [] q r free last made n e h = absurd (none-some e h)
+  way_at i (d ∷ es) q r free last made zero e h = ap (λ y. Some (way_mark y free)) (same_Some d e h)
+  way_at i (d ∷ es) q r free last made (suc n) e h =
+      let x = rest_made i d es q r free last made in
+      ap (λ l. slice_get l n) (ways_next i d es q r free last made) ∙ way_at (i + 1) es x.0 r x.1 last x.3 n e h
+
+  no_way_at : (i : ℕ) (es : List Felem) (q r free last : ℕ) (made : Elements i es q r free last) (n : ℕ) → slice_get es n ≡ None → slice_get (element_ways s item f set body i es q free) n ≡ None
+  no_way_at i [] q r free last made n h = refl
+  no_way_at i (d ∷ es) q r free last made zero h = absurd (none-some d (sym h))
+  no_way_at i (d ∷ es) q r free last made (suc n) h =
+      let x = rest_made i d es q r free last made in
+      ap (λ l. slice_get l n) (ways_next i d es q r free last made) ∙ no_way_at (i + 1) es x.0 r x.1 last x.3 n h
+
+  -- counted from 1
+  abbrev from_one : (ℕ → ℕ) → ℕ → ℕ
+  from_one g zero = 0
+  from_one g (suc n) = g n
+
+  module _ (es : List Felem) (q r free last : ℕ) (made : Elements 1 es q r free last) where
+    abbrev place : ℕ → ℕ
+    place = from_one (place_at 1 es q r free last made)
+
+    abbrev free_of : ℕ → ℕ
+    free_of = from_one (free_at 1 es q r free last made)
+
+    pub each_one : (i : ℕ) (e : Felem) → element_at es i ≡ Some e → Made code marks (element_piece s item f set body i e (place i) (free_of i)) (place i) (place (i + 1)) (free_of i) (free_of (i + 1))
+    each_one zero e h = absurd (none-some e h)
+    each_one (suc n) e h =
+        let first : 1 + n ≡ suc n = omega arith in
+        let second : suc (suc n) ≡ suc n + 1 = omega arith in
+        let m = subst (λ k. Made code marks (element_piece s item f set body k e (place (suc n)) (free_of (suc n))) (place (suc n)) (place (suc (suc n))) (free_of (suc n)) (free_of (suc (suc n)))) first (each_at 1 es q r free last made n e h) in
+        subst (λ k. Made code marks (element_piece s item f set body (suc n) e (place (suc n)) (free_of (suc n))) (place (suc n)) (place k) (free_of (suc n)) (free_of k)) second m
+
+    pub way_one : (i : ℕ) (e : Felem) → element_at es i ≡ Some e → mark_of_number (element_ways s item f set body 1 es q free) (pos i) ≡ Some (way_mark e (free_of i))
+    way_one zero e h = absurd (none-some e h)
+    way_one (suc n) e h = way_at 1 es q r free last made n e h
+
+    pub no_way_one : (i : ℕ) → element_at es i ≡ None → mark_of_number (element_ways s item f set body 1 es q free) (pos i) ≡ None
+    no_way_one zero h = refl
+    no_way_one (suc n) h = no_way_at 1 es q r free last made n h
+
+    pub last_one : place (length es + 1) ≡ r
+    last_one = let e : length es + 1 ≡ suc (length es) = omega arith in ap place e ∙ last_at 1 es q r free last made
+
+module _ (orders_for : SourceUnit → Orders) (u : SourceUnit) (who : Option ℕ) (has_words : (item words : ℕ) → Bool) where
+  abbrev code : List Order
+  code = (orders_for u).list
+
+  abbrev marks : List ℕ
+  marks = (orders_for u).marks
+
+  abbrev scope : Scope
+  scope = scope_of u who
+
+  abbrev answer : ℕ
+  answer = answer_of u who
+
+  pub ring_whole : (line item : ℕ) (r : Ref) (es : List Felem) (b : Stmt) (q n free last : ℕ) → IsTrue (has_words item 4) → length es < 32767 → IsTrue (are_elements u has_words who answer (out-Ref r).f es) → IsTrue (is_statement u has_words who answer b 64) → Made code marks (ring_piece scope line item (out-Ref r).f es (statement_piece scope who answer b) q free) q n free last → (site : LoopSite orders_for u who has_words (loop_of line item r es b) n) × (q ≡ site.place 1) × ((ring_piece scope line item (out-Ref r).f es (statement_piece scope who answer b) q free).labels ≡ (statement_piece scope who answer b (site.head + 1) site.body_at.0).labels)
+  ring_whole line item r es b q n free last words few built body_built made =
+      let f = (out-Ref r).f in
+      let stmt = statement_piece scope who answer b in
+      let start = free + 1 in
+      let set = free + 1 + 1 in
+      let ways = element_ways scope item f set start 1 es q (set + 1) in
+      let tail = λ (end start set : ℕ). followed_by (elements_piece scope item f set start 1 es) (plain (order.Jump end ∷ [])) in
+      let first = λ (end start : ℕ). followed_by (with_end (tail end start)) (plain (set_orders scope.layout item)) in
+      let second = λ (start : ℕ). followed_by stmt (plain (order.Line line ∷ item_order scope.layout item 3 ∷ order.Load ∷ order.LoopWay ways ∷ [])) in
+      let s1 = end_made code marks (λ end. with_middle (first end) second) q n free last made in
+      let s2 = both_made code marks (with_end (first free)) (second start) q s1.0 start last s1.1 in
+      let s3 = end_made code marks (first free) q s2.0 start s2.1 s2.2 in
+      let s4 = both_made code marks (with_end (tail free start)) (plain (set_orders scope.layout item)) q s3.0 set s2.1 s3.1 in
+      let s5 = end_made code marks (tail free start) q s4.0 set s4.1 s4.2 in
+      let s6 = both_made code marks (elements_piece scope item f set start 1 es) (plain (order.Jump free ∷ [])) q s5.0 (set + 1) s4.1 s5.1 in
+      let s7 = both_made code marks stmt (plain (order.Line line ∷ item_order scope.layout item 3 ∷ order.Load ∷ order.LoopWay ways ∷ [])) s2.0 s1.0 s2.1 last s2.3 in
+      let es_made = s6.2 in (
+        record {
+          words = words;
+          few = few;
+          built = built;
+          set = set;
+          body = start;
+          end = free;
+          tail = s5.0;
+          tail_is = s5.4;
+          tail_marks = s5.2;
+          head = s3.0;
+          sets = subst (λ x. Stands code x (set_orders scope.layout item) s3.0) (sym s5.3) s4.3.0;
+          head_is = s3.4;
+          head_marks = s3.2;
+          on = s7.0;
+          body_at = (s2.1, s7.1, body_built, subst (λ x. Made code marks (stmt x s2.1) x s7.0 s2.1 s7.1) (sym s3.3) s7.2);
+          ways = ways;
+          out = s1.0;
+          goes_on = s7.3.0;
+          end_is = s1.4;
+          out_marks = s1.2;
+          next_is = s1.3;
+          place = place code marks scope who answer item f set start es q s6.0 (set + 1) s6.1 es_made;
+          free = free_of code marks scope who answer item f set start es q s6.0 (set + 1) s6.1 es_made;
+          each = each_one code marks scope who answer item f set start es q s6.0 (set + 1) s6.1 es_made;
+          way = way_one code marks scope who answer item f set start es q s6.0 (set + 1) s6.1 es_made;
+          no_way = no_way_one code marks scope who answer item f set start es q s6.0 (set + 1) s6.1 es_made;
+          last = ap (slice_get code) (last_one code marks scope who answer item f set start es q s6.0 (set + 1) s6.1 es_made) ∙ s6.3.0.0;
+        },
+        refl,
+        s2.4 ∙ ap₂ (λ a b. a ++ b) (nothing (nothing (elements_unlabelled scope who answer item f set start 1 es _ _) refl) refl) (append-nil (stmt s2.0 s2.1).labels) ∙ ap (λ x. (stmt x s2.1).labels) (sym s3.3),
+      )
+
+  pub ring_site : (line item : ℕ) (r : Ref) (es : List Felem) (b : Stmt) (q n free last : ℕ) → IsTrue (has_words item 4) → length es < 32767 → IsTrue (are_elements u has_words who answer (out-Ref r).f es) → IsTrue (is_statement u has_words who answer b 64) → Made code marks (ring_piece scope line item (out-Ref r).f es (statement_piece scope who answer b) q free) q n free last → (site : LoopSite orders_for u who has_words (loop_of line item r es b) n) × (q ≡ site.place 1)
+  ring_site line item r es b q n free last words few built body_built made =
+      let x = ring_whole line item r es b q n free last words few built body_built made in
+      (x.0, x.1)

@@ -1,2 +1,0 @@
-//! The orders of statements follow what the source means.
-#![tactic(auto)]

@@ -1,5 +1,0 @@
-mod Starting
-mod Silent
-mod Expressions
-mod Statements
-mod Units

@@ -1,0 +1,5 @@
+pub mod Starting
+pub mod Silent
+pub mod Expressions
+pub mod Statements
+pub mod Units

@@ -1,0 +1,147 @@
+-- Lists of orders that begin no statement.
+use Rattle.std.proofs.Common.{◌≡◌, ℕ, ◌+◌, ◌==◌, if◌then◌else◌, ℤ, List, [], ◌∷◌, ◌++◌, Bool, true, false, Option, Some, None, slice_get, slice_index_or, refl, ap₂, ◌∙◌}
+use Rattle.cw_order.specs.declared.order.Order.{Order}
+use Rattle.cw_order.specs.declared.order.Order.TheVariants as order
+use Rattle.cw_unit.specs.declared.layout.Layout.{Layout}
+use Rattle.cw_unit.specs.declared.layout.Family.{Family}
+use Rattle.cw_unit.specs.declared.layout.Sort.{Sort}
+use Rattle.cw_unit.specs.declared.layout.Sort.TheVariants as sort
+use Rattle.cw_unit.specs.declared.unit.Unit.{Unit as SourceUnit}
+use Rattle.cw_unit.specs.declared.unit.Field.{Field}
+use Rattle.cw_unit.specs.declared.unit.Label.{Label}
+use Rattle.cw_unit.specs.declared.unit.LogicOp.{LogicOp}
+use Rattle.cw_unit.specs.declared.unit.LogicOp.TheVariants as logic
+use Rattle.cw_unit.specs.declared.unit.Param.{Param}
+use Rattle.cw_unit.specs.declared.unit.Param.TheVariants as param
+use Rattle.cw_unit.specs.declared.unit.Target.{Target}
+use Rattle.cw_unit.specs.declared.unit.Target.TheVariants as target
+use Rattle.cw_unit.specs.declared.unit.Goal.{Goal}
+use Rattle.cw_unit.specs.declared.unit.Goal.TheVariants as goal
+use Rattle.cw_gen_expr.specs.ReferenceExpressions.{Scope, argument_words, placed_by, placed_in, item_order, table_orders, bounds_orders, load_orders, store_orders, rescale_orders, logic_order, call_order, label_order}
+use Rattle.cw_gen_expr.specs.ReferenceEntries.{bound_by, bound_in, bound_order, parameter_orders, bind_orders}
+use Rattle.cw_gen_expr.specs.UnitTables.{label_mark}
+use Rattle.cw_gen_unit.specs.ReferenceStatements.{after_statement_call, from_procedure, own_order, goal_order}
+use Rattle.cw_traced.proofs.Lines.Starting.{begun_by, begun_in, begun-append}
+
+-- two lists that begin none
+nothing : {a b : List ℕ} → a ≡ [] → b ≡ [] → a ++ b ≡ []
+nothing x y = ap₂ (λ l m. l ++ m) x y
+
+pub none-both : (xs ys : List Order) → begun_in xs ≡ [] → begun_in ys ≡ [] → begun_in (xs ++ ys) ≡ []
+none-both xs ys h k = begun-append xs ys ∙ nothing h k
+
+pub none-first : (o : Order) (os : List Order) → begun_by o ≡ [] → begun_in os ≡ [] → begun_in (o ∷ os) ≡ []
+none-first o os h k = nothing h k
+
+-- ---- items
+
+item-silent : (y : Layout) (i n : ℕ) → begun_by (item_order y i n) ≡ []
+item-silent y i n = at_family (slice_get y.families (slice_index_or y.homes i (0, 0)).0) (slice_index_or y.homes i (0, 0)).0 ((slice_index_or y.homes i (0, 0)).1 + n)
+  where
+    at_sort : (k : Sort) (f o : ℕ) → begun_by (placed_by k f o) ≡ []
+    at_sort (sort.Frame base) f o = refl
+    at_sort (sort.Common d) f o = refl
+    at_sort sort.Own f o = refl
+    at_sort (sort.Absolute a) f o = refl
+
+    at_family : (x : Option Family) (f o : ℕ) → begun_by (placed_in x f o) ≡ []
+    at_family None f o = refl
+    at_family (Some x) f o = at_sort x.sort f o
+
+pub item-first : (y : Layout) (i n : ℕ) (os : List Order) → begun_in os ≡ [] → begun_in (item_order y i n ∷ os) ≡ []
+item-first y i n os h = nothing (item-silent y i n) h
+
+-- behind the index of a table
+pub table-silent : (y : Layout) (t : Bool) (i : ℕ) → begun_in (table_orders y t i ++ order.IndexAdd ∷ order.InArea ∷ []) ≡ []
+table-silent y true i = item-first y i 0 (order.Load ∷ order.IndexAdd ∷ order.InArea ∷ []) refl
+table-silent y false i = item-first y i 0 (order.IndexAdd ∷ order.InArea ∷ []) refl
+
+-- ---- expressions
+
+pub bounds-silent : (compared : Bool) (l u : ℤ) → begun_in (bounds_orders compared l u) ≡ []
+bounds-silent true l u = refl
+bounds-silent false l u = refl
+
+pub load-silent : (o : Option Field) → begun_in (load_orders o) ≡ []
+load-silent None = refl
+load-silent (Some f) = refl
+
+pub store-silent : (o : Option Field) → begun_in (store_orders o) ≡ []
+store-silent None = refl
+store-silent (Some f) = refl
+
+pub rescale-silent : (from to : ℕ) → begun_in (rescale_orders from to) ≡ []
+rescale-silent from to = by (from == to)
+  where
+    by : (b : Bool) → begun_in (if b then [] else (order.Rescale from to ∷ [])) ≡ []
+    by true = refl
+    by false = refl
+
+pub logic-silent : (op : LogicOp) → begun_by (logic_order op) ≡ []
+logic-silent logic.Mask = refl
+logic-silent logic.Union = refl
+logic-silent logic.Differ = refl
+
+pub call-silent : (s : Scope) (t : Target) → begun_by (call_order s t) ≡ []
+call-silent s (target.Own q) = refl
+call-silent s (target.Common d) = refl
+call-silent s (target.Special k f) = refl
+call-silent s target.Read = refl
+call-silent s target.Write = refl
+
+pub label-silent : (s : Scope) (g : Goal) → begun_by (label_order s g) ≡ []
+label-silent s (goal.Own l) = refl
+label-silent s (goal.Common d) = refl
+
+-- ---- statements
+
+pub after-silent : (t : Target) → begun_in (after_statement_call t) ≡ []
+after-silent (target.Own q) = refl
+after-silent (target.Common d) = refl
+after-silent (target.Special k f) = refl
+after-silent target.Read = refl
+after-silent target.Write = refl
+
+pub goal-silent : (u : SourceUnit) (who : Option ℕ) (g : Goal) → begun_by (goal_order u who g) ≡ []
+goal-silent u who (goal.Own l) = by_owner who (slice_get u.labels l)
+  where
+    by_procedure : (q : Option ℕ) → begun_by (elim q [ None ↦ order.GoMain (label_mark u l) | Some p ↦ order.Jump (label_mark u l) ]) ≡ []
+    by_procedure None = refl
+    by_procedure (Some p) = refl
+
+    from : (x : Option Label) → begun_by (from_procedure x (label_mark u l)) ≡ []
+    from None = refl
+    from (Some x) = by_procedure x.proc
+
+    by_owner : (w : Option ℕ) (x : Option Label) → begun_by (own_order w x (label_mark u l)) ≡ []
+    by_owner None x = refl
+    by_owner (Some q) x = from x
+goal-silent u who (goal.Common d) = refl
+
+-- ---- entries of procedures
+
+bound-silent : (y : Layout) (k i : ℕ) → begun_by (bound_order y k i) ≡ []
+bound-silent y k i = at_family (slice_get y.families (slice_index_or y.homes i (0, 0)).0) (slice_index_or y.homes i (0, 0)).0 (slice_index_or y.homes i (0, 0)).1
+  where
+    at_sort : (x : Sort) (f o : ℕ) → begun_by (bound_by k x f o) ≡ []
+    at_sort (sort.Frame base) f o = refl
+    at_sort (sort.Common d) f o = refl
+    at_sort sort.Own f o = refl
+    at_sort (sort.Absolute a) f o = refl
+
+    at_family : (x : Option Family) (f o : ℕ) → begun_by (bound_in k x f o) ≡ []
+    at_family None f o = refl
+    at_family (Some x) f o = at_sort x.sort f o
+
+parameter-silent : (y : Layout) (q : Param) (k : ℕ) → begun_in (parameter_orders y q k) ≡ []
+parameter-silent y (param.Value i s) k = nothing (bound-silent y k i) refl
+parameter-silent y (param.Location i s) k = nothing (bound-silent y k i) refl
+parameter-silent y (param.Array i s) k = nothing (bound-silent y k i) refl
+parameter-silent y (param.Table i n) k = nothing (bound-silent y k i) refl
+parameter-silent y (param.Label m) k = refl
+parameter-silent y (param.Switch m) k = refl
+parameter-silent y (param.Proc m s) k = refl
+
+pub bind-silent : (y : Layout) (qs : List Param) → begun_in (bind_orders y qs) ≡ []
+bind-silent y [] = refl
+bind-silent y (q ∷ qs) = none-both (parameter_orders y q (argument_words qs)) (bind_orders y qs) (parameter-silent y q (argument_words qs)) (bind-silent y qs)

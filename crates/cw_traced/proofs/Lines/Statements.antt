@@ -1,0 +1,178 @@
+-- The orders of a statement begin the statements of its lines, in order.
+use Rattle.std.proofs.Common.{◌≡◌, ℕ, zero, suc, ◌+◌, ◌<◌, ◌≤◌, List, [], ◌∷◌, ◌++◌, map, true, false, Option, append-nil, refl, sym, ap, ◌∙◌, subst, arith}
+use Rattle.std.specs.Prelude.{flat_map}
+use Rattle.cw_order.specs.declared.order.Order.TheVariants as order
+use Rattle.cw_unit.specs.declared.unit.Dest.{Dest}
+use Rattle.cw_unit.specs.declared.unit.Dest.TheVariants as dest
+use Rattle.cw_unit.specs.declared.unit.Felem.{Felem}
+use Rattle.cw_unit.specs.declared.unit.Felem.TheVariants as element
+use Rattle.cw_unit.specs.declared.unit.Expr.{Expr}
+use Rattle.cw_unit.specs.declared.unit.Cond.{Cond}
+use Rattle.cw_unit.specs.declared.unit.Ref.{out-Ref}
+use Rattle.cw_unit.specs.declared.unit.Stmt.{Stmt, Stmt-F, out-Stmt, map-Stmt, fold-Stmt, fold_out-Stmt}
+use Rattle.cw_unit.specs.declared.unit.Stmt.TheOpen as statement
+use Rattle.cw_unit.specs.Begun.{line_of}
+use Rattle.cw_gen_expr.specs.Pieces.{Piece, plain, followed_by, sequence, with_end}
+use Rattle.cw_gen_expr.specs.ReferenceExpressions.{Scope, argument_words, control_place, item_order, store_orders, call_order, condition_piece, expression_piece}
+use Rattle.cw_gen_expr.proofs.Layers.{total}
+use Rattle.cw_gen_unit.specs.ReferenceStatements as made
+use Rattle.cw_gen_unit.specs.ReferenceStatements.{after_statement_call, goal_order, jump_piece, with_middle, number_orders, set_orders, bump_orders, turn_piece, while_values, step_values, element_piece, elements_piece, element_ways, ring_piece, statement_piece}
+use Rattle.cw_traced.specs.Lines.Lines.{joined, lines_step, lines_in, parts_of}
+use Rattle.cw_traced.proofs.Lines.Starting.{Begins, Silent, as-lines, plainly, both, before, ended, labelled, begun}
+use Rattle.cw_traced.proofs.Lines.Silent.{none-first, item-first, store-silent, call-silent, after-silent, goal-silent}
+use Rattle.cw_traced.proofs.Lines.Expressions.{choice-begins, expression-begins, condition-begins, address-begins, arguments-begin}
+
+-- ---- layers
+
+abbrev lines_layer : Stmt-F Stmt → List ℕ
+lines_layer x = lines_step (map-Stmt Stmt (List ℕ) lines_in x)
+
+lines-made : (t : Stmt) → lines_in t ≡ lines_layer (out-Stmt t)
+lines-made = fold_out-Stmt (List ℕ) lines_step
+
+abbrev size_step : Stmt-F ℕ → ℕ
+size_step (statement.If line c a b) = 1 + (a + b)
+size_step (statement.For line item r es a) = 1 + a
+size_step (statement.Seq ss) = 1 + total ss
+size_step (statement.Mark ls a) = 1 + a
+size_step _ = 0
+
+abbrev statement_size : Stmt → ℕ
+statement_size = fold-Stmt ℕ size_step
+
+abbrev size_layer : Stmt-F Stmt → ℕ
+size_layer x = size_step (map-Stmt Stmt ℕ statement_size x)
+
+statement-size : (x : Stmt) → statement_size x ≡ size_layer (out-Stmt x)
+statement-size = fold_out-Stmt ℕ size_step
+
+-- ---- by parts
+
+each-part : (ss : List Stmt) → joined (map lines_in ss) ≡ flat_map lines_in ss
+each-part [] = refl
+each-part (s ∷ ss) = ap (λ ls. lines_in s ++ ls) (each-part ss)
+
+layer-parts : (x : Stmt-F Stmt) → lines_layer x ≡ line_of x ++ flat_map lines_in (parts_of x)
+layer-parts (statement.Put line r e) = refl
+layer-parts (statement.PutBits line t b r e) = refl
+layer-parts (statement.Go line d) = refl
+layer-parts (statement.Call line t args) = refl
+layer-parts (statement.Answer line e) = refl
+layer-parts (statement.If line c a b) = ap (λ ls. line ∷ (lines_in a ++ ls)) (sym (append-nil (lines_in b)))
+layer-parts (statement.For line item r es body) = ap (λ ls. line ∷ ls) (sym (append-nil (lines_in body)))
+layer-parts (statement.Seq ss) = each-part ss
+layer-parts (statement.Mark ls t) = sym (append-nil (lines_in t))
+
+pub by-parts : (t : Stmt) → lines_in t ≡ line_of (out-Stmt t) ++ flat_map lines_in (parts_of (out-Stmt t))
+by-parts t = lines-made t ∙ layer-parts (out-Stmt t)
+
+-- ---- FOR
+
+middle : {xs ys : List ℕ} (a b : ℕ → Piece) → ((mark : ℕ) → Begins (a mark) xs) → ((mark : ℕ) → Begins (b mark) ys) → Begins (with_middle a b) (xs ++ ys)
+middle a b ha hb = record { at = λ place next. (both (ended a ha) (hb next)).at place next }
+
+module _ (s : Scope) (item : ℕ) where
+  numbered : (i : ℕ) → Silent (plain (number_orders s.layout item i))
+  numbered i = plainly (number_orders s.layout item i) (item-first s.layout item 3 (order.Store ∷ []) refl)
+
+  variable-set : Silent (plain (set_orders s.layout item))
+  variable-set = plainly (set_orders s.layout item) (item-first s.layout item 0 (order.SetVariable ∷ []) refl)
+
+  bumped : Silent (plain (bump_orders s.layout item))
+  bumped = plainly (bump_orders s.layout item) (item-first s.layout item 0 (order.AddStep ∷ []) refl)
+
+  turned : (body : ℕ) → Silent (turn_piece s.layout item body)
+  turned body =
+      ended (λ next. plain (item_order s.layout item 0 ∷ order.PutVariable ∷ order.Exhausted next ∷ order.Jump body ∷ []))
+      (λ next. plainly (item_order s.layout item 0 ∷ order.PutVariable ∷ order.Exhausted next ∷ order.Jump body ∷ []) (item-first s.layout item 0 (order.PutVariable ∷ order.Exhausted next ∷ order.Jump body ∷ []) refl))
+
+  while-silent : (f body next i : ℕ) (e : Expr) (c : Cond) → Silent (while_values s item f body next i e c)
+  while-silent f body next i e c =
+      both (numbered i) (both (expression-begins s e f) (both variable-set (both (condition-begins s c false next) (plainly (order.Jump body ∷ []) refl))))
+
+  step-silent : (f turn i : ℕ) (a b d : Expr) → Silent (step_values s item f turn i a b d)
+  step-silent f turn i a b d =
+      both (numbered i)
+      (both (expression-begins s a f)
+      (both variable-set
+      (both (expression-begins s b f)
+      (both (plainly (item_order s.layout item 1 ∷ order.Store ∷ []) (item-first s.layout item 1 (order.Store ∷ []) refl))
+      (both (expression-begins s d f) (plainly (item_order s.layout item 2 ∷ order.Store ∷ order.Jump turn ∷ []) (item-first s.layout item 2 (order.Store ∷ order.Jump turn ∷ []) refl)))))))
+
+  element-silent : (f set body i : ℕ) (e : Felem) → Silent (element_piece s item f set body i e)
+  element-silent f set body i (element.One e) =
+      ended (λ next. followed_by (plain (number_orders s.layout item i)) (followed_by (expression_piece s e f) (plain (order.Jump set ∷ []))))
+      (λ next. both (numbered i) (both (expression-begins s e f) (plainly (order.Jump set ∷ []) refl)))
+  element-silent f set body i (element.While e c) =
+      middle (λ own. plain []) (λ own. with_end (λ next. while_values s item f body next i e c)) (λ own. plainly [] refl)
+      (λ own. ended (λ next. while_values s item f body next i e c) (λ next. while-silent f body next i e c))
+  element-silent f set body i (element.Step a b d) =
+      middle (λ turn. followed_by (with_end (λ bump. step_values s item f turn i a b d)) (plain (bump_orders s.layout item))) (λ turn. turn_piece s.layout item body)
+      (λ turn. both (ended (λ bump. step_values s item f turn i a b d) (λ bump. step-silent f turn i a b d)) bumped)
+      (λ turn. turned body)
+
+  elements-silent : (f set body i : ℕ) (es : List Felem) → Silent (elements_piece s item f set body i es)
+  elements-silent f set body i [] = plainly [] refl
+  elements-silent f set body i (e ∷ es) = both (element-silent f set body i e) (elements-silent f set body (i + 1) es)
+
+  -- the elements begin none, and the body those of its lines
+  ring-begins : (line f : ℕ) (es : List Felem) (body : Piece) (xs : List ℕ) → Begins body xs → Begins (ring_piece s line item f es body) xs
+  ring-begins line f es body xs h = record { at = λ place next. (laid (element_ways s item f (next + 1 + 1) (next + 1) 1 es place (next + 1 + 1 + 1))).at place next }
+    where
+      laid : (ways : List ℕ) → Begins (with_end (λ end. with_middle (λ start. followed_by (with_end (λ set. followed_by (elements_piece s item f set start 1 es) (plain (order.Jump end ∷ [])))) (plain (set_orders s.layout item))) (λ start. followed_by body (plain (order.Line line ∷ item_order s.layout item 3 ∷ order.Load ∷ order.LoopWay ways ∷ []))))) xs
+      laid ways =
+          ended (λ end. with_middle (λ start. followed_by (with_end (λ set. followed_by (elements_piece s item f set start 1 es) (plain (order.Jump end ∷ [])))) (plain (set_orders s.layout item))) (λ start. followed_by body (plain (order.Line line ∷ item_order s.layout item 3 ∷ order.Load ∷ order.LoopWay ways ∷ []))))
+          (λ end. middle (λ start. followed_by (with_end (λ set. followed_by (elements_piece s item f set start 1 es) (plain (order.Jump end ∷ [])))) (plain (set_orders s.layout item))) (λ start. followed_by body (plain (order.Line line ∷ item_order s.layout item 3 ∷ order.Load ∷ order.LoopWay ways ∷ [])))
+          (λ start. both (ended (λ set. followed_by (elements_piece s item f set start 1 es) (plain (order.Jump end ∷ []))) (λ set. both (elements-silent f set start 1 es) (plainly (order.Jump end ∷ []) refl))) variable-set)
+          (λ start. before h (plainly (order.Line line ∷ item_order s.layout item 3 ∷ order.Load ∷ order.LoopWay ways ∷ []) (item-first s.layout item 3 (order.Load ∷ order.LoopWay ways ∷ []) refl))))
+
+-- ---- statements
+
+module _ (s : Scope) (who : Option ℕ) (answer : ℕ) where
+  abbrev piece_layer : Stmt-F Stmt → Piece
+  piece_layer x = made.statement_step s who answer (map-Stmt Stmt Piece (statement_piece s who answer) x)
+
+  statement-made : (x : Stmt) → statement_piece s who answer x ≡ piece_layer (out-Stmt x)
+  statement-made = fold_out-Stmt Piece (made.statement_step s who answer)
+
+  jump-silent : (d : Dest) → Silent (jump_piece s who d)
+  jump-silent (dest.Goal g) = plainly (goal_order s.unit who g ∷ []) (none-first (goal_order s.unit who g) [] (goal-silent s.unit who g) refl)
+  jump-silent (dest.Special k) = plainly (order.GoSpecial (control_place s.parameters k) ∷ []) refl
+  jump-silent (dest.Switch n e) = both (expression-begins s e 0) (plainly (order.GoSwitch n ∷ []) refl)
+  jump-silent (dest.CommonSwitch d e) = both (expression-begins s e 0) (plainly (order.GoSwitchCommon d ∷ []) refl)
+  jump-silent (dest.SpecialSwitch k e) = both (expression-begins s e 0) (plainly (order.GoSwitchSpecial (control_place s.parameters k) ∷ []) refl)
+
+  module _ (n : ℕ) (below : (t : Stmt) → statement_size t < n → Begins (statement_piece s who answer t) (lines_in t)) where
+    all-begin : (ss : List Stmt) → total (map statement_size ss) < n → Begins (sequence (map (statement_piece s who answer) ss)) (joined (map lines_in ss))
+    all-begin [] lt = plainly [] refl
+    all-begin (t ∷ ts) lt = both (below t (let z : statement_size t < n = omega (arith, lt) in z)) (all-begin ts (let z : total (map statement_size ts) < n = omega (arith, lt) in z))
+
+    layer-begins : (x : Stmt-F Stmt) → size_layer x ≤ n → Begins (piece_layer x) (lines_layer x)
+    layer-begins (statement.Put line r e) le =
+        both (begun line) (both (expression-begins s e (out-Ref r).f) (both (address-begins s r) (plainly (store_orders (out-Ref r).field) (store-silent (out-Ref r).field))))
+    layer-begins (statement.PutBits line t b r e) le = both (begun line) (both (expression-begins s e 0) (both (address-begins s r) (plainly (order.StorePart t b ∷ []) refl)))
+    layer-begins (statement.Go line d) le = both (begun line) (jump-silent d)
+    layer-begins (statement.Call line t args) le =
+        both (begun line)
+        (both (arguments-begin s args) (plainly (call_order s t ∷ after_statement_call t) (none-first (call_order s t) (after_statement_call t) (call-silent s t) (after-silent t))))
+    layer-begins (statement.Answer line e) le = both (begun line) (both (expression-begins s e answer) (plainly (order.Return (argument_words s.parameters) true ∷ []) refl))
+    layer-begins (statement.If line c a b) le =
+        both (begun line)
+        (choice-begins (condition_piece s c) (statement_piece s who answer a) (statement_piece s who answer b) (condition-begins s c)
+        (below a (let z : statement_size a < n = omega (arith, le) in z)) (below b (let z : statement_size b < n = omega (arith, le) in z)))
+    layer-begins (statement.For line item r es t) le =
+        both (begun line)
+        (both (address-begins s r)
+        (both (plainly (item_order s.layout item 0 ∷ order.Store ∷ []) (item-first s.layout item 0 (order.Store ∷ []) refl))
+        (ring-begins s item line (out-Ref r).f es (statement_piece s who answer t) (lines_in t) (below t (let z : statement_size t < n = omega (arith, le) in z)))))
+    layer-begins (statement.Seq ss) le = all-begin ss (let z : total (map statement_size ss) < n = omega (arith, le) in z)
+    layer-begins (statement.Mark ls t) le = both (labelled ls) (below t (let z : statement_size t < n = omega (arith, le) in z))
+
+  begins-below : (n : ℕ) (t : Stmt) → statement_size t < n → Begins (statement_piece s who answer t) (lines_in t)
+  begins-below zero t lt = absurd (omega (arith, lt))
+  begins-below (suc n) t lt =
+      subst (λ p. Begins p (lines_in t)) (sym (statement-made t))
+      (as-lines (layer-begins n (begins-below n) (out-Stmt t) (let z : size_layer (out-Stmt t) ≤ n = omega (arith, lt, statement-size t) in z)) (sym (lines-made t)))
+
+  pub statement-begins : (t : Stmt) → Begins (statement_piece s who answer t) (lines_in t)
+  statement-begins t = begins-below (suc (statement_size t)) t (let z : statement_size t < suc (statement_size t) = omega arith in z)
