@@ -7,7 +7,8 @@ use cw_word::List;
 use std::alloc::{AllocError, Global};
 use std::test::Fail;
 
-const FIRST: &str =
+/// A sum and its output.
+pub const FIRST: &str =
     "LIBRARY (PROCEDURE WRITEBYTE(VALUE INTEGER)); SEGMENT A BEGIN INTEGER X; X := 1+2; WRITEBYTE(X+64) END FINISH";
 
 /// Bytes as a list.

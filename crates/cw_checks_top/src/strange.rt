@@ -2,7 +2,7 @@
 ghost use Rattle.std.specs.Prelude.{◌≤◌};
 
 use crate::actions::file;
-use crate::command::{failing, flat, words_of};
+use crate::command::{FIRST, failing, flat, words_of};
 use cw_io::{MemSink, MemSource, MemStore, read_file};
 use cw_top::coral66;
 use cw_word::List;
@@ -29,7 +29,7 @@ const HEAD: [u8; 17] = [
     0x43, 0x36, 0x36, 0x49, 1, 0, 0x10, 0, 1, 0, 1, 0, 1, 1, 0x41, 0, 0,
 ];
 
-// The texts `f`, `c` and `o`, and this file `strange`, in a store that moves so many bytes a call.
+// The texts `f`, `c`, `o` and `first`, and this file `strange`, in a store that moves so many bytes a call.
 fn store(alloc: Global, strange: &[u8], piece: usize, faults: &str) -> Result<MemStore, AllocError>
     requires { 1 ≤ piece }
 {
@@ -37,6 +37,7 @@ fn store(alloc: Global, strange: &[u8], piece: usize, faults: &str) -> Result<Me
     files.push(file(alloc, b"f", FILTER.as_bytes())?)?;
     files.push(file(alloc, b"c", CONTROL.as_bytes())?)?;
     files.push(file(alloc, b"o", ONE.as_bytes())?)?;
+    files.push(file(alloc, b"first", FIRST.as_bytes())?)?;
     files.push(file(alloc, b"strange", strange)?)?;
     let fails = failing(alloc, faults, "store")?;
     match MemStore::new(alloc, List::of(files), 8, 65_536, piece, fails) {
@@ -186,7 +187,7 @@ fn is_answered(
 #[test]
 fn each_byte_changed(rt: HostRuntime) -> Result<(), Fail> {
     let alloc = rt.alloc();
-    let object = made(alloc, "compile o", "o.SEG")?;
+    let object = made(alloc, "compile first", "first.SEG")?;
     let run = "--steps 1000 exec A.IMG";
     assert!(rt; is_answered(alloc, object.as_slice(), "link strange", "0 3 9", run)?);
     let mut image = HEAD.to_vec(alloc)?;
