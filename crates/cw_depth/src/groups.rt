@@ -1,6 +1,7 @@
 //! The groups of a program's graph: for each specification that is called the procedures that stand as arguments with it.
 ghost use Rattle.std.specs.Prelude.{◌≡◌, ℕ, ◌++◌, ◌<◌, length, Some, OnOk, IfOk, IsTrue, IsFalse};
 ghost use Rattle.cw_unit.specs.declared.unit.Proc.{Proc as Procedure};
+ghost use Rattle.cw_named.specs.Meanings.{IsTableOf};
 ghost use Rattle.cw_depth.specs.CallGraph.{handed_by, segment_of, procedure_at, parameter_of, spec_of};
 ghost use Rattle.cw_depth.specs.Numbering.{AreFew};
 ghost use Rattle.cw_depth.specs.Building.{AreFirsts, placed, handed_in, handed_in_all, IsGroup, GroupFits, AreGroups};
@@ -11,18 +12,25 @@ use crate::rows::{named_in, segment_of};
 use crate::specifications::{has_spec, parameter_of, procedure_at};
 use crate::standing::mentions_of;
 use cw_graph::graph::number_at;
+use cw_named::Definitions;
 use cw_unit::descriptor::Spec;
 use cw_unit::unit::Unit;
 use cw_word::{List, NoMemory};
 use std::alloc::Global;
 
 // The procedure that stands as an argument.
-fn handed_by(units: &[Unit], segment: usize, mention: Mention) -> Option<(usize, u16)>
+fn handed_by(
+    units: &[Unit],
+    definitions: &Definitions,
+    segment: usize,
+    mention: Mention,
+) -> Option<(usize, u16)>
+    requires { IsTableOf units.now definitions.now }
     ensures { result ≡ handed_by units.now segment mention }
 {
     match mention {
         Mention::HandedOwn(number) => Some((segment, number)),
-        Mention::HandedCommon(descriptor) => named_in(units, segment, descriptor),
+        Mention::HandedCommon(descriptor) => named_in(units, definitions, segment, descriptor),
         Mention::Own(_) | Mention::Common(_) | Mention::Parameter(_) => None,
     }
 }
@@ -46,14 +54,17 @@ fn add_place(
 fn add_handed(
     alloc: Global,
     units: &[Unit],
+    definitions: &Definitions,
     node: Node,
     handed: &mut List<(usize, u16)>,
 ) -> Result<(), NoMemory>
+    requires { IsTableOf units.now definitions.now }
     ensures { OnOk result (handed.new ≡ handed.old ++ handed_in units.now node) }
 {
     let mentions = mentions_of(alloc, units, node)?;
     for mention in mentions.as_slice() {
-        add_place(units, handed_by(units, segment_of(node), *mention), handed)?;
+        let place = handed_by(units, definitions, segment_of(node), *mention);
+        add_place(units, place, handed)?;
     }
     Ok(())
 }
@@ -62,13 +73,15 @@ fn add_handed(
 pub(crate) fn handed_in_all(
     alloc: Global,
     units: &[Unit],
+    definitions: &Definitions,
     nodes: &[Node],
 ) -> Result<List<(usize, u16)>, NoMemory>
+    requires { IsTableOf units.now definitions.now }
     ensures { IfOk result (λ handed. handed ≡ handed_in_all units.now nodes.now) }
 {
     let mut handed = List::new(alloc);
     for node in nodes {
-        add_handed(alloc, units, *node, &mut handed)?;
+        add_handed(alloc, units, definitions, *node, &mut handed)?;
     }
     Ok(handed)
 }

@@ -7,7 +7,6 @@ mod expressions;
 mod groups;
 pub mod laws;
 pub mod mention;
-mod naming;
 pub mod node;
 mod numbering;
 mod rows;

@@ -1,16 +1,17 @@
 //! The rows of a program's graph.
 ghost use Rattle.std.specs.Prelude.{◌≡◌, ℕ, ◌+◌, ◌++◌, ◌<◌, [], ◌∷◌, length, slice_get, OnOk, IfOk, IfSome, Some};
+ghost use Rattle.cw_named.specs.Meanings.{IsTableOf};
 ghost use Rattle.cw_depth.specs.declared.mention.Mention.TheVariants as mention;
 ghost use Rattle.cw_depth.specs.CallGraph.{named_by, called_by, segment_of, parameter_of, mentions_of};
 ghost use Rattle.cw_depth.specs.Numbering.{AreFew, nodes_of};
 ghost use Rattle.cw_depth.specs.Building.{IsHead, Extends, Adds, AreFirsts, listed, IsRowFor, AreRows};
 
 use crate::mention::Mention;
-use crate::naming::named_by;
 use crate::node::Node;
 use crate::specifications::{parameter_of, procedure_at};
 use crate::standing::mentions_of;
 use cw_graph::graph::number_at;
+use cw_named::Definitions;
 use cw_unit::descriptor::Spec;
 use cw_unit::same::same_spec;
 use cw_unit::unit::Unit;
@@ -114,17 +115,24 @@ fn add_parameter(
 }
 
 /// The procedure that a descriptor of a segment names.
-pub(crate) fn named_in(units: &[Unit], segment: usize, descriptor: u16) -> Option<(usize, u16)>
+pub(crate) fn named_in(
+    units: &[Unit],
+    definitions: &Definitions,
+    segment: usize,
+    descriptor: u16,
+) -> Option<(usize, u16)>
+    requires { IsTableOf units.now definitions.now }
     ensures { result ≡ named_by units.now (slice_get units.now segment) descriptor }
 {
     match units.get(segment) {
-        Some(unit) => named_by(units, unit, descriptor),
+        Some(unit) => definitions.named_by(unit, descriptor),
         None => None,
     }
 }
 
 fn add_mention(
     units: &[Unit],
+    definitions: &Definitions,
     firsts: &[usize],
     count: usize,
     heads: &mut List<(Node, u8)>,
@@ -133,6 +141,7 @@ fn add_mention(
     row: &mut List<usize>,
 ) -> Result<(), NoMemory>
     requires few { AreFew units.now }
+    requires table { IsTableOf units.now definitions.now }
     requires firsts { AreFirsts units.now firsts.now }
     requires count { count ≡ length (nodes_of units.now) }
     ensures { OnOk result (Adds units.now heads.old heads.new node mention row.old row.new) }
@@ -142,7 +151,7 @@ fn add_mention(
             add_procedure(units, firsts, Some((segment_of(node), number)), row)
         }
         Mention::Common(descriptor) => {
-            let place = named_in(units, segment_of(node), descriptor);
+            let place = named_in(units, definitions, segment_of(node), descriptor);
             add_procedure(units, firsts, place, row)
         }
         Mention::Parameter(control) => add_parameter(units, count, heads, node, control, row),
@@ -154,12 +163,14 @@ fn add_mention(
 pub(crate) fn row_for(
     alloc: Global,
     units: &[Unit],
+    definitions: &Definitions,
     firsts: &[usize],
     count: usize,
     heads: &mut List<(Node, u8)>,
     node: Node,
 ) -> Result<List<usize>, NoMemory>
     requires few { AreFew units.now }
+    requires table { IsTableOf units.now definitions.now }
     requires firsts { AreFirsts units.now firsts.now }
     requires count { count ≡ length (nodes_of units.now) }
     ensures row { IfOk result (λ row. IsRowFor units.now heads.new node row (length (mentions_of units.now node))) }
@@ -168,7 +179,16 @@ pub(crate) fn row_for(
     let mentions = mentions_of(alloc, units, node)?;
     let mut row = List::new(alloc);
     for mention in mentions.as_slice() {
-        add_mention(units, firsts, count, heads, node, *mention, &mut row)?;
+        add_mention(
+            units,
+            definitions,
+            firsts,
+            count,
+            heads,
+            node,
+            *mention,
+            &mut row,
+        )?;
     }
     Ok(row)
 }
@@ -177,11 +197,13 @@ pub(crate) fn row_for(
 pub(crate) fn rows_for(
     alloc: Global,
     units: &[Unit],
+    definitions: &Definitions,
     firsts: &[usize],
     nodes: &[Node],
     heads: &mut List<(Node, u8)>,
 ) -> Result<List<List<usize>>, NoMemory>
     requires few { AreFew units.now }
+    requires table { IsTableOf units.now definitions.now }
     requires firsts { AreFirsts units.now firsts.now }
     requires nodes { nodes.now ≡ nodes_of units.now }
     ensures size { IfOk result (λ rows. length rows ≡ length nodes.now) }
@@ -189,7 +211,7 @@ pub(crate) fn rows_for(
 {
     let mut rows = List::new(alloc);
     for node in nodes {
-        rows.push(row_for(alloc, units, firsts, nodes.len(), heads, *node)?)?;
+        rows.push(row_for(alloc, units, definitions, firsts, nodes.len(), heads, *node)?)?;
     }
     Ok(rows)
 }

@@ -1,0 +1,7 @@
+//! What the names mean that units share: for each the first definition, found by one search.
+#![tactic(auto)]
+
+mod definitions;
+mod key;
+
+pub use definitions::Definitions;
