@@ -1,41 +1,31 @@
 -- What a mention adds to a row.
-use Rattle.std.proofs.Common.{◌≡◌, ℕ, zero, suc, ◌+◌, ◌<◌, ◌⊎◌, List, [], ◌∷◌, ◌++◌, length, inl, inr, refl, sym, ◌∙◌, ap, subst, arith, Option, Some, None, slice_index, length-append, append_assoc, append-nil}
+use Rattle.std.proofs.Common.{get_or-set_same, get_or-set_other, ◌≡◌, ℕ, ◌+◌, ◌<◌, ◌⊎◌, List, [], ◌∷◌, ◌++◌, length, inl, inr, refl, sym, ◌∙◌, ap, subst, arith, Option, Some, None, slice_index, length-append, append-nil}
 use Rattle.std.specs.Prelude.{slice_get}
 use Rattle.std.proofs.lemmas.Option.{none-some, same_Some}
 use Rattle.std.proofs.lemmas.Bool.{cases_eq}
-use Rattle.std.proofs.Math.ListN.{get_or-append}
+use Rattle.std.proofs.Math.ListN.{get_or-append, set}
 use Rattle.std.proofs.Math.Seq.{get_or-append_seam}
 use Rattle.cw_unit.specs.declared.unit.Unit.{Unit as SourceUnit}
 use Rattle.cw_unit.specs.declared.unit.Proc.{Proc}
 use Rattle.cw_unit.specs.declared.descriptor.Spec.{Spec}
+use Rattle.cw_keyed.specs.declared.specifications.Specifications.{Specifications}
+use Rattle.cw_keyed.specs.Numbered.{number_of, Keeps}
 use Rattle.cw_depth.specs.declared.node.Node.{Node}
 use Rattle.cw_depth.specs.declared.mention.Mention.{Mention}
 use Rattle.cw_depth.specs.declared.mention.Mention.TheVariants as mention
 use Rattle.cw_graph.specs.Rows.{StandsIn, row_of}
 use Rattle.cw_depth.specs.CallGraph.{segment_of, mentions_of, procedure_at, called_by, named_by, parameter_of, spec_of}
 use Rattle.cw_depth.specs.Numbering.{nodes_of, first_number, IsNumbered}
-use Rattle.cw_depth.specs.Building.{Head, IsHead, spec_of_head, Extends, Gives, by_call, by_parameter, HasGiven, IsRowFor, Adds, number_if, listed, AreRows, Place, IsGroup, GroupFits, AreGroups}
+use Rattle.cw_depth.specs.Building.{IsHead, Gives, by_call, by_parameter, HasGiven, IsRowFor, Adds, number_if, listed, AreRows, Place, Joins, JoinGroups, IsGroup}
 use Rattle.cw_graph.proofs.Places.{stands_before, stands_last}
 
 -- ---- heads
 
-get_more : (xs ys : List Head) (j : ℕ) (h : Head) → slice_get xs j ≡ Some h → slice_get (xs ++ ys) j ≡ Some h
-get_more [] ys j h e = absurd (none-some h e)
-get_more (x ∷ xs) ys zero h e = e
-get_more (x ∷ xs) ys (suc j) h e = get_more xs ys j h e
+pub extends_same : (heads : Specifications) → Keeps heads heads
+extends_same heads s n e = e
 
-head_at : (us : List SourceUnit) (heads more : List Head) (j : ℕ) (s : Spec) (o : Option Head) → slice_get heads j ≡ o → spec_of_head us o ≡ Some s → spec_of_head us (slice_get (heads ++ more) j) ≡ Some s
-head_at us heads more j s None e is = absurd (none-some s is)
-head_at us heads more j s (Some h) e is = ap (spec_of_head us) (get_more heads more j h e) ∙ is
-
-pub head_more : (us : List SourceUnit) (heads heads' : List Head) (j : ℕ) (s : Spec) → Extends heads heads' → IsHead us heads j s → IsHead us heads' j s
-head_more us heads heads' j s (more, e) is = subst (λ (hs : List Head). IsHead us hs j s) (sym e) (head_at us heads more j s (slice_get heads j) refl is)
-
-pub extends_same : (heads : List Head) → Extends heads heads
-extends_same heads = ([], sym (append-nil heads))
-
-pub extends_then : (a b c : List Head) → Extends a b → Extends b c → Extends a c
-extends_then a b c (more, e) (more', f) = (more ++ more', f ∙ ap (λ hs. hs ++ more') e ∙ append_assoc a more more')
+pub extends_then : (a b c : Specifications) → Keeps a b → Keeps b c → Keeps a c
+extends_then a b c keeps more s n e = more s n (keeps s n e)
 
 -- ---- rows that grow by a list
 
@@ -52,7 +42,7 @@ stands_cases xs y x (k, (low, is)) =
 IsCall : Mention → Type 0
 IsCall m = (k : ℕ) → m ≡ mention.Parameter k → ⊥
 
-pub adds_nothing : (us : List SourceUnit) (heads : List Head) (a : Node) (m : Mention) (row : List ℕ) → called_by us (segment_of a) m ≡ None → ((k : ℕ) (s : Spec) → m ≡ mention.Parameter k → parameter_of us a k ≡ Some s → ⊥) → Adds us heads heads a m row row
+pub adds_nothing : (us : List SourceUnit) (heads : Specifications) (a : Node) (m : Mention) (row : List ℕ) → called_by us (segment_of a) m ≡ None → ((k : ℕ) (s : Spec) → m ≡ mention.Parameter k → parameter_of us a k ≡ Some s → ⊥) → Adds us heads heads a m row row
 adds_nothing us heads a m row none never = record {
   extends = extends_same heads;
   kept = λ x s. s;
@@ -60,7 +50,7 @@ adds_nothing us heads a m row none never = record {
   only = λ x s. inl s;
 }
 
-adds_place : (us : List SourceUnit) (heads : List Head) (a : Node) (m : Mention) (row : List ℕ) (g q : ℕ) (o : Option Proc) → procedure_at us g q ≡ o → called_by us (segment_of a) m ≡ Some (g, q) → ((k : ℕ) → m ≡ mention.Parameter k → ⊥) → Adds us heads heads a m row (row ++ number_if us g q o)
+adds_place : (us : List SourceUnit) (heads : Specifications) (a : Node) (m : Mention) (row : List ℕ) (g q : ℕ) (o : Option Proc) → procedure_at us g q ≡ o → called_by us (segment_of a) m ≡ Some (g, q) → ((k : ℕ) → m ≡ mention.Parameter k → ⊥) → Adds us heads heads a m row (row ++ number_if us g q o)
 adds_place us heads a m row g q None there is call = subst (λ (xs : List ℕ). Adds us heads heads a m row xs) (sym (append-nil row)) (record {
   extends = extends_same heads;
   kept = λ x s. s;
@@ -80,11 +70,11 @@ adds_place us heads a m row g q (Some p) there is call = record {
   only = λ x s. elim (stands_cases row (first_number us g + q) x s) [ inl old ↦ inl old | inr e ↦ inr (by_call g q p is there e) ];
 }
 
-pub adds_call : (us : List SourceUnit) (heads : List Head) (a : Node) (m : Mention) (row row' : List ℕ) (o : Option (ℕ × ℕ)) → o ≡ called_by us (segment_of a) m → ((k : ℕ) → m ≡ mention.Parameter k → ⊥) → row' ≡ row ++ listed us o → Adds us heads heads a m row row'
+pub adds_call : (us : List SourceUnit) (heads : Specifications) (a : Node) (m : Mention) (row row' : List ℕ) (o : Option (ℕ × ℕ)) → o ≡ called_by us (segment_of a) m → ((k : ℕ) → m ≡ mention.Parameter k → ⊥) → row' ≡ row ++ listed us o → Adds us heads heads a m row row'
 adds_call us heads a m row row' None is call e = subst (λ (xs : List ℕ). Adds us heads heads a m row xs) (sym (e ∙ append-nil row)) (adds_nothing us heads a m row (sym is) (λ k s f t. call k f))
 adds_call us heads a m row row' (Some (g, q)) is call e = subst (λ (xs : List ℕ). Adds us heads heads a m row xs) (sym e) (adds_place us heads a m row g q (procedure_at us g q) refl (sym is) call)
 
-pub adds_parameter : (us : List SourceUnit) (heads heads' : List Head) (a : Node) (k j : ℕ) (s : Spec) (row row' : List ℕ) → parameter_of us a k ≡ Some s → Extends heads heads' → IsHead us heads' j s → row' ≡ row ++ (length (nodes_of us) + j) ∷ [] → Adds us heads heads' a (mention.Parameter k) row row'
+pub adds_parameter : (us : List SourceUnit) (heads heads' : Specifications) (a : Node) (k j : ℕ) (s : Spec) (row row' : List ℕ) → parameter_of us a k ≡ Some s → Keeps heads heads' → IsHead heads' j s → row' ≡ row ++ (length (nodes_of us) + j) ∷ [] → Adds us heads heads' a (mention.Parameter k) row row'
 adds_parameter us heads heads' a k j s row row' is extends head e = subst (λ (xs : List ℕ). Adds us heads heads' a (mention.Parameter k) row xs) (sym e) (record {
   extends = extends;
   kept = λ x st. stands_before row (length (nodes_of us) + j) x st;
@@ -93,7 +83,7 @@ adds_parameter us heads heads' a k j s row row' is extends head e = subst (λ (x
     by_parameter = λ k' s' f is'.
         let same : k ≡ k' = cc in
         let spec : s ≡ s' = same_Some s s' (sym is ∙ ap (parameter_of us a) same ∙ is') in
-        (j, (head ∙ ap (λ t. Some t) spec, stands_last row (length (nodes_of us) + j)));
+        (j, (subst (λ (t : Spec). IsHead heads' j t) spec head, stands_last row (length (nodes_of us) + j)));
   };
   only = λ x st. elim (stands_cases row (length (nodes_of us) + j) x st) [ inl old ↦ inl old | inr f ↦ inr (by_parameter k j s refl is head f) ];
 })
@@ -101,37 +91,37 @@ adds_parameter us heads heads' a k j s row row' is extends head e = subst (λ (x
 pub listed_is : (us : List SourceUnit) (place : Option (ℕ × ℕ)) (g q n : ℕ) (p : Proc) → place ≡ Some (g, q) → procedure_at us g q ≡ Some p → n ≡ first_number us g → listed us place ≡ (n + q) ∷ []
 listed_is us place g q n p e there is = ap (listed us) e ∙ ap (number_if us g q) there ∙ ap (λ x. (x + q) ∷ []) (sym is)
 
-pub adds_own : (us : List SourceUnit) (heads : List Head) (a : Node) (g q : ℕ) (row row' : List ℕ) → g ≡ segment_of a → row' ≡ row ++ listed us (Some (g, q)) → Adds us heads heads a (mention.Own q) row row'
+pub adds_own : (us : List SourceUnit) (heads : Specifications) (a : Node) (g q : ℕ) (row row' : List ℕ) → g ≡ segment_of a → row' ≡ row ++ listed us (Some (g, q)) → Adds us heads heads a (mention.Own q) row row'
 adds_own us heads a g q row row' is e = adds_call us heads a (mention.Own q) row row' (Some (g, q)) (ap (λ (h : ℕ). Some (h, q)) is) (λ k f. cc) e
 
-pub adds_common : (us : List SourceUnit) (heads : List Head) (a : Node) (g d : ℕ) (o : Option (ℕ × ℕ)) (row row' : List ℕ) → g ≡ segment_of a → o ≡ named_by us (slice_get us g) d → row' ≡ row ++ listed us o → Adds us heads heads a (mention.Common d) row row'
+pub adds_common : (us : List SourceUnit) (heads : Specifications) (a : Node) (g d : ℕ) (o : Option (ℕ × ℕ)) (row row' : List ℕ) → g ≡ segment_of a → o ≡ named_by us (slice_get us g) d → row' ≡ row ++ listed us o → Adds us heads heads a (mention.Common d) row row'
 adds_common us heads a g d o row row' is named e = adds_call us heads a (mention.Common d) row row' o (named ∙ ap (λ (h : ℕ). named_by us (slice_get us h) d) is) (λ k f. cc) e
 
 -- ---- rows
 
-given_more : (us : List SourceUnit) (heads heads' : List Head) (a : Node) (row row' : List ℕ) (m : Mention) → Extends heads heads' → ((x : ℕ) → StandsIn row x → StandsIn row' x) → HasGiven us heads a row m → HasGiven us heads' a row' m
+given_more : (us : List SourceUnit) (heads heads' : Specifications) (a : Node) (row row' : List ℕ) (m : Mention) → Keeps heads heads' → ((x : ℕ) → StandsIn row x → StandsIn row' x) → HasGiven us heads a row m → HasGiven us heads' a row' m
 given_more us heads heads' a row row' m extends kept given = record {
   by_call = λ g q p e there. kept (first_number us g + q) (given.by_call g q p e there);
-  by_parameter = λ k s e is. let (j, (head, stands)) = given.by_parameter k s e is in (j, (head_more us heads heads' j s extends head, kept (length (nodes_of us) + j) stands));
+  by_parameter = λ k s e is. let (j, (head, stands)) = given.by_parameter k s e is in (j, (extends s j head, kept (length (nodes_of us) + j) stands));
 }
 
-gives_more : (us : List SourceUnit) (heads heads' : List Head) (a : Node) (m : Mention) (x : ℕ) → Extends heads heads' → Gives us heads a m x → Gives us heads' a m x
+gives_more : (us : List SourceUnit) (heads heads' : Specifications) (a : Node) (m : Mention) (x : ℕ) → Keeps heads heads' → Gives us heads a m x → Gives us heads' a m x
 gives_more us heads heads' a m x extends (by_call g q p e there is) = by_call g q p e there is
-gives_more us heads heads' a m x extends (by_parameter k j s e is head at') = by_parameter k j s e is (head_more us heads heads' j s extends head) at'
+gives_more us heads heads' a m x extends (by_parameter k j s e is head at') = by_parameter k j s e is (extends s j head) at'
 
-pub row_begun : (us : List SourceUnit) (heads : List Head) (a : Node) → IsRowFor us heads a [] 0
+pub row_begun : (us : List SourceUnit) (heads : Specifications) (a : Node) → IsRowFor us heads a [] 0
 row_begun us heads a = record {
   all = λ k m low. absurd (omega arith);
   only = λ x s. absurd (omega (arith, s.1.0));
 }
 
-pub row_kept : (us : List SourceUnit) (heads heads' : List Head) (a : Node) (row : List ℕ) (n : ℕ) → Extends heads heads' → IsRowFor us heads a row n → IsRowFor us heads' a row n
+pub row_kept : (us : List SourceUnit) (heads heads' : Specifications) (a : Node) (row : List ℕ) (n : ℕ) → Keeps heads heads' → IsRowFor us heads a row n → IsRowFor us heads' a row n
 row_kept us heads heads' a row n extends r = record {
   all = λ k m low e. given_more us heads heads' a row row m extends (λ x s. s) (r.all k m low e);
   only = λ x s. let (m, (there, gives)) = r.only x s in (m, (there, gives_more us heads heads' a m x extends gives));
 }
 
-pub row_more : (us : List SourceUnit) (heads heads' : List Head) (a : Node) (m : Mention) (row row' : List ℕ) (n : ℕ) → slice_get (mentions_of us a) n ≡ Some m → IsRowFor us heads a row n → Adds us heads heads' a m row row' → IsRowFor us heads' a row' (n + 1)
+pub row_more : (us : List SourceUnit) (heads heads' : Specifications) (a : Node) (m : Mention) (row row' : List ℕ) (n : ℕ) → slice_get (mentions_of us a) n ≡ Some m → IsRowFor us heads a row n → Adds us heads heads' a m row row' → IsRowFor us heads' a row' (n + 1)
 row_more us heads heads' a m row row' n at' r adds = record {
   all = λ k m' low e. elim (cases_eq k n) [
     | inl same ↦ subst (λ (x : Mention). HasGiven us heads' a row' x) (same_Some m m' (sym at' ∙ ap (slice_get (mentions_of us a)) (sym same) ∙ e)) adds.given
@@ -149,7 +139,7 @@ row_at_end rows row = get_or-append_seam rows row [] []
 row_before : (rows : List (List ℕ)) (row : List ℕ) (n : ℕ) → n < length rows → row_of (rows ++ row ∷ []) n ≡ row_of rows n
 row_before rows row n low = get_or-append rows (row ∷ []) [] n low
 
-pub rows_more : (us : List SourceUnit) (heads heads' : List Head) (rows rows' : List (List ℕ)) (row : List ℕ) (a : Node) → Extends heads heads' → AreRows us heads rows → IsNumbered us (length rows) a → IsRowFor us heads' a row (length (mentions_of us a)) → rows' ≡ rows ++ row ∷ [] → AreRows us heads' rows'
+pub rows_more : (us : List SourceUnit) (heads heads' : Specifications) (rows rows' : List (List ℕ)) (row : List ℕ) (a : Node) → Keeps heads heads' → AreRows us heads rows → IsNumbered us (length rows) a → IsRowFor us heads' a row (length (mentions_of us a)) → rows' ≡ rows ++ row ∷ [] → AreRows us heads' rows'
 rows_more us heads heads' rows rows' row a extends are e one same n b low f =
     let low' : n < length rows + 1 = rw (same, length-append) at low in
     elim (cases_eq n (length rows)) [
@@ -165,46 +155,58 @@ rows_more us heads heads' rows rows' row a extends are e one same n b low f =
 
 -- ---- groups
 
-pub group_begun : (us : List SourceUnit) (handed : List Place) (s : Spec) → IsGroup us handed s [] 0
-group_begun us handed s = record {
+pub group_begun : (us : List SourceUnit) (handed : List Place) (heads : Specifications) (j : ℕ) → IsGroup us handed heads j [] 0
+group_begun us handed heads j = record {
   all = λ i g q p low. absurd (omega arith);
   only = λ x st. absurd (omega (arith, st.1.0));
 }
 
-pub group_skip : (us : List SourceUnit) (handed : List Place) (s : Spec) (row : List ℕ) (n g q : ℕ) → slice_get handed n ≡ Some (g, q) → ((p : Proc) → procedure_at us g q ≡ Some p → spec_of p ≡ s → ⊥) → IsGroup us handed s row n → IsGroup us handed s row (n + 1)
-group_skip us handed s row n g q at' never r = record {
-  all = λ i h t p low e there spec. elim (cases_eq i n) [
-    | inl same ↦
-        let place : ◌≡◌ {A = ℕ × ℕ} (h, t) (g, q) = same_Some (h, t) (g, q) (sym e ∙ ap (slice_get handed) same ∙ at') in
-        absurd (never p (sym (ap (λ (x : ℕ × ℕ). procedure_at us x.0 x.1) place) ∙ there) spec)
-    | inr ne ↦ r.all i h t p (omega arith) e there spec
-  ];
-  only = r.only;
-}
-
-pub group_more : (us : List SourceUnit) (handed : List Place) (s : Spec) (row : List ℕ) (n g q : ℕ) (p : Proc) → slice_get handed n ≡ Some (g, q) → procedure_at us g q ≡ Some p → spec_of p ≡ s → IsGroup us handed s row n → IsGroup us handed s (row ++ (first_number us g + q) ∷ []) (n + 1)
-group_more us handed s row n g q p at' there spec r = record {
-  all = λ i h t p' low e there' spec'. elim (cases_eq i n) [
+pub group_more : (us : List SourceUnit) (handed : List Place) (heads : Specifications) (j : ℕ) (row row' : List ℕ) (n g q : ℕ) → slice_get handed n ≡ Some (g, q) → IsGroup us handed heads j row n → Joins us heads g q j row row' → IsGroup us handed heads j row' (n + 1)
+group_more us handed heads j row row' n g q at' r joins = record {
+  all = λ i h t p low e there head. elim (cases_eq i n) [
     | inl same ↦
         let place : ◌≡◌ {A = ℕ × ℕ} (g, q) (h, t) = same_Some (g, q) (h, t) (sym at' ∙ ap (slice_get handed) (sym same) ∙ e) in
-        subst (λ (x : ℕ × ℕ). StandsIn (row ++ (first_number us g + q) ∷ []) (first_number us x.0 + x.1)) place (stands_last row (first_number us g + q))
-    | inr ne ↦ stands_before row (first_number us g + q) (first_number us h + t) (r.all i h t p' (omega arith) e there' spec')
+        subst (λ (x : ℕ × ℕ). StandsIn row' (first_number us x.0 + x.1)) place (joins.all p (ap (λ (x : ℕ × ℕ). procedure_at us x.0 x.1) place ∙ there) head)
+    | inr ne ↦ joins.kept (first_number us h + t) (r.all i h t p (omega arith) e there head)
   ];
-  only = λ x st. elim (stands_cases row (first_number us g + q) x st) [
+  only = λ x st. elim (joins.only x st) [
     | inl old ↦ r.only x old
-    | inr e ↦ (n, (g, (q, (p, (at', (there, (spec, e)))))))
+    | inr new ↦ let (p, (there, (head, is))) = new in (n, (g, (q, (p, (at', (there, (head, is)))))))
   ];
 }
 
-pub groups_more : (us : List SourceUnit) (handed : List Place) (heads : List Head) (groups groups' : List (List ℕ)) (row : List ℕ) → GroupFits us handed (spec_of_head us (slice_get heads (length groups))) row → AreGroups us handed heads groups → groups' ≡ groups ++ row ∷ [] → AreGroups us handed heads groups'
-groups_more us handed heads groups groups' row one are same j low =
-    let low' : j < length groups + 1 = rw (same, length-append) at low in
-    elim (cases_eq j (length groups)) [
+joins_same : (us : List SourceUnit) (heads : Specifications) (g q j : ℕ) (row : List ℕ) → ((p : Proc) → procedure_at us g q ≡ Some p → IsHead heads j (spec_of p) → ⊥) → Joins us heads g q j row row
+joins_same us heads g q j row never = record {
+  kept = λ x st. st;
+  all = λ p there head. absurd (never p there head);
+  only = λ x st. inl st;
+}
+
+joins_own : (us : List SourceUnit) (heads : Specifications) (g q j : ℕ) (p : Proc) (row : List ℕ) → procedure_at us g q ≡ Some p → IsHead heads j (spec_of p) → Joins us heads g q j row (row ++ (first_number us g + q) ∷ [])
+joins_own us heads g q j p row there head = record {
+  kept = λ x st. stands_before row (first_number us g + q) x st;
+  all = λ p' there' head'. stands_last row (first_number us g + q);
+  only = λ x st. elim (stands_cases row (first_number us g + q) x st) [ inl old ↦ inl old | inr e ↦ inr (p, (there, (head, e))) ];
+}
+
+pub no_procedure : (us : List SourceUnit) (heads : Specifications) (g q : ℕ) (groups : List (List ℕ)) → procedure_at us g q ≡ None → JoinGroups us heads g q groups groups
+no_procedure us heads g q groups none j = joins_same us heads g q j (row_of groups j) (λ p there head. none-some p (sym none ∙ there))
+
+no_head : (us : List SourceUnit) (heads : Specifications) (g q j : ℕ) (p : Proc) (o : Option ℕ) (row : List ℕ) → procedure_at us g q ≡ Some p → number_of heads (spec_of p) ≡ o → (o ≡ Some j → ⊥) → Joins us heads g q j row row
+no_head us heads g q j p o row there number other = joins_same us heads g q j row (λ p' there' head.
+    let same : p ≡ p' = same_Some p p' (sym there ∙ there') in
+    other (sym number ∙ ap (λ (z : Proc). number_of heads (spec_of z)) same ∙ head))
+
+pub no_group : (us : List SourceUnit) (heads : Specifications) (g q : ℕ) (p : Proc) (groups : List (List ℕ)) → procedure_at us g q ≡ Some p → number_of heads (spec_of p) ≡ None → JoinGroups us heads g q groups groups
+no_group us heads g q p groups there number j = no_head us heads g q j p None (row_of groups j) there number (λ e. none-some j e)
+
+pub one_group : (us : List SourceUnit) (heads : Specifications) (g q h n : ℕ) (p : Proc) (groups groups' : List (List ℕ)) → procedure_at us g q ≡ Some p → number_of heads (spec_of p) ≡ Some h → n ≡ first_number us g + q → h < length groups → groups' ≡ set groups h (row_of groups h ++ n ∷ []) → JoinGroups us heads g q groups groups'
+one_group us heads g q h n p groups groups' there number is-number low same j =
+    elim (cases_eq j h) [
       | inl at' ↦
-          let row-is : row ≡ row_of groups' j = sym (row_at_end groups row) ∙ ap (λ xs. row_of xs (length groups)) (sym same) ∙ ap (row_of groups') (sym at') in
-          subst (λ (xs : List ℕ). GroupFits us handed (spec_of_head us (slice_get heads j)) xs) row-is (subst (λ (i : ℕ). GroupFits us handed (spec_of_head us (slice_get heads i)) row) (sym at') one)
+          let is : row_of groups' j ≡ row_of groups j ++ (first_number us g + q) ∷ [] = ap (row_of groups') at' ∙ ap (λ (gs : List (List ℕ)). row_of gs h) same ∙ get_or-set_same groups h (row_of groups h ++ n ∷ []) [] low ∙ ap (λ (i : ℕ). row_of groups h ++ i ∷ []) is-number ∙ ap (λ (i : ℕ). row_of groups i ++ (first_number us g + q) ∷ []) (sym at') in
+          subst (λ (xs : List ℕ). Joins us heads g q j (row_of groups j) xs) (sym is) (joins_own us heads g q j p (row_of groups j) there (number ∙ ap (λ (i : ℕ). Some i) (sym at')))
       | inr ne ↦
-          let inside : j < length groups = omega arith in
-          let row-is : row_of groups j ≡ row_of groups' j = sym (row_before groups row j inside) ∙ ap (λ xs. row_of xs j) (sym same) in
-          subst (λ (xs : List ℕ). GroupFits us handed (spec_of_head us (slice_get heads j)) xs) row-is (are j inside)
+          let is : row_of groups' j ≡ row_of groups j = ap (λ (gs : List (List ℕ)). row_of gs j) same ∙ get_or-set_other groups h j (row_of groups h ++ n ∷ []) [] ne in
+          subst (λ (xs : List ℕ). Joins us heads g q j (row_of groups j) xs) (sym is) (no_head us heads g q j p (Some h) (row_of groups j) there number (λ e. ne (sym (same_Some h j e))))
     ]

@@ -1,13 +1,15 @@
 -- The rows of nodes and of groups are a graph that leads as the program does.
-use Rattle.std.proofs.Common.{◌≡◌, ℕ, zero, suc, ◌+◌, ◌-◌, ◌<◌, ◌≤◌, List, [], ◌∷◌, ◌++◌, length, slice_index, inl, inr, refl, sym, ◌∙◌, ap, subst, arith, Option, Some, None, length-append}
+use Rattle.std.proofs.Common.{◌≡◌, ℕ, ◌+◌, ◌-◌, ◌<◌, ◌≤◌, List, [], ◌++◌, length, slice_index, inl, inr, refl, sym, ◌∙◌, ap, subst, arith, Some, length-append}
 use Rattle.std.specs.Prelude.{slice_get}
-use Rattle.std.proofs.lemmas.Option.{none-some, slice_get_within}
+use Rattle.std.proofs.lemmas.Option.{slice_get_within}
 use Rattle.std.proofs.lemmas.Bool.{cases_lt}
 use Rattle.std.proofs.lemmas.List.{get_or-append-add}
 use Rattle.std.proofs.Math.ListN.{get_or-append}
 use Rattle.cw_unit.specs.declared.unit.Unit.{Unit as SourceUnit}
 use Rattle.cw_unit.specs.declared.unit.Proc.{Proc}
-use Rattle.cw_unit.specs.declared.descriptor.Spec.{Spec}
+use Rattle.cw_keyed.specs.declared.specifications.Specifications.{Specifications}
+use Rattle.cw_keyed.specs.Numbered.{number_of, count}
+use Rattle.cw_keyed.proofs.Numbers.{number_low as low_head, one_specification}
 use Rattle.cw_depth.specs.declared.node.Node.{Node}
 use Rattle.cw_depth.specs.declared.node.Node.TheVariants.{Procedure}
 use Rattle.cw_depth.specs.declared.mention.Mention.{Mention}
@@ -17,16 +19,11 @@ use Rattle.cw_graph.specs.Rows.{StandsIn, row_of, IsWhole, LeadsTo, at_once, by_
 use Rattle.cw_depth.specs.CallGraph.{segment_of, mentions_of, Mentioned, procedure_at, parameter_of, spec_of, Leads}
 use Rattle.cw_depth.specs.CallGraph as calls
 use Rattle.cw_depth.specs.Numbering.{AreFew, bodies_from, procedures_from, nodes_of, first_number, IsNumbered, IsGraphOf, node_at}
-use Rattle.cw_depth.specs.Building.{Head, IsHead, spec_of_head, Gives, HasGiven, IsRowFor, AreRows, Place, handed_in_all, IsGroup, GroupFits, AreGroups}
+use Rattle.cw_depth.specs.Building.{IsHead, Gives, HasGiven, IsRowFor, AreRows, Place, handed_in_all, AreGroups}
 use Rattle.cw_depth.specs.Building as gives
 use Rattle.cw_depth.proofs.Transport.{node_is}
 use Rattle.cw_depth.proofs.Firsts.{procedure_number, bodies_length}
 use Rattle.cw_depth.proofs.Handing.{handed_listed, listed_handed}
-
-row_past : (rows : List (List ℕ)) (n : ℕ) → length rows ≤ n → row_of rows n ≡ []
-row_past [] n le = refl
-row_past (r ∷ rows) zero le = absurd (omega arith)
-row_past (r ∷ rows) (suc n) le = row_past rows n (omega arith)
 
 row_left : (rows groups : List (List ℕ)) (n : ℕ) → n < length rows → row_of (rows ++ groups) n ≡ row_of rows n
 row_left rows groups n low = get_or-append rows groups [] n low
@@ -34,19 +31,15 @@ row_left rows groups n low = get_or-append rows groups [] n low
 row_right : (rows groups : List (List ℕ)) (j : ℕ) → row_of (rows ++ groups) (length rows + j) ≡ row_of groups j
 row_right rows groups j = get_or-append-add rows groups j []
 
-head_low : (us : List SourceUnit) (heads : List Head) (j : ℕ) (s : Spec) (o : Option Head) → slice_get heads j ≡ o → spec_of_head us o ≡ Some s → j < length heads
-head_low us heads j s None e is = absurd (none-some s is)
-head_low us heads j s (Some h) e is = slice_get_within heads j h e
-
 -- ---- the parts of a program's graph
-pub record Parts (us : List SourceUnit) (rows groups : List (List ℕ)) (heads : List Head) (handed : List Place) : Type 0 where
+pub record Parts (us : List SourceUnit) (rows groups : List (List ℕ)) (heads : Specifications) (handed : List Place) : Type 0 where
   pub rows_size : length rows ≡ length (nodes_of us)
   pub rows_are : AreRows us heads rows
-  pub groups_size : length groups ≡ length heads
-  pub groups_are : AreGroups us handed heads groups
+  pub groups_size : length groups ≡ count heads
+  pub groups_are : AreGroups us handed heads groups (length handed)
   pub handed_are : handed ≡ handed_in_all us (nodes_of us)
 
-module _ (us : List SourceUnit) (rows groups : List (List ℕ)) (heads : List Head) (handed : List Place) (few : AreFew us) (parts : Parts us rows groups heads handed) where
+module _ (us : List SourceUnit) (rows groups : List (List ℕ)) (heads : Specifications) (handed : List Place) (few : AreFew us) (parts : Parts us rows groups heads handed) where
   number_low : (g q : ℕ) (p : Proc) → procedure_at us g q ≡ Some p → first_number us g + q < length (nodes_of us)
   number_low g q p there = slice_get_within (nodes_of us) (first_number us g + q) (Procedure g q) (procedure_number us g q p there)
 
@@ -59,25 +52,16 @@ module _ (us : List SourceUnit) (rows groups : List (List ℕ)) (heads : List He
 
   given_bounds : (a : Node) (m : Mention) (x : ℕ) → Gives us heads a m x → (length us ≤ x) × (x < length rows + length groups)
   given_bounds a m x (gives.by_call g q p e there is) = let low = number_low g q p there in (omega arith, omega (arith, parts.rows_size))
-  given_bounds a m x (gives.by_parameter k j s e is head at') = let low = head_low us heads j s (slice_get heads j) refl head in let more = nodes_more in (omega arith, omega (arith, parts.rows_size, parts.groups_size))
+  given_bounds a m x (gives.by_parameter k j s e is head at') = let low = low_head heads s j head in let more = nodes_more in (omega arith, omega (arith, parts.rows_size, parts.groups_size))
 
-  group_of_head : (j : ℕ) (s : Spec) → j < length groups → IsHead us heads j s → IsGroup us handed s (row_of groups j) (length handed)
-  group_of_head j s low head = subst (λ (o : Option Spec). GroupFits us handed o (row_of groups j)) head (parts.groups_are j low)
+  group_holds : (j x : ℕ) → StandsIn (row_of (rows ++ groups) (length rows + j)) x → (i : ℕ) × ((g : ℕ) × ((q : ℕ) × ((p : Proc) × ((slice_get handed i ≡ Some (g, q)) × ((procedure_at us g q ≡ Some p) × (IsHead heads j (spec_of p) × (x ≡ first_number us g + q)))))))
+  group_holds j x stands = (parts.groups_are j).only x (subst (λ (xs : List ℕ). StandsIn xs x) (row_right rows groups j) stands)
 
-  group_holds : (j x : ℕ) → j < length groups → StandsIn (row_of (rows ++ groups) (length rows + j)) x → (s : Spec) → IsHead us heads j s → (i : ℕ) × ((g : ℕ) × ((q : ℕ) × ((p : Proc) × ((slice_get handed i ≡ Some (g, q)) × ((procedure_at us g q ≡ Some p) × ((spec_of p ≡ s) × (x ≡ first_number us g + q)))))))
-  group_holds j x low stands s head = (group_of_head j s low head).only x (subst (λ (xs : List ℕ). StandsIn xs x) (row_right rows groups j) stands)
-
-  group_bounds_at : (j x : ℕ) → j < length groups → StandsIn (row_of (rows ++ groups) (length rows + j)) x → (n : ℕ) → (o : Option Spec) → spec_of_head us (slice_get heads j) ≡ o → (length us ≤ x) × ((x < length (rows ++ groups)) × (length (nodes_of us) ≤ n → x < length (nodes_of us)))
-  group_bounds_at j x low stands n None head =
-      let none : row_of (rows ++ groups) (length rows + j) ≡ [] = row_right rows groups j ∙ subst (λ (o : Option Spec). GroupFits us handed o (row_of groups j)) head (parts.groups_are j low) in
-      absurd (omega (arith, stands.1.0, ap length none))
-  group_bounds_at j x low stands n (Some s) head =
-      let (i, (g, (q, (p, (listed, (at', (fits, number))))))) = group_holds j x low stands s head in
+  group_bounds : (j x : ℕ) → StandsIn (row_of (rows ++ groups) (length rows + j)) x → (n : ℕ) → (length us ≤ x) × ((x < length (rows ++ groups)) × (length (nodes_of us) ≤ n → x < length (nodes_of us)))
+  group_bounds j x stands n =
+      let (i, (g, (q, (p, (listed, (at', (head, number))))))) = group_holds j x stands in
       let small = number_low g q p at' in
       (omega arith, (omega (arith, length-append rows groups, parts.rows_size), λ high. omega arith))
-
-  group_bounds : (j x : ℕ) → j < length groups → StandsIn (row_of (rows ++ groups) (length rows + j)) x → (n : ℕ) → (length us ≤ x) × ((x < length (rows ++ groups)) × (length (nodes_of us) ≤ n → x < length (nodes_of us)))
-  group_bounds j x low stands n = group_bounds_at j x low stands n (spec_of_head us (slice_get heads j)) refl
 
   -- what any row holds, and which row it is
   bounds : (n x : ℕ) → StandsIn (row_of (rows ++ groups) n) x → (length us ≤ x) × ((x < length (rows ++ groups)) × (length (nodes_of us) ≤ n → x < length (nodes_of us)))
@@ -91,13 +75,7 @@ module _ (us : List SourceUnit) (rows groups : List (List ℕ)) (heads : List He
             let j = n - length rows in
             let at' : n ≡ length rows + j = omega arith in
             let stands' = subst (λ (k : ℕ). StandsIn (row_of (rows ++ groups) k) x) at' stands in
-            elim (cases_lt j (length groups)) [
-              | inl low ↦ group_bounds j x low stands' n
-              | inr past ↦
-                  let none : row_of (rows ++ groups) (length rows + j) ≡ [] = row_right rows groups j ∙ row_past groups j past in
-                  let (k, (inside, is)) = stands' in
-                  absurd (omega (arith, ap length none))
-            ]
+            group_bounds j x stands' n
       ]
 
   pub is_whole : (bodies nodes : ℕ) → bodies ≡ length us → nodes ≡ length (nodes_of us) → IsWhole (record { bodies = bodies; nodes = nodes; rows = rows ++ groups })
@@ -125,10 +103,10 @@ module _ (us : List SourceUnit) (rows groups : List (List ℕ)) (heads : List He
       let low' : n < length rows = omega (arith, parts.rows_size) in
       let inside : k < length (mentions_of us a) = slice_get_within (mentions_of us a) k (mention.Parameter c) at' in
       let (j, (head, stands)) = ((parts.rows_are n a low' e).all k (mention.Parameter c) inside at').by_parameter c s refl spec in
-      let head' : j < length groups = let h = head_low us heads j s (slice_get heads j) refl head in omega (arith, parts.groups_size) in
+      let head' : j < length groups = let h = low_head heads s j head in omega (arith, parts.groups_size) in
       let (i, listed) = handed_listed us g q p handed' there in
       let listed' = ap (λ ps. slice_get ps i) parts.handed_are ∙ listed in
-      let member = (group_of_head j s head' head).all i g q p (slice_get_within handed i (g, q) listed') listed' there fits in
+      let member = (parts.groups_are j).all i g q p (slice_get_within handed i (g, q) listed') listed' there (ap (number_of heads) fits ∙ head) in
       let group : length rows + j ≡ length (nodes_of us) + j = omega (arith, parts.rows_size) in
       let member' = subst (λ (xs : List ℕ). StandsIn xs (first_number us g + q)) (sym (ap (row_of (rows ++ groups)) (sym group) ∙ row_right rows groups j)) member in
       (first_number us g + q, (procedure_number us g q p there, by_group (length (nodes_of us) + j) (omega arith) (omega arith) (subst (λ (xs : List ℕ). StandsIn xs (length (nodes_of us) + j)) (sym (row_left rows groups n low')) stands) member'))
@@ -140,9 +118,9 @@ module _ (us : List SourceUnit) (rows groups : List (List ℕ)) (heads : List He
   given_by_group : (a : Node) (t : Mention) (c m : ℕ) → Mentioned us a t → Gives us heads a t c → length (nodes_of us) ≤ c → StandsIn (row_of (rows ++ groups) c) m → (b : Node) × (IsNumbered us m b × Leads us a b)
   given_by_group a t c m there (gives.by_call g q p called at' is) high stands = let low = number_low g q p at' in absurd (omega arith)
   given_by_group a t c m there (gives.by_parameter k j s is spec head at') high stands =
-      let low : j < length groups = let h = head_low us heads j s (slice_get heads j) refl head in omega (arith, parts.groups_size) in
       let place : c ≡ length rows + j = omega (arith, parts.rows_size) in
-      let (i, (g, (q, (p, (listed, (at'', (fits, number))))))) = group_holds j m low (subst (λ (x : ℕ). StandsIn (row_of (rows ++ groups) x) m) place stands) s head in
+      let (i, (g, (q, (p, (listed, (at'', (its, number))))))) = group_holds j m (subst (λ (x : ℕ). StandsIn (row_of (rows ++ groups) x) m) place stands) in
+      let fits : spec_of p ≡ s = one_specification heads (spec_of p) s j its head in
       let handed' = listed_handed us i g q (ap (λ ps. slice_get ps i) (sym parts.handed_are) ∙ listed) in
       (Procedure g q, (ap (slice_get (nodes_of us)) number ∙ procedure_number us g q p at'', calls.by_parameter k s g q p (there.0, there.1 ∙ ap (λ (x : Mention). Some x) is) spec handed' at'' fits))
 

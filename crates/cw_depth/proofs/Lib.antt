@@ -3,6 +3,7 @@ pub mod OneReport
 pub mod Sorted
 pub mod Transport
 pub mod Firsts
+pub mod Heads
 pub mod Adding
 pub mod Handing
 pub mod Graphing

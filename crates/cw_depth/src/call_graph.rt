@@ -9,6 +9,7 @@ use crate::node::Node;
 use crate::numbering::first_numbers;
 use crate::rows::rows_for;
 use cw_graph::graph::Graph;
+use cw_keyed::Specifications;
 use cw_named::Definitions;
 use cw_unit::unit::Unit;
 use cw_word::{List, NoMemory};
@@ -32,7 +33,7 @@ fn add_groups(
     definitions: &Definitions,
     firsts: &[usize],
     nodes: &[Node],
-    heads: &[(Node, u8)],
+    heads: &Specifications,
     rows: List<List<usize>>,
 ) -> Result<Graph, NoMemory>
     requires few { AreFew units.now }
@@ -60,7 +61,7 @@ pub(crate) fn call_graph(alloc: Global, units: &[Unit], nodes: &[Node]) -> Resul
 {
     let definitions = Definitions::new(alloc, units)?;
     let firsts = first_numbers(alloc, units)?;
-    let mut heads = List::new(alloc);
+    let mut heads = Specifications::new(alloc);
     let rows = rows_for(
         alloc,
         units,
@@ -75,7 +76,7 @@ pub(crate) fn call_graph(alloc: Global, units: &[Unit], nodes: &[Node]) -> Resul
         &definitions,
         firsts.as_slice(),
         nodes,
-        heads.as_slice(),
+        &heads,
         rows,
     )
 }

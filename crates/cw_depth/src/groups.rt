@@ -1,20 +1,21 @@
 //! The groups of a program's graph: for each specification that is called the procedures that stand as arguments with it.
-ghost use Rattle.std.specs.Prelude.{◌≡◌, ℕ, ◌++◌, ◌<◌, length, Some, OnOk, IfOk, IsTrue, IsFalse};
-ghost use Rattle.cw_unit.specs.declared.unit.Proc.{Proc as Procedure};
+ghost use Rattle.std.specs.Prelude.{◌≡◌, ℕ, ◌++◌, ◌<◌, [], ◌∷◌, length, slice_set, OnOk, IfOk};
+ghost use Rattle.cw_graph.specs.Rows.{row_of};
+ghost use Rattle.cw_keyed.specs.Numbered.{number_of, count};
 ghost use Rattle.cw_named.specs.Meanings.{IsTableOf};
-ghost use Rattle.cw_depth.specs.CallGraph.{handed_by, segment_of, procedure_at, parameter_of, spec_of};
+ghost use Rattle.cw_depth.specs.CallGraph.{handed_by, segment_of, spec_of};
 ghost use Rattle.cw_depth.specs.Numbering.{AreFew};
-ghost use Rattle.cw_depth.specs.Building.{AreFirsts, placed, handed_in, handed_in_all, IsGroup, GroupFits, AreGroups};
+ghost use Rattle.cw_depth.specs.Building.{AreFirsts, placed, handed_in, handed_in_all, JoinGroups, AreGroups};
 
 use crate::mention::Mention;
 use crate::node::Node;
 use crate::rows::{named_in, segment_of};
-use crate::specifications::{has_spec, parameter_of, procedure_at};
+use crate::specifications::procedure_at;
 use crate::standing::mentions_of;
 use cw_graph::graph::number_at;
+use cw_keyed::Specifications;
 use cw_named::Definitions;
-use cw_unit::descriptor::Spec;
-use cw_unit::unit::Unit;
+use cw_unit::unit::{Proc, Unit};
 use cw_word::{List, NoMemory};
 use std::alloc::Global;
 
@@ -86,54 +87,74 @@ pub(crate) fn handed_in_all(
     Ok(handed)
 }
 
-// Whether there is this procedure, with this specification.
-fn fits_at(units: &[Unit], segment: usize, number: usize, spec: &Spec) -> bool
-    ensures fits { IsTrue result → (p : Procedure) × ((procedure_at units.now segment number ≡ Some p) × (spec_of p ≡ spec.now)) }
-    ensures fails { IsFalse result → (p : Procedure) → procedure_at units.now segment number ≡ Some p → spec_of p ≡ spec.now → ⊥ }
+// The head of the specification that a procedure has, if it is one.
+#[tactic(auto, using(crate::proofs::Heads::specification_is))]
+fn head_of(heads: &Specifications, procedure: &Proc) -> Result<Option<usize>, NoMemory>
+    ensures { IfOk result (λ head. head ≡ number_of heads.now (spec_of procedure.now)) }
 {
-    match procedure_at(units, segment, number) {
-        Some(procedure) => has_spec(procedure, spec),
-        None => false,
+    heads.find(procedure)
+}
+
+// Adds a number to the row of a group.
+fn add_member(groups: &mut [List<usize>], head: usize, number: usize) -> Result<(), NoMemory>
+    requires { head < length groups.old }
+    ensures { OnOk result (groups.new ≡ slice_set groups.old head (row_of groups.old head ++ number ∷ [])) }
+{
+    groups[head].push(number)
+}
+
+// Adds a procedure to the group of its specification, if there is one.
+fn join_group(
+    units: &[Unit],
+    firsts: &[usize],
+    heads: &Specifications,
+    segment: usize,
+    number: u16,
+    groups: &mut [List<usize>],
+) -> Result<(), NoMemory>
+    requires few { AreFew units.now }
+    requires firsts { AreFirsts units.now firsts.now }
+    requires size { length groups.old ≡ count heads.now }
+    ensures { OnOk result (JoinGroups units.now heads.now segment number groups.old groups.new) }
+{
+    match procedure_at(units, segment, number as usize) {
+        Some(procedure) => match head_of(heads, procedure)? {
+            Some(head) => add_member(groups, head, number_at(firsts, segment) + number as usize),
+            None => Ok(()),
+        },
+        None => Ok(()),
     }
 }
 
-fn group_for(
-    alloc: Global,
+fn empty_groups(alloc: Global, count: usize) -> Result<Vec<List<usize>>, NoMemory>
+    ensures size { IfOk result (λ groups. length groups.items ≡ count) }
+    ensures empty { IfOk result (λ groups. (j : ℕ) → row_of groups.items j ≡ []) }
+{
+    let mut groups = List::new(alloc);
+    for _ in 0..count {
+        groups.push(List::new(alloc))?;
+    }
+    Ok(groups.into_vec())
+}
+
+// The procedures that stand as arguments join the groups of their specifications.
+fn fill_groups(
     units: &[Unit],
     firsts: &[usize],
     handed: &[(usize, u16)],
-    spec: &Spec,
-) -> Result<List<usize>, NoMemory>
+    heads: &Specifications,
+    groups: &mut [List<usize>],
+) -> Result<(), NoMemory>
     requires few { AreFew units.now }
     requires firsts { AreFirsts units.now firsts.now }
-    ensures { IfOk result (λ row. IsGroup units.now handed.now spec.now row (length handed.now)) }
+    requires size { length groups.old ≡ count heads.now }
+    requires empty { (j : ℕ) → row_of groups.old j ≡ [] }
+    ensures { OnOk result (AreGroups units.now handed.now heads.now groups.new (length handed.now)) }
 {
-    let mut row = List::new(alloc);
     for (segment, number) in handed {
-        if fits_at(units, *segment, *number as usize, spec) {
-            row.push(number_at(firsts, *segment) + *number as usize)?;
-        }
+        join_group(units, firsts, heads, *segment, *number, groups)?;
     }
-    Ok(row)
-}
-
-// The group of a head, which is empty where its parameter is not there.
-fn group_of(
-    alloc: Global,
-    units: &[Unit],
-    firsts: &[usize],
-    handed: &[(usize, u16)],
-    node: Node,
-    control: u8,
-) -> Result<List<usize>, NoMemory>
-    requires few { AreFew units.now }
-    requires firsts { AreFirsts units.now firsts.now }
-    ensures { IfOk result (λ row. GroupFits units.now handed.now (parameter_of units.now node control) row) }
-{
-    match parameter_of(units, node, control) {
-        Some(spec) => group_for(alloc, units, firsts, handed, spec),
-        None => Ok(List::new(alloc)),
-    }
+    Ok(())
 }
 
 /// The groups of all heads.
@@ -142,16 +163,14 @@ pub(crate) fn groups_for(
     units: &[Unit],
     firsts: &[usize],
     handed: &[(usize, u16)],
-    heads: &[(Node, u8)],
+    heads: &Specifications,
 ) -> Result<List<List<usize>>, NoMemory>
     requires few { AreFew units.now }
     requires firsts { AreFirsts units.now firsts.now }
-    ensures size { IfOk result (λ groups. length groups ≡ length heads.now) }
-    ensures groups { IfOk result (λ groups. AreGroups units.now handed.now heads.now groups) }
+    ensures size { IfOk result (λ groups. length groups ≡ count heads.now) }
+    ensures groups { IfOk result (λ groups. AreGroups units.now handed.now heads.now groups (length handed.now)) }
 {
-    let mut groups = List::new(alloc);
-    for (node, control) in heads {
-        groups.push(group_of(alloc, units, firsts, handed, *node, *control)?)?;
-    }
-    Ok(groups)
+    let mut groups = empty_groups(alloc, heads.count())?;
+    fill_groups(units, firsts, handed, heads, groups.as_mut_slice())?;
+    Ok(List::of(groups))
 }

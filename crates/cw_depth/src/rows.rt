@@ -1,19 +1,19 @@
 //! The rows of a program's graph.
-ghost use Rattle.std.specs.Prelude.{◌≡◌, ℕ, ◌+◌, ◌++◌, ◌<◌, [], ◌∷◌, length, slice_get, OnOk, IfOk, IfSome, Some};
+ghost use Rattle.std.specs.Prelude.{◌≡◌, ℕ, ◌+◌, ◌++◌, ◌<◌, [], ◌∷◌, length, slice_get, OnOk, IfOk};
 ghost use Rattle.cw_named.specs.Meanings.{IsTableOf};
 ghost use Rattle.cw_depth.specs.declared.mention.Mention.TheVariants as mention;
-ghost use Rattle.cw_depth.specs.CallGraph.{named_by, called_by, segment_of, parameter_of, mentions_of};
+ghost use Rattle.cw_depth.specs.CallGraph.{named_by, called_by, segment_of, mentions_of};
 ghost use Rattle.cw_depth.specs.Numbering.{AreFew, nodes_of};
-ghost use Rattle.cw_depth.specs.Building.{IsHead, Extends, Adds, AreFirsts, listed, IsRowFor, AreRows};
+ghost use Rattle.cw_keyed.specs.Numbered.{Keeps};
+ghost use Rattle.cw_depth.specs.Building.{Adds, AreFirsts, listed, IsRowFor, AreRows};
 
 use crate::mention::Mention;
 use crate::node::Node;
 use crate::specifications::{parameter_of, procedure_at};
 use crate::standing::mentions_of;
 use cw_graph::graph::number_at;
+use cw_keyed::Specifications;
 use cw_named::Definitions;
-use cw_unit::descriptor::Spec;
-use cw_unit::same::same_spec;
 use cw_unit::unit::Unit;
 use cw_word::{List, NoMemory};
 use std::alloc::Global;
@@ -48,42 +48,6 @@ pub(crate) fn add_procedure(
     }
 }
 
-// A head of a specification, if there is one.
-fn find_head(units: &[Unit], heads: &[(Node, u8)], spec: &Spec) -> Option<usize>
-    ensures { IfSome result (λ j. IsHead units.now heads.now j spec.now) }
-{
-    for (j, (node, control)) in heads.iter().enumerate() {
-        if let Some(other) = parameter_of(units, *node, *control) {
-            if same_spec(other, spec) {
-                return Some(j);
-            }
-        }
-    }
-    None
-}
-
-// The head of the specification of a parameter, which is a new one if there is none.
-fn head_for(
-    units: &[Unit],
-    heads: &mut List<(Node, u8)>,
-    node: Node,
-    control: u8,
-    spec: &Spec,
-) -> Result<usize, NoMemory>
-    requires { parameter_of units.now node control ≡ Some spec.now }
-    ensures head { IfOk result (λ j. IsHead units.now heads.new j spec.now) }
-    ensures extends { OnOk result (Extends heads.old heads.new) }
-{
-    match find_head(units, heads.as_slice(), spec) {
-        Some(head) => Ok(head),
-        None => {
-            let head = heads.as_slice().len();
-            heads.push((node, control))?;
-            Ok(head)
-        }
-    }
-}
-
 // Adds the number of a head behind those of the nodes. One past the range of numbers would be of a list that no memory holds.
 fn add_group(count: usize, head: usize, row: &mut List<usize>) -> Result<(), NoMemory>
     ensures { OnOk result (row.new ≡ row.old ++ (count + head) ∷ []) }
@@ -97,7 +61,7 @@ fn add_group(count: usize, head: usize, row: &mut List<usize>) -> Result<(), NoM
 fn add_parameter(
     units: &[Unit],
     count: usize,
-    heads: &mut List<(Node, u8)>,
+    heads: &mut Specifications,
     node: Node,
     control: u8,
     row: &mut List<usize>,
@@ -107,7 +71,7 @@ fn add_parameter(
 {
     match parameter_of(units, node, control) {
         Some(spec) => {
-            let head = head_for(units, heads, node, control, spec)?;
+            let head = heads.number(spec)?;
             add_group(count, head, row)
         }
         None => Ok(()),
@@ -135,7 +99,7 @@ fn add_mention(
     definitions: &Definitions,
     firsts: &[usize],
     count: usize,
-    heads: &mut List<(Node, u8)>,
+    heads: &mut Specifications,
     node: Node,
     mention: Mention,
     row: &mut List<usize>,
@@ -166,7 +130,7 @@ pub(crate) fn row_for(
     definitions: &Definitions,
     firsts: &[usize],
     count: usize,
-    heads: &mut List<(Node, u8)>,
+    heads: &mut Specifications,
     node: Node,
 ) -> Result<List<usize>, NoMemory>
     requires few { AreFew units.now }
@@ -174,7 +138,7 @@ pub(crate) fn row_for(
     requires firsts { AreFirsts units.now firsts.now }
     requires count { count ≡ length (nodes_of units.now) }
     ensures row { IfOk result (λ row. IsRowFor units.now heads.new node row (length (mentions_of units.now node))) }
-    ensures extends { OnOk result (Extends heads.old heads.new) }
+    ensures extends { OnOk result (Keeps heads.old heads.new) }
 {
     let mentions = mentions_of(alloc, units, node)?;
     let mut row = List::new(alloc);
@@ -200,7 +164,7 @@ pub(crate) fn rows_for(
     definitions: &Definitions,
     firsts: &[usize],
     nodes: &[Node],
-    heads: &mut List<(Node, u8)>,
+    heads: &mut Specifications,
 ) -> Result<List<List<usize>>, NoMemory>
     requires few { AreFew units.now }
     requires table { IsTableOf units.now definitions.now }

@@ -1,48 +1,10 @@
-//! Specifications of procedures and of procedure parameters.
-ghost use Rattle.std.specs.Prelude.{◌≡◌, ◌↔◌, map, Some, None, IsTrue, MatchOption, slice_get};
-ghost use Rattle.cw_depth.specs.CallGraph.{taken_by, spec_of, spec_in, procedure_at, parameter_of};
+//! Procedures, and the specifications of procedure parameters.
+ghost use Rattle.std.specs.Prelude.{◌≡◌, Some, None, MatchOption};
+ghost use Rattle.cw_depth.specs.CallGraph.{spec_in, procedure_at, parameter_of};
 
 use crate::node::Node;
-use cw_unit::descriptor::{Spec, SpecParam};
-use cw_unit::same::same_spec;
+use cw_unit::descriptor::Spec;
 use cw_unit::unit::{Param, Proc, Unit};
-
-fn fits_parameter(parameter: &Param, taken: &SpecParam) -> bool
-    ensures { IsTrue result ↔ (taken_by parameter.now ≡ taken.now) }
-{
-    match (parameter, taken) {
-        (Param::Value(_, s), SpecParam::Value(t)) => s == t,
-        (Param::Location(_, s), SpecParam::Location(t)) => s == t,
-        (Param::Array(_, s), SpecParam::Array(t)) => s == t,
-        (Param::Table(_, n), SpecParam::Table(m)) => n == m,
-        (Param::Label(_), SpecParam::Label) => true,
-        (Param::Switch(_), SpecParam::Switch) => true,
-        (Param::Proc(_, s), SpecParam::Proc(t)) => same_spec(s, t),
-        _ => false,
-    }
-}
-
-fn fit_parameters(parameters: &[Param], taken: &[SpecParam]) -> bool
-    ensures { IsTrue result ↔ (map taken_by parameters.now ≡ taken.now) }
-{
-    if parameters.len() != taken.len() {
-        return false;
-    }
-    for i in 0..parameters.len() {
-        if !fits_parameter(&parameters[i], &taken[i]) {
-            return false;
-        }
-    }
-    true
-}
-
-/// Whether a procedure has this specification.
-pub(crate) fn has_spec(procedure: &Proc, spec: &Spec) -> bool
-    ensures { IsTrue result ↔ (spec_of procedure.now ≡ spec.now) }
-{
-    procedure.answer == spec.answer
-        && fit_parameters(procedure.params.as_slice(), spec.params.as_slice())
-}
 
 /// A procedure of the program, if it is there.
 pub(crate) fn procedure_at(units: &[Unit], segment: usize, number: usize) -> Option<&Proc>

@@ -17,6 +17,6 @@ loop-mention-preserved c =
     let are : items ≡ mentions_of us a = c.as_slice-mention-items.ensures ∙ c.in_ok-mentions.ensures in
     let at' = slice_get-get_or items i (Own 0) c.loop-mention-test.true in
     record {
-      row = row_more us c.loop-mention.heads _ a _ c.loop-mention.row _ i (sym (ap (λ (xs : List Mention). slice_get xs i) are) ∙ at') c.loop-mention.invariant.row adds;
-      extends = extends_then _ c.loop-mention.heads _ c.loop-mention.invariant.extends adds.extends;
+      row = row_more us c.loop-mention.heads c.add_mention.new.heads a _ c.loop-mention.row _ i (sym (ap (λ (xs : List Mention). slice_get xs i) are) ∙ at') c.loop-mention.invariant.row adds;
+      extends = extends_then c.args.heads.now c.loop-mention.heads c.add_mention.new.heads c.loop-mention.invariant.extends adds.extends;
     }

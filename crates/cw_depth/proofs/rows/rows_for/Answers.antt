@@ -16,5 +16,5 @@ loop-node-preserved c =
     let size : i ≡ length c.loop-node.rows = sym c.loop-node.invariant.size in
     record {
       size = grind (arith, common_steps);
-      rows = rows_more us c.loop-node.heads _ c.loop-node.rows _ _ _ c.in_ok-row_for.ensures.extends c.loop-node.invariant.rows (ap (slice_get (nodes_of us)) (sym size) ∙ sym (ap (λ (xs : List Node). slice_get xs i) c.requires.nodes) ∙ at') c.in_ok-row_for.ensures.row c.in_ok-push.ensures.ok;
+      rows = rows_more us c.loop-node.heads c.row_for.new.heads c.loop-node.rows _ _ _ c.in_ok-row_for.ensures.extends c.loop-node.invariant.rows (ap (slice_get (nodes_of us)) (sym size) ∙ sym (ap (λ (xs : List Node). slice_get xs i) c.requires.nodes) ∙ at') c.in_ok-row_for.ensures.row c.in_ok-push.ensures.ok;
     }

@@ -1,0 +1,4 @@
+pub mod Layers
+pub mod Alone
+pub mod Positions
+pub mod Numbers
