@@ -1,5 +1,5 @@
 -- Code that is put together from parts: lists of orders, the way of a loop, and switches.
-use Rattle.std.proofs.Common.{get_or, suc, ◌<◌, ◌≡◌, ℕ, ◌+◌, ◌*◌, List, [], ◌∷◌, ◌++◌, length, drop, drop-cons, sym, ap, ap₂, ◌∙◌, subst, append_assoc, arith, length-append}
+use Rattle.std.proofs.Common.{get_or, suc, ◌<◌, ◌≡◌, ℕ, ◌+◌, ◌*◌, List, [], ◌∷◌, ◌++◌, length, drop, drop-cons, sym, ap, ap₂, ◌∙◌, subst, append_assoc, arith, length-append, ℤ}
 use Rattle.cw_i86.specs.declared.instr.Instr.{Instr}
 use Rattle.cw_i86.specs.declared.instr.Instr.TheVariants as i86
 use Rattle.cw_unit.specs.declared.unit.Goal.{Goal}
@@ -14,12 +14,15 @@ use Rattle.cw_tmpl.specs.declared.pieces.Target.{Target}
 use Rattle.cw_tmpl.specs.declared.pieces.Target.TheVariants as target
 use Rattle.cw_tmpl.specs.declared.pieces.Coded.{Coded}
 use Rattle.cw_tmpl.specs.declared.pieces.Coded.TheVariants as coded
-use Rattle.cw_tmpl.specs.Mnemonics.{argument, load, double, move, set_word, subtract, jump_if_below}
+use Rattle.cw_run86.specs.Views.{with_number}
+use Rattle.cw_tmpl.specs.Mnemonics.{argument, load, double, move, set_word, subtract, jump_if_below, jump_if_not_less, jump_if_at_most}
+use Rattle.cw_word.specs.Word.{unsigned}
+use Rattle.cw_tmpl.specs.Library.{switch_entry, bounds_entry}
 use Rattle.cw_tmpl.specs.Names.{Names, no_names, own, switch_size}
 use Rattle.cw_tmpl.specs.Blocks.{block_at, orders_left}
 use Rattle.cw_tmpl.specs.Pieces.{blanks, relocations}
 use Rattle.cw_order.specs.declared.order.Order.TheVariants as order
-use Rattle.cw_tmpl.specs.Templates.{template, back_jump, distance, number_compared, goal_words, mark_words, loop_way, switch_pieces, block_pieces, block_size, entry_pieces}
+use Rattle.cw_tmpl.specs.Templates.{template, back_jump, distance, number_compared, goal_words, mark_words, loop_way, switch_pieces, in_bounds, block_pieces, block_size, entry_pieces}
 use Rattle.cw_tmpl.specs.ReferenceCode.{templates, landings, switches, places_from, entry_size, landings_place, switches_place, names_of, pieces_of}
 use Rattle.cw_tmpl.proofs.Sizes.{size_everywhere, size_of_switch, size_of_templates, size_of_landings, landings_at}
 use Rattle.cw_tmpl.proofs.Growing.{adds_then, Coming, coming_more}
@@ -36,26 +39,26 @@ item_first xs k x lt is =
 -- ---- tables
 
 pub switch_added : (old one two new : Assembly) (n : ℕ) (i1 i2 i3 i4 i5 i6 : Instr) (t : Target) (names : Names) (goals : List Goal) → Adds old (number_compared n) one → n ≡ length goals
-    → i1 ≡ jump_if_below 3 → i2 ≡ double 3 → i3 ≡ move 5 7 → i4 ≡ move 4 5 → i5 ≡ set_word 0 10 → i6 ≡ subtract 4 0 → t ≡ own (length old.bytes + 29)
-    → Adds one (coded.Whole i1 ∷ coded.Call (target.LibraryAhead 4) ∷ coded.Whole i2 ∷ coded.Whole i3 ∷ coded.Whole i4 ∷ coded.Whole i5 ∷ coded.Whole i6 ∷ coded.Way t ∷ []) two
+    → i1 ≡ jump_if_below 3 → i2 ≡ double 3 → i3 ≡ move 5 6 → i4 ≡ move 4 5 → i5 ≡ set_word 0 8 → i6 ≡ subtract 4 0 → t ≡ own (length old.bytes + 29)
+    → Adds one (coded.Whole i1 ∷ coded.Call (target.LibraryAhead switch_entry) ∷ coded.Whole i2 ∷ coded.Whole i3 ∷ coded.Whole i4 ∷ coded.Whole i5 ∷ coded.Whole i6 ∷ coded.Way t ∷ []) two
     → Adds two (goal_words names goals) new → Adds old (switch_pieces names (length old.bytes) goals) new
 switch_added old one two new n i1 i2 i3 i4 i5 i6 t names goals a en e1 e2 e3 e4 e5 e6 et b d =
     let T = own (length old.bytes + 29) in
     let first : number_compared n ≡ number_compared (length goals) = ap number_compared en in
-    let second : coded.Whole i1 ∷ coded.Call (target.LibraryAhead 4) ∷ coded.Whole i2 ∷ coded.Whole i3 ∷ coded.Whole i4 ∷ coded.Whole i5 ∷ coded.Whole i6 ∷ coded.Way t ∷ []
-    ≡ coded.Whole (jump_if_below 3) ∷ coded.Call (target.LibraryAhead 4) ∷ coded.Whole (double 3) ∷ coded.Whole (move 5 7) ∷ coded.Whole (move 4 5) ∷ coded.Whole (set_word 0 10) ∷ coded.Whole (subtract 4 0) ∷ coded.Way T ∷ [] = cc in
+    let second : coded.Whole i1 ∷ coded.Call (target.LibraryAhead switch_entry) ∷ coded.Whole i2 ∷ coded.Whole i3 ∷ coded.Whole i4 ∷ coded.Whole i5 ∷ coded.Whole i6 ∷ coded.Way t ∷ []
+    ≡ coded.Whole (jump_if_below 3) ∷ coded.Call (target.LibraryAhead switch_entry) ∷ coded.Whole (double 3) ∷ coded.Whole (move 5 6) ∷ coded.Whole (move 4 5) ∷ coded.Whole (set_word 0 8) ∷ coded.Whole (subtract 4 0) ∷ coded.Way T ∷ [] = cc in
     adds_then old one new (number_compared (length goals)) _ (as_pieces old one (number_compared n) (number_compared (length goals)) first a)
     (adds_then one two new _ (goal_words names goals) (as_pieces one two _ _ second b) d)
 
 pub loop_added : (old one two new : Assembly) (n w : ℕ) (i1 i2 : Instr) (t : Target) (names : Names) (marks : List ℕ) → Adds old (number_compared n) one → n ≡ length marks
-    → w ≡ distance (length old.bytes + 14) (length old.bytes + 21 + 2 * length marks) → i1 ≡ double 3 → i2 ≡ jump_if_below 3 → t ≡ own (length old.bytes + 21)
-    → Adds one (coded.Whole (i86.Pop 0) ∷ coded.Whole i2 ∷ coded.Whole (i86.Jump w) ∷ coded.Whole i1 ∷ coded.Way t ∷ []) two
+    → w ≡ distance (length old.bytes + 13) (length old.bytes + 20 + 2 * length marks) → i1 ≡ double 3 → i2 ≡ jump_if_below 3 → t ≡ own (length old.bytes + 20)
+    → Adds one (coded.Whole i2 ∷ coded.Whole (i86.Jump w) ∷ coded.Whole i1 ∷ coded.Way t ∷ []) two
     → Adds two (mark_words names marks) new → Adds old (loop_way names (length old.bytes) marks) new
 loop_added old one two new n w i1 i2 t names marks a en ew e1 e2 et b d =
-    let W = distance (length old.bytes + 14) (length old.bytes + 21 + 2 * length marks) in
-    let T = own (length old.bytes + 21) in
+    let W = distance (length old.bytes + 13) (length old.bytes + 20 + 2 * length marks) in
+    let T = own (length old.bytes + 20) in
     let first : number_compared n ≡ number_compared (length marks) = ap number_compared en in
-    let second : coded.Whole (i86.Pop 0) ∷ coded.Whole i2 ∷ coded.Whole (i86.Jump w) ∷ coded.Whole i1 ∷ coded.Way t ∷ [] ≡ coded.Whole (i86.Pop 0) ∷ coded.Whole (jump_if_below 3) ∷ coded.Whole (i86.Jump W) ∷ coded.Whole (double 3) ∷ coded.Way T ∷ [] = cc in
+    let second : coded.Whole i2 ∷ coded.Whole (i86.Jump w) ∷ coded.Whole i1 ∷ coded.Way t ∷ [] ≡ coded.Whole (jump_if_below 3) ∷ coded.Whole (i86.Jump W) ∷ coded.Whole (double 3) ∷ coded.Way T ∷ [] = cc in
     adds_then old one new (number_compared (length marks)) _ (as_pieces old one (number_compared n) (number_compared (length marks)) first a)
     (adds_then one two new _ (mark_words names marks) (as_pieces one two _ _ second b) d)
 
@@ -126,8 +129,23 @@ whole_from a b c d bytes relocs o names ls ms ss eb er el em es same ha hb hc hd
 
 -- ---- a call of a procedure parameter
 
-pub special_added : (old one new : Assembly) (k : ℕ) (i : Instr) (t : Target) → Adds old (coded.Whole (i86.Push 0) ∷ coded.Whole i ∷ []) one → i ≡ load 0 (argument k) → t ≡ own (length old.bytes + 11) → Adds one (back_jump t) new
-    → Adds old (template no_names (length old.bytes) (order.CallSpecial k)) new
-special_added old one new k i t a e et b =
-    let first : coded.Whole (i86.Push 0) ∷ coded.Whole i ∷ [] ≡ coded.Whole (i86.Push 0) ∷ coded.Whole (load 0 (argument k)) ∷ [] = ap (λ x. coded.Whole (i86.Push 0) ∷ coded.Whole x ∷ []) e in
-    adds_then old one new (coded.Whole (i86.Push 0) ∷ coded.Whole (load 0 (argument k)) ∷ []) (back_jump (own (length old.bytes + 11))) (as_pieces old one _ _ first a) (as_pieces one new (back_jump t) (back_jump (own (length old.bytes + 11))) (ap back_jump et) b)
+pub special_added : (old one new : Assembly) (k line : ℕ) (i1 i2 : Instr) (t : Target) → Adds old (coded.Whole i1 ∷ coded.Whole i2 ∷ []) one → i1 ≡ set_word 2 line → i2 ≡ load 0 (argument k) → t ≡ own (length old.bytes + 13)
+    → Adds one (back_jump t) new → Adds old (template no_names (length old.bytes) (order.CallSpecial k line)) new
+special_added old one new k line i1 i2 t a e1 e2 et b =
+    let first : coded.Whole i1 ∷ coded.Whole i2 ∷ [] ≡ coded.Whole (set_word 2 line) ∷ coded.Whole (load 0 (argument k)) ∷ [] = cc in
+    adds_then old one new (coded.Whole (set_word 2 line) ∷ coded.Whole (load 0 (argument k)) ∷ []) (back_jump (own (length old.bytes + 13))) (as_pieces old one _ _ first a) (as_pieces one new (back_jump t) (back_jump (own (length old.bytes + 13))) (ap back_jump et) b)
+
+-- ---- an index between two bounds
+
+pub bounds_added : (old new : Assembly) (line low high : ℕ) (lower upper : ℤ) (i1 i2 i3 i4 : Instr) → low ≡ unsigned lower → high ≡ unsigned upper
+    → i1 ≡ with_number 7 low → i2 ≡ jump_if_not_less 5 → i3 ≡ with_number 7 high → i4 ≡ jump_if_at_most 5
+    → Adds old (coded.Whole i1 ∷ coded.Whole i2 ∷ coded.Call (target.LibraryAhead bounds_entry) ∷ coded.Data line ∷ coded.Whole i3 ∷ coded.Whole i4 ∷ coded.Call (target.LibraryAhead bounds_entry) ∷ coded.Data line ∷ []) new
+    → Adds old (in_bounds line lower upper) new
+bounds_added old new line low high lower upper i1 i2 i3 i4 el eh e1 e2 e3 e4 a =
+    let S = coded.Call (target.LibraryAhead bounds_entry) in
+    let D = coded.Data line in
+    let same : coded.Whole i1 ∷ coded.Whole i2 ∷ S ∷ D ∷ coded.Whole i3 ∷ coded.Whole i4 ∷ S ∷ D ∷ []
+    ≡ coded.Whole (with_number 7 low) ∷ coded.Whole (jump_if_not_less 5) ∷ S ∷ D ∷ coded.Whole (with_number 7 high) ∷ coded.Whole (jump_if_at_most 5) ∷ S ∷ D ∷ [] = cc in
+    let words : coded.Whole (with_number 7 low) ∷ coded.Whole (jump_if_not_less 5) ∷ S ∷ D ∷ coded.Whole (with_number 7 high) ∷ coded.Whole (jump_if_at_most 5) ∷ S ∷ D ∷ [] ≡ in_bounds line lower upper =
+    ap₂ (λ x y. coded.Whole (with_number 7 x) ∷ coded.Whole (jump_if_not_less 5) ∷ S ∷ D ∷ coded.Whole (with_number 7 y) ∷ coded.Whole (jump_if_at_most 5) ∷ S ∷ D ∷ []) el eh in
+    as_pieces old new _ (in_bounds line lower upper) (same ∙ words) a

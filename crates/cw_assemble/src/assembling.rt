@@ -13,7 +13,6 @@ use crate::places::{
     switch_places, switches_place,
 };
 use cw_order::{LabelMark, Order, Orders};
-use cw_tmpl::instructions::{AX, BX, CX, DX};
 use cw_tmpl::library::START;
 use cw_tmpl::{Assembly, Code, Coded, Limit, Names, Target, block_in, orders_left};
 use cw_unit::unit::Goal;
@@ -25,23 +24,11 @@ fn put_entry(code: &mut Assembly) -> Result<(), NoMemory>
     ensures { OnOk result (Adds code.old entry_pieces code.new) }
 {
     code.put_all(&[
-        Coded::Move {
-            reg: AX,
-            target: Target::Limit(Limit::DataWords),
-        },
-        Coded::Move {
-            reg: BX,
-            target: Target::Limit(Limit::FrameWords),
-        },
-        Coded::Move {
-            reg: CX,
-            target: Target::Limit(Limit::Calls),
-        },
-        Coded::Move {
-            reg: DX,
-            target: Target::Limit(Limit::Segment),
-        },
         Coded::Call(Target::LibraryAhead(START)),
+        Coded::Word(Target::Limit(Limit::DataWords)),
+        Coded::Word(Target::Limit(Limit::FrameWords)),
+        Coded::Word(Target::Limit(Limit::Calls)),
+        Coded::Word(Target::Limit(Limit::Segment)),
     ])
 }
 

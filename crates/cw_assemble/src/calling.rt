@@ -5,46 +5,50 @@ ghost use Rattle.cw_tmpl.specs.Assembling.{Adds};
 ghost use Rattle.cw_tmpl.specs.declared.blocks.Block.TheVariants as block;
 ghost use Rattle.cw_tmpl.specs.Mnemonics.{field};
 ghost use Rattle.cw_tmpl.specs.Names.{no_names};
-ghost use Rattle.cw_tmpl.specs.Templates.{template, block_pieces, call_near, back_jump, control_out, return_with, read_byte};
+ghost use Rattle.cw_tmpl.specs.Templates.{template, block_pieces, call_near, back_jump, control_out, return_with};
 
 use crate::jumping::distance;
 use cw_i86::{Instr, Rm};
 use cw_tmpl::instructions::{
-    AT_BX, AX, BASE, BP, BX, CX, DX, SI, SP, add, argument, compare, copy, double, field,
-    jump_if_unequal, jump_to, load, negate, set_word, store, with_number,
+    AX, BASE, BP, BX, CX, DX, SP, argument, copy, double, field, jump_to, load, set_word, store,
+    with_number,
 };
-use cw_tmpl::library::ENTER;
+use cw_tmpl::library::{ENTER, READ};
 use cw_tmpl::{Assembly, Coded, Limit, Target, own};
 use cw_word::NoMemory;
 
 /// Adds a call of a procedure of this segment.
-pub(crate) fn put_call(code: &mut Assembly, to: u64) -> Result<(), NoMemory>
-    ensures { OnOk result (Adds code.old (call_near (length code.old.bytes) to) code.new) }
+pub(crate) fn put_call(code: &mut Assembly, line: u16, to: u64) -> Result<(), NoMemory>
+    ensures { OnOk result (Adds code.old (call_near line (length code.old.bytes) to) code.new) }
 {
-    let behind = code.bytes.as_slice().len() + 4;
+    let behind = code.bytes.as_slice().len() + 6;
     code.put_all(&[
-        Coded::Whole(Instr::Push(AX)),
+        Coded::Whole(set_word(DX, line)),
         Coded::Whole(Instr::Call(distance(behind, to))),
     ])
 }
 
 /// Adds a call of the procedure of a descriptor.
-pub(crate) fn put_call_common(code: &mut Assembly, descriptor: u16) -> Result<(), NoMemory>
-    ensures { OnOk result (Adds code.old (template no_names 0 (order.CallCommon descriptor)) code.new) }
+pub(crate) fn put_call_common(
+    code: &mut Assembly,
+    line: u16,
+    descriptor: u16,
+) -> Result<(), NoMemory>
+    ensures { OnOk result (Adds code.old (template no_names 0 (order.CallCommon descriptor line)) code.new) }
 {
     code.put_all(&[
-        Coded::Whole(Instr::Push(AX)),
+        Coded::Whole(set_word(DX, line)),
         Coded::Call(Target::DefinitionAhead(descriptor)),
     ])
 }
 
 /// Adds a call of a procedure parameter.
-pub(crate) fn put_call_special(code: &mut Assembly, words: u8) -> Result<(), NoMemory>
-    ensures { OnOk result (Adds code.old (template no_names (length code.old.bytes) (order.CallSpecial words)) code.new) }
+pub(crate) fn put_call_special(code: &mut Assembly, line: u16, words: u8) -> Result<(), NoMemory>
+    ensures { OnOk result (Adds code.old (template no_names (length code.old.bytes) (order.CallSpecial words line)) code.new) }
 {
-    let behind = own(code.bytes.as_slice().len() as u64 + 11);
+    let behind = own(code.bytes.as_slice().len() as u64 + 13);
     code.put_all(&[
-        Coded::Whole(Instr::Push(AX)),
+        Coded::Whole(set_word(DX, line)),
         Coded::Whole(load(AX, argument(u16::from(words)))),
     ])?;
     put_back_jump(code, behind)
@@ -71,12 +75,8 @@ pub(crate) fn put_enter(code: &mut Assembly, size: u16) -> Result<(), NoMemory>
     code.put_all(&[
         Coded::Whole(set_word(AX, size)),
         Coded::Move {
-            reg: DX,
+            reg: CX,
             target: Target::Limit(Limit::Segment),
-        },
-        Coded::Move {
-            reg: BX,
-            target: Target::Limit(Limit::DataWords),
         },
         Coded::Call(Target::LibraryAhead(ENTER)),
     ])
@@ -92,12 +92,8 @@ pub(crate) fn put_bind(
     ensures { OnOk result (Adds code.old (template no_names 0 (order.Bind words family offset)) code.new) }
 {
     code.put_all(&[
-        Coded::Whole(load(CX, argument(u16::from(words)))),
-        Coded::Move {
-            reg: BX,
-            target: Target::Bytes { family, offset },
-        },
-        Coded::Whole(store(AT_BX, CX)),
+        Coded::Whole(load(AX, argument(u16::from(words)))),
+        Coded::Store(Target::Bytes { family, offset }),
     ])
 }
 
@@ -126,7 +122,6 @@ pub(crate) fn put_fetch_frame(code: &mut Assembly, offset: u16) -> Result<(), No
     ensures { OnOk result (Adds code.old (block_pieces no_names 0 (block.FetchFrame offset) order.Load) code.new) }
 {
     code.put_all(&[
-        Coded::Whole(Instr::Push(AX)),
         Coded::Whole(load(BX, BASE)),
         Coded::Whole(double(BX)),
         Coded::Whole(load(AX, frame_field(offset))),
@@ -141,34 +136,18 @@ pub(crate) fn put_assign_frame(code: &mut Assembly, offset: u16) -> Result<(), N
         Coded::Whole(load(BX, BASE)),
         Coded::Whole(double(BX)),
         Coded::Whole(store(frame_field(offset), AX)),
-        Coded::Whole(Instr::Pop(AX)),
     ])
 }
 
 /// Adds the way back to the caller.
-pub(crate) fn put_return(code: &mut Assembly, arguments: u8, answers: bool) -> Result<(), NoMemory>
-    ensures { OnOk result (Adds code.old (return_with answers arguments) code.new) }
+pub(crate) fn put_return(code: &mut Assembly, arguments: u8) -> Result<(), NoMemory>
+    ensures { OnOk result (Adds code.old (return_with arguments) code.new) }
 {
-    if answers {
-        code.put_all(&[
-            Coded::Whole(copy(SP, BP)),
-            Coded::Whole(Instr::Pop(BP)),
-            Coded::Whole(Instr::Pop(SI)),
-            Coded::Whole(set_word(BX, 2 * u16::from(arguments))),
-            Coded::Whole(add(SP, BX)),
-            Coded::Whole(jump_to(SI)),
-        ])
-    } else {
-        code.put_all(&[
-            Coded::Whole(copy(SP, BP)),
-            Coded::Whole(Instr::Pop(BP)),
-            Coded::Whole(Instr::Pop(SI)),
-            Coded::Whole(set_word(BX, 2 * u16::from(arguments))),
-            Coded::Whole(add(SP, BX)),
-            Coded::Whole(Instr::Pop(AX)),
-            Coded::Whole(jump_to(SI)),
-        ])
-    }
+    code.put_all(&[
+        Coded::Whole(copy(SP, BP)),
+        Coded::Whole(Instr::Pop(BP)),
+        Coded::Whole(Instr::RetAdd(2 * u16::from(arguments))),
+    ])
 }
 
 /// Adds a control argument: the record at work, and a place.
@@ -176,9 +155,9 @@ pub(crate) fn put_control(code: &mut Assembly, target: Target) -> Result<(), NoM
     ensures { OnOk result (Adds code.old (control_out target) code.new) }
 {
     code.put_all(&[
-        Coded::Whole(Instr::Push(AX)),
         Coded::Whole(Instr::Push(BP)),
         Coded::Move { reg: AX, target },
+        Coded::Whole(Instr::Push(AX)),
     ])
 }
 
@@ -187,10 +166,10 @@ pub(crate) fn put_special_out(code: &mut Assembly, words: u8) -> Result<(), NoMe
     ensures { OnOk result (Adds code.old (template no_names 0 (order.SpecialOut words)) code.new) }
 {
     code.put_all(&[
-        Coded::Whole(Instr::Push(AX)),
         Coded::Whole(load(AX, argument(u16::from(words) + 1))),
         Coded::Whole(Instr::Push(AX)),
         Coded::Whole(load(AX, argument(u16::from(words)))),
+        Coded::Whole(Instr::Push(AX)),
     ])
 }
 
@@ -199,7 +178,6 @@ pub(crate) fn put_frame_home(code: &mut Assembly, offset: u16) -> Result<(), NoM
     ensures { OnOk result (Adds code.old (template no_names 0 (order.FrameHome offset)) code.new) }
 {
     code.put_all(&[
-        Coded::Whole(Instr::Push(AX)),
         Coded::Whole(load(AX, BASE)),
         Coded::Whole(with_number(0, offset)),
     ])
@@ -207,17 +185,7 @@ pub(crate) fn put_frame_home(code: &mut Assembly, offset: u16) -> Result<(), NoM
 
 /// Adds the next byte of the input.
 pub(crate) fn put_read_byte(code: &mut Assembly) -> Result<(), NoMemory>
-    ensures { OnOk result (Adds code.old read_byte code.new) }
+    ensures { OnOk result (Adds code.old (template no_names 0 order.ReadByte) code.new) }
 {
-    code.put_all(&[
-        Coded::Whole(Instr::Push(AX)),
-        Coded::Whole(set_word(AX, 0)),
-        Coded::Whole(set_word(BX, 0)),
-        Coded::Whole(Instr::In(0x11)),
-        Coded::Whole(compare(AX, BX)),
-        Coded::Whole(jump_if_unequal(4)),
-        Coded::Whole(Instr::In(0x10)),
-        Coded::Whole(Instr::JumpShort(2)),
-        Coded::Whole(negate(AX)),
-    ])
+    code.put_all(&[Coded::Call(Target::LibraryAhead(READ))])
 }

@@ -9,8 +9,8 @@ ghost use Rattle.cw_tmpl.specs.Templates.{template, past_limit, number_compared,
 use cw_i86::Instr;
 use cw_order::{Comparator, LabelMark};
 use cw_tmpl::instructions::{
-    AX, BASE_OPERANDS, BASE_RECORD, BP, BX, DI, RECORD_DEPTH, SEGMENT, SP, argument, compare, copy,
-    double, jump_if_below, jump_to, load, set_word, store, subtract, with_number,
+    AX, BASE_OPERANDS, BASE_RECORD, BP, BX, DX, RECORD_DEPTH, SEGMENT, SI, SP, argument, compare,
+    copy, double, jump_if_below, jump_to, load, set_word, store, subtract, with_number,
 };
 use cw_tmpl::library::{EXHAUSTED, SWITCH};
 use cw_tmpl::{Assembly, Coded, Limit, Names, Target, own};
@@ -56,11 +56,10 @@ pub(crate) fn put_jump_if(
 ) -> Result<(), NoMemory>
     ensures { OnOk result (Adds code.old (jump_where comparator (length code.old.bytes) to) code.new) }
 {
-    let end = code.bytes.as_slice().len() + 9;
+    let end = code.bytes.as_slice().len() + 8;
     code.put_all(&[
         Coded::Whole(Instr::Pop(BX)),
         Coded::Whole(compare(BX, AX)),
-        Coded::Whole(Instr::Pop(AX)),
         Coded::Whole(Instr::JumpIf {
             cond: opposite(comparator),
             by: 3,
@@ -112,32 +111,43 @@ pub(crate) fn put_go_special(code: &mut Assembly, words: u8) -> Result<(), NoMem
 }
 
 /// Adds the way to the routine of a switch of this segment.
-pub(crate) fn put_go_switch(code: &mut Assembly, to: u64) -> Result<(), NoMemory>
-    ensures { OnOk result (Adds code.old (switch_near (length code.old.bytes) to) code.new) }
+pub(crate) fn put_go_switch(code: &mut Assembly, line: u16, to: u64) -> Result<(), NoMemory>
+    ensures { OnOk result (Adds code.old (switch_near line (length code.old.bytes) to) code.new) }
 {
-    let end = code.bytes.as_slice().len() + 5;
+    let end = code.bytes.as_slice().len() + 8;
     code.put_all(&[
-        Coded::Whole(copy(DI, BP)),
+        Coded::Whole(set_word(DX, line)),
+        Coded::Whole(copy(SI, BP)),
         Coded::Whole(Instr::Jump(distance(end, to))),
     ])
 }
 
 /// Adds the way to the switch of a descriptor.
-pub(crate) fn put_go_switch_common(code: &mut Assembly, descriptor: u16) -> Result<(), NoMemory>
-    ensures { OnOk result (Adds code.old (template no_names 0 (order.GoSwitchCommon descriptor)) code.new) }
+pub(crate) fn put_go_switch_common(
+    code: &mut Assembly,
+    line: u16,
+    descriptor: u16,
+) -> Result<(), NoMemory>
+    ensures { OnOk result (Adds code.old (template no_names 0 (order.GoSwitchCommon descriptor line)) code.new) }
 {
     code.put_all(&[
-        Coded::Whole(copy(DI, BP)),
+        Coded::Whole(set_word(DX, line)),
+        Coded::Whole(copy(SI, BP)),
         Coded::Jump(Target::DefinitionAhead(descriptor)),
     ])
 }
 
 /// Adds the way to a switch parameter.
-pub(crate) fn put_go_switch_special(code: &mut Assembly, words: u8) -> Result<(), NoMemory>
-    ensures { OnOk result (Adds code.old (template no_names 0 (order.GoSwitchSpecial words)) code.new) }
+pub(crate) fn put_go_switch_special(
+    code: &mut Assembly,
+    line: u16,
+    words: u8,
+) -> Result<(), NoMemory>
+    ensures { OnOk result (Adds code.old (template no_names 0 (order.GoSwitchSpecial words line)) code.new) }
 {
     code.put_all(&[
-        Coded::Whole(load(DI, argument(u16::from(words) + 1))),
+        Coded::Whole(set_word(DX, line)),
+        Coded::Whole(load(SI, argument(u16::from(words) + 1))),
         Coded::Whole(load(BX, argument(u16::from(words)))),
         Coded::Whole(jump_to(BX)),
     ])
@@ -201,7 +211,7 @@ pub(crate) fn put_switch(code: &mut Assembly, goals: &[Goal], names: &Names) -> 
         Coded::Whole(jump_if_below(3)),
         Coded::Call(Target::LibraryAhead(SWITCH)),
         Coded::Whole(double(BX)),
-        Coded::Whole(copy(BP, DI)),
+        Coded::Whole(copy(BP, SI)),
         Coded::Whole(copy(SP, BP)),
         Coded::Whole(set_word(AX, RECORD_DEPTH)),
         Coded::Whole(subtract(SP, AX)),
@@ -219,18 +229,17 @@ pub(crate) fn put_loop_way(
     ensures { OnOk result (Adds code.old (loop_way names.now (length code.old.bytes) marks.now) code.new) }
 {
     let place = code.bytes.as_slice().len() as u64;
-    let end = code.bytes.as_slice().len() + 14;
+    let end = code.bytes.as_slice().len() + 13;
     match u16::try_from(marks.len()) {
         Ok(number) => put_number_compared(code, number)?,
         Err(_) => return Err(NoMemory),
     }
-    let past = place + 21 + 2 * marks.len() as u64;
+    let past = place + 20 + 2 * marks.len() as u64;
     code.put_all(&[
-        Coded::Whole(Instr::Pop(AX)),
         Coded::Whole(jump_if_below(3)),
         Coded::Whole(Instr::Jump(distance(end, past))),
         Coded::Whole(double(BX)),
-        Coded::Way(own(place + 21)),
+        Coded::Way(own(place + 20)),
     ])?;
     put_mark_words(code, marks, names)
 }

@@ -8,56 +8,50 @@ ghost use Rattle.cw_tmpl.specs.Pieces.{size_of, IsCoded};
 ghost use Rattle.cw_tmpl.specs.Templates.{template, operation, operated, block_pieces};
 
 use crate::arithmetic::{
-    put_checked, put_less, put_on_both, put_product, put_quotient, put_rescale, put_times,
-    put_with_word,
+    put_checked, put_divided_by, put_less, put_on_both, put_product, put_quotient, put_rescale,
+    put_times, put_with_word,
 };
 use crate::calling::{
     put_assign_frame, put_bind, put_bind_frame, put_call, put_call_common, put_call_special,
     put_control, put_enter, put_fetch_frame, put_frame_home, put_read_byte, put_return,
     put_special_out,
 };
-use crate::indexes::{put_by_area, put_in_bounds, put_index_add, put_index_row};
+use crate::indexes::{put_call_at_line, put_in_area, put_in_bounds, put_index_add, put_index_row};
 use crate::jumping::{
     distance, opposite, put_base_jump, put_go_special, put_go_switch, put_go_switch_common,
     put_go_switch_special, put_jump, put_jump_if, put_loop_way, put_past_limit,
 };
 use crate::parts::{put_load_part, put_store_part, put_take};
-use cw_i86::{Imm, Instr};
+use cw_i86::Instr;
 use cw_order::Order;
 use cw_tmpl::instructions::{
-    AT_BX, AX, BX, LINE, add, both, copy, double, either, jump_to, load, negate, one_of, set_word,
-    store, subtract, with_number,
+    AT_BX, AX, BX, add, both, copy, double, either, exchange, jump_to, load, negate, nothing,
+    one_of, set_word, store, subtract, with_number,
 };
-use cw_tmpl::library::{ADD_STEP, ADDRESS, IN_AREA, PUT_VARIABLE, SET_VARIABLE};
+use cw_tmpl::library::{ADD_STEP, ADDRESS, PUT_VARIABLE, SET_VARIABLE};
 use cw_tmpl::{Assembly, Block, Coded, Names, Simple, Target, Use, own};
 use cw_word::NoMemory;
 
 fn put_const(code: &mut Assembly, word: u16) -> Result<(), NoMemory>
     ensures { OnOk result (Adds code.old (template no_names 0 (order.Const word)) code.new) }
 {
-    code.put_all(&[
-        Coded::Whole(Instr::Push(AX)),
-        Coded::Whole(set_word(AX, word)),
-    ])
+    code.put_all(&[Coded::Whole(set_word(AX, word))])
 }
 
 fn put_home(code: &mut Assembly, family: u16, offset: u16) -> Result<(), NoMemory>
     ensures { OnOk result (Adds code.old (template no_names 0 (order.Home family offset)) code.new) }
 {
-    code.put_all(&[
-        Coded::Whole(Instr::Push(AX)),
-        Coded::Move {
-            reg: AX,
-            target: Target::Word { family, offset },
-        },
-    ])
+    code.put_all(&[Coded::Move {
+        reg: AX,
+        target: Target::Word { family, offset },
+    }])
 }
 
 fn put_load(code: &mut Assembly) -> Result<(), NoMemory>
     ensures { OnOk result (Adds code.old (template no_names 0 order.Load) code.new) }
 {
     code.put_all(&[
-        Coded::Whole(copy(BX, AX)),
+        Coded::Whole(exchange()),
         Coded::Whole(double(BX)),
         Coded::Whole(load(AX, AT_BX)),
     ])
@@ -71,48 +65,34 @@ fn put_store(code: &mut Assembly) -> Result<(), NoMemory>
         Coded::Whole(double(BX)),
         Coded::Whole(Instr::Pop(AX)),
         Coded::Whole(store(AT_BX, AX)),
-        Coded::Whole(Instr::Pop(AX)),
     ])
 }
 
-fn put_add(code: &mut Assembly) -> Result<(), NoMemory>
-    ensures { OnOk result (Adds code.old (template no_names 0 order.Add) code.new) }
+fn put_add(code: &mut Assembly, line: u16) -> Result<(), NoMemory>
+    ensures { OnOk result (Adds code.old (template no_names 0 (order.Add line)) code.new) }
 {
     code.put_all(&[Coded::Whole(Instr::Pop(BX)), Coded::Whole(add(AX, BX))])?;
-    put_checked(code)
+    put_checked(code, line)
 }
 
-fn put_sub(code: &mut Assembly) -> Result<(), NoMemory>
-    ensures { OnOk result (Adds code.old (template no_names 0 order.Sub) code.new) }
+fn put_sub(code: &mut Assembly, line: u16) -> Result<(), NoMemory>
+    ensures { OnOk result (Adds code.old (template no_names 0 (order.Sub line)) code.new) }
 {
-    code.put_all(&[
-        Coded::Whole(copy(BX, AX)),
-        Coded::Whole(Instr::Pop(AX)),
-        Coded::Whole(subtract(AX, BX)),
-    ])?;
-    put_checked(code)
+    put_less(code)?;
+    put_checked(code, line)
 }
 
-fn put_neg(code: &mut Assembly) -> Result<(), NoMemory>
-    ensures { OnOk result (Adds code.old (template no_names 0 order.Neg) code.new) }
+fn put_neg(code: &mut Assembly, line: u16) -> Result<(), NoMemory>
+    ensures { OnOk result (Adds code.old (template no_names 0 (order.Neg line)) code.new) }
 {
     code.put_all(&[Coded::Whole(negate(AX))])?;
-    put_checked(code)
+    put_checked(code, line)
 }
 
 fn put_write_byte(code: &mut Assembly) -> Result<(), NoMemory>
     ensures { OnOk result (Adds code.old (template no_names 0 order.WriteByte) code.new) }
 {
-    code.put_all(&[Coded::Whole(Instr::Out(0x12)), Coded::Whole(Instr::Pop(AX))])
-}
-
-fn put_line(code: &mut Assembly, line: u16) -> Result<(), NoMemory>
-    ensures { OnOk result (Adds code.old (template no_names 0 (order.Line line)) code.new) }
-{
-    code.put_all(&[Coded::Whole(Instr::MovRm {
-        rm: LINE,
-        imm: Imm::Word(line),
-    })])
+    code.put_all(&[Coded::Whole(Instr::Pop(AX)), Coded::Whole(Instr::Out(0x12))])
 }
 
 fn put_next_body(code: &mut Assembly) -> Result<(), NoMemory>
@@ -139,6 +119,7 @@ fn put_order(code: &mut Assembly, order: &Order, names: &Names) -> Result<(), No
     ensures { OnOk result (Adds code.old (template names.now (length code.old.bytes) order.now) code.new) }
 {
     match order {
+        Order::Save => code.put_all(&[Coded::Whole(Instr::Push(AX))]),
         Order::Const(word) => put_const(code, *word),
         Order::Home { family, offset } => put_home(code, *family, *offset),
         Order::FrameHome(offset) => put_frame_home(code, *offset),
@@ -146,35 +127,42 @@ fn put_order(code: &mut Assembly, order: &Order, names: &Names) -> Result<(), No
         Order::Store => put_store(code),
         Order::LoadPart { t, b, signed } => put_load_part(code, *t, *b, *signed),
         Order::StorePart { t, b } => put_store_part(code, *t, *b),
-        Order::Rescale { from, to } => put_rescale(code, *from, *to),
-        Order::Add => put_add(code),
-        Order::Sub => put_sub(code),
-        Order::Neg => put_neg(code),
-        Order::Mul(scale) => put_product(code, *scale),
-        Order::Div(scale) => put_quotient(code, *scale),
+        Order::Rescale { from, to, line } => put_rescale(code, *line, *from, *to),
+        Order::Add(line) => put_add(code, *line),
+        Order::Sub(line) => put_sub(code, *line),
+        Order::Neg(line) => put_neg(code, *line),
+        Order::Mul { power, line } => put_product(code, *line, *power),
+        Order::Div { power, line } => put_quotient(code, *line, *power),
         Order::And => put_on_both(code, both(AX, BX)),
         Order::Or => put_on_both(code, either(AX, BX)),
         Order::Xor => put_on_both(code, one_of(AX, BX)),
         Order::Take { t, b } => put_take(code, *t, *b),
-        Order::IndexLess(lower) => {
-            put_with_word(code, ADDRESS, lower.cast_unsigned(), subtract(AX, BX))
-        }
-        Order::IndexTimes(number) => put_times(code, ADDRESS, *number),
-        Order::IndexPlus(number) => put_with_word(code, ADDRESS, *number, add(AX, BX)),
-        Order::IndexAdd => put_index_add(code),
-        Order::IndexRow { lower, length } => put_index_row(code, *lower, *length),
-        Order::InArea => put_by_area(code, IN_AREA),
-        Order::InBounds { lower, upper } => put_in_bounds(code, *lower, *upper),
+        Order::IndexLess { lower, line } => put_with_word(
+            code,
+            ADDRESS,
+            *line,
+            lower.cast_unsigned(),
+            subtract(AX, BX),
+        ),
+        Order::IndexTimes { length, line } => put_times(code, ADDRESS, *line, *length),
+        Order::IndexPlus { word, line } => put_with_word(code, ADDRESS, *line, *word, add(AX, BX)),
+        Order::IndexAdd(line) => put_index_add(code, *line),
+        Order::IndexRow {
+            lower,
+            length,
+            line,
+        } => put_index_row(code, *line, *lower, *length),
+        Order::InArea(line) => put_in_area(code, *line),
+        Order::InBounds { lower, upper, line } => put_in_bounds(code, *line, *lower, *upper),
         Order::Less => put_less(code),
-        Order::Drop => code.put_all(&[Coded::Whole(Instr::Pop(AX))]),
         Order::Jump(mark) => put_jump(code, u64::from(names.mark(*mark))),
         Order::JumpIf { comparator, mark } => {
             put_jump_if(code, *comparator, u64::from(names.mark(*mark)))
         }
         Order::Exhausted(mark) => put_past_limit(code, u64::from(names.mark(*mark))),
-        Order::SetVariable => put_by_area(code, SET_VARIABLE),
-        Order::AddStep => put_by_area(code, ADD_STEP),
-        Order::PutVariable => put_by_area(code, PUT_VARIABLE),
+        Order::SetVariable(line) => put_call_at_line(code, SET_VARIABLE, *line),
+        Order::AddStep(line) => put_call_at_line(code, ADD_STEP, *line),
+        Order::PutVariable(line) => put_call_at_line(code, PUT_VARIABLE, *line),
         Order::LoopWay(marks) => put_loop_way(code, marks.as_slice(), names),
         Order::LabelOut(label) => put_control(code, own(names.label(*label))),
         Order::SwitchOut(switch) => put_control(code, own(u64::from(names.switch(*switch)))),
@@ -186,14 +174,20 @@ fn put_order(code: &mut Assembly, order: &Order, names: &Names) -> Result<(), No
         | Order::ProcCommon(descriptor) => put_control(code, Target::Definition(*descriptor)),
         Order::SpecialOut(words) => put_special_out(code, *words),
         Order::GoSpecial(words) => put_go_special(code, *words),
-        Order::GoSwitch(switch) => put_go_switch(code, u64::from(names.switch(*switch))),
-        Order::GoSwitchCommon(descriptor) => put_go_switch_common(code, *descriptor),
-        Order::GoSwitchSpecial(words) => put_go_switch_special(code, *words),
+        Order::GoSwitch { switch, line } => {
+            put_go_switch(code, *line, u64::from(names.switch(*switch)))
+        }
+        Order::GoSwitchCommon { descriptor, line } => {
+            put_go_switch_common(code, *line, *descriptor)
+        }
+        Order::GoSwitchSpecial { place, line } => put_go_switch_special(code, *line, *place),
         Order::GoMain(mark) => put_base_jump(code, u64::from(names.mark(*mark))),
         Order::GoCommon(descriptor) => put_go_common(code, *descriptor),
-        Order::CallProc(procedure) => put_call(code, u64::from(names.procedure(*procedure))),
-        Order::CallCommon(descriptor) => put_call_common(code, *descriptor),
-        Order::CallSpecial(words) => put_call_special(code, *words),
+        Order::CallProc { procedure, line } => {
+            put_call(code, *line, u64::from(names.procedure(*procedure)))
+        }
+        Order::CallCommon { descriptor, line } => put_call_common(code, *line, *descriptor),
+        Order::CallSpecial { place, line } => put_call_special(code, *line, *place),
         Order::Enter(size) => put_enter(code, *size),
         Order::Bind {
             argument,
@@ -201,12 +195,12 @@ fn put_order(code: &mut Assembly, order: &Order, names: &Names) -> Result<(), No
             offset,
         } => put_bind(code, *argument, *family, *offset),
         Order::BindFrame { argument, offset } => put_bind_frame(code, *argument, *offset),
-        Order::Return { arguments, answers } => put_return(code, *arguments, *answers),
+        Order::Return { arguments, .. } => put_return(code, *arguments),
         Order::ReadByte => put_read_byte(code),
         Order::WriteByte => put_write_byte(code),
-        Order::Line(line) | Order::Start(line) => put_line(code, *line),
+        Order::Start(_) => code.put_all(&[Coded::Whole(nothing())]),
         Order::NextBody => put_next_body(code),
-        Order::Mark => Ok(()),
+        Order::Drop | Order::Mark => Ok(()),
     }
 }
 
@@ -220,20 +214,19 @@ fn put_operated(
     ensures { OnOk result (Adds code.old (operated names.now (length code.old.bytes) operand with) code.new) }
 {
     match with {
-        Use::Add => {
+        Use::Add(line) => {
             code.put_all(&[operation(0, operand)])?;
-            put_checked(code)
+            put_checked(code, line)
         }
-        Use::Subtract => {
+        Use::Subtract(line) => {
             code.put_all(&[operation(5, operand)])?;
-            put_checked(code)
+            put_checked(code, line)
         }
         Use::Compare { comparator, mark } => {
-            let end = code.bytes.as_slice().len() + operation_size(operand) + 6;
+            let end = code.bytes.as_slice().len() + operation_size(operand) + 5;
             let to = u64::from(names.mark(mark));
             code.put_all(&[
                 operation(7, operand),
-                Coded::Whole(Instr::Pop(AX)),
                 Coded::Whole(Instr::JumpIf {
                     cond: opposite(comparator),
                     by: 3,
@@ -257,16 +250,16 @@ pub(crate) fn put_block(
     match block {
         Block::Within(_) => code.put_all(&[]),
         Block::Single => put_order(code, order, names),
-        Block::Fetch { family, offset } => code.put_all(&[
-            Coded::Whole(Instr::Push(AX)),
-            Coded::Load(Target::Bytes { family, offset }),
-        ]),
-        Block::Assign { family, offset } => code.put_all(&[
-            Coded::Store(Target::Bytes { family, offset }),
-            Coded::Whole(Instr::Pop(AX)),
-        ]),
+        Block::Fetch { family, offset } => {
+            code.put_all(&[Coded::Load(Target::Bytes { family, offset })])
+        }
+        Block::Assign { family, offset } => {
+            code.put_all(&[Coded::Store(Target::Bytes { family, offset })])
+        }
         Block::FetchFrame { offset } => put_fetch_frame(code, offset),
         Block::AssignFrame { offset } => put_assign_frame(code, offset),
+        Block::Write => code.put_all(&[Coded::Whole(Instr::Out(0x12))]),
+        Block::Divide { by } => put_divided_by(code, by),
         Block::Operate { operand, with } => put_operated(code, operand, with, names),
     }
 }

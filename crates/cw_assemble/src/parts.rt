@@ -6,7 +6,7 @@ ghost use Rattle.cw_tmpl.specs.Templates.{load_part, store_part, taken};
 use crate::words::{mask, ones};
 use cw_i86::Instr;
 use cw_tmpl::instructions::{
-    AT_BX, AX, BX, CX, DX, both, copy, double, either, load, set_word, shift_down,
+    AT_BX, AX, BX, CX, DX, both, copy, double, either, exchange, load, set_word, shift_down,
     shift_down_signed, shift_up, store,
 };
 use cw_tmpl::{Assembly, Coded};
@@ -29,7 +29,7 @@ pub(crate) fn put_load_signed(code: &mut Assembly, t: u8, b: u8) -> Result<(), N
     ensures { OnOk result (Adds code.old (load_part t b true) code.new) }
 {
     code.put_all(&[
-        Coded::Whole(copy(BX, AX)),
+        Coded::Whole(exchange()),
         Coded::Whole(double(BX)),
         Coded::Whole(load(AX, AT_BX)),
         Coded::Whole(set_word(CX, u16::from(16 - (t + b)))),
@@ -44,7 +44,7 @@ pub(crate) fn put_load_unsigned(code: &mut Assembly, t: u8, b: u8) -> Result<(),
     ensures { OnOk result (Adds code.old (load_part t b false) code.new) }
 {
     code.put_all(&[
-        Coded::Whole(copy(BX, AX)),
+        Coded::Whole(exchange()),
         Coded::Whole(double(BX)),
         Coded::Whole(load(AX, AT_BX)),
         Coded::Whole(set_word(CX, u16::from(b))),
@@ -86,6 +86,5 @@ pub(crate) fn put_store_part(code: &mut Assembly, t: u8, b: u8) -> Result<(), No
         Coded::Whole(both(DX, CX)),
         Coded::Whole(either(DX, AX)),
         Coded::Whole(store(AT_BX, DX)),
-        Coded::Whole(Instr::Pop(AX)),
     ])
 }

@@ -17,7 +17,7 @@ pub(crate) fn order_places(alloc: Global, orders: &[Order]) -> Result<List<u32>,
     ensures { IfOk result (λ list. list ≡ order_places orders.now) }
 {
     let mut list = List::new(alloc);
-    let mut at: u32 = 15;
+    let mut at: u32 = 11;
     let mut left = 0;
     for k in 0..orders.len() {
         list.push(at)?;

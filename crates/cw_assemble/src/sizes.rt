@@ -13,12 +13,12 @@ use cw_word::NoMemory;
 fn times_size(number: u16) -> u32
     ensures { result ≡ times_size number }
 {
-    if number == 0x8000 { 12 } else { 10 }
+    if number == 0x8000 { 14 } else { 12 }
 }
 
 fn rescale_size(from: u8, to: u8) -> u32
     requires { to ≤ 15 }
-    ensures { result ≡ listed_size (order.Rescale from to) }
+    ensures { result ≡ listed_size (order.Rescale from to 0) }
 {
     if from <= to {
         times_size(power(to - from))
@@ -28,15 +28,15 @@ fn rescale_size(from: u8, to: u8) -> u32
 }
 
 fn product_size(scale: i8) -> u32
-    requires { HasCode (order.Mul scale) }
-    ensures { result ≡ listed_size (order.Mul scale) }
+    requires { HasCode (order.Mul scale 0) }
+    ensures { result ≡ listed_size (order.Mul scale 0) }
 {
     if scale > 0 {
-        times_size(power(scale.unsigned_abs())) + 8
+        times_size(power(scale.unsigned_abs())) + 10
     } else if scale == 0 {
-        8
+        10
     } else if scale >= -15 {
-        9
+        14
     } else {
         10
     }
@@ -71,45 +71,34 @@ fn order_size(order: &Order) -> Result<u32, NoMemory>
     ensures { IfOk result (λ n. n ≡ order_size order.now) }
 {
     let size = match order {
-        Order::Mark => 0,
-        Order::Drop => 1,
-        Order::Jump(_) | Order::GoCommon(_) | Order::WriteByte => 3,
-        Order::And | Order::Or | Order::Xor => 3,
-        Order::Const(_) | Order::Home { .. } | Order::CallProc(_) | Order::CallCommon(_) => 4,
-        Order::Line(_) | Order::Start(_) | Order::NextBody | Order::Less => 5,
+        Order::Mark | Order::Drop => 0,
+        Order::Save | Order::Start(_) => 1,
+        Order::Const(_) | Order::Home { .. } | Order::Jump(_) | Order::GoCommon(_) => 3,
+        Order::And | Order::Or | Order::Xor | Order::ReadByte | Order::WriteByte => 3,
+        Order::NextBody | Order::Less | Order::Load => 5,
         Order::LabelOut(_) | Order::SwitchOut(_) | Order::ProcOut(_) => 5,
         Order::LabelCommon(_) | Order::SwitchCommon(_) | Order::ProcCommon(_) => 5,
-        Order::GoSwitch(_) | Order::GoSwitchCommon(_) => 5,
-        Order::Load | Order::InArea | Order::Exhausted(_) => 6,
-        Order::SetVariable | Order::AddStep | Order::PutVariable => 6,
-        Order::Neg | Order::FrameHome(_) => 7,
-        Order::Store | Order::Add | Order::IndexAdd => 8,
-        Order::Div(_) | Order::JumpIf { .. } | Order::Bind { .. } => 9,
-        Order::Sub | Order::Take { .. } | Order::IndexLess(_) | Order::IndexPlus(_) => 10,
-        Order::SpecialOut(_) | Order::GoSwitchSpecial(_) => 10,
-        Order::CallSpecial(_) => 11,
-        Order::Enter(_) => 12,
-        Order::Return { answers, .. } => return_size(*answers),
-        Order::BindFrame { .. } => 13,
-        Order::GoMain(_) => 15,
-        Order::LoadPart { .. } => 16,
+        Order::FrameHome(_) | Order::Exhausted(_) | Order::Return { .. } => 6,
+        Order::SetVariable(_) | Order::AddStep(_) | Order::PutVariable(_) => 6,
+        Order::CallProc { .. } | Order::CallCommon { .. } => 6,
+        Order::Store | Order::Bind { .. } => 7,
+        Order::JumpIf { .. } | Order::GoSwitch { .. } | Order::GoSwitchCommon { .. } => 8,
+        Order::Neg(_) | Order::InArea(_) | Order::Enter(_) => 9,
+        Order::Add(_) | Order::IndexAdd(_) | Order::Take { .. } | Order::SpecialOut(_) => 10,
+        Order::Sub(_) | Order::IndexLess { .. } | Order::IndexPlus { .. } => 12,
+        Order::GoSwitchSpecial { .. } | Order::CallSpecial { .. } | Order::BindFrame { .. } => 13,
+        Order::GoMain(_) | Order::LoadPart { .. } => 15,
         Order::GoSpecial(_) => 17,
-        Order::ReadByte => 19,
         Order::InBounds { .. } => 20,
-        Order::StorePart { .. } => 27,
-        Order::Rescale { from, to } => rescale_size(*from, *to),
-        Order::Mul(scale) => product_size(*scale),
-        Order::IndexTimes(number) => times_size(*number),
-        Order::IndexRow { length, .. } => times_size(*length) + 20,
-        Order::LoopWay(marks) => return table_size(21, marks.as_slice().len()),
+        Order::Div { .. } => 25,
+        Order::StorePart { .. } => 26,
+        Order::Rescale { from, to, .. } => rescale_size(*from, *to),
+        Order::Mul { power, .. } => product_size(*power),
+        Order::IndexTimes { length, .. } => times_size(*length),
+        Order::IndexRow { length, .. } => times_size(*length) + 24,
+        Order::LoopWay(marks) => return table_size(20, marks.as_slice().len()),
     };
     Ok(size)
-}
-
-fn return_size(answers: bool) -> u32
-    ensures { result ≡ listed_size (order.Return 0 answers) }
-{
-    if answers { 11 } else { 12 }
 }
 
 /// How many bytes the code of a block has that begins with an order.
@@ -120,13 +109,15 @@ pub(crate) fn block_size(block: Block, order: &Order) -> Result<u32, NoMemory>
     let size = match block {
         Block::Within(_) => 0,
         Block::Single => return order_size(order),
-        Block::Fetch { .. } | Block::Assign { .. } => 4,
-        Block::FetchFrame { .. } | Block::AssignFrame { .. } => 10,
+        Block::Write => 2,
+        Block::Fetch { .. } | Block::Assign { .. } => 3,
+        Block::Divide { .. } => 6,
+        Block::FetchFrame { .. } | Block::AssignFrame { .. } => 9,
         Block::Operate { operand, with } => match (operand, with) {
-            (Simple::Number(_), Use::Add | Use::Subtract) => 8,
-            (Simple::Variable { .. }, Use::Add | Use::Subtract) => 9,
-            (Simple::Number(_), Use::Compare { .. }) => 9,
-            (Simple::Variable { .. }, Use::Compare { .. }) => 10,
+            (Simple::Number(_), Use::Add(_) | Use::Subtract(_)) => 10,
+            (Simple::Variable { .. }, Use::Add(_) | Use::Subtract(_)) => 11,
+            (Simple::Number(_), Use::Compare { .. }) => 8,
+            (Simple::Variable { .. }, Use::Compare { .. }) => 9,
         },
     };
     Ok(size)

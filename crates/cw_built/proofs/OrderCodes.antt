@@ -1,4 +1,4 @@
--- An order of which `has_code` holds has code.
+-- An order of which `has_code` holds has code, and its line is a word.
 use Rattle.std.proofs.Common.{ℕ, ◌+◌, ◌<◌, ◌≤◌, nat_eq, ℤ, pos, negsuc, length, Bool, IsTrue, ◌&&◌, nat_lt, nat_le, All, slice_index_or, arith}
 use Rattle.std.proofs.lemmas.Int.{ints}
 use Rattle.std.proofs.lemmas.Bool.{leb-true, ltb-true}
@@ -9,8 +9,9 @@ use Rattle.cw_order.specs.declared.order.Order.{Order}
 use Rattle.cw_order.specs.declared.order.Order.TheVariants as order
 use Rattle.cw_order.specs.declared.order.Orders.{Orders}
 use Rattle.cw_order.specs.HasCode.{HasCode}
+use Rattle.cw_order.specs.OrderLines.{line_of}
 use Rattle.cw_safety.proofs.Truth.{both}
-use Rattle.cw_built.specs.Coded.{is_part, has_code, is_mark, has_few, is_entry, have_code}
+use Rattle.cw_built.specs.Coded.{is_part, has_numbers, has_code, is_mark, has_few, is_entry, have_code}
 
 part : (t b : ℕ) → IsTrue (is_part t b) → (1 ≤ t) × (t + b ≤ 16)
 part t b h = let p = both (nat_le 1 t) (nat_le (t + b) 16) h in (leb-true 1 t p.0, leb-true (t + b) 16 p.1)
@@ -22,39 +23,39 @@ word (negsuc n) h = let lt : n < 32768 = ltb-true n 32768 h in omega (arith, int
 words : (a b : ℤ) → IsTrue (fits_word a && fits_word b) → FitsWord a × FitsWord b
 words a b h = let p = both (fits_word a) (fits_word b) h in (word a p.0, word b p.1)
 
-pub coded-order : (o : Order) → IsTrue (has_code o) → HasCode o
+pub coded-order : (o : Order) → IsTrue (has_numbers o) → HasCode o
+coded-order order.Save h = tt
 coded-order (order.Const w) h = tt
 coded-order (order.Home family offset) h = tt
 coded-order order.Load h = tt
 coded-order order.Store h = tt
-coded-order order.Add h = tt
-coded-order order.Sub h = tt
-coded-order order.Neg h = tt
+coded-order (order.Add line) h = tt
+coded-order (order.Sub line) h = tt
+coded-order (order.Neg line) h = tt
 coded-order order.WriteByte h = tt
 coded-order (order.Jump m) h = tt
 coded-order (order.JumpIf c m) h = tt
 coded-order order.Mark h = tt
-coded-order (order.Line n) h = tt
 coded-order (order.Start n) h = tt
 coded-order order.NextBody h = tt
-coded-order (order.Rescale from to) h = let p = both (nat_le from 15) (nat_le to 15) h in (leb-true from 15 p.0, leb-true to 15 p.1)
-coded-order (order.Mul (pos n)) h = leb-true n 15 h
-coded-order (order.Mul (negsuc n)) h = ltb-true n 30 h
-coded-order (order.Div (pos n)) h = leb-true n 16 h
-coded-order (order.Div (negsuc n)) h = ltb-true n 15 h
+coded-order (order.Rescale from to line) h = let p = both (nat_le from 15) (nat_le to 15) h in (leb-true from 15 p.0, leb-true to 15 p.1)
+coded-order (order.Mul (pos n) line) h = leb-true n 15 h
+coded-order (order.Mul (negsuc n) line) h = ltb-true n 30 h
+coded-order (order.Div (pos n) line) h = leb-true n 16 h
+coded-order (order.Div (negsuc n) line) h = ltb-true n 15 h
 coded-order order.And h = tt
 coded-order order.Or h = tt
 coded-order order.Xor h = tt
 coded-order (order.Take t b) h = part t b h
 coded-order (order.LoadPart t b is_signed) h = part t b h
 coded-order (order.StorePart t b) h = part t b h
-coded-order (order.IndexLess lower) h = word lower h
-coded-order (order.IndexTimes n) h = leb-true n 32768 h
-coded-order (order.IndexPlus n) h = ltb-true n 32768 h
-coded-order order.IndexAdd h = tt
-coded-order (order.IndexRow lower n) h = let p = both (fits_word lower) (nat_le n 32768) h in (word lower p.0, leb-true n 32768 p.1)
-coded-order order.InArea h = tt
-coded-order (order.InBounds lower upper) h = words lower upper h
+coded-order (order.IndexLess lower line) h = word lower h
+coded-order (order.IndexTimes n line) h = leb-true n 32768 h
+coded-order (order.IndexPlus n line) h = ltb-true n 32768 h
+coded-order (order.IndexAdd line) h = tt
+coded-order (order.IndexRow lower n line) h = let p = both (fits_word lower) (nat_le n 32768) h in (word lower p.0, leb-true n 32768 p.1)
+coded-order (order.InArea line) h = tt
+coded-order (order.InBounds lower upper line) h = words lower upper h
 coded-order order.Less h = tt
 coded-order order.Drop h = tt
 coded-order order.ReadByte h = tt
@@ -63,17 +64,17 @@ coded-order (order.Enter size) h = ltb-true size 65536 h
 coded-order (order.BindFrame k offset) h = let p = both (nat_lt k 256) (nat_lt offset 32768) h in (ltb-true k 256 p.0, ltb-true offset 32768 p.1)
 coded-order (order.Bind k family offset) h = ltb-true k 256 h
 coded-order (order.Return n answers) h = ltb-true n 256 h
-coded-order (order.CallSpecial k) h = ltb-true k 256 h
+coded-order (order.CallSpecial k line) h = ltb-true k 256 h
 coded-order (order.SpecialOut k) h = ltb-true k 256 h
 coded-order (order.GoSpecial k) h = ltb-true k 256 h
-coded-order (order.GoSwitchSpecial k) h = ltb-true k 256 h
+coded-order (order.GoSwitchSpecial k line) h = ltb-true k 256 h
 coded-order (order.LoopWay marks) h = ltb-true (length marks) 32768 h
 coded-order (order.Exhausted m) h = tt
-coded-order order.SetVariable h = tt
-coded-order order.AddStep h = tt
-coded-order order.PutVariable h = tt
-coded-order (order.CallProc q) h = tt
-coded-order (order.CallCommon d) h = tt
+coded-order (order.SetVariable line) h = tt
+coded-order (order.AddStep line) h = tt
+coded-order (order.PutVariable line) h = tt
+coded-order (order.CallProc q line) h = tt
+coded-order (order.CallCommon d line) h = tt
 coded-order (order.LabelOut l) h = tt
 coded-order (order.LabelCommon d) h = tt
 coded-order (order.SwitchOut n) h = tt
@@ -82,8 +83,12 @@ coded-order (order.ProcOut q) h = tt
 coded-order (order.ProcCommon d) h = tt
 coded-order (order.GoMain m) h = tt
 coded-order (order.GoCommon d) h = tt
-coded-order (order.GoSwitch n) h = tt
-coded-order (order.GoSwitchCommon d) h = tt
+coded-order (order.GoSwitch n line) h = tt
+coded-order (order.GoSwitchCommon d line) h = tt
+
+-- the parts of `has_code`
+pub lined : (o : Order) → IsTrue (has_code o) → IsTrue (has_numbers o) × (line_of o < 65536)
+lined o h = let p = both (has_numbers o) (nat_lt (line_of o) 65536) h in (p.0, ltb-true (line_of o) 65536 p.1)
 
 -- the parts of `have_code`
 pub record Coded (o : Orders) : Type 0 where
@@ -105,4 +110,4 @@ parts o h =
     record { entry = a.0; list = b.0; marks = c.0; switches = d.0; procedures = d.1 }
 
 pub all-coded : (o : Orders) → IsTrue (have_code o) → All HasCode o.list
-all-coded o h k d lt = coded-order (slice_index_or o.list k d) (AllPass-from_list_all has_code o.list (parts o h).list k d lt)
+all-coded o h k d lt = let x = slice_index_or o.list k d in coded-order x (lined x (AllPass-from_list_all has_code o.list (parts o h).list k d lt)).0

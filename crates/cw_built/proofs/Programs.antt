@@ -33,7 +33,7 @@ use Rattle.cw_built.specs.Coded.{has_code, ends_block, is_enter, begins_block, i
 use Rattle.cw_built.specs.Built.{alone, defines_as, is_built}
 use Rattle.cw_built.proofs.Truth.{all-get}
 use Rattle.cw_built.proofs.NamesAgreeing.{agree}
-use Rattle.cw_built.proofs.OrderCodes.{coded-order, parts}
+use Rattle.cw_built.proofs.OrderCodes.{coded-order, lined, parts}
 use Rattle.cw_built.proofs.Agreeing.{all-at, found-there}
 
 negated : (b : Bool) → IsTrue (not b) → b ≡ false
@@ -147,13 +147,10 @@ module _ (us : List SourceUnit) (m : Map) (limits : Limits) (room : ℕ) where
     coded-at g place o e = coded-by g place o (slice_get us g) refl (sym (ap (λ v. order_in v place) (unit-orders g)) ∙ e)
 
     pub codes : (g place : ℕ) (o : Order) → order_at p g place ≡ Some o → HasCode o
-    codes g place o e = coded-order o (coded-at g place o e)
+    codes g place o e = coded-order o (lined o (coded-at g place o e)).0
 
     pub lines : LinesFit p
-    lines = record {
-      within = λ g place line e. ltb-true line 65536 (coded-at g place (order.Line line) e);
-      begun = λ g place line e. ltb-true line 65536 (coded-at g place (order.Start line) e);
-    }
+    lines g place o e = (lined o (coded-at g place o e)).1
 
     switch-by : (g n : ℕ) (o : Orders) (gs : List Goal) (v : Option SourceUnit) → slice_get us g ≡ v → option_map unit_orders v ≡ Some o → slice_get o.switches n ≡ Some gs → length gs < 32768
     switch-by g n o gs None here e f = absurd (none-some o e)

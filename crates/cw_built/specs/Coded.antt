@@ -6,6 +6,7 @@ use Rattle.cw_unit.specs.declared.unit.Goal.{Goal}
 use Rattle.cw_order.specs.declared.order.Order.{Order}
 use Rattle.cw_order.specs.declared.order.Order.TheVariants as order
 use Rattle.cw_order.specs.declared.order.Orders.{Orders}
+use Rattle.cw_order.specs.OrderLines.{line_of}
 
 -- ---- one order
 
@@ -13,42 +14,49 @@ use Rattle.cw_order.specs.declared.order.Orders.{Orders}
 abbrev pub is_part : (t b : ℕ) → Bool
 is_part t b = nat_le 1 t && nat_le (t + b) 16
 
--- the numbers of an order are those that its code can hold, and its line is a word
+-- the numbers of an order are those that its code can hold
+abbrev pub has_numbers : Order → Bool
+has_numbers (order.Rescale from to line) = nat_le from 15 && nat_le to 15
+has_numbers (order.Mul (pos n) line) = nat_le n 15
+has_numbers (order.Mul (negsuc n) line) = nat_lt n 30
+has_numbers (order.Div (pos n) line) = nat_le n 16
+has_numbers (order.Div (negsuc n) line) = nat_lt n 15
+has_numbers (order.Take t b) = is_part t b
+has_numbers (order.LoadPart t b is_signed) = is_part t b
+has_numbers (order.StorePart t b) = is_part t b
+has_numbers (order.IndexLess lower line) = fits_word lower
+has_numbers (order.IndexTimes n line) = nat_le n 32768
+has_numbers (order.IndexPlus n line) = nat_lt n 32768
+has_numbers (order.IndexRow lower n line) = fits_word lower && nat_le n 32768
+has_numbers (order.InBounds lower upper line) = fits_word lower && fits_word upper
+has_numbers (order.FrameHome n) = nat_lt n 65536
+has_numbers (order.Enter size) = nat_lt size 65536
+has_numbers (order.BindFrame k offset) = nat_lt k 256 && nat_lt offset 32768
+has_numbers (order.Bind k family offset) = nat_lt k 256
+has_numbers (order.Return n answers) = nat_lt n 256
+has_numbers (order.CallSpecial k line) = nat_lt k 256
+has_numbers (order.SpecialOut k) = nat_lt k 256
+has_numbers (order.GoSpecial k) = nat_lt k 256
+has_numbers (order.GoSwitchSpecial k line) = nat_lt k 256
+has_numbers (order.LoopWay marks) = nat_lt (length marks) 32768
+has_numbers _ = true
+
+-- and its line is a word
 abbrev pub has_code : Order → Bool
-has_code (order.Line n) = nat_lt n 65536
-has_code (order.Start n) = nat_lt n 65536
-has_code (order.Rescale from to) = nat_le from 15 && nat_le to 15
-has_code (order.Mul (pos n)) = nat_le n 15
-has_code (order.Mul (negsuc n)) = nat_lt n 30
-has_code (order.Div (pos n)) = nat_le n 16
-has_code (order.Div (negsuc n)) = nat_lt n 15
-has_code (order.Take t b) = is_part t b
-has_code (order.LoadPart t b is_signed) = is_part t b
-has_code (order.StorePart t b) = is_part t b
-has_code (order.IndexLess lower) = fits_word lower
-has_code (order.IndexTimes n) = nat_le n 32768
-has_code (order.IndexPlus n) = nat_lt n 32768
-has_code (order.IndexRow lower n) = fits_word lower && nat_le n 32768
-has_code (order.InBounds lower upper) = fits_word lower && fits_word upper
-has_code (order.FrameHome n) = nat_lt n 65536
-has_code (order.Enter size) = nat_lt size 65536
-has_code (order.BindFrame k offset) = nat_lt k 256 && nat_lt offset 32768
-has_code (order.Bind k family offset) = nat_lt k 256
-has_code (order.Return n answers) = nat_lt n 256
-has_code (order.CallSpecial k) = nat_lt k 256
-has_code (order.SpecialOut k) = nat_lt k 256
-has_code (order.GoSpecial k) = nat_lt k 256
-has_code (order.GoSwitchSpecial k) = nat_lt k 256
-has_code (order.LoopWay marks) = nat_lt (length marks) 32768
-has_code _ = true
+has_code o = has_numbers o && nat_lt (line_of o) 65536
 
 -- whether it can stand behind others in a block
 abbrev pub ends_block : Order → Bool
+ends_block (order.Const w) = true
+ends_block (order.Home family offset) = true
+ends_block (order.FrameHome n) = true
 ends_block order.Load = true
 ends_block order.Store = true
-ends_block order.Add = true
-ends_block order.Sub = true
+ends_block (order.Add line) = true
+ends_block (order.Sub line) = true
 ends_block (order.JumpIf c m) = true
+ends_block (order.Div s line) = true
+ends_block order.WriteByte = true
 ends_block _ = false
 
 abbrev pub is_enter : Order → Bool

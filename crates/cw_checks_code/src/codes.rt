@@ -1,8 +1,8 @@
-//! Whether orders by hand have code.
+//! Whether orders by hand have numbers that have code.
 ghost use Rattle.std.specs.Prelude.{◌≡◌, nat_lt};
 ghost use Rattle.std.specs.List.{list_all};
 ghost use Rattle.cw_word.specs.FixedPoint.{fits_word};
-ghost use Rattle.cw_built.specs.Coded.{is_part, has_code};
+ghost use Rattle.cw_built.specs.Coded.{is_part, has_numbers};
 
 use cw_order::Order;
 
@@ -35,42 +35,41 @@ fn is_part(t: u8, b: u8) -> bool
     1 <= t && u16::from(t) + u16::from(b) <= 16
 }
 
-// Whether an order has code.
-fn has_code(order: &Order) -> bool
-    ensures { result ≡ has_code order.now }
+// Whether the numbers of an order have code.
+fn has_numbers(order: &Order) -> bool
+    ensures { result ≡ has_numbers order.now }
 {
     match order {
-        Order::Line(line) | Order::Start(line) => is_word(*line),
-        Order::Rescale { from, to } => *from <= 15 && *to <= 15,
-        Order::Mul(scale) => -30 <= *scale && *scale <= 15,
-        Order::Div(scale) => -15 <= *scale && *scale <= 16,
+        Order::Rescale { from, to, .. } => *from <= 15 && *to <= 15,
+        Order::Mul { power, .. } => -30 <= *power && *power <= 15,
+        Order::Div { power, .. } => -15 <= *power && *power <= 16,
         Order::Take { t, b } | Order::LoadPart { t, b, .. } | Order::StorePart { t, b } => {
             is_part(*t, *b)
         }
-        Order::IndexLess(lower) => is_signed_word(*lower),
-        Order::IndexTimes(number) => *number <= 32_768,
-        Order::IndexPlus(number) => *number < 32_768,
-        Order::IndexRow { lower, length } => is_signed_word(*lower) && *length <= 32_768,
-        Order::InBounds { lower, upper } => is_signed_word(*lower) && is_signed_word(*upper),
+        Order::IndexLess { lower, .. } => is_signed_word(*lower),
+        Order::IndexTimes { length, .. } => *length <= 32_768,
+        Order::IndexPlus { word, .. } => *word < 32_768,
+        Order::IndexRow { lower, length, .. } => is_signed_word(*lower) && *length <= 32_768,
+        Order::InBounds { lower, upper, .. } => is_signed_word(*lower) && is_signed_word(*upper),
         Order::FrameHome(number) | Order::Enter(number) => is_word(*number),
         Order::BindFrame { argument, offset } => is_byte(*argument) && *offset < 32_768,
         Order::Bind { argument, .. } => is_byte(*argument),
         Order::Return { arguments, .. } => is_byte(*arguments),
-        Order::CallSpecial(words)
-        | Order::SpecialOut(words)
-        | Order::GoSpecial(words)
-        | Order::GoSwitchSpecial(words) => is_byte(*words),
+        Order::CallSpecial { place, .. }
+        | Order::SpecialOut(place)
+        | Order::GoSpecial(place)
+        | Order::GoSwitchSpecial { place, .. } => is_byte(*place),
         Order::LoopWay(marks) => marks.as_slice().len() < 32_768,
         _ => true,
     }
 }
 
-/// Whether each order has code.
-pub fn have_code(orders: &[Order]) -> bool
-    ensures { result ≡ list_all has_code orders.now }
+/// Whether the numbers of each order have code.
+pub fn have_numbers(orders: &[Order]) -> bool
+    ensures { result ≡ list_all has_numbers orders.now }
 {
     for order in orders {
-        if !has_code(order) {
+        if !has_numbers(order) {
             return false;
         }
     }

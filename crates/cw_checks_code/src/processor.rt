@@ -1,5 +1,5 @@
 //! Programs of orders on the processor.
-use crate::codes::have_code;
+use crate::codes::have_numbers;
 use cw_assemble::assemble;
 use cw_cpu86::Cpu;
 use cw_interpreter::Program;
@@ -15,7 +15,7 @@ use std::alloc::Global;
 
 // The code of orders; none where one has none.
 fn code_of(alloc: Global, orders: &Orders) -> Option<Code> {
-    if have_code(orders.list.as_slice()) {
+    if have_numbers(orders.list.as_slice()) {
         assemble(alloc, orders).ok()
     } else {
         None

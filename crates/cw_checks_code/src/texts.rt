@@ -264,19 +264,19 @@ fn texts_run(rt: HostRuntime) -> Result<(), Fail> {
     Ok(())
 }
 
-// A body, the bytes of its segment's code, and the instructions of its run. The segment's entry has 15 bytes, and the way on to the
-// end 5. A run takes 20 instructions to the first order, and 3 from the last one through the end.
+// A body, the bytes of its segment's code, and the instructions of its run. The segment's entry has 11 bytes, and the way on to the
+// end 5. A run takes 14 instructions to the first order, and 3 from the last one through the end.
 const COUNTED: [(&str, usize, u64); 4] = [
-    // The line 5 bytes and 1 instruction, the number 4 and 2, the byte 3 and 2.
-    ("W(7)", 32, 28),
-    // Line, number and store 13 and 5; line, load, sum with a number and store 21 and 7; line, load and byte 12 and 5.
-    ("INTEGER X; X := 3; X := X + 4; W(X)", 66, 40),
-    // Line, number, call and drop 14 and 6; the entry and the argument 21 and 27; line, load and byte 12 and 5; 0 and the return 15 and 8.
-    ("PROCEDURE P(VALUE INTEGER N); W(N); P(5)", 82, 69),
-    // Line, address and store 13 and 5; the number of the element, its first value, which is set, its step, its limit and the jump 41 and 30;
-    // the step added 10 and 18; the test 19, and 33 or at the end 31; the jump past the loop 3 and 1; a value set 10; line, load and byte
-    // 12 and 5; line, number and the way on 32 and 10. The body runs twice.
-    ("INTEGER I; FOR I := 1 STEP 1 UNTIL 2 DO W(I)", 160, 222),
+    // The statement's place 1 byte and 1 instruction, the number 3 and 1, the byte 2 and 1.
+    ("W(7)", 22, 20),
+    // Place, number and store 7 and 3; place, load, sum with a number and store 17 and 5; place, load and byte 6 and 3.
+    ("INTEGER X; X := 3; X := X + 4; W(X)", 46, 28),
+    // Place, number, its save and the call 11 and 5; the entry and the argument 16 and 24; place, load and byte 6 and 3; 0 and the return 9 and 4.
+    ("PROCEDURE P(VALUE INTEGER N); W(N); P(5)", 58, 53),
+    // Place, address and store 7 and 3; the number of the element, its first value, which is set, its step, its limit and the jump 34 and 22;
+    // the step added 9 and 14; the test 18, and 30 or at the end 29; the jump past the loop 3 and 1; a value set 10; place, load and byte
+    // 6 and 3; number and the way on 25 and 7. The body runs twice.
+    ("INTEGER I; FOR I := 1 STEP 1 UNTIL 2 DO W(I)", 128, 180),
 ];
 
 #[test]

@@ -93,6 +93,16 @@ impl Cpu {
             }
             // SHL by 1
             0xD1 => self.double_register(),
+            // NOP, with which a statement begins
+            0x90 => {
+                self.do_nothing();
+                true
+            }
+            // XCHG of AX and BX
+            0x93 => {
+                self.exchange_with_bx();
+                true
+            }
             // JMP, CALL and RET
             0xE9 => {
                 self.jump_near();
@@ -104,6 +114,10 @@ impl Cpu {
             }
             0xC3 => {
                 self.return_near();
+                true
+            }
+            0xC2 => {
+                self.return_dropping();
                 true
             }
             // PUSH and POP of BP, SI and DI
@@ -467,5 +481,35 @@ impl Cpu {
     {
         self.advance(1);
         self.return_past(0);
+    }
+
+    // RET that drops so many bytes of the stack.
+    #[inline(always)]
+    fn return_dropping(&mut self)
+        requires { opcode_at self.old ≡ 0xC2 }
+        ensures { Steps self.old (GoesOn self.new Silent) }
+    {
+        let bytes = self.word_behind(1);
+        self.advance(3);
+        self.return_past(bytes);
+    }
+
+    // XCHG of AX and BX.
+    #[inline(always)]
+    fn exchange_with_bx(&mut self)
+        requires { opcode_at self.old ≡ 0x93 }
+        ensures { Steps self.old (GoesOn self.new Silent) }
+    {
+        self.advance(1);
+        self.exchange_ax(3);
+    }
+
+    // XCHG of AX and AX.
+    #[inline(always)]
+    fn do_nothing(&mut self)
+        requires { opcode_at self.old ≡ 0x90 }
+        ensures { Steps self.old (GoesOn self.new Silent) }
+    {
+        self.advance(1);
     }
 }

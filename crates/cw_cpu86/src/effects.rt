@@ -311,7 +311,7 @@ impl Cpu {
 
     // The same of AX and a register.
     #[inline(never)]
-    fn exchange_ax(&mut self, reg: u8)
+    pub(crate) fn exchange_ax(&mut self, reg: u8)
         requires { reg < 8 }
         ensures { self.new ≡ exchanged self.old true 0 (Rm.Reg reg) }
     {

@@ -99,6 +99,11 @@ const LIMITS: Limits = Limits {
 /// How many bytes are read and written at most.
 const MOST: usize = 64;
 
+/// A run has fewer instructions, 2 to the number of halvings.
+const FEWER: u64 = 131_072;
+
+const HALVINGS: u32 = 17;
+
 // The objects of texts, where they are compiled.
 fn objects_of(alloc: Global, texts: &[&str]) -> Option<Vec<Vec<u8>>> {
     let mut objects = Vec::new(alloc);
@@ -128,8 +133,8 @@ fn linked(alloc: Global, objects: &[Vec<u8>]) -> Option<Linked> {
     }
 }
 
-// How many instructions a program runs to its end.
-fn instructions_of(alloc: Global, program: &Program) -> Option<u32> {
+// How many instructions a program runs to its end, by runs from its start: a run reads ahead, so it goes on with all of its input only by itself.
+fn instructions_of(alloc: Global, program: &Program) -> Option<u64> {
     let objects = objects_of(alloc, program.texts)?;
     let linked = linked(alloc, &objects)?;
     let code = linked.image.code.as_slice();
@@ -137,16 +142,21 @@ fn instructions_of(alloc: Global, program: &Program) -> Option<u32> {
     if code.is_empty() || code.len() > 65_536 || words.len() > 32_768 {
         return None;
     }
-    let mut cpu = Cpu::start(alloc, code, words).ok()?;
-    let bytes = List::of(program.input.to_vec(alloc).ok()?);
-    let mut input = MemSource::new(bytes, MOST, List::new(alloc));
-    let mut out = MemSink::new(alloc, MOST, MOST, List::new(alloc)).ok()?;
-    for count in 1..100_000 {
-        if run_image(&mut cpu, &mut input, &mut out, 1) != ImageEnd::Unfinished {
-            return Some(count);
+    let mut few = 0_u64;
+    let mut enough = FEWER;
+    for _ in 0..HALVINGS {
+        let count = few.wrapping_add(enough) / 2;
+        let mut cpu = Cpu::start(alloc, code, words).ok()?;
+        let bytes = List::of(program.input.to_vec(alloc).ok()?);
+        let mut input = MemSource::new(bytes, MOST, List::new(alloc));
+        let mut out = MemSink::new(alloc, MOST, MOST, List::new(alloc)).ok()?;
+        if run_image(&mut cpu, &mut input, &mut out, count) == ImageEnd::Unfinished {
+            few = count;
+        } else {
+            enough = count;
         }
     }
-    None
+    if enough < FEWER { Some(enough) } else { None }
 }
 
 fn run(rt: &impl Print, alloc: Global, program: &Program) -> anyhow::Result<()> {

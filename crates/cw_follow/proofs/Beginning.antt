@@ -3,8 +3,7 @@ use Rattle.std.proofs.Common.{ap₂, ◌≡◌, inl, ℕ, suc, ◌+◌, ◌-◌,
 use Rattle.std.specs.Prelude.{slice_get, nat_le, nat_lt}
 use Rattle.std.proofs.lemmas.Bool.{leb-true}
 use Rattle.std.proofs.lemmas.Option.{slice_get_within}
-use Rattle.cw_follow.proofs.Watched.{Watched}
-use Rattle.cw_unit.specs.Stop.{FramesFull, DepthReached, Running, Stopped}
+use Rattle.cw_unit.specs.Stop.{FramesFull, DepthReached, Running, Stopped, Stuck}
 use Rattle.cw_unit.specs.Words.{Words}
 use Rattle.cw_order.specs.declared.order.Order.{Order}
 use Rattle.cw_order.specs.declared.order.Order.TheVariants as order
@@ -13,94 +12,98 @@ use Rattle.cw_order.specs.OrderState.{OrderActivation, OrderState, at, stack_wor
 use Rattle.cw_order.specs.OrderCosts.{weight_at}
 use Rattle.cw_order.specs.OrderMachine.{enter_with, carry_out, step, weight}
 use Rattle.cw_order.specs.FittingWords.{StateFits}
-use Rattle.cw_order.specs.Activations.{ActivationsStand, Beginning, StateStands}
+use Rattle.cw_order.specs.Activations.{ActivationsStand, StateStands}
+use Rattle.cw_tmpl.specs.declared.blocks.Block.TheVariants as block
 use Rattle.cw_tmpl.specs.Blocks.{block_at, orders_left, left_at}
+use Rattle.cw_tmpl.specs.Library.{enter_entry, enter_place}
+use Rattle.cw_tmpl.specs.Templates.{block_size, block_pieces}
 use Rattle.cw_tmpl.specs.ReferenceCode.{names_of}
 use Rattle.cw_follow.specs.Placing.{base_of}
 use Rattle.cw_tmpl.proofs.Sizes.{own_place, left_next}
+use Rattle.cw_follow.proofs.Watched.{Watched}
 use Rattle.cw_follow.proofs.Standing.{HasPieces, order_place}
-use Rattle.cw_follow.proofs.Orders.{Landed}
-use Rattle.cw_follow.proofs.States.{Given, Starting, never_on}
-use Rattle.cw_follow.proofs.Calls.{Entered, begins}
-use Rattle.cw_tmpl.specs.declared.blocks.Block.TheVariants as block
-use Rattle.cw_tmpl.specs.Templates.{block_size, block_pieces}
 use Rattle.cw_follow.proofs.InBlocks.{front_is}
+use Rattle.cw_follow.proofs.Orders.{Landed, Leading}
+use Rattle.cw_follow.proofs.States.{Given, Starting, never_on, not_stuck}
+use Rattle.cw_follow.proofs.Calls.{EntersTo, begins}
 use Rattle.cw_follow.proofs.Steps.{Follow, leads_to, onward, order_next}
 
 module _ (known : Given) where
   open known use {rows, p, image, all, coded, few, low}
 
-  module _ {q : Watched} {g place line : ℕ} {a : OrderActivation} {acts : List OrderActivation} {w : Words} (s : Starting p image g place line a acts w q) where
-    abbrev pub T : OrderState
-    T = at g place line (a ∷ acts) w Running
+  module _ {q : Watched} {g place : ℕ} {a : OrderActivation} {acts : List OrderActivation} {w : Words} (s : Starting p image g place false a acts w q) where
+    abbrev T : OrderState
+    T = at g place false (a ∷ acts) w Running
 
-    abbrev pub b : Beginning p g place line a acts w.operands
-    b = s.beginning
+    abbrev here : ℕ
+    here = order_place (base_of p g) s.orders.list place
 
-    pub few_there : g < 255
+    few_there : g < 255
     few_there = let lt = slice_get_within p.units g s.orders s.unit in omega arith
 
-    abbrev pub Enters : Order
+    abbrev Enters : Order
     Enters = order.Enter s.beginning.size
 
-    pub fits_there : (t : OrderState) → step p T ≡ t → StateFits t
+    fits_there : (t : OrderState) → step p T ≡ t → StateFits t
     fits_there t e = subst StateFits e (rows.words.keeps p T s.fits)
 
-    pub stands_there : (t : OrderState) → step p T ≡ t → StateStands p t
+    stands_there : (t : OrderState) → step p T ≡ t → StateStands p t
     stands_there t e = subst (StateStands p) e (rows.words.stands_keep p T coded.callable s.stands)
 
-    pub enter_is : step p T ≡ enter_with false (nat_lt (length acts) p.limits.depth) (nat_le (a.frame_base + s.beginning.size) p.limits.area) s.beginning.size a g place line acts w
+    enter_is : step p T ≡ enter_with false (nat_lt (length acts) p.limits.depth) (nat_le (a.frame_base + s.beginning.size) p.limits.area) s.beginning.size a g place false acts w
     enter_is =
-        ap (λ x. carry_out p x g place line (a ∷ acts) w) s.beginning.order
-        ∙ ap (λ x. enter_with x (nat_lt (length acts) p.limits.depth) (nat_le (a.frame_base + s.beginning.size) p.limits.area) s.beginning.size a g place line acts w) s.beginning.begun
+        ap (λ x. carry_out p x g place false (a ∷ acts) w) s.beginning.order
+        ∙ ap (λ x. enter_with x (nat_lt (length acts) p.limits.depth) (nat_le (a.frame_base + s.beginning.size) p.limits.area) s.beginning.size a g place false acts w) s.beginning.begun
 
-    pub listed : slice_get s.orders.list place ≡ Some Enters
+    listed : slice_get s.orders.list place ≡ Some Enters
     listed = ap (λ u. order_in u place) (sym s.unit) ∙ s.beginning.order
 
     -- Enter is a block of its own
-    pub alone_is : block_at (left_at 0 s.orders.list place) (drop place s.orders.list) ≡ block.Single
+    alone_is : block_at (left_at 0 s.orders.list place) (drop place s.orders.list) ≡ block.Single
     alone_is = ap₂ block_at s.begins (front_is s.orders.list place Enters listed)
 
-    pub begins_behind : left_at 0 s.orders.list (place + 1) ≡ 0
+    begins_behind : left_at 0 s.orders.list (place + 1) ≡ 0
     begins_behind =
         let next : place + 1 ≡ suc place = omega arith in
         ap (left_at 0 s.orders.list) next ∙ left_next 0 s.orders.list place Enters listed ∙ ap orders_left alone_is
 
-    pub enter_weight : 24 ≤ weight p T
-    enter_weight = let e : weight p T ≡ 28 = ap weight_at s.beginning.order in omega arith
+    enter_weight : 22 ≤ weight p T
+    enter_weight = let e : weight p T ≡ 30 = ap weight_at s.beginning.order in omega arith
 
-    pub begins_with : (shallow fits : Bool) → nat_lt (length acts) p.limits.depth ≡ shallow → nat_le (a.frame_base + s.beginning.size) p.limits.area ≡ fits
-        → Entered rows p image a acts w g s.beginning.size few_there shallow fits 24 (order_place (base_of p g) s.orders.list place + 12) q → Follow known T q
+    begins_with : (shallow fits : Bool) → nat_lt (length acts) p.limits.depth ≡ shallow → nat_le (a.frame_base + s.beginning.size) p.limits.area ≡ fits
+        → Leading w.output 22 q (EntersTo rows p image a acts w g s.beginning.size few_there shallow fits (here + 9)) → Follow known T q
     begins_with false fits es ef d =
-        leads_to known g place line (a ∷ acts) w (at g place line (a ∷ acts) w (Stopped DepthReached (a.segment + 1) a.line)) 24
-        (enter_is ∙ ap (λ x. enter_with false x (nat_le (a.frame_base + s.beginning.size) p.limits.area) s.beginning.size a g place line acts w) es) enter_weight d
+        leads_to known g place false (a ∷ acts) w (at g place false (a ∷ acts) w (Stopped DepthReached (a.segment + 1) a.line)) 22
+        (enter_is ∙ ap (λ x. enter_with false x (nat_le (a.frame_base + s.beginning.size) p.limits.area) s.beginning.size a g place false acts w) es) enter_weight d
     begins_with true false es ef d =
-        leads_to known g place line (a ∷ acts) w (at g place line (a ∷ acts) w (Stopped FramesFull (a.segment + 1) a.line)) 24
-        (enter_is ∙ ap (λ x. enter_with false x (nat_le (a.frame_base + s.beginning.size) p.limits.area) s.beginning.size a g place line acts w) es ∙ ap (λ x. enter_with false true x s.beginning.size a g place line acts w) ef) enter_weight d
+        leads_to known g place false (a ∷ acts) w (at g place false (a ∷ acts) w (Stopped FramesFull (a.segment + 1) a.line)) 22
+        (enter_is ∙ ap (λ x. enter_with false x (nat_le (a.frame_base + s.beginning.size) p.limits.area) s.beginning.size a g place false acts w) es
+        ∙ ap (λ x. enter_with false true x s.beginning.size a g place false acts w) ef) enter_weight d
     begins_with true true es ef d =
         let size = s.beginning.size in
         let a' : OrderActivation = record a { entered = true; frame_top = a.frame_base + size } in
-        let t = at g (place + 1) line (a' ∷ acts) w Running in
-        let goes : step p T ≡ t = enter_is ∙ ap (λ x. enter_with false x (nat_le (a.frame_base + size) p.limits.area) size a g place line acts w) es ∙ ap (λ x. enter_with false true x size a g place line acts w) ef in
-        let next : order_place (base_of p g) s.orders.list place + 12 ≡ order_place (base_of p g) s.orders.list (place + 1) =
-        ap (λ x. order_place (base_of p g) s.orders.list place + block_size x Enters) (sym alone_is) ∙ order_next (base_of p g) s.orders.list place Enters listed in
+        let t = at g (place + 1) false (a' ∷ acts) w Running in
+        let goes : step p T ≡ t = enter_is ∙ ap (λ x. enter_with false x (nat_le (a.frame_base + size) p.limits.area) size a g place false acts w) es ∙ ap (λ x. enter_with false true x size a g place false acts w) ef in
+        let next : here + 9 ≡ order_place (base_of p g) s.orders.list (place + 1) = ap (λ x. here + block_size x Enters) (sym alone_is) ∙ order_next (base_of p g) s.orders.list place Enters listed in
         let room_there = (stands_there t goes).room in
         let fit = fits_there t goes in
         let top : a.frame_base + size ≤ p.limits.area = leb-true (a.frame_base + size) p.limits.area ef in
         let base : a.frame_base ≤ p.limits.area = omega arith in
         let working : ActivationsStand p g (a' ∷ acts) = (refl, base, top, s.beginning.arguments, s.beginning.operands_stand, s.beginning.callers) in
-        leads_to known g place line (a ∷ acts) w t 24 goes enter_weight
+        leads_to known g place false (a ∷ acts) w t 22 goes enter_weight
         (onward known (λ r l. inl (record {
           orders = s.orders;
           unit = s.unit;
           from = place + 1;
           done = 0;
           before = w;
+          loaded_before = false;
           place_is = omega arith;
           begins = begins_behind;
           inside = omega arith;
           did = refl;
-          landed = subst (λ n. Landed p image (order_place (base_of p g) s.orders.list (place + 1)) g n (a' ∷ acts) w r) (sym s.beginning.no_line) (subst (λ n. Landed p image n g 0 (a' ∷ acts) w r) next l);
+          moded = refl;
+          landed = subst (λ n. Landed p image n g false (a' ∷ acts) w r) next l;
           fits = fit.words;
           acts_fit = fit.activations;
           fits_before = fit.words;
@@ -113,29 +116,36 @@ module _ (known : Given) where
           never = never_on p T t goes s.never;
         })) d)
 
-    pub begins_activation : Follow known T q
-    begins_activation =
+    begins_free : Follow known T q
+    begins_free =
         let size = s.beginning.size in
-        let here = order_place (base_of p g) s.orders.list place in
         let st = all.stands g s.orders s.unit in
         let i = subst (λ x. HasPieces image st.value here (block_pieces (names_of s.orders) (own_place s.orders.list place) x Enters)) alone_is (st.orders place Enters listed) in
         let number = st.value 8 3 0 (here + 3 + 3) in
-        let words = st.value 8 0 0 (here + 3 + 3 + 3) in
-        let by = st.value 7 9 0 (here + 3 + 3 + 3 + 3) in
+        let by = st.value 7 enter_entry 0 (here + 3 + 3 + 3) in
         let numbered = st.fills.number (here + 3 + 3) in
         let few_here = few_there in
         let is_number : number ≡ g + 1 = omega arith in
-        let filled = st.fills.area (here + 3 + 3 + 3) in
-        let area_is : words ≡ p.limits.area = omega arith in
-        let by_is : by ≡ (71 + (65536 - (here + 3 + 3 + 3 + 3) % 65536)) % 65536 = st.fills.library 9 (here + 3 + 3 + 3 + 3) (lit< tt) in
-        let arrives : (here + 3 + 3 + 3 + 3 + by) % 65536 ≡ 71 % 65536 = omega arith in
+        let by_is : by ≡ (enter_place + (65536 - (here + 3 + 3 + 3) % 65536)) % 65536 = st.fills.library enter_entry (here + 3 + 3 + 3) (lit< tt) in
+        let arrives : (here + 9 + by) % 65536 ≡ enter_place % 65536 = omega arith in
         let base_low : a.frame_base ≤ p.limits.area = frame_low acts s.beginning.callers s.beginning.base in
         let most = coded.room in
         let small : size < 65536 = coded.codes g place Enters s.beginning.order in
         let room : stack_words [] (a ∷ acts) ≤ 32000 = (let r = s.stands.room in let e : stack_words w.operands (a ∷ acts) ≡ stack_words [] (a ∷ acts) = ap (λ xs. stack_words xs (a ∷ acts)) s.beginning.none in omega arith) in
         begins_with (nat_lt (length acts) p.limits.depth) (nat_le (a.frame_base + size) p.limits.area) refl refl
-        (begins rows p image a acts w g size few_there all.library s.beginning.none low base_low small here by number words is_number area_is arrives s.beginning.base coded.depth room i s.called_at)
+        (begins rows p image a acts w g size few_there s.beginning.none s.beginning.base room here by number all.library low base_low small coded.depth is_number arrives i s.called_at)
       where
         frame_low : (xs : List OrderActivation) → ActivationsStand p a.segment xs → a.frame_base ≡ frame_end p xs → a.frame_base ≤ p.limits.area
         frame_low [] h e = let f : a.frame_base ≡ p.limits.area - p.limits.frames = e in omega arith
         frame_low (c ∷ cs) h e = let f : a.frame_base ≡ c.frame_top = e in let g = h.2 in omega arith
+
+  -- where the accumulator is loaded the orders would be stuck
+  pub begins_activation : {q : Watched} {g place : ℕ} {loaded : Bool} {a : OrderActivation} {acts : List OrderActivation} {w : Words} → Starting p image g place loaded a acts w q
+      → Follow known (at g place loaded (a ∷ acts) w Running) q
+  begins_activation {q} {g} {place} {loaded} {a} {acts} {w} s = cases loaded s
+    where
+      cases : (m : Bool) → Starting p image g place m a acts w q → Follow known (at g place m (a ∷ acts) w Running) q
+      cases false s = begins_free s
+      cases true s =
+          let stuck = at g place true (a ∷ acts) w Stuck in
+          absurd (not_stuck p g place true (a ∷ acts) w (never_on p (at g place true (a ∷ acts) w Running) stuck (ap (λ x. carry_out p x g place true (a ∷ acts) w) s.beginning.order) s.never))

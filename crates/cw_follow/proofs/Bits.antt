@@ -1,5 +1,5 @@
 -- What the code of logic and of parts of words does.
-use Rattle.std.proofs.Common.{◌≡◌, ℕ, suc, ◌+◌, ◌-◌, ◌*◌, ◌/◌, ◌%◌, ◌^◌, ◌<◌, ◌≤◌, Bool, true, false, ℤ, pos, negsuc, List, [], ◌∷◌, length, set, refl, sym, ap, ap₂, ◌∙◌, subst, arith, lit<, lit≤, Some, pow_pos, pow_mono}
+use Rattle.std.proofs.Common.{◌≡◌, ℕ, suc, ◌+◌, ◌-◌, ◌*◌, ◌/◌, ◌%◌, ◌^◌, ◌<◌, ◌≤◌, Bool, true, false, ℤ, pos, negsuc, List, [], ◌∷◌, length, set, Option, refl, sym, ap, ap₂, ◌∙◌, subst, arith, lit<, lit≤, Some, pow_pos, pow_mono}
 use borrow.Author.Tests.{ltb-true}
 use Rattle.std.proofs.Math.Nat.{mod-le, div-le_self}
 use Rattle.std.proofs.lemmas.Bool.{false≢true}
@@ -17,20 +17,20 @@ use Rattle.cw_run86.specs.Views.{View, put_word, word_difference, word_up, word_
 use Rattle.cw_word.specs.BitField.{unsigned_field, signed_field, with_field, field_mask}
 use Rattle.cw_word.specs.FixedPoint.{FitsWord}
 use Rattle.cw_word.specs.Word.{signed, unsigned, word_difference as difference_of_words}
-use Rattle.cw_unit.specs.Words.{Operand, Changed, put, on_two, is_below, word_at, at_address, through, field_value, with_bits, with_memory}
+use Rattle.cw_unit.specs.declared.unit.Field.{Field}
+use Rattle.cw_unit.specs.Words.{Operand, Word, Words, Outcome, Changed, put, on_two, is_below, word_at, at_address, through, field_value, with_bits, with_memory}
 use Rattle.cw_unit.specs.Operation.{Extract, Fetch, StoreBits, perform}
 use Rattle.cw_order.specs.FittingWords.{OperandFits}
-use Rattle.cw_order.specs.OrderChanges.{without_top}
 use Rattle.cw_order.specs.OrderMachine.{unrefused}
 use Rattle.cw_tmpl.specs.Mnemonics.{at_bx}
-use Rattle.cw_follow.proofs.Standing.{HasAll}
-use Rattle.cw_follow.proofs.Chains.{Is, view, last, done}
-use Rattle.cw_follow.proofs.Straight.{Act, Move, Pop, Difference, Both, Either, Number, Double, Load, Store, Up, Down, DownSigned, piece, straight, instruction, after, Needs}
+use Rattle.cw_routines.specs.Ways.{HasAll}
+use Rattle.cw_follow.proofs.Chains.{Is, view, done}
+use Rattle.cw_follow.proofs.Straight.{Act, Move, Exchange, Pop, Difference, Both, Either, Number, Double, Load, Store, Up, Down, DownSigned, straight, instruction, after, Needs, NeedsAll}
 use Rattle.cw_follow.proofs.Routines.{with_ax}
-use Rattle.cw_follow.proofs.Stacks.{level, record_of, StackIs, top_is}
-use Rattle.cw_follow.proofs.Orders.{pop_ax, further, landed, kept_stored}
+use Rattle.cw_follow.proofs.Stacks.{level, record_of}
+use Rattle.cw_follow.proofs.Orders.{further, landed, kept_stored}
 use Rattle.cw_order.specs.OrderState.{operand_words}
-use Rattle.cw_follow.proofs.Operands.{Setting, words, with_cells, One, Two, result, LandedWith, DoesHere, taking_one, taking_two, accessing_one, accessing_two}
+use Rattle.cw_follow.proofs.Operands.{Setting, words, with_cells, One, Two, result, LandedWith, DoesHere, accessing_one, accessing_two}
 use Rattle.cw_follow.proofs.Numbers.{unsigned_pos}
 use Rattle.cw_follow.proofs.Facts.{down_none, not_below}
 
@@ -40,51 +40,56 @@ Sets act value flag =
     (a cx dx b sp bp si di : ℕ) (overflow : Bool) (cells stack : ℕ → ℕ) (input : List ℕ) (told : Told)
     → after act (view a cx dx b sp bp si di overflow cells stack input told) ≡ view (value a b) cx dx b sp bp si di (flag a b overflow) cells stack input told
 
--- where there are operands above a word, that word is below the base record
-below_base : (c : Setting) (ax : ℕ) (stack : ℕ → ℕ) (n : ℕ) (rest : List Operand) → StackIs c.program c.acts ax stack (suc n) rest → n < 32761
-below_base c ax stack n rest h = let t = top_is c.program c.acts ax stack (suc n) rest h in omega arith
+-- a part of a word, and what takes one
+abbrev part : (t b : ℕ) → (unsigned : Bool) → Option Field
+part t b u = Some (record { t = t; b = b; unsigned = u })
+
+abbrev taking : (t b : ℕ) → (unsigned : Bool) → ℕ → Words → Outcome
+taking t b u n v = Changed (put (field_value (part t b u) (word_at v.memory n)) v)
 
 module _ (c : Setting) (memory : List ℤ) (input output : List ℕ) where
-  pub drops : {p : Watched} {at : ℕ} (to : ℕ) (operands : List Operand) → at + 1 ≡ to → operand_words operands < level c.acts → All OperandFits operands → HasAll c.image at (i86.Pop 0 ∷ []) → LandedWith c memory input output at operands p
-      → DoesHere c memory input output 1 to p (without_top (words operands memory input output))
-  drops {p} {at} to operands e roomy fits i = taking_one c memory input output 1 to (λ x v. Changed v) does operands roomy fits
-    where
-      does : (x : ℤ) (rest : List Operand) → FitsWord x → One c memory input output at x rest p → DoesHere c memory input output 1 to p (Changed (words rest memory input output))
-      does x rest fx l =
-          further 1 (lit≤ tt) (lit< tt)
-          (last c.rows l.is l.kept.wrote (landed c.rows c.program c.image c.g c.line c.acts to (suc (suc l.top)) rest memory input output e l.under l.kept (pop_ax c.rows c.program c.image c.g c.line c.acts (suc l.top) (below_base c _ _ (suc l.top) rest l.under) i.0 l.is)))
+  -- the top operand is left in AX
+  pub drops : (z : ℤ) (rest : List Operand) {p : Watched} (at : ℕ) → LandedWith c memory input output at true (Word z ∷ rest) p → LandedWith c memory input output at false rest p
+  drops z rest at l = record { top = l.top; cells = l.cells; stack = l.stack; input = l.input; told = l.told; stacked = l.stacked; operands = l.operands.1; kept = l.kept }
 
   -- ---- logic
 
-  pub combines : {p : Watched} {at : ℕ} (to : ℕ) (act : Act) (value : ℕ → ℕ → ℕ) (flag : ℕ → ℕ → Bool → Bool) (f : ℤ → ℤ → ℤ) (operands : List Operand) → at + 3 ≡ to → length (bytes_of (instruction act)) ≡ 2
+  pub combines : {p : Watched} {at : ℕ} (to : ℕ) (act : Act) (value : ℕ → ℕ → ℕ) (flag : ℕ → ℕ → Bool → Bool) (f : ℤ → ℤ → ℤ) (operands : List Operand)
+      → at + 3 ≡ to → length (bytes_of (instruction act)) ≡ 2
       → Sets act value flag → ((v : View) → Needs act v) → ((x y : ℤ) → FitsWord x → FitsWord y → value (unsigned y) (unsigned x) ≡ unsigned (f x y))
-      → operand_words operands < level c.acts → All OperandFits operands → HasAll c.image at (i86.Pop 3 ∷ instruction act ∷ []) → LandedWith c memory input output at operands p
-      → DoesHere c memory input output 2 to p (on_two (λ x y v. Changed (put (f x y) v)) operands (words operands memory input output))
-  combines {p} {at} to act value flag f operands e long sets needs gives roomy fits i = taking_two c memory input output 2 to (λ x y v. Changed (put (f x y) v)) does operands roomy fits
+      → operand_words operands < level c.acts → All OperandFits operands → HasAll c.image at (i86.Pop 3 ∷ instruction act ∷ []) → LandedWith c memory input output at true operands p
+      → DoesHere c memory input output 2 to true 0 p (unrefused (on_two (λ x y v. Changed (put (f x y) v)) operands (words operands memory input output)))
+  combines {p} {at} to act value flag f operands e long sets needs gives roomy fits i =
+      accessing_two c memory input output 2 to true 0 (λ x y v. Changed (put (f x y) v)) does operands roomy fits
     where
-      does : (x y : ℤ) (rest : List Operand) → FitsWord x → FitsWord y → Two c memory input output at x y rest p → DoesHere c memory input output 2 to p (Changed (put (f x y) (words rest memory input output)))
+      does : (x y : ℤ) (rest : List Operand) → FitsWord x → FitsWord y → Two c memory input output at x y rest p
+          → DoesHere c memory input output 2 to true 0 p (Changed (put (f x y) (words rest memory input output)))
       does x y rest fx fy l =
-          let s = l in
           let acts = Pop 3 (suc l.top) (unsigned x) ∷ act ∷ [] in
           let e' : at + 1 + length (bytes_of (instruction act)) ≡ to = omega arith in
           further 2 (lit≤ tt) (lit< tt)
-          (straight c.rows acts l.kept.wrote i (l.next, (needs _, tt)) s.is (λ q t.
-          done (result c memory input output to (suc l.top) (f x y) rest e' (gives x y fx fy) l.under l.kept
-          (subst (λ v. Is c.image (at + 1 + length (bytes_of (instruction act))) v q) (sets (unsigned y) s.cx s.dx (unsigned x) (2 * suc (suc l.top)) (record_of c.acts) s.si s.di s.overflow l.cells l.stack l.left l.told) t))))
+          (straight c.rows acts l.kept.wrote i (l.next, (needs _, tt)) l.is (λ q t.
+          done (result c memory input output to (suc (suc l.top)) (f x y) rest e' (gives x y fx fy) l.under l.kept
+          (subst (λ v. Is c.image (at + 1 + length (bytes_of (instruction act))) v q)
+          (sets (unsigned y) l.cx l.dx (unsigned x) (2 * suc (suc l.top)) (record_of c.acts) l.si c.program.limits.area l.overflow l.cells l.stack l.left l.told) t))))
 
   -- a difference, which is not the same either way round
-  pub differs : {p : Watched} {at : ℕ} (to : ℕ) (f : ℤ → ℤ → ℤ) (operands : List Operand) → at + 5 ≡ to → ((x y : ℤ) → FitsWord x → FitsWord y → word_difference (unsigned x) (unsigned y) ≡ unsigned (f x y))
-      → operand_words operands < level c.acts → All OperandFits operands → HasAll c.image at (i86.Mov true true 3 (rms.Reg 0) ∷ i86.Pop 0 ∷ i86.AluRm 5 true true 0 (rms.Reg 3) ∷ []) → LandedWith c memory input output at operands p
-      → DoesHere c memory input output 3 to p (on_two (λ x y v. Changed (put (f x y) v)) operands (words operands memory input output))
-  differs {p} {at} to f operands e gives roomy fits i = taking_two c memory input output 3 to (λ x y v. Changed (put (f x y) v)) does operands roomy fits
+  pub differs : {p : Watched} {at : ℕ} (to : ℕ) (f : ℤ → ℤ → ℤ) (operands : List Operand) → at + 5 ≡ to
+      → ((x y : ℤ) → FitsWord x → FitsWord y → word_difference (unsigned x) (unsigned y) ≡ unsigned (f x y))
+      → operand_words operands < level c.acts → All OperandFits operands
+      → HasAll c.image at (i86.Mov true true 3 (rms.Reg 0) ∷ i86.Pop 0 ∷ i86.AluRm 5 true true 0 (rms.Reg 3) ∷ []) → LandedWith c memory input output at true operands p
+      → DoesHere c memory input output 3 to true 0 p (unrefused (on_two (λ x y v. Changed (put (f x y) v)) operands (words operands memory input output)))
+  differs {p} {at} to f operands e gives roomy fits i =
+      accessing_two c memory input output 3 to true 0 (λ x y v. Changed (put (f x y) v)) does operands roomy fits
     where
-      does : (x y : ℤ) (rest : List Operand) → FitsWord x → FitsWord y → Two c memory input output at x y rest p → DoesHere c memory input output 3 to p (Changed (put (f x y) (words rest memory input output)))
+      does : (x y : ℤ) (rest : List Operand) → FitsWord x → FitsWord y → Two c memory input output at x y rest p
+          → DoesHere c memory input output 3 to true 0 p (Changed (put (f x y) (words rest memory input output)))
       does x y rest fx fy l =
           let acts = Move 3 0 ∷ Pop 0 (suc l.top) (unsigned x) ∷ Difference 0 3 ∷ [] in
           let e' : at + 2 + 1 + 2 ≡ to = omega arith in
           further 3 (lit≤ tt) (lit< tt)
           (straight c.rows acts l.kept.wrote i (tt, (l.next, (tt, tt))) l.is (λ q t.
-          done (result c memory input output to (suc l.top) (f x y) rest e' (gives x y fx fy) l.under l.kept t)))
+          done (result c memory input output to (suc (suc l.top)) (f x y) rest e' (gives x y fx fy) l.under l.kept t)))
 
   unsigned_fits : (x : ℤ) → FitsWord x → unsigned x < 65536
   unsigned_fits = c.rows.words.unsigned_fits
@@ -118,17 +123,19 @@ module _ (c : Setting) (memory : List ℤ) (input output : List ℕ) where
 
   pub takes : {p : Watched} {at : ℕ} (to t b : ℕ) (operands : List Operand) → at + 10 ≡ to → t + b ≤ 16 → operand_words operands < level c.acts → All OperandFits operands
       → HasAll c.image at (i86.MovImm 1 (imm.Word b) ∷ i86.Shift 5 true true (rms.Reg 0) ∷ i86.MovImm 3 (imm.Word (2 ^ t - 1)) ∷ i86.AluRm 4 true true 0 (rms.Reg 3) ∷ [])
-      → LandedWith c memory input output at operands p
-      → DoesHere c memory input output 4 to p (perform c.program.limits.area (Extract t b) (words operands memory input output))
-  takes {p} {at} to t b operands e room roomy fits i = taking_one c memory input output 4 to (λ x v. Changed (put (signed (unsigned_field (unsigned x) t b)) v)) does operands roomy fits
+      → LandedWith c memory input output at true operands p
+      → DoesHere c memory input output 4 to true 0 p (unrefused (perform c.program.limits.area (Extract t b) (words operands memory input output)))
+  takes {p} {at} to t b operands e room roomy fits i =
+      accessing_one c memory input output 4 to true 0 (λ x v. Changed (put (signed (unsigned_field (unsigned x) t b)) v)) does operands roomy fits
     where
-      does : (x : ℤ) (rest : List Operand) → FitsWord x → One c memory input output at x rest p → DoesHere c memory input output 4 to p (Changed (put (signed (unsigned_field (unsigned x) t b)) (words rest memory input output)))
+      does : (x : ℤ) (rest : List Operand) → FitsWord x → One c memory input output at x rest p
+          → DoesHere c memory input output 4 to true 0 p (Changed (put (signed (unsigned_field (unsigned x) t b)) (words rest memory input output)))
       does x rest fx l =
           let acts = Number 1 b ∷ Down 0 ∷ Number 3 (2 ^ t - 1) ∷ Both 0 3 ∷ [] in
           let e' : at + 3 + 2 + 3 + 2 ≡ to = omega arith in
           further 4 (lit≤ tt) (lit< tt)
           (straight c.rows acts l.kept.wrote i (tt, (tt, (tt, (tt, tt)))) l.is (λ q t'.
-          done (result c memory input output to l.top (signed (unsigned_field (unsigned x) t b)) rest e' (part_is (unsigned x) t b (unsigned_fits x fx) room) l.under l.kept t')))
+          done (result c memory input output to (suc l.top) (signed (unsigned_field (unsigned x) t b)) rest e' (part_is (unsigned x) t b (unsigned_fits x fx) room) l.under l.kept t')))
 
   -- a part of a word of the data area; one of 16 bits is the word
   unsigned_part : (z : ℤ) (t b : ℕ) (whole : Bool) → nat_lt 15 t ≡ whole → FitsWord z → t + b ≤ 16
@@ -173,57 +180,64 @@ module _ (c : Setting) (memory : List ℤ) (input output : List ℕ) where
     fits_at : (n : ℕ) → n < c.program.limits.area → FitsWord (word_at memory n)
     fits_at n lt = all n (pos 0) (omega arith)
 
-    pub loads_unsigned : {p : Watched} {at : ℕ} (to t b : ℕ) (operands : List Operand) → at + 16 ≡ to → t + b ≤ 16 → operand_words operands < level c.acts → All OperandFits operands
-        → HasAll c.image at (i86.Mov true true 3 (rms.Reg 0) ∷ i86.Shift 4 true false (rms.Reg 3) ∷ i86.Mov true true 0 at_bx ∷ i86.MovImm 1 (imm.Word b) ∷ i86.Shift 5 true true (rms.Reg 0) ∷ i86.MovImm 3 (imm.Word (2 ^ t - 1)) ∷ i86.AluRm 4 true true 0 (rms.Reg 3) ∷ [])
-        → LandedWith c memory input output at operands p
-        → DoesHere c memory input output 7 to p (unrefused (perform c.program.limits.area (Fetch (Some (record { t = t; b = b; unsigned = true }))) (words operands memory input output)))
-    loads_unsigned {p} {at} to t b operands e room roomy fits i = accessing_one c memory input output 7 to (at_address c.program.limits.area (λ i v. Changed (put (field_value (Some (record { t = t; b = b; unsigned = true })) (word_at v.memory i)) v))) does operands roomy fits
+    -- at an address that is none of the area nothing is asked
+    at_word : (p : Watched) (limit to : ℕ) (loaded : Bool) (f : ℕ → Words → Outcome) (a : ℤ) (w : Words)
+        → ((n : ℕ) → a ≡ pos n → n < c.program.limits.area → DoesHere c memory input output limit to loaded 0 p (unrefused (f n w)))
+        → DoesHere c memory input output limit to loaded 0 p (unrefused (at_address c.program.limits.area f a w))
+    at_word p limit to loaded f a w on = cases a (is_below a c.program.limits.area) refl refl
       where
-        reached : (a : ℤ) (is_there : Bool) (rest : List Operand) → is_below a c.program.limits.area ≡ is_there → One c memory input output at a rest p
-            → DoesHere c memory input output 7 to p (unrefused (through is_there (λ i v. Changed (put (field_value (Some (record { t = t; b = b; unsigned = true })) (word_at v.memory i)) v)) a (words rest memory input output)))
-        reached a false rest is l = tt
-        reached (negsuc n) true rest is l = absurd (false≢true is)
-        reached (pos n) true rest is l =
-            let within : n < c.program.limits.area = ltb-true n c.program.limits.area is in
+        cases : (z : ℤ) (b : Bool) → a ≡ z → is_below z c.program.limits.area ≡ b → DoesHere c memory input output limit to loaded 0 p (unrefused (through b f z w))
+        cases z false same is = tt
+        cases (negsuc n) true same is = absurd (false≢true is)
+        cases (pos n) true same is = on n same (ltb-true n c.program.limits.area is)
+
+    pub loads_unsigned : {p : Watched} {at : ℕ} (to t b : ℕ) (operands : List Operand) → at + 15 ≡ to → t + b ≤ 16 → operand_words operands < level c.acts → All OperandFits operands
+        → HasAll c.image at
+        (i86.XchgAx 3 ∷ i86.Shift 4 true false (rms.Reg 3) ∷ i86.Mov true true 0 at_bx
+        ∷ i86.MovImm 1 (imm.Word b) ∷ i86.Shift 5 true true (rms.Reg 0) ∷ i86.MovImm 3 (imm.Word (2 ^ t - 1)) ∷ i86.AluRm 4 true true 0 (rms.Reg 3) ∷ [])
+        → LandedWith c memory input output at true operands p
+        → DoesHere c memory input output 7 to true 0 p (unrefused (perform c.program.limits.area (Fetch (part t b true)) (words operands memory input output)))
+    loads_unsigned {p} {at} to t b operands e room roomy fits i =
+        accessing_one c memory input output 7 to true 0 (at_address c.program.limits.area (taking t b true)) does operands roomy fits
+      where
+        does : (x : ℤ) (rest : List Operand) → FitsWord x → One c memory input output at x rest p
+            → DoesHere c memory input output 7 to true 0 p (unrefused (at_address c.program.limits.area (taking t b true) x (words rest memory input output)))
+        does x rest fx l = at_word p 7 to true (taking t b true) x (words rest memory input output) (λ n is within.
             let low = c.low in
             let lt : n < 32768 = omega arith in
             let small : n < 65536 = omega arith in
             let z = word_at memory n in
-            let acts = Move 3 0 ∷ Double 3 ∷ Load 0 n (unsigned z) ∷ Number 1 b ∷ Down 0 ∷ Number 3 (2 ^ t - 1) ∷ Both 0 3 ∷ [] in
-            let e' : at + 2 + 2 + 2 + 3 + 2 + 3 + 2 ≡ to = omega arith in
+            let acts = Exchange ∷ Double 3 ∷ Load 0 n (unsigned z) ∷ Number 1 b ∷ Down 0 ∷ Number 3 (2 ^ t - 1) ∷ Both 0 3 ∷ [] in
+            let e' : at + 1 + 2 + 2 + 3 + 2 + 3 + 2 ≡ to = omega arith in
+            let value = unsigned_part z t b (nat_lt 15 t) refl (fits_at n within) room in
             further 7 (lit≤ tt) (lit< tt)
-            (straight c.rows acts l.kept.wrote i (tt, (lt, ((lt, refl, l.kept.words n within), (tt, (tt, (tt, (tt, tt))))))) (with_ax (unsigned_pos n small) l.is) (λ q t'.
-            done (result c memory input output to l.top (field_value (Some (record { t = t; b = b; unsigned = true })) z) rest e' (unsigned_part z t b (nat_lt 15 t) refl (fits_at n within) room) l.under l.kept t')))
+            (straight c.rows acts l.kept.wrote i (tt, (lt, ((lt, refl, l.kept.words n within), (tt, (tt, (tt, (tt, tt))))))) (with_ax (ap unsigned is ∙ unsigned_pos n small) l.is) (λ q u.
+            done (result c memory input output to (suc l.top) (field_value (part t b true) z) rest e' value l.under l.kept u))))
 
-        does : (x : ℤ) (rest : List Operand) → FitsWord x → One c memory input output at x rest p → DoesHere c memory input output 7 to p (unrefused (at_address c.program.limits.area (λ i v. Changed (put (field_value (Some (record { t = t; b = b; unsigned = true })) (word_at v.memory i)) v)) x (words rest memory input output)))
-        does x rest fx l = reached x (is_below x c.program.limits.area) rest refl l
-
-    pub loads_signed : {p : Watched} {at : ℕ} (to t b : ℕ) (operands : List Operand) → at + 16 ≡ to → 1 ≤ t → t + b ≤ 16 → operand_words operands < level c.acts → All OperandFits operands
-        → HasAll c.image at (i86.Mov true true 3 (rms.Reg 0) ∷ i86.Shift 4 true false (rms.Reg 3) ∷ i86.Mov true true 0 at_bx ∷ i86.MovImm 1 (imm.Word (16 - (t + b))) ∷ i86.Shift 4 true true (rms.Reg 0) ∷ i86.MovImm 1 (imm.Word (16 - t)) ∷ i86.Shift 7 true true (rms.Reg 0) ∷ [])
-        → LandedWith c memory input output at operands p
-        → DoesHere c memory input output 7 to p (unrefused (perform c.program.limits.area (Fetch (Some (record { t = t; b = b; unsigned = false }))) (words operands memory input output)))
-    loads_signed {p} {at} to t b operands e some room roomy fits i = accessing_one c memory input output 7 to (at_address c.program.limits.area (λ i v. Changed (put (field_value (Some (record { t = t; b = b; unsigned = false })) (word_at v.memory i)) v))) does operands roomy fits
+    pub loads_signed : {p : Watched} {at : ℕ} (to t b : ℕ) (operands : List Operand) → at + 15 ≡ to → 1 ≤ t → t + b ≤ 16 → operand_words operands < level c.acts → All OperandFits operands
+        → HasAll c.image at
+        (i86.XchgAx 3 ∷ i86.Shift 4 true false (rms.Reg 3) ∷ i86.Mov true true 0 at_bx
+        ∷ i86.MovImm 1 (imm.Word (16 - (t + b))) ∷ i86.Shift 4 true true (rms.Reg 0) ∷ i86.MovImm 1 (imm.Word (16 - t)) ∷ i86.Shift 7 true true (rms.Reg 0) ∷ [])
+        → LandedWith c memory input output at true operands p
+        → DoesHere c memory input output 7 to true 0 p (unrefused (perform c.program.limits.area (Fetch (part t b false)) (words operands memory input output)))
+    loads_signed {p} {at} to t b operands e some room roomy fits i =
+        accessing_one c memory input output 7 to true 0 (at_address c.program.limits.area (taking t b false)) does operands roomy fits
       where
-        reached : (a : ℤ) (is_there : Bool) (rest : List Operand) → is_below a c.program.limits.area ≡ is_there → One c memory input output at a rest p
-            → DoesHere c memory input output 7 to p (unrefused (through is_there (λ i v. Changed (put (field_value (Some (record { t = t; b = b; unsigned = false })) (word_at v.memory i)) v)) a (words rest memory input output)))
-        reached a false rest is l = tt
-        reached (negsuc n) true rest is l = absurd (false≢true is)
-        reached (pos n) true rest is l =
-            let within : n < c.program.limits.area = ltb-true n c.program.limits.area is in
+        does : (x : ℤ) (rest : List Operand) → FitsWord x → One c memory input output at x rest p
+            → DoesHere c memory input output 7 to true 0 p (unrefused (at_address c.program.limits.area (taking t b false) x (words rest memory input output)))
+        does x rest fx l = at_word p 7 to true (taking t b false) x (words rest memory input output) (λ n is within.
             let low = c.low in
             let lt : n < 32768 = omega arith in
             let small : n < 65536 = omega arith in
             let z = word_at memory n in
             let fz = unsigned_fits z (fits_at n within) in
             let up : word_up (unsigned z) ((16 - (t + b)) % 256) < 65536 = omega arith in
-            let acts = Move 3 0 ∷ Double 3 ∷ Load 0 n (unsigned z) ∷ Number 1 (16 - (t + b)) ∷ Up 0 ∷ Number 1 (16 - t) ∷ DownSigned 0 ∷ [] in
-            let e' : at + 2 + 2 + 2 + 3 + 2 + 3 + 2 ≡ to = omega arith in
+            let acts = Exchange ∷ Double 3 ∷ Load 0 n (unsigned z) ∷ Number 1 (16 - (t + b)) ∷ Up 0 ∷ Number 1 (16 - t) ∷ DownSigned 0 ∷ [] in
+            let e' : at + 1 + 2 + 2 + 3 + 2 + 3 + 2 ≡ to = omega arith in
+            let value = signed_part z t b (nat_lt 15 t) refl (fits_at n within) some room in
             further 7 (lit≤ tt) (lit< tt)
-            (straight c.rows acts l.kept.wrote i (tt, (lt, ((lt, refl, l.kept.words n within), (tt, (fz, (tt, (up, tt))))))) (with_ax (unsigned_pos n small) l.is) (λ q t'.
-            done (result c memory input output to l.top (field_value (Some (record { t = t; b = b; unsigned = false })) z) rest e' (signed_part z t b (nat_lt 15 t) refl (fits_at n within) some room) l.under l.kept t')))
-
-        does : (x : ℤ) (rest : List Operand) → FitsWord x → One c memory input output at x rest p → DoesHere c memory input output 7 to p (unrefused (at_address c.program.limits.area (λ i v. Changed (put (field_value (Some (record { t = t; b = b; unsigned = false })) (word_at v.memory i)) v)) x (words rest memory input output)))
-        does x rest fx l = reached x (is_below x c.program.limits.area) rest refl l
+            (straight c.rows acts l.kept.wrote i (tt, (lt, ((lt, refl, l.kept.words n within), (tt, (fz, (tt, (up, tt))))))) (with_ax (ap unsigned is ∙ unsigned_pos n small) l.is) (λ q u.
+            done (result c memory input output to (suc l.top) (field_value (part t b false) z) rest e' value l.under l.kept u))))
 
     -- the word with the part stored
     stored_is : (old z : ℤ) (t b : ℕ) → FitsWord old → t + b ≤ 16
@@ -235,35 +249,34 @@ module _ (c : Setting) (memory : List ℤ) (input output : List ℕ) where
         ap (λ n. bit_or (bit_and w (65535 - field_mask t b)) (bit_and (word_up (unsigned z) n) (field_mask t b))) e ∙ sym (c.rows.words.stored w t b (unsigned z) f room)
         ∙ sym (c.rows.words.forth (with_field w t b (unsigned z)) (c.rows.words.field_fits w t b (unsigned z) f room))
 
-    pub stores_part : {p : Watched} {at : ℕ} (to t b : ℕ) (operands : List Operand) → at + 27 ≡ to → t + b ≤ 16 → operand_words operands < level c.acts → All OperandFits operands
-        → HasAll c.image at (i86.Mov true true 3 (rms.Reg 0) ∷ i86.Pop 0 ∷ i86.Shift 4 true false (rms.Reg 3) ∷ i86.MovImm 1 (imm.Word b) ∷ i86.Shift 4 true true (rms.Reg 0) ∷ i86.MovImm 1 (imm.Word (field_mask t b)) ∷ i86.AluRm 4 true true 0 (rms.Reg 1)
-        ∷ i86.Mov true true 2 at_bx ∷ i86.MovImm 1 (imm.Word (65535 - field_mask t b)) ∷ i86.AluRm 4 true true 2 (rms.Reg 1) ∷ i86.AluRm 1 true true 2 (rms.Reg 0) ∷ i86.Mov true false 2 at_bx ∷ i86.Pop 0 ∷ [])
-        → LandedWith c memory input output at operands p
-        → DoesHere c memory input output 13 to p (unrefused (perform c.program.limits.area (StoreBits t b) (words operands memory input output)))
+    pub stores_part : {p : Watched} {at : ℕ} (to t b : ℕ) (operands : List Operand) → at + 26 ≡ to → t + b ≤ 16 → operand_words operands < level c.acts → All OperandFits operands
+        → HasAll c.image at
+        (i86.Mov true true 3 (rms.Reg 0) ∷ i86.Pop 0 ∷ i86.Shift 4 true false (rms.Reg 3)
+        ∷ i86.MovImm 1 (imm.Word b) ∷ i86.Shift 4 true true (rms.Reg 0) ∷ i86.MovImm 1 (imm.Word (field_mask t b)) ∷ i86.AluRm 4 true true 0 (rms.Reg 1)
+        ∷ i86.Mov true true 2 at_bx ∷ i86.MovImm 1 (imm.Word (65535 - field_mask t b)) ∷ i86.AluRm 4 true true 2 (rms.Reg 1) ∷ i86.AluRm 1 true true 2 (rms.Reg 0) ∷ i86.Mov true false 2 at_bx ∷ [])
+        → LandedWith c memory input output at true operands p
+        → DoesHere c memory input output 12 to false 0 p (unrefused (perform c.program.limits.area (StoreBits t b) (words operands memory input output)))
     stores_part {p} {at} to t b operands e room roomy fits i =
-        accessing_two c memory input output 13 to (λ z a v. at_address c.program.limits.area (λ i s. Changed (with_memory s (set s.memory i (with_bits t b (word_at s.memory i) z)))) a v) does operands roomy fits
+        accessing_two c memory input output 12 to false 0 (λ z a v. at_address c.program.limits.area (changing z) a v) does operands roomy fits
       where
-        reached : (z a : ℤ) (is_there : Bool) (rest : List Operand) → FitsWord z → is_below a c.program.limits.area ≡ is_there → Two c memory input output at z a rest p
-            → DoesHere c memory input output 13 to p (unrefused (through is_there (λ i s. Changed (with_memory s (set s.memory i (with_bits t b (word_at s.memory i) z)))) a (words rest memory input output)))
-        reached z a false rest fz is l = tt
-        reached z (negsuc n) true rest fz is l = absurd (false≢true is)
-        reached z (pos n) true rest fz is l =
-            let s = l in
-            let within : n < c.program.limits.area = ltb-true n c.program.limits.area is in
+        changing : ℤ → ℕ → Words → Outcome
+        changing z n v = Changed (with_memory v (set v.memory n (with_bits t b (word_at v.memory n) z)))
+
+        does : (z a : ℤ) (rest : List Operand) → FitsWord z → FitsWord a → Two c memory input output at z a rest p
+            → DoesHere c memory input output 12 to false 0 p (unrefused (at_address c.program.limits.area (changing z) a (words rest memory input output)))
+        does z a rest fz fa l = at_word p 12 to false (changing z) a (words rest memory input output) (λ n is within.
             let low = c.low in
             let lt : n < 32768 = omega arith in
             let small : n < 65536 = omega arith in
             let old = word_at memory n in
             let new = with_bits t b old z in
-            let base = below_base c (l.stack (suc (suc l.top))) l.stack (suc (suc l.top)) rest l.under in
-            let acts = Move 3 0 ∷ Pop 0 (suc l.top) (unsigned z) ∷ Double 3 ∷ Number 1 b ∷ Up 0 ∷ Number 1 (field_mask t b) ∷ Both 0 1 ∷ Load 2 n (unsigned old) ∷ Number 1 (65535 - field_mask t b) ∷ Both 2 1 ∷ Either 2 0 ∷ Store 2 n ∷ [] in
-            let ps = piece c.image at acts (i86.Pop 0 ∷ []) i in
-            let e' : at + 2 + 1 + 2 + 3 + 2 + 3 + 2 + 2 + 3 + 2 + 2 + 2 + 1 ≡ to = omega arith in
-            further 13 (lit≤ tt) (lit< tt)
-            (straight c.rows acts {n = 1} l.kept.wrote ps.0 (tt, (l.next, (lt, (tt, (unsigned_fits z fz, (tt, (tt, ((lt, refl, l.kept.words n within), (tt, (tt, (tt, ((lt, refl), tt)))))))))))) (with_ax (unsigned_pos n small) s.is) (λ q t'.
-            last c.rows t' l.kept.wrote (landed c.rows c.program c.image c.g c.line c.acts to (suc (suc (suc l.top))) rest (set memory n new) input output e' l.under (kept_stored n new within l.kept)
-            (pop_ax c.rows c.program c.image c.g c.line c.acts (suc (suc l.top)) base ps.1.0 (with_cells (ap (put_word l.cells n) (stored_is old z t b (fits_at n within) room)) t')))))
-
-        does : (x y : ℤ) (rest : List Operand) → FitsWord x → FitsWord y → Two c memory input output at x y rest p
-            → DoesHere c memory input output 13 to p (unrefused (at_address c.program.limits.area (λ i s. Changed (with_memory s (set s.memory i (with_bits t b (word_at s.memory i) x)))) y (words rest memory input output)))
-        does x y rest fx fy l = reached x y (is_below y c.program.limits.area) rest fx refl l
+            let acts =
+            Move 3 0 ∷ Pop 0 (suc l.top) (unsigned z) ∷ Double 3 ∷ Number 1 b ∷ Up 0 ∷ Number 1 (field_mask t b) ∷ Both 0 1
+            ∷ Load 2 n (unsigned old) ∷ Number 1 (65535 - field_mask t b) ∷ Both 2 1 ∷ Either 2 0 ∷ Store 2 n ∷ [] in
+            let needs : NeedsAll acts (view n l.cx l.dx l.bx (2 * suc l.top) (record_of c.acts) l.si c.program.limits.area l.overflow l.cells l.stack l.left l.told) =
+            (tt, (l.next, (lt, (tt, (unsigned_fits z fz, (tt, (tt, ((lt, refl, l.kept.words n within), (tt, (tt, (tt, ((lt, refl), tt)))))))))))) in
+            let e' : at + 2 + 1 + 2 + 3 + 2 + 3 + 2 + 2 + 3 + 2 + 2 + 2 ≡ to = omega arith in
+            further 12 (lit≤ tt) (lit< tt)
+            (straight c.rows acts l.kept.wrote i needs (with_ax (ap unsigned is ∙ unsigned_pos n small) l.is) (λ q u.
+            done (landed c.rows c.program c.image c.g c.acts false to (suc (suc l.top)) rest (set memory n new) input output e' l.under (kept_stored n new within l.kept)
+            (with_cells (ap (put_word l.cells n) (stored_is old z t b (fits_at n within) room)) u)))))

@@ -1,105 +1,112 @@
--- Routines of the library that are called with two words and a count, and come back with a word or stop.
-use Rattle.std.proofs.Common.{◌≡◌, ◌≢◌, sym, subst, ℕ, suc, ◌+◌, ◌*◌, ◌%◌, ◌<◌, ◌≤◌, Bool, true, false, ℤ, List, [], ◌∷◌, refl, ◌∙◌, arith}
+-- Straight pieces of code with something more behind them, and the routines of the library that come back with a word.
+use Rattle.std.proofs.Common.{◌≡◌, ℕ, suc, ◌+◌, ◌*◌, ◌%◌, ◌<◌, Bool, true, false, not, ℤ, List, [], ◌∷◌, length, refl, subst, arith}
+use Rattle.std.specs.Prelude.{◌==◌, if◌then◌else◌}
+use Rattle.cw_i86.specs.Encoding.{bytes_of}
+use Rattle.cw_i86.specs.declared.flags.Flags.{Flags}
+use Rattle.cw_i86.specs.declared.instr.Instr.{Instr}
 use Rattle.cw_i86.specs.declared.instr.Instr.TheVariants as i86
 use Rattle.cw_i86.specs.declared.instr.Imm.TheVariants as imm
 use Rattle.cw_i86.specs.declared.instr.Rm.TheVariants as rms
-use Rattle.cw_track.proofs.Paths.{join}
 use Rattle.cw_run86.specs.Processor.{Told}
-use Rattle.cw_follow.proofs.Watched.{Watched, watched_machine}
 use Rattle.cw_run86.specs.Views.{Has, put_word}
+use Rattle.cw_word.specs.FixedPoint.{fits_word}
 use Rattle.cw_word.specs.Word.{unsigned}
-use Rattle.cw_unit.specs.Stop.{StopKind, Stopped}
-use Rattle.cw_unit.specs.Words.{Operand, Changed, Refused, put}
-use Rattle.cw_follow.proofs.Standing.{HasAll}
-use Rattle.cw_follow.proofs.Chains.{Is, Leads, view, to_place, call, return, last}
-use Rattle.cw_follow.proofs.Straight.{Move, Pop, Number, piece, straight}
-use Rattle.cw_follow.proofs.Routines.{Over, with_ax, put_at, put_off, leads_on}
+use Rattle.cw_unit.specs.Stop.{Overflow}
+use Rattle.cw_unit.specs.Words.{Operand, put_value}
+use Rattle.cw_tmpl.specs.Library.{stop_place}
+use Rattle.cw_routines.specs.Ways.{HasAll, QuietAll, Leads as Goes, Back}
+use Rattle.cw_routines.specs.Results.{Quiet, InLibrary, Fitting, WordRoutine, divisor_test}
+use Rattle.cw_follow.proofs.Watched.{Watched}
+use Rattle.cw_follow.proofs.Rows.{Rows}
+use Rattle.cw_follow.proofs.Chains.{Is, Leads, view, to_place, call, last}
+use Rattle.cw_follow.proofs.Straight.{Act, Number, codes, behind, instruction, straight}
+use Rattle.cw_follow.proofs.Routines.{put_at, quiet_in, quiet_at, quiet_library, flags_of, arrives, returned, lifted}
 use Rattle.cw_follow.proofs.Stacks.{level, record_of, same_put, StackIs, stack_same}
-use Rattle.cw_follow.proofs.Orders.{Kept, kept_under, Landed, Leading, later}
-use Rattle.cw_follow.proofs.Operands.{Setting, words, allowed, DoesHere, Two, result}
+use Rattle.cw_follow.proofs.Orders.{Kept, kept_under, Check, checks, later}
+use Rattle.cw_follow.proofs.Operands.{Setting, words, DoesHere}
+use Rattle.cw_follow.proofs.Facts.{fits_true}
 
--- back behind the call, with a word in AX: SP and BP, memory and what was told are as they were; other registers are of no use
-pub record Returned (image : List ℕ) (back top bp value : ℕ) (cells stack : ℕ → ℕ) (input : List ℕ) (told : Told) (p : Watched) : Type 0 where
+-- ---- pieces of code
+
+-- these instructions stand one after another from a place, and something more behind them
+abbrev pub Then : (image : List ℕ) → (at : ℕ) → List Instr → (ℕ → Type 0) → Type 0
+Then image at [] T = T at
+Then image at (i ∷ is) T = Has image at i × Then image (at + length (bytes_of i)) is T
+
+pub parts : (image : List ℕ) (at : ℕ) (acts : List Act) (T : ℕ → Type 0) → Then image at (codes acts) T → HasAll image at (codes acts) × T (behind acts at)
+parts image at [] T h = (tt, h)
+parts image at (a ∷ acts) T h = let r = parts image (at + length (bytes_of (instruction a))) acts T h.1 in ((h.0, r.0), r.1)
+
+-- ---- back from a routine
+
+-- Behind the call, with an answer in AX and the flags; the other registers but SP, BP and DI are of no use.
+pub record Returned (image : List ℕ) (to sp bp area : ℕ) (cells stack : ℕ → ℕ) (input : List ℕ) (told : Told) (Answers : ℕ → Flags → Type 0) (p : Watched) : Type 0 where
+  pub ax : ℕ
   pub cx : ℕ
   pub dx : ℕ
   pub bx : ℕ
   pub si : ℕ
-  pub di : ℕ
-  pub overflow : Bool
-  pub is : Is image back (view value cx dx bx (2 * top) bp si di overflow cells stack input told) p
+  pub flags : Flags
+  pub is : Is image to (view ax cx dx bx sp bp si area flags.of cells stack input told) p
+  pub answers : Answers ax flags
 
--- so many instructions, and what they lead on to
-pub leading_later : {output : List ℕ} {p : Watched} {T U : Watched → Type 0} (n limit bound : ℕ) → n + limit ≤ bound → Leads output n p T → ((q : Watched) → T q → Leading output limit q U) → Leading output bound p U
-leading_later {p = p} n limit bound le l on =
-    let d = on l.reached l.there in
-    let some = d.some in
-    let within = d.within in
-    record {
-      spent = n + d.spent;
-      some = omega arith;
-      within = omega arith;
-      leads = record { reached = d.leads.reached; path = join _ watched_machine n d.spent (n + d.spent) p l.reached d.leads.reached refl l.path d.leads.path; there = d.leads.there };
-    }
+pub comes_back : Rows
+    → {image : List ℕ} {at n to sp bp area ax cx dx bx top record_at si di : ℕ} {overflow : Bool} {cells stack cells' stack' : ℕ → ℕ} {left left' output : List ℕ} {told told' : Told} {Answers : ℕ → Flags → Type 0} {p : Watched}
+    → Is image at (view ax cx dx bx top record_at si di overflow cells stack left told) p
+    → Goes (Quiet (quiet_in p.places)) image output n p.processor (Back image to sp bp area cells' stack' left' told' Answers)
+    → Leads output n p (Returned image to sp bp area cells' stack' left' told' Answers)
+comes_back rows {p = p} s l =
+    lifted rows s.silent l (λ q b. record { ax = b.ax; cx = b.cx; dx = b.dx; bx = b.bx; si = b.si; flags = b.flags; is = returned p s.ignores b.is; answers = b.answers })
+
+fitting : (b : Bool) (z : ℤ) (ax : ℕ) (f : Flags) → Fitting b z ax f → f.of ≡ not b
+fitting true z ax f h = h.1
+fitting false z ax f h = h
+
+-- ---- the test of a divisor
+
+-- Whether BX is 0: then the way on is behind the jump.
+pub tests_divisor : Rows
+    → {image output : List ℕ} {p : Watched} {at ax cx dx bx sp bp si di : ℕ} {overflow : Bool} {cells stack : ℕ → ℕ} {left : List ℕ} {told : Told} (by : ℕ) → by < 128 → told.output ≡ output
+    → HasAll image at (divisor_test by) → Is image at (view ax cx dx bx sp bp si di overflow cells stack left told) p
+    → Leads output 2 p (Is image (if bx == 0 then at + 4 else at + 4 + by) (view ax cx dx bx sp bp si di false cells stack left told))
+tests_divisor rows {image} {output} {p} {at} {ax} {cx} {dx} {bx} {sp} {bp} {si} {di} {cells = cells} {stack = stack} {left = left} {told = told} by low wrote i s =
+    let to = if bx == 0 then at + 4 else at + 4 + by in
+    let quiet : QuietAll (Quiet (quiet_in p.places)) at (divisor_test by) =
+    (quiet_at p.places at (s.ignores.others at (i86.AluRm 1 true true 3 (rms.Reg 3)) i.0 refl), (quiet_at p.places (at + 2) (s.ignores.others (at + 2) (i86.JumpIf 5 by) i.1.0 refl), tt)) in
+    subst (λ o. Leads o 2 p (Is image to (view ax cx dx bx sp bp si di false cells stack left told))) wrote
+    (lifted rows s.silent (rows.routines.divisor (quiet_in p.places) image at by quiet i low ax cx dx bx sp bp si di (flags_of p) cells stack left told p.processor (arrives s))
+    (λ q t. returned p s.ignores t))
+
+-- ---- a routine on two words, and the test of its result
 
 module _ (c : Setting) (memory : List ℤ) (input output : List ℕ) where
-  -- within so many instructions the routine comes back with the word of a number, or stops. The word of the stack below top holds the way
-  -- back
-  abbrev pub Comes : Bool → StopKind → ℤ → (limit back top : ℕ) (cells stack : ℕ → ℕ) (left : List ℕ) (told : Told) → Watched → Type 0
-  Comes true kind z limit back top cells stack left told p = Leading output limit p (Returned c.image back top (record_of c.acts) (unsigned z) cells stack left told)
-  Comes false kind z limit back top cells stack left told p = Leading output limit p (Over (record { output = output; end = Stopped kind (c.g + 1) c.line }))
-
-  pub comes_later : (b : Bool) (kind : StopKind) (z : ℤ) (back top : ℕ) (cells stack : ℕ → ℕ) (left : List ℕ) (told : Told) {p : Watched} {T : Watched → Type 0} (n limit bound : ℕ) → n + limit ≤ bound → Leads output n p T
-      → ((q : Watched) → T q → Comes b kind z limit back top cells stack left told q) → Comes b kind z bound back top cells stack left told p
-  comes_later true kind z back top cells stack left told n limit bound le l on = leading_later n limit bound le l on
-  comes_later false kind z back top cells stack left told n limit bound le l on = leading_later n limit bound le l on
-
-  -- what a routine at a place does with these words in AX and BX and this count in CX
-  pub record Routine (place count : ℕ) (x y : ℤ) (b : Bool) (kind : StopKind) (z : ℤ) (limit : ℕ) : Type 0 where
-    pub comes : {p : Watched} {dx si di : ℕ} {overflow : Bool} {cells stack : ℕ → ℕ} {left : List ℕ} {told : Told} (n back : ℕ) → suc n < level c.acts → back < 65536 → stack (suc n) ≡ back → Kept c.program c.g c.line c.acts memory input output cells stack left told
-        → Is c.image place (view (unsigned x) count dx (unsigned y) (2 * suc n) (record_of c.acts) si di overflow cells stack left told) p
-        → Comes b kind z limit back (suc (suc n)) cells stack left told p
-
-  -- a routine's last instruction
-  pub returns : {p : Watched} {at cx dx bx si di : ℕ} {overflow : Bool} {cells stack : ℕ → ℕ} {left : List ℕ} {told : Told} (n back : ℕ) (z : ℤ) (ax : ℕ) → suc n < level c.acts → back < 65536 → stack (suc n) ≡ back → Kept c.program c.g c.line c.acts memory input output cells stack left told → ax ≡ unsigned z
-      → Has c.image at i86.Ret → Is c.image at (view ax cx dx bx (2 * suc n) (record_of c.acts) si di overflow cells stack left told) p
-      → Leads output 1 p (Returned c.image back (suc (suc n)) (record_of c.acts) (unsigned z) cells stack left told)
-  returns {p} {at} {cx} {dx} {bx} {si} {di} {overflow} {cells} {stack} {left} {told} n back z ax low small there k value i s =
-      let whole : back ≡ back % 65536 = omega arith in
-      let top : 2 * suc n ≡ 2 * suc n % 65536 = omega arith in
-      let up : 2 * suc (suc n) % 65536 ≡ 2 * suc (suc n) = omega arith in
-      last c.rows s k.wrote (record { cx = cx; dx = dx; bx = bx; si = si; di = di; overflow = overflow; is = with_ax value (return c.rows (suc n) (2 * suc (suc n)) back (omega arith) top up (there ∙ whole) i s) })
-
-  -- so many instructions to a routine, and the operand that it comes back with, or a stop
-  pub by_call : {p : Watched} {back top : ℕ} {cells stack : ℕ → ℕ} {left : List ℕ} {told : Told} {T : Watched → Type 0} (to n limit bound : ℕ) (b : Bool) (kind : StopKind) (z : ℤ) (rest : List Operand) → n + limit ≤ bound → Leads output n p T
-      → ((q : Watched) → T q → Comes b kind z limit back top cells stack left told q)
-      → ((q : Watched) → Returned c.image back top (record_of c.acts) (unsigned z) cells stack left told q → Landed c.program c.image to c.g c.line c.acts (put z (words rest memory input output)) q)
-      → DoesHere c memory input output bound to p (allowed b kind (Changed (put z (words rest memory input output))))
-  by_call to n limit bound true kind z rest le lead comes lands =
-      later c.program c.image limit to c.g c.line c.acts n bound (Changed (put z (words rest memory input output))) le lead (λ q t. let r = comes q t in record { spent = r.spent; some = r.some; within = r.within; leads = leads_on lands r.leads })
-  by_call to n limit bound false kind z rest le lead comes lands = later c.program c.image limit to c.g c.line c.acts n bound (Refused kind) le lead comes
-
-  -- the order that calls a routine with the two operands on top
-  pub by_routine : {p : Watched} {at : ℕ} (to place by count limit : ℕ) (x y : ℤ) (b : Bool) (kind : StopKind) (z : ℤ) (rest : List Operand) → at + 9 ≡ to → (at + 2 + 1 + 3 + 3 + by) % 65536 ≡ place % 65536
-      → Routine place count x y b kind z limit
-      → HasAll c.image at (i86.Mov true true 3 (rms.Reg 0) ∷ i86.Pop 0 ∷ i86.MovImm 1 (imm.Word count) ∷ i86.Call by ∷ []) → Two c memory input output at x y rest p
-      → DoesHere c memory input output (4 + limit) to p (allowed b kind (Changed (put z (words rest memory input output))))
-  by_routine {p} {at} to place by count limit x y b kind z rest e arrives routine i l =
-      let acts = Move 3 0 ∷ Pop 0 (suc l.top) (unsigned x) ∷ Number 1 count ∷ [] in
-      let ps = piece c.image at acts (i86.Call by ∷ []) i in
-      let low = l.low in
-      let back = (at + 2 + 1 + 3 + 3) % 65536 in
-      let stack' : ℕ → ℕ = put_word l.stack (suc l.top) back in
-      let kept = kept_under (suc l.top) back low l.kept in
-      let lt : suc l.top < 32768 = omega arith in
-      let sp : 2 * suc (suc l.top) ≡ 2 * suc (suc l.top) % 65536 = omega arith in
-      let small : back < 65536 = omega arith in
-      let above : suc l.top < suc (suc (suc l.top)) = omega arith in
-      let other : suc (suc l.top) ≢ suc l.top = omega arith in
-      let under = subst (λ a. StackIs c.program c.acts a stack' (suc (suc (suc l.top))) rest) (sym (put_off l.stack (suc l.top) back (suc (suc l.top)) other)) (stack_same c.program c.acts (l.stack (suc (suc l.top))) l.stack stack' (suc (suc (suc l.top))) rest (same_put l.stack (suc l.top) back (suc (suc (suc l.top))) above) l.under) in
-      let lead : Leads output 4 p (Is c.image place (view (unsigned x) count l.dx (unsigned y) (2 * suc l.top) (record_of c.acts) l.si l.di l.overflow l.cells stack' l.left l.told)) =
-      straight c.rows acts {n = 1} l.kept.wrote ps.0 (tt, (l.next, (tt, tt))) l.is (λ q t.
-      last c.rows t l.kept.wrote (to_place arrives (call c.rows by (suc l.top) back lt sp refl ps.1.0 t))) in
-      let there : back % 65536 ≡ (at + 2 + 1 + 3 + 3) % 65536 = omega arith in
-      let e' : at + 2 + 1 + 3 + 3 ≡ to = omega arith in
-      by_call to 4 limit (4 + limit) b kind z rest (omega arith) lead (λ q t. routine.comes l.top back low small (put_at l.stack (suc l.top) back) kept t)
-      (λ q r. result c memory input output to (suc l.top) z rest e' refl under kept (to_place there r.is))
+  pub by_routine : {p : Watched} {at cx dx si : ℕ} {overflow : Bool} {cells stack : ℕ → ℕ} {left : List ℕ} {told : Told} (to place bound count by stop line n : ℕ) (x y z : ℤ) (rest : List Operand)
+      → at + 13 ≡ to → (at + 3 + 3 + by) % 65536 ≡ place % 65536 → (at + 3 + 3 + 2 + 3 + stop) % 65536 ≡ stop_place Overflow % 65536 → line < 65536 → n < level c.acts
+      → ((quiet : ℕ → Bool) → InLibrary quiet → WordRoutine (Quiet quiet) c.image place bound count x y z)
+      → Then c.image at (i86.MovImm 1 (imm.Word count) ∷ i86.Call by ∷ []) (λ k. Check c.image k stop line)
+      → StackIs c.program c.acts stack (suc n) rest → Kept c.program c.g c.acts memory input output cells stack left told
+      → Is c.image at (view (unsigned x) cx dx (unsigned y) (2 * suc n) (record_of c.acts) si c.program.limits.area overflow cells stack left told) p
+      → DoesHere c memory input output (16 + bound) to true line p (put_value z (words rest memory input output))
+  by_routine {p} {at} {cx} {dx} {si} {overflow} {cells} {stack} {left} {told} to place bound count by stop line n x y z rest e arrives_there arrives_stop small low law i under kept s =
+      let back = (at + 3 + 3) % 65536 in
+      let stack' : ℕ → ℕ = put_word stack n back in
+      let kept' = kept_under n back low kept in
+      let lt : n < 32768 = omega arith in
+      let lt' : n < 32767 = omega arith in
+      let sp : 2 * suc n ≡ 2 * suc n % 65536 = omega arith in
+      let fits : back < 65536 = omega arith in
+      let under' = stack_same c.program c.acts stack stack' (suc n) rest (same_put stack n back (suc n) (omega arith)) under in
+      let there : back % 65536 ≡ (at + 3 + 3) % 65536 = omega arith in
+      let e' : at + 3 + 3 + 2 + 3 + 2 ≡ to = omega arith in
+      let bp = record_of c.acts in
+      let area = c.program.limits.area in
+      let lead : Leads output 2 p (Is c.image place (view (unsigned x) count dx (unsigned y) (2 * n) bp si area overflow cells stack' left told)) =
+      straight c.rows (Number 1 count ∷ []) {n = 1} kept.wrote (i.0, tt) (tt, tt) s (λ q t.
+      last c.rows t kept.wrote (to_place arrives_there (call c.rows by n back lt sp refl i.1.0 t))) in
+      later c.program c.image (14 + bound) to c.g true line c.acts 2 (16 + bound) (put_value z (words rest memory input output)) (omega arith) lead (λ q t.
+      let r = law (quiet_in q.places) (quiet_library t.ignores) dx si bp n back area (flags_of q) cells stack' left told q.processor lt' (put_at stack n back) fits (arrives t) in
+      let within = r.within in
+      later c.program c.image 14 to c.g true line c.acts r.spent (14 + bound) (put_value z (words rest memory input output)) (omega arith)
+      (subst (λ o. Leads o r.spent q (Returned c.image back (2 * suc n) bp area cells stack' left told (Fitting (fits_word z) z))) kept.wrote (comes_back c.rows t r.leads))
+      (λ u b. checks c.rows c.program c.image c.g c.acts Overflow to (suc n) stop line z rest memory input output tt c.library c.few (omega arith) small e' arrives_stop
+      (fitting (fits_word z) z b.ax b.flags b.answers) (λ f. (subst (λ d. Fitting d z b.ax b.flags) (fits_true z f) b.answers).0) under' kept' i.1.1 (to_place there b.is)))

@@ -4,10 +4,9 @@ use Rattle.std.specs.Prelude.{slice_get, nat_le, ◌&&◌}
 use Rattle.std.proofs.lemmas.Bool.{leb-true, false≢true}
 use Rattle.cw_i86.specs.declared.instr.Instr.TheVariants as i86
 use Rattle.cw_i86.specs.declared.instr.Imm.TheVariants as imm
-use Rattle.cw_follow.proofs.Watched.{Watched}
 use Rattle.cw_unit.specs.declared.unit.Def.{Def}
 use Rattle.cw_unit.specs.declared.unit.Def.TheVariants as def
-use Rattle.cw_unit.specs.Stop.{Running}
+use Rattle.cw_unit.specs.Stop.{Running, Stuck}
 use Rattle.cw_unit.specs.Words.{Control, LabelControl, SwitchControl, ProcedureControl, Held, Words, Changed, with_operands}
 use Rattle.cw_unit.specs.Step.{held, label_of_def, switch_of_def, procedure_of_def, with_label_owner, with_switch_owner, as_procedure}
 use Rattle.cw_order.specs.declared.order.Order.{Order}
@@ -16,7 +15,7 @@ use Rattle.cw_order.specs.declared.order.Orders.{Orders}
 use Rattle.cw_order.specs.OrderProgram.{ProcedureEntry, place_of, procedure_at, defined_at}
 use Rattle.cw_order.specs.OrderState.{OrderActivation, OrderState, at, stack_words, frame_end}
 use Rattle.cw_order.specs.OrderCosts.{weight_of}
-use Rattle.cw_order.specs.OrderMachine.{after, line_below, leave_for, called, call_at, call_entry, call, carry_out, step, weight}
+use Rattle.cw_order.specs.OrderMachine.{after, unrefused, leave_for, called, call_at, call_entry, call, carry_out, step, weight}
 use Rattle.cw_order.specs.Activations.{ActivationsStand, Beginning, StateStands}
 use Rattle.cw_tmpl.specs.Blocks.{left_at}
 use Rattle.cw_tmpl.specs.Names.{procedure_start}
@@ -24,31 +23,31 @@ use Rattle.cw_tmpl.specs.Templates.{order_size, distance}
 use Rattle.cw_tmpl.specs.ReferenceCode.{mark_starts, names_of}
 use Rattle.cw_follow.specs.Placing.{base_of, start_in, procedure_place, definition_place}
 use Rattle.cw_tmpl.proofs.Sizes.{own_place, mark_start, jump_arrives}
-use Rattle.cw_follow.proofs.Standing.{HasAll, order_place}
+use Rattle.cw_routines.specs.Ways.{HasAll}
+use Rattle.cw_follow.proofs.Watched.{Watched}
+use Rattle.cw_follow.proofs.Standing.{order_place}
 use Rattle.cw_follow.proofs.Chains.{to_place}
 use Rattle.cw_follow.proofs.Stacks.{record_of, code_place, control_place, OwnerIs}
-use Rattle.cw_follow.proofs.Orders.{Landed, Leading}
-use Rattle.cw_follow.proofs.States.{Given, ComesBack, Sound, has_unit, went_on, stand_below, come_back_below}
-use Rattle.cw_follow.proofs.Calls.{CalledAt, calls}
+use Rattle.cw_follow.proofs.Orders.{Landed, Leading, CalledAt}
+use Rattle.cw_follow.proofs.States.{Given, ComesBack, Sound, has_unit, not_stuck, went_on, stand_below, come_back_below}
+use Rattle.cw_follow.proofs.Calls.{calls}
 use Rattle.cw_follow.proofs.Leaving.{controls, goes_main}
 use Rattle.cw_follow.proofs.Naming.{taken_dropped, both_true, some_same, mark_listed, procedure_is, start_is, begins_there}
-use Rattle.cw_follow.proofs.Steps.{Follow, leads_to, onward, few_segments, step_is, weight_is, fits_next, stands_next, never_next, stuck_here, does, cheap, start, Alone, code, behind, begins_next}
+use Rattle.cw_follow.proofs.Steps.{Follow, leads_to, onward, few_segments, step_is, weight_is, fits_next, stands_next, never_next, stuck_here, does, line_fits, start, Alone, code, behind, begins_next}
 
 module _ (known : Given) where
   open known use {rows, p, image, all, coded, few, low}
 
-  module _ {q : Watched} {g place line : ℕ} {acts : List OrderActivation} {w : Words} (s : Sound p image g place line acts w q) (by_itself : Alone p image g place line acts w q s.orders.list) where
+  module _ {q : Watched} {g place : ℕ} {loaded : Bool} {acts : List OrderActivation} {w : Words} (s : Sound p image g place loaded acts w q) (by_itself : Alone p image g place loaded acts w q s.orders.list) where
     abbrev S : OrderState
-    S = at g place line acts w Running
-
-    abbrev here : ℕ
-    here = order_place (base_of p g) s.orders.list place
+    S = at g place loaded acts w Running
 
     -- before another block, of any segment
-    pub sound_in : (g' to line' : ℕ) (acts' : List OrderActivation) (v : Words) (r : Watched) (o : Orders) → slice_get p.units g' ≡ Some o → left_at 0 o.list to ≡ 0 → step p S ≡ at g' to line' acts' v Running → ActivationsStand p g' acts' → ComesBack p acts'
-        → Landed p image (order_place (base_of p g') o.list to) g' line' acts' v r → Sound p image g' to line' acts' v r
-    sound_in g' to line' acts' v r o unit begins e working comes_back l =
-        let t = at g' to line' acts' v Running in
+    pub sound_in : (g' to : ℕ) (m : Bool) (acts' : List OrderActivation) (v : Words) (r : Watched) (o : Orders) → slice_get p.units g' ≡ Some o → left_at 0 o.list to ≡ 0
+        → step p S ≡ at g' to m acts' v Running → ActivationsStand p g' acts' → ComesBack p acts'
+        → Landed p image (order_place (base_of p g') o.list to) g' m acts' v r → Sound p image g' to m acts' v r
+    sound_in g' to m acts' v r o unit begins e working comes_back l =
+        let t = at g' to m acts' v Running in
         let fit = fits_next known s t e in
         let stands = stands_next known s t e in
         record {
@@ -57,10 +56,12 @@ module _ (known : Given) where
           from = to;
           done = 0;
           before = v;
+          loaded_before = m;
           place_is = omega arith;
           begins = begins;
           inside = omega arith;
           did = refl;
+          moded = refl;
           landed = l;
           fits = fit.words;
           acts_fit = fit.activations;
@@ -75,19 +76,61 @@ module _ (known : Given) where
         }
 
     -- words are put, with room
-    pub puts_with : (o : Order) (v : Words) (limit : ℕ) → slice_get s.orders.list place ≡ Some o → step p S ≡ after p.room (Changed v) g place line acts w → limit ≤ weight p S
-        → (stack_words v.operands acts ≤ 32000 → Leading w.output limit q (Landed p image (order_place (base_of p g) s.orders.list (place + 1)) g line acts v)) → Follow known S q
-    puts_with o v limit e is paid d =
-        let on = went_on p g place line acts w v is s.never in
+    pub puts_with : (o : Order) (m : Bool) (v : Words) (limit : ℕ) → slice_get s.orders.list place ≡ Some o → step p S ≡ after p.room 0 (Changed v) g place m acts w → limit ≤ weight p S
+        → (stack_words v.operands acts ≤ 32000 → Leading w.output limit q (Landed p image (order_place (base_of p g) s.orders.list (place + 1)) g m acts v)) → Follow known S q
+    puts_with o m v limit e is paid d =
+        let on = went_on p g place loaded m 0 acts w v is s.never in
         let most = coded.room in
         let room = on.room in
-        does known s (Changed v) limit (begins_next known s by_itself o e) is paid (d (omega arith))
+        does known s m 0 (Changed v) limit (begins_next known s by_itself o e) is paid (d (omega arith))
+
+    -- the place behind the code of an order
+    pub back_is : (c : OrderActivation) (n : ℕ) (o : Order) → slice_get s.orders.list place ≡ Some o → order_size o ≡ n → c.segment ≡ g → c.place ≡ place + 1
+        → (order_place (base_of p g) s.orders.list place + n) % 65536 ≡ code_place p c.segment c.place
+    back_is c n o e size eg ep =
+        let next = behind known s by_itself o e in
+        let there : code_place p g (place + 1) ≡ order_place (base_of p g) s.orders.list (place + 1) % 65536 = start_is known g s.orders (λ u. own_place u.list (place + 1)) s.unit in
+        let same : code_place p c.segment c.place ≡ code_place p g (place + 1) = ap (λ m. code_place p m c.place) eg ∙ ap (code_place p g) ep in
+        let sum : (order_place (base_of p g) s.orders.list place + n) % 65536 ≡ order_place (base_of p g) s.orders.list (place + 1) % 65536 = omega arith in
+        sum ∙ sym there ∙ sym same
+
+    -- the activation at work owns what is named
+    pub owned : record_of acts ≡ record_of (drop (length acts - length acts) acts)
+    owned = let e : 0 ≡ length acts - length acts = omega arith in ap (λ n. record_of (drop n acts)) e
+
+    -- where a label's mark is, without the last activations
+    pub left_for : (to m n : ℕ) (limit : ℕ) → step p S ≡ leave_for (place_of p to m) to n g place false acts w → limit ≤ weight p S
+        → ((k : ℕ) (o : Orders) → slice_get p.units to ≡ Some o → place_of p to m ≡ Some k → k ≤ length o.list
+        → Leading w.output limit q (Landed p image (order_place (base_of p to) o.list k) to false (drop n acts) (with_operands w []))) → Follow known S q
+    left_for to m n limit e paid d = cases (place_of p to m) refl
+      where
+        cases : (k : Option ℕ) → place_of p to m ≡ k → Follow known S q
+        cases None is = absurd (not_stuck p g place false acts w (never_next known s (at g place false acts w Stuck) (e ∙ ap (λ k. leave_for k to n g place false acts w) is)))
+        cases (Some k) is =
+            let t = at to k false (drop n acts) (with_operands w []) Running in
+            let goes : step p S ≡ t = e ∙ ap (λ k. leave_for k to n g place false acts w) is in
+            let u = has_unit p to k false (drop n acts) (with_operands w []) (never_next known s t goes) in
+            leads_to known g place loaded acts w t limit goes paid
+            (onward known (λ r l. inl (sound_in to k false (drop n acts) (with_operands w []) r u.orders u.unit (begins_there known to m k u.orders u.unit is) goes
+            (stand_below p n g to acts s.working) (come_back_below p n acts s.comes_back) l)) (d k u.orders u.unit is u.within))
+
+  -- ---- all operands on the stack
+
+  module _ {q : Watched} {g place : ℕ} {acts : List OrderActivation} {w : Words} (s : Sound p image g place false acts w q) (by_itself : Alone p image g place false acts w q s.orders.list) where
+    abbrev F : OrderState
+    F = at g place false acts w Running
+
+    abbrev here : ℕ
+    here = order_place (base_of p g) s.orders.list place
+
+    -- ---- calls
 
     -- the processor stands before the Enter of the procedure that an order calls
-    pub calls_procedure : (o : Order) → slice_get s.orders.list place ≡ Some o → (to n limit : ℕ) → step p S ≡ call p (Some (ProcedureControl to n)) g place line acts w → limit ≤ weight p S
-        → ((c : OrderActivation) → c.segment ≡ g → c.place ≡ place + 1 → c.line ≡ line → w.operands ≡ c.arguments ++ c.operands → stack_words [] (c ∷ acts) ≤ 32000 → Leading w.output limit q (CalledAt p image (procedure_place p to n) c acts w))
-        → Follow known S q
-    calls_procedure order here_is to n limit e paid d = entry (procedure_at p to n) refl
+    pub calls_procedure : (o : Order) → slice_get s.orders.list place ≡ Some o → (to n line limit : ℕ) → step p F ≡ call p line (Some (ProcedureControl to n)) g place false acts w → limit ≤ weight p F
+        → ((c : OrderActivation) → c.segment ≡ g → c.place ≡ place + 1 → c.line ≡ line → w.operands ≡ c.arguments ++ c.operands → stack_words [] (c ∷ acts) ≤ 32000
+        → Leading w.output limit q (CalledAt p image (procedure_place p to n) c acts w))
+        → Follow known F q
+    calls_procedure order here_is to n line limit e paid d = entry (procedure_at p to n) refl
       where
         back_begins : (o : Orders) → slice_get p.units g ≡ Some o → left_at 0 o.list (place + 1) ≡ 0
         back_begins o unit = let same : s.orders ≡ o = some_same (sym s.unit ∙ unit) in subst (λ x. left_at 0 x.list (place + 1) ≡ 0) same (begins_next known s by_itself order here_is)
@@ -98,23 +141,25 @@ module _ (known : Given) where
         test : ProcedureEntry → Bool
         test x = nat_le x.arguments (length w.operands) && nat_le (stack_words [] (c x ∷ acts)) p.room
 
-        at_place : (x : ProcedureEntry) → procedure_at p to n ≡ Some x → (b : Bool) (k : Option ℕ) → test x ≡ b → place_of p to x.mark ≡ k → Follow known S q
-        at_place x is b k eb ek = cases b k eb ek (e ∙ ap (λ y. call_entry p y to g place line acts w) is ∙ ap (λ y. call_at y (place_of p to x.mark) to (c x) g place line acts w) eb ∙ ap (λ y. call_at b y to (c x) g place line acts w) ek)
+        at_place : (x : ProcedureEntry) → procedure_at p to n ≡ Some x → (b : Bool) (k : Option ℕ) → test x ≡ b → place_of p to x.mark ≡ k → Follow known F q
+        at_place x is b k eb ek =
+            cases b k eb ek
+            (e ∙ ap (λ y. call_entry p line y to g place false acts w) is ∙ ap (λ y. call_at y (place_of p to x.mark) to (c x) g place false acts w) eb ∙ ap (λ y. call_at b y to (c x) g place false acts w) ek)
           where
-            cases : (b : Bool) (k : Option ℕ) → test x ≡ b → place_of p to x.mark ≡ k → step p S ≡ call_at b k to (c x) g place line acts w → Follow known S q
+            cases : (b : Bool) (k : Option ℕ) → test x ≡ b → place_of p to x.mark ≡ k → step p F ≡ call_at b k to (c x) g place false acts w → Follow known F q
             cases true None eb ek goes = absurd (stuck_here known s goes)
             cases false None eb ek goes = absurd (stuck_here known s goes)
             cases false (Some k) eb ek goes = absurd (stuck_here known s goes)
             cases true (Some k) eb ek goes =
-                let t = at to k 0 (c x ∷ acts) (with_operands w []) Running in
-                let u = has_unit p to k 0 (c x ∷ acts) (with_operands w []) (never_next known s t goes) in
+                let t = at to k false (c x ∷ acts) (with_operands w []) Running in
+                let u = has_unit p to k false (c x ∷ acts) (with_operands w []) (never_next known s t goes) in
                 let fits = leb-true (stack_words [] (c x ∷ acts)) p.room (both_true (nat_le x.arguments (length w.operands)) (nat_le (stack_words [] (c x ∷ acts)) p.room) eb).1 in
                 let most = coded.room in
                 let room : stack_words [] (c x ∷ acts) ≤ 32000 = omega arith in
                 let start_there : procedure_start (names_of u.orders) n ≡ own_place u.orders.list k = procedure_is known to n k u.orders x u.unit is ek u.within in
                 let there : procedure_place p to n ≡ order_place (base_of p to) u.orders.list k % 65536 =
                 start_is known to u.orders (λ o. procedure_start (names_of o) n) u.unit ∙ ap (λ m. (base_of p to + m) % 65536) start_there in
-                leads_to known g place line acts w t limit goes paid
+                leads_to known g place false acts w t limit goes paid
                 (onward known (λ r l. inr (record {
                   orders = u.orders;
                   unit = u.unit;
@@ -128,142 +173,148 @@ module _ (known : Given) where
                 })) (d (c x) refl refl refl (taken_dropped x.arguments w.operands) room))
               where
                 arrived : (r : Watched) → {to' : ℕ} {place' : ℕ} → CalledAt p image place' (c x) acts w r → place' ≡ to' % 65536 → CalledAt p image to' (c x) acts (with_operands w []) r
-                arrived r l e =
-                    let z = l.stacked in
-                    record {
-                      top = l.top;
-                      cells = l.cells;
-                      stack = l.stack;
-                      input = l.input;
-                      told = l.told;
-                      stacked = record { ax = z.ax; cx = z.cx; dx = z.dx; bx = z.bx; si = z.si; di = z.di; overflow = z.overflow; is = to_place (omega (arith, e)) z.is };
-                      back = l.back;
-                      operands = l.operands;
-                      kept = l.kept;
-                    }
+                arrived r l e = record {
+                  ax = l.ax;
+                  cx = l.cx;
+                  bx = l.bx;
+                  si = l.si;
+                  overflow = l.overflow;
+                  top = l.top;
+                  cells = l.cells;
+                  stack = l.stack;
+                  input = l.input;
+                  told = l.told;
+                  is = to_place (omega (arith, e)) l.is;
+                  small = l.small;
+                  back = l.back;
+                  operands = l.operands;
+                  kept = l.kept;
+                }
 
-                beginning_of : StateStands p (at to k 0 (c x ∷ acts) (with_operands w []) Running) → Beginning p to k 0 (c x) acts []
-                beginning_of h = ⊎_elim (λ (a : ActivationsStand p to (c x ∷ acts)). absurd (false≢true a.0)) (λ (b : Beginning p to k 0 (c x) acts []). b) h.last
+                beginning_of : StateStands p (at to k false (c x ∷ acts) (with_operands w []) Running) → Beginning p to k (c x) acts []
+                beginning_of h = ⊎_elim (λ (a : ActivationsStand p to (c x ∷ acts)). absurd (false≢true a.0)) (λ (b : Beginning p to k (c x) acts []). b) h.last
 
-        entry : (x : Option ProcedureEntry) → procedure_at p to n ≡ x → Follow known S q
-        entry None is = absurd (stuck_here known s (e ∙ ap (λ y. call_entry p y to g place line acts w) is))
+        entry : (x : Option ProcedureEntry) → procedure_at p to n ≡ x → Follow known F q
+        entry None is = absurd (stuck_here known s (e ∙ ap (λ y. call_entry p line y to g place false acts w) is))
         entry (Some x) is = at_place x is (test x) (place_of p to x.mark) refl refl
 
-    -- the place behind the call
-    pub back_is : (c : OrderActivation) (n : ℕ) (o : Order) → slice_get s.orders.list place ≡ Some o → order_size o ≡ n → c.segment ≡ g → c.place ≡ place + 1 → (here + n) % 65536 ≡ code_place p c.segment c.place
-    back_is c n o e size eg ep =
-        let next = behind known s by_itself o e in
-        let there : code_place p g (place + 1) ≡ order_place (base_of p g) s.orders.list (place + 1) % 65536 = start_is known g s.orders (λ u. own_place u.list (place + 1)) s.unit in
-        let same : code_place p c.segment c.place ≡ code_place p g (place + 1) = ap (λ m. code_place p m c.place) eg ∙ ap (code_place p g) ep in
-        let sum : (here + n) % 65536 ≡ order_place (base_of p g) s.orders.list (place + 1) % 65536 = omega arith in
-        sum ∙ sym there ∙ sym same
+    pub landed_as : (c : OrderActivation) → c.segment ≡ g → Landed p image (order_place (base_of p g) s.orders.list place) c.segment false acts w q
+    landed_as c eg = subst (λ m. Landed p image here m false acts w q) (sym eg) by_itself.landed
 
-    back_four : (c : OrderActivation) (o : Order) → slice_get s.orders.list place ≡ Some o → order_size o ≡ 4 → c.segment ≡ g → c.place ≡ place + 1 → (here + 1 + 3) % 65536 ≡ code_place p c.segment c.place
-    back_four c o e size eg ep = (let f : (here + 1 + 3) % 65536 ≡ (here + 4) % 65536 = omega arith in f) ∙ back_is c 4 o e size eg ep
-
-    pub landed_as : (c : OrderActivation) → c.segment ≡ g → c.line ≡ line → Landed p image here c.segment c.line acts w q
-    landed_as c eg el = subst (λ m. Landed p image here m c.line acts w q) (sym eg) (subst (λ m. Landed p image here g m acts w q) (sym el) by_itself.landed)
-
-    pub calls_own : (n : ℕ) → slice_get s.orders.list place ≡ Some (order.CallProc n) → Follow known S q
-    calls_own n e =
+    pub calls_own : (n line : ℕ) → slice_get s.orders.list place ≡ Some (order.CallProc n line) → Follow known F q
+    calls_own n line e =
+        let o = order.CallProc n line in
         let own = own_place s.orders.list place in
-        let by = distance (own + 4) (procedure_start (names_of s.orders) n) in
+        let by = distance (own + 6) (procedure_start (names_of s.orders) n) in
         let there : procedure_place p g n ≡ (base_of p g + procedure_start (names_of s.orders) n) % 65536 = start_is known g s.orders (λ o. procedure_start (names_of o) n) s.unit in
-        let meets = jump_arrives (base_of p g) own 4 (procedure_start (names_of s.orders) n) in
-        let arrives_there : (here + 1 + 3 + by) % 65536 ≡ procedure_place p g n % 65536 = omega arith in
-        calls_procedure (order.CallProc n) e g n 2 (step_is known s (Some (order.CallProc n)) e) (let x = weight_is known s (order.CallProc n) e in let y : 2 ≤ weight p S = omega arith in y) (λ c eg ep el same room.
-        calls rows p image (procedure_place p g n) by c acts w room same arrives_there (back_four c (order.CallProc n) e refl eg ep) (code known s by_itself (order.CallProc n) e) (landed_as c eg el))
+        let meets = jump_arrives (base_of p g) own 6 (procedure_start (names_of s.orders) n) in
+        let arrives_there : (here + 6 + by) % 65536 ≡ procedure_place p g n % 65536 = omega arith in
+        calls_procedure o e g n line 2 (step_is known s (Some o) e) (let x = weight_is known s o e in let y : 2 ≤ weight p F = omega arith in y) (λ c eg ep el same room.
+        calls rows p image (procedure_place p g n) by line c acts w el (line_fits known s o e) room same arrives_there (back_is s by_itself c 6 o e refl eg ep) (code known s by_itself o e) (landed_as c eg))
 
-    pub calls_common : (d : ℕ) → slice_get s.orders.list place ≡ Some (order.CallCommon d) → (x : Option (ℕ × Def)) → defined_at p g d ≡ x → Follow known S q
-    calls_common d e (Some (to, def.Proc n)) is =
-        let by = (all.stands g s.orders s.unit).value 5 d 0 (here + 1 + 3) in
-        let filled : by ≡ (definition_place p (defined_at p g d) + (65536 - (here + 1 + 3) % 65536)) % 65536 = (all.stands g s.orders s.unit).fills.ahead d (here + 1 + 3) in
-        let defined : definition_place p (defined_at p g d) ≡ procedure_place p to n = ap (definition_place p) is in
-        let arrives_there : (here + 1 + 3 + by) % 65536 ≡ procedure_place p to n % 65536 = omega arith in
-        calls_procedure (order.CallCommon d) e to n 2 (step_is known s (Some (order.CallCommon d)) e ∙ ap (λ x. call p (as_procedure (procedure_of_def x)) g place line acts w) is) (let x = weight_is known s (order.CallCommon d) e in let y : 2 ≤ weight p S = omega arith in y) (λ c eg ep el same room.
-        calls rows p image (procedure_place p to n) by c acts w room same arrives_there (back_four c (order.CallCommon d) e refl eg ep) (code known s by_itself (order.CallCommon d) e) (landed_as c eg el))
-    calls_common d e (Some (to, def.Label l)) is = absurd (stuck_here known s (step_is known s (Some (order.CallCommon d)) e ∙ ap (λ x. call p (as_procedure (procedure_of_def x)) g place line acts w) is))
-    calls_common d e (Some (to, def.Switch n)) is = absurd (stuck_here known s (step_is known s (Some (order.CallCommon d)) e ∙ ap (λ x. call p (as_procedure (procedure_of_def x)) g place line acts w) is))
-    calls_common d e None is = absurd (stuck_here known s (step_is known s (Some (order.CallCommon d)) e ∙ ap (λ x. call p (as_procedure (procedure_of_def x)) g place line acts w) is))
+    pub calls_common : (d line : ℕ) → slice_get s.orders.list place ≡ Some (order.CallCommon d line) → (x : Option (ℕ × Def)) → defined_at p g d ≡ x → Follow known F q
+    calls_common d line e x is = cases x is
+      where
+        stepped : (x : Option (ℕ × Def)) → defined_at p g d ≡ x → step p F ≡ call p line (as_procedure (procedure_of_def x)) g place false acts w
+        stepped x is = step_is known s (Some (order.CallCommon d line)) e ∙ ap (λ x. call p line (as_procedure (procedure_of_def x)) g place false acts w) is
+
+        cases : (x : Option (ℕ × Def)) → defined_at p g d ≡ x → Follow known F q
+        cases (Some (to, def.Proc n)) is =
+            let o = order.CallCommon d line in
+            let by = (all.stands g s.orders s.unit).value 5 d 0 (here + 3 + 3) in
+            let filled : by ≡ (definition_place p (defined_at p g d) + (65536 - (here + 3 + 3) % 65536)) % 65536 = (all.stands g s.orders s.unit).fills.ahead d (here + 3 + 3) in
+            let defined : definition_place p (defined_at p g d) ≡ procedure_place p to n = ap (definition_place p) is in
+            let arrives_there : (here + 6 + by) % 65536 ≡ procedure_place p to n % 65536 = omega arith in
+            calls_procedure o e to n line 2 (stepped (Some (to, def.Proc n)) is) (let x = weight_is known s o e in let y : 2 ≤ weight p F = omega arith in y) (λ c eg ep el same room.
+            calls rows p image (procedure_place p to n) by line c acts w el (line_fits known s o e) room same arrives_there (back_is s by_itself c 6 o e refl eg ep) (code known s by_itself o e) (landed_as c eg))
+        cases (Some (to, def.Label l)) is = absurd (stuck_here known s (stepped (Some (to, def.Label l)) is))
+        cases (Some (to, def.Switch n)) is = absurd (stuck_here known s (stepped (Some (to, def.Switch n)) is))
+        cases None is = absurd (stuck_here known s (stepped None is))
 
     -- ---- control arguments
 
-    pub holds_control : (o : Order) → slice_get s.orders.list place ≡ Some o → (c : Control) (limit : ℕ) → step p S ≡ after p.room (held (Some c) w) g place line acts w → limit ≤ weight p S
-        → (stack_words (Held c ∷ w.operands) acts ≤ 32000 → Leading w.output limit q (Landed p image (order_place (base_of p g) s.orders.list (place + 1)) g line acts (with_operands w (Held c ∷ w.operands)))) → Follow known S q
-    holds_control o here_is c limit e paid d = puts_with o (with_operands w (Held c ∷ w.operands)) limit here_is e paid d
-
-    -- the activation at work owns what is named
-    pub owned : record_of acts ≡ record_of (drop (length acts - length acts) acts)
-    owned = let e : 0 ≡ length acts - length acts = omega arith in ap (λ n. record_of (drop n acts)) e
+    pub holds_control : (o : Order) → slice_get s.orders.list place ≡ Some o → (c : Control) (limit : ℕ) → step p F ≡ after p.room 0 (held (Some c) w) g place false acts w → limit ≤ weight p F
+        → (stack_words (Held c ∷ w.operands) acts ≤ 32000 → Leading w.output limit q (Landed p image (order_place (base_of p g) s.orders.list (place + 1)) g false acts (with_operands w (Held c ∷ w.operands)))) → Follow known F q
+    holds_control o here_is c limit e paid d = puts_with s by_itself o false (with_operands w (Held c ∷ w.operands)) limit here_is e paid d
 
     -- a place in the code of the segment
-    pub own_filled : (f : Orders → ℕ) (after : ℕ) → (all.stands g s.orders s.unit).value 3 0 (f s.orders % 65536) after ≡ start_in p g (slice_get p.units g) f
+    own_filled : (f : Orders → ℕ) (after : ℕ) → (all.stands g s.orders s.unit).value 3 0 (f s.orders % 65536) after ≡ start_in p g (slice_get p.units g) f
     own_filled f after =
         let filled = (all.stands g s.orders s.unit).fills.places (f s.orders % 65536) after in
         let sum : (base_of p g + f s.orders % 65536) % 65536 ≡ (base_of p g + f s.orders) % 65536 = omega arith in
         filled ∙ sum ∙ sym (start_is known g s.orders f s.unit)
 
-    pub controls_own : (c : Control) (o : Order) (f : Orders → ℕ) → slice_get s.orders.list place ≡ Some o → carry_out p (Some o) g place line acts w ≡ after p.room (held (Some c) w) g place line acts w → 3 ≤ weight_of o → order_size o ≡ 5
+    pub controls_own : (c : Control) (o : Order) (f : Orders → ℕ) → slice_get s.orders.list place ≡ Some o
+        → carry_out p (Some o) g place false acts w ≡ after p.room 0 (held (Some c) w) g place false acts w → 3 ≤ weight_of o → order_size o ≡ 5
         → start_in p g (slice_get p.units g) f ≡ control_place p c → OwnerIs p acts c (record_of acts)
-        → HasAll image (order_place (base_of p g) s.orders.list place) (i86.Push 0 ∷ i86.Push 5 ∷ i86.MovImm 0 (imm.Word ((all.stands g s.orders s.unit).value 3 0 (f s.orders % 65536) (order_place (base_of p g) s.orders.list place + 1 + 1 + 3))) ∷ []) → Follow known S q
+        → HasAll image (order_place (base_of p g) s.orders.list place)
+        (i86.Push 5 ∷ i86.MovImm 0 (imm.Word ((all.stands g s.orders s.unit).value 3 0 (f s.orders % 65536) (order_place (base_of p g) s.orders.list place + 1 + 3))) ∷ i86.Push 0 ∷ []) → Follow known F q
     controls_own c o f e acts_as cheap size there owner i =
         let paid = weight_is known s o e in
         let next = behind known s by_itself o e in
         let end : here + 5 ≡ order_place (base_of p g) s.orders.list (place + 1) = omega arith in
-        holds_control o e c 3 (step_is known s (Some o) e ∙ acts_as) (let x : 3 ≤ weight p S = omega arith in x) (λ room.
-        controls rows p image g line (order_place (base_of p g) s.orders.list (place + 1)) ((all.stands g s.orders s.unit).value 3 0 (f s.orders % 65536) (here + 1 + 1 + 3)) acts c w room end (own_filled f (here + 1 + 1 + 3) ∙ there) owner i by_itself.landed)
+        holds_control o e c 3 (step_is known s (Some o) e ∙ acts_as) (let x : 3 ≤ weight p F = omega arith in x) (λ room.
+        controls rows p image g (order_place (base_of p g) s.orders.list (place + 1)) ((all.stands g s.orders s.unit).value 3 0 (f s.orders % 65536) (here + 1 + 3)) acts c w room end (own_filled f (here + 1 + 3) ∙ there) owner i by_itself.landed)
 
-    pub controls_common : (c : Control) (o : Order) (d : ℕ) → slice_get s.orders.list place ≡ Some o → carry_out p (Some o) g place line acts w ≡ after p.room (held (Some c) w) g place line acts w → 3 ≤ weight_of o → order_size o ≡ 5
+    controls_common : (c : Control) (o : Order) (d : ℕ) → slice_get s.orders.list place ≡ Some o → carry_out p (Some o) g place false acts w ≡ after p.room 0 (held (Some c) w) g place false acts w
+        → 3 ≤ weight_of o → order_size o ≡ 5
         → definition_place p (defined_at p g d) ≡ control_place p c → OwnerIs p acts c (record_of acts)
-        → HasAll image (order_place (base_of p g) s.orders.list place) (i86.Push 0 ∷ i86.Push 5 ∷ i86.MovImm 0 (imm.Word ((all.stands g s.orders s.unit).value 4 d 0 (order_place (base_of p g) s.orders.list place + 1 + 1 + 3))) ∷ []) → Follow known S q
+        → HasAll image (order_place (base_of p g) s.orders.list place)
+        (i86.Push 5 ∷ i86.MovImm 0 (imm.Word ((all.stands g s.orders s.unit).value 4 d 0 (order_place (base_of p g) s.orders.list place + 1 + 3))) ∷ i86.Push 0 ∷ []) → Follow known F q
     controls_common c o d e acts_as cheap size there owner i =
         let paid = weight_is known s o e in
         let next = behind known s by_itself o e in
         let end : here + 5 ≡ order_place (base_of p g) s.orders.list (place + 1) = omega arith in
-        let filled = (all.stands g s.orders s.unit).fills.definitions d (here + 1 + 1 + 3) in
-        holds_control o e c 3 (step_is known s (Some o) e ∙ acts_as) (let x : 3 ≤ weight p S = omega arith in x) (λ room.
-        controls rows p image g line (order_place (base_of p g) s.orders.list (place + 1)) ((all.stands g s.orders s.unit).value 4 d 0 (here + 1 + 1 + 3)) acts c w room end (filled ∙ there) owner i by_itself.landed)
+        let filled = (all.stands g s.orders s.unit).fills.definitions d (here + 1 + 3) in
+        holds_control o e c 3 (step_is known s (Some o) e ∙ acts_as) (let x : 3 ≤ weight p F = omega arith in x) (λ room.
+        controls rows p image g (order_place (base_of p g) s.orders.list (place + 1)) ((all.stands g s.orders s.unit).value 4 d 0 (here + 1 + 3)) acts c w room end (filled ∙ there) owner i by_itself.landed)
 
     -- what is not defined, or of another sort
-    pub labels_common : (d : ℕ) → slice_get s.orders.list place ≡ Some (order.LabelCommon d) → (x : Option (ℕ × Def)) → defined_at p g d ≡ x → Follow known S q
-    labels_common d e (Some (to, def.Label l)) is =
-        controls_common (LabelControl to l (length acts)) (order.LabelCommon d) d e (ap (λ x. after p.room (held (with_label_owner (length acts) (label_of_def x)) w) g place line acts w) is) (lit≤ tt) refl (ap (definition_place p) is) owned (code known s by_itself (order.LabelCommon d) e)
-    labels_common d e (Some (to, def.Proc n)) is = absurd (stuck_here known s (step_is known s (Some (order.LabelCommon d)) e ∙ ap (λ x. after p.room (held (with_label_owner (length acts) (label_of_def x)) w) g place line acts w) is))
-    labels_common d e (Some (to, def.Switch n)) is = absurd (stuck_here known s (step_is known s (Some (order.LabelCommon d)) e ∙ ap (λ x. after p.room (held (with_label_owner (length acts) (label_of_def x)) w) g place line acts w) is))
-    labels_common d e None is = absurd (stuck_here known s (step_is known s (Some (order.LabelCommon d)) e ∙ ap (λ x. after p.room (held (with_label_owner (length acts) (label_of_def x)) w) g place line acts w) is))
+    pub labels_common : (d : ℕ) → slice_get s.orders.list place ≡ Some (order.LabelCommon d) → (x : Option (ℕ × Def)) → defined_at p g d ≡ x → Follow known F q
+    labels_common d e x is = cases x is
+      where
+        held_as : (x : Option (ℕ × Def)) → defined_at p g d ≡ x
+            → carry_out p (Some (order.LabelCommon d)) g place false acts w ≡ after p.room 0 (unrefused (held (with_label_owner (length acts) (label_of_def x)) w)) g place false acts w
+        held_as x is = ap (λ x. after p.room 0 (unrefused (held (with_label_owner (length acts) (label_of_def x)) w)) g place false acts w) is
 
-    pub switches_common : (d : ℕ) → slice_get s.orders.list place ≡ Some (order.SwitchCommon d) → (x : Option (ℕ × Def)) → defined_at p g d ≡ x → Follow known S q
-    switches_common d e (Some (to, def.Switch n)) is =
-        controls_common (SwitchControl to n (length acts)) (order.SwitchCommon d) d e (ap (λ x. after p.room (held (with_switch_owner (length acts) (switch_of_def x)) w) g place line acts w) is) (lit≤ tt) refl (ap (definition_place p) is) owned (code known s by_itself (order.SwitchCommon d) e)
-    switches_common d e (Some (to, def.Proc n)) is = absurd (stuck_here known s (step_is known s (Some (order.SwitchCommon d)) e ∙ ap (λ x. after p.room (held (with_switch_owner (length acts) (switch_of_def x)) w) g place line acts w) is))
-    switches_common d e (Some (to, def.Label l)) is = absurd (stuck_here known s (step_is known s (Some (order.SwitchCommon d)) e ∙ ap (λ x. after p.room (held (with_switch_owner (length acts) (switch_of_def x)) w) g place line acts w) is))
-    switches_common d e None is = absurd (stuck_here known s (step_is known s (Some (order.SwitchCommon d)) e ∙ ap (λ x. after p.room (held (with_switch_owner (length acts) (switch_of_def x)) w) g place line acts w) is))
+        cases : (x : Option (ℕ × Def)) → defined_at p g d ≡ x → Follow known F q
+        cases (Some (to, def.Label l)) is =
+            controls_common (LabelControl to l (length acts)) (order.LabelCommon d) d e (held_as (Some (to, def.Label l)) is) (lit≤ tt) refl (ap (definition_place p) is) (owned s by_itself) (code known s by_itself (order.LabelCommon d) e)
+        cases (Some (to, def.Proc n)) is = absurd (stuck_here known s (step_is known s (Some (order.LabelCommon d)) e ∙ held_as (Some (to, def.Proc n)) is))
+        cases (Some (to, def.Switch n)) is = absurd (stuck_here known s (step_is known s (Some (order.LabelCommon d)) e ∙ held_as (Some (to, def.Switch n)) is))
+        cases None is = absurd (stuck_here known s (step_is known s (Some (order.LabelCommon d)) e ∙ held_as None is))
 
-    pub procedures_common : (d : ℕ) → slice_get s.orders.list place ≡ Some (order.ProcCommon d) → (x : Option (ℕ × Def)) → defined_at p g d ≡ x → Follow known S q
-    procedures_common d e (Some (to, def.Proc n)) is =
-        controls_common (ProcedureControl to n) (order.ProcCommon d) d e (ap (λ x. after p.room (held (as_procedure (procedure_of_def x)) w) g place line acts w) is) (lit≤ tt) refl (ap (definition_place p) is) tt (code known s by_itself (order.ProcCommon d) e)
-    procedures_common d e (Some (to, def.Switch n)) is = absurd (stuck_here known s (step_is known s (Some (order.ProcCommon d)) e ∙ ap (λ x. after p.room (held (as_procedure (procedure_of_def x)) w) g place line acts w) is))
-    procedures_common d e (Some (to, def.Label l)) is = absurd (stuck_here known s (step_is known s (Some (order.ProcCommon d)) e ∙ ap (λ x. after p.room (held (as_procedure (procedure_of_def x)) w) g place line acts w) is))
-    procedures_common d e None is = absurd (stuck_here known s (step_is known s (Some (order.ProcCommon d)) e ∙ ap (λ x. after p.room (held (as_procedure (procedure_of_def x)) w) g place line acts w) is))
+    pub switches_common : (d : ℕ) → slice_get s.orders.list place ≡ Some (order.SwitchCommon d) → (x : Option (ℕ × Def)) → defined_at p g d ≡ x → Follow known F q
+    switches_common d e x is = cases x is
+      where
+        held_as : (x : Option (ℕ × Def)) → defined_at p g d ≡ x
+            → carry_out p (Some (order.SwitchCommon d)) g place false acts w ≡ after p.room 0 (unrefused (held (with_switch_owner (length acts) (switch_of_def x)) w)) g place false acts w
+        held_as x is = ap (λ x. after p.room 0 (unrefused (held (with_switch_owner (length acts) (switch_of_def x)) w)) g place false acts w) is
+
+        cases : (x : Option (ℕ × Def)) → defined_at p g d ≡ x → Follow known F q
+        cases (Some (to, def.Switch n)) is =
+            controls_common (SwitchControl to n (length acts)) (order.SwitchCommon d) d e (held_as (Some (to, def.Switch n)) is) (lit≤ tt) refl (ap (definition_place p) is) (owned s by_itself) (code known s by_itself (order.SwitchCommon d) e)
+        cases (Some (to, def.Proc n)) is = absurd (stuck_here known s (step_is known s (Some (order.SwitchCommon d)) e ∙ held_as (Some (to, def.Proc n)) is))
+        cases (Some (to, def.Label l)) is = absurd (stuck_here known s (step_is known s (Some (order.SwitchCommon d)) e ∙ held_as (Some (to, def.Label l)) is))
+        cases None is = absurd (stuck_here known s (step_is known s (Some (order.SwitchCommon d)) e ∙ held_as None is))
+
+    pub procedures_common : (d : ℕ) → slice_get s.orders.list place ≡ Some (order.ProcCommon d) → (x : Option (ℕ × Def)) → defined_at p g d ≡ x → Follow known F q
+    procedures_common d e x is = cases x is
+      where
+        held_as : (x : Option (ℕ × Def)) → defined_at p g d ≡ x
+            → carry_out p (Some (order.ProcCommon d)) g place false acts w ≡ after p.room 0 (unrefused (held (as_procedure (procedure_of_def x)) w)) g place false acts w
+        held_as x is = ap (λ x. after p.room 0 (unrefused (held (as_procedure (procedure_of_def x)) w)) g place false acts w) is
+
+        cases : (x : Option (ℕ × Def)) → defined_at p g d ≡ x → Follow known F q
+        cases (Some (to, def.Proc n)) is =
+            controls_common (ProcedureControl to n) (order.ProcCommon d) d e (held_as (Some (to, def.Proc n)) is) (lit≤ tt) refl (ap (definition_place p) is) tt (code known s by_itself (order.ProcCommon d) e)
+        cases (Some (to, def.Switch n)) is = absurd (stuck_here known s (step_is known s (Some (order.ProcCommon d)) e ∙ held_as (Some (to, def.Switch n)) is))
+        cases (Some (to, def.Label l)) is = absurd (stuck_here known s (step_is known s (Some (order.ProcCommon d)) e ∙ held_as (Some (to, def.Label l)) is))
+        cases None is = absurd (stuck_here known s (step_is known s (Some (order.ProcCommon d)) e ∙ held_as None is))
 
     -- ---- jumps to the body of the segment
 
-    -- where a label's mark is, without the last activations
-    pub left_for : (to m n : ℕ) (limit : ℕ) → step p S ≡ leave_for (place_of p to m) to n g place line acts w → limit ≤ weight p S
-        → ((k : ℕ) (o : Orders) → slice_get p.units to ≡ Some o → place_of p to m ≡ Some k → k ≤ length o.list
-        → Leading w.output limit q (Landed p image (order_place (base_of p to) o.list k) to (line_below n line acts) (drop n acts) (with_operands w []))) → Follow known S q
-    left_for to m n limit e paid d = cases (place_of p to m) refl
-      where
-        cases : (k : Option ℕ) → place_of p to m ≡ k → Follow known S q
-        cases None is = absurd (stuck_here known s (e ∙ ap (λ k. leave_for k to n g place line acts w) is))
-        cases (Some k) is =
-            let t = at to k (line_below n line acts) (drop n acts) (with_operands w []) Running in
-            let goes : step p S ≡ t = e ∙ ap (λ k. leave_for k to n g place line acts w) is in
-            let u = has_unit p to k (line_below n line acts) (drop n acts) (with_operands w []) (never_next known s t goes) in
-            leads_to known g place line acts w t limit goes paid
-            (onward known (λ r l. inl (sound_in to k (line_below n line acts) (drop n acts) (with_operands w []) r u.orders u.unit (begins_there known to m k u.orders u.unit is) goes (stand_below p n g to acts s.working) (come_back_below p n acts s.comes_back) l)) (d k u.orders u.unit is u.within))
-
-    pub goes_to_main : (m : ℕ) → slice_get s.orders.list place ≡ Some (order.GoMain m) → Follow known S q
+    pub goes_to_main : (m : ℕ) → slice_get s.orders.list place ≡ Some (order.GoMain m) → Follow known F q
     goes_to_main m e =
         let own = own_place s.orders.list place in
         let by = distance (own + 15) (mark_starts s.orders m) in
@@ -271,10 +322,10 @@ module _ (known : Given) where
         let filled = (all.stands g s.orders s.unit).fills.number (here + 3 + 3 + 3) in
         let few_here = few_segments known s in
         let is_number : segment ≡ g + 1 = omega arith in
-        left_for g m (length acts) 16 (step_is known s (Some (order.GoMain m)) e) (weight_is known s (order.GoMain m) e) (λ k o unit there within.
+        left_for s by_itself g m (length acts) 16 (step_is known s (Some (order.GoMain m)) e) (weight_is known s (order.GoMain m) e) (λ k o unit there within.
         let same : o ≡ s.orders = some_same (sym unit ∙ s.unit) in
         let within' : k ≤ length s.orders.list = subst (λ x. k ≤ length x.list) same within in
         let at_mark : start known s m ≡ order_place (base_of p g) s.orders.list k = ap (λ n. base_of p g + n) (mark_start s.orders m k (mark_listed known g m k s.orders s.unit there) within') in
-        subst (λ x. Leading w.output 16 q (Landed p image (order_place (base_of p g) x.list k) g (line_below (length acts) line acts) (drop (length acts) acts) (with_operands w []))) (sym same)
-        (subst (λ a. Leading w.output 16 q (Landed p image a g (line_below (length acts) line acts) (drop (length acts) acts) (with_operands w []))) at_mark
-        (goes_main rows p image g line (start known s m) by segment acts w is_number few_here (jump_arrives (base_of p g) own 15 (mark_starts s.orders m)) (code known s by_itself (order.GoMain m) e) by_itself.landed)))
+        subst (λ x. Leading w.output 16 q (Landed p image (order_place (base_of p g) x.list k) g false (drop (length acts) acts) (with_operands w []))) (sym same)
+        (subst (λ a. Leading w.output 16 q (Landed p image a g false (drop (length acts) acts) (with_operands w []))) at_mark
+        (goes_main rows p image g (start known s m) by segment acts w is_number few_here (jump_arrives (base_of p g) own 15 (mark_starts s.orders m)) (code known s by_itself (order.GoMain m) e) by_itself.landed)))

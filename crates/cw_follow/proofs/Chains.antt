@@ -1,23 +1,24 @@
 -- Instructions, one after another.
-use Rattle.std.proofs.Common.{◌≡◌, ℕ, suc, ◌+◌, ◌*◌, ◌/◌, ◌%◌, ◌<◌, ◌≤◌, Bool, true, false, List, [], ◌∷◌, length, refl, ap, ap₂, ◌∙◌, subst, arith}
+use Rattle.std.proofs.Common.{◌≡◌, ℕ, suc, ◌+◌, ◌*◌, ◌%◌, ◌<◌, ◌≤◌, Bool, true, false, ℤ, pos, unsigned_abs, int_rem, List, [], ◌∷◌, length, refl, ap, ap₂, ◌∙◌, subst, arith}
 use Rattle.cw_track.proofs.Paths.{Path, stay, next}
 use Rattle.cw_i86.specs.Encoding.{bytes_of}
 use Rattle.cw_i86.specs.State.{sign_extended}
-use Rattle.cw_i86.specs.MachineRun.{taken, left_after}
 use Rattle.cw_i86.specs.declared.instr.Instr.{Instr}
 use Rattle.cw_i86.specs.declared.instr.Instr.TheVariants as i86
 use Rattle.cw_i86.specs.declared.instr.Imm.TheVariants as imm
 use Rattle.cw_i86.specs.declared.instr.Rm.TheVariants as rms
 use Rattle.cw_run86.specs.Processor.{processor_step, Told, with_given}
-use Rattle.cw_follow.specs.Passing.{Ignores, stores_number}
+use Rattle.cw_follow.specs.Passing.{Ignores, does_nothing}
 use Rattle.cw_follow.proofs.Watched.{Watched, watched_step, watched_machine, step_silent}
-use Rattle.cw_run86.specs.Views.{View, Sees, Has, IsTop, register, on, with_place, with_register, with_result, with_cell, with_stack, with_told, sum_overflows, difference_overflows, word_sum, word_difference, with_overflow, with_other, with_memory, with_number, Compared, Compares, Comparison, condition_of, words_compare, with_input, double_overflows, compare as compare_of}
+use Rattle.cw_word.specs.FixedPoint.{FitsWord, scaled_quotient}
+use Rattle.cw_word.specs.Word.{unsigned}
+use Rattle.cw_run86.specs.Views.{View, Sees, Has, IsTop, register, on, with_place, with_register, with_result, with_cell, with_stack, with_told, sum_overflows, difference_overflows, word_sum, word_difference, with_overflow, with_other, with_memory, with_number, Compared, Compares, Comparison, condition_of, words_compare, double_overflows, compare as compare_of, sign_of, with_pair}
 use Rattle.cw_unit.specs.Stop.{Running}
 use Rattle.cw_unit.specs.Begun.{Begun}
 use Rattle.cw_unit.specs.Behaviour.{Observation}
 use Rattle.cw_image.specs.Begun.{StatementPlace, lines_at}
 use Rattle.std.specs.Prelude.{slice_index}
-use Rattle.cw_tmpl.specs.Mnemonics.{slot, at_bx, argument, near_field, entry_of_table}
+use Rattle.cw_tmpl.specs.Mnemonics.{slot, at_bx, argument, entry_of_table, nothing}
 use Rattle.cw_follow.specs.Showing.{shown_as}
 use Rattle.cw_follow.proofs.Rows.{Rows}
 
@@ -59,20 +60,20 @@ pub record IsCompared (image : List ℕ) (at : ℕ) (v : View) (a b : ℕ) (p : 
 
 -- ---- one instruction
 
--- behind an instruction that stores no number
-pub silently : {image : List ℕ} {at : ℕ} {v : View} {p : Watched} (i : Instr) → stores_number i ≡ false → Has image (at % 65536) i → Is image at v p → (watched_step p).begun ≡ []
-silently {at = at} {p = p} i unstored h s = step_silent p (ap (lines_at p.places) s.sees.place ∙ s.ignores.others (at % 65536) i h unstored) s.silent
+-- behind an instruction that does something
+pub silently : {image : List ℕ} {at : ℕ} {v : View} {p : Watched} (i : Instr) → does_nothing i ≡ false → Has image (at % 65536) i → Is image at v p → (watched_step p).begun ≡ []
+silently {at = at} {p = p} i does h s = step_silent p (ap (lines_at p.places) s.sees.place ∙ s.ignores.others (at % 65536) i h does) s.silent
 
-pub went : {image : List ℕ} {at to : ℕ} {v u : View} {p : Watched} (i : Instr) → stores_number i ≡ false → Has image (at % 65536) i → Is image at v p → Sees image (placed to u) (processor_step p.processor) → Is image to u (watched_step p)
+pub went : {image : List ℕ} {at to : ℕ} {v u : View} {p : Watched} (i : Instr) → does_nothing i ≡ false → Has image (at % 65536) i → Is image at v p → Sees image (placed to u) (processor_step p.processor) → Is image to u (watched_step p)
 unfolding watched_step
-went i unstored h s sees = record { sees = sees; ignores = s.ignores; silent = silently i unstored h s }
+went i does h s sees = record { sees = sees; ignores = s.ignores; silent = silently i does h s }
 
 -- past it, at the place behind it
-pub moved : {image : List ℕ} {v : View} {p : Watched} (at : ℕ) (i : Instr) (u : View) → stores_number i ≡ false → Has image (at % 65536) i → Is image at v p → Sees image (with_place ((at % 65536 + length (bytes_of i)) % 65536) u) (processor_step p.processor) → Is image (at + length (bytes_of i)) u (watched_step p)
-moved {image} {p = p} at i u unstored h s sees =
+pub moved : {image : List ℕ} {v : View} {p : Watched} (at : ℕ) (i : Instr) (u : View) → does_nothing i ≡ false → Has image (at % 65536) i → Is image at v p → Sees image (with_place ((at % 65536 + length (bytes_of i)) % 65536) u) (processor_step p.processor) → Is image (at + length (bytes_of i)) u (watched_step p)
+moved {image} {p = p} at i u does h s sees =
     let l = length (bytes_of i) in
     let e : (at % 65536 + l) % 65536 ≡ (at + l) % 65536 = omega arith in
-    went i unstored h s (subst (λ n. Sees image (with_place n u) (processor_step p.processor)) e sees)
+    went i does h s (subst (λ n. Sees image (with_place n u) (processor_step p.processor)) e sees)
 
 -- an instruction that stands in the code stands below 65,536
 pub below : {image : List ℕ} {at : ℕ} {v : View} {p : Watched} (i : Instr) → 0 < length (bytes_of i) → Has image at i → Is image at v p → at < 65536
@@ -87,13 +88,6 @@ has {image} {at} {v} {p} i some h s =
     let e : at ≡ at % 65536 = omega arith in
     subst (λ n. Has image n i) e h
 
--- behind an instruction at whose place no statement begins
-pub silent_at : {image : List ℕ} {at : ℕ} {v : View} {p : Watched} (i : Instr) → 0 < length (bytes_of i) → Has image at i → lines_at p.places at ≡ [] → Is image at v p → (watched_step p).begun ≡ []
-silent_at {at = at} {p = p} i some h none s =
-    let short : at < 65536 = below i some h s in
-    let whole : at % 65536 ≡ at = omega arith in
-    step_silent p (ap (lines_at p.places) (s.sees.place ∙ whole) ∙ none) s.silent
-
 pub seen : {image : List ℕ} {at to : ℕ} {v w : View} {p : Watched} → at ≡ to → v ≡ w → Is image at v p → Is image to w p
 seen {image} {at} {to} {v} {w} {p} ea ev s = subst (λ n. Is image n w p) ea (subst (λ u. Is image at u p) ev s)
 
@@ -107,23 +101,17 @@ module _ (rows : Rows) where
       let here = has i (omega arith) h s in
       moved at i (with_register r w v) refl here s (rows.number image (placed at v) r w here p.processor s.sees)
 
-  pub low_byte : {image : List ℕ} {at : ℕ} {v : View} {p : Watched} (b : ℕ) → Has image at (i86.MovImm 0 (imm.Byte b)) → Is image at v p → Is image (at + 2) (with_register 0 (register v 0 / 256 * 256 + b) v) (watched_step p)
-  low_byte {image} {at} {v} {p} b h s =
-      let i = i86.MovImm 0 (imm.Byte b) in
-      let here = has i (omega arith) h s in
-      moved at i (with_register 0 (register v 0 / 256 * 256 + b) v) refl here s (rows.low_byte image (placed at v) b here p.processor s.sees)
-
   pub move : {image : List ℕ} {at : ℕ} {v : View} {p : Watched} (r q : ℕ) → Has image at (i86.Mov true true r (rms.Reg q)) → Is image at v p → Is image (at + 2) (with_register r (register v q) v) (watched_step p)
   move {image} {at} {v} {p} r q h s =
       let i = i86.Mov true true r (rms.Reg q) in
       let here = has i (omega arith) h s in
       moved at i (with_register r (register v q) v) refl here s (rows.move image (placed at v) r q here p.processor s.sees)
 
-  pub high_byte : {image : List ℕ} {at : ℕ} {v : View} {p : Watched} → Has image at (i86.Mov false true 0 (rms.Reg 4)) → Is image at v p → Is image (at + 2) (with_register 0 (register v 0 / 256 * 256 + register v 0 / 256) v) (watched_step p)
-  high_byte {image} {at} {v} {p} h s =
-      let i = i86.Mov false true 0 (rms.Reg 4) in
+  pub exchange : {image : List ℕ} {at : ℕ} {v : View} {p : Watched} → Has image at (i86.XchgAx 3) → Is image at v p → Is image (at + 1) (with_register 0 (register v 3) (with_register 3 (register v 0) v)) (watched_step p)
+  exchange {image} {at} {v} {p} h s =
+      let i = i86.XchgAx 3 in
       let here = has i (omega arith) h s in
-      moved at i (with_register 0 (register v 0 / 256 * 256 + register v 0 / 256) v) refl here s (rows.high_byte image (placed at v) here p.processor s.sees)
+      moved at i (with_register 0 (register v 3) (with_register 3 (register v 0) v)) refl here s (rows.exchange image (placed at v) 3 here p.processor s.sees)
 
   pub push : {image : List ℕ} {at : ℕ} {v : View} {p : Watched} (r n : ℕ) → n < 32768 → IsTop v (suc n) → Has image at (i86.Push r) → Is image at v p → Is image (at + 1) (with_register 4 (2 * n) (with_stack n (register v r) v)) (watched_step p)
   push {image} {at} {v} {p} r n lt top h s =
@@ -150,26 +138,16 @@ module _ (rows : Rows) where
       let here = has i (omega arith) h s in
       moved at i (with_cell k (register v r) v) refl here s (rows.store image (placed at v) r k here lt e p.processor s.sees)
 
-  pub load_slot : {image : List ℕ} {at : ℕ} {v : View} {p : Watched} (r by k : ℕ) → k < 32768 → (register v 5 + sign_extended by) % 65536 ≡ 2 * k → Has image at (i86.Mov true true r (slot by)) → Is image at v p → Is image (at + 3) (with_register r (v.stack k) v) (watched_step p)
-  load_slot {image} {at} {v} {p} r by k lt e h s =
-      let i = i86.Mov true true r (slot by) in
-      let here = has i (omega arith) h s in
-      moved at i (with_register r (v.stack k) v) refl here s (rows.load_slot image (placed at v) r by k here lt e p.processor s.sees)
-
-  -- a number is stored, whatever the observer has noted before it
-  pub slot_set : {image : List ℕ} {at : ℕ} {v : View} {p : Watched} (places : List StatementPlace) (area : ℕ) (begun : List Begun) (by w k : ℕ) → Ignores image places → begun ≡ [] → k < 32768 → (register v 5 + sign_extended by) % 65536 ≡ 2 * k → Has image at (i86.MovRm (slot by) (imm.Word w)) → Is image at v p
-      → Is image (at + 5) (with_stack k w v) (record { places = places; area = area; processor = processor_step p.processor; begun = begun })
-  slot_set {image} {at} {v} {p} places area begun by w k ignores silent lt e h s =
-      let past : (at % 65536 + 5) % 65536 ≡ (at + 5) % 65536 = omega arith in
+  -- an instruction that does nothing, whatever the observer has noted before it
+  pub idle : {image : List ℕ} {at : ℕ} {v : View} {p : Watched} (places : List StatementPlace) (area : ℕ) (begun : List Begun) → Ignores image places → begun ≡ [] → Has image at nothing → Is image at v p
+      → Is image (at + 1) v (record { places = places; area = area; processor = processor_step p.processor; begun = begun })
+  idle {image} {at} {v} {p} places area begun ignores silent h s =
+      let past : (at % 65536 + 1) % 65536 ≡ (at + 1) % 65536 = omega arith in
       record {
-        sees = subst (λ n. Sees image (with_place n (with_stack k w v)) (processor_step p.processor)) past (rows.set_slot image (placed at v) by w k (has (i86.MovRm (slot by) (imm.Word w)) (omega arith) h s) lt e p.processor s.sees);
+        sees = subst (λ n. Sees image (with_place n v) (processor_step p.processor)) past (rows.nothing image (placed at v) (has nothing (omega arith) h s) p.processor s.sees);
         ignores = ignores;
         silent = silent;
       }
-
-  pub set_slot : {image : List ℕ} {at : ℕ} {v : View} {p : Watched} (by w k : ℕ) → k < 32768 → (register v 5 + sign_extended by) % 65536 ≡ 2 * k → Has image at (i86.MovRm (slot by) (imm.Word w)) → lines_at p.places at ≡ [] → Is image at v p → Is image (at + 5) (with_stack k w v) (watched_step p)
-  unfolding watched_step
-  set_slot {p = p} by w k lt e h none s = slot_set p.places p.area (watched_step p).begun by w k s.ignores (silent_at (i86.MovRm (slot by) (imm.Word w)) (omega arith) h none s) lt e h s
 
   pub add : {image : List ℕ} {at : ℕ} {v : View} {p : Watched} (r q : ℕ) → Has image at (i86.AluRm 0 true true r (rms.Reg q)) → Is image at v p → Is image (at + 2) (with_result r (word_sum (register v r) (register v q)) (sum_overflows (register v r) (register v q)) v) (watched_step p)
   add {image} {at} {v} {p} r q h s =
@@ -201,14 +179,6 @@ module _ (rows : Rows) where
       let e : (at % 65536 + 3 + by) % 65536 ≡ (at + 3 + by) % 65536 = omega arith in
       let here = has i (omega arith) h s in
       went i refl here s (subst (λ n. Sees image (with_place n v) (processor_step p.processor)) e (rows.near image (placed at v) by here p.processor s.sees))
-
-  pub short : {image : List ℕ} {at : ℕ} {v : View} {p : Watched} (by : ℕ) → Has image at (i86.JumpShort by) → Is image at v p → Is image (at + 2 + sign_extended by) v (watched_step p)
-  short {image} {at} {v} {p} by h s =
-      let i = i86.JumpShort by in
-      let x = sign_extended by in
-      let e : (at % 65536 + 2 + x) % 65536 ≡ (at + 2 + x) % 65536 = omega arith in
-      let here = has i (omega arith) h s in
-      went i refl here s (subst (λ n. Sees image (with_place n v) (processor_step p.processor)) e (rows.short image (placed at v) by here p.processor s.sees))
 
   pub no_overflow : {image : List ℕ} {at : ℕ} {v : View} {p : Watched} (by : ℕ) → v.overflow ≡ false → Has image at (i86.JumpIf 1 by) → Is image at v p → Is image (at + 2 + sign_extended by) v (watched_step p)
   no_overflow {image} {at} {v} {p} by off h s =
@@ -262,13 +232,21 @@ module _ (rows : Rows) where
       let here = has i (omega arith) h s in
       moved at i (with_result 0 (word_difference (register v 0) w) (difference_overflows (register v 0) w) v) refl here s (rows.subtract_number image (placed at v) w here p.processor s.sees)
 
+  -- AX divided behind CWD by a number in BX
+  pub divided : {image : List ℕ} {at : ℕ} {v : View} {p : Watched} (x n : ℤ) → Has image at (i86.Unary 7 true (rms.Reg 3)) → FitsWord x → FitsWord n → 2 ≤ unsigned_abs n → register v 0 ≡ unsigned x → register v 2 ≡ sign_of (unsigned x) → register v 3 ≡ unsigned n → Is image at v p
+      → Is image (at + 2) (with_pair (unsigned (scaled_quotient x n (pos 0))) (unsigned (int_rem x n)) v) (watched_step p)
+  divided {image} {at} {v} {p} x n h fx fn two low high by s =
+      let i = i86.Unary 7 true (rms.Reg 3) in
+      let here = has i (omega arith) h s in
+      moved at i (with_pair (unsigned (scaled_quotient x n (pos 0))) (unsigned (int_rem x n)) v) refl here s (rows.quotient image (placed at v) 3 x n here fx fn two low high by p.processor s.sees)
+
   -- ---- comparisons
 
-  compares : {image : List ℕ} {at : ℕ} {v : View} {p : Watched} {a b : ℕ} (i : Instr) → stores_number i ≡ false → Has image (at % 65536) i → Compares image a b i (placed at v) → Is image at v p → IsCompared image (at + length (bytes_of i)) (with_overflow (difference_overflows a b) v) a b (watched_step p)
+  compares : {image : List ℕ} {at : ℕ} {v : View} {p : Watched} {a b : ℕ} (i : Instr) → does_nothing i ≡ false → Has image (at % 65536) i → Compares image a b i (placed at v) → Is image at v p → IsCompared image (at + length (bytes_of i)) (with_overflow (difference_overflows a b) v) a b (watched_step p)
   unfolding watched_step
-  compares {image} {at} {v} {p} {a} {b} i unstored here c s =
+  compares {image} {at} {v} {p} {a} {b} i does here c s =
       let both = c p.processor s.sees in
-      record { is = moved at i (with_overflow (difference_overflows a b) v) unstored here s both.0; flags = both.1 }
+      record { is = moved at i (with_overflow (difference_overflows a b) v) does here s both.0; flags = both.1 }
 
   pub compare : {image : List ℕ} {at : ℕ} {v : View} {p : Watched} (r q : ℕ) → Has image at (with_other 7 r q) → Is image at v p → IsCompared image (at + 2) (with_overflow (difference_overflows (register v r) (register v q)) v) (register v r) (register v q) (watched_step p)
   compare {image} {at} {v} r q h s =
@@ -284,11 +262,6 @@ module _ (rows : Rows) where
   compare_number {image} {at} {v} w h s =
       let here = has (with_number 7 w) (omega arith) h s in
       compares (with_number 7 w) refl here (rows.compare_number image (placed at v) w here) s
-
-  pub compared_pop : {image : List ℕ} {at : ℕ} {v : View} {p : Watched} {a b : ℕ} (r n m : ℕ) → n < 32768 → IsTop v n → 2 * suc n % 65536 ≡ m → Has image at (i86.Pop r) → IsCompared image at v a b p → IsCompared image (at + 1) (with_register r (v.stack n) (with_register 4 m v)) a b (watched_step p)
-  unfolding watched_step
-  compared_pop {image} {at} {v} {p} {a} {b} r n m lt top e h c =
-      record { is = pop r n m lt top e h c.is; flags = rows.compared_pop image (placed at v) r a b p.processor (has (i86.Pop r) (omega arith) h c.is) c.is.sees c.flags }
 
   pub compared_jumps : {image : List ℕ} {at : ℕ} {v : View} {p : Watched} {a b : ℕ} (c : Comparison) (by : ℕ) → a < 65536 → b < 65536 → words_compare c a b ≡ true → Has image at (i86.JumpIf (condition_of c) by) → IsCompared image at v a b p → Is image (at + 2 + sign_extended by) v (watched_step p)
   compared_jumps {image} {at} {v} {p} {a} {b} c by la lb holds h s =
@@ -318,15 +291,6 @@ module _ (rows : Rows) where
       let here = has i (omega arith) h s.is in
       moved at i v refl here s.is (rows.passes_above image (placed at v) by a b p.processor here le s.is.sees s.flags)
 
-  -- a comparison of registers and the jump right behind it
-  pub compare_jumps : {image : List ℕ} {at : ℕ} {v : View} {p : Watched} (c : Comparison) (r q by : ℕ) → register v r < 65536 → register v q < 65536 → words_compare c (register v r) (register v q) ≡ true
-      → Has image at (compare_of r q) → Has image (at + 2) (i86.JumpIf (condition_of c) by) → Is image at v p → Is image (at + 2 + 2 + sign_extended by) (with_overflow (difference_overflows (register v r) (register v q)) v) (watched_step (watched_step p))
-  compare_jumps c r q by lr lq holds h j s = compared_jumps c by lr lq holds j (compare r q h s)
-
-  pub compare_passes : {image : List ℕ} {at : ℕ} {v : View} {p : Watched} (c : Comparison) (r q by : ℕ) → register v r < 65536 → register v q < 65536 → words_compare c (register v r) (register v q) ≡ false
-      → Has image at (compare_of r q) → Has image (at + 2) (i86.JumpIf (condition_of c) by) → Is image at v p → Is image (at + 2 + 2) (with_overflow (difference_overflows (register v r) (register v q)) v) (watched_step (watched_step p))
-  compare_passes c r q by lr lq fails h j s = compared_passes c by lr lq fails j (compare r q h s)
-
   pub jumps_below : {image : List ℕ} {at : ℕ} {v : View} {p : Watched} (r q by : ℕ) → register v r < register v q
       → Has image at (compare_of r q) → Has image (at + 2) (i86.JumpIf 2 by) → Is image at v p → Is image (at + 2 + 2 + sign_extended by) (with_overflow (difference_overflows (register v r) (register v q)) v) (watched_step (watched_step p))
   jumps_below r q by lt h j s = jump_below by lt j (compare r q h s)
@@ -334,20 +298,6 @@ module _ (rows : Rows) where
   pub passes_above : {image : List ℕ} {at : ℕ} {v : View} {p : Watched} (r q by : ℕ) → register v q ≤ register v r
       → Has image at (compare_of r q) → Has image (at + 2) (i86.JumpIf 2 by) → Is image at v p → Is image (at + 2 + 2) (with_overflow (difference_overflows (register v r) (register v q)) v) (watched_step (watched_step p))
   passes_above r q by le h j s = pass_above by le j (compare r q h s)
-
-  -- RET, to the place that the stack holds
-  pub return : {image : List ℕ} {at : ℕ} {v : View} {p : Watched} (n m to : ℕ) → n < 32768 → IsTop v n → 2 * suc n % 65536 ≡ m → v.stack n ≡ to % 65536 → Has image at i86.Ret → Is image at v p → Is image to (with_register 4 m v) (watched_step p)
-  return {image} {at} {v} {p} n m to lt top e there h s =
-      let here = has i86.Ret (omega arith) h s in
-      went i86.Ret refl here s
-      (subst (λ x. Sees image (with_place x (with_register 4 m v)) (processor_step p.processor)) there
-      (subst (λ x. Sees image (with_place (v.stack n) (with_register 4 x v)) (processor_step p.processor)) e (rows.back image (placed at v) n here lt top p.processor s.sees)))
-
-  pub take : {image : List ℕ} {at : ℕ} {v : View} {p : Watched} (port : ℕ) → Has image at (i86.In port) → Is image at v p → Is image (at + 2) (with_input (left_after port v.input) (with_register 0 (register v 0 / 256 * 256 + taken port v.input) v)) (watched_step p)
-  take {image} {at} {v} {p} port h s =
-      let i = i86.In port in
-      let here = has i (omega arith) h s in
-      moved at i (with_input (left_after port v.input) (with_register 0 (register v 0 / 256 * 256 + taken port v.input) v)) refl here s (rows.take image (placed at v) port here p.processor s.sees)
 
   pub jump_to : {image : List ℕ} {at : ℕ} {v : View} {p : Watched} (r to : ℕ) → register v r ≡ to % 65536 → Has image at (i86.JumpRm (rms.Reg r)) → Is image at v p → Is image to v (watched_step p)
   jump_to {image} {at} {v} {p} r to e h s =
@@ -385,12 +335,6 @@ module _ (rows : Rows) where
       let i = i86.Mov true true r (argument n) in
       let here = has i (omega arith) h s in
       moved at i (with_register r (v.stack k) v) refl here s (rows.load_argument image (placed at v) r (4 + 2 * n) k here lt e p.processor s.sees)
-
-  pub load_field : {image : List ℕ} {at : ℕ} {v : View} {p : Watched} (r by k : ℕ) → k < 32768 → (register v 3 + sign_extended by) % 65536 ≡ 2 * k → Has image at (i86.Mov true true r (near_field by)) → Is image at v p → Is image (at + 3) (with_register r (v.cells k) v) (watched_step p)
-  load_field {image} {at} {v} {p} r by k lt e h s =
-      let i = i86.Mov true true r (near_field by) in
-      let here = has i (omega arith) h s in
-      moved at i (with_register r (v.cells k) v) refl here s (rows.load_field image (placed at v) r by k here lt e p.processor s.sees)
 
   pub store_slot : {image : List ℕ} {at : ℕ} {v : View} {p : Watched} (r by k : ℕ) → k < 32768 → (register v 5 + sign_extended by) % 65536 ≡ 2 * k → Has image at (i86.Mov true false r (slot by)) → Is image at v p → Is image (at + 3) (with_stack k (register v r) v) (watched_step p)
   store_slot {image} {at} {v} {p} r by k lt e h s =

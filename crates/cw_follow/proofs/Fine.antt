@@ -1,6 +1,6 @@
 -- The pieces of each template are instructions with the numbers of their rows, and stand where their bytes do.
-use Rattle.std.proofs.Common.{◌≡◌, ◌≢◌, ℕ, zero, suc, ◌+◌, ◌-◌, ◌/◌, ◌%◌, ◌<◌, ◌≤◌, List, [], ◌∷◌, ◌++◌, length, drop, get_or, sym, ap, ◌∙◌, subst, arith, lit<, append_assoc, length-append, Option, Some, None, Bool, true, false, ℤ, pos, negsuc, ◌*◌, ◌^◌, pow_mono}
-use Rattle.std.specs.Prelude.{slice_get, slice_index, slice_index_or, nat_lt, nat_le, ◌==◌}
+use Rattle.std.proofs.Common.{◌≡◌, ◌≢◌, ℕ, zero, suc, ◌+◌, ◌-◌, ◌/◌, ◌%◌, ◌<◌, ◌≤◌, List, [], ◌∷◌, ◌++◌, length, drop, get_or, sym, ap, ◌∙◌, subst, arith, lit<, append_assoc, length-append, Option, Some, None, Bool, true, false, ℤ, pos, negsuc, ◌*◌, ◌^◌, pow_mono, refl}
+use Rattle.std.specs.Prelude.{slice_get, slice_index, slice_index_or, nat_lt, nat_le, ◌==◌, if◌then◌else◌}
 use Rattle.std.proofs.lemmas.List.{get_or_append_left, get_or-append-add}
 use Rattle.cw_i86.specs.Encoding.{bytes_of, word, IsInstr}
 use Rattle.cw_unit.specs.declared.unit.Goal.{Goal}
@@ -20,40 +20,33 @@ use Rattle.cw_tmpl.specs.declared.pieces.Target.TheVariants as target
 use Rattle.cw_tmpl.specs.declared.pieces.Coded.{Coded}
 use Rattle.cw_tmpl.specs.declared.pieces.Coded.TheVariants as coded
 use Rattle.cw_tmpl.specs.Pieces.{Filling, bytes_with, size_of, target_of, relocation_of, word_of, word_before, filled}
-use Rattle.cw_tmpl.specs.Mnemonics.{entry_of_table, argument, double, jump_to, jump_if_below, at_bx, load, store, set_word, subtract, bytes_of_all, both, either, one_of, move, add}
-use Rattle.cw_tmpl.specs.Library.{routines, entry_place, bounds_entry, overflow_entry, address_entry, switch_entry, enter_entry, product_entry, quotient_up_entry, quotient_down_entry, in_area_entry, set_variable_entry, add_step_entry, put_variable_entry, exhausted_entry}
+use Rattle.cw_tmpl.specs.Mnemonics.{entry_of_table, argument, double, jump_to, jump_if_below, at_bx, load, store, set_word, subtract, both, either, one_of, move, add}
+use Rattle.cw_tmpl.specs.Library.{places_of_entries, entry_place, start_entry, overflow_entry, zero_divisor_entry, address_entry, bounds_entry, switch_entry, enter_entry, read_entry, product_entry, quotient_up_entry, quotient_down_entry, set_variable_entry, add_step_entry, put_variable_entry, exhausted_entry}
 use Rattle.cw_tmpl.specs.Names.{Names, mark_place, label_start, switch_start, procedure_start}
-use Rattle.cw_tmpl.specs.Templates.{template, call_library, jump_near, base_jump, control_out, record_dropped, return_with, operands_dropped, by_area, number_compared, mark_words, goal_words, loop_way, switch_pieces, checked, product_start, branch, operation, operated, block_pieces, distance, opposite_of, entry_pieces, unless_overflow, with_word, times_if, times, taken, taken_signed, load_top, row_start, row_end, on_both, rescale_if, by_routine, product_down, product, quotient, store_part, index_row}
+use Rattle.cw_tmpl.specs.Templates.{template, call_library, call_stop, unless_overflow, checked, call_at_line, on_both, with_word, times, times_if, taken, taken_signed, load_top, store_part, rescale_if, by_routine, product_start, product_down, product, divisor_tested, quotient, row_start, row_end, index_row, in_bounds, branch, distance, jump_near, opposite_of, control_out, return_with, operands_dropped, base_jump, number_compared, mark_words, goal_words, loop_way, switch_pieces, operation, operated, block_pieces, entry_pieces}
 use Rattle.cw_tmpl.specs.declared.blocks.Simple.{Simple}
 use Rattle.cw_tmpl.specs.declared.blocks.Simple.TheVariants as simple
 use Rattle.cw_tmpl.specs.declared.blocks.Use.{Use}
 use Rattle.cw_tmpl.specs.declared.blocks.Use.TheVariants as uses
 use Rattle.cw_tmpl.specs.declared.blocks.Block.{Block}
 use Rattle.cw_tmpl.specs.declared.blocks.Block.TheVariants as block
-use Rattle.cw_tmpl.specs.Blocks.{use_of, with_number, with_variable, after_home, after_frame_home, block_at}
+use Rattle.cw_tmpl.specs.Blocks.{use_of, is_plain_divisor, after_saved_const, with_variable, after_saved_home, after_saved_frame_home, after_save, after_home, after_frame_home, block_at}
 use Rattle.cw_tmpl.specs.ReferenceCode.{names_of}
 use Rattle.cw_follow.specs.Placing.{Fills, base_of, definition_place}
 use Rattle.cw_follow.proofs.Stacks.{start_small}
 use Rattle.cw_tmpl.proofs.Growing.{mask_small}
 use Rattle.cw_tmpl.proofs.Filling.{size_with}
-use Rattle.cw_follow.proofs.Standing.{HasAll, HasWord, HasPiece, HasPieces}
+use Rattle.cw_routines.specs.Ways.{HasWord}
+use Rattle.cw_follow.proofs.Standing.{HasPiece, HasPieces}
 use Rattle.cw_i86.specs.declared.instr.Instr.TheVariants as i86
 use Rattle.cw_i86.specs.declared.instr.Imm.TheVariants as imm
 use Rattle.cw_word.specs.FixedPoint.{FitsWord}
 use Rattle.cw_word.specs.Word.{unsigned}
 use Rattle.cw_word.specs.BitField.{field_mask}
 use Rattle.cw_order.specs.HasCode.{HasCode}
+use Rattle.cw_order.specs.OrderLines.{line_of}
 
 -- ---- instructions one after another
-
--- Each has the numbers of its row.
-abbrev pub AllInstr : List Instr → Type 0
-AllInstr [] = Unit {0}
-AllInstr (i ∷ is) = IsInstr i × AllInstr is
-
-pub all_instr-append : (is js : List Instr) → AllInstr is → AllInstr js → AllInstr (is ++ js)
-all_instr-append [] js a b = b
-all_instr-append (i ∷ is) js a b = (a.0, all_instr-append is js a.1 b)
 
 byte_there : (before bytes behind : List ℕ) (k : ℕ) → k < length bytes → get_or (before ++ (bytes ++ behind)) (length before + k) 0 ≡ get_or bytes k 0
 byte_there before bytes behind k lt = get_or-append-add before (bytes ++ behind) k 0 ∙ get_or_append_left bytes behind 0 k lt
@@ -64,18 +57,6 @@ one_there image before behind place i instr at e = record {
   within = omega (arith, ap length e, length-append before (bytes_of i ++ behind), length-append (bytes_of i) behind);
   bytes = λ k lt. ap (λ l. get_or l (place + k) 0) e ∙ ap (λ n. get_or (before ++ (bytes_of i ++ behind)) (n + k) 0) at ∙ byte_there before (bytes_of i) behind k lt;
 }
-
--- Where their bytes stand, the instructions do.
-pub all_there : (image before behind : List ℕ) (place : ℕ) (is : List Instr) → AllInstr is → place ≡ length before → image ≡ before ++ (bytes_of_all is ++ behind) → HasAll image place is
-all_there image before behind place [] instrs at e = tt
-all_there image before behind place (i ∷ is) instrs at e =
-    let B = bytes_of i in
-    let R = bytes_of_all is in
-    let flat : image ≡ before ++ (B ++ (R ++ behind)) = e ∙ ap (λ l. before ++ l) (append_assoc B R behind) in
-    let further : place + length B ≡ length (before ++ B) = omega (arith, length-append before B) in (
-      one_there image before (R ++ behind) place i instrs.0 at flat,
-      all_there image (before ++ B) behind (place + length B) is instrs.1 further (flat ∙ sym (append_assoc before B (R ++ behind))),
-    )
 
 -- ---- pieces with their words filled in
 
@@ -93,6 +74,7 @@ IsFine value (coded.Operate op reg t) = (op < 8) × (reg < 8) × IsFilled value 
 IsFine value (coded.Call t) = IsFilled value t
 IsFine value (coded.Jump t) = IsFilled value t
 IsFine value (coded.Word t) = IsFilled value t
+IsFine value (coded.Data n) = n < 65536
 IsFine value (coded.Way t) = IsFilled value t
 
 abbrev pub AllFine : Filling → List Coded → Type 0
@@ -119,6 +101,7 @@ one_piece image before behind value place (coded.Operate op reg t) fine at e = o
 one_piece image before behind value place (coded.Call t) fine at e = one_there image before behind place (i86.Call (word_of value (place + 3) (relocation_of 0 t))) (fine (place + 3)) at e
 one_piece image before behind value place (coded.Jump t) fine at e = one_there image before behind place (i86.Jump (word_of value (place + 3) (relocation_of 0 t))) (fine (place + 3)) at e
 one_piece image before behind value place (coded.Word t) fine at e = word_there image before behind place (word_of value (place + 2) (relocation_of 0 t)) (fine (place + 2)) at e
+one_piece image before behind value place (coded.Data n) fine at e = word_there image before behind place n fine at e
 one_piece image before behind value place (coded.Way t) fine at e = one_there image before behind place (i86.JumpRm (entry_of_table (word_of value (place + 5) (relocation_of 0 t)))) (lit< tt, fine (place + 5)) at e
 
 -- Where the code of pieces stands, they do.
@@ -136,20 +119,23 @@ pieces_there image before behind place value (p ∷ ps) fine at e =
 
 -- ---- the templates and the entry
 
--- the numbers in an order that its code has
+-- the numbers in an order that its code has: a word that it puts, and its line
 abbrev pub NumberFits : Order → Type 0
 NumberFits (order.Const w) = w < 65536
-NumberFits (order.Line n) = n < 65536
-NumberFits (order.Start n) = n < 65536
 NumberFits _ = Unit {0}
 
 abbrev pub OrderFits : Order → Type 0
-OrderFits o = NumberFits o × HasCode o
+OrderFits o = NumberFits o × HasCode o × (line_of o < 65536)
 
 -- and those in a block
 abbrev pub SimpleFits : Simple → Type 0
 SimpleFits (simple.Number w) = w < 65536
 SimpleFits (simple.Variable f n) = Unit {0}
+
+abbrev pub UseFits : Use → Type 0
+UseFits (uses.Add line) = line < 65536
+UseFits (uses.Subtract line) = line < 65536
+UseFits (uses.Compare c m) = Unit {0}
 
 abbrev pub BlockFits : Block → Order → Type 0
 BlockFits (block.Within n) o = Unit {0}
@@ -158,73 +144,103 @@ BlockFits (block.Fetch f n) o = Unit {0}
 BlockFits (block.Assign f n) o = Unit {0}
 BlockFits (block.FetchFrame n) o = Unit {0}
 BlockFits (block.AssignFrame n) o = Unit {0}
-BlockFits (block.Operate s u) o = SimpleFits s
+BlockFits block.Write o = Unit {0}
+BlockFits (block.Divide w) o = w < 65536
+BlockFits (block.Operate s u) o = SimpleFits s × UseFits u
 
-number_fits : (w : ℕ) (u : Option Use) → w < 65536 → BlockFits (with_number w u) (order.Const w)
-number_fits w None fits = (fits, tt)
-number_fits w (Some u) fits = fits
+-- the numbers of all orders of a list
+abbrev pub AllFit : List Order → Type 0
+AllFit list = (k : ℕ) (o : Order) → slice_get list k ≡ Some o → OrderFits o
 
-variable_fits : (f n : ℕ) (u : Option Use) → BlockFits (with_variable f n u) (order.Home f n)
-variable_fits f n None = tt
-variable_fits f n (Some u) = tt
+quotient_fits : (b : Bool) (w : ℕ) (os : List Order) → AllFit (order.Save ∷ order.Const w ∷ os) → BlockFits (if b then block.Divide w else block.Single) order.Save
+quotient_fits true w os fits = (fits 1 (order.Const w) refl).0
+quotient_fits false w os fits = fits 0 order.Save refl
 
-home_fits : (f n : ℕ) (second third : Option Order) → BlockFits (after_home f n second third) (order.Home f n)
-home_fits f n (Some order.Load) third = variable_fits f n (use_of third)
-home_fits f n (Some order.Store) third = tt
-home_fits f n _ third = (tt, tt)
+use_fits : (w : ℕ) (os : List Order) → AllFit (order.Save ∷ order.Const w ∷ os) → BlockFits (after_saved_const w (slice_get os 0)) order.Save
+use_fits w [] fits = fits 0 order.Save refl
+use_fits w (order.Add line ∷ os) fits = ((fits 1 (order.Const w) refl).0, (fits 2 (order.Add line) refl).2)
+use_fits w (order.Sub line ∷ os) fits = ((fits 1 (order.Const w) refl).0, (fits 2 (order.Sub line) refl).2)
+use_fits w (order.JumpIf c m ∷ os) fits = ((fits 1 (order.Const w) refl).0, tt)
+use_fits w (order.Div (pos zero) line ∷ os) fits = quotient_fits (is_plain_divisor w) w (order.Div (pos zero) line ∷ os) fits
+use_fits w (x ∷ os) fits = fits 0 order.Save refl
 
-frame_fits : (n : ℕ) (second : Option Order) → OrderFits (order.FrameHome n) → BlockFits (after_frame_home n second) (order.FrameHome n)
-frame_fits n (Some order.Load) fits = tt
-frame_fits n (Some order.Store) fits = tt
-frame_fits n _ fits = fits
+variable_fits : (f n : ℕ) (os : List Order) → AllFit (order.Save ∷ order.Home f n ∷ order.Load ∷ os) → BlockFits (with_variable f n (use_of (slice_get os 0))) order.Save
+variable_fits f n [] fits = fits 0 order.Save refl
+variable_fits f n (order.Add line ∷ os) fits = (tt, (fits 3 (order.Add line) refl).2)
+variable_fits f n (order.Sub line ∷ os) fits = (tt, (fits 3 (order.Sub line) refl).2)
+variable_fits f n (order.JumpIf c m ∷ os) fits = (tt, tt)
+variable_fits f n (x ∷ os) fits = fits 0 order.Save refl
 
-fits_first : (o : Order) (os : List Order) → OrderFits o → BlockFits (block_at 0 (o ∷ os)) o
-fits_first (order.Const w) os fits = number_fits w (use_of (slice_get os 0)) fits.0
-fits_first (order.Home f n) os fits = home_fits f n (slice_get os 0) (slice_get os 1)
-fits_first (order.FrameHome n) os fits = frame_fits n (slice_get os 0) fits
-fits_first o os fits = fits
+saved_home_fits : (f n : ℕ) (os : List Order) → AllFit (order.Save ∷ order.Home f n ∷ os) → BlockFits (after_saved_home f n (slice_get os 0) (slice_get os 1)) order.Save
+saved_home_fits f n [] fits = fits 0 order.Save refl
+saved_home_fits f n (order.Load ∷ os) fits = variable_fits f n os fits
+saved_home_fits f n (order.Store ∷ os) fits = tt
+saved_home_fits f n (x ∷ os) fits = fits 0 order.Save refl
 
-fits_front : (left : ℕ) (o : Order) (os : List Order) → OrderFits o → BlockFits (block_at left (o ∷ os)) o
+saved_frame_fits : (n : ℕ) (os : List Order) → AllFit (order.Save ∷ order.FrameHome n ∷ os) → BlockFits (after_saved_frame_home n (slice_get os 0)) order.Save
+saved_frame_fits n [] fits = fits 0 order.Save refl
+saved_frame_fits n (order.Store ∷ os) fits = tt
+saved_frame_fits n (x ∷ os) fits = fits 0 order.Save refl
+
+save_fits : (os : List Order) → AllFit (order.Save ∷ os) → BlockFits (after_save (slice_get os 0) (slice_get os 1) (slice_get os 2)) order.Save
+save_fits [] fits = fits 0 order.Save refl
+save_fits (order.Const w ∷ os) fits = use_fits w os fits
+save_fits (order.Home f n ∷ os) fits = saved_home_fits f n os fits
+save_fits (order.FrameHome n ∷ os) fits = saved_frame_fits n os fits
+save_fits (order.WriteByte ∷ os) fits = tt
+save_fits (x ∷ os) fits = fits 0 order.Save refl
+
+home_fits : (f n : ℕ) (os : List Order) → AllFit (order.Home f n ∷ os) → BlockFits (after_home f n (slice_get os 0)) (order.Home f n)
+home_fits f n [] fits = fits 0 (order.Home f n) refl
+home_fits f n (order.Load ∷ os) fits = tt
+home_fits f n (x ∷ os) fits = fits 0 (order.Home f n) refl
+
+frame_fits : (n : ℕ) (os : List Order) → AllFit (order.FrameHome n ∷ os) → BlockFits (after_frame_home n (slice_get os 0)) (order.FrameHome n)
+frame_fits n [] fits = fits 0 (order.FrameHome n) refl
+frame_fits n (order.Load ∷ os) fits = tt
+frame_fits n (x ∷ os) fits = fits 0 (order.FrameHome n) refl
+
+fits_first : (o : Order) (os : List Order) → AllFit (o ∷ os) → BlockFits (block_at 0 (o ∷ os)) o
+fits_first order.Save os fits = save_fits os fits
+fits_first (order.Home f n) os fits = home_fits f n os fits
+fits_first (order.FrameHome n) os fits = frame_fits n os fits
+fits_first o os fits = fits 0 o refl
+
+fits_front : (left : ℕ) (o : Order) (os : List Order) → AllFit (o ∷ os) → BlockFits (block_at left (o ∷ os)) o
 fits_front zero o os fits = fits_first o os fits
 fits_front (suc n) o os fits = tt
 
-pub fits_at : (left : ℕ) (list : List Order) (k : ℕ) (o : Order) → slice_get list k ≡ Some o → OrderFits o → BlockFits (block_at left (drop k list)) o
+pub fits_at : (left : ℕ) (list : List Order) (k : ℕ) (o : Order) → slice_get list k ≡ Some o → AllFit list → BlockFits (block_at left (drop k list)) o
 fits_at left [] k o e fits = absurd (cc)
 fits_at left (x ∷ xs) zero o e fits =
     let same : x ≡ o = cc in
-    subst (λ y. OrderFits y → BlockFits (block_at left (x ∷ xs)) y) same (fits_front left x xs) fits
-fits_at left (x ∷ xs) (suc k) o e fits = fits_at left xs k o e fits
+    subst (BlockFits (block_at left (x ∷ xs))) same (fits_front left x xs fits)
+fits_at left (x ∷ xs) (suc k) o e fits = fits_at left xs k o e (λ n y is. fits (suc n) y is)
 
-pub is_ax : 0 < 8
+is_ax : 0 < 8
 is_ax = lit< tt
 
-pub cx_register : 1 < 8
+cx_register : 1 < 8
 cx_register = lit< tt
 
-pub dx_register : 2 < 8
+dx_register : 2 < 8
 dx_register = lit< tt
 
-pub is_bx : 3 < 8
+is_bx : 3 < 8
 is_bx = lit< tt
 
 -- a register that is pushed and popped
-abbrev pub IsFree : ℕ → Type 0
+abbrev IsFree : ℕ → Type 0
 IsFree r = (r < 8) × (r ≢ 4)
 
-pub ax_free : IsFree 0
+ax_free : IsFree 0
 ax_free = (is_ax, λ e. omega arith)
 
-pub bx_free : IsFree 3
+bx_free : IsFree 3
 bx_free = (is_bx, λ e. omega arith)
-
-pub cx_free : IsFree 1
-cx_free = (cx_register, λ e. omega arith)
 
 bp_free : IsFree 5
 bp_free = (lit< tt, λ e. omega arith)
-
-pub si_free : IsFree 6
-si_free = (lit< tt, λ e. omega arith)
 
 below : (w n : ℕ) → w ≡ n % 65536 → w < 65536
 below w n e = omega arith
@@ -250,7 +266,7 @@ module _ (p : OrderProgram) (segment next : ℕ) (value : Filling) (fills : Fill
   home_filled : (family offset : ℕ) → IsFilled value (target.Word family offset)
   home_filled family offset after = below (value 1 family offset after) (slice_index (slice_index_or p.addresses.homes segment []) family + offset) (fills.homes family offset after)
 
-  library_filled : (entry : ℕ) → entry < length routines → IsFilled value (target.LibraryAhead entry)
+  library_filled : (entry : ℕ) → entry < length places_of_entries → IsFilled value (target.LibraryAhead entry)
   library_filled entry lt after = below (value 7 entry 0 after) (entry_place entry + (65536 - after % 65536)) (fills.library entry after lt)
 
   next_filled : IsFilled value target.NextSegment
@@ -258,39 +274,42 @@ module _ (p : OrderProgram) (segment next : ℕ) (value : Filling) (fills : Fill
 
   pub entry_fine : AllFine value entry_pieces
   entry_fine =
-      let area : IsFine value (coded.Move 0 (target.Limit limit.DataWords)) = (is_ax, λ after. below (value 8 0 0 after) p.limits.area (fills.area after)) in
-      let frames : IsFine value (coded.Move 3 (target.Limit limit.FrameWords)) = (is_bx, λ after. below (value 8 1 0 after) p.limits.frames (fills.frames after)) in
-      let depth : IsFine value (coded.Move 1 (target.Limit limit.Calls)) = (lit< tt, λ after. below (value 8 2 0 after) p.limits.depth (fills.depth after)) in
-      let number : IsFine value (coded.Move 2 (target.Limit limit.Segment)) = (lit< tt, λ after. below (value 8 3 0 after) (segment + 1) (fills.number after)) in
-      (area, (frames, (depth, (number, (library_filled 1 (lit< tt), tt)))))
+      let area : IsFilled value (target.Limit limit.DataWords) = λ after. below (value 8 0 0 after) p.limits.area (fills.area after) in
+      let frames : IsFilled value (target.Limit limit.FrameWords) = λ after. below (value 8 1 0 after) p.limits.frames (fills.frames after) in
+      let depth : IsFilled value (target.Limit limit.Calls) = λ after. below (value 8 2 0 after) p.limits.depth (fills.depth after) in
+      let number : IsFilled value (target.Limit limit.Segment) = λ after. below (value 8 3 0 after) (segment + 1) (fills.number after) in
+      (library_filled start_entry (lit< tt), (area, (frames, (depth, (number, tt)))))
 
   bytes_filled : (family offset : ℕ) → IsFilled value (target.Bytes family offset)
   bytes_filled family offset after = let e = fills.bytes family offset after in omega arith
 
-  stop_fine : (stop : ℕ) → stop < length routines → AllFine value (unless_overflow stop)
-  stop_fine stop lt = ((lit< tt, lit< tt), (library_filled stop lt, tt))
+  call_stop_fine : (stop line : ℕ) → stop < length places_of_entries → line < 65536 → AllFine value (call_stop stop line)
+  call_stop_fine stop line lt small = (library_filled stop lt, (small, tt))
 
-  checked_fine : AllFine value checked
-  checked_fine = stop_fine overflow_entry (lit< tt)
+  stop_fine : (stop line : ℕ) → stop < length places_of_entries → line < 65536 → AllFine value (unless_overflow stop line)
+  stop_fine stop line lt small = ((lit< tt, lit< tt), call_stop_fine stop line lt small)
 
-  times_fine : (b : Bool) (stop n : ℕ) → stop < length routines → n < 65536 → AllFine value (times_if b stop n)
-  times_fine true stop n lt small = ((lit< tt, lit< tt, is_ax), ((is_bx, small), ((lit< tt, lit< tt, is_bx), stop_fine stop lt)))
-  times_fine false stop n lt small = ((is_bx, small), ((lit< tt, lit< tt, is_bx), stop_fine stop lt))
+  checked_fine : (line : ℕ) → line < 65536 → AllFine value (checked line)
+  checked_fine line small = stop_fine overflow_entry line (lit< tt) small
 
-  routine_fine : (entry count : ℕ) → entry < length routines → count < 65536 → AllFine value (by_routine entry count)
-  routine_fine entry count lt small = ((is_bx, is_ax), (ax_free, ((cx_register, small), (library_filled entry lt, tt))))
+  times_fine : (b : Bool) (stop line n : ℕ) → stop < length places_of_entries → line < 65536 → n < 65536 → AllFine value (times_if b stop line n)
+  times_fine true stop line n lt small word = ((lit< tt, lit< tt, is_ax), ((is_bx, word), ((lit< tt, lit< tt, is_bx), stop_fine stop line lt small)))
+  times_fine false stop line n lt small word = ((is_bx, word), ((lit< tt, lit< tt, is_bx), stop_fine stop line lt small))
 
-  area_filled : IsFilled value (target.Limit limit.DataWords)
-  area_filled after = below (value 8 0 0 after) p.limits.area (fills.area after)
+  routine_fine : (line entry count : ℕ) → line < 65536 → entry < length places_of_entries → count < 65536 → AllFine value (by_routine line entry count)
+  routine_fine line entry count small lt word = ((cx_register, word), (library_filled entry lt, checked_fine line small))
+
+  at_line_fine : (entry line : ℕ) → entry < length places_of_entries → line < 65536 → AllFine value (call_at_line entry line)
+  at_line_fine entry line lt small = ((dx_register, small), (library_filled entry lt, tt))
 
   load_fine : AllFine value load_top
-  load_fine = ((is_bx, is_ax), ((lit< tt, λ e. omega arith, is_bx), ((is_ax, (lit< tt, λ e. omega arith)), tt)))
+  load_fine = (is_bx, ((lit< tt, λ e. omega arith, is_bx), ((is_ax, (lit< tt, λ e. omega arith)), tt)))
 
   both_fine : (i : Instr) → IsInstr i → AllFine value (on_both i)
   both_fine i instr = (bx_free, (instr, tt))
 
-  word_fine : (stop w : ℕ) (i : Instr) → stop < length routines → w < 65536 → IsInstr i → AllFine value (with_word stop w i)
-  word_fine stop w i lt small instr = ((is_bx, small), (instr, stop_fine stop lt))
+  word_fine : (stop line w : ℕ) (i : Instr) → stop < length places_of_entries → line < 65536 → w < 65536 → IsInstr i → AllFine value (with_word stop line w i)
+  word_fine stop line w i lt small word instr = ((is_bx, word), (instr, stop_fine stop line lt small))
 
   taken_fine : (t b : ℕ) → t + b ≤ 16 → AllFine value (taken t b)
   taken_fine t b room =
@@ -303,54 +322,72 @@ module _ (p : OrderProgram) (segment next : ℕ) (value : Filling) (fills : Fill
   store_part_fine : (t b : ℕ) → t + b ≤ 16 → AllFine value (store_part t b)
   store_part_fine t b room =
       let small = mask_small t b room in
-      let ahead : AllFine value (coded.Whole (either 2 0) ∷ coded.Whole (store at_bx 2) ∷ coded.Whole (i86.Pop 0) ∷ []) = ((lit< tt, dx_register, is_ax), ((dx_register, (lit< tt, λ e. omega arith)), (ax_free, tt))) in
-      let others : AllFine value (coded.Whole (load 2 at_bx) ∷ coded.Whole (set_word 1 (65535 - field_mask t b)) ∷ coded.Whole (both 2 1) ∷ coded.Whole (either 2 0) ∷ coded.Whole (store at_bx 2) ∷ coded.Whole (i86.Pop 0) ∷ []) =
+      let ahead : AllFine value (coded.Whole (either 2 0) ∷ coded.Whole (store at_bx 2) ∷ []) = ((lit< tt, dx_register, is_ax), ((dx_register, (lit< tt, λ e. omega arith)), tt)) in
+      let others : AllFine value (coded.Whole (load 2 at_bx) ∷ coded.Whole (set_word 1 (65535 - field_mask t b)) ∷ coded.Whole (both 2 1) ∷ coded.Whole (either 2 0) ∷ coded.Whole (store at_bx 2) ∷ []) =
       ((dx_register, (lit< tt, λ e. omega arith)), ((cx_register, (let x : 65535 - field_mask t b < 65536 = omega arith in x)), ((lit< tt, dx_register, cx_register), ahead))) in
-      let part : AllFine value (coded.Whole (set_word 1 (field_mask t b)) ∷ coded.Whole (both 0 1) ∷ coded.Whole (load 2 at_bx) ∷ coded.Whole (set_word 1 (65535 - field_mask t b)) ∷ coded.Whole (both 2 1) ∷ coded.Whole (either 2 0) ∷ coded.Whole (store at_bx 2) ∷ coded.Whole (i86.Pop 0) ∷ []) =
+      let part : AllFine value (coded.Whole (set_word 1 (field_mask t b)) ∷ coded.Whole (both 0 1) ∷ coded.Whole (load 2 at_bx) ∷ coded.Whole (set_word 1 (65535 - field_mask t b)) ∷ coded.Whole (both 2 1) ∷ coded.Whole (either 2 0) ∷ coded.Whole (store at_bx 2) ∷ []) =
       ((cx_register, small), ((lit< tt, is_ax, cx_register), others)) in
       ((is_bx, is_ax), (ax_free, ((lit< tt, λ e. omega arith, is_bx), ((cx_register, (let x : b < 65536 = omega arith in x)), ((lit< tt, λ e. omega arith, is_ax), part)))))
 
   power_small : (n k : ℕ) → n ≤ k → k ≤ 15 → 2 ^ n < 65536
   power_small n k le few = let power : 2 ^ n ≤ 2 ^ 15 = pow_mono (let h : n ≤ 15 = omega arith in h) in omega arith
 
-  rescale_fine : (up top : Bool) (from to : ℕ) → from ≤ 15 → to ≤ 15 → AllFine value (rescale_if up top from to)
-  rescale_fine true top from to lf lt = times_fine top overflow_entry (2 ^ (to - from)) (lit< tt) (power_small (to - from) to (omega arith) lt)
-  rescale_fine false top from to lf lt = ((cx_register, (let x : from - to < 65536 = omega arith in x)), ((lit< tt, λ e. omega arith, is_ax), tt))
+  rescale_fine : (up top : Bool) (line from to : ℕ) → line < 65536 → from ≤ 15 → to ≤ 15 → AllFine value (rescale_if up top line from to)
+  rescale_fine true top line from to small lf lt = times_fine top overflow_entry line (2 ^ (to - from)) (lit< tt) small (power_small (to - from) to (omega arith) lt)
+  rescale_fine false top line from to small lf lt = ((cx_register, (let x : from - to < 65536 = omega arith in x)), ((lit< tt, λ e. omega arith, is_ax), tt))
 
-  product_start_fine : AllFine value product_start
-  product_start_fine = (bx_free, ((lit< tt, lit< tt, is_bx), stop_fine overflow_entry (lit< tt)))
+  product_start_fine : (line : ℕ) → line < 65536 → AllFine value (product_start line)
+  product_start_fine line small = (bx_free, ((lit< tt, lit< tt, is_bx), checked_fine line small))
 
-  product_fine : (s : ℤ) → HasCode (order.Mul s) → AllFine value (product s)
-  product_fine (pos zero) h = product_start_fine
-  product_fine (pos (suc n)) h =
-      all_fine-append value product_start (times overflow_entry (2 ^ suc n)) product_start_fine (times_fine (2 ^ suc n == 32768) overflow_entry (2 ^ suc n) (lit< tt) (power_small (suc n) (suc n) (omega arith) h))
-  product_fine (negsuc n) h = down (nat_lt n 15)
+  product_fine : (line : ℕ) → line < 65536 → (s : ℤ) → HasCode (order.Mul s line) → AllFine value (product line s)
+  product_fine line small (pos zero) h = product_start_fine line small
+  product_fine line small (pos (suc n)) h =
+      all_fine-append value (product_start line) (times overflow_entry line (2 ^ suc n)) (product_start_fine line small)
+      (times_fine (2 ^ suc n == 32768) overflow_entry line (2 ^ suc n) (lit< tt) small (power_small (suc n) (suc n) (omega arith) h))
+  product_fine line small (negsuc n) h = down (nat_lt n 15)
     where
-      down : (b : Bool) → AllFine value (product_down b n)
-      down true = routine_fine product_entry (n + 1) (lit< tt) (omega arith)
+      down : (b : Bool) → AllFine value (product_down line b n)
+      down true = (bx_free, routine_fine line product_entry (n + 1) small (lit< tt) (omega arith))
       down false = (bx_free, ((lit< tt, lit< tt, is_bx), ((is_ax, dx_register), ((cx_register, (let x : n - 15 < 65536 = omega arith in x)), ((lit< tt, λ e. omega arith, is_ax), tt)))))
 
-  quotient_fine : (s : ℤ) → HasCode (order.Div s) → AllFine value (quotient s)
-  quotient_fine (pos n) h = routine_fine quotient_up_entry n (lit< tt) (omega arith)
-  quotient_fine (negsuc n) h = routine_fine quotient_down_entry (n + 1) (lit< tt) (omega arith)
+  divisor_fine : (line : ℕ) → line < 65536 → AllFine value (divisor_tested line)
+  divisor_fine line small = ((is_bx, is_ax), (ax_free, ((lit< tt, is_bx, is_bx), ((lit< tt, lit< tt), call_stop_fine zero_divisor_entry line (lit< tt) small))))
+
+  quotient_fine : (line : ℕ) → line < 65536 → (s : ℤ) → HasCode (order.Div s line) → AllFine value (quotient line s)
+  quotient_fine line small (pos n) h =
+      all_fine-append value (divisor_tested line) (by_routine line quotient_up_entry n) (divisor_fine line small) (routine_fine line quotient_up_entry n small (lit< tt) (omega arith))
+  quotient_fine line small (negsuc n) h =
+      all_fine-append value (divisor_tested line) (by_routine line quotient_down_entry (n + 1)) (divisor_fine line small) (routine_fine line quotient_down_entry (n + 1) small (lit< tt) (omega arith))
 
   unsigned_small : (z : ℤ) → FitsWord z → unsigned z < 65536
   unsigned_small (pos n) h = omega (arith, h.sfits)
   unsigned_small (negsuc n) h = omega (arith, h.sfits)
 
-  row_start_fine : (lower : ℤ) → FitsWord lower → AllFine value (row_start lower)
-  row_start_fine lower fl = ((cx_register, is_ax), (ax_free, ((is_bx, unsigned_small lower fl), ((lit< tt, is_ax, is_bx), stop_fine address_entry (lit< tt)))))
+  row_start_fine : (line : ℕ) → line < 65536 → (lower : ℤ) → FitsWord lower → AllFine value (row_start line lower)
+  row_start_fine line small lower fl = ((cx_register, is_ax), (ax_free, ((is_bx, unsigned_small lower fl), ((lit< tt, is_ax, is_bx), stop_fine address_entry line (lit< tt) small))))
 
-  row_end_fine : AllFine value row_end
-  row_end_fine = ((lit< tt, is_ax, cx_register), stop_fine address_entry (lit< tt))
+  row_end_fine : (line : ℕ) → line < 65536 → AllFine value (row_end line)
+  row_end_fine line small = ((lit< tt, is_ax, cx_register), stop_fine address_entry line (lit< tt) small)
 
-  row_fine : (lower : ℤ) (n : ℕ) → FitsWord lower → n ≤ 32768 → AllFine value (index_row lower n)
-  row_fine lower n fl most =
-      all_fine-append value (row_start lower) (times address_entry n ++ row_end) (row_start_fine lower fl)
-      (all_fine-append value (times address_entry n) row_end (times_fine (n == 32768) address_entry n (lit< tt) (omega arith)) row_end_fine)
+  row_fine : (line : ℕ) → line < 65536 → (lower : ℤ) (n : ℕ) → FitsWord lower → n ≤ 32768 → AllFine value (index_row line lower n)
+  row_fine line small lower n fl most =
+      all_fine-append value (row_start line lower) (times address_entry line n ++ row_end line) (row_start_fine line small lower fl)
+      (all_fine-append value (times address_entry line n) (row_end line) (times_fine (n == 32768) address_entry line n (lit< tt) small (omega arith)) (row_end_fine line small))
+
+  bounds_fine : (line : ℕ) → line < 65536 → (lower upper : ℤ) → FitsWord lower → FitsWord upper → AllFine value (in_bounds line lower upper)
+  bounds_fine line small lower upper fl fu = (
+    (lit< tt, unsigned_small lower fl),
+    (
+      (lit< tt, lit< tt),
+      (
+        library_filled bounds_entry (lit< tt),
+        (small, ((lit< tt, unsigned_small upper fu), ((lit< tt, lit< tt), call_stop_fine bounds_entry line (lit< tt) small))),
+      ),
+    ),
+  )
 
   branch_fine : (c : Comparator) (end to : ℕ) → AllFine value (branch c end to)
-  branch_fine c end to = (ax_free, ((condition_small c, lit< tt), (distance_small end to, tt)))
+  branch_fine c end to = ((condition_small c, lit< tt), (distance_small end to, tt))
 
   place_filled : (add : ℕ) → IsFilled value (target.Place add)
   place_filled add after = below (value 3 0 add after) (base_of p segment + add) (fills.places add after)
@@ -375,19 +412,13 @@ module _ (p : OrderProgram) (segment next : ℕ) (value : Filling) (fills : Fill
   base_fine place to = ((lit< tt, lit< tt), ((lit< tt, lit< tt), ((is_ax, number_filled), ((is_ax, (lit< tt, lit< tt)), (distance_small (place + 15) to, tt)))))
 
   control_fine : (t : Target) → IsFilled value t → AllFine value (control_out t)
-  control_fine t filled = (ax_free, (bp_free, ((is_ax, filled), tt)))
+  control_fine t filled = (bp_free, ((is_ax, filled), (ax_free, tt)))
 
   number_fine : (n : ℕ) → n < 65536 → AllFine value (number_compared n)
   number_fine n lt = ((lit< tt, lit< tt), ((is_bx, is_ax), ((lit< tt, lt), tt)))
 
-  record_fine : (n : ℕ) → n < 256 → (rest : List Coded) → AllFine value rest → AllFine value (record_dropped n ++ rest)
-  record_fine n lt rest fine =
-      let small : 2 * n < 65536 = omega arith in
-      ((lit< tt, lit< tt), (bp_free, (si_free, ((is_bx, small), ((lit< tt, lit< tt, is_bx), fine)))))
-
-  return_fine : (answers : Bool) (n : ℕ) → n < 256 → AllFine value (return_with answers n)
-  return_fine true n lt = record_fine n lt (coded.Whole (jump_to 6) ∷ []) (lit< tt, tt)
-  return_fine false n lt = record_fine n lt (coded.Whole (i86.Pop 0) ∷ coded.Whole (jump_to 6) ∷ []) (ax_free, (lit< tt, tt))
+  return_fine : (n : ℕ) → n < 256 → AllFine value (return_with n)
+  return_fine n lt = ((lit< tt, lit< tt), (bp_free, ((let small : 2 * n < 65536 = omega arith in small), tt)))
 
   argument_fine : (r n : ℕ) → r < 8 → n < 257 → IsInstr (load r (argument n))
   argument_fine r n lr lt = let small : 4 + 2 * n < 65536 = omega arith in (lr, (lit< tt, small))
@@ -404,7 +435,7 @@ module _ (p : OrderProgram) (segment next : ℕ) (value : Filling) (fills : Fill
   pub switch_fine : (names : Names) (place : ℕ) (gs : List Goal) → length gs < 65536 → AllFine value (switch_pieces names place gs)
   switch_fine names place gs lt =
       let table : List Coded = coded.Way (target.Place ((place + 29) % 65536)) ∷ goal_words names gs in
-      let rest : List Coded = coded.Whole (jump_if_below 3) ∷ call_library switch_entry ∷ coded.Whole (double 3) ∷ coded.Whole (move 5 7) ∷ (operands_dropped ++ table) in
+      let rest : List Coded = coded.Whole (jump_if_below 3) ∷ call_library switch_entry ∷ coded.Whole (double 3) ∷ coded.Whole (move 5 6) ∷ (operands_dropped ++ table) in
       let fine : AllFine value rest = (
         (lit< tt, lit< tt),
         (
@@ -422,14 +453,10 @@ module _ (p : OrderProgram) (segment next : ℕ) (value : Filling) (fills : Fill
 
   loop_fine : (names : Names) (place : ℕ) (marks : List ℕ) → length marks < 65536 → AllFine value (loop_way names place marks)
   loop_fine names place marks lt =
-      let rest : List Coded = coded.Whole (i86.Pop 0) ∷ coded.Whole (jump_if_below 3) ∷ jump_near (place + 14) (place + 21 + 2 * length marks) ∷ coded.Whole (double 3) ∷ coded.Way (target.Place ((place + 21) % 65536)) ∷ mark_words names marks in
+      let rest : List Coded = coded.Whole (jump_if_below 3) ∷ jump_near (place + 13) (place + 20 + 2 * length marks) ∷ coded.Whole (double 3) ∷ coded.Way (target.Place ((place + 20) % 65536)) ∷ mark_words names marks in
       let fine : AllFine value rest =
-      (ax_free, ((lit< tt, lit< tt), (distance_small (place + 14) (place + 21 + 2 * length marks), ((lit< tt, λ e. omega arith, is_bx), (place_filled ((place + 21) % 65536), mark_words_fine names marks))))) in
+      ((lit< tt, lit< tt), (distance_small (place + 13) (place + 20 + 2 * length marks), ((lit< tt, λ e. omega arith, is_bx), (place_filled ((place + 20) % 65536), mark_words_fine names marks)))) in
       all_fine-append value (number_compared (length marks)) rest (number_fine (length marks) lt) fine
-
-  -- a routine that tests an address
-  area_fine : (entry : ℕ) → entry < length routines → AllFine value (by_area entry)
-  area_fine entry lt = ((dx_register, area_filled), (library_filled entry lt, tt))
 
   few_more : (k : ℕ) → k < 256 → k < 257
   few_more k lt = omega arith
@@ -438,90 +465,92 @@ module _ (p : OrderProgram) (segment next : ℕ) (value : Filling) (fills : Fill
   few_next k lt = omega arith
 
   template_fine : (names : Names) (place : ℕ) (o : Order) → OrderFits o → AllFine value (template names place o)
-  template_fine names place (order.Const w) fits = (ax_free, ((is_ax, fits.0), tt))
-  template_fine names place (order.Home family offset) fits = (ax_free, ((is_ax, home_filled family offset), tt))
+  template_fine names place order.Save fits = (ax_free, tt)
+  template_fine names place (order.Const w) fits = ((is_ax, fits.0), tt)
+  template_fine names place (order.Home family offset) fits = ((is_ax, home_filled family offset), tt)
   template_fine names place order.Load fits = load_fine
-  template_fine names place order.Store fits = ((is_bx, is_ax), ((lit< tt, λ e. omega arith, is_bx), (ax_free, ((is_ax, (lit< tt, λ e. omega arith)), (ax_free, tt)))))
-  template_fine names place order.Add fits = (bx_free, ((lit< tt, is_ax, is_bx), checked_fine))
-  template_fine names place order.Sub fits = ((is_bx, is_ax), (ax_free, ((lit< tt, is_ax, is_bx), checked_fine)))
-  template_fine names place order.Neg fits = ((lit< tt, lit< tt, is_ax), checked_fine)
+  template_fine names place order.Store fits = ((is_bx, is_ax), ((lit< tt, λ e. omega arith, is_bx), (ax_free, ((is_ax, (lit< tt, λ e. omega arith)), tt))))
+  template_fine names place (order.Add line) fits = (bx_free, ((lit< tt, is_ax, is_bx), checked_fine line fits.2))
+  template_fine names place (order.Sub line) fits = ((is_bx, is_ax), (ax_free, ((lit< tt, is_ax, is_bx), checked_fine line fits.2)))
+  template_fine names place (order.Neg line) fits = ((lit< tt, lit< tt, is_ax), checked_fine line fits.2)
   template_fine names place (order.LoadPart t b true) fits = all_fine-append value load_top (taken_signed t b) load_fine (taken_signed_fine t b)
   template_fine names place (order.LoadPart t b false) fits = all_fine-append value load_top (taken t b) load_fine (taken_fine t b fits.1.1)
   template_fine names place (order.StorePart t b) fits = store_part_fine t b fits.1.1
-  template_fine names place (order.Rescale from to) fits = rescale_fine (nat_le from to) (2 ^ (to - from) == 32768) from to fits.1.0 fits.1.1
-  template_fine names place (order.Mul s) fits = product_fine s fits.1
-  template_fine names place (order.Div s) fits = quotient_fine s fits.1
+  template_fine names place (order.Rescale from to line) fits = rescale_fine (nat_le from to) (2 ^ (to - from) == 32768) line from to fits.2 fits.1.0 fits.1.1
+  template_fine names place (order.Mul s line) fits = product_fine line fits.2 s fits.1
+  template_fine names place (order.Div s line) fits = quotient_fine line fits.2 s fits.1
   template_fine names place order.And fits = both_fine (both 0 3) (lit< tt, is_ax, is_bx)
   template_fine names place order.Or fits = both_fine (either 0 3) (lit< tt, is_ax, is_bx)
   template_fine names place order.Xor fits = both_fine (one_of 0 3) (lit< tt, is_ax, is_bx)
   template_fine names place (order.Take t b) fits = taken_fine t b fits.1.1
   template_fine names place order.Less fits = ((is_bx, is_ax), (ax_free, ((lit< tt, is_ax, is_bx), tt)))
-  template_fine names place order.Drop fits = (ax_free, tt)
-  template_fine names place (order.IndexLess lower) fits = word_fine address_entry (unsigned lower) (subtract 0 3) (lit< tt) (unsigned_small lower fits.1) (lit< tt, is_ax, is_bx)
-  template_fine names place (order.IndexTimes n) fits = times_fine (n == 32768) address_entry n (lit< tt) (let f = fits.1 in omega arith)
-  template_fine names place (order.IndexPlus n) fits = word_fine address_entry n (add 0 3) (lit< tt) (let f = fits.1 in omega arith) (lit< tt, is_ax, is_bx)
-  template_fine names place order.IndexAdd fits = (bx_free, ((lit< tt, is_ax, is_bx), stop_fine address_entry (lit< tt)))
-  template_fine names place (order.IndexRow lower n) fits = row_fine lower n fits.1.0 fits.1.1
-  template_fine names place order.InArea fits = area_fine in_area_entry (lit< tt)
-  template_fine names place (order.InBounds lower upper) fits =
-      ((is_bx, unsigned_small lower fits.1.0), ((lit< tt, is_ax, is_bx), ((lit< tt, lit< tt), (library_filled bounds_entry (lit< tt), ((is_bx, unsigned_small upper fits.1.1), ((lit< tt, is_ax, is_bx), ((lit< tt, lit< tt), (library_filled bounds_entry (lit< tt), tt))))))))
-  template_fine names place order.ReadByte fits =
-      (ax_free, ((is_ax, lit< tt), ((is_bx, lit< tt), (lit< tt, ((lit< tt, is_ax, is_bx), ((lit< tt, lit< tt), (lit< tt, (lit< tt, ((lit< tt, lit< tt, is_ax), tt)))))))))
-  template_fine names place order.WriteByte fits = (lit< tt, (ax_free, tt))
-  template_fine names place (order.Line n) fits = (((lit< tt, lit< tt), fits.0), tt)
+  template_fine names place (order.IndexLess lower line) fits = word_fine address_entry line (unsigned lower) (subtract 0 3) (lit< tt) fits.2 (unsigned_small lower fits.1) (lit< tt, is_ax, is_bx)
+  template_fine names place (order.IndexTimes n line) fits = times_fine (n == 32768) address_entry line n (lit< tt) fits.2 (let f = fits.1 in omega arith)
+  template_fine names place (order.IndexPlus n line) fits = word_fine address_entry line n (add 0 3) (lit< tt) fits.2 (let f = fits.1 in omega arith) (lit< tt, is_ax, is_bx)
+  template_fine names place (order.IndexAdd line) fits = (bx_free, ((lit< tt, is_ax, is_bx), stop_fine address_entry line (lit< tt) fits.2))
+  template_fine names place (order.IndexRow lower n line) fits = row_fine line fits.2 lower n fits.1.0 fits.1.1
+  template_fine names place (order.InArea line) fits = ((lit< tt, is_ax, lit< tt), ((lit< tt, lit< tt), call_stop_fine address_entry line (lit< tt) fits.2))
+  template_fine names place (order.InBounds lower upper line) fits = bounds_fine line fits.2 lower upper fits.1.0 fits.1.1
+  template_fine names place order.ReadByte fits = (library_filled read_entry (lit< tt), tt)
+  template_fine names place order.WriteByte fits = (ax_free, (lit< tt, tt))
   template_fine names place order.NextBody fits = ((is_ax, next_filled), (is_ax, tt))
   template_fine names place (order.Jump mark) fits = (distance_small (place + 3) (mark_place names mark), tt)
-  template_fine names place (order.JumpIf c mark) fits = (bx_free, ((lit< tt, is_bx, is_ax), branch_fine c (place + 9) (mark_place names mark)))
-  template_fine names place (order.FrameHome n) fits = (ax_free, ((is_ax, (lit< tt, lit< tt)), ((lit< tt, fits.1), tt)))
+  template_fine names place (order.JumpIf c mark) fits = (bx_free, ((lit< tt, is_bx, is_ax), branch_fine c (place + 8) (mark_place names mark)))
+  template_fine names place (order.FrameHome n) fits = ((is_ax, (lit< tt, lit< tt)), ((lit< tt, fits.1), tt))
   template_fine names place (order.Exhausted mark) fits = (library_filled exhausted_entry (lit< tt), (distance_small (place + 6) (mark_place names mark), tt))
-  template_fine names place order.SetVariable fits = area_fine set_variable_entry (lit< tt)
-  template_fine names place order.AddStep fits = area_fine add_step_entry (lit< tt)
-  template_fine names place order.PutVariable fits = area_fine put_variable_entry (lit< tt)
+  template_fine names place (order.SetVariable line) fits = at_line_fine set_variable_entry line (lit< tt) fits.2
+  template_fine names place (order.AddStep line) fits = at_line_fine add_step_entry line (lit< tt) fits.2
+  template_fine names place (order.PutVariable line) fits = at_line_fine put_variable_entry line (lit< tt) fits.2
   template_fine names place (order.LoopWay marks) fits = loop_fine names place marks (let f = fits.1 in omega arith)
-  template_fine names place (order.CallProc q) fits = (ax_free, (distance_small (place + 4) (procedure_start names q), tt))
-  template_fine names place (order.CallCommon d) fits = (ax_free, (ahead_filled d, tt))
-  template_fine names place (order.CallSpecial k) fits = (ax_free, (argument_fine 0 k is_ax (few_more k fits.1), ((is_bx, place_filled ((place + 11) % 65536)), (bx_free, (is_ax, tt)))))
-  template_fine names place (order.Enter size) fits = ((is_ax, fits.1), ((dx_register, number_filled), ((is_bx, area_filled), (library_filled enter_entry (lit< tt), tt))))
-  template_fine names place (order.Bind k family offset) fits = (argument_fine 1 k cx_register (few_more k fits.1), ((is_bx, bytes_filled family offset), ((cx_register, (lit< tt, λ e. omega arith)), tt)))
+  template_fine names place (order.CallProc q line) fits = ((dx_register, fits.2), (distance_small (place + 6) (procedure_start names q), tt))
+  template_fine names place (order.CallCommon d line) fits = ((dx_register, fits.2), (ahead_filled d, tt))
+  template_fine names place (order.CallSpecial k line) fits =
+      ((dx_register, fits.2), (argument_fine 0 k is_ax (few_more k fits.1), ((is_bx, place_filled ((place + 13) % 65536)), (bx_free, (is_ax, tt)))))
+  template_fine names place (order.Enter size) fits = ((is_ax, fits.1), ((cx_register, number_filled), (library_filled enter_entry (lit< tt), tt)))
+  template_fine names place (order.Bind k family offset) fits = (argument_fine 0 k is_ax (few_more k fits.1), (bytes_filled family offset, tt))
   template_fine names place (order.BindFrame k offset) fits =
       let small : 2 * offset % 65536 < 65536 = omega arith in
       (argument_fine 1 k cx_register (few_more k fits.1.0), ((is_bx, (lit< tt, lit< tt)), ((lit< tt, λ e. omega arith, is_bx), ((cx_register, (lit< tt, small)), tt))))
-  template_fine names place (order.Return n answers) fits = return_fine answers n fits.1
+  template_fine names place (order.Return n answers) fits = return_fine n fits.1
   template_fine names place (order.LabelOut l) fits = control_fine (target.Place (label_start names l % 65536)) (place_filled (label_start names l % 65536))
   template_fine names place (order.LabelCommon d) fits = control_fine (target.Definition d) (definition_filled d)
   template_fine names place (order.SwitchOut n) fits = control_fine (target.Place (switch_start names n % 65536)) (place_filled (switch_start names n % 65536))
   template_fine names place (order.SwitchCommon d) fits = control_fine (target.Definition d) (definition_filled d)
   template_fine names place (order.ProcOut q) fits = control_fine (target.Place (procedure_start names q % 65536)) (place_filled (procedure_start names q % 65536))
   template_fine names place (order.ProcCommon d) fits = control_fine (target.Definition d) (definition_filled d)
-  template_fine names place (order.SpecialOut k) fits = (ax_free, (argument_fine 0 (k + 1) is_ax (few_next k fits.1), (ax_free, (argument_fine 0 k is_ax (few_more k fits.1), tt))))
+  template_fine names place (order.SpecialOut k) fits = (argument_fine 0 (k + 1) is_ax (few_next k fits.1), (ax_free, (argument_fine 0 k is_ax (few_more k fits.1), (ax_free, tt))))
   template_fine names place (order.GoMain mark) fits = base_fine place (mark_place names mark)
   template_fine names place (order.GoCommon d) fits = (ahead_filled d, tt)
   template_fine names place (order.GoSpecial k) fits =
       (argument_fine 3 k is_bx (few_more k fits.1), (argument_fine 5 (k + 1) (lit< tt) (few_next k fits.1), all_fine-append value operands_dropped (coded.Whole (jump_to 3) ∷ []) dropped_fine (is_bx, tt)))
-  template_fine names place (order.GoSwitch n) fits = ((lit< tt, lit< tt), (distance_small (place + 5) (switch_start names n), tt))
-  template_fine names place (order.GoSwitchCommon d) fits = ((lit< tt, lit< tt), (ahead_filled d, tt))
-  template_fine names place (order.GoSwitchSpecial k) fits = (argument_fine 7 (k + 1) (lit< tt) (few_next k fits.1), (argument_fine 3 k is_bx (few_more k fits.1), (is_bx, tt)))
+  template_fine names place (order.GoSwitch n line) fits = ((dx_register, fits.2), ((lit< tt, lit< tt), (distance_small (place + 8) (switch_start names n), tt)))
+  template_fine names place (order.GoSwitchCommon d line) fits = ((dx_register, fits.2), ((lit< tt, lit< tt), (ahead_filled d, tt)))
+  template_fine names place (order.GoSwitchSpecial k line) fits =
+      ((dx_register, fits.2), (argument_fine 6 (k + 1) (lit< tt) (few_next k fits.1), (argument_fine 3 k is_bx (few_more k fits.1), (is_bx, tt))))
+  template_fine names place order.Drop fits = tt
   template_fine names place order.Mark fits = tt
-  template_fine names place (order.Start n) fits = (((lit< tt, lit< tt), fits.0), tt)
+  template_fine names place (order.Start n) fits = (lit< tt, tt)
 
   operation_fine : (op : ℕ) (s : Simple) → op < 8 → SimpleFits s → IsFine value (operation op s)
   operation_fine op (simple.Number w) lt fits = (lt, fits)
   operation_fine op (simple.Variable family offset) lt fits = (lt, is_ax, bytes_filled family offset)
 
-  operated_fine : (names : Names) (place : ℕ) (s : Simple) (u : Use) → SimpleFits s → AllFine value (operated names place s u)
-  operated_fine names place s uses.Add fits = (operation_fine 0 s (lit< tt) fits, checked_fine)
-  operated_fine names place s uses.Subtract fits = (operation_fine 5 s (lit< tt) fits, checked_fine)
-  operated_fine names place s (uses.Compare c mark) fits = (operation_fine 7 s (lit< tt) fits, branch_fine c (place + size_of (operation 7 s) + 6) (mark_place names mark))
+  operated_fine : (names : Names) (place : ℕ) (s : Simple) (u : Use) → SimpleFits s → UseFits u → AllFine value (operated names place s u)
+  operated_fine names place s (uses.Add line) fits small = (operation_fine 0 s (lit< tt) fits, checked_fine line small)
+  operated_fine names place s (uses.Subtract line) fits small = (operation_fine 5 s (lit< tt) fits, checked_fine line small)
+  operated_fine names place s (uses.Compare c mark) fits small = (operation_fine 7 s (lit< tt) fits, branch_fine c (place + size_of (operation 7 s) + 5) (mark_place names mark))
 
   pub block_fine : (names : Names) (place : ℕ) (b : Block) (o : Order) → BlockFits b o → AllFine value (block_pieces names place b o)
   block_fine names place (block.Within n) o fits = tt
   block_fine names place block.Single o fits = template_fine names place o fits
-  block_fine names place (block.Fetch family offset) o fits = (ax_free, (bytes_filled family offset, tt))
-  block_fine names place (block.Assign family offset) o fits = (bytes_filled family offset, (ax_free, tt))
+  block_fine names place (block.Fetch family offset) o fits = (bytes_filled family offset, tt)
+  block_fine names place (block.Assign family offset) o fits = (bytes_filled family offset, tt)
   block_fine names place (block.FetchFrame n) o fits =
       let small : 2 * n % 65536 < 65536 = omega arith in
-      (ax_free, ((is_bx, (lit< tt, lit< tt)), ((lit< tt, λ e. omega arith, is_bx), ((is_ax, (lit< tt, small)), tt))))
+      ((is_bx, (lit< tt, lit< tt)), ((lit< tt, λ e. omega arith, is_bx), ((is_ax, (lit< tt, small)), tt)))
   block_fine names place (block.AssignFrame n) o fits =
       let small : 2 * n % 65536 < 65536 = omega arith in
-      ((is_bx, (lit< tt, lit< tt)), ((lit< tt, λ e. omega arith, is_bx), ((is_ax, (lit< tt, small)), (ax_free, tt))))
-  block_fine names place (block.Operate s u) o fits = operated_fine names place s u fits
+      ((is_bx, (lit< tt, lit< tt)), ((lit< tt, λ e. omega arith, is_bx), ((is_ax, (lit< tt, small)), tt)))
+  block_fine names place block.Write o fits = (lit< tt, tt)
+  block_fine names place (block.Divide w) o fits = ((is_bx, fits), (tt, ((lit< tt, lit< tt, is_bx), tt)))
+  block_fine names place (block.Operate s u) o fits = operated_fine names place s u fits.0 fits.1

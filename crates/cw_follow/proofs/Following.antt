@@ -33,7 +33,8 @@ use Rattle.cw_follow.proofs.Standing.{order_place, AllStand}
 use Rattle.cw_follow.proofs.Rows.{Rows}
 use Rattle.cw_follow.proofs.Watched.{Watched}
 use Rattle.cw_follow.proofs.Chains.{Is, Leads, view, seen, near, more}
-use Rattle.cw_follow.proofs.Routines.{Begun, enters, leads_on}
+use Rattle.cw_follow.proofs.Routines.{leads_on}
+use Rattle.cw_follow.proofs.Bodies.{Begun, begun_landed, enters}
 use Rattle.cw_order.specs.Activations.{OperandStands}
 use Rattle.cw_follow.proofs.States.{Given, Sound, left, not_stuck, never_on}
 use Rattle.cw_follow.proofs.Dispatch.{watch, MatchesWatched, simulates, watched_way}
@@ -65,8 +66,8 @@ following rows p image words memory input s places all is stand coded begins nev
     cases None none =
         let begun : Words = record { operands = []; memory = memory; input = input; output = [] } in
         let first = entry_of (slice_get p.units 0) in
-        let stuck : step p (at 0 first 0 [] begun Running) ≡ at 0 first 0 [] begun Stuck = ap (λ u. carry_out p (order_in u first) 0 first 0 [] begun) none in
-        absurd (not_stuck p 0 first 0 [] begun (never_on p (at 0 first 0 [] begun Running) (at 0 first 0 [] begun Stuck) stuck never))
+        let stuck : step p (at 0 first false [] begun Running) ≡ at 0 first false [] begun Stuck = ap (λ u. carry_out p (order_in u first) 0 first false [] begun) none in
+        absurd (not_stuck p 0 first false [] begun (never_on p (at 0 first false [] begun Running) (at 0 first false [] begun Stuck) stuck never))
     cases (Some u) some =
         let begun : Words = record { operands = []; memory = memory; input = input; output = [] } in
         let first = entry_of (slice_get p.units 0) in
@@ -78,34 +79,26 @@ following rows p image words memory input s places all is stand coded begins nev
         let known : Given = record { rows = rows; p = p; image = image; all = all; coded = coded; few = few; low = area; places = places; places_stand = stand } in
         let begin = watch known (processor_start s input) in
         let from : Is image 0 (view 0 0 0 0 0 0 0 0 false (slice_index words) (λ k. 0) input nothing_told) begin = record { sees = rows.starts image words input s is.fits short_words starts_so; ignores = stand.ignores; silent = refl } in
-        let at_entry : (q : Watched) → Begun image (base_of p 0 + 15) 1 p.limits.depth (p.limits.area - p.limits.frames) (slice_index words) input nothing_told q → Sound p image 0 first 0 [] begun q = λ q b.
-        let z = b.stacked in
-        let place_is : base_of p 0 + 15 ≡ order_place (base_of p 0) u.list 0 = omega arith in
-        let there : base_of p 0 + 15 ≡ order_place (base_of p 0) u.list first = place_is ∙ ap (order_place (base_of p 0) u.list) (sym is_zero) in
+        let at_entry : (q : Watched) → Begun image (base_of p 0 + 11) 1 p.limits.depth (p.limits.area - p.limits.frames) p.limits.area (slice_index words) input nothing_told q → Sound p image 0 first false [] begun q = λ q b.
+        let place_is : base_of p 0 + 11 ≡ order_place (base_of p 0) u.list 0 = omega arith in
+        let there : base_of p 0 + 11 ≡ order_place (base_of p 0) u.list first = place_is ∙ ap (order_place (base_of p 0) u.list) (sym is_zero) in
         record {
           orders = u;
           unit = some;
           from = first;
           done = 0;
           before = begun;
+          loaded_before = false;
           place_is = omega arith;
           begins = ap (left_at 0 u.list) is_zero;
           inside = omega arith;
           did = refl;
+          moded = refl;
           room = omega arith;
           room_before = omega arith;
           wrote = refl;
           fits_before = record { operands = All-nil OperandFits; memory = memory_fits rows.words p words memory begins; input = bytes };
-          landed = record {
-            top = 32761;
-            cells = slice_index words;
-            stack = b.stack;
-            input = input;
-            told = nothing_told;
-            stacked = record { ax = z.ax; cx = z.cx; dx = z.dx; bx = z.bx; si = z.si; di = z.di; overflow = z.overflow; is = seen there refl z.is };
-            operands = refl;
-            kept = record { words = cells_begin rows.words p words memory begins; long = begins.long; piled = (record { top_is = b.top; base_is = b.base; left_is = b.left ∙ (let x : p.limits.depth ≡ p.limits.depth - 0 = omega arith in x); number_is = b.number; line_is = b.line; small = lit< tt; few = lit< tt }, tt); read = refl; wrote = refl; kind = refl };
-          };
+          landed = begun_landed p (order_place (base_of p 0) u.list first) memory input [] there (lit< tt) (cells_begin rows.words p words memory begins) begins.long refl refl refl b;
           acts_fit = All-nil ActivationFits;
           fits = record { operands = All-nil OperandFits; memory = memory_fits rows.words p words memory begins; input = bytes };
           stands = record { room = omega arith; last = tt; operands = All-nil (OperandStands p 0 []) };
@@ -113,13 +106,13 @@ following rows p image words memory input s places all is stand coded begins nev
           comes_back = tt;
           never = never;
         } in
-        let base_is : 370 ≡ base_of p 0 = refl in
-        let way : Leads [] 20 begin (Sound p image 0 first 0 [] begun) =
-        more rows {to = base_of p 0} {w = view 0 0 0 0 0 0 0 0 false (slice_index words) (λ k. 0) input nothing_told} from refl (seen base_is refl (near rows 367 all.library.0 from)) (λ q t.
+        let base_is : 334 ≡ base_of p 0 = refl in
+        let way : Leads [] 14 begin (Sound p image 0 first false [] begun) =
+        more rows {to = base_of p 0} {w = view 0 0 0 0 0 0 0 0 false (slice_index words) (λ k. 0) input nothing_told} from refl (seen base_is refl (near rows 331 all.library.0.0 from)) (λ q t.
         leads_on at_entry
         (enters rows p 0 su.next_place su.value (base_of p 0) 0 0 0 0 0 0 0 32767 false (slice_index words) (λ k. 0) input nothing_told all.library su.fills su.entry (lit< tt) (lit< tt) area coded.frames coded.depth 0 refl t)) in
-        let start = watched_way known (processor_start s input) (at 0 first 0 [] begun Running) (leads_on (λ q m. inl m) way) in
+        let start = watched_way known (processor_start s input) (at 0 first false [] begun Running) (leads_on (λ q m. inl m) way) in
         let A = watched (order_machine p) (starts p) in
         let B = watched (processor_machine shown_as) (passes places p.limits.area) in
-        starts_up (λ o. is_running o.0) A B (order_start p memory input, []) 0 20 20 (processor_start s input, []) (start.0, []) refl start.1
+        starts_up (λ o. is_running o.0) A B (order_start p memory input, []) 0 14 14 (processor_start s input, []) (start.0, []) refl start.1
         (tracks (λ o. is_running o.0) A B _ _ (simulation_watched is_running (order_machine p) (processor_machine shown_as) (starts p) (passes places p.limits.area) (MatchesWatched known) (left p) (simulates known)) (order_start p memory input, []) (start.0, []) (start.2, refl))

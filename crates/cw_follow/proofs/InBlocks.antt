@@ -1,6 +1,6 @@
 -- Orders in their blocks.
 use Rattle.std.proofs.Common.{◌≡◌, ℕ, zero, suc, ◌+◌, List, [], ◌∷◌, drop, Option, Some, None, refl, sym, ap, ◌∙◌, subst, arith, Bool, true, false}
-use Rattle.std.specs.Prelude.{slice_get}
+use Rattle.std.specs.Prelude.{slice_get, if◌then◌else◌, pos}
 use Rattle.cw_unit.specs.Words.{Words, Outcome, Changed, Refused, Impossible, Word, Held, Operand, put, through, is_below, word_at, number_of, with_operands}
 use Rattle.cw_unit.specs.Operation.{Fetch, perform}
 use Rattle.cw_unit.specs.Stop.{StopKind}
@@ -11,14 +11,15 @@ use Rattle.cw_order.specs.OrderProgram.{OrderProgram}
 use Rattle.cw_order.specs.OrderState.{OrderActivation, frame_word}
 use Rattle.cw_order.specs.OrderChanges.{put_address}
 use Rattle.cw_order.specs.OrderActions.{home_word}
+use Rattle.cw_order.specs.Loading.{loaded_after}
 use Rattle.cw_order.specs.OrderMachine.{unrefused}
 use Rattle.cw_tmpl.specs.declared.blocks.Simple.TheVariants as simple
 use Rattle.cw_tmpl.specs.declared.blocks.Use.{Use}
 use Rattle.cw_tmpl.specs.declared.blocks.Use.TheVariants as uses
 use Rattle.cw_tmpl.specs.declared.blocks.Block.{Block}
 use Rattle.cw_tmpl.specs.declared.blocks.Block.TheVariants as block
-use Rattle.cw_follow.specs.Placing.{EndsBlock}
-use Rattle.cw_tmpl.specs.Blocks.{use_of, with_number, with_variable, after_home, after_frame_home, block_at, orders_left, left_at}
+use Rattle.cw_follow.specs.Placing.{StandsBehind}
+use Rattle.cw_tmpl.specs.Blocks.{use_of, is_plain_divisor, after_saved_const, with_variable, after_saved_home, after_saved_frame_home, after_save, after_home, after_frame_home, block_at, orders_left, left_at}
 use Rattle.cw_tmpl.proofs.Sizes.{size_to}
 
 -- ---- lists
@@ -54,36 +55,58 @@ left_split left (x ∷ xs) (suc k) n =
 abbrev AllEnd : ℕ → List Order → Type 0
 AllEnd zero os = Unit {0}
 AllEnd (suc n) [] = Unit {0}
-AllEnd (suc n) (o ∷ os) = EndsBlock o × AllEnd n os
+AllEnd (suc n) (o ∷ os) = StandsBehind o × AllEnd n os
 
-number_ends : (w : ℕ) (os : List Order) → AllEnd (orders_left (with_number w (use_of (slice_get os 0)))) os
+quotient_ends : (b : Bool) (w line : ℕ) (os : List Order) → AllEnd (orders_left (if b then block.Divide w else block.Single)) (order.Const w ∷ order.Div (pos zero) line ∷ os)
+quotient_ends true w line os = (tt, (tt, tt))
+quotient_ends false w line os = tt
+
+number_ends : (w : ℕ) (os : List Order) → AllEnd (orders_left (after_saved_const w (slice_get os 0))) (order.Const w ∷ os)
 number_ends w [] = tt
-number_ends w (order.Add ∷ os) = (tt, tt)
-number_ends w (order.Sub ∷ os) = (tt, tt)
-number_ends w (order.JumpIf c m ∷ os) = (tt, tt)
+number_ends w (order.Add line ∷ os) = (tt, (tt, tt))
+number_ends w (order.Sub line ∷ os) = (tt, (tt, tt))
+number_ends w (order.JumpIf c m ∷ os) = (tt, (tt, tt))
+number_ends w (order.Div (pos zero) line ∷ os) = quotient_ends (is_plain_divisor w) w line os
 number_ends w (x ∷ os) = tt
 
-variable_ends : (f n : ℕ) (os : List Order) → AllEnd (orders_left (with_variable f n (use_of (slice_get os 0)))) (order.Load ∷ os)
-variable_ends f n [] = (tt, tt)
-variable_ends f n (order.Add ∷ os) = (tt, (tt, tt))
-variable_ends f n (order.Sub ∷ os) = (tt, (tt, tt))
-variable_ends f n (order.JumpIf c m ∷ os) = (tt, (tt, tt))
-variable_ends f n (x ∷ os) = (tt, tt)
+variable_ends : (f n : ℕ) (os : List Order) → AllEnd (orders_left (with_variable f n (use_of (slice_get os 0)))) (order.Home f n ∷ order.Load ∷ os)
+variable_ends f n [] = tt
+variable_ends f n (order.Add line ∷ os) = (tt, (tt, (tt, tt)))
+variable_ends f n (order.Sub line ∷ os) = (tt, (tt, (tt, tt)))
+variable_ends f n (order.JumpIf c m ∷ os) = (tt, (tt, (tt, tt)))
+variable_ends f n (x ∷ os) = tt
 
-home_ends : (f n : ℕ) (os : List Order) → AllEnd (orders_left (after_home f n (slice_get os 0) (slice_get os 1))) os
+saved_home_ends : (f n : ℕ) (os : List Order) → AllEnd (orders_left (after_saved_home f n (slice_get os 0) (slice_get os 1))) (order.Home f n ∷ os)
+saved_home_ends f n [] = tt
+saved_home_ends f n (order.Load ∷ os) = variable_ends f n os
+saved_home_ends f n (order.Store ∷ os) = (tt, (tt, tt))
+saved_home_ends f n (x ∷ os) = tt
+
+saved_frame_ends : (n : ℕ) (os : List Order) → AllEnd (orders_left (after_saved_frame_home n (slice_get os 0))) (order.FrameHome n ∷ os)
+saved_frame_ends n [] = tt
+saved_frame_ends n (order.Store ∷ os) = (tt, (tt, tt))
+saved_frame_ends n (x ∷ os) = tt
+
+save_ends : (os : List Order) → AllEnd (orders_left (after_save (slice_get os 0) (slice_get os 1) (slice_get os 2))) os
+save_ends [] = tt
+save_ends (order.Const w ∷ os) = number_ends w os
+save_ends (order.Home f n ∷ os) = saved_home_ends f n os
+save_ends (order.FrameHome n ∷ os) = saved_frame_ends n os
+save_ends (order.WriteByte ∷ os) = (tt, tt)
+save_ends (x ∷ os) = tt
+
+home_ends : (f n : ℕ) (os : List Order) → AllEnd (orders_left (after_home f n (slice_get os 0))) os
 home_ends f n [] = tt
-home_ends f n (order.Load ∷ os) = variable_ends f n os
-home_ends f n (order.Store ∷ os) = (tt, tt)
+home_ends f n (order.Load ∷ os) = (tt, tt)
 home_ends f n (x ∷ os) = tt
 
 frame_ends : (n : ℕ) (os : List Order) → AllEnd (orders_left (after_frame_home n (slice_get os 0))) os
 frame_ends n [] = tt
 frame_ends n (order.Load ∷ os) = (tt, tt)
-frame_ends n (order.Store ∷ os) = (tt, tt)
 frame_ends n (x ∷ os) = tt
 
 first_ends : (o : Order) (os : List Order) → AllEnd (orders_left (block_at 0 (o ∷ os))) os
-first_ends (order.Const w) os = number_ends w os
+first_ends order.Save os = save_ends os
 first_ends (order.Home f n) os = home_ends f n os
 first_ends (order.FrameHome n) os = frame_ends n os
 first_ends _ os = tt
@@ -102,7 +125,7 @@ all_end left [] (suc k) h = none_end left
 all_end left (o ∷ os) (suc k) h = all_end (orders_left (block_at left (o ∷ os))) os k (next_ends left o os h)
 
 -- so a block begins there
-pub begins_at : (list : List Order) (k : ℕ) (o : Order) → slice_get list k ≡ Some o → (EndsBlock o → ⊥) → left_at 0 list k ≡ 0
+pub begins_at : (list : List Order) (k : ℕ) (o : Order) → slice_get list k ≡ Some o → (StandsBehind o → ⊥) → left_at 0 list k ≡ 0
 begins_at list k o e never = cases (left_at 0 list k) refl
   where
     cases : (n : ℕ) → left_at 0 list k ≡ n → left_at 0 list k ≡ 0
@@ -114,54 +137,82 @@ begins_at list k o e never = cases (left_at 0 list k) refl
 -- ---- the orders of a block
 
 abbrev pub order_of : Use → Order
-order_of uses.Add = order.Add
-order_of uses.Subtract = order.Sub
+order_of (uses.Add line) = order.Add line
+order_of (uses.Subtract line) = order.Sub line
 order_of (uses.Compare c m) = order.JumpIf c m
 
 abbrev pub Shape : Block → List Order → Type 0
 Shape (block.Within n) list = ⊥
 Shape block.Single list = Unit {0}
 Shape (block.Fetch f n) list = (more : List Order) × (list ≡ order.Home f n ∷ order.Load ∷ more)
-Shape (block.Assign f n) list = (more : List Order) × (list ≡ order.Home f n ∷ order.Store ∷ more)
+Shape (block.Assign f n) list = (more : List Order) × (list ≡ order.Save ∷ order.Home f n ∷ order.Store ∷ more)
 Shape (block.FetchFrame n) list = (more : List Order) × (list ≡ order.FrameHome n ∷ order.Load ∷ more)
-Shape (block.AssignFrame n) list = (more : List Order) × (list ≡ order.FrameHome n ∷ order.Store ∷ more)
-Shape (block.Operate (simple.Number w) u) list = (more : List Order) × (list ≡ order.Const w ∷ order_of u ∷ more)
-Shape (block.Operate (simple.Variable f n) u) list = (more : List Order) × (list ≡ order.Home f n ∷ order.Load ∷ order_of u ∷ more)
+Shape (block.AssignFrame n) list = (more : List Order) × (list ≡ order.Save ∷ order.FrameHome n ∷ order.Store ∷ more)
+Shape block.Write list = (more : List Order) × (list ≡ order.Save ∷ order.WriteByte ∷ more)
+Shape (block.Divide w) list = (line : ℕ) × (more : List Order) × (is_plain_divisor w ≡ true) × (list ≡ order.Save ∷ order.Const w ∷ order.Div (pos zero) line ∷ more)
+Shape (block.Operate (simple.Number w) u) list = (more : List Order) × (list ≡ order.Save ∷ order.Const w ∷ order_of u ∷ more)
+Shape (block.Operate (simple.Variable f n) u) list = (more : List Order) × (list ≡ order.Save ∷ order.Home f n ∷ order.Load ∷ order_of u ∷ more)
 
-number_shape : (w : ℕ) (os : List Order) → Shape (with_number w (use_of (slice_get os 0))) (order.Const w ∷ os)
+quotient_shape : (b : Bool) (w line : ℕ) (os : List Order) → is_plain_divisor w ≡ b → Shape (if b then block.Divide w else block.Single) (order.Save ∷ order.Const w ∷ order.Div (pos zero) line ∷ os)
+quotient_shape true w line os is = (line, os, is, refl)
+quotient_shape false w line os is = tt
+
+number_shape : (w : ℕ) (os : List Order) → Shape (after_saved_const w (slice_get os 0)) (order.Save ∷ order.Const w ∷ os)
 number_shape w [] = tt
-number_shape w (order.Add ∷ os) = (os, refl)
-number_shape w (order.Sub ∷ os) = (os, refl)
+number_shape w (order.Add line ∷ os) = (os, refl)
+number_shape w (order.Sub line ∷ os) = (os, refl)
 number_shape w (order.JumpIf c m ∷ os) = (os, refl)
+number_shape w (order.Div (pos zero) line ∷ os) = quotient_shape (is_plain_divisor w) w line os refl
 number_shape w (x ∷ os) = tt
 
-variable_shape : (f n : ℕ) (os : List Order) → Shape (with_variable f n (use_of (slice_get os 0))) (order.Home f n ∷ order.Load ∷ os)
-variable_shape f n [] = ([], refl)
-variable_shape f n (order.Add ∷ os) = (os, refl)
-variable_shape f n (order.Sub ∷ os) = (os, refl)
+variable_shape : (f n : ℕ) (os : List Order) → Shape (with_variable f n (use_of (slice_get os 0))) (order.Save ∷ order.Home f n ∷ order.Load ∷ os)
+variable_shape f n [] = tt
+variable_shape f n (order.Add line ∷ os) = (os, refl)
+variable_shape f n (order.Sub line ∷ os) = (os, refl)
 variable_shape f n (order.JumpIf c m ∷ os) = (os, refl)
-variable_shape f n (x ∷ os) = (x ∷ os, refl)
+variable_shape f n (x ∷ os) = tt
 
-home_shape : (f n : ℕ) (os : List Order) → Shape (after_home f n (slice_get os 0) (slice_get os 1)) (order.Home f n ∷ os)
+saved_home_shape : (f n : ℕ) (os : List Order) → Shape (after_saved_home f n (slice_get os 0) (slice_get os 1)) (order.Save ∷ order.Home f n ∷ os)
+saved_home_shape f n [] = tt
+saved_home_shape f n (order.Load ∷ os) = variable_shape f n os
+saved_home_shape f n (order.Store ∷ os) = (os, refl)
+saved_home_shape f n (x ∷ os) = tt
+
+saved_frame_shape : (n : ℕ) (os : List Order) → Shape (after_saved_frame_home n (slice_get os 0)) (order.Save ∷ order.FrameHome n ∷ os)
+saved_frame_shape n [] = tt
+saved_frame_shape n (order.Store ∷ os) = (os, refl)
+saved_frame_shape n (x ∷ os) = tt
+
+save_shape : (os : List Order) → Shape (after_save (slice_get os 0) (slice_get os 1) (slice_get os 2)) (order.Save ∷ os)
+save_shape [] = tt
+save_shape (order.Const w ∷ os) = number_shape w os
+save_shape (order.Home f n ∷ os) = saved_home_shape f n os
+save_shape (order.FrameHome n ∷ os) = saved_frame_shape n os
+save_shape (order.WriteByte ∷ os) = (os, refl)
+save_shape (x ∷ os) = tt
+
+home_shape : (f n : ℕ) (os : List Order) → Shape (after_home f n (slice_get os 0)) (order.Home f n ∷ os)
 home_shape f n [] = tt
-home_shape f n (order.Load ∷ os) = variable_shape f n os
-home_shape f n (order.Store ∷ os) = (os, refl)
+home_shape f n (order.Load ∷ os) = (os, refl)
 home_shape f n (x ∷ os) = tt
 
 frame_shape : (n : ℕ) (os : List Order) → Shape (after_frame_home n (slice_get os 0)) (order.FrameHome n ∷ os)
 frame_shape n [] = tt
 frame_shape n (order.Load ∷ os) = (os, refl)
-frame_shape n (order.Store ∷ os) = (os, refl)
 frame_shape n (x ∷ os) = tt
 
 pub shape : (list : List Order) → Shape (block_at 0 list) list
 shape [] = tt
-shape (order.Const w ∷ os) = number_shape w os
+shape (order.Save ∷ os) = save_shape os
 shape (order.Home f n ∷ os) = home_shape f n os
 shape (order.FrameHome n ∷ os) = frame_shape n os
 shape (x ∷ os) = tt
 
 -- ---- what the orders before the last one of a block do
+
+abbrev pub loaded_then : Option Bool → (Bool → Option Bool) → Option Bool
+loaded_then (Some m) f = f m
+loaded_then None f = None
 
 abbrev pub chain : Outcome → (Words → Outcome) → Outcome
 chain (Changed v) f = f v
@@ -170,6 +221,7 @@ chain Impossible f = Impossible
 
 module _ (p : OrderProgram) (g : ℕ) (acts : List OrderActivation) where
   abbrev pub puts_word : Order → Words → Outcome
+  puts_word order.Save w = Changed w
   puts_word (order.Const n) w = Changed (put (signed n) w)
   puts_word (order.Home f n) w = Changed (put (signed (home_word p.addresses g f n)) w)
   puts_word (order.FrameHome n) w = put_address (frame_word acts n) w
@@ -196,6 +248,25 @@ module _ (p : OrderProgram) (g : ℕ) (acts : List OrderActivation) where
       cases each (Refused kind) = refl
       cases each Impossible = refl
 
+-- where the accumulator is after so many of them
+abbrev pub loaded_silently : ℕ → List Order → Bool → Option Bool
+loaded_silently zero os m = Some m
+loaded_silently (suc n) [] m = None
+loaded_silently (suc n) (o ∷ os) m = loaded_then (loaded_after o m) (loaded_silently n os)
+
+one_more_loaded : (x : Option Bool) → loaded_then x Some ≡ x
+one_more_loaded (Some m) = refl
+one_more_loaded None = refl
+
+pub loaded_next : (n : ℕ) (os : List Order) (o : Order) (m : Bool) → slice_get os n ≡ Some o → loaded_silently (suc n) os m ≡ loaded_then (loaded_silently n os m) (loaded_after o)
+loaded_next n [] o m e = absurd (cc)
+loaded_next zero (x ∷ xs) o m e = let same : x ≡ o = cc in one_more_loaded (loaded_after x m) ∙ ap (λ y. loaded_after y m) same
+loaded_next (suc n) (x ∷ xs) o m e = cases (λ v. loaded_next n xs o v e) (loaded_after x m)
+  where
+    cases : ((v : Bool) → loaded_silently (suc n) xs v ≡ loaded_then (loaded_silently n xs v) (loaded_after o)) → (a : Option Bool) → loaded_then a (loaded_silently (suc n) xs) ≡ loaded_then (loaded_then a (loaded_silently n xs)) (loaded_after o)
+    cases each (Some v) = each v
+    cases each None = refl
+
 -- no stop comes of it, and nothing is written
 pub record IsSilent (w : Words) (o : Outcome) : Type 0 where
   pub stops : (kind : StopKind) → o ≡ Refused kind → ⊥
@@ -221,6 +292,7 @@ address_silent None w = impossible_silent w
 address_silent (Some a) w = changed_silent w (put (signed a) w) refl
 
 pub is_silent : (p : OrderProgram) (g : ℕ) (acts : List OrderActivation) (o : Order) (w : Words) → IsSilent w (puts_word p g acts o w)
+is_silent p g acts order.Save w = changed_silent w w refl
 is_silent p g acts (order.Const n) w = changed_silent w (put (signed n) w) refl
 is_silent p g acts (order.Home f n) w = changed_silent w (put (signed (home_word p.addresses g f n)) w) refl
 is_silent p g acts (order.FrameHome n) w = address_silent (frame_word acts n) w

@@ -3,6 +3,7 @@ pub mod Fine
 pub mod Placement
 pub mod WordLaws
 pub mod Fields
+pub mod RoutineLaws
 pub mod Rows
 pub mod Watched
 pub mod Chains
@@ -25,6 +26,7 @@ pub mod InBlocks
 pub mod States
 pub mod Steps
 pub mod WordOrders
+pub mod Words
 pub mod BlockOrders
 pub mod FrameBlocks
 pub mod Bodies

@@ -4,7 +4,6 @@ use Rattle.std.specs.List.{All}
 use Rattle.std.proofs.lemmas.List.Elements.{All-head, All-tail}
 use Rattle.cw_i86.specs.declared.instr.Instr.TheVariants as i86
 use Rattle.cw_run86.specs.Processor.{Told}
-use Rattle.cw_follow.proofs.Watched.{Watched}
 use Rattle.cw_run86.specs.Views.{Has}
 use Rattle.cw_word.specs.FixedPoint.{FitsWord}
 use Rattle.cw_word.specs.Word.{unsigned}
@@ -15,23 +14,24 @@ use Rattle.cw_order.specs.OrderState.{OrderActivation, operand_words}
 use Rattle.cw_order.specs.OrderMachine.{unrefused}
 use Rattle.cw_order.specs.FittingWords.{OperandFits}
 use Rattle.cw_tmpl.specs.Library.{stop_place}
-use Rattle.cw_follow.proofs.Standing.{HasAll}
+use Rattle.cw_routines.specs.Ways.{HasWord}
+use Rattle.cw_routines.specs.Results.{Stands, Tells}
+use Rattle.cw_follow.proofs.Watched.{Watched}
 use Rattle.cw_follow.proofs.Rows.{Rows}
 use Rattle.cw_follow.proofs.Chains.{Is, Leads, view, no_overflow, passes, more, done}
-use Rattle.cw_follow.proofs.Routines.{LibraryStands, Over, stops, with_ax}
+use Rattle.cw_follow.proofs.Routines.{HasLine, Over, stops, with_ax}
 use Rattle.cw_follow.proofs.Stacks.{level, record_of, StackIs, top_is}
-use Rattle.cw_follow.proofs.Orders.{Kept, Landed, Does, later, further, landed}
+use Rattle.cw_follow.proofs.Orders.{Kept, Landed, Does, Check, later, further, landed}
 
 -- where an order is carried out
 pub record Setting : Type 0 where
   pub rows : Rows
   pub image : List ℕ
-  pub library : LibraryStands image
+  pub library : Stands image
   pub program : OrderProgram
   pub low : program.limits.area ≤ 32768
   pub g : ℕ
   pub few : g < 255
-  pub line : ℕ
   pub acts : List OrderActivation
 
 abbrev pub words : List Operand → List ℤ → (input output : List ℕ) → Words
@@ -48,19 +48,25 @@ with_cells {image} {at} {ax} {bx} {cx} {dx} {sp} {bp} {si} {di} {overflow} {cell
     subst (λ x. Is image at (view ax cx dx bx sp bp si di overflow x stack input told) p) e s
 
 module _ (c : Setting) (memory : List ℤ) (input output : List ℕ) where
-  abbrev pub LandedWith : ℕ → List Operand → Watched → Type 0
-  LandedWith at operands p = Landed c.program c.image at c.g c.line c.acts (words operands memory input output) p
+  abbrev pub LandedWith : (at : ℕ) (loaded : Bool) → List Operand → Watched → Type 0
+  LandedWith at loaded operands p = Landed c.program c.image at c.g loaded c.acts (words operands memory input output) p
 
-  abbrev pub DoesHere : (limit to : ℕ) → Watched → Outcome → Type 0
-  DoesHere limit to p o = Does c.program c.image limit to c.g c.line c.acts output p o
+  abbrev pub DoesHere : (limit to : ℕ) (loaded : Bool) (line : ℕ) → Watched → Outcome → Type 0
+  DoesHere limit to loaded line p o = Does c.program c.image limit to c.g loaded line c.acts output p o
 
-  -- The top operand is in AX, and above the word of this number are the others.
+  -- the record at work tells the segment
+  pub tells : {cells stack : ℕ → ℕ} {left : List ℕ} {told : Told} → Kept c.program c.g c.acts memory input output cells stack left told → Tells stack (record_of c.acts) (level c.acts + 3) (c.g + 1)
+  tells k =
+      let high : level c.acts ≤ 32764 = omega arith in
+      let few = c.few in
+      record { there = (let e : (record_of c.acts + 65534) % 65536 ≡ 2 * (level c.acts + 3) = omega arith in e); low = omega arith; number = k.piled.0.number_is; few = omega arith }
+
+  -- The top operand is in AX, and from the word behind this number on are the others.
   pub record One (at : ℕ) (x : ℤ) (rest : List Operand) (p : Watched) : Type 0 where
     pub cx : ℕ
     pub dx : ℕ
     pub bx : ℕ
     pub si : ℕ
-    pub di : ℕ
     pub overflow : Bool
     pub top : ℕ
     pub cells : ℕ → ℕ
@@ -68,9 +74,9 @@ module _ (c : Setting) (memory : List ℤ) (input output : List ℕ) where
     pub left : List ℕ
     pub told : Told
     pub low : top < level c.acts
-    pub is : Is c.image at (view (unsigned x) cx dx bx (2 * suc top) (record_of c.acts) si di overflow cells stack left told) p
-    pub under : StackIs c.program c.acts (stack (suc top)) stack (suc (suc top)) rest
-    pub kept : Kept c.program c.g c.line c.acts memory input output cells stack left told
+    pub is : Is c.image at (view (unsigned x) cx dx bx (2 * suc top) (record_of c.acts) si c.program.limits.area overflow cells stack left told) p
+    pub under : StackIs c.program c.acts stack (suc top) rest
+    pub kept : Kept c.program c.g c.acts memory input output cells stack left told
 
   -- The top operand is in AX, the next one in the word behind this number, and above it are the others.
   pub record Two (at : ℕ) (x y : ℤ) (rest : List Operand) (p : Watched) : Type 0 where
@@ -78,7 +84,6 @@ module _ (c : Setting) (memory : List ℤ) (input output : List ℕ) where
     pub dx : ℕ
     pub bx : ℕ
     pub si : ℕ
-    pub di : ℕ
     pub overflow : Bool
     pub top : ℕ
     pub cells : ℕ → ℕ
@@ -86,25 +91,24 @@ module _ (c : Setting) (memory : List ℤ) (input output : List ℕ) where
     pub left : List ℕ
     pub told : Told
     pub low : suc top < level c.acts
-    pub is : Is c.image at (view (unsigned y) cx dx bx (2 * suc top) (record_of c.acts) si di overflow cells stack left told) p
+    pub is : Is c.image at (view (unsigned y) cx dx bx (2 * suc top) (record_of c.acts) si c.program.limits.area overflow cells stack left told) p
     pub next : (suc top < 32767) × (2 * suc top ≡ 2 * suc top % 65536) × (stack (suc top) ≡ unsigned x)
-    pub under : StackIs c.program c.acts (stack (suc (suc top))) stack (suc (suc (suc top))) rest
-    pub kept : Kept c.program c.g c.line c.acts memory input output cells stack left told
+    pub under : StackIs c.program c.acts stack (suc (suc top)) rest
+    pub kept : Kept c.program c.g c.acts memory input output cells stack left told
 
-  pub one_there : {p : Watched} {at : ℕ} (x : ℤ) (rest : List Operand) → operand_words (Word x ∷ rest) < level c.acts → LandedWith at (Word x ∷ rest) p → One at x rest p
+  one_there : {p : Watched} {at : ℕ} (x : ℤ) (rest : List Operand) → operand_words (Word x ∷ rest) < level c.acts → LandedWith at true (Word x ∷ rest) p → One at x rest p
   one_there {p} {at} x rest room l = from l.top refl
     where
       from : (top : ℕ) → l.top ≡ top → One at x rest p
-      from zero e = let t = top_is c.program c.acts (l.stack l.top) l.stack (suc l.top) rest l.operands.1 in absurd (omega arith)
+      from zero e = let t = top_is c.program c.acts l.stack l.top rest l.operands.1 in absurd (omega arith)
       from (suc n) e =
           let s = l.stacked in
-          let t = top_is c.program c.acts (l.stack l.top) l.stack (suc l.top) rest l.operands.1 in
+          let t = top_is c.program c.acts l.stack l.top rest l.operands.1 in
           record {
             cx = s.cx;
             dx = s.dx;
             bx = s.bx;
             si = s.si;
-            di = s.di;
             overflow = s.overflow;
             top = n;
             cells = l.cells;
@@ -112,25 +116,24 @@ module _ (c : Setting) (memory : List ℤ) (input output : List ℕ) where
             left = l.input;
             told = l.told;
             low = omega arith;
-            is = subst (λ m. Is c.image at (view (unsigned x) s.cx s.dx s.bx (2 * m) (record_of c.acts) s.si s.di s.overflow l.cells l.stack l.input l.told) p) e (with_ax l.operands.0 s.is);
-            under = subst (λ m. StackIs c.program c.acts (l.stack m) l.stack (suc m) rest) e l.operands.1;
+            is = subst (λ m. Is c.image at (view (unsigned x) s.cx s.dx s.bx (2 * m) (record_of c.acts) s.si c.program.limits.area s.overflow l.cells l.stack l.input l.told) p) e (with_ax l.operands.0 s.is);
+            under = subst (λ m. StackIs c.program c.acts l.stack m rest) e l.operands.1;
             kept = l.kept;
           }
 
-  two_there : {p : Watched} {at : ℕ} (x y : ℤ) (rest : List Operand) → operand_words (Word y ∷ Word x ∷ rest) < level c.acts → LandedWith at (Word y ∷ Word x ∷ rest) p → Two at x y rest p
+  two_there : {p : Watched} {at : ℕ} (x y : ℤ) (rest : List Operand) → operand_words (Word y ∷ Word x ∷ rest) < level c.acts → LandedWith at true (Word y ∷ Word x ∷ rest) p → Two at x y rest p
   two_there {p} {at} x y rest room l = from l.top refl
     where
       from : (top : ℕ) → l.top ≡ top → Two at x y rest p
-      from zero e = let t = top_is c.program c.acts (l.stack (suc l.top)) l.stack (suc (suc l.top)) rest l.operands.1.1 in absurd (omega arith)
+      from zero e = let t = top_is c.program c.acts l.stack (suc l.top) rest l.operands.1.1 in absurd (omega arith)
       from (suc n) e =
           let s = l.stacked in
-          let t = top_is c.program c.acts (l.stack (suc l.top)) l.stack (suc (suc l.top)) rest l.operands.1.1 in
+          let t = top_is c.program c.acts l.stack (suc l.top) rest l.operands.1.1 in
           record {
             cx = s.cx;
             dx = s.dx;
             bx = s.bx;
             si = s.si;
-            di = s.di;
             overflow = s.overflow;
             top = n;
             cells = l.cells;
@@ -138,76 +141,78 @@ module _ (c : Setting) (memory : List ℤ) (input output : List ℕ) where
             left = l.input;
             told = l.told;
             low = omega arith;
-            is = subst (λ m. Is c.image at (view (unsigned y) s.cx s.dx s.bx (2 * m) (record_of c.acts) s.si s.di s.overflow l.cells l.stack l.input l.told) p) e (with_ax l.operands.0 s.is);
+            is = subst (λ m. Is c.image at (view (unsigned y) s.cx s.dx s.bx (2 * m) (record_of c.acts) s.si c.program.limits.area s.overflow l.cells l.stack l.input l.told) p) e (with_ax l.operands.0 s.is);
             next = (omega arith, omega arith, subst (λ m. l.stack m ≡ unsigned x) e l.operands.1.0);
-            under = subst (λ m. StackIs c.program c.acts (l.stack (suc m)) l.stack (suc (suc m)) rest) e l.operands.1.1;
+            under = subst (λ m. StackIs c.program c.acts l.stack (suc m) rest) e l.operands.1.1;
             kept = l.kept;
           }
 
   -- where there is no operand, or one of the wrong sort, nothing is asked
-  pub taking_one : {p : Watched} {at : ℕ} (limit to : ℕ) (f : ℤ → Words → Outcome) → ((x : ℤ) (rest : List Operand) → FitsWord x → One at x rest p → DoesHere limit to p (f x (words rest memory input output)))
-      → (operands : List Operand) → operand_words operands < level c.acts → All OperandFits operands → LandedWith at operands p → DoesHere limit to p (on_one f operands (words operands memory input output))
-  taking_one limit to f does [] room fits l = tt
-  taking_one limit to f does (Held d ∷ rest) room fits l = tt
-  taking_one limit to f does (Word x ∷ rest) room fits l = does x rest (All-head OperandFits (Word x) rest fits) (one_there x rest room l)
+  pub taking_one : {p : Watched} {at : ℕ} (limit to : ℕ) (loaded : Bool) (line : ℕ) (f : ℤ → Words → Outcome)
+      → ((x : ℤ) (rest : List Operand) → FitsWord x → One at x rest p → DoesHere limit to loaded line p (f x (words rest memory input output)))
+      → (operands : List Operand) → operand_words operands < level c.acts → All OperandFits operands → LandedWith at true operands p → DoesHere limit to loaded line p (on_one f operands (words operands memory input output))
+  taking_one limit to loaded line f does [] room fits l = tt
+  taking_one limit to loaded line f does (Held d ∷ rest) room fits l = tt
+  taking_one limit to loaded line f does (Word x ∷ rest) room fits l = does x rest (All-head OperandFits (Word x) rest fits) (one_there x rest room l)
 
-  pub taking_two : {p : Watched} {at : ℕ} (limit to : ℕ) (f : ℤ → ℤ → Words → Outcome)
-      → ((x y : ℤ) (rest : List Operand) → FitsWord x → FitsWord y → Two at x y rest p → DoesHere limit to p (f x y (words rest memory input output)))
-      → (operands : List Operand) → operand_words operands < level c.acts → All OperandFits operands → LandedWith at operands p → DoesHere limit to p (on_two f operands (words operands memory input output))
-  taking_two limit to f does [] room fits l = tt
-  taking_two limit to f does (Held d ∷ rest) room fits l = tt
-  taking_two limit to f does (Word y ∷ []) room fits l = tt
-  taking_two limit to f does (Word y ∷ Held d ∷ rest) room fits l = tt
-  taking_two limit to f does (Word y ∷ Word x ∷ rest) room fits l =
+  pub taking_two : {p : Watched} {at : ℕ} (limit to : ℕ) (loaded : Bool) (line : ℕ) (f : ℤ → ℤ → Words → Outcome)
+      → ((x y : ℤ) (rest : List Operand) → FitsWord x → FitsWord y → Two at x y rest p → DoesHere limit to loaded line p (f x y (words rest memory input output)))
+      → (operands : List Operand) → operand_words operands < level c.acts → All OperandFits operands → LandedWith at true operands p → DoesHere limit to loaded line p (on_two f operands (words operands memory input output))
+  taking_two limit to loaded line f does [] room fits l = tt
+  taking_two limit to loaded line f does (Held d ∷ rest) room fits l = tt
+  taking_two limit to loaded line f does (Word y ∷ []) room fits l = tt
+  taking_two limit to loaded line f does (Word y ∷ Held d ∷ rest) room fits l = tt
+  taking_two limit to loaded line f does (Word y ∷ Word x ∷ rest) room fits l =
       does x y rest (All-head OperandFits (Word x) rest (All-tail OperandFits (Word y) (Word x ∷ rest) fits)) (All-head OperandFits (Word y) (Word x ∷ rest) fits) (two_there x y rest room l)
 
-  -- the same at an address that has been tested
-  pub accessing_one : {p : Watched} {at : ℕ} (limit to : ℕ) (f : ℤ → Words → Outcome) → ((x : ℤ) (rest : List Operand) → FitsWord x → One at x rest p → DoesHere limit to p (unrefused (f x (words rest memory input output))))
-      → (operands : List Operand) → operand_words operands < level c.acts → All OperandFits operands → LandedWith at operands p → DoesHere limit to p (unrefused (on_one f operands (words operands memory input output)))
-  accessing_one limit to f does [] room fits l = tt
-  accessing_one limit to f does (Held d ∷ rest) room fits l = tt
-  accessing_one limit to f does (Word x ∷ rest) room fits l = does x rest (All-head OperandFits (Word x) rest fits) (one_there x rest room l)
+  -- the same of what never stops
+  pub accessing_one : {p : Watched} {at : ℕ} (limit to : ℕ) (loaded : Bool) (line : ℕ) (f : ℤ → Words → Outcome)
+      → ((x : ℤ) (rest : List Operand) → FitsWord x → One at x rest p → DoesHere limit to loaded line p (unrefused (f x (words rest memory input output))))
+      → (operands : List Operand) → operand_words operands < level c.acts → All OperandFits operands → LandedWith at true operands p → DoesHere limit to loaded line p (unrefused (on_one f operands (words operands memory input output)))
+  accessing_one limit to loaded line f does [] room fits l = tt
+  accessing_one limit to loaded line f does (Held d ∷ rest) room fits l = tt
+  accessing_one limit to loaded line f does (Word x ∷ rest) room fits l = does x rest (All-head OperandFits (Word x) rest fits) (one_there x rest room l)
 
-  pub accessing_two : {p : Watched} {at : ℕ} (limit to : ℕ) (f : ℤ → ℤ → Words → Outcome)
-      → ((x y : ℤ) (rest : List Operand) → FitsWord x → FitsWord y → Two at x y rest p → DoesHere limit to p (unrefused (f x y (words rest memory input output))))
-      → (operands : List Operand) → operand_words operands < level c.acts → All OperandFits operands → LandedWith at operands p → DoesHere limit to p (unrefused (on_two f operands (words operands memory input output)))
-  accessing_two limit to f does [] room fits l = tt
-  accessing_two limit to f does (Held d ∷ rest) room fits l = tt
-  accessing_two limit to f does (Word y ∷ []) room fits l = tt
-  accessing_two limit to f does (Word y ∷ Held d ∷ rest) room fits l = tt
-  accessing_two limit to f does (Word y ∷ Word x ∷ rest) room fits l =
+  pub accessing_two : {p : Watched} {at : ℕ} (limit to : ℕ) (loaded : Bool) (line : ℕ) (f : ℤ → ℤ → Words → Outcome)
+      → ((x y : ℤ) (rest : List Operand) → FitsWord x → FitsWord y → Two at x y rest p → DoesHere limit to loaded line p (unrefused (f x y (words rest memory input output))))
+      → (operands : List Operand) → operand_words operands < level c.acts → All OperandFits operands → LandedWith at true operands p → DoesHere limit to loaded line p (unrefused (on_two f operands (words operands memory input output)))
+  accessing_two limit to loaded line f does [] room fits l = tt
+  accessing_two limit to loaded line f does (Held d ∷ rest) room fits l = tt
+  accessing_two limit to loaded line f does (Word y ∷ []) room fits l = tt
+  accessing_two limit to loaded line f does (Word y ∷ Held d ∷ rest) room fits l = tt
+  accessing_two limit to loaded line f does (Word y ∷ Word x ∷ rest) room fits l =
       does x y rest (All-head OperandFits (Word x) rest (All-tail OperandFits (Word y) (Word x ∷ rest) fits)) (All-head OperandFits (Word y) (Word x ∷ rest) fits) (two_there x y rest room l)
 
   -- a result in AX, and the operands below it
-  pub result : {p : Watched} {at ax cx dx bx si di : ℕ} {overflow : Bool} {cells stack : ℕ → ℕ} {left : List ℕ} {told : Told} (to n : ℕ) (z : ℤ) (rest : List Operand) → at ≡ to → ax ≡ unsigned z
-      → StackIs c.program c.acts (stack (suc n)) stack (suc (suc n)) rest → Kept c.program c.g c.line c.acts memory input output cells stack left told
-      → Is c.image at (view ax cx dx bx (2 * suc n) (record_of c.acts) si di overflow cells stack left told) p → LandedWith to (Word z ∷ rest) p
-  result to n z rest e value under kept s = landed c.rows c.program c.image c.g c.line c.acts to (suc n) (Word z ∷ rest) memory input output e (value, under) kept s
+  pub result : {p : Watched} {at ax cx dx bx si : ℕ} {overflow : Bool} {cells stack : ℕ → ℕ} {left : List ℕ} {told : Told} (to n : ℕ) (z : ℤ) (rest : List Operand) → at ≡ to → ax ≡ unsigned z
+      → StackIs c.program c.acts stack n rest → Kept c.program c.g c.acts memory input output cells stack left told
+      → Is c.image at (view ax cx dx bx (2 * n) (record_of c.acts) si c.program.limits.area overflow cells stack left told) p → LandedWith to true (Word z ∷ rest) p
+  result to n z rest e value under kept s = landed c.rows c.program c.image c.g c.acts true to n (Word z ∷ rest) memory input output e (value, under) kept s
 
-  -- a stop is called
-  pub calls_stop : {p : Watched} {at ax cx dx bx si di : ℕ} {overflow : Bool} {cells stack : ℕ → ℕ} {left : List ℕ} {told : Told} (kind : StopKind) (n by : ℕ) → n < level c.acts
-      → (at + 3 + by) % 65536 ≡ stop_place kind % 65536 → Kept c.program c.g c.line c.acts memory input output cells stack left told → Has c.image at (i86.Call by)
-      → Is c.image at (view ax cx dx bx (2 * suc n) (record_of c.acts) si di overflow cells stack left told) p
-      → Leads output 11 p (Over (record { output = output; end = Stopped kind (c.g + 1) c.line }))
-  calls_stop {p} {at} {ax} {cx} {dx} {bx} {si} {di} {overflow} {cells} {stack} {left} {told} kind n by small arrives k i s =
+  -- a stop is called, with its line behind the call
+  pub calls_stop : {p : Watched} {at ax cx dx bx si : ℕ} {overflow : Bool} {cells stack : ℕ → ℕ} {left : List ℕ} {told : Told} (kind : StopKind) (n by line : ℕ) → HasLine kind → line < 65536 → n < level c.acts + 3
+      → (at + 3 + by) % 65536 ≡ stop_place kind % 65536 → Kept c.program c.g c.acts memory input output cells stack left told → Has c.image at (i86.Call by) → HasWord c.image (at + 3) line
+      → Is c.image at (view ax cx dx bx (2 * suc n) (record_of c.acts) si c.program.limits.area overflow cells stack left told) p
+      → Leads output 13 p (Over (record { output = output; end = Stopped kind (c.g + 1) line }))
+  calls_stop {p} {at} {ax} {cx} {dx} {bx} {si} {overflow} {cells} {stack} {left} {told} kind n by line has small low arrives k i word s =
+      let t = tells k in
+      let high : level c.acts ≤ 32764 = omega arith in
       let top : 2 * suc n ≡ 2 * suc n % 65536 = omega arith in
-      let few = c.few in
-      let few' : c.g + 1 < 256 = omega arith in
-      let high : level c.acts ≤ 32761 = omega arith in
       let wrote : told.output ≡ output = k.wrote in
-      subst (λ x. Leads x 11 p (Over (record { output = x; end = Stopped kind (c.g + 1) c.line }))) wrote
-      (stops c.rows kind (level c.acts) ax cx dx bx si di n at by (c.g + 1) c.line overflow cells stack left told c.library i arrives high small (2 * suc n) top k.piled.0.number_is few' k.piled.0.line_is k.piled.0.small s)
+      subst (λ x. Leads x 13 p (Over (record { output = x; end = Stopped kind (c.g + 1) line }))) wrote
+      (stops c.rows kind at by line n (level c.acts + 3) (c.g + 1) ax cx dx bx (record_of c.acts) si c.program.limits.area overflow cells stack left told has c.library i word small arrives t.low low (2 * suc n) top t.there t.number t.few s)
 
   -- a stop is called where the overflow flag is set
-  pub guards : {p : Watched} {at ax cx dx bx si di : ℕ} {overflow : Bool} {cells stack : ℕ → ℕ} {left : List ℕ} {told : Told} (kind : StopKind) (to n by m bound : ℕ) (b : Bool) (o : Outcome) → n < level c.acts
-      → (at + 2 + 3 + by) % 65536 ≡ stop_place kind % 65536 → overflow ≡ not b → 1 + m ≤ bound → 12 ≤ bound → Kept c.program c.g c.line c.acts memory input output cells stack left told
-      → HasAll c.image at (i86.JumpIf 1 3 ∷ i86.Call by ∷ [])
-      → Is c.image at (view ax cx dx bx (2 * suc n) (record_of c.acts) si di overflow cells stack left told) p
-      → (b ≡ true → (q : Watched) → Is c.image (at + 2 + 3) (view ax cx dx bx (2 * suc n) (record_of c.acts) si di overflow cells stack left told) q → DoesHere m to q o)
-      → DoesHere bound to p (allowed b kind o)
-  guards {p} {at} {ax} {cx} {dx} {bx} {si} {di} {overflow} {cells} {stack} {left} {told} kind to n by m bound true o small arrives tests le le' k i s on =
-      later c.program c.image m to c.g c.line c.acts 1 bound o le (more c.rows {to = at + 2 + 3} {w = view ax cx dx bx (2 * suc n) (record_of c.acts) si di overflow cells stack left told} s k.wrote (no_overflow c.rows 3 tests i.0 s) (λ q t. done t)) (λ q t. on refl q t)
-  guards {p} {at} {ax} {cx} {dx} {bx} {si} {di} {overflow} {cells} {stack} {left} {told} kind to n by m bound false o small arrives tests le le' k i s on =
-      further 12 le' (lit< tt)
-      (more c.rows {to = at + 2} {w = view ax cx dx bx (2 * suc n) (record_of c.acts) si di overflow cells stack left told} s k.wrote (passes c.rows 3 tests i.0 s) (λ q t.
-      calls_stop kind n by small arrives k i.1.0 t))
+  pub guards : {p : Watched} {at ax cx dx bx si : ℕ} {overflow : Bool} {cells stack : ℕ → ℕ} {left : List ℕ} {told : Told} (kind : StopKind) (to : ℕ) (loaded : Bool) (line n by m bound : ℕ) (b : Bool) (o : Outcome) → HasLine kind → line < 65536 → n < level c.acts
+      → (at + 2 + 3 + by) % 65536 ≡ stop_place kind % 65536 → overflow ≡ not b → 1 + m ≤ bound → 14 ≤ bound → Kept c.program c.g c.acts memory input output cells stack left told
+      → Check c.image at by line
+      → Is c.image at (view ax cx dx bx (2 * suc n) (record_of c.acts) si c.program.limits.area overflow cells stack left told) p
+      → (b ≡ true → (q : Watched) → Is c.image (at + 2 + 5) (view ax cx dx bx (2 * suc n) (record_of c.acts) si c.program.limits.area overflow cells stack left told) q → DoesHere m to loaded line q o)
+      → DoesHere bound to loaded line p (allowed b kind o)
+  guards {p} {at} {ax} {cx} {dx} {bx} {si} {overflow} {cells} {stack} {left} {told} kind to loaded line n by m bound true o has small low arrives tests le le' k i s on =
+      later c.program c.image m to c.g loaded line c.acts 1 bound o le
+      (more c.rows {to = at + 2 + 5} {w = view ax cx dx bx (2 * suc n) (record_of c.acts) si c.program.limits.area overflow cells stack left told} s k.wrote (no_overflow c.rows 5 tests i.0 s) (λ q t. done t)) (λ q t. on refl q t)
+  guards {p} {at} {ax} {cx} {dx} {bx} {si} {overflow} {cells} {stack} {left} {told} kind to loaded line n by m bound false o has small low arrives tests le le' k i s on =
+      further 14 le' (lit< tt)
+      (more c.rows {to = at + 2} {w = view ax cx dx bx (2 * suc n) (record_of c.acts) si c.program.limits.area overflow cells stack left told} s k.wrote (passes c.rows 5 tests i.0 s) (λ q t.
+      calls_stop kind n by line has small (let f : n < level c.acts + 3 = omega arith in f) arrives k i.1.0 i.1.1.0 t))

@@ -1,69 +1,70 @@
 -- What the code of each order does.
-use Rattle.std.proofs.Common.{◌≡◌, ◌≢◌, ℕ, zero, suc, ◌+◌, ◌*◌, ◌%◌, ◌<◌, ◌≤◌, Bool, true, false, not, ℤ, pos, negsuc, ◌+ℤ◌, ◌-ℤ◌, neg_ℤ, List, [], ◌∷◌, ◌++◌, length, length-set, set, None, refl, sym, ap, ap₂, inl, inr, ◌⊎◌, ◌∙◌, subst, arith, lit<, lit≤}
+use Rattle.std.proofs.Common.{◌≡◌, ◌≢◌, ℕ, zero, suc, ◌+◌, ◌*◌, ◌%◌, ◌<◌, ◌≤◌, Bool, true, false, not, ℤ, pos, negsuc, ◌+ℤ◌, ◌-ℤ◌, neg_ℤ, List, [], ◌∷◌, ◌++◌, length, length-set, set, None, refl, sym, ap, ap₂, inl, ◌⊎◌, ◌∙◌, subst, arith, lit<, lit≤}
 use Rattle.std.specs.Prelude.{nat_eq}
 use borrow.Author.Tests.{ltb-true, eqb-true, eqb-false}
 use Rattle.std.proofs.lemmas.Bool.{false≢true}
 use Rattle.std.specs.List.{All}
 use Rattle.std.proofs.lemmas.List.Elements.{All-head, All-tail}
 use Rattle.std.proofs.lemmas.List.{get_or-set_same, get_or-set_other}
-use Rattle.cw_track.proofs.Paths.{Path, stay, next, join}
 use Rattle.std.proofs.lemmas.Int.{ints}
-use Rattle.cw_run86.specs.Processor.{processor_step, Told, with_given}
-use Rattle.cw_image.specs.Begun.{StatementPlace, lines_at}
-use Rattle.cw_unit.specs.Begun.{Begun}
-use Rattle.cw_follow.specs.Passing.{Ignores}
-use Rattle.cw_follow.proofs.Watched.{Watched, watched_step, watched_machine}
-use Rattle.cw_order.specs.FittingWords.{OperandFits}
+use Rattle.cw_track.proofs.Paths.{Path, stay, next, join}
 use Rattle.cw_i86.specs.declared.instr.Instr.TheVariants as i86
-use Rattle.cw_i86.specs.declared.instr.Imm.TheVariants as imm
 use Rattle.cw_i86.specs.declared.instr.Rm.TheVariants as rms
+use Rattle.cw_image.specs.Begun.{StatementPlace}
+use Rattle.cw_run86.specs.Processor.{processor_step, Told}
 use Rattle.cw_run86.specs.Views.{View, Has, put_word, word_sum, word_difference, sum_overflows, difference_overflows, with_other, double_overflows, condition_of, words_compare}
 use Rattle.cw_word.specs.FixedPoint.{FitsWord, fits_word}
 use Rattle.cw_word.specs.Word.{signed, unsigned}
+use Rattle.cw_unit.specs.Begun.{Begun}
 use Rattle.cw_unit.specs.Stop.{StopKind, Overflow, Stopped}
-use Rattle.cw_unit.specs.Words.{Operand, Word, Held, Words, Outcome, Changed, Refused, Impossible, with_operands, with_memory, put, put_if, put_value, on_two, through, is_below, number_of, word_at, byte_of}
+use Rattle.cw_unit.specs.Words.{Operand, Word, Held, Words, Outcome, Changed, Refused, Impossible, with_memory, put, put_if, put_value, through, is_below, number_of, word_at, byte_of}
 use Rattle.cw_unit.specs.Operation.{Fetch, Store, Add, Subtract, Negate, WriteByte, perform, holds}
 use Rattle.cw_order.specs.declared.order.Comparator.{Comparator}
+use Rattle.cw_order.specs.FittingWords.{OperandFits}
 use Rattle.cw_order.specs.OrderProgram.{OrderProgram}
 use Rattle.cw_order.specs.OrderState.{OrderActivation, operand_words}
-use Rattle.cw_follow.proofs.Stacks.{level, record_of, StackIs, Piled, top_is, SameFrom, same_put, stack_below, stack_pushed, callers_same, piled_same}
 use Rattle.cw_order.specs.OrderChanges.{Way, Onward, ToMark, Nowhere, way_of_two, to_mark_if, comparison}
 use Rattle.cw_order.specs.OrderMachine.{unrefused}
-use Rattle.cw_tmpl.specs.Mnemonics.{at_bx, slot, line_slot}
+use Rattle.cw_tmpl.specs.Mnemonics.{at_bx, nothing}
 use Rattle.cw_tmpl.specs.Library.{stop_place}
 use Rattle.cw_tmpl.specs.Templates.{opposite_of}
-use Rattle.cw_follow.proofs.Standing.{HasAll}
+use Rattle.cw_routines.specs.Ways.{HasWord}
+use Rattle.cw_routines.specs.Results.{Stands}
+use Rattle.cw_follow.specs.Passing.{Ignores}
+use Rattle.cw_follow.proofs.Watched.{Watched, watched_step, watched_machine}
+use Rattle.cw_routines.specs.Ways.{HasAll}
 use Rattle.cw_follow.proofs.WordLaws.{WordLaws}
 use Rattle.cw_follow.proofs.Rows.{Rows}
-use Rattle.cw_follow.proofs.Chains.{Is, IsCompared, Leads, at_work, view, seen, to_place, move, push, pop, load, store, load_at, store_at, slot_set, silent_at, add, subtract, negate, double, no_overflow, passes, near, compare, compared_pop, compared_jumps, compared_passes, out, shows, more, compared_more, last, done}
-use Rattle.cw_follow.proofs.Routines.{LibraryStands, Stacked, Over, stops, put_at, put_off, with_ax}
+use Rattle.cw_follow.proofs.Chains.{Is, IsCompared, Leads, at_work, view, seen, to_place, move, exchange, push, pop, load, store, load_at, store_at, idle, add, subtract, negate, double, no_overflow, passes, near, compare, compared_jumps, compared_passes, out, shows, more, compared_more, last, done}
+use Rattle.cw_follow.proofs.Routines.{HasLine, Stacked, Over, stops, put_at, put_off, with_ax}
+use Rattle.cw_follow.proofs.Stacks.{level, record_of, code_place, StackIs, OperandsAre, Piled, top_is, SameFrom, same_put, stack_pushed, piled_same}
 use Rattle.cw_follow.proofs.Numbers.{sum_overflows_is, difference_overflows_is, negative_overflows_is, sum_is, difference_is, negative_is, opposite_is, fits_tested, unsigned_pos}
 
 -- ---- what is kept from order to order
 
--- the words of the data area, the records of the activations with the segment and the line of the last one, the input that is left, what was
--- written, and no stop
-pub record Kept (prog : OrderProgram) (g line : ℕ) (acts : List OrderActivation) (memory : List ℤ) (input output : List ℕ) (cells stack : ℕ → ℕ) (left : List ℕ) (told : Told) : Type 0 where
+-- the words of the data area, the records of the activations with the segment of the last one, the input that is left, what was written, and
+-- no stop
+pub record Kept (prog : OrderProgram) (g : ℕ) (acts : List OrderActivation) (memory : List ℤ) (input output : List ℕ) (cells stack : ℕ → ℕ) (left : List ℕ) (told : Told) : Type 0 where
   pub words : (k : ℕ) → k < prog.limits.area → cells k ≡ unsigned (word_at memory k)
   pub long : length memory ≡ prog.limits.area
-  pub piled : Piled prog stack g line acts
+  pub piled : Piled prog stack g acts
   pub read : left ≡ input
   pub wrote : told.output ≡ output
   pub kind : told.kind ≡ 0
 
-pub kept_same : {prog : OrderProgram} {g line : ℕ} {acts : List OrderActivation} {memory : List ℤ} {input output : List ℕ} {cells stack : ℕ → ℕ} {left : List ℕ} {told : Told} (new : ℕ → ℕ) → SameFrom (level acts) stack new
-    → Kept prog g line acts memory input output cells stack left told → Kept prog g line acts memory input output cells new left told
-kept_same {prog} {g} {line} {acts} {stack = stack} new same k = record {
+pub kept_same : {prog : OrderProgram} {g : ℕ} {acts : List OrderActivation} {memory : List ℤ} {input output : List ℕ} {cells stack : ℕ → ℕ} {left : List ℕ} {told : Told} (new : ℕ → ℕ) → SameFrom (level acts) stack new
+    → Kept prog g acts memory input output cells stack left told → Kept prog g acts memory input output cells new left told
+kept_same {prog} {g} {acts} {stack = stack} new same k = record {
   words = k.words;
   long = k.long;
-  piled = piled_same prog stack new g line acts same k.piled;
+  piled = piled_same prog stack new g acts same k.piled;
   read = k.read;
   wrote = k.wrote;
   kind = k.kind;
 }
 
-pub kept_under : {prog : OrderProgram} {g line : ℕ} {acts : List OrderActivation} {memory : List ℤ} {input output : List ℕ} {cells stack : ℕ → ℕ} {left : List ℕ} {told : Told} (n w : ℕ) → n < level acts
-    → Kept prog g line acts memory input output cells stack left told → Kept prog g line acts memory input output cells (put_word stack n w) left told
+pub kept_under : {prog : OrderProgram} {g : ℕ} {acts : List OrderActivation} {memory : List ℤ} {input output : List ℕ} {cells stack : ℕ → ℕ} {left : List ℕ} {told : Told} (n w : ℕ) → n < level acts
+    → Kept prog g acts memory input output cells stack left told → Kept prog g acts memory input output cells (put_word stack n w) left told
 kept_under {acts = acts} {stack = stack} n w lt k = kept_same (put_word stack n w) (same_put stack n w (level acts) lt) k
 
 -- a word of the data area is stored
@@ -78,8 +79,8 @@ put_words cells memory n k z lt e = cases (nat_eq k n) refl
         let other : k ≢ n = eqb-false k n b in
         put_off cells n (unsigned z) k other ∙ e ∙ ap unsigned (sym (get_or-set_other memory n k z (pos 0) other))
 
-pub kept_stored : {prog : OrderProgram} {g line : ℕ} {acts : List OrderActivation} {memory : List ℤ} {input output : List ℕ} {cells stack : ℕ → ℕ} {left : List ℕ} {told : Told} (n : ℕ) (z : ℤ) → n < prog.limits.area
-    → Kept prog g line acts memory input output cells stack left told → Kept prog g line acts (set memory n z) input output (put_word cells n (unsigned z)) stack left told
+pub kept_stored : {prog : OrderProgram} {g : ℕ} {acts : List OrderActivation} {memory : List ℤ} {input output : List ℕ} {cells stack : ℕ → ℕ} {left : List ℕ} {told : Told} (n : ℕ) (z : ℤ) → n < prog.limits.area
+    → Kept prog g acts memory input output cells stack left told → Kept prog g acts (set memory n z) input output (put_word cells n (unsigned z)) stack left told
 kept_stored {prog} {memory = memory} {cells = cells} n z lt k =
     let long = k.long in
     let within : n < length memory = omega arith in
@@ -92,32 +93,52 @@ kept_stored {prog} {memory = memory} {cells = cells} n z lt k =
       kind = k.kind;
     }
 
--- the processor at a place of the code, with these words
-pub record Landed (prog : OrderProgram) (image : List ℕ) (at g line : ℕ) (acts : List OrderActivation) (w : Words) (p : Watched) : Type 0 where
+-- the processor at a place of the code, with these words, the accumulator loaded or free
+pub record Landed (prog : OrderProgram) (image : List ℕ) (at g : ℕ) (loaded : Bool) (acts : List OrderActivation) (w : Words) (p : Watched) : Type 0 where
   pub top : ℕ
   pub cells : ℕ → ℕ
   pub stack : ℕ → ℕ
   pub input : List ℕ
   pub told : Told
-  pub stacked : Stacked image at top (record_of acts) cells stack input told p
-  pub operands : StackIs prog acts stacked.ax stack top w.operands
-  pub kept : Kept prog g line acts w.memory w.input w.output cells stack input told
+  pub stacked : Stacked image at top (record_of acts) prog.limits.area cells stack input told p
+  pub operands : OperandsAre prog acts loaded stacked.ax stack top w.operands
+  pub kept : Kept prog g acts w.memory w.input w.output cells stack input told
 
--- an order does within so many instructions what its operation does: it goes on at a place, or stops
+-- so many instructions at most, and some
 pub record Leading (output : List ℕ) (limit : ℕ) (p : Watched) (Target : Watched → Type 0) : Type 0 where
   pub spent : ℕ
   pub some : 0 < spent
   pub within : spent ≤ limit
   pub leads : Leads output spent p Target
 
-abbrev pub Does : (prog : OrderProgram) (image : List ℕ) (limit to g line : ℕ) (acts : List OrderActivation) (output : List ℕ) (p : Watched) → Outcome → Type 0
-Does prog image limit to g line acts output p (Changed v) = Leading output limit p (Landed prog image to g line acts v)
-Does prog image limit to g line acts output p (Refused kind) = Leading output limit p (Over (record { output = output; end = Stopped kind (g + 1) line }))
-Does prog image limit to g line acts output p Impossible = Unit {0}
+-- an order does within so many instructions what its operation does: it goes on at a place, the accumulator loaded or free, or stops at a line
+abbrev pub Does : (prog : OrderProgram) (image : List ℕ) (limit to g : ℕ) (loaded : Bool) (line : ℕ) (acts : List OrderActivation) (output : List ℕ) (p : Watched) → Outcome → Type 0
+Does prog image limit to g loaded line acts output p (Changed v) = Leading output limit p (Landed prog image to g loaded acts v)
+Does prog image limit to g loaded line acts output p (Refused kind) = Leading output limit p (Over (record { output = output; end = Stopped kind (g + 1) line }))
+Does prog image limit to g loaded line acts output p Impossible = Unit {0}
+
+-- The processor stands where a procedure is called: the place to come back to is on top of the stack, above it are the arguments and the
+-- operands of the caller, DX has the line of the call, and the caller's record is at work.
+pub record CalledAt (prog : OrderProgram) (image : List ℕ) (to : ℕ) (a : OrderActivation) (acts : List OrderActivation) (w : Words) (q : Watched) : Type 0 where
+  pub ax : ℕ
+  pub cx : ℕ
+  pub bx : ℕ
+  pub si : ℕ
+  pub overflow : Bool
+  pub top : ℕ
+  pub cells : ℕ → ℕ
+  pub stack : ℕ → ℕ
+  pub input : List ℕ
+  pub told : Told
+  pub is : Is image to (view ax cx a.line bx (2 * top) (record_of acts) si prog.limits.area overflow cells stack input told) q
+  pub small : a.line < 65536
+  pub back : stack top ≡ code_place prog a.segment a.place
+  pub operands : StackIs prog acts stack (suc top) (a.arguments ++ a.operands)
+  pub kept : Kept prog a.segment acts w.memory w.input w.output cells stack input told
 
 -- what an order does after so many instructions
-pub later : (prog : OrderProgram) (image : List ℕ) (limit to g line : ℕ) (acts : List OrderActivation) {output : List ℕ} {p : Watched} {T : Watched → Type 0} (n bound : ℕ) (o : Outcome) → n + limit ≤ bound → Leads output n p T → ((q : Watched) → T q → Does prog image limit to g line acts output q o) → Does prog image bound to g line acts output p o
-later prog image limit to g line acts {output = output} {p = p} n bound (Changed v) le l on =
+pub later : (prog : OrderProgram) (image : List ℕ) (limit to g : ℕ) (loaded : Bool) (line : ℕ) (acts : List OrderActivation) {output : List ℕ} {p : Watched} {T : Watched → Type 0} (n bound : ℕ) (o : Outcome) → n + limit ≤ bound → Leads output n p T → ((q : Watched) → T q → Does prog image limit to g loaded line acts output q o) → Does prog image bound to g loaded line acts output p o
+later prog image limit to g loaded line acts {output = output} {p = p} n bound (Changed v) le l on =
     let d = on l.reached l.there in
     let some = d.some in
     let within = d.within in
@@ -127,7 +148,7 @@ later prog image limit to g line acts {output = output} {p = p} n bound (Changed
       within = omega arith;
       leads = record { reached = d.leads.reached; path = join _ watched_machine n d.spent (n + d.spent) p l.reached d.leads.reached refl l.path d.leads.path; there = d.leads.there };
     }
-later prog image limit to g line acts {output = output} {p = p} n bound (Refused kind) le l on =
+later prog image limit to g loaded line acts {output = output} {p = p} n bound (Refused kind) le l on =
     let d = on l.reached l.there in
     let some = d.some in
     let within = d.within in
@@ -137,7 +158,7 @@ later prog image limit to g line acts {output = output} {p = p} n bound (Refused
       within = omega arith;
       leads = record { reached = d.leads.reached; path = join _ watched_machine n d.spent (n + d.spent) p l.reached d.leads.reached refl l.path d.leads.path; there = d.leads.there };
     }
-later prog image limit to g line acts n bound Impossible le l on = tt
+later prog image limit to g loaded line acts n bound Impossible le l on = tt
 
 pub further : {output : List ℕ} {limit : ℕ} {p : Watched} {Target : Watched → Type 0} (n : ℕ) → n ≤ limit → 0 < n → Leads output n p Target → Leading output limit p Target
 further n le some l = record { spent = n; some = some; within = le; leads = l }
@@ -153,10 +174,10 @@ with_overflow {image} {at} {ax} {bx} {cx} {dx} {sp} {bp} {si} {di} {o} {o'} {cel
     subst (λ b. Is image at (view ax cx dx bx sp bp si di b cells stack input told) p) e s
 
 -- an order leads within so many instructions on its way: to the next order, or to where the code of a mark starts
-abbrev pub Chooses : (prog : OrderProgram) (image : List ℕ) (limit to : ℕ) (start : ℕ → ℕ) (g line : ℕ) (acts : List OrderActivation) (output : List ℕ) (p : Watched) → Way → Type 0
-Chooses prog image limit to start g line acts output p (Onward v) = Leading output limit p (Landed prog image to g line acts v)
-Chooses prog image limit to start g line acts output p (ToMark m v) = Leading output limit p (Landed prog image (start m) g line acts v)
-Chooses prog image limit to start g line acts output p Nowhere = Unit {0}
+abbrev pub Chooses : (prog : OrderProgram) (image : List ℕ) (limit to : ℕ) (start : ℕ → ℕ) (g : ℕ) (loaded : Bool) (acts : List OrderActivation) (output : List ℕ) (p : Watched) → Way → Type 0
+Chooses prog image limit to start g loaded acts output p (Onward v) = Leading output limit p (Landed prog image to g loaded acts v)
+Chooses prog image limit to start g loaded acts output p (ToMark m v) = Leading output limit p (Landed prog image (start m) g loaded acts v)
+Chooses prog image limit to start g loaded acts output p Nowhere = Unit {0}
 
 -- what an order does that writes: on its way the old output is shown and then the new one
 pub record Telling (before after : List ℕ) (limit : ℕ) (p : Watched) (Target : Watched → Type 0) : Type 0 where
@@ -167,13 +188,13 @@ pub record Telling (before after : List ℕ) (limit : ℕ) (p : Watched) (Target
   pub path : Path (λ o. (o ≡ at_work before) ⊎ (o ≡ at_work after)) watched_machine spent p reached
   pub there : Target reached
 
-abbrev pub Tells : (prog : OrderProgram) (image : List ℕ) (limit to g line : ℕ) (acts : List OrderActivation) (output : List ℕ) (p : Watched) → Outcome → Type 0
-Tells prog image limit to g line acts output p (Changed v) = Telling output v.output limit p (Landed prog image to g line acts v)
-Tells prog image limit to g line acts output p (Refused kind) = ⊥
-Tells prog image limit to g line acts output p Impossible = Unit {0}
+abbrev pub Tells : (prog : OrderProgram) (image : List ℕ) (limit to g : ℕ) (loaded : Bool) (acts : List OrderActivation) (output : List ℕ) (p : Watched) → Outcome → Type 0
+Tells prog image limit to g loaded acts output p (Changed v) = Telling output v.output limit p (Landed prog image to g loaded acts v)
+Tells prog image limit to g loaded acts output p (Refused kind) = ⊥
+Tells prog image limit to g loaded acts output p Impossible = Unit {0}
 
 -- the way after so many instructions
-further_on : {output : List ℕ} {p : Watched} {T U : Watched → Type 0} (n limit bound : ℕ) → n + limit ≤ bound → Leads output n p T → ((q : Watched) → T q → Leading output limit q U) → Leading output bound p U
+pub further_on : {output : List ℕ} {p : Watched} {T U : Watched → Type 0} (n limit bound : ℕ) → n + limit ≤ bound → Leads output n p T → ((q : Watched) → T q → Leading output limit q U) → Leading output bound p U
 further_on {p = p} n limit bound le l on =
     let d = on l.reached l.there in
     let some = d.some in
@@ -185,19 +206,19 @@ further_on {p = p} n limit bound le l on =
       leads = record { reached = d.leads.reached; path = join _ watched_machine n d.spent (n + d.spent) p l.reached d.leads.reached refl l.path d.leads.path; there = d.leads.there };
     }
 
-sooner : (prog : OrderProgram) (image : List ℕ) (limit to : ℕ) (start : ℕ → ℕ) (g line : ℕ) (acts : List OrderActivation) {output : List ℕ} {p : Watched} {T : Watched → Type 0} (n bound : ℕ) (way : Way) → n + limit ≤ bound → Leads output n p T → ((q : Watched) → T q → Chooses prog image limit to start g line acts output q way) → Chooses prog image bound to start g line acts output p way
-sooner prog image limit to start g line acts n bound (Onward v) le l on = further_on n limit bound le l on
-sooner prog image limit to start g line acts n bound (ToMark m v) le l on = further_on n limit bound le l on
-sooner prog image limit to start g line acts n bound Nowhere le l on = tt
+pub sooner : (prog : OrderProgram) (image : List ℕ) (limit to : ℕ) (start : ℕ → ℕ) (g : ℕ) (loaded : Bool) (acts : List OrderActivation) {output : List ℕ} {p : Watched} {T : Watched → Type 0} (n bound : ℕ) (way : Way) → n + limit ≤ bound → Leads output n p T → ((q : Watched) → T q → Chooses prog image limit to start g loaded acts output q way) → Chooses prog image bound to start g loaded acts output p way
+sooner prog image limit to start g loaded acts n bound (Onward v) le l on = further_on n limit bound le l on
+sooner prog image limit to start g loaded acts n bound (ToMark m v) le l on = further_on n limit bound le l on
+sooner prog image limit to start g loaded acts n bound Nowhere le l on = tt
 
 -- the tops of the stack
-top_whole : (top : ℕ) → top < 32761 → 2 * top ≡ 2 * top % 65536
+pub top_whole : (top : ℕ) → top < 32764 → 2 * top ≡ 2 * top % 65536
 top_whole top lt = omega arith
 
-top_next : (top : ℕ) → top < 32761 → 2 * suc top % 65536 ≡ 2 * suc top
+pub top_next : (top : ℕ) → top < 32764 → 2 * suc top % 65536 ≡ 2 * suc top
 top_next top lt = omega arith
 
-top_low : (top : ℕ) → top < 32761 → top < 32768
+pub top_low : (top : ℕ) → top < 32764 → top < 32768
 top_low top lt = omega arith
 
 -- a number of a word of the area
@@ -217,62 +238,76 @@ below_area laws area n low small is = cases (signed n) refl
         let same : k ≡ n = sym (unsigned_pos k short) ∙ ap unsigned (sym e) ∙ laws.forth n small in
         record { within = omega arith; same = number ∙ same }
 
-module _ (rows : Rows) (prog : OrderProgram) (image : List ℕ) (g line : ℕ) (acts : List OrderActivation) where
+-- a stop is called where the overflow flag is set
+abbrev pub Check : (image : List ℕ) → (at by line : ℕ) → Type 0
+Check image at by line = Has image at (i86.JumpIf 1 5) × (Has image (at + 2) (i86.Call by) × (HasWord image (at + 2 + 3) line × Unit {0}))
+
+module _ (rows : Rows) (prog : OrderProgram) (image : List ℕ) (g : ℕ) (acts : List OrderActivation) where
   -- the word on the stack into AX, and into BX
-  pub pop_ax : {p : Watched} {at ax cx dx bx bp si di : ℕ} {overflow : Bool} {cells stack : ℕ → ℕ} {input : List ℕ} {told : Told} (top : ℕ) → top < 32761 → Has image at (i86.Pop 0)
+  pub pop_ax : {p : Watched} {at ax cx dx bx bp si di : ℕ} {overflow : Bool} {cells stack : ℕ → ℕ} {input : List ℕ} {told : Told} (top : ℕ) → top < 32764 → Has image at (i86.Pop 0)
       → Is image at (view ax cx dx bx (2 * top) bp si di overflow cells stack input told) p → Is image (at + 1) (view (stack top) cx dx bx (2 * suc top) bp si di overflow cells stack input told) (watched_step p)
   pop_ax top lt i s = pop rows 0 top (2 * suc top) (top_low top lt) (top_whole top lt) (top_next top lt) i s
 
-  pub pop_bx : {p : Watched} {at ax cx dx bx bp si di : ℕ} {overflow : Bool} {cells stack : ℕ → ℕ} {input : List ℕ} {told : Told} (top : ℕ) → top < 32761 → Has image at (i86.Pop 3)
+  pub pop_bx : {p : Watched} {at ax cx dx bx bp si di : ℕ} {overflow : Bool} {cells stack : ℕ → ℕ} {input : List ℕ} {told : Told} (top : ℕ) → top < 32764 → Has image at (i86.Pop 3)
       → Is image at (view ax cx dx bx (2 * top) bp si di overflow cells stack input told) p → Is image (at + 1) (view ax cx dx (stack top) (2 * suc top) bp si di overflow cells stack input told) (watched_step p)
   pop_bx top lt i s = pop rows 3 top (2 * suc top) (top_low top lt) (top_whole top lt) (top_next top lt) i s
 
   -- the processor is there, with these operands and other words
-  pub landed : {p : Watched} {at ax cx dx bx si di : ℕ} {overflow : Bool} {cells stack : ℕ → ℕ} {left : List ℕ} {told : Told} (to top : ℕ) (operands : List Operand) (memory : List ℤ) (input output : List ℕ) → at ≡ to
-      → StackIs prog acts ax stack top operands → Kept prog g line acts memory input output cells stack left told
-      → Is image at (view ax cx dx bx (2 * top) (record_of acts) si di overflow cells stack left told) p → Landed prog image to g line acts (record { operands = operands; memory = memory; input = input; output = output }) p
-  landed {p} {at} {ax} {cx} {dx} {bx} {si} {di} {overflow} {cells} {stack} {left} {told} to top operands memory input output e h k s = record {
+  pub landed : {p : Watched} {at ax cx dx bx si : ℕ} {overflow : Bool} {cells stack : ℕ → ℕ} {left : List ℕ} {told : Told} (loaded : Bool) (to top : ℕ) (operands : List Operand) (memory : List ℤ) (input output : List ℕ) → at ≡ to
+      → OperandsAre prog acts loaded ax stack top operands → Kept prog g acts memory input output cells stack left told
+      → Is image at (view ax cx dx bx (2 * top) (record_of acts) si prog.limits.area overflow cells stack left told) p → Landed prog image to g loaded acts (record { operands = operands; memory = memory; input = input; output = output }) p
+  landed {p} {at} {ax} {cx} {dx} {bx} {si} {overflow} {cells} {stack} {left} {told} loaded to top operands memory input output e h k s = record {
     top = top;
     cells = cells;
     stack = stack;
     input = left;
     told = told;
-    stacked = record { ax = ax; cx = cx; dx = dx; bx = bx; si = si; di = di; overflow = overflow; is = seen e refl s };
+    stacked = record { ax = ax; cx = cx; dx = dx; bx = bx; si = si; overflow = overflow; is = seen e refl s };
     operands = h;
     kept = k;
   }
 
-  -- ---- words that are put
+  -- ---- the accumulator is freed
 
-  -- AX goes on the stack, and by a second instruction a word comes into AX
-  pub puts : {p : Watched} {at : ℕ} (to x : ℕ) (z : ℤ) (w : Words) → x ≡ unsigned z → operand_words w.operands < level acts → Has image at (i86.Push 0) → (l : Landed prog image at g line acts w p)
-      → ((q : Watched) (ax cx dx bx sp si di : ℕ) (overflow : Bool) (stack : ℕ → ℕ) → Is image (at + 1) (view ax cx dx bx sp (record_of acts) si di overflow l.cells stack l.input l.told) q → Is image to (view x cx dx bx sp (record_of acts) si di overflow l.cells stack l.input l.told) (watched_step q))
-      → Leading w.output 2 p (Landed prog image to g line acts (put z w))
-  puts {p} {at} to x z w value room i l brings = from l.top refl
+  pub saves : {p : Watched} {at : ℕ} (to : ℕ) (operands : List Operand) (memory : List ℤ) (input output : List ℕ) → at + 1 ≡ to → operand_words operands < level acts → Has image at (i86.Push 0)
+      → Landed prog image at g true acts (record { operands = operands; memory = memory; input = input; output = output }) p
+      → Leading output 1 p (Landed prog image to g false acts (record { operands = operands; memory = memory; input = input; output = output }))
+  saves to [] memory input output e room i l = absurd l.operands
+  saves to (Held c ∷ rest) memory input output e room i l = absurd l.operands
+  saves {p} {at} to (Word z ∷ rest) memory input output e room i l = from l.top refl
     where
-      from : (top : ℕ) → l.top ≡ top → Leading w.output 2 p (Landed prog image to g line acts (put z w))
-      from zero e =
-          let t = top_is prog acts l.stacked.ax l.stack l.top w.operands l.operands in
-          absurd (omega arith)
-      from (suc n) e =
+      from : (top : ℕ) → l.top ≡ top → Leading output 1 p (Landed prog image to g false acts (record { operands = Word z ∷ rest; memory = memory; input = input; output = output }))
+      from zero is = let t = top_is prog acts l.stack l.top rest l.operands.1 in absurd (omega arith)
+      from (suc n) is =
           let s = l.stacked in
-          let h : StackIs prog acts s.ax l.stack (suc n) w.operands = subst (λ t. StackIs prog acts s.ax l.stack t w.operands) e l.operands in
-          let t = top_is prog acts s.ax l.stack (suc n) w.operands h in
+          let h : StackIs prog acts l.stack (suc n) rest = subst (λ t. StackIs prog acts l.stack t rest) is l.operands.1 in
+          let t = top_is prog acts l.stack (suc n) rest h in
           let lt : n < 32768 = omega arith in
           let low : n < level acts = omega arith in
           let top : 2 * suc n ≡ 2 * suc n % 65536 = omega arith in
-          let is : Is image at (view s.ax s.cx s.dx s.bx (2 * suc n) (record_of acts) s.si s.di s.overflow l.cells l.stack l.input l.told) p = subst (λ t. Is image at (view s.ax s.cx s.dx s.bx (2 * t) (record_of acts) s.si s.di s.overflow l.cells l.stack l.input l.told) p) e s.is in
-          further 2 (lit≤ tt) (lit< tt)
-          (more rows {to = at + 1} {w = view s.ax s.cx s.dx s.bx (2 * n) (record_of acts) s.si s.di s.overflow l.cells (put_word l.stack n s.ax) l.input l.told} is l.kept.wrote (push rows 0 n lt top i is) (λ q b.
-          last rows b l.kept.wrote (landed to n (Word z ∷ w.operands) w.memory w.input w.output refl (value, stack_pushed prog acts s.ax l.stack n w.operands h) (kept_under n s.ax low l.kept) (brings q s.ax s.cx s.dx s.bx (2 * n) s.si s.di s.overflow (put_word l.stack n s.ax) b))))
+          let at_n : Is image at (view s.ax s.cx s.dx s.bx (2 * suc n) (record_of acts) s.si prog.limits.area s.overflow l.cells l.stack l.input l.told) p =
+          subst (λ t. Is image at (view s.ax s.cx s.dx s.bx (2 * t) (record_of acts) s.si prog.limits.area s.overflow l.cells l.stack l.input l.told) p) is s.is in
+          further 1 (lit≤ tt) (lit< tt)
+          (last rows at_n l.kept.wrote (landed false to n (Word z ∷ rest) memory input output e (stack_pushed prog acts l.stack n s.ax z rest l.operands.0 h) (kept_under n s.ax low l.kept) (push rows 0 n lt top i at_n)))
 
-  -- a word of the data prog.limits.area
-  pub fetches : {p : Watched} {at : ℕ} (to offset n : ℕ) (w : Words) → prog.limits.area ≤ 32768 → n < 65536 → offset ≡ 2 * n % 65536 → at + 4 ≡ to → operand_words w.operands < level acts
-      → HasAll image at (i86.Push 0 ∷ i86.MovAcc false true false offset ∷ []) → Landed prog image at g line acts w p
-      → Does prog image 2 to g line acts w.output p (unrefused (perform prog.limits.area (Fetch None) (put (signed n) w)))
-  fetches {p} {at} to offset n w low small there e room i l = cases (is_below (signed n) prog.limits.area) refl
+  -- ---- words that are put
+
+  -- by one instruction a word comes into AX, which is free
+  pub puts : {p : Watched} {at : ℕ} (to x : ℕ) (z : ℤ) (w : Words) → x ≡ unsigned z → (l : Landed prog image at g false acts w p)
+      → ((q : Watched) (ax cx dx bx sp si di : ℕ) (overflow : Bool) (stack : ℕ → ℕ) → Is image at (view ax cx dx bx sp (record_of acts) si di overflow l.cells stack l.input l.told) q → Is image to (view x cx dx bx sp (record_of acts) si di overflow l.cells stack l.input l.told) (watched_step q))
+      → Leading w.output 1 p (Landed prog image to g true acts (put z w))
+  puts {p} to x z w value l brings =
+      let s = l.stacked in
+      further 1 (lit≤ tt) (lit< tt)
+      (last rows s.is l.kept.wrote (landed true to l.top (Word z ∷ w.operands) w.memory w.input w.output refl (value, l.operands) l.kept (brings p s.ax s.cx s.dx s.bx (2 * l.top) s.si prog.limits.area s.overflow l.stack s.is)))
+
+  -- a word of the data area
+  pub fetches : {p : Watched} {at : ℕ} (to offset n line : ℕ) (w : Words) → prog.limits.area ≤ 32768 → n < 65536 → offset ≡ 2 * n % 65536 → at + 3 ≡ to
+      → Has image at (i86.MovAcc false true false offset) → Landed prog image at g false acts w p
+      → Does prog image 1 to g true line acts w.output p (unrefused (perform prog.limits.area (Fetch None) (put (signed n) w)))
+  fetches {p} {at} to offset n line w low small there e i l = cases (is_below (signed n) prog.limits.area) refl
     where
-      cases : (b : Bool) → is_below (signed n) prog.limits.area ≡ b → Does prog image 2 to g line acts w.output p (unrefused (through b (λ i v. Changed (put (word_at v.memory i) v)) (signed n) w))
+      cases : (b : Bool) → is_below (signed n) prog.limits.area ≡ b → Does prog image 1 to g true line acts w.output p (unrefused (through b (λ i v. Changed (put (word_at v.memory i) v)) (signed n) w))
       cases false is = tt
       cases true is =
           let k = number_of (signed n) in
@@ -281,96 +316,97 @@ module _ (rows : Rows) (prog : OrderProgram) (image : List ℕ) (g line : ℕ) (
           let same = f.same in
           let lt : k < 32768 = omega arith in
           let at_k : offset ≡ 2 * k = omega arith in
-          let e' : at + 1 + 3 ≡ to = omega arith in
-          puts to (l.cells k) (word_at w.memory k) w (l.kept.words k within) room i.0 l (λ q ax cx dx bx sp si di overflow stack s. seen e' refl (load_at rows offset k lt at_k i.1.0 s))
+          puts to (l.cells k) (word_at w.memory k) w (l.kept.words k within) l (λ q ax cx dx bx sp si di overflow stack s. seen e refl (load_at rows offset k lt at_k i s))
 
   -- ---- results in AX
 
   -- one that may have overflowed
-  pub checks : {p : Watched} {at ax cx dx bx si di : ℕ} {overflow : Bool} {cells stack : ℕ → ℕ} {left : List ℕ} {told : Told} (kind : StopKind) (to top by : ℕ) (z : ℤ) (operands : List Operand) (memory : List ℤ) (input output : List ℕ) → LibraryStands image → g < 255 → 0 < top
-      → at + 2 + 3 ≡ to → (at + 2 + 3 + by) % 65536 ≡ stop_place kind % 65536 → overflow ≡ not (fits_word z) → (FitsWord z → ax ≡ unsigned z)
-      → StackIs prog acts (stack top) stack (suc top) operands → Kept prog g line acts memory input output cells stack left told → HasAll image at (i86.JumpIf 1 3 ∷ i86.Call by ∷ [])
-      → Is image at (view ax cx dx bx (2 * top) (record_of acts) si di overflow cells stack left told) p
-      → Does prog image 12 to g line acts output p (put_if (fits_word z) kind z (record { operands = operands; memory = memory; input = input; output = output }))
-  checks kind to zero by z operands memory input output library few some e arrives tests value h k i s = absurd (omega arith)
-  checks {p} {at} {ax} {cx} {dx} {bx} {si} {di} {overflow} {cells} {stack} {left} {told} kind to (suc n) by z operands memory input output library few some e arrives tests value h k i s = cases (fits_word z) refl
+  pub checks : {p : Watched} {at ax cx dx bx si : ℕ} {overflow : Bool} {cells stack : ℕ → ℕ} {left : List ℕ} {told : Told} (kind : StopKind) (to top by line : ℕ) (z : ℤ) (operands : List Operand) (memory : List ℤ) (input output : List ℕ)
+      → HasLine kind → Stands image → g < 255 → 0 < top → line < 65536
+      → at + 2 + 3 + 2 ≡ to → (at + 2 + 3 + by) % 65536 ≡ stop_place kind % 65536 → overflow ≡ not (fits_word z) → (FitsWord z → ax ≡ unsigned z)
+      → StackIs prog acts stack top operands → Kept prog g acts memory input output cells stack left told → Check image at by line
+      → Is image at (view ax cx dx bx (2 * top) (record_of acts) si prog.limits.area overflow cells stack left told) p
+      → Does prog image 14 to g true line acts output p (put_if (fits_word z) kind z (record { operands = operands; memory = memory; input = input; output = output }))
+  checks kind to zero by line z operands memory input output has library few some small e arrives tests value h k i s = absurd (omega arith)
+  checks {p} {at} {ax} {cx} {dx} {bx} {si} {overflow} {cells} {stack} {left} {told} kind to (suc n) by line z operands memory input output has library few some small e arrives tests value h k i s = cases (fits_word z) refl
     where
-      cases : (b : Bool) → fits_word z ≡ b → Does prog image 12 to g line acts output p (put_if b kind z (record { operands = operands; memory = memory; input = input; output = output }))
+      cases : (b : Bool) → fits_word z ≡ b → Does prog image 14 to g true line acts output p (put_if b kind z (record { operands = operands; memory = memory; input = input; output = output }))
       cases true b =
-          further 1 (lit< tt) (lit< tt)
-          (last rows s k.wrote (landed to (suc n) (Word z ∷ operands) memory input output e (value (fits_tested z b), h) k (no_overflow rows 3 (tests ∙ ap not b) i.0 s)))
+          let e' : at + 2 + 5 ≡ to = omega arith in
+          further 1 (lit≤ tt) (lit< tt)
+          (last rows s k.wrote (landed true to (suc n) (Word z ∷ operands) memory input output e' (value (fits_tested z b), h) k (no_overflow rows 5 (tests ∙ ap not b) i.0 s)))
       cases false b =
-          let t = top_is prog acts (stack (suc n)) stack (suc (suc n)) operands h in
-          let low : n < level acts = omega arith in
+          let t = top_is prog acts stack (suc n) operands h in
+          let low : n < level acts + 3 = omega arith in
           let top : 2 * suc n ≡ 2 * suc n % 65536 = omega arith in
           let few' : g + 1 < 256 = omega arith in
-          let high : level acts ≤ 32761 = omega arith in
+          let high : level acts ≤ 32764 = omega arith in
+          let high' : level acts + 3 < 32768 = omega arith in
+          let slot : (record_of acts + 65534) % 65536 ≡ 2 * (level acts + 3) = omega arith in
           let o : told.output ≡ output = k.wrote in
-          further 12 (lit< tt) (lit< tt)
-          (more rows {to = at + 2} {w = view ax cx dx bx (2 * suc n) (record_of acts) si di overflow cells stack left told} s k.wrote (passes rows 3 (tests ∙ ap not b) i.0 s) (λ q s.
-          subst (λ x. Leads x 11 q (Over (record { output = x; end = Stopped kind (g + 1) line }))) o
-          (stops rows kind (level acts) ax cx dx bx si di n (at + 2) by (g + 1) line overflow cells stack left told library i.1.0 arrives high low (2 * suc n) top k.piled.0.number_is few' k.piled.0.line_is k.piled.0.small s)))
+          further 14 (lit≤ tt) (lit< tt)
+          (more rows {to = at + 2} {w = view ax cx dx bx (2 * suc n) (record_of acts) si prog.limits.area overflow cells stack left told} s k.wrote (passes rows 5 (tests ∙ ap not b) i.0 s) (λ q s.
+          subst (λ x. Leads x 13 q (Over (record { output = x; end = Stopped kind (g + 1) line }))) o
+          (stops rows kind (at + 2) by line n (level acts + 3) (g + 1) ax cx dx bx (record_of acts) si prog.limits.area overflow cells stack left told has library i.1.0 i.1.1.0 small arrives high' low (2 * suc n) top slot k.piled.0.number_is few' s)))
 
   -- ---- sums, differences and negatives
 
   -- AX with the sum or the difference of what it had and a number, the operands below unchanged
-  abbrev Operated : {at : ℕ} {w : Words} {p : Watched} → (l : Landed prog image at g line acts w p) → (at' a : ℕ) → Bool → Watched → Type 0
-  Operated l at' a o q = Is image at' (view a l.stacked.cx l.stacked.dx l.stacked.bx (2 * l.top) (record_of acts) l.stacked.si l.stacked.di o l.cells l.stack l.input l.told) q
+  abbrev Operated : {at : ℕ} {w : Words} {p : Watched} → (l : Landed prog image at g true acts w p) → (at' a : ℕ) → Bool → Watched → Type 0
+  Operated l at' a o q = Is image at' (view a l.stacked.cx l.stacked.dx l.stacked.bx (2 * l.top) (record_of acts) l.stacked.si prog.limits.area o l.cells l.stack l.input l.told) q
 
-  pub adds_simple : {p : Watched} {at : ℕ} (size to by n : ℕ) (y : ℤ) (w : Words) → n ≡ unsigned y → FitsWord y → LibraryStands image → g < 255 → operand_words w.operands < level acts
-      → at + size + 2 + 3 ≡ to → (at + size + 2 + 3 + by) % 65536 ≡ 26 % 65536 → All OperandFits w.operands → HasAll image (at + size) (i86.JumpIf 1 3 ∷ i86.Call by ∷ []) → (l : Landed prog image at g line acts w p)
-      → Operated l (at + size) (word_sum l.stacked.ax n) (sum_overflows l.stacked.ax n) (watched_step p) → Does prog image 13 to g line acts w.output p (perform prog.limits.area Add (put y w))
-  adds_simple {p} {at} size to by n y w value fy library few room e arrives fits i l made = from w.operands refl l.operands fits room
-    where
-      from : (operands : List Operand) → w.operands ≡ operands → StackIs prog acts l.stacked.ax l.stack l.top operands → All OperandFits operands → operand_words operands < level acts
-          → Does prog image 13 to g line acts w.output p (on_two (λ x y v. put_value (x +ℤ y) v) (Word y ∷ operands) w)
-      from [] e0 h fits room = tt
-      from (Held c ∷ rest) e0 h fits room = tt
-      from (Word x ∷ rest) e0 h fits room =
-          let s = l.stacked in
-          let t = top_is prog acts (l.stack l.top) l.stack (suc l.top) rest h.1 in
-          let some : 0 < l.top = omega arith in
-          let fx : FitsWord x = All-head OperandFits (Word x) rest fits in
-          let o : sum_overflows s.ax n ≡ not (fits_word (x +ℤ y)) = ap₂ sum_overflows h.0 value ∙ sum_overflows_is rows.words x y fx fy in
-          let v : FitsWord (x +ℤ y) → word_sum s.ax n ≡ unsigned (x +ℤ y) = λ f. ap₂ word_sum h.0 value ∙ sum_is rows.words x y fx fy f in
-          later prog image 12 to g line acts {T = Operated l (at + size) (word_sum s.ax n) (sum_overflows s.ax n)} 1 13 (put_value (x +ℤ y) (record { operands = rest; memory = w.memory; input = w.input; output = w.output })) (lit≤ tt)
-          (last rows s.is l.kept.wrote made)
-          (λ q t. checks {p = q} {at = at + size} {ax = word_sum s.ax n} {cx = s.cx} {dx = s.dx} {bx = s.bx} {si = s.si} {di = s.di} {overflow = sum_overflows s.ax n} {cells = l.cells} {stack = l.stack} {left = l.input} {told = l.told} Overflow to l.top by (x +ℤ y) rest w.memory w.input w.output library few some e arrives o v h.1 l.kept i t)
+  pub adds_simple : {p : Watched} {at : ℕ} (size to by line n : ℕ) (y : ℤ) (operands : List Operand) (memory : List ℤ) (input output : List ℕ) → n ≡ unsigned y → FitsWord y → Stands image → g < 255 → line < 65536 → operand_words operands < level acts
+      → at + size + 2 + 3 + 2 ≡ to → (at + size + 2 + 3 + by) % 65536 ≡ stop_place Overflow % 65536 → All OperandFits operands → Check image (at + size) by line
+      → (l : Landed prog image at g true acts (record { operands = operands; memory = memory; input = input; output = output }) p)
+      → Operated l (at + size) (word_sum l.stacked.ax n) (sum_overflows l.stacked.ax n) (watched_step p)
+      → Does prog image 15 to g true line acts output p (perform prog.limits.area Add (put y (record { operands = operands; memory = memory; input = input; output = output })))
+  adds_simple size to by line n y [] memory input output value fy library few small room e arrives fits i l made = tt
+  adds_simple size to by line n y (Held c ∷ rest) memory input output value fy library few small room e arrives fits i l made = tt
+  adds_simple {p} {at} size to by line n y (Word x ∷ rest) memory input output value fy library few small room e arrives fits i l made =
+      let s = l.stacked in
+      let h = l.operands in
+      let t = top_is prog acts l.stack l.top rest h.1 in
+      let some : 0 < l.top = omega arith in
+      let fx : FitsWord x = All-head OperandFits (Word x) rest fits in
+      let o : sum_overflows s.ax n ≡ not (fits_word (x +ℤ y)) = ap₂ sum_overflows h.0 value ∙ sum_overflows_is rows.words x y fx fy in
+      let v : FitsWord (x +ℤ y) → word_sum s.ax n ≡ unsigned (x +ℤ y) = λ f. ap₂ word_sum h.0 value ∙ sum_is rows.words x y fx fy f in
+      later prog image 14 to g true line acts {T = Operated l (at + size) (word_sum s.ax n) (sum_overflows s.ax n)} 1 15 (put_value (x +ℤ y) (record { operands = rest; memory = memory; input = input; output = output })) (lit≤ tt)
+      (last rows s.is l.kept.wrote made)
+      (λ q t. checks Overflow to l.top by line (x +ℤ y) rest memory input output tt library few some small e arrives o v h.1 l.kept i t)
 
-  pub subtracts_simple : {p : Watched} {at : ℕ} (size to by n : ℕ) (y : ℤ) (w : Words) → n ≡ unsigned y → FitsWord y → LibraryStands image → g < 255 → operand_words w.operands < level acts
-      → at + size + 2 + 3 ≡ to → (at + size + 2 + 3 + by) % 65536 ≡ 26 % 65536 → All OperandFits w.operands → HasAll image (at + size) (i86.JumpIf 1 3 ∷ i86.Call by ∷ []) → (l : Landed prog image at g line acts w p)
-      → Operated l (at + size) (word_difference l.stacked.ax n) (difference_overflows l.stacked.ax n) (watched_step p) → Does prog image 13 to g line acts w.output p (perform prog.limits.area Subtract (put y w))
-  subtracts_simple {p} {at} size to by n y w value fy library few room e arrives fits i l made = from w.operands refl l.operands fits room
-    where
-      from : (operands : List Operand) → w.operands ≡ operands → StackIs prog acts l.stacked.ax l.stack l.top operands → All OperandFits operands → operand_words operands < level acts
-          → Does prog image 13 to g line acts w.output p (on_two (λ x y v. put_value (x -ℤ y) v) (Word y ∷ operands) w)
-      from [] e0 h fits room = tt
-      from (Held c ∷ rest) e0 h fits room = tt
-      from (Word x ∷ rest) e0 h fits room =
-          let s = l.stacked in
-          let t = top_is prog acts (l.stack l.top) l.stack (suc l.top) rest h.1 in
-          let some : 0 < l.top = omega arith in
-          let fx : FitsWord x = All-head OperandFits (Word x) rest fits in
-          let o : difference_overflows s.ax n ≡ not (fits_word (x -ℤ y)) = ap₂ difference_overflows h.0 value ∙ difference_overflows_is rows.words x y fx fy in
-          let v : FitsWord (x -ℤ y) → word_difference s.ax n ≡ unsigned (x -ℤ y) = λ f. ap₂ word_difference h.0 value ∙ difference_is rows.words x y fx fy f in
-          later prog image 12 to g line acts {T = Operated l (at + size) (word_difference s.ax n) (difference_overflows s.ax n)} 1 13 (put_value (x -ℤ y) (record { operands = rest; memory = w.memory; input = w.input; output = w.output })) (lit≤ tt)
-          (last rows s.is l.kept.wrote made)
-          (λ q t. checks {p = q} {at = at + size} {ax = word_difference s.ax n} {cx = s.cx} {dx = s.dx} {bx = s.bx} {si = s.si} {di = s.di} {overflow = difference_overflows s.ax n} {cells = l.cells} {stack = l.stack} {left = l.input} {told = l.told} Overflow to l.top by (x -ℤ y) rest w.memory w.input w.output library few some e arrives o v h.1 l.kept i t)
+  pub subtracts_simple : {p : Watched} {at : ℕ} (size to by line n : ℕ) (y : ℤ) (operands : List Operand) (memory : List ℤ) (input output : List ℕ) → n ≡ unsigned y → FitsWord y → Stands image → g < 255 → line < 65536 → operand_words operands < level acts
+      → at + size + 2 + 3 + 2 ≡ to → (at + size + 2 + 3 + by) % 65536 ≡ stop_place Overflow % 65536 → All OperandFits operands → Check image (at + size) by line
+      → (l : Landed prog image at g true acts (record { operands = operands; memory = memory; input = input; output = output }) p)
+      → Operated l (at + size) (word_difference l.stacked.ax n) (difference_overflows l.stacked.ax n) (watched_step p)
+      → Does prog image 15 to g true line acts output p (perform prog.limits.area Subtract (put y (record { operands = operands; memory = memory; input = input; output = output })))
+  subtracts_simple size to by line n y [] memory input output value fy library few small room e arrives fits i l made = tt
+  subtracts_simple size to by line n y (Held c ∷ rest) memory input output value fy library few small room e arrives fits i l made = tt
+  subtracts_simple {p} {at} size to by line n y (Word x ∷ rest) memory input output value fy library few small room e arrives fits i l made =
+      let s = l.stacked in
+      let h = l.operands in
+      let t = top_is prog acts l.stack l.top rest h.1 in
+      let some : 0 < l.top = omega arith in
+      let fx : FitsWord x = All-head OperandFits (Word x) rest fits in
+      let o : difference_overflows s.ax n ≡ not (fits_word (x -ℤ y)) = ap₂ difference_overflows h.0 value ∙ difference_overflows_is rows.words x y fx fy in
+      let v : FitsWord (x -ℤ y) → word_difference s.ax n ≡ unsigned (x -ℤ y) = λ f. ap₂ word_difference h.0 value ∙ difference_is rows.words x y fx fy f in
+      later prog image 14 to g true line acts {T = Operated l (at + size) (word_difference s.ax n) (difference_overflows s.ax n)} 1 15 (put_value (x -ℤ y) (record { operands = rest; memory = memory; input = input; output = output })) (lit≤ tt)
+      (last rows s.is l.kept.wrote made)
+      (λ q t. checks Overflow to l.top by line (x -ℤ y) rest memory input output tt library few some small e arrives o v h.1 l.kept i t)
 
-  pub adds : {p : Watched} {at : ℕ} (to by : ℕ) (operands : List Operand) (memory : List ℤ) (input output : List ℕ) → LibraryStands image → g < 255 → at + 8 ≡ to → (at + 1 + 2 + 2 + 3 + by) % 65536 ≡ 26 % 65536
-      → All OperandFits operands → HasAll image at (i86.Pop 3 ∷ i86.AluRm 0 true true 0 (rms.Reg 3) ∷ i86.JumpIf 1 3 ∷ i86.Call by ∷ [])
-      → Landed prog image at g line acts (record { operands = operands; memory = memory; input = input; output = output }) p
-      → Does prog image 14 to g line acts output p (perform prog.limits.area Add (record { operands = operands; memory = memory; input = input; output = output }))
-  adds to by [] memory input output library few e arrives fits i l = tt
-  adds to by (Held c ∷ rest) memory input output library few e arrives fits i l = tt
-  adds to by (Word y ∷ []) memory input output library few e arrives fits i l = tt
-  adds to by (Word y ∷ Held c ∷ rest) memory input output library few e arrives fits i l = tt
-  adds {p} {at} to by (Word y ∷ Word x ∷ rest) memory input output library few e arrives fits i l =
+  pub adds : {p : Watched} {at : ℕ} (to by line : ℕ) (operands : List Operand) (memory : List ℤ) (input output : List ℕ) → Stands image → g < 255 → line < 65536 → at + 10 ≡ to → (at + 1 + 2 + 2 + 3 + by) % 65536 ≡ stop_place Overflow % 65536
+      → All OperandFits operands → Has image at (i86.Pop 3) × (Has image (at + 1) (i86.AluRm 0 true true 0 (rms.Reg 3)) × Check image (at + 1 + 2) by line)
+      → Landed prog image at g true acts (record { operands = operands; memory = memory; input = input; output = output }) p
+      → Does prog image 16 to g true line acts output p (perform prog.limits.area Add (record { operands = operands; memory = memory; input = input; output = output }))
+  adds to by line [] memory input output library few small e arrives fits i l = tt
+  adds to by line (Held c ∷ rest) memory input output library few small e arrives fits i l = tt
+  adds to by line (Word y ∷ []) memory input output library few small e arrives fits i l = tt
+  adds to by line (Word y ∷ Held c ∷ rest) memory input output library few small e arrives fits i l = tt
+  adds {p} {at} to by line (Word y ∷ Word x ∷ rest) memory input output library few small e arrives fits i l =
       let s = l.stacked in
       let k = l.kept in
       let h = l.operands in
-      let t = top_is prog acts (l.stack (suc l.top)) l.stack (suc (suc l.top)) rest h.1.1 in
-      let lt : l.top < 32761 = omega arith in
+      let t = top_is prog acts l.stack (suc l.top) rest h.1.1 in
+      let lt : l.top < 32764 = omega arith in
       let some : 0 < suc l.top = omega arith in
       let fy : FitsWord y = All-head OperandFits (Word y) (Word x ∷ rest) fits in
       let fx : FitsWord x = All-head OperandFits (Word x) rest (All-tail OperandFits (Word y) (Word x ∷ rest) fits) in
@@ -378,258 +414,237 @@ module _ (rows : Rows) (prog : OrderProgram) (image : List ℕ) (g line : ℕ) (
       let turned : y +ℤ x ≡ x +ℤ y = omega (arith, ints) in
       let o : sum_overflows s.ax n ≡ not (fits_word (x +ℤ y)) = ap₂ sum_overflows h.0 h.1.0 ∙ sum_overflows_is rows.words y x fy fx ∙ ap (λ z. not (fits_word z)) turned in
       let v : FitsWord (x +ℤ y) → word_sum s.ax n ≡ unsigned (x +ℤ y) = λ f. ap₂ word_sum h.0 h.1.0 ∙ sum_is rows.words y x fy fx (subst FitsWord (sym turned) f) ∙ ap unsigned turned in
-      let e' : at + 1 + 2 + 2 + 3 ≡ to = omega arith in
-      later prog image 12 to g line acts 2 14 (put_value (x +ℤ y) (record { operands = rest; memory = memory; input = input; output = output })) (lit≤ tt)
-      (more rows {to = at + 1} {w = view s.ax s.cx s.dx n (2 * suc l.top) (record_of acts) s.si s.di s.overflow l.cells l.stack l.input l.told} s.is k.wrote (pop_bx l.top lt i.0 s.is) (λ q t.
-      more rows {to = at + 1 + 2} {w = view (word_sum s.ax n) s.cx s.dx n (2 * suc l.top) (record_of acts) s.si s.di (sum_overflows s.ax n) l.cells l.stack l.input l.told} t k.wrote (add rows 0 3 i.1.0 t) (λ q t.
+      let e' : at + 1 + 2 + 2 + 3 + 2 ≡ to = omega arith in
+      later prog image 14 to g true line acts 2 16 (put_value (x +ℤ y) (record { operands = rest; memory = memory; input = input; output = output })) (lit≤ tt)
+      (more rows {to = at + 1} {w = view s.ax s.cx s.dx n (2 * suc l.top) (record_of acts) s.si prog.limits.area s.overflow l.cells l.stack l.input l.told} s.is k.wrote (pop_bx l.top lt i.0 s.is) (λ q t.
+      more rows {to = at + 1 + 2} {w = view (word_sum s.ax n) s.cx s.dx n (2 * suc l.top) (record_of acts) s.si prog.limits.area (sum_overflows s.ax n) l.cells l.stack l.input l.told} t k.wrote (add rows 0 3 i.1.0 t) (λ q t.
       done t)))
-      (λ q t. checks Overflow to (suc l.top) by (x +ℤ y) rest memory input output library few some e' arrives o v h.1.1 k i.1.1 t)
+      (λ q t. checks Overflow to (suc l.top) by line (x +ℤ y) rest memory input output tt library few some small e' arrives o v h.1.1 k i.1.1 t)
 
-  pub subtracts : {p : Watched} {at : ℕ} (to by : ℕ) (operands : List Operand) (memory : List ℤ) (input output : List ℕ) → LibraryStands image → g < 255 → at + 10 ≡ to → (at + 2 + 1 + 2 + 2 + 3 + by) % 65536 ≡ 26 % 65536
-      → All OperandFits operands → HasAll image at (i86.Mov true true 3 (rms.Reg 0) ∷ i86.Pop 0 ∷ i86.AluRm 5 true true 0 (rms.Reg 3) ∷ i86.JumpIf 1 3 ∷ i86.Call by ∷ [])
-      → Landed prog image at g line acts (record { operands = operands; memory = memory; input = input; output = output }) p
-      → Does prog image 15 to g line acts output p (perform prog.limits.area Subtract (record { operands = operands; memory = memory; input = input; output = output }))
-  subtracts to by [] memory input output library few e arrives fits i l = tt
-  subtracts to by (Held c ∷ rest) memory input output library few e arrives fits i l = tt
-  subtracts to by (Word y ∷ []) memory input output library few e arrives fits i l = tt
-  subtracts to by (Word y ∷ Held c ∷ rest) memory input output library few e arrives fits i l = tt
-  subtracts {p} {at} to by (Word y ∷ Word x ∷ rest) memory input output library few e arrives fits i l =
+  pub subtracts : {p : Watched} {at : ℕ} (to by line : ℕ) (operands : List Operand) (memory : List ℤ) (input output : List ℕ) → Stands image → g < 255 → line < 65536 → at + 12 ≡ to → (at + 2 + 1 + 2 + 2 + 3 + by) % 65536 ≡ stop_place Overflow % 65536
+      → All OperandFits operands → Has image at (i86.Mov true true 3 (rms.Reg 0)) × (Has image (at + 2) (i86.Pop 0) × (Has image (at + 2 + 1) (i86.AluRm 5 true true 0 (rms.Reg 3)) × Check image (at + 2 + 1 + 2) by line))
+      → Landed prog image at g true acts (record { operands = operands; memory = memory; input = input; output = output }) p
+      → Does prog image 17 to g true line acts output p (perform prog.limits.area Subtract (record { operands = operands; memory = memory; input = input; output = output }))
+  subtracts to by line [] memory input output library few small e arrives fits i l = tt
+  subtracts to by line (Held c ∷ rest) memory input output library few small e arrives fits i l = tt
+  subtracts to by line (Word y ∷ []) memory input output library few small e arrives fits i l = tt
+  subtracts to by line (Word y ∷ Held c ∷ rest) memory input output library few small e arrives fits i l = tt
+  subtracts {p} {at} to by line (Word y ∷ Word x ∷ rest) memory input output library few small e arrives fits i l =
       let s = l.stacked in
       let k = l.kept in
       let h = l.operands in
-      let t = top_is prog acts (l.stack (suc l.top)) l.stack (suc (suc l.top)) rest h.1.1 in
-      let lt : l.top < 32761 = omega arith in
+      let t = top_is prog acts l.stack (suc l.top) rest h.1.1 in
+      let lt : l.top < 32764 = omega arith in
       let some : 0 < suc l.top = omega arith in
       let fy : FitsWord y = All-head OperandFits (Word y) (Word x ∷ rest) fits in
       let fx : FitsWord x = All-head OperandFits (Word x) rest (All-tail OperandFits (Word y) (Word x ∷ rest) fits) in
       let m = l.stack l.top in
       let o : difference_overflows m s.ax ≡ not (fits_word (x -ℤ y)) = ap₂ difference_overflows h.1.0 h.0 ∙ difference_overflows_is rows.words x y fx fy in
       let v : FitsWord (x -ℤ y) → word_difference m s.ax ≡ unsigned (x -ℤ y) = λ f. ap₂ word_difference h.1.0 h.0 ∙ difference_is rows.words x y fx fy f in
-      let e' : at + 2 + 1 + 2 + 2 + 3 ≡ to = omega arith in
-      later prog image 12 to g line acts 3 15 (put_value (x -ℤ y) (record { operands = rest; memory = memory; input = input; output = output })) (lit≤ tt)
-      (more rows {to = at + 2} {w = view s.ax s.cx s.dx s.ax (2 * l.top) (record_of acts) s.si s.di s.overflow l.cells l.stack l.input l.told} s.is k.wrote (move rows 3 0 i.0 s.is) (λ q t.
-      more rows {to = at + 2 + 1} {w = view m s.cx s.dx s.ax (2 * suc l.top) (record_of acts) s.si s.di s.overflow l.cells l.stack l.input l.told} t k.wrote (pop_ax l.top lt i.1.0 t) (λ q t.
-      more rows {to = at + 2 + 1 + 2} {w = view (word_difference m s.ax) s.cx s.dx s.ax (2 * suc l.top) (record_of acts) s.si s.di (difference_overflows m s.ax) l.cells l.stack l.input l.told} t k.wrote (subtract rows 0 3 i.1.1.0 t) (λ q t.
+      let e' : at + 2 + 1 + 2 + 2 + 3 + 2 ≡ to = omega arith in
+      later prog image 14 to g true line acts 3 17 (put_value (x -ℤ y) (record { operands = rest; memory = memory; input = input; output = output })) (lit≤ tt)
+      (more rows {to = at + 2} {w = view s.ax s.cx s.dx s.ax (2 * l.top) (record_of acts) s.si prog.limits.area s.overflow l.cells l.stack l.input l.told} s.is k.wrote (move rows 3 0 i.0 s.is) (λ q t.
+      more rows {to = at + 2 + 1} {w = view m s.cx s.dx s.ax (2 * suc l.top) (record_of acts) s.si prog.limits.area s.overflow l.cells l.stack l.input l.told} t k.wrote (pop_ax l.top lt i.1.0 t) (λ q t.
+      more rows {to = at + 2 + 1 + 2} {w = view (word_difference m s.ax) s.cx s.dx s.ax (2 * suc l.top) (record_of acts) s.si prog.limits.area (difference_overflows m s.ax) l.cells l.stack l.input l.told} t k.wrote (subtract rows 0 3 i.1.1.0 t) (λ q t.
       done t))))
-      (λ q t. checks Overflow to (suc l.top) by (x -ℤ y) rest memory input output library few some e' arrives o v h.1.1 k i.1.1.1 t)
+      (λ q t. checks Overflow to (suc l.top) by line (x -ℤ y) rest memory input output tt library few some small e' arrives o v h.1.1 k i.1.1.1 t)
 
-  pub negates : {p : Watched} {at : ℕ} (to by : ℕ) (operands : List Operand) (memory : List ℤ) (input output : List ℕ) → LibraryStands image → g < 255 → operand_words operands < level acts → at + 7 ≡ to → (at + 2 + 2 + 3 + by) % 65536 ≡ 26 % 65536
-      → All OperandFits operands → HasAll image at (i86.Unary 3 true (rms.Reg 0) ∷ i86.JumpIf 1 3 ∷ i86.Call by ∷ [])
-      → Landed prog image at g line acts (record { operands = operands; memory = memory; input = input; output = output }) p
-      → Does prog image 13 to g line acts output p (perform prog.limits.area Negate (record { operands = operands; memory = memory; input = input; output = output }))
-  negates to by [] memory input output library few room e arrives fits i l = tt
-  negates to by (Held c ∷ rest) memory input output library few room e arrives fits i l = tt
-  negates {p} {at} to by (Word x ∷ rest) memory input output library few room e arrives fits i l =
+  pub negates : {p : Watched} {at : ℕ} (to by line : ℕ) (operands : List Operand) (memory : List ℤ) (input output : List ℕ) → Stands image → g < 255 → line < 65536 → operand_words operands < level acts → at + 9 ≡ to → (at + 2 + 2 + 3 + by) % 65536 ≡ stop_place Overflow % 65536
+      → All OperandFits operands → Has image at (i86.Unary 3 true (rms.Reg 0)) × Check image (at + 2) by line
+      → Landed prog image at g true acts (record { operands = operands; memory = memory; input = input; output = output }) p
+      → Does prog image 15 to g true line acts output p (perform prog.limits.area Negate (record { operands = operands; memory = memory; input = input; output = output }))
+  negates to by line [] memory input output library few small room e arrives fits i l = tt
+  negates to by line (Held c ∷ rest) memory input output library few small room e arrives fits i l = tt
+  negates {p} {at} to by line (Word x ∷ rest) memory input output library few small room e arrives fits i l =
       let s = l.stacked in
       let k = l.kept in
       let h = l.operands in
-      let t = top_is prog acts (l.stack l.top) l.stack (suc l.top) rest h.1 in
+      let t = top_is prog acts l.stack l.top rest h.1 in
       let some : 0 < l.top = omega arith in
       let fx : FitsWord x = All-head OperandFits (Word x) rest fits in
       let o : difference_overflows 0 s.ax ≡ not (fits_word (neg_ℤ x)) = ap (difference_overflows 0) h.0 ∙ negative_overflows_is rows.words x fx in
       let v : FitsWord (neg_ℤ x) → word_difference 0 s.ax ≡ unsigned (neg_ℤ x) = λ f. ap (word_difference 0) h.0 ∙ negative_is rows.words x fx f in
-      let e' : at + 2 + 2 + 3 ≡ to = omega arith in
-      later prog image 12 to g line acts 1 13 (put_value (neg_ℤ x) (record { operands = rest; memory = memory; input = input; output = output })) (lit≤ tt)
-      (more rows {to = at + 2} {w = view (word_difference 0 s.ax) s.cx s.dx s.bx (2 * l.top) (record_of acts) s.si s.di (difference_overflows 0 s.ax) l.cells l.stack l.input l.told} s.is k.wrote (negate rows 0 i.0 s.is) (λ q t.
+      let e' : at + 2 + 2 + 3 + 2 ≡ to = omega arith in
+      later prog image 14 to g true line acts 1 15 (put_value (neg_ℤ x) (record { operands = rest; memory = memory; input = input; output = output })) (lit≤ tt)
+      (more rows {to = at + 2} {w = view (word_difference 0 s.ax) s.cx s.dx s.bx (2 * l.top) (record_of acts) s.si prog.limits.area (difference_overflows 0 s.ax) l.cells l.stack l.input l.told} s.is k.wrote (negate rows 0 i.0 s.is) (λ q t.
       done t))
-      (λ q t. checks Overflow to l.top by (neg_ℤ x) rest memory input output library few some e' arrives o v h.1 k i.1 t)
+      (λ q t. checks Overflow to l.top by line (neg_ℤ x) rest memory input output tt library few some small e' arrives o v h.1 k i.1 t)
 
-  -- ---- words of the data prog.limits.area
+  -- ---- words of the data area
 
-  loads_word : {p : Watched} {at : ℕ} (to : ℕ) (a : ℤ) (b : Bool) (rest : List Operand) (memory : List ℤ) (input output : List ℕ) → prog.limits.area ≤ 32768 → is_below a prog.limits.area ≡ b → at + 6 ≡ to
-      → HasAll image at (i86.Mov true true 3 (rms.Reg 0) ∷ i86.Shift 4 true false (rms.Reg 3) ∷ i86.Mov true true 0 at_bx ∷ [])
-      → Landed prog image at g line acts (record { operands = Word a ∷ rest; memory = memory; input = input; output = output }) p
-      → Does prog image 3 to g line acts output p (unrefused (through b (λ i v. Changed (put (word_at v.memory i) v)) a (record { operands = rest; memory = memory; input = input; output = output })))
-  loads_word to a false rest memory input output low is e i l = tt
-  loads_word to (negsuc n) true rest memory input output low is e i l = absurd (false≢true is)
-  loads_word {p} {at} to (pos n) true rest memory input output low is e i l =
+  loads_word : {p : Watched} {at : ℕ} (to line : ℕ) (a : ℤ) (b : Bool) (rest : List Operand) (memory : List ℤ) (input output : List ℕ) → prog.limits.area ≤ 32768 → is_below a prog.limits.area ≡ b → at + 5 ≡ to
+      → HasAll image at (i86.XchgAx 3 ∷ i86.Shift 4 true false (rms.Reg 3) ∷ i86.Mov true true 0 at_bx ∷ [])
+      → Landed prog image at g true acts (record { operands = Word a ∷ rest; memory = memory; input = input; output = output }) p
+      → Does prog image 3 to g true line acts output p (unrefused (through b (λ i v. Changed (put (word_at v.memory i) v)) a (record { operands = rest; memory = memory; input = input; output = output })))
+  loads_word to line a false rest memory input output low is e i l = tt
+  loads_word to line (negsuc n) true rest memory input output low is e i l = absurd (false≢true is)
+  loads_word {p} {at} to line (pos n) true rest memory input output low is e i l =
       let s = l.stacked in
       let k = l.kept in
       let h = l.operands in
       let within : n < prog.limits.area = ltb-true n prog.limits.area is in
       let lt : n < 32768 = omega arith in
       let small : n < 65536 = omega arith in
-      let e' : at + 2 + 2 + 2 ≡ to = omega arith in
+      let e' : at + 1 + 2 + 2 ≡ to = omega arith in
       let ax : s.ax ≡ n = h.0 ∙ unsigned_pos n small in
       further 3 (lit≤ tt) (lit< tt)
-      (more rows {to = at + 2} {w = view s.ax s.cx s.dx n (2 * l.top) (record_of acts) s.si s.di s.overflow l.cells l.stack l.input l.told} s.is k.wrote (with_bx ax (move rows 3 0 i.0 s.is)) (λ q t.
-      more rows {to = at + 2 + 2} {w = view s.ax s.cx s.dx (2 * n) (2 * l.top) (record_of acts) s.si s.di (double_overflows n) l.cells l.stack l.input l.told} t k.wrote (double rows 3 lt i.1.0 t) (λ q t.
-      last rows t k.wrote (landed to l.top (Word (word_at memory n) ∷ rest) memory input output e' (k.words n within, h.1) k (load rows 0 n lt refl i.1.1.0 t)))))
+      (more rows {to = at + 1} {w = view s.bx s.cx s.dx n (2 * l.top) (record_of acts) s.si prog.limits.area s.overflow l.cells l.stack l.input l.told} s.is k.wrote (with_bx ax (exchange rows i.0 s.is)) (λ q t.
+      more rows {to = at + 1 + 2} {w = view s.bx s.cx s.dx (2 * n) (2 * l.top) (record_of acts) s.si prog.limits.area (double_overflows n) l.cells l.stack l.input l.told} t k.wrote (double rows 3 lt i.1.0 t) (λ q t.
+      last rows t k.wrote (landed true to l.top (Word (word_at memory n) ∷ rest) memory input output e' (k.words n within, h.1) k (load rows 0 n lt refl i.1.1.0 t)))))
 
-  pub loads : {p : Watched} {at : ℕ} (to : ℕ) (operands : List Operand) (memory : List ℤ) (input output : List ℕ) → prog.limits.area ≤ 32768 → at + 6 ≡ to
-      → HasAll image at (i86.Mov true true 3 (rms.Reg 0) ∷ i86.Shift 4 true false (rms.Reg 3) ∷ i86.Mov true true 0 at_bx ∷ [])
-      → Landed prog image at g line acts (record { operands = operands; memory = memory; input = input; output = output }) p
-      → Does prog image 3 to g line acts output p (unrefused (perform prog.limits.area (Fetch None) (record { operands = operands; memory = memory; input = input; output = output })))
-  loads to [] memory input output low e i l = tt
-  loads to (Held c ∷ rest) memory input output low e i l = tt
-  loads to (Word a ∷ rest) memory input output low e i l = loads_word to a (is_below a prog.limits.area) rest memory input output low refl e i l
+  pub loads : {p : Watched} {at : ℕ} (to line : ℕ) (operands : List Operand) (memory : List ℤ) (input output : List ℕ) → prog.limits.area ≤ 32768 → at + 5 ≡ to
+      → HasAll image at (i86.XchgAx 3 ∷ i86.Shift 4 true false (rms.Reg 3) ∷ i86.Mov true true 0 at_bx ∷ [])
+      → Landed prog image at g true acts (record { operands = operands; memory = memory; input = input; output = output }) p
+      → Does prog image 3 to g true line acts output p (unrefused (perform prog.limits.area (Fetch None) (record { operands = operands; memory = memory; input = input; output = output })))
+  loads to line [] memory input output low e i l = tt
+  loads to line (Held c ∷ rest) memory input output low e i l = tt
+  loads to line (Word a ∷ rest) memory input output low e i l = loads_word to line a (is_below a prog.limits.area) rest memory input output low refl e i l
 
-  stores_word : {p : Watched} {at : ℕ} (to : ℕ) (a : ℤ) (b : Bool) (z : ℤ) (rest : List Operand) (memory : List ℤ) (input output : List ℕ) → prog.limits.area ≤ 32768 → is_below a prog.limits.area ≡ b → at + 8 ≡ to
-      → HasAll image at (i86.Mov true true 3 (rms.Reg 0) ∷ i86.Shift 4 true false (rms.Reg 3) ∷ i86.Pop 0 ∷ i86.Mov true false 0 at_bx ∷ i86.Pop 0 ∷ [])
-      → Landed prog image at g line acts (record { operands = Word a ∷ Word z ∷ rest; memory = memory; input = input; output = output }) p
-      → Does prog image 5 to g line acts output p (unrefused (through b (λ i t. Changed (with_memory t (set t.memory i z))) a (record { operands = rest; memory = memory; input = input; output = output })))
-  stores_word to a false z rest memory input output low is e i l = tt
-  stores_word to (negsuc n) true z rest memory input output low is e i l = absurd (false≢true is)
-  stores_word {p} {at} to (pos n) true z rest memory input output low is e i l =
+  stores_word : {p : Watched} {at : ℕ} (to line : ℕ) (a : ℤ) (b : Bool) (z : ℤ) (rest : List Operand) (memory : List ℤ) (input output : List ℕ) → prog.limits.area ≤ 32768 → is_below a prog.limits.area ≡ b → at + 7 ≡ to
+      → HasAll image at (i86.Mov true true 3 (rms.Reg 0) ∷ i86.Shift 4 true false (rms.Reg 3) ∷ i86.Pop 0 ∷ i86.Mov true false 0 at_bx ∷ [])
+      → Landed prog image at g true acts (record { operands = Word a ∷ Word z ∷ rest; memory = memory; input = input; output = output }) p
+      → Does prog image 4 to g false line acts output p (unrefused (through b (λ i t. Changed (with_memory t (set t.memory i z))) a (record { operands = rest; memory = memory; input = input; output = output })))
+  stores_word to line a false z rest memory input output low is e i l = tt
+  stores_word to line (negsuc n) true z rest memory input output low is e i l = absurd (false≢true is)
+  stores_word {p} {at} to line (pos n) true z rest memory input output low is e i l =
       let s = l.stacked in
       let k = l.kept in
       let h = l.operands in
-      let t = top_is prog acts (l.stack (suc l.top)) l.stack (suc (suc l.top)) rest h.1.1 in
-      let top : l.top < 32761 = omega arith in
-      let next : suc l.top < 32761 = omega arith in
+      let t = top_is prog acts l.stack (suc l.top) rest h.1.1 in
+      let top : l.top < 32764 = omega arith in
       let within : n < prog.limits.area = ltb-true n prog.limits.area is in
       let lt : n < 32768 = omega arith in
       let small : n < 65536 = omega arith in
-      let e' : at + 2 + 2 + 1 + 2 + 1 ≡ to = omega arith in
+      let e' : at + 2 + 2 + 1 + 2 ≡ to = omega arith in
       let ax : s.ax ≡ n = h.0 ∙ unsigned_pos n small in
-      further 5 (lit≤ tt) (lit< tt)
-      (more rows {to = at + 2} {w = view s.ax s.cx s.dx n (2 * l.top) (record_of acts) s.si s.di s.overflow l.cells l.stack l.input l.told} s.is k.wrote (with_bx ax (move rows 3 0 i.0 s.is)) (λ q t.
-      more rows {to = at + 2 + 2} {w = view s.ax s.cx s.dx (2 * n) (2 * l.top) (record_of acts) s.si s.di (double_overflows n) l.cells l.stack l.input l.told} t k.wrote (double rows 3 lt i.1.0 t) (λ q t.
-      more rows {to = at + 2 + 2 + 1} {w = view (unsigned z) s.cx s.dx (2 * n) (2 * suc l.top) (record_of acts) s.si s.di (double_overflows n) l.cells l.stack l.input l.told} t k.wrote (with_ax h.1.0 (pop_ax l.top top i.1.1.0 t)) (λ q t.
-      more rows {to = at + 2 + 2 + 1 + 2} {w = view (unsigned z) s.cx s.dx (2 * n) (2 * suc l.top) (record_of acts) s.si s.di (double_overflows n) (put_word l.cells n (unsigned z)) l.stack l.input l.told} t k.wrote (store rows 0 n lt refl i.1.1.1.0 t) (λ q t.
-      last rows t k.wrote (landed to (suc (suc l.top)) rest (set memory n z) input output e' h.1.1 (kept_stored n z within k) (pop_ax (suc l.top) next i.1.1.1.1.0 t)))))))
+      further 4 (lit≤ tt) (lit< tt)
+      (more rows {to = at + 2} {w = view s.ax s.cx s.dx n (2 * l.top) (record_of acts) s.si prog.limits.area s.overflow l.cells l.stack l.input l.told} s.is k.wrote (with_bx ax (move rows 3 0 i.0 s.is)) (λ q t.
+      more rows {to = at + 2 + 2} {w = view s.ax s.cx s.dx (2 * n) (2 * l.top) (record_of acts) s.si prog.limits.area (double_overflows n) l.cells l.stack l.input l.told} t k.wrote (double rows 3 lt i.1.0 t) (λ q t.
+      more rows {to = at + 2 + 2 + 1} {w = view (unsigned z) s.cx s.dx (2 * n) (2 * suc l.top) (record_of acts) s.si prog.limits.area (double_overflows n) l.cells l.stack l.input l.told} t k.wrote (with_ax h.1.0 (pop_ax l.top top i.1.1.0 t)) (λ q t.
+      last rows t k.wrote (landed false to (suc l.top) rest (set memory n z) input output e' h.1.1 (kept_stored n z within k) (store rows 0 n lt refl i.1.1.1.0 t))))))
 
-  pub stores : {p : Watched} {at : ℕ} (to : ℕ) (operands : List Operand) (memory : List ℤ) (input output : List ℕ) → prog.limits.area ≤ 32768 → at + 8 ≡ to
-      → HasAll image at (i86.Mov true true 3 (rms.Reg 0) ∷ i86.Shift 4 true false (rms.Reg 3) ∷ i86.Pop 0 ∷ i86.Mov true false 0 at_bx ∷ i86.Pop 0 ∷ [])
-      → Landed prog image at g line acts (record { operands = operands; memory = memory; input = input; output = output }) p
-      → Does prog image 5 to g line acts output p (unrefused (perform prog.limits.area (Store None) (record { operands = operands; memory = memory; input = input; output = output })))
-  stores to [] memory input output low e i l = tt
-  stores to (Held c ∷ rest) memory input output low e i l = tt
-  stores to (Word a ∷ []) memory input output low e i l = tt
-  stores to (Word a ∷ Held c ∷ rest) memory input output low e i l = tt
-  stores to (Word a ∷ Word z ∷ rest) memory input output low e i l = stores_word to a (is_below a prog.limits.area) z rest memory input output low refl e i l
+  pub stores : {p : Watched} {at : ℕ} (to line : ℕ) (operands : List Operand) (memory : List ℤ) (input output : List ℕ) → prog.limits.area ≤ 32768 → at + 7 ≡ to
+      → HasAll image at (i86.Mov true true 3 (rms.Reg 0) ∷ i86.Shift 4 true false (rms.Reg 3) ∷ i86.Pop 0 ∷ i86.Mov true false 0 at_bx ∷ [])
+      → Landed prog image at g true acts (record { operands = operands; memory = memory; input = input; output = output }) p
+      → Does prog image 4 to g false line acts output p (unrefused (perform prog.limits.area (Store None) (record { operands = operands; memory = memory; input = input; output = output })))
+  stores to line [] memory input output low e i l = tt
+  stores to line (Held c ∷ rest) memory input output low e i l = tt
+  stores to line (Word a ∷ []) memory input output low e i l = tt
+  stores to line (Word a ∷ Held c ∷ rest) memory input output low e i l = tt
+  stores to line (Word a ∷ Word z ∷ rest) memory input output low e i l = stores_word to line a (is_below a prog.limits.area) z rest memory input output low refl e i l
 
-  -- the top operand goes to a word of the data prog.limits.area
-  pub assigns : {p : Watched} {at : ℕ} (to offset n : ℕ) (operands : List Operand) (memory : List ℤ) (input output : List ℕ) → prog.limits.area ≤ 32768 → n < 65536 → offset ≡ 2 * n % 65536 → at + 4 ≡ to
-      → HasAll image at (i86.MovAcc false true true offset ∷ i86.Pop 0 ∷ []) → Landed prog image at g line acts (record { operands = operands; memory = memory; input = input; output = output }) p
-      → Does prog image 2 to g line acts output p (unrefused (perform prog.limits.area (Store None) (record { operands = Word (signed n) ∷ operands; memory = memory; input = input; output = output })))
-  assigns to offset n [] memory input output low small there e i l = tt
-  assigns to offset n (Held c ∷ rest) memory input output low small there e i l = tt
-  assigns {p} {at} to offset n (Word z ∷ rest) memory input output low small there e i l = cases (is_below (signed n) prog.limits.area) refl
+  -- the top operand goes to a word of the data area
+  pub assigns : {p : Watched} {at : ℕ} (to offset n line : ℕ) (operands : List Operand) (memory : List ℤ) (input output : List ℕ) → prog.limits.area ≤ 32768 → n < 65536 → offset ≡ 2 * n % 65536 → at + 3 ≡ to
+      → Has image at (i86.MovAcc false true true offset) → Landed prog image at g true acts (record { operands = operands; memory = memory; input = input; output = output }) p
+      → Does prog image 1 to g false line acts output p (unrefused (perform prog.limits.area (Store None) (record { operands = Word (signed n) ∷ operands; memory = memory; input = input; output = output })))
+  assigns to offset n line [] memory input output low small there e i l = tt
+  assigns to offset n line (Held c ∷ rest) memory input output low small there e i l = tt
+  assigns {p} {at} to offset n line (Word z ∷ rest) memory input output low small there e i l = cases (is_below (signed n) prog.limits.area) refl
     where
-      cases : (b : Bool) → is_below (signed n) prog.limits.area ≡ b → Does prog image 2 to g line acts output p (unrefused (through b (λ i t. Changed (with_memory t (set t.memory i z))) (signed n) (record { operands = rest; memory = memory; input = input; output = output })))
+      cases : (b : Bool) → is_below (signed n) prog.limits.area ≡ b → Does prog image 1 to g false line acts output p (unrefused (through b (λ i t. Changed (with_memory t (set t.memory i z))) (signed n) (record { operands = rest; memory = memory; input = input; output = output })))
       cases false is = tt
       cases true is =
           let s = l.stacked in
           let k = l.kept in
           let h = l.operands in
-          let t = top_is prog acts (l.stack l.top) l.stack (suc l.top) rest h.1 in
-          let top : l.top < 32761 = omega arith in
           let m = number_of (signed n) in
           let f = below_area rows.words prog.limits.area n low small is in
           let within = f.within in
           let same = f.same in
           let lt : m < 32768 = omega arith in
           let at_m : offset ≡ 2 * m = omega arith in
-          let e' : at + 3 + 1 ≡ to = omega arith in
-          further 2 (lit≤ tt) (lit< tt)
-          (more rows {to = at + 3} {w = view (unsigned z) s.cx s.dx s.bx (2 * l.top) (record_of acts) s.si s.di s.overflow (put_word l.cells m (unsigned z)) l.stack l.input l.told} s.is k.wrote (store_at rows offset m lt at_m i.0 (with_ax h.0 s.is)) (λ q t.
-          last rows t k.wrote (landed to (suc l.top) rest (set memory m z) input output e' h.1 (kept_stored m z within k) (pop_ax l.top top i.1.0 t))))
+          further 1 (lit≤ tt) (lit< tt)
+          (last rows s.is k.wrote (landed false to l.top rest (set memory m z) input output e h.1 (kept_stored m z within k) (store_at rows offset m lt at_m i (with_ax h.0 s.is))))
 
-  -- ---- lines
+  -- ---- the start of a statement
 
   -- whatever the observer has noted
-  pub line_set : {p : Watched} {at : ℕ} (places : List StatementPlace) (area : ℕ) (begun : List Begun) (to n : ℕ) (w : Words) → Ignores image places → begun ≡ [] → at + 5 ≡ to → n < 65536 → Has image at (i86.MovRm (slot line_slot) (imm.Word n)) → Landed prog image at g line acts w p
-      → Landed prog image to g n acts w (record { places = places; area = area; processor = processor_step p.processor; begun = begun })
-  line_set {p} {at} places area begun to n w ignores silent e small i l =
+  pub idles : {p : Watched} {at : ℕ} (places : List StatementPlace) (area : ℕ) (begun : List Begun) (to : ℕ) (loaded : Bool) (w : Words) → Ignores image places → begun ≡ [] → at + 1 ≡ to → Has image at nothing → Landed prog image at g loaded acts w p
+      → Landed prog image to g loaded acts w (record { places = places; area = area; processor = processor_step p.processor; begun = begun })
+  idles places area begun to loaded w ignores silent e i l =
       let s = l.stacked in
-      let k = l.kept in
-      let r = level acts in
-      let high : r ≤ 32761 = omega arith in
-      let is_slot : (record_of acts + 65534) % 65536 ≡ 2 * (r + 4) = omega arith in
-      let new : ℕ → ℕ = put_word l.stack (r + 4) n in
-      let same : (j : ℕ) → j ≢ r + 4 → new j ≡ l.stack j = put_off l.stack (r + 4) n in
-      let rest : SameFrom (r + 5) l.stack new = λ j le. same j (λ e. omega arith) in
       record {
         top = l.top;
         cells = l.cells;
-        stack = new;
+        stack = l.stack;
         input = l.input;
         told = l.told;
-        stacked = record { ax = s.ax; cx = s.cx; dx = s.dx; bx = s.bx; si = s.si; di = s.di; overflow = s.overflow; is = seen e refl (slot_set rows places area begun 0xFE n (r + 4) ignores silent (omega arith) is_slot i s.is) };
-        operands = stack_below prog acts s.ax l.stack new l.top w.operands (λ j le lt. same j (λ e. omega arith)) l.operands;
-        kept = record {
-          words = k.words;
-          long = k.long;
-          piled = (
-            record {
-              top_is = same r (λ e. omega arith) ∙ k.piled.0.top_is;
-              base_is = same (r + 1) (λ e. omega arith) ∙ k.piled.0.base_is;
-              left_is = same (r + 2) (λ e. omega arith) ∙ k.piled.0.left_is;
-              number_is = same (r + 3) (λ e. omega arith) ∙ k.piled.0.number_is;
-              line_is = put_at l.stack (r + 4) n;
-              small = small;
-              few = k.piled.0.few;
-            },
-            callers_same prog l.stack new acts rest k.piled.1,
-          );
-          read = k.read;
-          wrote = k.wrote;
-          kind = k.kind;
-        };
+        stacked = record { ax = s.ax; cx = s.cx; dx = s.dx; bx = s.bx; si = s.si; overflow = s.overflow; is = seen e refl (idle rows places area begun ignores silent i s.is) };
+        operands = l.operands;
+        kept = l.kept;
       }
-
-  -- where no statement begins
-  pub sets_line : {p : Watched} {at : ℕ} (to n : ℕ) (w : Words) → at + 5 ≡ to → n < 65536 → Has image at (i86.MovRm (slot line_slot) (imm.Word n)) → lines_at p.places at ≡ [] → Landed prog image at g line acts w p
-      → Leading w.output 1 p (Landed prog image to g n acts w)
-  unfolding watched_step
-  sets_line {p} to n w e small i none l =
-      let s = l.stacked in
-      further 1 (lit< tt) (lit< tt) (last rows s.is l.kept.wrote (line_set p.places p.area (watched_step p).begun to n w s.is.ignores (silent_at (i86.MovRm (slot line_slot) (imm.Word n)) (omega arith) i none s.is) e small i l))
 
   -- ---- output
 
-  -- the byte is written, and then the next operand comes to AX
-  pub writes : {p : Watched} {at : ℕ} (to : ℕ) (operands : List Operand) (memory : List ℤ) (input output : List ℕ) → at + 3 ≡ to → HasAll image at (i86.Out 0x12 ∷ i86.Pop 0 ∷ [])
-      → Landed prog image at g line acts (record { operands = operands; memory = memory; input = input; output = output }) p
-      → Tells prog image 2 to g line acts output p (perform prog.limits.area WriteByte (record { operands = operands; memory = memory; input = input; output = output }))
+  -- the byte in AX is written
+  out_low : {p : Watched} {at cx dx bx si : ℕ} {overflow : Bool} {cells stack : ℕ → ℕ} {left : List ℕ} {told : Told} (x : ℤ) (to top : ℕ) (rest : List Operand) (memory : List ℤ) (input output : List ℕ) → at + 2 ≡ to → Has image at (i86.Out 0x12)
+      → StackIs prog acts stack top rest → Kept prog g acts memory input output cells stack left told
+      → Is image at (view (unsigned x) cx dx bx (2 * top) (record_of acts) si prog.limits.area overflow cells stack left told) p
+      → Landed prog image to g false acts (record { operands = rest; memory = memory; input = input; output = output ++ byte_of x ∷ [] }) (watched_step p)
+  out_low {told = told} x to top rest memory input output e i h k s =
+      landed false to top rest memory input (output ++ byte_of x ∷ []) e h
+      (record { words = k.words; long = k.long; piled = k.piled; read = k.read; wrote = ap (λ o. o ++ byte_of x ∷ []) k.wrote; kind = k.kind }) (out rows 0x12 i s)
+
+  -- the argument is on the stack
+  pub writes : {p : Watched} {at : ℕ} (to : ℕ) (operands : List Operand) (memory : List ℤ) (input output : List ℕ) → at + 3 ≡ to → HasAll image at (i86.Pop 0 ∷ i86.Out 0x12 ∷ [])
+      → Landed prog image at g false acts (record { operands = operands; memory = memory; input = input; output = output }) p
+      → Tells prog image 2 to g false acts output p (perform prog.limits.area WriteByte (record { operands = operands; memory = memory; input = input; output = output }))
   writes to [] memory input output e i l = tt
   writes to (Held c ∷ rest) memory input output e i l = tt
   writes {p} {at} to (Word x ∷ rest) memory input output e i l =
       let s = l.stacked in
       let k = l.kept in
       let h = l.operands in
-      let t = top_is prog acts (l.stack l.top) l.stack (suc l.top) rest h.1 in
-      let lt : l.top < 32761 = omega arith in
-      let e' : at + 2 + 1 ≡ to = omega arith in
-      let after = output ++ byte_of x ∷ [] in
-      let told : Told = with_given 0x12 (unsigned x % 256) l.told in
-      let wrote : told.output ≡ after = ap (λ o. o ++ byte_of x ∷ []) k.wrote in
-      let first : Is image (at + 2) (view (unsigned x) s.cx s.dx s.bx (2 * l.top) (record_of acts) s.si s.di s.overflow l.cells l.stack l.input told) (watched_step p) = out rows 0x12 i.0 (with_ax h.0 s.is) in
-      let second : Is image (at + 2 + 1) (view (l.stack l.top) s.cx s.dx s.bx (2 * suc l.top) (record_of acts) s.si s.di s.overflow l.cells l.stack l.input told) (watched_step (watched_step p)) = pop_ax l.top lt i.1.0 first in
+      let t = top_is prog acts l.stack (suc l.top) rest h.1 in
+      let lt : l.top < 32764 = omega arith in
+      let e' : at + 1 + 2 ≡ to = omega arith in
+      let first : Is image (at + 1) (view (unsigned x) s.cx s.dx s.bx (2 * suc l.top) (record_of acts) s.si prog.limits.area s.overflow l.cells l.stack l.input l.told) (watched_step p) = with_ax h.0 (pop_ax l.top lt i.0 s.is) in
       record {
         spent = 2;
         some = lit< tt;
         within = lit≤ tt;
         reached = watched_step (watched_step p);
-        path = next (inl (shows rows s.is k.wrote)) refl (let c : 2 ≡ 1 + 1 = omega arith in c) (next (inr (shows rows first wrote)) refl (let c : 1 ≡ 1 + 0 = omega arith in c) (stay refl refl));
-        there = landed to (suc l.top) rest memory input after e' h.1 (record { words = k.words; long = k.long; piled = k.piled; read = k.read; wrote = wrote; kind = k.kind }) second;
+        path = next (inl (shows rows s.is k.wrote)) refl (let c : 2 ≡ 1 + 1 = omega arith in c) (next (inl (shows rows first k.wrote)) refl (let c : 1 ≡ 1 + 0 = omega arith in c) (stay refl refl));
+        there = out_low x to (suc l.top) rest memory input output e' i.1.0 h.1 k first;
+      }
+
+  -- the argument is in the accumulator
+  pub writes_top : {p : Watched} {at : ℕ} (to : ℕ) (operands : List Operand) (memory : List ℤ) (input output : List ℕ) → at + 2 ≡ to → Has image at (i86.Out 0x12)
+      → Landed prog image at g true acts (record { operands = operands; memory = memory; input = input; output = output }) p
+      → Tells prog image 1 to g false acts output p (perform prog.limits.area WriteByte (record { operands = operands; memory = memory; input = input; output = output }))
+  writes_top to [] memory input output e i l = tt
+  writes_top to (Held c ∷ rest) memory input output e i l = tt
+  writes_top {p} {at} to (Word x ∷ rest) memory input output e i l =
+      let s = l.stacked in
+      let k = l.kept in
+      let h = l.operands in
+      record {
+        spent = 1;
+        some = lit< tt;
+        within = lit≤ tt;
+        reached = watched_step p;
+        path = next (inl (shows rows s.is k.wrote)) refl (let c : 1 ≡ 1 + 0 = omega arith in c) (stay refl refl);
+        there = out_low x to l.top rest memory input output e i h.1 k (with_ax h.0 s.is);
       }
 
   -- ---- jumps
 
-  pub jumps : {p : Watched} {at : ℕ} (to by : ℕ) (w : Words) → (at + 3 + by) % 65536 ≡ to % 65536 → Has image at (i86.Jump by) → Landed prog image at g line acts w p
-      → Leading w.output 1 p (Landed prog image to g line acts w)
-  jumps {p} {at} to by w arrives i l =
+  pub jumps : {p : Watched} {at : ℕ} (to by : ℕ) (loaded : Bool) (w : Words) → (at + 3 + by) % 65536 ≡ to % 65536 → Has image at (i86.Jump by) → Landed prog image at g loaded acts w p
+      → Leading w.output 1 p (Landed prog image to g loaded acts w)
+  jumps to by loaded w arrives i l =
       let s = l.stacked in
-      further 1 (lit≤ tt) (lit< tt) (last rows s.is l.kept.wrote (landed to l.top w.operands w.memory w.input w.output refl l.operands l.kept (to_place arrives (near rows by i s.is))))
+      further 1 (lit≤ tt) (lit< tt) (last rows s.is l.kept.wrote (landed loaded to l.top w.operands w.memory w.input w.output refl l.operands l.kept (to_place arrives (near rows by i s.is))))
 
   -- behind a comparison
-  branches : {p : Watched} {at ax cx dx bx si di a b : ℕ} {overflow : Bool} {cells stack : ℕ → ℕ} {left : List ℕ} {told : Told} (to top by : ℕ) (start : ℕ → ℕ) (c : Comparator) (m : ℕ) (x y : ℤ) (operands : List Operand) (memory : List ℤ) (input output : List ℕ)
-      → at + 1 + 2 + 3 ≡ to → (at + 1 + 2 + 3 + by) % 65536 ≡ start m % 65536 → FitsWord x → FitsWord y → a ≡ unsigned x → b ≡ unsigned y
-      → StackIs prog acts (stack top) stack (suc top) operands → Kept prog g line acts memory input output cells stack left told → HasAll image at (i86.Pop 0 ∷ i86.JumpIf (condition_of (opposite_of c)) 3 ∷ i86.Jump by ∷ [])
-      → IsCompared image at (view ax cx dx bx (2 * top) (record_of acts) si di overflow cells stack left told) a b p
-      → Chooses prog image 3 to start g line acts output p (to_mark_if (holds (comparison c) x y) m (record { operands = operands; memory = memory; input = input; output = output }))
-  branches {p} {at} {ax} {cx} {dx} {bx} {si} {di} {a} {b} {overflow} {cells} {stack} {left} {told} to top by start c m x y operands memory input output e arrives fx fy ea eb h k i s = cases (holds (comparison c) x y) refl
+  branches : {p : Watched} {at ax cx dx bx si a b : ℕ} {overflow : Bool} {cells stack : ℕ → ℕ} {left : List ℕ} {told : Told} (to top by : ℕ) (start : ℕ → ℕ) (c : Comparator) (m : ℕ) (x y : ℤ) (operands : List Operand) (memory : List ℤ) (input output : List ℕ)
+      → at + 2 + 3 ≡ to → (at + 2 + 3 + by) % 65536 ≡ start m % 65536 → FitsWord x → FitsWord y → a ≡ unsigned x → b ≡ unsigned y
+      → StackIs prog acts stack top operands → Kept prog g acts memory input output cells stack left told → HasAll image at (i86.JumpIf (condition_of (opposite_of c)) 3 ∷ i86.Jump by ∷ [])
+      → IsCompared image at (view ax cx dx bx (2 * top) (record_of acts) si prog.limits.area overflow cells stack left told) a b p
+      → Chooses prog image 2 to start g false acts output p (to_mark_if (holds (comparison c) x y) m (record { operands = operands; memory = memory; input = input; output = output }))
+  branches {p} {at} {ax} {cx} {dx} {bx} {si} {a} {b} {overflow} {cells} {stack} {left} {told} to top by start c m x y operands memory input output e arrives fx fy ea eb h k i s = cases (holds (comparison c) x y) refl
     where
-      lt : top < 32761
-      lt = let t = top_is prog acts (stack top) stack (suc top) operands h in omega arith
-
       V : View
-      V = view (stack top) cx dx bx (2 * suc top) (record_of acts) si di overflow cells stack left told
-
-      popped : IsCompared image (at + 1) V a b (watched_step p)
-      popped = compared_pop rows 0 top (2 * suc top) (top_low top lt) (top_whole top lt) (top_next top lt) i.0 s
+      V = view ax cx dx bx (2 * top) (record_of acts) si prog.limits.area overflow cells stack left told
 
       la : a < 65536
       la = subst (λ n. n < 65536) (sym ea) (rows.words.unsigned_fits x fx)
@@ -640,21 +655,17 @@ module _ (rows : Rows) (prog : OrderProgram) (image : List ℕ) (g line : ℕ) (
       turned : words_compare (opposite_of c) a b ≡ not (holds (comparison c) x y)
       turned = ap₂ (words_compare (opposite_of c)) ea eb ∙ opposite_is rows.words x y fx fy c
 
-      cases : (t : Bool) → holds (comparison c) x y ≡ t → Chooses prog image 3 to start g line acts output p (to_mark_if t m (record { operands = operands; memory = memory; input = input; output = output }))
+      cases : (t : Bool) → holds (comparison c) x y ≡ t → Chooses prog image 2 to start g false acts output p (to_mark_if t m (record { operands = operands; memory = memory; input = input; output = output }))
       cases true t =
-          further 3 (lit≤ tt) (lit< tt)
-          (compared_more rows {Between = IsCompared image (at + 1) V a b} s.is k.wrote popped (λ q u.
-          more rows {to = at + 1 + 2} {w = V} u.is k.wrote (compared_passes rows (opposite_of c) 3 la lb (turned ∙ ap not t) i.1.0 u) (λ q u.
-          last rows u k.wrote (landed (start m) (suc top) operands memory input output refl h k (to_place arrives (near rows by i.1.1.0 u))))))
-      cases false t =
           further 2 (lit≤ tt) (lit< tt)
-          (compared_more rows {Between = IsCompared image (at + 1) V a b} s.is k.wrote popped (λ q u.
-          last rows u.is k.wrote (landed to (suc top) operands memory input output e h k (compared_jumps rows (opposite_of c) 3 la lb (turned ∙ ap not t) i.1.0 u))))
+          (more rows {to = at + 2} {w = V} s.is k.wrote (compared_passes rows (opposite_of c) 3 la lb (turned ∙ ap not t) i.0 s) (λ q u.
+          last rows u k.wrote (landed false (start m) top operands memory input output refl h k (to_place arrives (near rows by i.1.0 u)))))
+      cases false t = further 1 (lit≤ tt) (lit< tt) (last rows s.is k.wrote (landed false to top operands memory input output e h k (compared_jumps rows (opposite_of c) 3 la lb (turned ∙ ap not t) i.0 s)))
 
-  pub chooses : {p : Watched} {at : ℕ} (to by : ℕ) (start : ℕ → ℕ) (c : Comparator) (m : ℕ) (operands : List Operand) (memory : List ℤ) (input output : List ℕ) → at + 9 ≡ to → (at + 9 + by) % 65536 ≡ start m % 65536
-      → All OperandFits operands → HasAll image at (i86.Pop 3 ∷ with_other 7 3 0 ∷ i86.Pop 0 ∷ i86.JumpIf (condition_of (opposite_of c)) 3 ∷ i86.Jump by ∷ [])
-      → Landed prog image at g line acts (record { operands = operands; memory = memory; input = input; output = output }) p
-      → Chooses prog image 5 to start g line acts output p (way_of_two (λ x y v. to_mark_if (holds (comparison c) x y) m v) (record { operands = operands; memory = memory; input = input; output = output }))
+  pub chooses : {p : Watched} {at : ℕ} (to by : ℕ) (start : ℕ → ℕ) (c : Comparator) (m : ℕ) (operands : List Operand) (memory : List ℤ) (input output : List ℕ) → at + 8 ≡ to → (at + 8 + by) % 65536 ≡ start m % 65536
+      → All OperandFits operands → HasAll image at (i86.Pop 3 ∷ with_other 7 3 0 ∷ i86.JumpIf (condition_of (opposite_of c)) 3 ∷ i86.Jump by ∷ [])
+      → Landed prog image at g true acts (record { operands = operands; memory = memory; input = input; output = output }) p
+      → Chooses prog image 4 to start g false acts output p (way_of_two (λ x y v. to_mark_if (holds (comparison c) x y) m v) (record { operands = operands; memory = memory; input = input; output = output }))
   chooses to by start c m [] memory input output e arrives fits i l = tt
   chooses to by start c m (Held d ∷ rest) memory input output e arrives fits i l = tt
   chooses to by start c m (Word y ∷ []) memory input output e arrives fits i l = tt
@@ -666,34 +677,32 @@ module _ (rows : Rows) (prog : OrderProgram) (image : List ℕ) (g line : ℕ) (
       let fy : FitsWord y = All-head OperandFits (Word y) (Word x ∷ rest) fits in
       let fx : FitsWord x = All-head OperandFits (Word x) rest (All-tail OperandFits (Word y) (Word x ∷ rest) fits) in
       let n = l.stack l.top in
-      let t = top_is prog acts (l.stack (suc l.top)) l.stack (suc (suc l.top)) rest h.1.1 in
-      let lt : l.top < 32761 = omega arith in
-      let e' : at + 1 + 2 + 1 + 2 + 3 ≡ to = omega arith in
-      let a' : (at + 1 + 2 + 1 + 2 + 3 + by) % 65536 ≡ start m % 65536 = omega arith in
-      let Between : Watched → Type 0 = IsCompared image (at + 1 + 2) (view s.ax s.cx s.dx n (2 * suc l.top) (record_of acts) s.si s.di (difference_overflows n s.ax) l.cells l.stack l.input l.told) n s.ax in
-      sooner prog image 3 to start g line acts {T = Between} 2 5 (to_mark_if (holds (comparison c) x y) m (record { operands = rest; memory = memory; input = input; output = output })) (lit≤ tt)
-      (more rows {to = at + 1} {w = view s.ax s.cx s.dx n (2 * suc l.top) (record_of acts) s.si s.di s.overflow l.cells l.stack l.input l.told} s.is k.wrote (pop_bx l.top lt i.0 s.is) (λ q u.
+      let t = top_is prog acts l.stack (suc l.top) rest h.1.1 in
+      let lt : l.top < 32764 = omega arith in
+      let e' : at + 1 + 2 + 2 + 3 ≡ to = omega arith in
+      let a' : (at + 1 + 2 + 2 + 3 + by) % 65536 ≡ start m % 65536 = omega arith in
+      let Between : Watched → Type 0 = IsCompared image (at + 1 + 2) (view s.ax s.cx s.dx n (2 * suc l.top) (record_of acts) s.si prog.limits.area (difference_overflows n s.ax) l.cells l.stack l.input l.told) n s.ax in
+      sooner prog image 2 to start g false acts {T = Between} 2 4 (to_mark_if (holds (comparison c) x y) m (record { operands = rest; memory = memory; input = input; output = output })) (lit≤ tt)
+      (more rows {to = at + 1} {w = view s.ax s.cx s.dx n (2 * suc l.top) (record_of acts) s.si prog.limits.area s.overflow l.cells l.stack l.input l.told} s.is k.wrote (pop_bx l.top lt i.0 s.is) (λ q u.
       compared_more rows {Between = Between} u k.wrote (compare rows 3 0 i.1.0 u) (λ q u. done u)))
       (λ q u. branches to (suc l.top) by start c m x y rest memory input output e' a' fx fy h.1.0 h.0 h.1.1 k i.1.1 u)
 
   -- a comparison with a simple operand
-  pub chooses_simple : {p : Watched} {at : ℕ} (size to by n : ℕ) (y : ℤ) (start : ℕ → ℕ) (c : Comparator) (m : ℕ) (w : Words) → n ≡ unsigned y → FitsWord y
-      → at + size + 6 ≡ to → (at + size + 6 + by) % 65536 ≡ start m % 65536 → All OperandFits w.operands → HasAll image (at + size) (i86.Pop 0 ∷ i86.JumpIf (condition_of (opposite_of c)) 3 ∷ i86.Jump by ∷ []) → (l : Landed prog image at g line acts w p)
-      → IsCompared image (at + size) (view l.stacked.ax l.stacked.cx l.stacked.dx l.stacked.bx (2 * l.top) (record_of acts) l.stacked.si l.stacked.di (difference_overflows l.stacked.ax n) l.cells l.stack l.input l.told) l.stacked.ax n (watched_step p)
-      → Chooses prog image 4 to start g line acts w.output p (way_of_two (λ x y v. to_mark_if (holds (comparison c) x y) m v) (put y w))
-  chooses_simple {p} {at} size to by n y start c m w value fy e arrives fits i l made = from w.operands l.operands fits
-    where
-      from : (operands : List Operand) → StackIs prog acts l.stacked.ax l.stack l.top operands → All OperandFits operands
-          → Chooses prog image 4 to start g line acts w.output p (way_of_two (λ x y v. to_mark_if (holds (comparison c) x y) m v) (with_operands w (Word y ∷ operands)))
-      from [] h fits = tt
-      from (Held d ∷ rest) h fits = tt
-      from (Word x ∷ rest) h fits =
-          let s = l.stacked in
-          let k = l.kept in
-          let fx : FitsWord x = All-head OperandFits (Word x) rest fits in
-          let e' : at + size + 1 + 2 + 3 ≡ to = omega arith in
-          let a' : (at + size + 1 + 2 + 3 + by) % 65536 ≡ start m % 65536 = omega arith in
-          let Between : Watched → Type 0 = IsCompared image (at + size) (view s.ax s.cx s.dx s.bx (2 * l.top) (record_of acts) s.si s.di (difference_overflows s.ax n) l.cells l.stack l.input l.told) s.ax n in
-          sooner prog image 3 to start g line acts {T = Between} 1 4 (to_mark_if (holds (comparison c) x y) m (record { operands = rest; memory = w.memory; input = w.input; output = w.output })) (lit≤ tt)
-          (last rows s.is k.wrote made)
-          (λ q u. branches to l.top by start c m x y rest w.memory w.input w.output e' a' fx fy h.0 value h.1 k i u)
+  pub chooses_simple : {p : Watched} {at : ℕ} (size to by n : ℕ) (y : ℤ) (start : ℕ → ℕ) (c : Comparator) (m : ℕ) (operands : List Operand) (memory : List ℤ) (input output : List ℕ) → n ≡ unsigned y → FitsWord y
+      → at + size + 5 ≡ to → (at + size + 5 + by) % 65536 ≡ start m % 65536 → All OperandFits operands → HasAll image (at + size) (i86.JumpIf (condition_of (opposite_of c)) 3 ∷ i86.Jump by ∷ [])
+      → (l : Landed prog image at g true acts (record { operands = operands; memory = memory; input = input; output = output }) p)
+      → IsCompared image (at + size) (view l.stacked.ax l.stacked.cx l.stacked.dx l.stacked.bx (2 * l.top) (record_of acts) l.stacked.si prog.limits.area (difference_overflows l.stacked.ax n) l.cells l.stack l.input l.told) l.stacked.ax n (watched_step p)
+      → Chooses prog image 3 to start g false acts output p (way_of_two (λ x y v. to_mark_if (holds (comparison c) x y) m v) (put y (record { operands = operands; memory = memory; input = input; output = output })))
+  chooses_simple size to by n y start c m [] memory input output value fy e arrives fits i l made = tt
+  chooses_simple size to by n y start c m (Held d ∷ rest) memory input output value fy e arrives fits i l made = tt
+  chooses_simple {p} {at} size to by n y start c m (Word x ∷ rest) memory input output value fy e arrives fits i l made =
+      let s = l.stacked in
+      let k = l.kept in
+      let h = l.operands in
+      let fx : FitsWord x = All-head OperandFits (Word x) rest fits in
+      let e' : at + size + 2 + 3 ≡ to = omega arith in
+      let a' : (at + size + 2 + 3 + by) % 65536 ≡ start m % 65536 = omega arith in
+      let Between : Watched → Type 0 = IsCompared image (at + size) (view s.ax s.cx s.dx s.bx (2 * l.top) (record_of acts) s.si prog.limits.area (difference_overflows s.ax n) l.cells l.stack l.input l.told) s.ax n in
+      sooner prog image 2 to start g false acts {T = Between} 1 3 (to_mark_if (holds (comparison c) x y) m (record { operands = rest; memory = memory; input = input; output = output })) (lit≤ tt)
+      (last rows s.is k.wrote made)
+      (λ q u. branches to l.top by start c m x y rest memory input output e' a' fx fy h.0 value h.1 k i u)

@@ -1,5 +1,5 @@
 -- What the observer of the processor notes at a Start.
-use Rattle.std.proofs.Common.{◌≡◌, ℕ, suc, ◌+◌, ◌*◌, ◌%◌, ◌<◌, ◌≤◌, ℤ, List, [], ◌∷◌, length, Some, refl, sym, ap, ap₂, ◌∙◌, arith}
+use Rattle.std.proofs.Common.{◌≡◌, ℕ, suc, ◌+◌, ◌*◌, ◌%◌, ◌<◌, ◌≤◌, Bool, ℤ, List, [], ◌∷◌, length, Some, refl, sym, ap, ap₂, ◌∙◌, arith}
 use Rattle.std.specs.Prelude.{map, slice_get, slice_index}
 use Rattle.std.specs.List.{All}
 use Rattle.std.proofs.lemmas.List.Elements.{All-head, All-tail}
@@ -38,8 +38,8 @@ words_are laws s first (z ∷ zs) fit same =
     (λ k lt. let next : first + 1 + k ≡ first + suc k = omega arith in ap (λ n. word_in s.memory data_segment (2 * n)) next ∙ same (suc k) (omega arith)))
 
 -- at a place where one statement begins it is noted with the words of the data area
-pub notes_one : WordLaws → (p : OrderProgram) {image : List ℕ} {at g line : ℕ} {acts : List OrderActivation} {w : Words} {t : Watched} (segment n : ℕ) → at < 65536 → p.limits.area ≤ 32768 → t.area ≡ p.limits.area
-    → lines_at t.places at ≡ (segment, n) ∷ [] → All FitsWord w.memory → Landed p image at g line acts w t → passes t.places t.area t.processor ≡ (segment, n, w.memory) ∷ []
+pub notes_one : WordLaws → (p : OrderProgram) {image : List ℕ} {at g : ℕ} {loaded : Bool} {acts : List OrderActivation} {w : Words} {t : Watched} (segment n : ℕ) → at < 65536 → p.limits.area ≤ 32768 → t.area ≡ p.limits.area
+    → lines_at t.places at ≡ (segment, n) ∷ [] → All FitsWord w.memory → Landed p image at g loaded acts w t → passes t.places t.area t.processor ≡ (segment, n, w.memory) ∷ []
 notes_one laws p {at = at} {w = w} {t = t} segment n short low area one fit l =
     let sees = l.stacked.is.sees in
     let state = t.processor.state in

@@ -1,8 +1,6 @@
 -- In the image of a program of orders, the instructions of each order stand at their places.
-use Rattle.std.proofs.Common.{◌≡◌, ℕ, zero, suc, ◌+◌, ◌-◌, ◌<◌, ◌≤◌, List, [], ◌∷◌, ◌++◌, length, take, drop, refl, sym, ap, ◌∙◌, subst, arith, lit<, append_assoc, length-append, Some, None, ◌*◌}
+use Rattle.std.proofs.Common.{◌≡◌, ℕ, zero, suc, ◌+◌, ◌<◌, ◌≤◌, List, [], ◌∷◌, ◌++◌, length, take, drop, refl, sym, ap, ◌∙◌, subst, arith, lit<, append_assoc, length-append, Some, None, ◌*◌}
 use Rattle.std.specs.Prelude.{slice_get, slice_index}
-use Rattle.cw_i86.specs.Encoding.{IsInstr}
-use Rattle.cw_i86.specs.declared.instr.Instr.{Instr}
 use Rattle.cw_unit.specs.declared.unit.Goal.{Goal}
 use Rattle.cw_order.specs.declared.order.LabelMark.{LabelMark}
 use Rattle.cw_order.specs.declared.order.Order.{Order}
@@ -11,21 +9,18 @@ use Rattle.cw_order.specs.declared.order.Orders.{Orders}
 use Rattle.cw_order.specs.OrderProgram.{OrderProgram, order_in, order_at}
 use Rattle.cw_tmpl.specs.declared.pieces.Coded.{Coded}
 use Rattle.cw_tmpl.specs.Pieces.{Filling, blanks, filled}
-use Rattle.cw_tmpl.specs.Mnemonics.{slot, line_slot, top_slot, at_bx, compare, jump_to, jump_if_below, jump_if_no_overflow, jump_if_at_most, load, store, set_word, subtract, move, add, double, one_of, shift_up, shift_down}
-use Rattle.cw_tmpl.specs.Library.{start_routine, stop_routine, stop_end, routines, joined, past, library_bytes, entry_place, stop_place, enter_routine, turn_count, product_routine, magnitudes, quotient_down_place, quotient_down_routine, quotient_up_place, quotient_up_routine, quotient_end, call_stop, loop_reached, variable_reached, in_area_routine, set_variable_place, set_variable_routine, add_step_place, add_step_routine, put_variable_place, put_variable_routine, exhausted_routine}
+use Rattle.cw_tmpl.specs.Library.{library_bytes, entry_place}
+use Rattle.cw_routines.specs.Results.{Stands as LibraryStands}
 use Rattle.cw_tmpl.specs.Templates.{block_pieces, entry_pieces, landing_pieces, switch_pieces}
 use Rattle.cw_tmpl.specs.Blocks.{block_at, left_at}
 use Rattle.cw_tmpl.specs.Names.{Names, mark_place, landing_start, switch_start, switch_size}
 use Rattle.cw_tmpl.specs.ReferenceCode.{templates, landings, switches, switch_places, landings_place, switches_place, names_of, pieces_of, entry_size}
 use Rattle.cw_follow.specs.Placing.{Fills, total_size, base_of, place_after, AreCodes, no_code, a_code, IsImage, Codable}
-use Rattle.cw_follow.proofs.Fine.{AllInstr, all_instr-append, all_there, AllFine, pieces_there, OrderFits, NumberFits, fits_at, IsFree, is_ax, is_bx, ax_free, bx_free, cx_free, si_free, entry_fine, base_fine, switch_fine, block_fine}
+use Rattle.cw_follow.proofs.Fine.{AllFine, pieces_there, OrderFits, NumberFits, fits_at, entry_fine, base_fine, switch_fine, block_fine}
 use Rattle.cw_tmpl.proofs.Growing.{blanks-append}
 use Rattle.cw_tmpl.proofs.Filling.{filled-append, length-filled}
 use Rattle.cw_tmpl.proofs.Sizes.{in_middle, own_place, size_to, size_of_templates, size_of_landings, size_of_switch, landings_at}
 use Rattle.cw_follow.proofs.Standing.{HasPieces, order_place, pieces_at, Stands, AllStand}
-use Rattle.cw_i86.specs.declared.instr.Instr.TheVariants as i86
-use Rattle.cw_i86.specs.declared.instr.Imm.TheVariants as imm
-use Rattle.cw_unit.specs.Stop.{Overflow, ZeroDivisor, AddressRange}
 
 -- ---- one segment
 
@@ -142,7 +137,7 @@ module _ (p : OrderProgram) (image before behind : List ℕ) (g next : ℕ) (val
         part_there (own_place o.list k) (pieces_at o k order)
         (behind_first entry_pieces (orders_code ++ (landings_code ++ switches_code)) entry_size (size_to 0 o.list k) (pieces_at o k order) refl
         (before_others orders_code (landings_code ++ switches_code) (size_to 0 o.list k) (pieces_at o k order) (order_in_middle names entry_size 0 o.list k order e)))
-        (block_fine p g next value fills near names (own_place o.list k) (block_at (left_at 0 o.list k) (drop k o.list)) order (fits_at (left_at 0 o.list k) o.list k order e (fits k order e)))
+        (block_fine p g next value fills near names (own_place o.list k) (block_at (left_at 0 o.list k) (drop k o.list)) order (fits_at (left_at 0 o.list k) o.list k order e fits))
 
     landing_there : (l : ℕ) (m : LabelMark) → slice_get o.labels l ≡ Some m → HasPieces image value (base_of p g + landing_start names l) (landing_pieces names (landing_start names l) m)
     landing_there l m e =
@@ -239,196 +234,16 @@ found {p = p} {image = image} {segment = segment} {place = place} (a_code {o = x
     moved p image o (segment + 1 + g) (segment + suc g) (place_after (drop (suc g) os) (base_of p (segment + 1 + suc g))) (place_after (drop (suc g) os) (base_of p (segment + suc (suc g)))) (omega arith)
     (ap (λ n. place_after (drop (suc g) os) (base_of p n)) f) there
 
--- ---- the library
-
-abbrev AllRoutines : List (List Instr) → Type 0
-AllRoutines [] = Unit {0}
-AllRoutines (r ∷ rs) = AllInstr r × AllRoutines rs
-
-all_joined : (rs : List (List Instr)) → AllRoutines rs → AllInstr (joined rs)
-all_joined [] instrs = tt
-all_joined (r ∷ rs) instrs = all_instr-append r (joined rs) instrs.0 (all_joined rs instrs.1)
-
-start_instrs : AllInstr start_routine
-start_instrs =
-    let ax : IsFree 0 = ax_free in
-    let cx : IsFree 1 = (lit< tt, λ e. omega arith) in
-    let dx : IsFree 2 = (lit< tt, λ e. omega arith) in
-    let si : IsFree 6 = (lit< tt, λ e. omega arith) in
-    let di : IsFree 7 = (lit< tt, λ e. omega arith) in
-    let set_sp : IsInstr (set_word 4 0) = (lit< tt, lit< tt) in
-    let set_di : IsInstr (set_word 7 0) = (lit< tt, lit< tt) in
-    let top : IsInstr (subtract 7 3) = (lit< tt, di.0, is_bx) in
-    (si, (set_sp, (set_di, (di, (di, ((lit< tt, lit< tt), (di, (dx, (cx, ((di.0, ax.0), (top, (di, (di, (si.0, tt))))))))))))))
-
-stop_instrs : (kind ahead : ℕ) → kind < 256 → ahead < 256 → AllInstr (stop_routine kind ahead)
-stop_instrs kind ahead k a = ((lit< tt, k), (a, tt))
-
-stop_end_instrs : AllInstr stop_end
-stop_end_instrs = (lit< tt, ((lit< tt, (lit< tt, lit< tt)), (lit< tt, ((lit< tt, (lit< tt, lit< tt)), (lit< tt, ((lit< tt, lit< tt), (lit< tt, (tt, tt))))))))
-
--- registers
-cl : 1 < 8
-cl = lit< tt
-
-dl : 2 < 8
-dl = lit< tt
-
-sl : 6 < 8
-sl = lit< tt
-
-dil : 7 < 8
-dil = lit< tt
-
-turn_instrs : AllInstr turn_count
-turn_instrs = ((dil, lit< tt), ((lit< tt, dil, cl), ((cl, dil), tt)))
-
-enter_instrs : AllInstr enter_routine
-enter_instrs =
-    let bp_free : IsFree 5 = (lit< tt, λ e. omega arith) in
-    let dx_free : IsFree 2 = (dl, λ e. omega arith) in
-    let di_free : IsFree 7 = (dil, λ e. omega arith) in
-    let record_made : AllInstr (i86.Push 5 ∷ move 5 4 ∷ i86.Push 3 ∷ i86.MovRm (slot line_slot) (imm.Word 0) ∷ i86.Push 2 ∷ i86.Push 1 ∷ i86.Push 7 ∷ i86.Push 0 ∷ jump_to 6 ∷ []) =
-    (bp_free, ((lit< tt, lit< tt), (bx_free, (((lit< tt, lit< tt), lit< tt), (dx_free, (cx_free, (di_free, (ax_free, (sl, tt))))))))) in
-    let frame : AllInstr (load 7 (slot top_slot) ∷ subtract 3 7 ∷ compare 3 0 ∷ jump_if_below 0xCD ∷ add 0 7 ∷ i86.Push 5 ∷ move 5 4 ∷ i86.Push 3 ∷ i86.MovRm (slot line_slot) (imm.Word 0) ∷ i86.Push 2 ∷ i86.Push 1 ∷ i86.Push 7 ∷ i86.Push 0 ∷ jump_to 6 ∷ []) =
-    ((dil, (lit< tt, lit< tt)), ((lit< tt, is_bx, dil), ((lit< tt, is_bx, is_ax), ((lit< tt, lit< tt), ((lit< tt, is_ax, dil), record_made))))) in
-    (si_free, ((cl, (lit< tt, lit< tt)), ((dil, lit< tt), ((lit< tt, cl, dil), ((lit< tt, lit< tt), ((lit< tt, cl, dil), frame))))))
-
-product_instrs : AllInstr product_routine
-product_instrs = (
-  (lit< tt, lit< tt, is_bx),
-  (
-    (lit< tt, λ e. omega arith, is_ax),
-    (
-      (is_bx, dl),
-      (
-        (lit< tt, λ e. omega arith, dl),
-        (
-          turn_instrs.0,
-          (
-            turn_instrs.1.0,
-            (
-              turn_instrs.1.1.0,
-              ((lit< tt, λ e. omega arith, is_bx), ((lit< tt, is_ax, is_bx), ((is_bx, dl), (tt, ((lit< tt, dl, is_bx), ((lit< tt, lit< tt), (lit< tt, (tt, tt)))))))),
-            ),
-          ),
-        ),
-      ),
-    ),
-  ),
-)
-
-magnitudes_instrs : (behind : ℕ) → stop_place ZeroDivisor + (65536 - behind) < 65536 → AllInstr (magnitudes behind)
-magnitudes_instrs behind near =
-    ((sl, lit< tt), ((lit< tt, is_bx, sl), ((lit< tt, lit< tt), (near, (tt, ((sl, dl), ((lit< tt, is_ax, dl), ((lit< tt, is_ax, dl), ((dil, is_ax), ((is_ax, is_bx), (tt, ((lit< tt, sl, dl), ((lit< tt, is_ax, dl), ((lit< tt, is_ax, dl), ((is_bx, is_ax), ((is_ax, dil), tt))))))))))))))))
-
-quotient_end_instrs : AllInstr quotient_end
-quotient_end_instrs =
-    ((lit< tt, dl, is_bx), ((lit< tt, lit< tt), (lit< tt, ((lit< tt, lit< tt, is_bx), ((dl, lit< tt), ((lit< tt, dl, sl), ((lit< tt, is_ax, dl), ((lit< tt, lit< tt), (lit< tt, ((lit< tt, is_ax, sl), ((lit< tt, is_ax, sl), (tt, tt))))))))))))
-
-quotient_down_instrs : AllInstr quotient_down_routine
-quotient_down_instrs =
-    all_instr-append (magnitudes (quotient_down_place + 10)) (shift_down 0 ∷ set_word 2 0 ∷ i86.JumpShort 45 ∷ []) (magnitudes_instrs (quotient_down_place + 10) (lit< tt))
-    ((lit< tt, λ e. omega arith, is_ax), ((dl, lit< tt), (lit< tt, tt)))
-
-quotient_up_instrs : AllInstr quotient_up_routine
-quotient_up_instrs =
-    all_instr-append (magnitudes (quotient_up_place + 10)) (move 2 0 ∷ shift_up 0 ∷ (turn_count ++ (shift_down 2 ∷ quotient_end))) (magnitudes_instrs (quotient_up_place + 10) (lit< tt))
-    ((dl, is_ax), ((lit< tt, λ e. omega arith, is_ax), all_instr-append turn_count (shift_down 2 ∷ quotient_end) turn_instrs ((lit< tt, λ e. omega arith, dl), quotient_end_instrs)))
-
--- a word at BX, and BX doubled
-at_bx_instr : (r : ℕ) → r < 8 → IsInstr (load r at_bx)
-at_bx_instr r lt = (lt, (lit< tt, λ e. omega arith))
-
-bx_doubled : IsInstr (double 3)
-bx_doubled = (lit< tt, λ e. omega arith, is_bx)
-
-loop_reached_instrs : AllInstr loop_reached
-loop_reached_instrs = (si_free, ((is_bx, is_ax), (bx_doubled, tt)))
-
-variable_reached_instrs : (behind : ℕ) → stop_place AddressRange + (65536 - behind) < 65536 → AllInstr (variable_reached behind)
-variable_reached_instrs behind near = ((lit< tt, is_bx, dl), ((lit< tt, lit< tt), (near, (bx_doubled, tt))))
-
-in_area_instrs : AllInstr in_area_routine
-in_area_instrs = ((lit< tt, is_ax, dl), ((lit< tt, lit< tt), (lit< tt, (tt, tt))))
-
-set_variable_instrs : AllInstr set_variable_routine
-set_variable_instrs =
-    let stored : AllInstr (i86.Pop 0 ∷ store at_bx 0 ∷ i86.Pop 0 ∷ jump_to 6 ∷ []) = (ax_free, (at_bx_instr 0 is_ax, (ax_free, (sl, tt)))) in
-    let reached = all_instr-append (variable_reached (set_variable_place + 14)) (i86.Pop 0 ∷ store at_bx 0 ∷ i86.Pop 0 ∷ jump_to 6 ∷ []) (variable_reached_instrs (set_variable_place + 14) (lit< tt)) stored in
-    (loop_reached_instrs.0, (loop_reached_instrs.1.0, (loop_reached_instrs.1.1.0, (at_bx_instr 3 is_bx, reached))))
-
-add_step_instrs : AllInstr add_step_routine
-add_step_instrs =
-    let summed : AllInstr (load 0 at_bx ∷ add 0 1 ∷ jump_if_no_overflow 3 ∷ call_stop Overflow (add_step_place + 28) ∷ store at_bx 0 ∷ i86.Pop 0 ∷ jump_to 6 ∷ []) =
-    (at_bx_instr 0 is_ax, ((lit< tt, is_ax, cl), ((lit< tt, lit< tt), (lit< tt, (at_bx_instr 0 is_ax, (ax_free, (sl, tt))))))) in
-    let reached = all_instr-append (variable_reached (add_step_place + 17)) (load 0 at_bx ∷ add 0 1 ∷ jump_if_no_overflow 3 ∷ call_stop Overflow (add_step_place + 28) ∷ store at_bx 0 ∷ i86.Pop 0 ∷ jump_to 6 ∷ []) (variable_reached_instrs (add_step_place + 17) (lit< tt)) summed in
-    (loop_reached_instrs.0, (loop_reached_instrs.1.0, (loop_reached_instrs.1.1.0, ((cl, (lit< tt, lit< tt)), (at_bx_instr 3 is_bx, reached)))))
-
-put_variable_instrs : AllInstr put_variable_routine
-put_variable_instrs =
-    let pushed : AllInstr (load 1 at_bx ∷ i86.Push 1 ∷ jump_to 6 ∷ []) = (at_bx_instr 1 cl, (cx_free, (sl, tt))) in
-    let reached = all_instr-append (variable_reached (put_variable_place + 14)) (load 1 at_bx ∷ i86.Push 1 ∷ jump_to 6 ∷ []) (variable_reached_instrs (put_variable_place + 14) (lit< tt)) pushed in
-    (loop_reached_instrs.0, (loop_reached_instrs.1.0, (loop_reached_instrs.1.1.0, (at_bx_instr 3 is_bx, reached))))
-
-exhausted_instrs : AllInstr exhausted_routine
-exhausted_instrs =
-    let on_and_past : AllInstr (jump_to 6 ∷ set_word 3 3 ∷ add 6 3 ∷ jump_to 6 ∷ []) = (sl, ((is_bx, lit< tt), ((lit< tt, sl, is_bx), (sl, tt)))) in
-    let turned : AllInstr (one_of 1 2 ∷ one_of 3 2 ∷ compare 1 3 ∷ jump_if_at_most 2 ∷ jump_to 6 ∷ set_word 3 3 ∷ add 6 3 ∷ jump_to 6 ∷ []) =
-    ((lit< tt, cl, dl), ((lit< tt, is_bx, dl), ((lit< tt, cl, is_bx), ((lit< tt, lit< tt), on_and_past)))) in (
-      loop_reached_instrs.0,
-      (
-        loop_reached_instrs.1.0,
-        (
-          loop_reached_instrs.1.1.0,
-          (cx_free, ((is_ax, (lit< tt, lit< tt)), ((is_bx, (lit< tt, lit< tt)), (tt, ((lit< tt, lit< tt), (ax_free, ((lit< tt, lit< tt), turned))))))),
-        ),
-      ),
-    )
-
-library_instrs : AllInstr (past ∷ joined routines)
-library_instrs = (
-  lit< tt,
-  all_joined routines (
-    (tt, tt),
-    (
-      start_instrs,
-      (
-        stop_instrs 1 24 (lit< tt) (lit< tt),
-        (
-          stop_instrs 2 20 (lit< tt) (lit< tt),
-          (
-            stop_instrs 3 16 (lit< tt) (lit< tt),
-            (
-              stop_instrs 4 12 (lit< tt) (lit< tt),
-              (
-                stop_instrs 5 8 (lit< tt) (lit< tt),
-                (
-                  stop_instrs 6 4 (lit< tt) (lit< tt),
-                  (
-                    all_instr-append (stop_routine 7 0) stop_end (stop_instrs 7 0 (lit< tt) (lit< tt)) stop_end_instrs,
-                    (enter_instrs, (product_instrs, (quotient_down_instrs, (quotient_up_instrs, (in_area_instrs, (set_variable_instrs, (add_step_instrs, (put_variable_instrs, (exhausted_instrs, tt))))))))),
-                  ),
-                ),
-              ),
-            ),
-          ),
-        ),
-      ),
-    ),
-  ),
-)
-
 -- ---- the whole
 
 -- the order at a place has numbers that fit
 order_fits : (p : OrderProgram) → Codable p → (g k : ℕ) (o : Orders) (order : Order) → slice_get p.units g ≡ Some o → slice_get o.list k ≡ Some order → OrderFits order
-order_fits p codable g k o it is e = (numbers it (ap (λ u. order_in u k) is ∙ e), codable.codes g k it (ap (λ u. order_in u k) is ∙ e))
+order_fits p codable g k o it is e =
+    let at = ap (λ u. order_in u k) is ∙ e in
+    (numbers it at, codable.codes g k it at, codable.lines g k it at)
   where
     numbers : (it : Order) → order_at p g k ≡ Some it → NumberFits it
     numbers (order.Const w) at = codable.constants g k w at
-    numbers (order.Line n) at = codable.lines.within g k n at
-    numbers (order.Start n) at = codable.lines.begun g k n at
     numbers _ at = tt
 
 way_last : (os : List Orders) (n end : ℕ) → slice_get os n ≡ None → place_after (drop n os) end ≡ entry_place 0
@@ -450,11 +265,11 @@ each_found p image i codable g o is =
     (found i.coded library_bytes refl i.is i.fits bases (order_fits p codable) codable.switches g o is)
 
 -- In the image of a program, the library and the code of each segment stand, with the instructions of each order at its place.
-pub all_stand : (p : OrderProgram) (image : List ℕ) → IsImage p image → Codable p → AllStand p image
-all_stand p image i codable =
+pub all_stand : ((code behind : List ℕ) → code ≡ library_bytes ++ behind → LibraryStands code) → (p : OrderProgram) (image : List ℕ) → IsImage p image → Codable p → AllStand p image
+all_stand library p image i codable =
     let each = each_found p image i codable in
     record {
-      library = all_there image [] i.codes 0 (past ∷ joined routines) library_instrs refl i.is;
+      library = library image i.codes i.is;
       stands = λ g o is. (each g o is).stands;
       last = λ g o is none. (each g o is).way ∙ way_last p.units (suc g) (base_of p (suc g)) none;
       goes_on = λ g o n is next. (each g o is).way ∙ way_on p.units (suc g) (base_of p (suc g)) n next;

@@ -1,25 +1,29 @@
 -- What the instructions of the templates and of the library do to a view, as the laws of cw_run86 say, and those of Fields.
-use Rattle.std.proofs.Common.{◌≡◌, ℕ, suc, ◌+◌, ◌*◌, ◌/◌, ◌%◌, ◌<◌, ◌≤◌, true, false, List, length}
+use Rattle.std.proofs.Common.{◌≡◌, ℕ, suc, ◌+◌, ◌*◌, ◌%◌, ◌<◌, ◌≤◌, true, false, ℤ, pos, unsigned_abs, int_rem, List, length}
 use Rattle.std.specs.Prelude.{bit_and, bit_or, bit_xor, slice_index}
 use Rattle.cw_i86.specs.State.{State, sign_extended}
-use Rattle.cw_i86.specs.MachineRun.{IsStart, Running, end_told, taken, left_after}
+use Rattle.cw_i86.specs.MachineRun.{IsStart, Running, end_told}
 use Rattle.cw_i86.specs.declared.instr.Instr.TheVariants as i86
 use Rattle.cw_i86.specs.declared.instr.Imm.TheVariants as imm
 use Rattle.cw_i86.specs.declared.instr.Rm.TheVariants as rms
 use Rattle.cw_i86.specs.declared.instr.Place.TheVariants as places
 use Rattle.cw_run86.specs.Processor.{Processor, processor_step, processor_start, observed, with_given}
-use Rattle.cw_run86.specs.Views.{View, Sees, Has, Goes, IsTop, starting_view, register, on, with_place, with_register, with_result, with_cell, with_stack, with_told, sum_overflows, difference_overflows, word_sum, word_difference, with_other, with_memory, with_number, Compared, Compares, Comparison, condition_of, words_compare, word_up, word_down, word_down_signed, shift_overflow, product_low, product_high, product_overflows, sign_of, with_pair, double_overflows, with_overflow, with_input}
+use Rattle.cw_run86.specs.Views.{View, Sees, Has, Goes, IsTop, starting_view, register, on, with_place, with_register, with_result, with_cell, with_stack, with_told, sum_overflows, difference_overflows, word_sum, word_difference, with_other, with_memory, with_number, Compared, Compares, Comparison, condition_of, words_compare, word_up, word_down, word_down_signed, shift_overflow, product_low, product_high, product_overflows, with_pair, double_overflows, with_overflow, sign_of}
+use Rattle.cw_word.specs.FixedPoint.{FitsWord, scaled_quotient}
+use Rattle.cw_word.specs.Word.{unsigned}
 use Rattle.cw_follow.proofs.WordLaws.{WordLaws}
+use Rattle.cw_follow.proofs.RoutineLaws.{RoutineLaws}
 
 pub record Rows : Type 0 where
   pub words : WordLaws
+  pub routines : RoutineLaws
   -- starting
   pub starts : (code words input : List ℕ) (s : State) → length code ≤ 65536 → length words ≤ 32768 → IsStart code words s → Sees code (starting_view words input) (processor_start s input)
   -- moves
   pub number : (code : List ℕ) (v : View) (r w : ℕ) → Has code v.place (i86.MovImm r (imm.Word w)) → Goes code v (with_register r w (on (i86.MovImm r (imm.Word w)) v))
-  pub low_byte : (code : List ℕ) (v : View) (b : ℕ) → Has code v.place (i86.MovImm 0 (imm.Byte b)) → Goes code v (with_register 0 (register v 0 / 256 * 256 + b) (on (i86.MovImm 0 (imm.Byte b)) v))
   pub move : (code : List ℕ) (v : View) (r q : ℕ) → Has code v.place (i86.Mov true true r (rms.Reg q)) → Goes code v (with_register r (register v q) (on (i86.Mov true true r (rms.Reg q)) v))
-  pub high_byte : (code : List ℕ) (v : View) → Has code v.place (i86.Mov false true 0 (rms.Reg 4)) → Goes code v (with_register 0 (register v 0 / 256 * 256 + register v 0 / 256) (on (i86.Mov false true 0 (rms.Reg 4)) v))
+  pub exchange : (code : List ℕ) (v : View) (r : ℕ) → Has code v.place (i86.XchgAx r) → Goes code v (with_register 0 (register v r) (with_register r (register v 0) (on (i86.XchgAx r) v)))
+  pub nothing : (code : List ℕ) (v : View) → Has code v.place (i86.XchgAx 0) → Goes code v (on (i86.XchgAx 0) v)
   -- stacking
   pub push : (code : List ℕ) (v : View) (r n : ℕ) → Has code v.place (i86.Push r) → n < 32768 → IsTop v (suc n) → Goes code v (with_register 4 (2 * n) (with_stack n (register v r) (on (i86.Push r) v)))
   pub pop : (code : List ℕ) (v : View) (r n : ℕ) → Has code v.place (i86.Pop r) → n < 32768 → IsTop v n → Goes code v (with_register r (v.stack n) (with_register 4 (2 * suc n % 65536) (on (i86.Pop r) v)))
@@ -27,11 +31,9 @@ pub record Rows : Type 0 where
   pub load : (code : List ℕ) (v : View) (r k : ℕ) → Has code v.place (i86.Mov true true r (rms.Mem (record { cs = false; place = places.Plain 7 }))) → k < 32768 → register v 3 ≡ 2 * k → Goes code v (with_register r (v.cells k) (on (i86.Mov true true r (rms.Mem (record { cs = false; place = places.Plain 7 }))) v))
   pub store : (code : List ℕ) (v : View) (r k : ℕ) → Has code v.place (i86.Mov true false r (rms.Mem (record { cs = false; place = places.Plain 7 }))) → k < 32768 → register v 3 ≡ 2 * k → Goes code v (with_cell k (register v r) (on (i86.Mov true false r (rms.Mem (record { cs = false; place = places.Plain 7 }))) v))
   pub load_slot : (code : List ℕ) (v : View) (r by k : ℕ) → Has code v.place (i86.Mov true true r (rms.Mem (record { cs = false; place = places.Near 6 by }))) → k < 32768 → (register v 5 + sign_extended by) % 65536 ≡ 2 * k → Goes code v (with_register r (v.stack k) (on (i86.Mov true true r (rms.Mem (record { cs = false; place = places.Near 6 by }))) v))
-  pub set_slot : (code : List ℕ) (v : View) (by w k : ℕ) → Has code v.place (i86.MovRm (rms.Mem (record { cs = false; place = places.Near 6 by })) (imm.Word w)) → k < 32768 → (register v 5 + sign_extended by) % 65536 ≡ 2 * k → Goes code v (with_stack k w (on (i86.MovRm (rms.Mem (record { cs = false; place = places.Near 6 by })) (imm.Word w)) v))
   -- fields
   pub load_argument : (code : List ℕ) (v : View) (r by k : ℕ) → Has code v.place (i86.Mov true true r (rms.Mem (record { cs = false; place = places.Far 6 by }))) → k < 32768 → (register v 5 + by) % 65536 ≡ 2 * k → Goes code v (with_register r (v.stack k) (on (i86.Mov true true r (rms.Mem (record { cs = false; place = places.Far 6 by }))) v))
   pub store_field : (code : List ℕ) (v : View) (r by k : ℕ) → Has code v.place (i86.Mov true false r (rms.Mem (record { cs = false; place = places.Far 7 by }))) → k < 32768 → (register v 3 + by) % 65536 ≡ 2 * k → Goes code v (with_cell k (register v r) (on (i86.Mov true false r (rms.Mem (record { cs = false; place = places.Far 7 by }))) v))
-  pub load_field : (code : List ℕ) (v : View) (r by k : ℕ) → Has code v.place (i86.Mov true true r (rms.Mem (record { cs = false; place = places.Near 7 by }))) → k < 32768 → (register v 3 + sign_extended by) % 65536 ≡ 2 * k → Goes code v (with_register r (v.cells k) (on (i86.Mov true true r (rms.Mem (record { cs = false; place = places.Near 7 by }))) v))
   pub store_slot : (code : List ℕ) (v : View) (r by k : ℕ) → Has code v.place (i86.Mov true false r (rms.Mem (record { cs = false; place = places.Near 6 by }))) → k < 32768 → (register v 5 + sign_extended by) % 65536 ≡ 2 * k → Goes code v (with_stack k (register v r) (on (i86.Mov true false r (rms.Mem (record { cs = false; place = places.Near 6 by }))) v))
   -- words of a frame
   pub load_word : (code : List ℕ) (v : View) (r by k : ℕ) → Has code v.place (i86.Mov true true r (rms.Mem (record { cs = false; place = places.Far 7 by }))) → k < 32768 → (register v 3 + by) % 65536 ≡ 2 * k → Goes code v (with_register r (v.cells k) (on (i86.Mov true true r (rms.Mem (record { cs = false; place = places.Far 7 by }))) v))
@@ -48,11 +50,12 @@ pub record Rows : Type 0 where
   pub shift_down : (code : List ℕ) (v : View) (r : ℕ) → Has code v.place (i86.Shift 5 true true (rms.Reg r)) → Goes code v (with_result r (word_down (register v r) (register v 1 % 256)) (shift_overflow 5 (register v r) (register v 1 % 256) v.overflow) (on (i86.Shift 5 true true (rms.Reg r)) v))
   pub shift_down_signed : (code : List ℕ) (v : View) (r : ℕ) → Has code v.place (i86.Shift 7 true true (rms.Reg r)) → register v r < 65536 → Goes code v (with_result r (word_down_signed (register v r) (register v 1 % 256)) (shift_overflow 7 (register v r) (register v 1 % 256) v.overflow) (on (i86.Shift 7 true true (rms.Reg r)) v))
   pub multiply : (code : List ℕ) (v : View) (r : ℕ) → Has code v.place (i86.Unary 5 true (rms.Reg r)) → Goes code v (with_overflow (product_overflows (register v 0) (register v r)) (with_pair (product_low (register v 0) (register v r)) (product_high (register v 0) (register v r)) (on (i86.Unary 5 true (rms.Reg r)) v)))
-  pub divide : (code : List ℕ) (v : View) (r : ℕ) → Has code v.place (i86.Unary 6 true (rms.Reg r)) → 0 < register v r → (65536 * register v 2 + register v 0) / register v r < 65536 → Goes code v (with_pair ((65536 * register v 2 + register v 0) / register v r) ((65536 * register v 2 + register v 0) % register v r) (on (i86.Unary 6 true (rms.Reg r)) v))
   pub extend : (code : List ℕ) (v : View) → Has code v.place i86.Cwd → Goes code v (with_register 2 (sign_of (register v 0)) (on i86.Cwd v))
+  pub quotient : (code : List ℕ) (v : View) (r : ℕ) (x n : ℤ) → Has code v.place (i86.Unary 7 true (rms.Reg r)) → FitsWord x → FitsWord n → 2 ≤ unsigned_abs n → register v 0 ≡ unsigned x → register v 2 ≡ sign_of (unsigned x) → register v r ≡ unsigned n
+      → Goes code v (with_pair (unsigned (scaled_quotient x n (pos 0))) (unsigned (int_rem x n)) (on (i86.Unary 7 true (rms.Reg r)) v))
+  pub quotient_fits : (x n : ℤ) → FitsWord x → 2 ≤ unsigned_abs n → FitsWord (scaled_quotient x n (pos 0))
   -- jumps
   pub near : (code : List ℕ) (v : View) (by : ℕ) → Has code v.place (i86.Jump by) → Goes code v (with_place ((v.place + 3 + by) % 65536) v)
-  pub short : (code : List ℕ) (v : View) (by : ℕ) → Has code v.place (i86.JumpShort by) → Goes code v (with_place ((v.place + 2 + sign_extended by) % 65536) v)
   pub jump_to : (code : List ℕ) (v : View) (r : ℕ) → Has code v.place (i86.JumpRm (rms.Reg r)) → Goes code v (with_place (register v r) v)
   pub no_overflow : (code : List ℕ) (v : View) (by : ℕ) → Has code v.place (i86.JumpIf 1 by) → v.overflow ≡ false → Goes code v (with_place ((v.place + 2 + sign_extended by) % 65536) v)
   pub passes : (code : List ℕ) (v : View) (by : ℕ) → Has code v.place (i86.JumpIf 1 by) → v.overflow ≡ true → Goes code v (on (i86.JumpIf 1 by) v)
@@ -70,13 +73,11 @@ pub record Rows : Type 0 where
   pub compare : (code : List ℕ) (v : View) (r q : ℕ) → Has code v.place (with_other 7 r q) → Compares code (register v r) (register v q) (with_other 7 r q) v
   pub compare_at : (code : List ℕ) (v : View) (r offset k : ℕ) → Has code v.place (with_memory 7 r offset) → k < 32768 → offset ≡ 2 * k → Compares code (register v r) (v.cells k) (with_memory 7 r offset) v
   pub compare_number : (code : List ℕ) (v : View) (w : ℕ) → Has code v.place (with_number 7 w) → Compares code (register v 0) w (with_number 7 w) v
-  pub compared_pop : (code : List ℕ) (v : View) (r a b : ℕ) (p : Processor) → Has code v.place (i86.Pop r) → Sees code v p → Compared a b p → Compared a b (processor_step p)
   pub compared_jumps : (code : List ℕ) (v : View) (c : Comparison) (by a b : ℕ) (p : Processor) → Has code v.place (i86.JumpIf (condition_of c) by) → a < 65536 → b < 65536 → words_compare c a b ≡ true → Sees code v p → Compared a b p → Sees code (with_place ((v.place + 2 + sign_extended by) % 65536) v) (processor_step p)
   pub compared_passes : (code : List ℕ) (v : View) (c : Comparison) (by a b : ℕ) (p : Processor) → Has code v.place (i86.JumpIf (condition_of c) by) → a < 65536 → b < 65536 → words_compare c a b ≡ false → Sees code v p → Compared a b p → Sees code (on (i86.JumpIf (condition_of c) by) v) (processor_step p)
   pub jumps_below : (code : List ℕ) (v : View) (by a b : ℕ) (p : Processor) → Has code v.place (i86.JumpIf 2 by) → a < b → Sees code v p → Compared a b p → Sees code (with_place ((v.place + 2 + sign_extended by) % 65536) v) (processor_step p)
   pub passes_above : (code : List ℕ) (v : View) (by a b : ℕ) (p : Processor) → Has code v.place (i86.JumpIf 2 by) → b ≤ a → Sees code v p → Compared a b p → Sees code (on (i86.JumpIf 2 by) v) (processor_step p)
   -- ports
-  pub take : (code : List ℕ) (v : View) (port : ℕ) → Has code v.place (i86.In port) → Goes code v (with_input (left_after port v.input) (with_register 0 (register v 0 / 256 * 256 + taken port v.input) (on (i86.In port) v)))
   pub out : (code : List ℕ) (v : View) (port : ℕ) → Has code v.place (i86.Out port) → Goes code v (with_told (with_given port (register v 0 % 256) v.told) (on (i86.Out port) v))
   pub halts : (code : List ℕ) (v : View) (p : Processor) → Has code v.place i86.Hlt → Sees code v p → observed (processor_step p) ≡ record { output = v.told.output; end = end_told v.told.kind v.told.segment (v.told.line_low + 256 * v.told.line_high) }
   pub rests : (code : List ℕ) (v : View) (p : Processor) → Has code v.place i86.Hlt → Sees code v p → processor_step (processor_step p) ≡ processor_step p

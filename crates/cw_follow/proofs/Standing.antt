@@ -1,8 +1,6 @@
 -- Instructions and words that stand one after another in an image, and where those of each order do.
-use Rattle.std.proofs.Common.{◌≡◌, ℕ, suc, ◌+◌, ◌*◌, ◌≤◌, true, false, List, [], ◌∷◌, ◌++◌, length, drop, Some, None, arith, subst}
-use Rattle.std.specs.Prelude.{slice_get, slice_index}
-use Rattle.cw_i86.specs.Encoding.{bytes_of}
-use Rattle.cw_i86.specs.declared.instr.Instr.{Instr}
+use Rattle.std.proofs.Common.{◌≡◌, ℕ, suc, ◌+◌, true, false, List, [], ◌∷◌, drop, Some, None}
+use Rattle.std.specs.Prelude.{slice_get}
 use Rattle.cw_i86.specs.declared.instr.Instr.TheVariants as i86
 use Rattle.cw_i86.specs.declared.instr.Imm.TheVariants as imm
 use Rattle.cw_run86.specs.Views.{Has, with_memory}
@@ -16,37 +14,14 @@ use Rattle.cw_tmpl.specs.declared.pieces.Coded.TheVariants as coded
 use Rattle.cw_tmpl.specs.Pieces.{Filling, size_of, target_of, word_before}
 use Rattle.cw_tmpl.specs.Mnemonics.{entry_of_table}
 use Rattle.cw_tmpl.specs.Names.{landing_start, switch_start}
-use Rattle.cw_tmpl.specs.Library.{routines, joined, past, entry_place}
+use Rattle.cw_tmpl.specs.Library.{entry_place}
+use Rattle.cw_routines.specs.Ways.{HasWord}
+use Rattle.cw_routines.specs.Results.{Stands as LibraryStands}
 use Rattle.cw_tmpl.specs.Templates.{block_pieces, entry_pieces, landing_pieces, switch_pieces}
 use Rattle.cw_tmpl.specs.Blocks.{block_at, left_at}
 use Rattle.cw_tmpl.specs.ReferenceCode.{names_of}
 use Rattle.cw_follow.specs.Placing.{Fills, base_of}
 use Rattle.cw_tmpl.proofs.Sizes.{own_place}
-
--- these instructions stand in the code, one after another from a place
-abbrev pub HasAll : List ℕ → ℕ → List Instr → Type 0
-HasAll code place [] = Unit {0}
-HasAll code place (i ∷ is) = Has code place i × HasAll code (place + length (bytes_of i)) is
-
--- the number of their bytes
-abbrev pub total : List Instr → ℕ
-total [] = 0
-total (i ∷ is) = length (bytes_of i) + total is
-
-pub has_front : (image : List ℕ) (place : ℕ) (is js : List Instr) → HasAll image place (is ++ js) → HasAll image place is
-has_front image place [] js h = tt
-has_front image place (i ∷ is) js h = (h.0, has_front image (place + length (bytes_of i)) is js h.1)
-
-pub has_back : (image : List ℕ) (place : ℕ) (is js : List Instr) → HasAll image place (is ++ js) → HasAll image (place + total is) js
-has_back image place [] js h = let e : place ≡ place + 0 = omega arith in subst (λ n. HasAll image n js) e h
-has_back image place (i ∷ is) js h =
-    let e : place + length (bytes_of i) + total is ≡ place + (length (bytes_of i) + total is) = omega arith in
-    subst (λ n. HasAll image n js) e (has_back image (place + length (bytes_of i)) is js h.1)
-
--- a word stands in the code
-pub record HasWord (code : List ℕ) (place word : ℕ) : Type 0 where
-  pub within : place + 2 ≤ length code
-  pub is : slice_index code place + 256 * slice_index code (place + 1) ≡ word
 
 -- a piece stands there with its word filled in
 abbrev pub HasPiece : List ℕ → (word place : ℕ) → Coded → Type 0
@@ -58,6 +33,7 @@ HasPiece code w place (coded.Operate op reg t) = Has code place (with_memory op 
 HasPiece code w place (coded.Call t) = Has code place (i86.Call w)
 HasPiece code w place (coded.Jump t) = Has code place (i86.Jump w)
 HasPiece code w place (coded.Word t) = HasWord code place w
+HasPiece code w place (coded.Data n) = HasWord code place n
 HasPiece code w place (coded.Way t) = Has code place (i86.JumpRm (entry_of_table w))
 
 -- these pieces stand one after another from a place
@@ -85,7 +61,7 @@ pub record Stands (p : OrderProgram) (image : List ℕ) (g : ℕ) (o : Orders) :
 
 -- all segments' codes, and the library
 pub record AllStand (p : OrderProgram) (image : List ℕ) : Type 0 where
-  pub library : HasAll image 0 (past ∷ joined routines)
+  pub library : LibraryStands image
   pub stands : (g : ℕ) (o : Orders) → slice_get p.units g ≡ Some o → Stands p image g o
   -- the way on from a segment
   pub last : (g : ℕ) (o : Orders) (is : slice_get p.units g ≡ Some o) → slice_get p.units (suc g) ≡ None → (stands g o is).next_place ≡ entry_place 0

@@ -6,8 +6,6 @@ use Rattle.std.proofs.lemmas.Option.{slice_get_within}
 use Rattle.std.specs.Prelude.{◌==◌, if◌then◌else◌, slice_get, slice_index}
 use Rattle.cw_i86.specs.Encoding.{bytes_of, IsInstr, BeginsWith}
 use Rattle.cw_i86.specs.declared.instr.Instr.{Instr}
-use Rattle.cw_i86.specs.declared.instr.Instr.TheVariants as i86
-use Rattle.cw_i86.specs.declared.instr.Imm.TheVariants as imm
 use Rattle.cw_run86.specs.Views.{Has}
 use Rattle.cw_image.specs.Begun.{StatementPlace, lines_at}
 use Rattle.cw_order.specs.declared.order.Order.{Order}
@@ -15,13 +13,13 @@ use Rattle.cw_order.specs.declared.order.Order.TheVariants as order
 use Rattle.cw_order.specs.declared.order.Orders.{Orders}
 use Rattle.cw_order.specs.OrderProgram.{OrderProgram}
 use Rattle.cw_tmpl.specs.declared.blocks.Block.TheVariants as block
-use Rattle.cw_tmpl.specs.Mnemonics.{slot, line_slot}
+use Rattle.cw_tmpl.specs.Mnemonics.{nothing}
 use Rattle.cw_tmpl.specs.Pieces.{blanks}
 use Rattle.cw_tmpl.specs.Blocks.{block_at, left_at}
 use Rattle.cw_tmpl.specs.Templates.{block_pieces, block_size, entry_pieces}
 use Rattle.cw_tmpl.specs.ReferenceCode.{templates, landings, switches, entry_size, order_places, landings_place, switches_place, names_of, pieces_of, orders_code, statements_from}
 use Rattle.cw_follow.specs.Placing.{total_size, base_of}
-use Rattle.cw_follow.specs.Passing.{moved_places, places_from, statement_places, stores_number, PlacesStand}
+use Rattle.cw_follow.specs.Passing.{moved_places, places_from, statement_places, does_nothing, PlacesStand}
 use Rattle.cw_tmpl.proofs.Growing.{blanks-append}
 use Rattle.cw_tmpl.proofs.Sizes.{size_to, size_next, places_are, own_place, size_of_templates}
 use Rattle.cw_follow.proofs.Standing.{HasPieces, order_place, AllStand}
@@ -136,27 +134,24 @@ module _ (p : OrderProgram) where
 from_zero : (n : ℕ) → 0 + n ≡ n
 from_zero n = omega arith
 
--- ---- the places of Start and Line
+-- ---- the places of Starts
 
--- an order that sets the line
-abbrev SetsLine : Order → Type 0
-SetsLine (order.Start line) = Unit {0}
-SetsLine (order.Line line) = Unit {0}
-SetsLine _ = ⊥
+-- an order that begins a statement
+abbrev IsStart : Order → Type 0
+IsStart (order.Start line) = Unit {0}
+IsStart _ = ⊥
 
--- it is a block by itself, of five bytes
-alone : (list : List Order) (k : ℕ) (a : Order) → slice_get list k ≡ Some a → SetsLine a → block_at (left_at 0 list k) (drop k list) ≡ block.Single
-alone list k (order.Start line) e sets = ap (λ n. block_at n (drop k list)) (begins_at list k (order.Start line) e (λ x. x)) ∙ ap (block_at 0) (front_is list k (order.Start line) e)
-alone list k (order.Line line) e sets = ap (λ n. block_at n (drop k list)) (begins_at list k (order.Line line) e (λ x. x)) ∙ ap (block_at 0) (front_is list k (order.Line line) e)
-alone list k _ e sets = absurd sets
+-- it is a block by itself, of one byte
+alone : (list : List Order) (k : ℕ) (a : Order) → slice_get list k ≡ Some a → IsStart a → block_at (left_at 0 list k) (drop k list) ≡ block.Single
+alone list k (order.Start line) e starts = ap (λ n. block_at n (drop k list)) (begins_at list k (order.Start line) e (λ x. x)) ∙ ap (block_at 0) (front_is list k (order.Start line) e)
+alone list k _ e starts = absurd starts
 
-five : (a : Order) → SetsLine a → block_size block.Single a ≡ 5
-five (order.Start line) sets = refl
-five (order.Line line) sets = refl
-five _ sets = absurd sets
+one_byte : (a : Order) → IsStart a → block_size block.Single a ≡ 1
+one_byte (order.Start line) starts = refl
+one_byte _ starts = absurd starts
 
-size_behind : (list : List Order) (k : ℕ) (a : Order) → slice_get list k ≡ Some a → SetsLine a → size_to 0 list (suc k) ≡ size_to 0 list k + 5
-size_behind list k a e sets = size_next 0 list k a e ∙ ap (λ n. size_to 0 list k + n) (ap (λ b. block_size b a) (alone list k a e sets) ∙ five a sets)
+size_behind : (list : List Order) (k : ℕ) (a : Order) → slice_get list k ≡ Some a → IsStart a → size_to 0 list (suc k) ≡ size_to 0 list k + 1
+size_behind list k a e starts = size_next 0 list k a e ∙ ap (λ n. size_to 0 list k + n) (ap (λ b. block_size b a) (alone list k a e starts) ∙ one_byte a starts)
 
 sizes_rise : (list : List Order) (k m : ℕ) → k ≤ m → size_to 0 list k ≤ size_to 0 list m
 sizes_rise list k m le =
@@ -177,20 +172,20 @@ orders_within o =
     let second = ap length (blanks-append T R) ∙ length-append (blanks T) (blanks R) in
     omega (arith, first, second, size_of_templates N entry_size 0 o.list)
 
--- the line is set by this order at a place of the list of a segment
-record SetsLineAt (p : OrderProgram) (g k : ℕ) : Type 0 where
+-- a Start at a place of the list of a segment
+record StartAt (p : OrderProgram) (g k : ℕ) : Type 0 where
   orders : Orders
-  sets : Order
+  start : Order
   unit : slice_get p.units g ≡ Some orders
-  listed : slice_get orders.list k ≡ Some sets
-  sets_line : SetsLine sets
+  listed : slice_get orders.list k ≡ Some start
+  is_start : IsStart start
 
 module _ (p : OrderProgram) where
   -- where the code of an order begins
   abbrev code_place : (g : ℕ) (o : Orders) (k : ℕ) → ℕ
   code_place g o k = base_of p g + slice_index (order_places o.list) k
 
-  abbrev place_of : {g k : ℕ} → SetsLineAt p g k → ℕ
+  abbrev place_of : {g k : ℕ} → StartAt p g k → ℕ
   place_of {g} {k} s = code_place g s.orders k
 
   bases_rise : (g h : ℕ) → g ≤ h → base_of p g ≤ base_of p h
@@ -199,38 +194,38 @@ module _ (p : OrderProgram) where
       let same = ap (λ n. total_size (take n p.units)) e in
       omega (arith, total_rises p.units g (h - g))
 
-  before_next : {g k : ℕ} (s : SetsLineAt p g k) → place_of s < base_of p (suc g)
+  before_next : {g k : ℕ} (s : StartAt p g k) → place_of s < base_of p (suc g)
   before_next {g} {k} s =
-      let inside = slice_get_within s.orders.list k s.sets s.listed in
-      omega (arith, own_is s.orders.list k s.sets s.listed, size_behind s.orders.list k s.sets s.listed s.sets_line, sizes_rise s.orders.list (suc k) (length s.orders.list) inside, orders_within s.orders, total_next p.units g s.orders s.unit)
+      let inside = slice_get_within s.orders.list k s.start s.listed in
+      omega (arith, own_is s.orders.list k s.start s.listed, size_behind s.orders.list k s.start s.listed s.is_start, sizes_rise s.orders.list (suc k) (length s.orders.list) inside, orders_within s.orders, total_next p.units g s.orders s.unit)
 
-  segment_below : {g k h m : ℕ} (s : SetsLineAt p g k) (t : SetsLineAt p h m) → g < h → place_of s < place_of t
+  segment_below : {g k h m : ℕ} (s : StartAt p g k) (t : StartAt p h m) → g < h → place_of s < place_of t
   segment_below {g} {k} {h} {m} s t lt = omega (arith, before_next s, bases_rise (suc g) h lt)
 
-  same_segment : {g k h m : ℕ} (s : SetsLineAt p g k) (t : SetsLineAt p h m) → place_of s ≡ place_of t → g ≡ h
+  same_segment : {g k h m : ℕ} (s : StartAt p g k) (t : StartAt p h m) → place_of s ≡ place_of t → g ≡ h
   same_segment {g} {k} {h} {m} s t e = elim (cases_order g h) [
     | inl same ↦ same
     | inr (inl lt) ↦ absurd (let x = segment_below s t lt in omega arith)
     | inr (inr gt) ↦ absurd (let x = segment_below t s gt in omega arith)
   ]
 
-  order_below : (g : ℕ) {k m : ℕ} (o : Orders) (a b : Order) → slice_get o.list k ≡ Some a → slice_get o.list m ≡ Some b → SetsLine a → k < m → code_place g o k < code_place g o m
+  order_below : (g : ℕ) {k m : ℕ} (o : Orders) (a b : Order) → slice_get o.list k ≡ Some a → slice_get o.list m ≡ Some b → IsStart a → k < m → code_place g o k < code_place g o m
   order_below g {k} {m} o a b ea eb sets lt =
       omega (arith, own_is o.list k a ea, own_is o.list m b eb, size_behind o.list k a ea sets, sizes_rise o.list (suc k) m lt)
 
-  same_order : (g : ℕ) {k m : ℕ} (o : Orders) (a b : Order) → slice_get o.list k ≡ Some a → slice_get o.list m ≡ Some b → SetsLine a → SetsLine b → code_place g o k ≡ code_place g o m → k ≡ m
+  same_order : (g : ℕ) {k m : ℕ} (o : Orders) (a b : Order) → slice_get o.list k ≡ Some a → slice_get o.list m ≡ Some b → IsStart a → IsStart b → code_place g o k ≡ code_place g o m → k ≡ m
   same_order g {k} {m} o a b ea eb sa sb e = elim (cases_order k m) [
     | inl same ↦ same
     | inr (inl lt) ↦ absurd (let x = order_below g o a b ea eb sa lt in omega arith)
     | inr (inr gt) ↦ absurd (let x = order_below g o b a eb ea sb gt in omega arith)
   ]
 
-  -- at one place of the image the line is set once
-  same_place : (g k h m : ℕ) (o u : Orders) (a b : Order) → slice_get p.units g ≡ Some o → slice_get o.list k ≡ Some a → SetsLine a → slice_get p.units h ≡ Some u → slice_get u.list m ≡ Some b → SetsLine b
+  -- at one place of the image one statement begins
+  same_place : (g k h m : ℕ) (o u : Orders) (a b : Order) → slice_get p.units g ≡ Some o → slice_get o.list k ≡ Some a → IsStart a → slice_get p.units h ≡ Some u → slice_get u.list m ≡ Some b → IsStart b
       → code_place g o k ≡ code_place h u m → (g ≡ h) × (k ≡ m) × (a ≡ b)
   same_place g k h m o u a b unit listed sets unit' listed' sets' e =
-      let s : SetsLineAt p g k = record { orders = o; sets = a; unit = unit; listed = listed; sets_line = sets } in
-      let t : SetsLineAt p h m = record { orders = u; sets = b; unit = unit'; listed = listed'; sets_line = sets' } in
+      let s : StartAt p g k = record { orders = o; start = a; unit = unit; listed = listed; is_start = sets } in
+      let t : StartAt p h m = record { orders = u; start = b; unit = unit'; listed = listed'; is_start = sets' } in
       let segments : g ≡ h = same_segment s t e in
       let here : slice_get p.units g ≡ Some u = ap (slice_get p.units) segments ∙ unit' in
       let orders : u ≡ o = cc in
@@ -276,28 +271,24 @@ begins_there image place i has = bytes_begin image (bytes_of i) place has.within
 -- ---- the whole
 
 module _ (one : OneInstr) (p : OrderProgram) (image : List ℕ) (all : AllStand p image) where
-  -- where the code of a Start is, a number is stored
-  stores_there : (g k line : ℕ) (o : Orders) → slice_get p.units g ≡ Some o → slice_get o.list k ≡ Some (order.Start line) → Has image (code_place p g o k) (i86.MovRm (slot line_slot) (imm.Word line))
-  stores_there g k line o unit listed =
+  -- where the code of a Start is, an instruction stands that does nothing
+  idle_there : (g k line : ℕ) (o : Orders) → slice_get p.units g ≡ Some o → slice_get o.list k ≡ Some (order.Start line) → Has image (code_place p g o k) nothing
+  idle_there g k line o unit listed =
       let st = all.stands g o unit in
       let pieces = st.orders k (order.Start line) listed in
       let alone_there = subst (λ b. HasPieces image st.value (order_place (base_of p g) o.list k) (block_pieces (names_of o) (own_place o.list k) b (order.Start line))) (alone o.list k (order.Start line) listed tt) pieces in
-      subst (λ n. Has image (base_of p g + n) (i86.MovRm (slot line_slot) (imm.Word line))) (sym (own_is o.list k (order.Start line) listed)) alone_there.0
+      subst (λ n. Has image (base_of p g + n) nothing) (sym (own_is o.list k (order.Start line) listed)) alone_there.0
 
-  nothing_else : (place : ℕ) (i : Instr) → Has image place i → stores_number i ≡ false → lines_at (statement_places p) place ≡ []
-  nothing_else place i has plain = none_begins p place (λ g k line o unit listed e.
-      let store = i86.MovRm (slot line_slot) (imm.Word line) in
-      let there : Has image place store = subst (λ n. Has image n store) e (stores_there g k line o unit listed) in
-      let same : i ≡ store = one (drop place image) i store has.is_instr there.is_instr (begins_there image place i has) (begins_there image place store there) in
-      let both : false ≡ true = sym plain ∙ ap stores_number same in
+  nothing_else : (place : ℕ) (i : Instr) → Has image place i → does_nothing i ≡ false → lines_at (statement_places p) place ≡ []
+  nothing_else place i has does = none_begins p place (λ g k line o unit listed e.
+      let there : Has image place nothing = subst (λ n. Has image n nothing) e (idle_there g k line o unit listed) in
+      let same : i ≡ nothing = one (drop place image) i nothing has.is_instr there.is_instr (begins_there image place i has) (begins_there image place nothing there) in
+      let both : false ≡ true = sym does ∙ ap does_nothing same in
       false≢true both)
 
   pub places_stand : PlacesStand p image (statement_places p)
   places_stand = record {
     starts = one_begins p;
-    lines = λ g k line o unit listed. none_begins p (code_place p g o k) (λ h m l u unit' listed' e.
-        let same = (same_place p h m g k u o (order.Start l) (order.Line line) unit' listed' tt unit listed tt e).2 in
-        cc);
     ignores = record {
       library = λ place below. none_begins p place (λ g k line o unit listed e. omega arith);
       others = nothing_else;

@@ -20,11 +20,10 @@ use Rattle.cw_image.specs.Begun.{StatementPlace}
 use Rattle.cw_follow.specs.Placing.{base_of, Codable}
 use Rattle.cw_follow.specs.Passing.{PlacesStand}
 use Rattle.cw_follow.proofs.Standing.{order_place, AllStand}
-use Rattle.cw_follow.proofs.InBlocks.{silently}
+use Rattle.cw_follow.proofs.InBlocks.{silently, loaded_silently}
 use Rattle.cw_follow.proofs.Rows.{Rows}
 use Rattle.cw_follow.proofs.Routines.{Over}
-use Rattle.cw_follow.proofs.Orders.{Landed}
-use Rattle.cw_follow.proofs.Calls.{CalledAt}
+use Rattle.cw_follow.proofs.Orders.{Landed, CalledAt}
 
 -- what is known of a program and its image, and of the places of its statements
 pub record Given : Type 0 where
@@ -48,51 +47,53 @@ abbrev pub ComesBack : OrderProgram → List OrderActivation → Type 0
 ComesBack p [] = Unit {0}
 ComesBack p (a ∷ acts) = ((o : Orders) → slice_get p.units a.segment ≡ Some o → left_at 0 o.list a.place ≡ 0) × ComesBack p acts
 
--- The processor stands before a block, with the words that are there before it, and the first orders of the block are done. All activations
--- have been begun, and the orders do not get stuck.
-pub record Sound (p : OrderProgram) (image : List ℕ) (g place line : ℕ) (acts : List OrderActivation) (w : Words) (q : Watched) : Type 0 where
+-- The processor stands before a block, with the words and the accumulator as they are before it, and the first orders of the block are done.
+-- All activations have been begun, and the orders do not get stuck.
+pub record Sound (p : OrderProgram) (image : List ℕ) (g place : ℕ) (loaded : Bool) (acts : List OrderActivation) (w : Words) (q : Watched) : Type 0 where
   pub orders : Orders
   pub unit : slice_get p.units g ≡ Some orders
   pub from : ℕ
   pub done : ℕ
   pub before : Words
+  pub loaded_before : Bool
   pub place_is : from + done ≡ place
   pub begins : left_at 0 orders.list from ≡ 0
   pub inside : done ≤ orders_left (block_at 0 (drop from orders.list))
   pub did : silently p g acts done (drop from orders.list) before ≡ Changed w
-  pub landed : Landed p image (order_place (base_of p g) orders.list from) g line acts before q
+  pub moded : loaded_silently done (drop from orders.list) loaded_before ≡ Some loaded
+  pub landed : Landed p image (order_place (base_of p g) orders.list from) g loaded_before acts before q
   pub fits : WordsFit w
   pub acts_fit : All ActivationFits acts
   pub fits_before : WordsFit before
   pub room : stack_words w.operands acts ≤ p.room
   pub room_before : stack_words before.operands acts ≤ p.room
   pub wrote : before.output ≡ w.output
-  pub stands : StateStands p (at g place line acts w Running)
+  pub stands : StateStands p (at g place loaded acts w Running)
   pub working : ActivationsStand p g acts
   pub comes_back : ComesBack p acts
-  pub never : Never p (at g place line acts w Running)
+  pub never : Never p (at g place loaded acts w Running)
 
 -- The processor stands before the Enter of a call.
-pub record Starting (p : OrderProgram) (image : List ℕ) (g place line : ℕ) (a : OrderActivation) (acts : List OrderActivation) (w : Words) (q : Watched) : Type 0 where
+pub record Starting (p : OrderProgram) (image : List ℕ) (g place : ℕ) (loaded : Bool) (a : OrderActivation) (acts : List OrderActivation) (w : Words) (q : Watched) : Type 0 where
   pub orders : Orders
   pub unit : slice_get p.units g ≡ Some orders
   pub begins : left_at 0 orders.list place ≡ 0
   pub called_at : CalledAt p image (order_place (base_of p g) orders.list place) a acts w q
-  pub fits : StateFits (at g place line (a ∷ acts) w Running)
-  pub stands : StateStands p (at g place line (a ∷ acts) w Running)
-  pub beginning : Beginning p g place line a acts w.operands
+  pub fits : StateFits (at g place loaded (a ∷ acts) w Running)
+  pub stands : StateStands p (at g place loaded (a ∷ acts) w Running)
+  pub beginning : Beginning p g place a acts w.operands
   pub comes_back : ComesBack p (a ∷ acts)
-  pub never : Never p (at g place line (a ∷ acts) w Running)
+  pub never : Never p (at g place loaded (a ∷ acts) w Running)
 
-abbrev pub LastStarts : OrderProgram → List ℕ → (g place line : ℕ) → List OrderActivation → Words → Watched → Type 0
-LastStarts p image g place line [] w q = ⊥
-LastStarts p image g place line (a ∷ acts) w q = Starting p image g place line a acts w q
+abbrev pub LastStarts : OrderProgram → List ℕ → (g place : ℕ) → (loaded : Bool) → List OrderActivation → Words → Watched → Type 0
+LastStarts p image g place loaded [] w q = ⊥
+LastStarts p image g place loaded (a ∷ acts) w q = Starting p image g place loaded a acts w q
 
 abbrev pub Matches : OrderProgram → List ℕ → OrderState → Watched → Type 0
-Matches p image (at g place line acts w Running) q = Sound p image g place line acts w q ⊎ LastStarts p image g place line acts w q
-Matches p image (at g place line acts w Ended) q = Over (record { output = w.output; end = Ended }) q
-Matches p image (at g place line acts w (Stopped kind s l)) q = Over (record { output = w.output; end = Stopped kind s l }) q
-Matches p image (at g place line acts w Stuck) q = ⊥
+Matches p image (at g place loaded acts w Running) q = Sound p image g place loaded acts w q ⊎ LastStarts p image g place loaded acts w q
+Matches p image (at g place loaded acts w Ended) q = Over (record { output = w.output; end = Ended }) q
+Matches p image (at g place loaded acts w (Stopped kind s l)) q = Over (record { output = w.output; end = Stopped kind s l }) q
+Matches p image (at g place loaded acts w Stuck) q = ⊥
 
 -- the orders that are left
 abbrev pub length_in : Option Orders → ℕ
@@ -100,15 +101,15 @@ length_in None = 0
 length_in (Some o) = length o.list
 
 abbrev pub left : OrderProgram → OrderState → ℕ
-left p (at g place line acts w e) = length_in (slice_get p.units g) - place
+left p (at g place loaded acts w e) = length_in (slice_get p.units g) - place
 
 -- ---- runs that do not get stuck
 
 pub never_on : (p : OrderProgram) (s t : OrderState) → step p s ≡ t → Never p s → Never p t
 never_on p s t e never k stuck = never (suc k) (ap (λ x. (shown_after (order_machine p) k x).end) e ∙ stuck)
 
-pub not_stuck : (p : OrderProgram) (g place line : ℕ) (acts : List OrderActivation) (w : Words) → Never p (at g place line acts w Stuck) → ⊥
-not_stuck p g place line acts w never = never 0 refl
+pub not_stuck : (p : OrderProgram) (g place : ℕ) (loaded : Bool) (acts : List OrderActivation) (w : Words) → Never p (at g place loaded acts w Stuck) → ⊥
+not_stuck p g place loaded acts w never = never 0 refl
 
 -- there are orders where the orders go on
 pub record HasUnit (p : OrderProgram) (g place : ℕ) : Type 0 where
@@ -116,11 +117,11 @@ pub record HasUnit (p : OrderProgram) (g place : ℕ) : Type 0 where
   pub unit : slice_get p.units g ≡ Some orders
   pub within : place ≤ length orders.list
 
-pub has_unit : (p : OrderProgram) (g place line : ℕ) (acts : List OrderActivation) (w : Words) → Never p (at g place line acts w Running) → HasUnit p g place
-has_unit p g place line acts w never = cases (slice_get p.units g) refl
+pub has_unit : (p : OrderProgram) (g place : ℕ) (loaded : Bool) (acts : List OrderActivation) (w : Words) → Never p (at g place loaded acts w Running) → HasUnit p g place
+has_unit p g place loaded acts w never = cases (slice_get p.units g) refl
   where
     stuck : order_at p g place ≡ None → ⊥
-    stuck none = not_stuck p g place line acts w (never_on p (at g place line acts w Running) (at g place line acts w Stuck) (ap (λ x. carry_out p x g place line acts w) none) never)
+    stuck none = not_stuck p g place loaded acts w (never_on p (at g place loaded acts w Running) (at g place loaded acts w Stuck) (ap (λ x. carry_out p x g place loaded acts w) none) never)
 
     within : (o : Orders) → slice_get p.units g ≡ Some o → (x : Option Order) → slice_get o.list place ≡ x → place ≤ length o.list
     within o e None none = absurd (stuck (ap (λ u. order_in u place) e ∙ none))
@@ -131,16 +132,17 @@ has_unit p g place line acts w never = cases (slice_get p.units g) refl
     cases (Some o) e = record { orders = o; unit = e; within = within o e (slice_get o.list place) refl }
 
 -- an operation that changed the words went on, and its operands had room
-pub record WentOn (p : OrderProgram) (g place line : ℕ) (acts : List OrderActivation) (w v : Words) : Type 0 where
-  pub goes : step p (at g place line acts w Running) ≡ at g (place + 1) line acts v Running
+pub record WentOn (p : OrderProgram) (g place : ℕ) (loaded after : Bool) (acts : List OrderActivation) (w v : Words) : Type 0 where
+  pub goes : step p (at g place loaded acts w Running) ≡ at g (place + 1) after acts v Running
   pub room : stack_words v.operands acts ≤ p.room
 
-pub went_on : (p : OrderProgram) (g place line : ℕ) (acts : List OrderActivation) (w v : Words) → step p (at g place line acts w Running) ≡ after p.room (Changed v) g place line acts w → Never p (at g place line acts w Running) → WentOn p g place line acts w v
-went_on p g place line acts w v e never = cases (nat_le (stack_words v.operands acts) p.room) refl
+pub went_on : (p : OrderProgram) (g place : ℕ) (loaded m : Bool) (line : ℕ) (acts : List OrderActivation) (w v : Words) → step p (at g place loaded acts w Running) ≡ after p.room line (Changed v) g place m acts w → Never p (at g place loaded acts w Running)
+    → WentOn p g place loaded m acts w v
+went_on p g place loaded m line acts w v e never = cases (nat_le (stack_words v.operands acts) p.room) refl
   where
-    cases : (b : Bool) → nat_le (stack_words v.operands acts) p.room ≡ b → WentOn p g place line acts w v
-    cases true b = record { goes = e ∙ ap (λ x. go_on x g place line acts w v) b; room = leb-true (stack_words v.operands acts) p.room b }
-    cases false b = absurd (not_stuck p g place line acts w (never_on p (at g place line acts w Running) (at g place line acts w Stuck) (e ∙ ap (λ x. go_on x g place line acts w v) b) never))
+    cases : (b : Bool) → nat_le (stack_words v.operands acts) p.room ≡ b → WentOn p g place loaded m acts w v
+    cases true b = record { goes = e ∙ ap (λ x. go_on x g place m acts w v) b; room = leb-true (stack_words v.operands acts) p.room b }
+    cases false b = absurd (not_stuck p g place m acts w (never_on p (at g place loaded acts w Running) (at g place m acts w Stuck) (e ∙ ap (λ x. go_on x g place m acts w v) b) never))
 
 -- ---- without the last activations
 

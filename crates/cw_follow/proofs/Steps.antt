@@ -20,19 +20,22 @@ use Rattle.cw_order.specs.OrderProgram.{OrderProgram, order_in, order_at, mark_i
 use Rattle.cw_order.specs.OrderChanges.{Way, Onward, ToMark, Nowhere, way_of_two, to_mark_if, comparison}
 use Rattle.cw_order.specs.OrderState.{OrderActivation, OrderState, at, operand_words, stack_words}
 use Rattle.cw_order.specs.OrderCosts.{weight_of, weight_at}
-use Rattle.cw_order.specs.OrderMachine.{go_at, branch, after, carry_out, step, weight, shown, order_machine}
+use Rattle.cw_order.specs.Loading.{loaded_after}
+use Rattle.cw_order.specs.OrderLines.{line_of}
+use Rattle.cw_order.specs.OrderActions.{action_of}
+use Rattle.cw_order.specs.OrderMachine.{go_at, branch, after, act, carry_with, carry_out, step, weight, shown, order_machine}
 use Rattle.cw_order.specs.FittingWords.{StateFits}
 use Rattle.cw_order.specs.Activations.{StateStands}
 use Rattle.cw_tmpl.specs.declared.blocks.Block.{Block}
 use Rattle.cw_tmpl.specs.declared.blocks.Block.TheVariants as block
 use Rattle.cw_tmpl.specs.Blocks.{block_at, orders_left, left_at}
-use Rattle.cw_tmpl.specs.Library.{routines, entry_place}
+use Rattle.cw_tmpl.specs.Library.{places_of_entries, entry_place}
 use Rattle.cw_tmpl.specs.Templates.{template, block_pieces, block_size, order_size, distance}
 use Rattle.cw_tmpl.specs.ReferenceCode.{mark_starts, names_of}
 use Rattle.cw_follow.specs.Placing.{base_of}
 use Rattle.cw_tmpl.proofs.Sizes.{size_to, size_next, left_next, own_place, mark_start}
 use Rattle.cw_follow.proofs.Standing.{HasPieces, order_place}
-use Rattle.cw_follow.proofs.InBlocks.{slice_drop, size_split, left_split, begins_at, chain, puts_word, silently, silently_next, is_silent}
+use Rattle.cw_follow.proofs.InBlocks.{slice_drop, size_split, left_split, begins_at, chain, puts_word, silently, silently_next, is_silent, loaded_then, loaded_silently, loaded_next}
 use Rattle.cw_follow.proofs.Chains.{at_work}
 use Rattle.cw_follow.proofs.Routines.{leads_on}
 use Rattle.cw_follow.proofs.Stacks.{level, words_split}
@@ -54,15 +57,15 @@ abbrev pub under : ℕ → ℕ
 under zero = 32767
 under (suc n) = n
 
-pub under_low : (top : ℕ) → top ≤ 32761 → under top < 32768
+pub under_low : (top : ℕ) → top ≤ 32764 → under top < 32768
 under_low zero le = lit< tt
 under_low (suc n) le = omega arith
 
-pub under_is : (top : ℕ) → top ≤ 32761 → 2 * top ≡ 2 * suc (under top) % 65536
+pub under_is : (top : ℕ) → top ≤ 32764 → 2 * top ≡ 2 * suc (under top) % 65536
 under_is zero le = refl
 under_is (suc n) le = omega arith
 
-pub arrives_at : (base own size to : ℕ) → (base + own + size + 6 + distance (own + size + 6) to) % 65536 ≡ (base + to) % 65536
+pub arrives_at : (base own size to : ℕ) → (base + own + size + 5 + distance (own + size + 5) to) % 65536 ≡ (base + to) % 65536
 arrives_at base own size to = omega arith
 
 -- a number that is not at most another one is above it
@@ -73,10 +76,10 @@ above a b h = elim (cases_lt b a) as (λ _. b < a) [
 ]
 
 -- before an order that is a block of its own
-pub record Alone (p : OrderProgram) (image : List ℕ) (g place line : ℕ) (acts : List OrderActivation) (w : Words) (q : Watched) (list : List Order) : Type 0 where
+pub record Alone (p : OrderProgram) (image : List ℕ) (g place : ℕ) (loaded : Bool) (acts : List OrderActivation) (w : Words) (q : Watched) (list : List Order) : Type 0 where
   pub begins : left_at 0 list place ≡ 0
   pub single : block_at 0 (drop place list) ≡ block.Single
-  pub landed : Landed p image (order_place (base_of p g) list place) g line acts w q
+  pub landed : Landed p image (order_place (base_of p g) list place) g loaded acts w q
 
 -- the words on a way are within the room
 abbrev pub Roomy : List OrderActivation → ℕ → Way → Type 0
@@ -110,9 +113,9 @@ module _ (known : Given) where
   Follow s q = Followed unnoted_orders watched_machine (Matches p image) (left p) s q
 
   -- a way on that is paid for
-  pub leads_to : {q : Watched} (g place line : ℕ) (acts : List OrderActivation) (w : Words) (t : OrderState) (limit : ℕ) → step p (at g place line acts w Running) ≡ t → limit ≤ weight p (at g place line acts w Running) → Leading w.output limit q (Matches p image t) → Follow (at g place line acts w Running) q
-  leads_to {q} g place line acts w t limit e paid l =
-      let s = at g place line acts w Running in
+  pub leads_to : {q : Watched} (g place : ℕ) (loaded : Bool) (acts : List OrderActivation) (w : Words) (t : OrderState) (limit : ℕ) → step p (at g place loaded acts w Running) ≡ t → limit ≤ weight p (at g place loaded acts w Running) → Leading w.output limit q (Matches p image t) → Follow (at g place loaded acts w Running) q
+  leads_to {q} g place loaded acts w t limit e paid l =
+      let s = at g place loaded acts w Running in
       let within = l.within in
       record {
         spent = l.spent;
@@ -126,69 +129,79 @@ module _ (known : Given) where
   pub onward : {output : List ℕ} {limit : ℕ} {q : Watched} {T U : Watched → Type 0} → ((r : Watched) → T r → U r) → Leading output limit q T → Leading output limit q U
   onward f l = record { spent = l.spent; some = l.some; within = l.within; leads = leads_on f l.leads }
 
-  module _ {q : Watched} {g place line : ℕ} {acts : List OrderActivation} {w : Words} (s : Sound p image g place line acts w q) where
+  module _ {q : Watched} {g place : ℕ} {loaded : Bool} {acts : List OrderActivation} {w : Words} (s : Sound p image g place loaded acts w q) where
     pub few_segments : g < 255
     few_segments = let lt = slice_get_within p.units g s.orders s.unit in omega arith
 
     pub order_is : (o : Option Order) → slice_get s.orders.list place ≡ o → order_at p g place ≡ o
     order_is o e = ap (λ u. order_in u place) s.unit ∙ e
 
-    pub step_is : (o : Option Order) → slice_get s.orders.list place ≡ o → step p (at g place line acts w Running) ≡ carry_out p o g place line acts w
-    step_is o e = ap (λ x. carry_out p x g place line acts w) (order_is o e)
+    pub step_is : (o : Option Order) → slice_get s.orders.list place ≡ o → step p (at g place loaded acts w Running) ≡ carry_out p o g place loaded acts w
+    step_is o e = ap (λ x. carry_out p x g place loaded acts w) (order_is o e)
 
-    pub weight_is : (o : Order) → slice_get s.orders.list place ≡ Some o → weight_of o ≤ weight p (at g place line acts w Running)
-    weight_is o e = let f : weight p (at g place line acts w Running) ≡ weight_of o = ap weight_at (order_is (Some o) e) in omega arith
+    pub weight_is : (o : Order) → slice_get s.orders.list place ≡ Some o → weight_of o ≤ weight p (at g place loaded acts w Running)
+    weight_is o e = let f : weight p (at g place loaded acts w Running) ≡ weight_of o = ap weight_at (order_is (Some o) e) in omega arith
 
-    pub fits_next : (t : OrderState) → step p (at g place line acts w Running) ≡ t → StateFits t
-    fits_next t e = subst StateFits e (rows.words.keeps p (at g place line acts w Running) (record { words = s.fits; activations = s.acts_fit }))
+    pub fits_next : (t : OrderState) → step p (at g place loaded acts w Running) ≡ t → StateFits t
+    fits_next t e = subst StateFits e (rows.words.keeps p (at g place loaded acts w Running) (record { words = s.fits; activations = s.acts_fit }))
 
-    pub stands_next : (t : OrderState) → step p (at g place line acts w Running) ≡ t → StateStands p t
-    stands_next t e = subst (StateStands p) e (rows.words.stands_keep p (at g place line acts w Running) coded.callable s.stands)
+    pub stands_next : (t : OrderState) → step p (at g place loaded acts w Running) ≡ t → StateStands p t
+    stands_next t e = subst (StateStands p) e (rows.words.stands_keep p (at g place loaded acts w Running) coded.callable s.stands)
 
-    pub never_next : (t : OrderState) → step p (at g place line acts w Running) ≡ t → Never p t
-    never_next t e = never_on p (at g place line acts w Running) t e s.never
+    pub never_next : (t : OrderState) → step p (at g place loaded acts w Running) ≡ t → Never p t
+    never_next t e = never_on p (at g place loaded acts w Running) t e s.never
 
     -- the orders do not get stuck here
-    pub stuck_here : step p (at g place line acts w Running) ≡ at g place line acts w Stuck → ⊥
-    stuck_here e = not_stuck p g place line acts w (never_next (at g place line acts w Stuck) e)
+    pub stuck_here : {m : Bool} → step p (at g place loaded acts w Running) ≡ at g place m acts w Stuck → ⊥
+    stuck_here {m} e = not_stuck p g place m acts w (never_next (at g place m acts w Stuck) e)
+
+    -- nor do they where an order finds the accumulator the other way than it wants it
+    pub wrong_way : (o : Order) → slice_get s.orders.list place ≡ Some o → loaded_after o loaded ≡ None → ⊥
+    wrong_way o e none = stuck_here (step_is (Some o) e ∙ ap (λ x. carry_with p x o g place loaded acts w) none)
 
     -- before another block
-    pub sound_at : (to line' : ℕ) (v : Words) (r : Watched) → left_at 0 s.orders.list to ≡ 0 → stack_words v.operands acts ≤ p.room → step p (at g place line acts w Running) ≡ at g to line' acts v Running → Landed p image (order_place (base_of p g) s.orders.list to) g line' acts v r → Sound p image g to line' acts v r
-    sound_at to line' v r begins room e l = record {
+    pub sound_at : (to : ℕ) (m : Bool) (v : Words) (r : Watched) → left_at 0 s.orders.list to ≡ 0 → stack_words v.operands acts ≤ p.room → step p (at g place loaded acts w Running) ≡ at g to m acts v Running
+        → Landed p image (order_place (base_of p g) s.orders.list to) g m acts v r → Sound p image g to m acts v r
+    sound_at to m v r begins room e l = record {
       orders = s.orders;
       unit = s.unit;
       from = to;
       done = 0;
       before = v;
+      loaded_before = m;
       place_is = omega arith;
       begins = begins;
       inside = omega arith;
       did = refl;
+      moded = refl;
       landed = l;
-      fits = (fits_next (at g to line' acts v Running) e).words;
-      acts_fit = (fits_next (at g to line' acts v Running) e).activations;
-      fits_before = (fits_next (at g to line' acts v Running) e).words;
+      fits = (fits_next (at g to m acts v Running) e).words;
+      acts_fit = (fits_next (at g to m acts v Running) e).activations;
+      fits_before = (fits_next (at g to m acts v Running) e).words;
       room = room;
       room_before = room;
       wrote = refl;
-      stands = stands_next (at g to line' acts v Running) e;
+      stands = stands_next (at g to m acts v Running) e;
       working = s.working;
       comes_back = s.comes_back;
-      never = never_on p (at g place line acts w Running) (at g to line' acts v Running) e s.never;
+      never = never_on p (at g place loaded acts w Running) (at g to m acts v Running) e s.never;
     }
 
-    pub does : (o : Outcome) (limit : ℕ) → left_at 0 s.orders.list (place + 1) ≡ 0 → step p (at g place line acts w Running) ≡ after p.room o g place line acts w → limit ≤ weight p (at g place line acts w Running) → Does p image limit (order_place (base_of p g) s.orders.list (place + 1)) g line acts w.output q o → Follow (at g place line acts w Running) q
-    does (Changed v) limit begins e paid d =
-        let on = went_on p g place line acts w v e s.never in
-        leads_to g place line acts w (at g (place + 1) line acts v Running) limit on.goes paid (onward (λ r l. inl (sound_at (place + 1) line v r begins on.room on.goes l)) d)
-    does (Refused kind) limit begins e paid d = leads_to g place line acts w (at g place line acts w (Stopped kind (g + 1) line)) limit e paid d
-    does Impossible limit begins e paid d = absurd (stuck_here e)
+    -- an operation that leaves the accumulator so, and may stop at a line
+    pub does : (m : Bool) (line : ℕ) (o : Outcome) (limit : ℕ) → left_at 0 s.orders.list (place + 1) ≡ 0 → step p (at g place loaded acts w Running) ≡ after p.room line o g place m acts w → limit ≤ weight p (at g place loaded acts w Running)
+        → Does p image limit (order_place (base_of p g) s.orders.list (place + 1)) g m line acts w.output q o → Follow (at g place loaded acts w Running) q
+    does m line (Changed v) limit begins e paid d =
+        let on = went_on p g place loaded m line acts w v e s.never in
+        leads_to g place loaded acts w (at g (place + 1) m acts v Running) limit on.goes paid (onward (λ r l. inl (sound_at (place + 1) m v r begins on.room on.goes l)) d)
+    does m line (Refused kind) limit begins e paid d = leads_to g place loaded acts w (at g place m acts w (Stopped kind (g + 1) line)) limit e paid d
+    does m line Impossible limit begins e paid d = absurd (not_stuck p g place m acts w (never_next (at g place m acts w Stuck) e))
 
     -- the same, where on the way a byte is written
-    pub tells : (o : Outcome) (limit : ℕ) → left_at 0 s.orders.list (place + 1) ≡ 0 → step p (at g place line acts w Running) ≡ after p.room o g place line acts w → limit ≤ weight p (at g place line acts w Running) → Tells p image limit (order_place (base_of p g) s.orders.list (place + 1)) g line acts w.output q o → Follow (at g place line acts w Running) q
-    tells (Changed v) limit begins e paid d =
-        let here = at g place line acts w Running in
-        let on = went_on p g place line acts w v e s.never in
+    pub tells : (m : Bool) (o : Outcome) (limit : ℕ) → left_at 0 s.orders.list (place + 1) ≡ 0 → step p (at g place loaded acts w Running) ≡ after p.room 0 o g place m acts w → limit ≤ weight p (at g place loaded acts w Running)
+        → Tells p image limit (order_place (base_of p g) s.orders.list (place + 1)) g m acts w.output q o → Follow (at g place loaded acts w Running) q
+    tells m (Changed v) limit begins e paid d =
+        let here = at g place loaded acts w Running in
+        let on = went_on p g place loaded m 0 acts w v e s.never in
         let within = d.within in
         let shows_next : unnoted_orders.shown (step p here) ≡ at_work v.output = ap unnoted_orders.shown on.goes in
         record {
@@ -197,11 +210,11 @@ module _ (known : Given) where
           path = weaken (λ o. (o ≡ at_work w.output) ⊎ (o ≡ at_work v.output)) (Quiet (shown here, []) (shown (step p here), [])) watched_machine d.spent q d.reached
               (λ o x. elim x [ inl before ↦ inl before | inr after ↦ inr (after ∙ sym shows_next) ]) d.path;
           within = omega arith;
-          matched = subst (λ x. Matches p image x d.reached) (sym on.goes) (inl (sound_at (place + 1) line v d.reached begins on.room on.goes d.there));
+          matched = subst (λ x. Matches p image x d.reached) (sym on.goes) (inl (sound_at (place + 1) m v d.reached begins on.room on.goes d.there));
           progress = inl d.some;
         }
-    tells (Refused kind) limit begins e paid d = absurd d
-    tells Impossible limit begins e paid d = absurd (stuck_here e)
+    tells m (Refused kind) limit begins e paid d = absurd d
+    tells m Impossible limit begins e paid d = absurd (not_stuck p g place m acts w (never_next (at g place m acts w Stuck) e))
 
     -- where the block begins
     abbrev pub rest : List Order
@@ -209,9 +222,6 @@ module _ (known : Given) where
 
     abbrev pub start_place : ℕ
     start_place = order_place (base_of p g) s.orders.list s.from
-
-    abbrev pub at_segment : ℕ → ℕ
-    at_segment n = order_place (base_of p g) s.orders.list n
 
     pub block_code : (b : Block) (o : Order) (os : List Order) → drop s.from s.orders.list ≡ o ∷ os → block_at 0 (drop s.from s.orders.list) ≡ b
         → HasPieces image (all.stands g s.orders s.unit).value (order_place (base_of p g) s.orders.list s.from) (block_pieces (names_of s.orders) (own_place s.orders.list s.from) b o)
@@ -252,110 +262,124 @@ module _ (known : Given) where
         ap (slice_get s.orders.list) there ∙ sym (slice_drop s.orders.list s.from n) ∙ ap (λ l. slice_get l n) e ∙ is
 
     -- an order that is not the last of its block
-    pub silent_in : (o : Order) → slice_get s.orders.list place ≡ Some o → carry_out p (Some o) g place line acts w ≡ after p.room (puts_word p g acts o w) g place line acts w → s.done + 1 ≤ orders_left (block_at 0 (drop s.from s.orders.list)) → Follow (at g place line acts w Running) q
-    silent_in o e goes_so more = cases (puts_word p g acts o w) refl
+    pub silent_in : (o : Order) (m : Bool) → slice_get s.orders.list place ≡ Some o → loaded_after o loaded ≡ Some m → act p (action_of p g acts o) g place m acts w ≡ after p.room 0 (puts_word p g acts o w) g place m acts w → s.done + 1 ≤ orders_left (block_at 0 (drop s.from s.orders.list)) → Follow (at g place loaded acts w Running) q
+    silent_in o m e mode goes_so more = cases (puts_word p g acts o w) refl
       where
         here : OrderState
-        here = at g place line acts w Running
+        here = at g place loaded acts w Running
 
-        goes_as : (x : Outcome) → puts_word p g acts o w ≡ x → step p (at g place line acts w Running) ≡ after p.room x g place line acts w
-        goes_as x is = step_is (Some o) e ∙ goes_so ∙ ap (λ x. after p.room x g place line acts w) is
+        goes_as : (x : Outcome) → puts_word p g acts o w ≡ x → step p (at g place loaded acts w Running) ≡ after p.room 0 x g place m acts w
+        goes_as x is = step_is (Some o) e ∙ ap (λ k. carry_with p k o g place loaded acts w) mode ∙ goes_so ∙ ap (λ x. after p.room 0 x g place m acts w) is
 
         there : slice_get (drop s.from s.orders.list) s.done ≡ Some o
         there = slice_drop s.orders.list s.from s.done ∙ ap (slice_get s.orders.list) s.place_is ∙ e
 
-        cases : (x : Outcome) → puts_word p g acts o w ≡ x → Follow (at g place line acts w Running) q
+        cases : (x : Outcome) → puts_word p g acts o w ≡ x → Follow (at g place loaded acts w Running) q
         cases (Refused kind) is = absurd ((is_silent p g acts o w).stops kind is)
-        cases Impossible is = absurd (not_stuck p g place line acts w (never_on p (at g place line acts w Running) (at g place line acts w Stuck) (goes_as Impossible is) s.never))
+        cases Impossible is = absurd (not_stuck p g place m acts w (never_on p (at g place loaded acts w Running) (at g place m acts w Stuck) (goes_as Impossible is) s.never))
         cases (Changed v) is =
-            let on = went_on p g place line acts w v (goes_as (Changed v) is) s.never in
+            let on = went_on p g place loaded m 0 acts w v (goes_as (Changed v) is) s.never in
             let placed = s.place_is in
             let next : s.done + 1 ≡ suc s.done = omega arith in
-            let matched : Sound p image g (place + 1) line acts v q = record {
+            let matched : Sound p image g (place + 1) m acts v q = record {
               orders = s.orders;
               unit = s.unit;
               from = s.from;
               done = s.done + 1;
               before = s.before;
+              loaded_before = s.loaded_before;
               place_is = omega arith;
               begins = s.begins;
               inside = more;
               did =
                   ap (λ n. silently p g acts n (drop s.from s.orders.list) s.before) next ∙ silently_next p g acts s.done (drop s.from s.orders.list) o s.before there
                   ∙ ap (λ x. chain x (puts_word p g acts o)) s.did ∙ is;
+              moded =
+                  ap (λ n. loaded_silently n (drop s.from s.orders.list) s.loaded_before) next ∙ loaded_next s.done (drop s.from s.orders.list) o s.loaded_before there
+                  ∙ ap (λ x. loaded_then x (loaded_after o)) s.moded ∙ mode;
               landed = s.landed;
-              fits = (fits_next (at g (place + 1) line acts v Running) on.goes).words;
-              acts_fit = (fits_next (at g (place + 1) line acts v Running) on.goes).activations;
+              fits = (fits_next (at g (place + 1) m acts v Running) on.goes).words;
+              acts_fit = (fits_next (at g (place + 1) m acts v Running) on.goes).activations;
               fits_before = s.fits_before;
               room = on.room;
               room_before = s.room_before;
               wrote = s.wrote ∙ sym ((is_silent p g acts o w).wrote v is);
-              stands = stands_next (at g (place + 1) line acts v Running) on.goes;
+              stands = stands_next (at g (place + 1) m acts v Running) on.goes;
               working = s.working;
               comes_back = s.comes_back;
-              never = never_on p (at g place line acts w Running) (at g (place + 1) line acts v Running) on.goes s.never;
+              never = never_on p (at g place loaded acts w Running) (at g (place + 1) m acts v Running) on.goes s.never;
             } in
             let within = slice_get_within s.orders.list place o e in
             let long : length_in (slice_get p.units g) ≡ length s.orders.list = ap length_in s.unit in
-            let falls : left p (at g (place + 1) line acts v Running) < left p (at g place line acts w Running) = omega arith in
+            let falls : left p (at g (place + 1) m acts v Running) < left p (at g place loaded acts w Running) = omega arith in
             record {
               spent = 0;
               reached = q;
               path = stay refl refl;
-              within = (let z : 0 ≤ weight p (at g place line acts w Running) = omega arith in z);
+              within = (let z : 0 ≤ weight p (at g place loaded acts w Running) = omega arith in z);
               matched = subst (λ x. Matches p image x q) (sym on.goes) (inl matched);
-              progress = inr (subst (λ x. left p x < left p (at g place line acts w Running)) (sym on.goes) falls);
+              progress = inr (subst (λ x. left p x < left p (at g place loaded acts w Running)) (sym on.goes) falls);
             }
 
     -- what the orders before the last one did
     pub did_as : (n : ℕ) (os : List Order) → s.done ≡ n → drop s.from s.orders.list ≡ os → silently p g acts n os s.before ≡ Changed w
     did_as n os is_done e = sym (ap₂ (λ m r. silently p g acts m r s.before) is_done e) ∙ s.did
 
-    -- the last order of a block, whose code does what all its orders do
-    pub last_does : (f : Words → Outcome) (limit n : ℕ) (os : List Order) → s.done ≡ n → drop s.from s.orders.list ≡ os → left_at 0 s.orders.list (place + 1) ≡ 0 → step p (at g place line acts w Running) ≡ after p.room (f w) g place line acts w → limit ≤ weight p (at g place line acts w Running)
-        → Does p image limit (order_place (base_of p g) s.orders.list (place + 1)) g line acts s.before.output q (chain (silently p g acts n os s.before) f) → Follow (at g place line acts w Running) q
-    last_does f limit n os is_done e begins goes paid d =
-        does (f w) limit begins goes paid
-        (subst (λ o. Does p image limit (order_place (base_of p g) s.orders.list (place + 1)) g line acts o q (f w)) s.wrote
-        (subst (λ x. Does p image limit (order_place (base_of p g) s.orders.list (place + 1)) g line acts s.before.output q (chain x f)) (did_as n os is_done e) d))
+    -- and where the accumulator was before them
+    pub moded_as : (n : ℕ) (os : List Order) → s.done ≡ n → drop s.from s.orders.list ≡ os → loaded_silently n os s.loaded_before ≡ Some loaded
+    moded_as n os is_done e = sym (ap₂ (λ m r. loaded_silently m r s.loaded_before) is_done e) ∙ s.moded
 
-    -- a call of the stop for an overflow
-    pub arrives : (c : ℕ) → (c + (all.stands g s.orders s.unit).value 7 2 0 c) % 65536 ≡ 26 % 65536
-    arrives c =
-        let by = (all.stands g s.orders s.unit).value 7 2 0 c in
-        let e : by ≡ (26 + (65536 - c % 65536)) % 65536 = (all.stands g s.orders s.unit).fills.library 2 c (lit< tt) in
-        omega arith
+    -- the last order of a block, whose code does what all its orders do
+    pub last_does : (m : Bool) (line : ℕ) (f : Words → Outcome) (limit n : ℕ) (os : List Order) → s.done ≡ n → drop s.from s.orders.list ≡ os → left_at 0 s.orders.list (place + 1) ≡ 0
+        → step p (at g place loaded acts w Running) ≡ after p.room line (f w) g place m acts w → limit ≤ weight p (at g place loaded acts w Running)
+        → Does p image limit (order_place (base_of p g) s.orders.list (place + 1)) g m line acts s.before.output q (chain (silently p g acts n os s.before) f) → Follow (at g place loaded acts w Running) q
+    last_does m line f limit n os is_done e begins goes paid d =
+        does m line (f w) limit begins goes paid
+        (subst (λ o. Does p image limit (order_place (base_of p g) s.orders.list (place + 1)) g m line acts o q (f w)) s.wrote
+        (subst (λ x. Does p image limit (order_place (base_of p g) s.orders.list (place + 1)) g m line acts s.before.output q (chain x f)) (did_as n os is_done e) d))
+
+    pub last_tells : (m : Bool) (f : Words → Outcome) (limit n : ℕ) (os : List Order) → s.done ≡ n → drop s.from s.orders.list ≡ os → left_at 0 s.orders.list (place + 1) ≡ 0
+        → step p (at g place loaded acts w Running) ≡ after p.room 0 (f w) g place m acts w → limit ≤ weight p (at g place loaded acts w Running)
+        → Tells p image limit (order_place (base_of p g) s.orders.list (place + 1)) g m acts s.before.output q (chain (silently p g acts n os s.before) f) → Follow (at g place loaded acts w Running) q
+    last_tells m f limit n os is_done e begins goes paid d =
+        tells m (f w) limit begins goes paid
+        (subst (λ o. Tells p image limit (order_place (base_of p g) s.orders.list (place + 1)) g m acts o q (f w)) s.wrote
+        (subst (λ x. Tells p image limit (order_place (base_of p g) s.orders.list (place + 1)) g m acts s.before.output q (chain x f)) (did_as n os is_done e) d))
 
     -- a call of an entry of the library
     abbrev pub by : (entry c : ℕ) → ℕ
     by entry c = (all.stands g s.orders s.unit).value 7 entry 0 c
 
-    pub calls : (entry c : ℕ) → entry < length routines → (c + (all.stands g s.orders s.unit).value 7 entry 0 c) % 65536 ≡ entry_place entry % 65536
+    pub calls : (entry c : ℕ) → entry < length places_of_entries → (c + (all.stands g s.orders s.unit).value 7 entry 0 c) % 65536 ≡ entry_place entry % 65536
     calls entry c lt =
         let word = (all.stands g s.orders s.unit).value 7 entry 0 c in
         let e : word ≡ (entry_place entry + (65536 - c % 65536)) % 65536 = (all.stands g s.orders s.unit).fills.library entry c lt in
         omega arith
 
     abbrev pub setting : Setting
-    setting = record { rows = rows; image = image; library = all.library; program = p; low = low; g = g; few = few_segments; line = line; acts = acts }
+    setting = record { rows = rows; image = image; library = all.library; program = p; low = low; g = g; few = few_segments; acts = acts }
 
-    pub cheap : (o : Order) (n : ℕ) → n ≤ weight_of o → slice_get s.orders.list place ≡ Some o → n ≤ weight p (at g place line acts w Running)
+    pub cheap : (o : Order) (n : ℕ) → n ≤ weight_of o → slice_get s.orders.list place ≡ Some o → n ≤ weight p (at g place loaded acts w Running)
     cheap o n le e = let x = weight_is o e in omega arith
 
     pub has_code : (o : Order) → slice_get s.orders.list place ≡ Some o → HasCode o
     has_code o e = coded.codes g place o (order_is (Some o) e)
 
+    -- the line of an order is a word
+    pub line_fits : (o : Order) → slice_get s.orders.list place ≡ Some o → line_of o < 65536
+    line_fits o e = coded.lines g place o (order_is (Some o) e)
+
     -- there is an order where the orders go on
-    pub goes_within : (to line' : ℕ) (v : Words) → step p (at g place line acts w Running) ≡ at g to line' acts v Running → to ≤ length s.orders.list
-    goes_within to line' v e = cases (slice_get s.orders.list to) refl
+    pub goes_within : (to : ℕ) (m : Bool) (v : Words) → step p (at g place loaded acts w Running) ≡ at g to m acts v Running → to ≤ length s.orders.list
+    goes_within to m v e = cases (slice_get s.orders.list to) refl
       where
-        never : Never p (at g to line' acts v Running)
-        never = never_on p (at g place line acts w Running) (at g to line' acts v Running) e s.never
+        never : Never p (at g to m acts v Running)
+        never = never_on p (at g place loaded acts w Running) (at g to m acts v Running) e s.never
 
         cases : (o : Option Order) → slice_get s.orders.list to ≡ o → to ≤ length s.orders.list
         cases None none =
             let no_order : order_at p g to ≡ None = ap (λ u. order_in u to) s.unit ∙ none in
-            absurd (not_stuck p g to line' acts v (never_on p (at g to line' acts v Running) (at g to line' acts v Stuck) (ap (λ x. carry_out p x g to line' acts v) no_order) never))
+            absurd (not_stuck p g to m acts v (never_on p (at g to m acts v Running) (at g to m acts v Stuck) (ap (λ x. carry_out p x g to m acts v) no_order) never))
         cases (Some o) is = let lt = slice_get_within s.orders.list to o is in omega arith
 
     -- where the code of a mark starts in the image
@@ -370,39 +394,36 @@ module _ (known : Given) where
     ]
 
     -- the way on that an order chooses
-    pub chosen : (way : Way) (limit : ℕ) → left_at 0 s.orders.list (place + 1) ≡ 0 → Roomy acts p.room way → step p (at g place line acts w Running) ≡ branch p way g place line acts w → limit ≤ weight p (at g place line acts w Running)
-        → Chooses p image limit (order_place (base_of p g) s.orders.list (place + 1)) start g line acts w.output q way → Follow (at g place line acts w Running) q
-    chosen (Onward v) limit begins room e paid d = leads_to g place line acts w (at g (place + 1) line acts v Running) limit e paid (onward (λ r l. inl (sound_at (place + 1) line v r begins room e l)) d)
-    chosen (ToMark m v) limit begins room e paid d = cases (slice_get s.orders.marks m) refl
+    pub chosen : (l : Bool) (way : Way) (limit : ℕ) → left_at 0 s.orders.list (place + 1) ≡ 0 → Roomy acts p.room way → step p (at g place loaded acts w Running) ≡ branch p way g place l acts w → limit ≤ weight p (at g place loaded acts w Running)
+        → Chooses p image limit (order_place (base_of p g) s.orders.list (place + 1)) start g l acts w.output q way → Follow (at g place loaded acts w Running) q
+    chosen l (Onward v) limit begins room e paid d = leads_to g place loaded acts w (at g (place + 1) l acts v Running) limit e paid (onward (λ r t. inl (sound_at (place + 1) l v r begins room e t)) d)
+    chosen l (ToMark m v) limit begins room e paid d = cases (slice_get s.orders.marks m) refl
       where
-        goes : (k : Option ℕ) → slice_get s.orders.marks m ≡ k → step p (at g place line acts w Running) ≡ go_at k g place line acts w v
-        goes k is = e ∙ ap (λ x. go_at x g place line acts w v) (ap (λ u. mark_in u m) s.unit ∙ is)
+        goes : (k : Option ℕ) → slice_get s.orders.marks m ≡ k → step p (at g place loaded acts w Running) ≡ go_at k g place l acts w v
+        goes k is = e ∙ ap (λ x. go_at x g place l acts w v) (ap (λ u. mark_in u m) s.unit ∙ is)
 
-        cases : (k : Option ℕ) → slice_get s.orders.marks m ≡ k → Follow (at g place line acts w Running) q
-        cases None none = absurd (not_stuck p g place line acts w (never_on p (at g place line acts w Running) (at g place line acts w Stuck) (goes None none) s.never))
+        cases : (k : Option ℕ) → slice_get s.orders.marks m ≡ k → Follow (at g place loaded acts w Running) q
+        cases None none = absurd (not_stuck p g place l acts w (never_on p (at g place loaded acts w Running) (at g place l acts w Stuck) (goes None none) s.never))
         cases (Some to) is =
-            let there : start m ≡ order_place (base_of p g) s.orders.list to = ap (λ n. base_of p g + n) (mark_start s.orders m to is (goes_within to line v (goes (Some to) is))) in
-            leads_to g place line acts w (at g to line acts v Running) limit (goes (Some to) is) paid
-            (onward (λ r l. inl (sound_at to line v r (mark_begins m to is) room (goes (Some to) is) (subst (λ a. Landed p image a g line acts v r) there l))) d)
-    chosen Nowhere limit begins room e paid d = absurd (stuck_here e)
+            let there : start m ≡ order_place (base_of p g) s.orders.list to = ap (λ n. base_of p g + n) (mark_start s.orders m to is (goes_within to l v (goes (Some to) is))) in
+            leads_to g place loaded acts w (at g to l acts v Running) limit (goes (Some to) is) paid
+            (onward (λ r t. inl (sound_at to l v r (mark_begins m to is) room (goes (Some to) is) (subst (λ a. Landed p image a g l acts v r) there t))) d)
+    chosen l Nowhere limit begins room e paid d = absurd (not_stuck p g place l acts w (never_next (at g place l acts w Stuck) e))
 
-    pub last_chooses : (f : Words → Way) (limit n : ℕ) (os : List Order) → s.done ≡ n → drop s.from s.orders.list ≡ os → left_at 0 s.orders.list (place + 1) ≡ 0 → Roomy acts p.room (f w) → step p (at g place line acts w Running) ≡ branch p (f w) g place line acts w → limit ≤ weight p (at g place line acts w Running)
-        → Chooses p image limit (order_place (base_of p g) s.orders.list (place + 1)) start g line acts s.before.output q (way_after (silently p g acts n os s.before) f) → Follow (at g place line acts w Running) q
-    last_chooses f limit n os is_done e begins room goes paid d =
-        chosen (f w) limit begins room goes paid
-        (subst (λ o. Chooses p image limit (order_place (base_of p g) s.orders.list (place + 1)) start g line acts o q (f w)) s.wrote
-        (subst (λ x. Chooses p image limit (order_place (base_of p g) s.orders.list (place + 1)) start g line acts s.before.output q (way_after x f)) (did_as n os is_done e) d))
+    pub last_chooses : (l : Bool) (f : Words → Way) (limit n : ℕ) (os : List Order) → s.done ≡ n → drop s.from s.orders.list ≡ os → left_at 0 s.orders.list (place + 1) ≡ 0 → Roomy acts p.room (f w)
+        → step p (at g place loaded acts w Running) ≡ branch p (f w) g place l acts w → limit ≤ weight p (at g place loaded acts w Running)
+        → Chooses p image limit (order_place (base_of p g) s.orders.list (place + 1)) start g l acts s.before.output q (way_after (silently p g acts n os s.before) f) → Follow (at g place loaded acts w Running) q
+    last_chooses l f limit n os is_done e begins room goes paid d =
+        chosen l (f w) limit begins room goes paid
+        (subst (λ o. Chooses p image limit (order_place (base_of p g) s.orders.list (place + 1)) start g l acts o q (f w)) s.wrote
+        (subst (λ x. Chooses p image limit (order_place (base_of p g) s.orders.list (place + 1)) start g l acts s.before.output q (way_after x f)) (did_as n os is_done e) d))
 
     pub low_room : operand_words w.operands < level acts
     low_room = let room = s.room in let most = coded.room in let split = words_split w.operands acts in omega arith
 
-    -- the same with a word more
-    pub more_room : suc (operand_words w.operands) < level acts
-    more_room = let room = s.room in let most = coded.room in let split = words_split w.operands acts in omega arith
-
     -- ---- orders that are blocks of their own
 
-    pub alone : block_at 0 (drop s.from s.orders.list) ≡ block.Single → Alone p image g place line acts w q s.orders.list
+    pub alone : block_at 0 (drop s.from s.orders.list) ≡ block.Single → Alone p image g place loaded acts w q s.orders.list
     alone is =
         let inside = s.inside in
         let none : orders_left (block_at 0 (drop s.from s.orders.list)) ≡ 0 = ap orders_left is in
@@ -411,13 +432,25 @@ module _ (known : Given) where
         let here : s.from ≡ place = omega arith in
         let same : Changed s.before ≡ Changed w = did_as 0 (drop s.from s.orders.list) is_done refl in
         let words : s.before ≡ w = cc in
+        let mode : Some s.loaded_before ≡ Some loaded = moded_as 0 (drop s.from s.orders.list) is_done refl in
+        let modes : s.loaded_before ≡ loaded = cc in
         record {
           begins = ap (left_at 0 s.orders.list) (sym here) ∙ s.begins;
           single = ap (λ n. block_at 0 (drop n s.orders.list)) (sym here) ∙ is;
-          landed = subst (λ v. Landed p image (order_place (base_of p g) s.orders.list place) g line acts v q) words (subst (λ n. Landed p image (order_place (base_of p g) s.orders.list n) g line acts s.before q) here s.landed);
+          landed =
+              subst (λ l. Landed p image (order_place (base_of p g) s.orders.list place) g l acts w q) modes
+              (subst (λ v. Landed p image (order_place (base_of p g) s.orders.list place) g s.loaded_before acts v q) words
+              (subst (λ n. Landed p image (order_place (base_of p g) s.orders.list n) g s.loaded_before acts s.before q) here s.landed));
         }
 
-    module _ (a : Alone p image g place line acts w q s.orders.list) where
+    module _ (a : Alone p image g place loaded acts w q s.orders.list) where
+      -- where its code begins and ends
+      abbrev pub here : ℕ
+      here = order_place (base_of p g) s.orders.list place
+
+      abbrev pub next : ℕ
+      next = order_place (base_of p g) s.orders.list (place + 1)
+
       pub alone_is : block_at (left_at 0 s.orders.list place) (drop place s.orders.list) ≡ block.Single
       alone_is = ap (λ n. block_at n (drop place s.orders.list)) a.begins ∙ a.single
 
@@ -439,21 +472,22 @@ module _ (known : Given) where
           ap (left_at 0 s.orders.list) next ∙ left_next 0 s.orders.list place o e ∙ ap orders_left alone_is
 
       -- an order without code
-      pub silent : (o : Order) → slice_get s.orders.list place ≡ Some o → carry_out p (Some o) g place line acts w ≡ at g (place + 1) line acts w Running → order_size o ≡ 0 → Follow (at g place line acts w Running) q
-      silent o e goes_so none =
+      pub silent : (o : Order) (m : Bool) (v : Words) → slice_get s.orders.list place ≡ Some o → step p (at g place loaded acts w Running) ≡ at g (place + 1) m acts v Running → stack_words v.operands acts ≤ p.room → order_size o ≡ 0
+          → ((at : ℕ) → Landed p image at g loaded acts w q → Landed p image at g m acts v q) → Follow (at g place loaded acts w Running) q
+      silent o m v e goes room none turned =
           let here = order_place (base_of p g) s.orders.list place in
-          let goes : step p (at g place line acts w Running) ≡ at g (place + 1) line acts w Running = step_is (Some o) e ∙ goes_so in
           let next = behind o e in
           let to : here ≡ order_place (base_of p g) s.orders.list (place + 1) = omega arith in
-          let matched : Matches p image (at g (place + 1) line acts w Running) q = inl (sound_at (place + 1) line w q (begins_next o e) s.room goes (subst (λ a. Landed p image a g line acts w q) to a.landed)) in
+          let there : Landed p image (order_place (base_of p g) s.orders.list (place + 1)) g m acts v q = subst (λ a. Landed p image a g m acts v q) to (turned here a.landed) in
+          let matched : Matches p image (at g (place + 1) m acts v Running) q = inl (sound_at (place + 1) m v q (begins_next o e) room goes there) in
           let within = slice_get_within s.orders.list place o e in
           let long : length_in (slice_get p.units g) ≡ length s.orders.list = ap length_in s.unit in
-          let falls : left p (at g (place + 1) line acts w Running) < left p (at g place line acts w Running) = omega arith in
+          let falls : left p (at g (place + 1) m acts v Running) < left p (at g place loaded acts w Running) = omega arith in
           record {
             spent = 0;
             reached = q;
             path = stay refl refl;
-            within = (let z : 0 ≤ weight p (at g place line acts w Running) = omega arith in z);
+            within = (let z : 0 ≤ weight p (at g place loaded acts w Running) = omega arith in z);
             matched = subst (λ x. Matches p image x q) (sym goes) matched;
-            progress = inr (subst (λ x. left p x < left p (at g place line acts w Running)) (sym goes) falls);
+            progress = inr (subst (λ x. left p x < left p (at g place loaded acts w Running)) (sym goes) falls);
           }

@@ -1,5 +1,5 @@
 -- Straight pieces of code: instructions that go on at the next one, and what they leave of a view.
-use Rattle.std.proofs.Common.{◌≡◌, ℕ, suc, ◌+◌, ◌*◌, ◌/◌, ◌%◌, ◌<◌, true, false, List, [], ◌∷◌, ◌++◌, length, refl, ap, ◌∙◌, subst, arith, lit<}
+use Rattle.std.proofs.Common.{◌≡◌, ℕ, suc, ◌+◌, ◌*◌, ◌%◌, ◌<◌, true, false, List, [], ◌∷◌, length, refl, ap, ◌∙◌, subst, arith, lit<}
 use Rattle.std.specs.Prelude.{bit_and, bit_or, bit_xor}
 use Rattle.cw_i86.specs.Encoding.{bytes_of}
 use Rattle.cw_i86.specs.State.{sign_extended}
@@ -9,11 +9,11 @@ use Rattle.cw_i86.specs.declared.instr.Imm.TheVariants as imm
 use Rattle.cw_i86.specs.declared.instr.Rm.TheVariants as rms
 use Rattle.cw_i86.specs.declared.instr.Place.TheVariants as places
 use Rattle.cw_run86.specs.Processor.{Processor, processor_step}
-use Rattle.cw_follow.specs.Passing.{stores_number}
+use Rattle.cw_follow.specs.Passing.{does_nothing}
 use Rattle.cw_follow.proofs.Watched.{Watched, watched_step}
 use Rattle.cw_run86.specs.Views.{View, Sees, Has, IsTop, register, with_place, with_register, with_result, with_pair, with_overflow, with_cell, with_stack, double_overflows, sum_overflows, difference_overflows, word_sum, word_difference, word_up, word_down, word_down_signed, shift_overflow, product_low, product_high, product_overflows, sign_of, with_number}
-use Rattle.cw_tmpl.specs.Mnemonics.{at_bx, near_field, slot}
-use Rattle.cw_follow.proofs.Standing.{HasAll}
+use Rattle.cw_tmpl.specs.Mnemonics.{at_bx, slot}
+use Rattle.cw_routines.specs.Ways.{HasAll}
 use Rattle.cw_follow.proofs.Rows.{Rows}
 use Rattle.cw_follow.proofs.Chains.{Is, Leads, placed, moved, has, more}
 
@@ -21,6 +21,7 @@ use Rattle.cw_follow.proofs.Chains.{Is, Leads, placed, moved, has, more}
 pub data Act : Type 0 where
   Number : (r w : ℕ) → Act
   Move : (r q : ℕ) → Act
+  Exchange : Act
   Pop : (r n w : ℕ) → Act
   Push : (r n : ℕ) → Act
   Load : (r k w : ℕ) → Act
@@ -28,7 +29,6 @@ pub data Act : Type 0 where
   LoadSlot : (r by k w : ℕ) → Act
   LoadArgument : (r by k w : ℕ) → Act
   StoreField : (r by k : ℕ) → Act
-  LoadField : (r by k w : ℕ) → Act
   LoadWord : (r by k w : ℕ) → Act
   Sum : (r q : ℕ) → Act
   SumNumber : (w : ℕ) → Act
@@ -44,12 +44,12 @@ pub data Act : Type 0 where
   Down : (r : ℕ) → Act
   DownSigned : (r : ℕ) → Act
   Product : (r : ℕ) → Act
-  Quotient : (r : ℕ) → Act
   Sign : Act
 
 abbrev pub instruction : Act → Instr
 instruction (Number r w) = i86.MovImm r (imm.Word w)
 instruction (Move r q) = i86.Mov true true r (rms.Reg q)
+instruction Exchange = i86.XchgAx 3
 instruction (Pop r n w) = i86.Pop r
 instruction (Push r n) = i86.Push r
 instruction (Load r k w) = i86.Mov true true r at_bx
@@ -57,7 +57,6 @@ instruction (Store r k) = i86.Mov true false r at_bx
 instruction (LoadSlot r by k w) = i86.Mov true true r (slot by)
 instruction (LoadArgument r by k w) = i86.Mov true true r (rms.Mem (record { cs = false; place = places.Far 6 by }))
 instruction (StoreField r by k) = i86.Mov true false r (rms.Mem (record { cs = false; place = places.Far 7 by }))
-instruction (LoadField r by k w) = i86.Mov true true r (near_field by)
 instruction (LoadWord r by k w) = i86.Mov true true r (rms.Mem (record { cs = false; place = places.Far 7 by }))
 instruction (SumNumber w) = with_number 0 w
 instruction (DifferenceNumber w) = with_number 5 w
@@ -73,7 +72,6 @@ instruction (Up r) = i86.Shift 4 true true (rms.Reg r)
 instruction (Down r) = i86.Shift 5 true true (rms.Reg r)
 instruction (DownSigned r) = i86.Shift 7 true true (rms.Reg r)
 instruction (Product r) = i86.Unary 5 true (rms.Reg r)
-instruction (Quotient r) = i86.Unary 6 true (rms.Reg r)
 instruction Sign = i86.Cwd
 
 -- what has to be known before it
@@ -86,19 +84,18 @@ Needs (Load r k w) v = (k < 32768) × (register v 3 ≡ 2 * k) × (v.cells k ≡
 Needs (Store r k) v = (k < 32768) × (register v 3 ≡ 2 * k)
 Needs (LoadSlot r by k w) v = (k < 32768) × ((register v 5 + sign_extended by) % 65536 ≡ 2 * k) × (v.stack k ≡ w)
 Needs (LoadArgument r by k w) v = (k < 32768) × ((register v 5 + by) % 65536 ≡ 2 * k) × (v.stack k ≡ w)
-Needs (LoadField r by k w) v = (k < 32768) × ((register v 3 + sign_extended by) % 65536 ≡ 2 * k) × (v.cells k ≡ w)
 Needs (LoadWord r by k w) v = (k < 32768) × ((register v 3 + by) % 65536 ≡ 2 * k) × (v.cells k ≡ w)
 Needs (StoreField r by k) v = (k < 32768) × ((register v 3 + by) % 65536 ≡ 2 * k)
 Needs (Double r) v = register v r < 32768
 Needs (Up r) v = register v r < 65536
 Needs (DownSigned r) v = register v r < 65536
-Needs (Quotient r) v = (0 < register v r) × ((65536 * register v 2 + register v 0) / register v r < 65536)
 Needs _ v = Unit {0}
 
 -- the view behind it, but for the place
 abbrev pub after : Act → View → View
 after (Number r w) v = with_register r w v
 after (Move r q) v = with_register r (register v q) v
+after Exchange v = with_register 0 (register v 3) (with_register 3 (register v 0) v)
 after (Pop r n w) v = with_register r w (with_register 4 (2 * suc n) v)
 after (Push r n) v = with_register 4 (2 * n) (with_stack n (register v r) v)
 after (Load r k w) v = with_register r w v
@@ -106,7 +103,6 @@ after (Store r k) v = with_cell k (register v r) v
 after (LoadSlot r by k w) v = with_register r w v
 after (LoadArgument r by k w) v = with_register r w v
 after (StoreField r by k) v = with_cell k (register v r) v
-after (LoadField r by k w) v = with_register r w v
 after (LoadWord r by k w) v = with_register r w v
 after (SumNumber w) v = with_result 0 (word_sum (register v 0) w) (sum_overflows (register v 0) w) v
 after (DifferenceNumber w) v = with_result 0 (word_difference (register v 0) w) (difference_overflows (register v 0) w) v
@@ -122,7 +118,6 @@ after (Up r) v = with_result r (word_up (register v r) (register v 1 % 256)) (sh
 after (Down r) v = with_result r (word_down (register v r) (register v 1 % 256)) (shift_overflow 5 (register v r) (register v 1 % 256) v.overflow) v
 after (DownSigned r) v = with_result r (word_down_signed (register v r) (register v 1 % 256)) (shift_overflow 7 (register v r) (register v 1 % 256) v.overflow) v
 after (Product r) v = with_overflow (product_overflows (register v 0) (register v r)) (with_pair (product_low (register v 0) (register v r)) (product_high (register v 0) (register v r)) v)
-after (Quotient r) v = with_pair ((65536 * register v 2 + register v 0) / register v r) ((65536 * register v 2 + register v 0) % register v r) v
 after Sign v = with_register 2 (sign_of (register v 0)) v
 
 -- ---- several
@@ -144,24 +139,20 @@ abbrev pub behind : List Act → ℕ → ℕ
 behind [] at = at
 behind (a ∷ acts) at = behind acts (at + length (bytes_of (instruction a)))
 
--- the code of a piece, and of what stands behind it
-pub piece : (image : List ℕ) (at : ℕ) (acts : List Act) (rest : List Instr) → HasAll image at (codes acts ++ rest) → HasAll image at (codes acts) × HasAll image (behind acts at) rest
-piece image at [] rest h = (tt, h)
-piece image at (a ∷ acts) rest h = let r = piece image (at + length (bytes_of (instruction a))) acts rest h.1 in ((h.0, r.0), r.1)
-
 module _ (rows : Rows) where
-  -- one of them takes up some bytes, and stores no number
+  -- one of them takes up some bytes, and does something
   takes_bytes : (a : Act) → 0 < length (bytes_of (instruction a))
   takes_bytes (Number r w) = lit< tt
   takes_bytes _ = lit< tt
 
-  no_number : (a : Act) → stores_number (instruction a) ≡ false
-  no_number (Number r w) = refl
-  no_number _ = refl
+  does : (a : Act) → does_nothing (instruction a) ≡ false
+  does (Number r w) = refl
+  does _ = refl
 
   effect : (a : Act) {image : List ℕ} (at : ℕ) (v : View) {p : Processor} → Has image (at % 65536) (instruction a) → Needs a v → Sees image (placed at v) p → Sees image (with_place ((at % 65536 + length (bytes_of (instruction a))) % 65536) (after a v)) (processor_step p)
   effect (Number r w) {image} at v {p} h n s = rows.number image (placed at v) r w h p s
   effect (Move r q) {image} at v {p} h n s = rows.move image (placed at v) r q h p s
+  effect Exchange {image} at v {p} h n s = rows.exchange image (placed at v) 3 h p s
   effect (Pop r n w) {image} at v {p} h needs s =
       let lt = needs.0 in
       let below : n < 32768 = omega arith in
@@ -174,7 +165,6 @@ module _ (rows : Rows) where
   effect (LoadSlot r by k w) {image} at v {p} h needs s = subst (λ x. Sees image (with_place ((at % 65536 + 3) % 65536) (with_register r x v)) (processor_step p)) needs.2 (rows.load_slot image (placed at v) r by k h needs.0 needs.1 p s)
   effect (LoadArgument r by k w) {image} at v {p} h needs s = subst (λ x. Sees image (with_place ((at % 65536 + 4) % 65536) (with_register r x v)) (processor_step p)) needs.2 (rows.load_argument image (placed at v) r by k h needs.0 needs.1 p s)
   effect (StoreField r by k) {image} at v {p} h needs s = rows.store_field image (placed at v) r by k h needs.0 needs.1 p s
-  effect (LoadField r by k w) {image} at v {p} h needs s = subst (λ x. Sees image (with_place ((at % 65536 + 3) % 65536) (with_register r x v)) (processor_step p)) needs.2 (rows.load_field image (placed at v) r by k h needs.0 needs.1 p s)
   effect (LoadWord r by k w) {image} at v {p} h needs s = subst (λ x. Sees image (with_place ((at % 65536 + 4) % 65536) (with_register r x v)) (processor_step p)) needs.2 (rows.load_word image (placed at v) r by k h needs.0 needs.1 p s)
   effect (SumNumber w) {image} at v {p} h n s = rows.add_number image (placed at v) w h p s
   effect (DifferenceNumber w) {image} at v {p} h n s = rows.subtract_number image (placed at v) w h p s
@@ -190,13 +180,12 @@ module _ (rows : Rows) where
   effect (Down r) {image} at v {p} h n s = rows.shift_down image (placed at v) r h p s
   effect (DownSigned r) {image} at v {p} h n s = rows.shift_down_signed image (placed at v) r h n p s
   effect (Product r) {image} at v {p} h n s = rows.multiply image (placed at v) r h p s
-  effect (Quotient r) {image} at v {p} h n s = rows.divide image (placed at v) r h n.0 n.1 p s
   effect Sign {image} at v {p} h n s = rows.extend image (placed at v) h p s
 
   step : (a : Act) {image : List ℕ} {at : ℕ} {v : View} {p : Watched} → Has image at (instruction a) → Needs a v → Is image at v p → Is image (at + length (bytes_of (instruction a))) (after a v) (watched_step p)
   step a {image} {at} {v} h needs s =
       let here = has (instruction a) (takes_bytes a) h s in
-      moved at (instruction a) (after a v) (no_number a) here s (effect a at v here needs s.sees)
+      moved at (instruction a) (after a v) (does a) here s (effect a at v here needs s.sees)
 
   -- none of them tells anything
   quiet : (a : Act) (v : View) → (after a v).told ≡ v.told

@@ -1,11 +1,11 @@
 -- What the laws of cw_word say of words, and that of cw_order of the words of its machine.
-use Rattle.std.proofs.Common.{◌≡◌, ◌↔◌, ℕ, suc, ◌+◌, ◌-◌, ◌*◌, ◌/◌, ◌%◌, ◌^◌, ◌<◌, ◌≤◌, Bool, ℤ, pos, negsuc, ◌+ℤ◌, ◌-ℤ◌, ◌*ℤ◌, neg_ℤ, FitsSigned}
+use Rattle.std.proofs.Common.{◌≡◌, ℕ, suc, ◌+◌, ◌-◌, ◌*◌, ◌/◌, ◌%◌, ◌^◌, ◌<◌, ◌≤◌, ℤ, pos, negsuc, ◌+ℤ◌, ◌-ℤ◌, ◌*ℤ◌, neg_ℤ, FitsSigned}
 use Rattle.std.specs.Prelude.{nat_lt, if◌then◌else◌}
-use Rattle.std.specs.Int.{w32, from_bool}
+use Rattle.std.specs.Int.{w32}
 use Rattle.std.specs.Int.Bits.{bit_and, bit_or}
 use Rattle.cw_word.specs.BitField.{unsigned_field, signed_field, with_field, field_mask}
 use Rattle.cw_word.specs.FixedPoint.{FitsWord, floor_div, floor_scaled, scaled_quotient}
-use Rattle.cw_word.specs.Word.{shifted_up_by, shifted_down_by, shifted_down_signed_by, signed, unsigned, word_sum, word_difference, high_word, low_word, pair, signed_pair, sign_word, magnitude, signs_differ, negative_if}
+use Rattle.cw_word.specs.Word.{shifted_down_signed_by, signed, unsigned, word_sum, word_difference, high_word, low_word, signed_pair, magnitude, signs_differ, negative_if}
 use Rattle.cw_order.specs.OrderProgram.{OrderProgram}
 use Rattle.cw_order.specs.OrderState.{OrderState}
 use Rattle.cw_order.specs.OrderMachine.{step}
@@ -33,22 +33,15 @@ pub record WordLaws : Type 0 where
   pub high : (z : ℤ) → FitsSigned w32 z → high_word z < 65536
   pub low : (z : ℤ) → low_word z < 65536
   pub halves : (z : ℤ) → FitsSigned w32 z → signed_pair (high_word z) (low_word z) ≡ z
-  pub pair_fits : (high low : ℕ) → high < 65536 → low < 65536 → FitsWord (signed_pair high low) ↔ (high ≡ sign_word low)
-  pub pair_value : (high low : ℕ) → high < 65536 → low < 65536 → high ≡ sign_word low → signed_pair high low ≡ signed low
   -- quotients
   pub quotient_up : (a b n : ℕ) → a < 65536 → b < 65536 → scaled_quotient (signed a) (signed b) (pos n) ≡ negative_if (signs_differ a b) (magnitude a * 2 ^ n / magnitude b)
   pub quotient_down : (a b n : ℕ) → a < 65536 → b < 65536 → scaled_quotient (signed a) (signed b) (negsuc n) ≡ negative_if (signs_differ a b) (magnitude a / 2 ^ suc n / magnitude b)
-  pub quotient_fits : (negative : Bool) (n : ℕ) → FitsWord (negative_if negative n) ↔ (n < 32768 + from_bool negative)
-  pub quotient_value : (negative : Bool) (n : ℕ) → n < 32768 + from_bool negative → signed (if negative then word_difference 0 n else n) ≡ negative_if negative n
-  pub divides : (high low d : ℕ) → low < 65536 → 0 < d → (pair high low / d < 65536) ↔ (high < d)
   -- scaling
   pub scaled_up : (x : ℤ) (n : ℕ) → floor_scaled x (pos n) ≡ x *ℤ pos (2 ^ n)
   pub scaled_down : (x : ℤ) (n : ℕ) → floor_scaled x (negsuc n) ≡ floor_div x (2 ^ suc n)
   -- shifts by many places
   pub down : (n k : ℕ) → n < 65536 → signed (shifted_down_signed_by n k) ≡ floor_div (signed n) (2 ^ k)
   pub down_fits : (n k : ℕ) → n < 65536 → shifted_down_signed_by n k < 65536
-  pub pair_down : (high low k : ℕ) → high < 65536 → low < 65536 → k ≤ 16 → signed_pair (shifted_down_signed_by high k) (word_sum (shifted_down_by low k) (shifted_up_by high (16 - k))) ≡ floor_div (signed_pair high low) (2 ^ k)
-  pub pair_up : (n k : ℕ) → k ≤ 16 → pair (shifted_down_by n (16 - k)) (shifted_up_by n k) ≡ n * 2 ^ k
   pub upper : (high low : ℕ) → high < 65536 → low < 65536 → floor_div (signed_pair high low) 65536 ≡ signed high
   pub again : (x : ℤ) (m n : ℕ) → floor_div (floor_div x m) n ≡ floor_div x (m * n)
   -- the words of the machine of orders

@@ -1,176 +1,190 @@
--- Orders on words whose code hangs on a test of their numbers.
-use Rattle.std.proofs.Common.{◌≡◌, ℕ, zero, suc, ◌+◌, ◌-◌, ◌^◌, ◌≤◌, Bool, true, false, ℤ, pos, negsuc, ◌*ℤ◌, List, [], ◌∷◌, ◌++◌, length, Some, refl, ◌∙◌, subst, arith, lit<, lit≤}
+-- The steps of orders on words whose code hangs on their numbers, each of which is a block of its own.
+use Rattle.std.proofs.Common.{◌≡◌, ℕ, zero, suc, ◌+◌, ◌-◌, ◌^◌, Bool, true, false, ℤ, pos, negsuc, ◌*ℤ◌, List, [], ◌∷◌, ◌++◌, length, Some, refl, subst, arith, lit<, lit≤}
+use borrow.Author.Tests.{ltb-true}
+use Rattle.std.proofs.lemmas.Bool.{leb-true}
 use Rattle.std.specs.Prelude.{slice_get, nat_le, nat_lt, ◌==◌}
 use Rattle.cw_i86.specs.declared.instr.Instr.TheVariants as i86
-use Rattle.cw_i86.specs.declared.instr.Imm.TheVariants as imm
-use Rattle.cw_follow.proofs.Watched.{Watched}
-use Rattle.cw_word.specs.Word.{unsigned}
+use Rattle.cw_i86.specs.declared.instr.Rm.TheVariants as rms
 use Rattle.cw_unit.specs.Stop.{Running}
-use Rattle.cw_unit.specs.Words.{Words, Changed, put}
-use Rattle.cw_unit.specs.Operation.{perform, Rescale, Multiply, Divide, ReadByte}
+use Rattle.cw_unit.specs.Words.{Words}
+use Rattle.cw_unit.specs.Operation.{perform, Rescale, Multiply, Divide}
 use Rattle.cw_order.specs.declared.order.Order.{Order}
 use Rattle.cw_order.specs.declared.order.Order.TheVariants as order
 use Rattle.cw_order.specs.OrderChanges.{index, index_row}
 use Rattle.cw_order.specs.OrderState.{OrderActivation, at}
-use Rattle.cw_order.specs.OrderCosts.{weight_of}
-use Rattle.cw_order.specs.OrderMachine.{after, carry_out, step, weight}
 use Rattle.cw_tmpl.specs.declared.pieces.Coded.{Coded}
-use Rattle.cw_tmpl.specs.Pieces.{blanks}
-use Rattle.cw_tmpl.specs.Library.{overflow_entry, address_entry}
+use Rattle.cw_tmpl.specs.Pieces.{Filling, blanks}
+use Rattle.cw_tmpl.specs.Library.{overflow_entry, zero_divisor_entry, address_entry, product_entry, quotient_down_entry, quotient_up_entry}
 use Rattle.cw_tmpl.specs.Templates.{template, order_size, times_if, row_start, row_end, product_start, rescale_if, product_down}
 use Rattle.cw_tmpl.specs.ReferenceCode.{names_of}
-use Rattle.cw_follow.specs.Placing.{base_of}
 use Rattle.cw_tmpl.proofs.Sizes.{own_place}
-use Rattle.cw_follow.proofs.Standing.{HasAll, HasPieces, order_place}
-use Rattle.cw_follow.proofs.Chains.{seen, number}
-use Rattle.cw_follow.proofs.Orders.{puts}
+use Rattle.cw_follow.proofs.Watched.{Watched}
+use Rattle.cw_follow.proofs.Standing.{HasPieces}
 use Rattle.cw_follow.proofs.States.{Given, Sound}
-use borrow.Author.Tests.{ltb-true}
-use Rattle.std.proofs.lemmas.Bool.{leb-true}
 use Rattle.cw_follow.proofs.Facts.{not_below}
-use Rattle.cw_follow.proofs.Addresses.{behind_times, indexes_times, indexes_row}
+use Rattle.cw_follow.proofs.Orders.{Check}
+use Rattle.cw_follow.proofs.Called.{Then}
+use Rattle.cw_follow.proofs.Addresses.{CheckThen, times_code, test_place, indexes_times, indexes_row}
 use Rattle.cw_follow.proofs.Scales.{rescales_up, rescales_down, products, products_up, products_down, products_far_down}
 use Rattle.cw_follow.proofs.Divisions.{divides_up, divides_down}
-use Rattle.cw_follow.proofs.Inputs.{reads}
-use Rattle.cw_follow.proofs.Steps.{Follow, step_is, weight_is, does, by, calls, setting, cheap, has_code, low_room, Alone, code, behind, begins_next, above}
+use Rattle.cw_follow.proofs.Steps.{Follow, Alone, step_is, does, by, calls, setting, cheap, has_code, line_fits, low_room, here, next, code, behind, begins_next, above}
 
--- code that hangs on whether a factor is 32,768
-abbrev product_scaled : ℕ → Bool → List Coded
-product_scaled n t = product_start ++ times_if t overflow_entry (2 ^ suc n)
+-- A multiplication by a number, whose code hangs on whether that is 32,768: where it stands, its parts do, and where it ends.
+module _ (image : List ℕ) (value : Filling) (begin entry line n : ℕ) where
+  times_check : (b : Bool) → HasPieces image value begin (times_if b entry line n)
+      → Then image begin (times_code b n) (λ k. Check image k (value 7 entry 0 (test_place b begin + 2 + 3)) line)
+  times_check true h = h
+  times_check false h = h
 
-abbrev row_code : ℤ → ℕ → Bool → List Coded
-row_code lower n t = row_start lower ++ (times_if t address_entry n ++ row_end)
+  -- in a row, the sum with the place in it behind
+  times_row : (b : Bool) → HasPieces image value begin (times_if b entry line n ++ row_end line)
+      → Then image begin (times_code b n) (λ k. CheckThen image k (value 7 entry 0 (test_place b begin + 2 + 3)) line (λ k.
+      Then image k (i86.AluRm 0 true true 0 (rms.Reg 1) ∷ []) (λ k. Check image k (value 7 address_entry 0 (test_place b begin + 2 + 3 + 2 + 2 + 2 + 3)) line)))
+  times_row true h = h
+  times_row false h = h
+
+times_ends : (begin entry line n to : ℕ) (b : Bool) → begin + length (blanks (times_if b entry line n)) ≡ to → test_place b begin + 2 + 3 + 2 ≡ to
+times_ends begin entry line n to true e = omega arith
+times_ends begin entry line n to false e = omega arith
+
+scaled_ends : (begin line n to : ℕ) (b : Bool) → begin + length (blanks (product_start line ++ times_if b overflow_entry line n)) ≡ to → test_place b (begin + 1 + 2 + 2 + 3 + 2) + 2 + 3 + 2 ≡ to
+scaled_ends begin line n to true e = omega arith
+scaled_ends begin line n to false e = omega arith
+
+row_ends : (begin line : ℕ) (lower : ℤ) (n to : ℕ) (b : Bool) → begin + length (blanks (row_start line lower ++ (times_if b address_entry line n ++ row_end line))) ≡ to
+    → test_place b (begin + 2 + 1 + 3 + 2 + 2 + 3 + 2) + 2 + 3 + 2 + 2 + 2 + 3 + 2 ≡ to
+row_ends begin line lower n to true e = omega arith
+row_ends begin line lower n to false e = omega arith
 
 module _ (known : Given) where
   open known use {rows, p, image, all, coded, few, low}
 
-  module _ {q : Watched} {g place line : ℕ} {acts : List OrderActivation} {w : Words} (s : Sound p image g place line acts w q) (a : Alone p image g place line acts w q s.orders.list) where
-    pub put_is : (o : Order) (x : ℕ) (z : ℤ) → slice_get s.orders.list place ≡ Some o → carry_out p (Some o) g place line acts w ≡ after p.room (Changed (put z w)) g place line acts w → 2 ≤ weight_of o → x ≡ unsigned z → order_place (base_of p g) s.orders.list place + 4 ≡ order_place (base_of p g) s.orders.list (place + 1)
-        → HasAll image (order_place (base_of p g) s.orders.list place) (i86.Push 0 ∷ i86.MovImm 0 (imm.Word x) ∷ []) → Follow known (at g place line acts w Running) q
-    put_is o x z e goes_so cheap' value there i =
-        let paid : 2 ≤ weight p (at g place line acts w Running) = let x = weight_is known s o e in omega arith in
-        let e' : order_place (base_of p g) s.orders.list place + 1 + 3 ≡ order_place (base_of p g) s.orders.list (place + 1) = omega arith in
-        does known s (Changed (put z w)) 2 (begins_next known s a o e) (step_is known s (Some o) e ∙ goes_so) paid
-        (puts rows p image g line acts (order_place (base_of p g) s.orders.list (place + 1)) x z w value (low_room known s) i.0 a.landed (λ q ax cx dx bx sp si di overflow stack s. seen e' refl (number rows 0 x i.1.0 s)))
-
-    abbrev pub here : ℕ
-    here = order_place (base_of p g) s.orders.list place
-
-    abbrev pub next : ℕ
-    next = order_place (base_of p g) s.orders.list (place + 1)
+  module _ {q : Watched} {g place : ℕ} {acts : List OrderActivation} {w : Words} (s : Sound p image g place true acts w q) (a : Alone p image g place true acts w q s.orders.list) where
+    abbrev words_of : Filling
+    words_of = (all.stands g s.orders s.unit).value
 
     -- code that hangs on a test
-    pub record Tested (F : Bool → List Coded) (b : Bool) : Type 0 where
-      pub stands : HasPieces image (all.stands g s.orders s.unit).value (order_place (base_of p g) s.orders.list place) (F b)
-      pub ends : order_place (base_of p g) s.orders.list place + length (blanks (F b)) ≡ order_place (base_of p g) s.orders.list (place + 1)
+    record Tested (F : Bool → List Coded) (b : Bool) : Type 0 where
+      pub stands : HasPieces image words_of (here known s a) (F b)
+      pub ends : here known s a + length (blanks (F b)) ≡ next known s a
 
-    pub tested : (o : Order) (F : Bool → List Coded) (t b : Bool) → slice_get s.orders.list place ≡ Some o → template (names_of s.orders) (own_place s.orders.list place) o ≡ F t → order_size o ≡ length (blanks (F t)) → t ≡ b → Tested F b
+    tested : (o : Order) (F : Bool → List Coded) (t b : Bool) → slice_get s.orders.list place ≡ Some o → template (names_of s.orders) (own_place s.orders.list place) o ≡ F t
+        → order_size o ≡ length (blanks (F t)) → t ≡ b → Tested F b
     tested o F t b e same long is =
         let after_it = behind known s a o e in
-        let code_t : HasPieces image (all.stands g s.orders s.unit).value here (F t) = subst (λ ps. HasPieces image (all.stands g s.orders s.unit).value here ps) same (code known s a o e) in
-        let end_t : here + length (blanks (F t)) ≡ order_place (base_of p g) s.orders.list (place + 1) = omega arith in
+        let code_t : HasPieces image words_of (here known s a) (F t) = subst (HasPieces image words_of (here known s a)) same (code known s a o e) in
+        let end_t : here known s a + length (blanks (F t)) ≡ next known s a = omega arith in
         subst (Tested F) is (record { stands = code_t; ends = end_t })
 
-    -- a rescaling, up by 15 places, up by fewer, and down
-    pub rescaling : (from to : ℕ) → slice_get s.orders.list place ≡ Some (order.Rescale from to) → (b top : Bool) → nat_le from to ≡ b → (2 ^ (to - from) == 32768) ≡ top → Follow known (at g place line acts w Running) q
-    rescaling from to e true true is is_top =
-        let o = order.Rescale from to in
-        let h = has_code known s o e in
-        let first = tested o (λ t. rescale_if t (2 ^ (to - from) == 32768) from to) (nat_le from to) true e refl refl is in
-        let t : Tested (λ t. rescale_if true t from to) true = subst (Tested (λ t. rescale_if true t from to)) is_top (record { stands = first.stands; ends = first.ends }) in
-        does known s (perform p.limits.area (Rescale from to) w) 15 (begins_next known s a o e) (step_is known s (Some o) e) (cheap known s o 15 (lit≤ tt) e)
-        (rescales_up (setting known s) w.memory w.input w.output true next (by known s 2 (behind_times true here)) from to w.operands (leb-true from to is) h.1 is_top (let f = t.ends in omega arith) (calls known s 2 (behind_times true here) (lit< tt)) (low_room known s) s.fits.operands t.stands a.landed)
-    rescaling from to e true false is is_top =
-        let o = order.Rescale from to in
-        let h = has_code known s o e in
-        let first = tested o (λ t. rescale_if t (2 ^ (to - from) == 32768) from to) (nat_le from to) true e refl refl is in
-        let t : Tested (λ t. rescale_if true t from to) false = subst (Tested (λ t. rescale_if true t from to)) is_top (record { stands = first.stands; ends = first.ends }) in
-        does known s (perform p.limits.area (Rescale from to) w) 15 (begins_next known s a o e) (step_is known s (Some o) e) (cheap known s o 15 (lit≤ tt) e)
-        (rescales_up (setting known s) w.memory w.input w.output false next (by known s 2 (behind_times false here)) from to w.operands (leb-true from to is) h.1 is_top (let f = t.ends in omega arith) (calls known s 2 (behind_times false here) (lit< tt)) (low_room known s) s.fits.operands t.stands a.landed)
-    rescaling from to e false top is is_top =
-        let o = order.Rescale from to in
-        let h = has_code known s o e in
-        let t = tested o (λ t. rescale_if t (2 ^ (to - from) == 32768) from to) (nat_le from to) false e refl refl is in
-        does known s (perform p.limits.area (Rescale from to) w) 2 (begins_next known s a o e) (step_is known s (Some o) e) (cheap known s o 2 (lit≤ tt) e)
-        (rescales_down (setting known s) w.memory w.input w.output next from to w.operands (above from to is) h.0 t.ends (low_room known s) s.fits.operands t.stands a.landed)
+    -- ---- scales
 
-    pub multiplying_up : (n : ℕ) → slice_get s.orders.list place ≡ Some (order.Mul (pos (suc n))) → (b : Bool) → (2 ^ suc n == 32768) ≡ b → Follow known (at g place line acts w Running) q
-    multiplying_up n e true is =
-        let o = order.Mul (pos (suc n)) in
-        let t = tested o (product_scaled n) (2 ^ suc n == 32768) true e refl refl is in
-        let begin = here + 1 + 2 + 2 + 3 in
-        does known s (perform p.limits.area (Multiply (pos (suc n))) w) 18 (begins_next known s a o e) (step_is known s (Some o) e) (cheap known s o 18 (lit≤ tt) e)
-        (products_up (setting known s) w.memory w.input w.output true next (by known s 2 begin) (by known s 2 (behind_times true begin)) n w.operands (has_code known s o e) is (let f = t.ends in omega arith) (calls known s 2 begin (lit< tt)) (calls known s 2 (behind_times true begin) (lit< tt)) (low_room known s) s.fits.operands t.stands a.landed)
-    multiplying_up n e false is =
-        let o = order.Mul (pos (suc n)) in
-        let t = tested o (product_scaled n) (2 ^ suc n == 32768) false e refl refl is in
-        let begin = here + 1 + 2 + 2 + 3 in
-        does known s (perform p.limits.area (Multiply (pos (suc n))) w) 18 (begins_next known s a o e) (step_is known s (Some o) e) (cheap known s o 18 (lit≤ tt) e)
-        (products_up (setting known s) w.memory w.input w.output false next (by known s 2 begin) (by known s 2 (behind_times false begin)) n w.operands (has_code known s o e) is (let f = t.ends in omega arith) (calls known s 2 begin (lit< tt)) (calls known s 2 (behind_times false begin) (lit< tt)) (low_room known s) s.fits.operands t.stands a.landed)
+    -- up and down
+    rescaling : (from to line : ℕ) → slice_get s.orders.list place ≡ Some (order.Rescale from to line) → (b : Bool) → nat_le from to ≡ b → Follow known (at g place true acts w Running) q
+    rescaling from to line e true is =
+        let o = order.Rescale from to line in
+        let n = 2 ^ (to - from) in
+        let b = n == 32768 in
+        let c = test_place b (here known s a) + 2 + 3 in
+        let t = tested o (λ t. rescale_if t b line from to) (nat_le from to) true e refl refl is in
+        does known s true line (perform p.limits.area (Rescale from to) w) 17 (begins_next known s a o e) (step_is known s (Some o) e) (cheap known s o 17 (lit≤ tt) e)
+        (rescales_up (setting known s) w.memory w.input w.output b (next known s a) (by known s overflow_entry c) line from to w.operands (line_fits known s o e) (leb-true from to is) (has_code known s o e).1 refl
+        (times_ends (here known s a) overflow_entry line n (next known s a) b t.ends) (calls known s overflow_entry c (lit< tt)) (low_room known s) s.fits.operands
+        (times_check image words_of (here known s a) overflow_entry line n b t.stands) a.landed)
+    rescaling from to line e false is =
+        let o = order.Rescale from to line in
+        let t = tested o (λ t. rescale_if t (2 ^ (to - from) == 32768) line from to) (nat_le from to) false e refl refl is in
+        does known s true line (perform p.limits.area (Rescale from to) w) 2 (begins_next known s a o e) (step_is known s (Some o) e) (cheap known s o 2 (lit≤ tt) e)
+        (rescales_down (setting known s) w.memory w.input w.output (next known s a) line from to w.operands (above from to is) (has_code known s o e).0 t.ends (low_room known s) s.fits.operands t.stands a.landed)
 
-    pub multiplying_down : (n : ℕ) → slice_get s.orders.list place ≡ Some (order.Mul (negsuc n)) → (b : Bool) → nat_lt n 15 ≡ b → Follow known (at g place line acts w Running) q
-    multiplying_down n e true is =
-        let o = order.Mul (negsuc n) in
-        let t = tested o (λ t. product_down t n) (nat_lt n 15) true e refl refl is in
-        does known s (perform p.limits.area (Multiply (negsuc n)) w) 28 (begins_next known s a o e) (step_is known s (Some o) e) (cheap known s o 28 (lit≤ tt) e)
-        (products_down (setting known s) w.memory w.input w.output next (by known s 10 (here + 2 + 1 + 3 + 3)) n w.operands t.ends (ltb-true n 15 is) (calls known s 10 (here + 2 + 1 + 3 + 3) (lit< tt)) (low_room known s) s.fits.operands t.stands a.landed)
-    multiplying_down n e false is =
-        let o = order.Mul (negsuc n) in
-        let t = tested o (λ t. product_down t n) (nat_lt n 15) false e refl refl is in
-        does known s (perform p.limits.area (Multiply (negsuc n)) w) 5 (begins_next known s a o e) (step_is known s (Some o) e) (cheap known s o 5 (lit≤ tt) e)
-        (products_far_down (setting known s) w.memory w.input w.output next n w.operands t.ends (not_below n 15 is) (has_code known s o e) (low_room known s) s.fits.operands t.stands a.landed)
+    pub rescale_follows : (from to line : ℕ) → slice_get s.orders.list place ≡ Some (order.Rescale from to line) → Follow known (at g place true acts w Running) q
+    rescale_follows from to line e = rescaling from to line e (nat_le from to) refl
 
-    pub multiplying : (s' : ℤ) → slice_get s.orders.list place ≡ Some (order.Mul s') → Follow known (at g place line acts w Running) q
-    multiplying (pos zero) e =
-        let o = order.Mul (pos 0) in
-        does known s (perform p.limits.area (Multiply (pos 0)) w) 14 (begins_next known s a o e) (step_is known s (Some o) e) (cheap known s o 14 (lit≤ tt) e)
-        (products (setting known s) w.memory w.input w.output next (by known s 2 (here + 1 + 2 + 2 + 3)) w.operands (behind known s a o e) (calls known s 2 (here + 1 + 2 + 2 + 3) (lit< tt)) (low_room known s) s.fits.operands (code known s a o e) a.landed)
-    multiplying (pos (suc n)) e = multiplying_up n e (2 ^ suc n == 32768) refl
-    multiplying (negsuc n) e = multiplying_down n e (nat_lt n 15) refl
+    -- ---- products
 
-    pub dividing : (s' : ℤ) → slice_get s.orders.list place ≡ Some (order.Div s') → Follow known (at g place line acts w Running) q
-    dividing (pos n) e =
-        let o = order.Div (pos n) in
-        does known s (perform p.limits.area (Divide (pos n)) w) 43 (begins_next known s a o e) (step_is known s (Some o) e) (cheap known s o 43 (lit≤ tt) e)
-        (divides_up (setting known s) w.memory w.input w.output next (by known s 12 (here + 2 + 1 + 3 + 3)) n w.operands (behind known s a o e) (has_code known s o e) (calls known s 12 (here + 2 + 1 + 3 + 3) (lit< tt)) (low_room known s) s.fits.operands (code known s a o e) a.landed)
-    dividing (negsuc n) e =
-        let o = order.Div (negsuc n) in
-        does known s (perform p.limits.area (Divide (negsuc n)) w) 43 (begins_next known s a o e) (step_is known s (Some o) e) (cheap known s o 43 (lit≤ tt) e)
-        (divides_down (setting known s) w.memory w.input w.output next (by known s 11 (here + 2 + 1 + 3 + 3)) n w.operands (behind known s a o e) (has_code known s o e) (calls known s 11 (here + 2 + 1 + 3 + 3) (lit< tt)) (low_room known s) s.fits.operands (code known s a o e) a.landed)
+    multiplying_up : (n line : ℕ) → slice_get s.orders.list place ≡ Some (order.Mul (pos (suc n)) line) → Follow known (at g place true acts w Running) q
+    multiplying_up n line e =
+        let o = order.Mul (pos (suc n)) line in
+        let m = 2 ^ suc n in
+        let b = m == 32768 in
+        let c = here known s a + 1 + 2 + 2 + 3 in
+        let d = test_place b (c + 2) + 2 + 3 in
+        let h = code known s a o e in
+        does known s true line (perform p.limits.area (Multiply (pos (suc n))) w) 20 (begins_next known s a o e) (step_is known s (Some o) e) (cheap known s o 20 (lit≤ tt) e)
+        (products_up (setting known s) w.memory w.input w.output b (next known s a) (by known s overflow_entry c) (by known s overflow_entry d) line n w.operands
+        (line_fits known s o e) (has_code known s o e) refl
+        (scaled_ends (here known s a) line m (next known s a) b (behind known s a o e)) (calls known s overflow_entry c (lit< tt)) (calls known s overflow_entry d (lit< tt)) (low_room known s) s.fits.operands
+        (h.0, (h.1.0, (h.1.1.0, (h.1.1.1.0, (h.1.1.1.1.0, times_check image words_of (c + 2) overflow_entry line m b h.1.1.1.1.1))))) a.landed)
 
-    pub index_times : (n : ℕ) → slice_get s.orders.list place ≡ Some (order.IndexTimes n) → (b : Bool) → (n == 32768) ≡ b → Follow known (at g place line acts w Running) q
-    index_times n e true is =
-        let o = order.IndexTimes n in
-        let t = tested o (λ t. times_if t address_entry n) (n == 32768) true e refl refl is in
-        does known s (index (λ i. i *ℤ pos n) w) 15 (begins_next known s a o e) (step_is known s (Some o) e) (cheap known s o 15 (lit≤ tt) e)
-        (indexes_times (setting known s) w.memory w.input w.output true next (by known s 5 (behind_times true here)) n w.operands is (has_code known s o e) (let f = t.ends in omega arith) (calls known s 5 (behind_times true here) (lit< tt)) (low_room known s) s.fits.operands t.stands a.landed)
-    index_times n e false is =
-        let o = order.IndexTimes n in
-        let t = tested o (λ t. times_if t address_entry n) (n == 32768) false e refl refl is in
-        does known s (index (λ i. i *ℤ pos n) w) 15 (begins_next known s a o e) (step_is known s (Some o) e) (cheap known s o 15 (lit≤ tt) e)
-        (indexes_times (setting known s) w.memory w.input w.output false next (by known s 5 (behind_times false here)) n w.operands is (has_code known s o e) (let f = t.ends in omega arith) (calls known s 5 (behind_times false here) (lit< tt)) (low_room known s) s.fits.operands t.stands a.landed)
+    multiplying_down : (n line : ℕ) → slice_get s.orders.list place ≡ Some (order.Mul (negsuc n) line) → (b : Bool) → nat_lt n 15 ≡ b → Follow known (at g place true acts w Running) q
+    multiplying_down n line e true is =
+        let o = order.Mul (negsuc n) line in
+        let t = tested o (λ t. product_down line t n) (nat_lt n 15) true e refl refl is in
+        let c = here known s a + 1 + 3 + 3 in
+        let d = c + 2 + 3 in
+        does known s true line (perform p.limits.area (Multiply (negsuc n)) w) 32 (begins_next known s a o e) (step_is known s (Some o) e) (cheap known s o 32 (lit≤ tt) e)
+        (products_down (setting known s) w.memory w.input w.output (next known s a) (by known s product_entry c) (by known s overflow_entry d) line n w.operands (line_fits known s o e) t.ends (ltb-true n 15 is)
+        (calls known s product_entry c (lit< tt)) (calls known s overflow_entry d (lit< tt)) (low_room known s) s.fits.operands t.stands a.landed)
+    multiplying_down n line e false is =
+        let o = order.Mul (negsuc n) line in
+        let t = tested o (λ t. product_down line t n) (nat_lt n 15) false e refl refl is in
+        does known s true line (perform p.limits.area (Multiply (negsuc n)) w) 5 (begins_next known s a o e) (step_is known s (Some o) e) (cheap known s o 5 (lit≤ tt) e)
+        (products_far_down (setting known s) w.memory w.input w.output (next known s a) line n w.operands t.ends (not_below n 15 is) (has_code known s o e) (low_room known s) s.fits.operands t.stands a.landed)
 
-    pub row : (lower : ℤ) (n : ℕ) → slice_get s.orders.list place ≡ Some (order.IndexRow lower n) → (b : Bool) → (n == 32768) ≡ b → Follow known (at g place line acts w Running) q
-    row lower n e true is =
-        let o = order.IndexRow lower n in
-        let h = has_code known s o e in
-        let t = tested o (row_code lower n) (n == 32768) true e refl refl is in
-        let begin = here + 2 + 1 + 3 + 2 + 2 + 3 in
-        let last = behind_times true begin + 2 + 2 + 3 in
-        does known s (index_row lower n w) 32 (begins_next known s a o e) (step_is known s (Some o) e) (cheap known s o 32 (lit≤ tt) e)
-        (indexes_row (setting known s) w.memory w.input w.output true next (by known s 5 begin) (by known s 5 (behind_times true begin)) (by known s 5 last) lower n w.operands is h.1 h.0 (let f = t.ends in omega arith) (calls known s 5 begin (lit< tt)) (calls known s 5 (behind_times true begin) (lit< tt)) (calls known s 5 last (lit< tt)) (low_room known s) s.fits.operands t.stands a.landed)
-    row lower n e false is =
-        let o = order.IndexRow lower n in
-        let h = has_code known s o e in
-        let t = tested o (row_code lower n) (n == 32768) false e refl refl is in
-        let begin = here + 2 + 1 + 3 + 2 + 2 + 3 in
-        let last = behind_times false begin + 2 + 2 + 3 in
-        does known s (index_row lower n w) 32 (begins_next known s a o e) (step_is known s (Some o) e) (cheap known s o 32 (lit≤ tt) e)
-        (indexes_row (setting known s) w.memory w.input w.output false next (by known s 5 begin) (by known s 5 (behind_times false begin)) (by known s 5 last) lower n w.operands is h.1 h.0 (let f = t.ends in omega arith) (calls known s 5 begin (lit< tt)) (calls known s 5 (behind_times false begin) (lit< tt)) (calls known s 5 last (lit< tt)) (low_room known s) s.fits.operands t.stands a.landed)
+    pub multiply_follows : (s' : ℤ) (line : ℕ) → slice_get s.orders.list place ≡ Some (order.Mul s' line) → Follow known (at g place true acts w Running) q
+    multiply_follows (pos zero) line e =
+        let o = order.Mul (pos 0) line in
+        let c = here known s a + 1 + 2 + 2 + 3 in
+        does known s true line (perform p.limits.area (Multiply (pos 0)) w) 16 (begins_next known s a o e) (step_is known s (Some o) e) (cheap known s o 16 (lit≤ tt) e)
+        (products (setting known s) w.memory w.input w.output (next known s a) (by known s overflow_entry c) line w.operands (line_fits known s o e) (behind known s a o e) (calls known s overflow_entry c (lit< tt))
+        (low_room known s) s.fits.operands (code known s a o e) a.landed)
+    multiply_follows (pos (suc n)) line e = multiplying_up n line e
+    multiply_follows (negsuc n) line e = multiplying_down n line e (nat_lt n 15) refl
 
-    pub reading : slice_get s.orders.list place ≡ Some order.ReadByte → Follow known (at g place line acts w Running) q
-    reading e =
-        let goes : step p (at g place line acts w Running) ≡ after p.room (perform p.limits.area ReadByte w) g place line acts w = step_is known s (Some order.ReadByte) e in
-        let paid = cheap known s order.ReadByte 12 (lit≤ tt) e in
-        does known s (perform p.limits.area ReadByte w) 12 (begins_next known s a order.ReadByte e) goes paid
-        (reads (setting known s) w.memory w.output next w.operands w.input (behind known s a order.ReadByte e) (low_room known s) (code known s a order.ReadByte e) s.fits.input a.landed)
+    -- ---- quotients
+
+    pub divide_follows : (s' : ℤ) (line : ℕ) → slice_get s.orders.list place ≡ Some (order.Div s' line) → Follow known (at g place true acts w Running) q
+    divide_follows (pos n) line e =
+        let o = order.Div (pos n) line in
+        let b = here known s a + 2 + 1 + 2 + 2 + 3 in
+        let c = b + 2 + 3 + 3 in
+        let d = c + 2 + 3 in
+        does known s true line (perform p.limits.area (Divide (pos n)) w) 46 (begins_next known s a o e) (step_is known s (Some o) e) (cheap known s o 46 (lit≤ tt) e)
+        (divides_up (setting known s) w.memory w.input w.output (next known s a) (by known s zero_divisor_entry b) (by known s quotient_up_entry c) (by known s overflow_entry d) line n w.operands (line_fits known s o e)
+        (behind known s a o e) (has_code known s o e) (calls known s zero_divisor_entry b (lit< tt)) (calls known s quotient_up_entry c (lit< tt)) (calls known s overflow_entry d (lit< tt)) (low_room known s) s.fits.operands
+        (code known s a o e) a.landed)
+    divide_follows (negsuc n) line e =
+        let o = order.Div (negsuc n) line in
+        let b = here known s a + 2 + 1 + 2 + 2 + 3 in
+        let c = b + 2 + 3 + 3 in
+        let d = c + 2 + 3 in
+        does known s true line (perform p.limits.area (Divide (negsuc n)) w) 44 (begins_next known s a o e) (step_is known s (Some o) e) (cheap known s o 44 (lit≤ tt) e)
+        (divides_down (setting known s) w.memory w.input w.output (next known s a) (by known s zero_divisor_entry b) (by known s quotient_down_entry c) (by known s overflow_entry d) line n w.operands (line_fits known s o e)
+        (behind known s a o e) (has_code known s o e) (calls known s zero_divisor_entry b (lit< tt)) (calls known s quotient_down_entry c (lit< tt)) (calls known s overflow_entry d (lit< tt)) (low_room known s) s.fits.operands
+        (code known s a o e) a.landed)
+
+    -- ---- indexes
+
+    pub index_times_follows : (n line : ℕ) → slice_get s.orders.list place ≡ Some (order.IndexTimes n line) → Follow known (at g place true acts w Running) q
+    index_times_follows n line e =
+        let o = order.IndexTimes n line in
+        let b = n == 32768 in
+        let c = test_place b (here known s a) + 2 + 3 in
+        does known s true line (index (λ i. i *ℤ pos n) w) 17 (begins_next known s a o e) (step_is known s (Some o) e) (cheap known s o 17 (lit≤ tt) e)
+        (indexes_times (setting known s) w.memory w.input w.output b (next known s a) (by known s address_entry c) line n w.operands (line_fits known s o e) refl (has_code known s o e)
+        (times_ends (here known s a) address_entry line n (next known s a) b (behind known s a o e)) (calls known s address_entry c (lit< tt)) (low_room known s) s.fits.operands
+        (times_check image words_of (here known s a) address_entry line n b (code known s a o e)) a.landed)
+
+    pub index_row_follows : (lower : ℤ) (n line : ℕ) → slice_get s.orders.list place ≡ Some (order.IndexRow lower n line) → Follow known (at g place true acts w Running) q
+    index_row_follows lower n line e =
+        let o = order.IndexRow lower n line in
+        let bounds = has_code known s o e in
+        let t = n == 32768 in
+        let b = here known s a + 2 + 1 + 3 + 2 + 2 + 3 in
+        let c = test_place t (b + 2) + 2 + 3 in
+        let d = c + 2 + 2 + 2 + 3 in
+        let h = code known s a o e in
+        does known s true line (index_row lower n w) 34 (begins_next known s a o e) (step_is known s (Some o) e) (cheap known s o 34 (lit≤ tt) e)
+        (indexes_row (setting known s) w.memory w.input w.output t (next known s a) (by known s address_entry b) (by known s address_entry c) (by known s address_entry d) line lower n w.operands
+        (line_fits known s o e) refl bounds.1 bounds.0 (row_ends (here known s a) line lower n (next known s a) t (behind known s a o e))
+        (calls known s address_entry b (lit< tt)) (calls known s address_entry c (lit< tt)) (calls known s address_entry d (lit< tt)) (low_room known s) s.fits.operands
+        (h.0, (h.1.0, (h.1.1.0, (h.1.1.1.0, (h.1.1.1.1.0, (h.1.1.1.1.1.0, (h.1.1.1.1.1.1.0, times_row image words_of (b + 2) address_entry line n t h.1.1.1.1.1.1.1))))))) a.landed)

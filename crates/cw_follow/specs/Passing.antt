@@ -1,5 +1,5 @@
 -- The statements that the processor begins in the image of a program of orders.
-use Rattle.std.specs.Prelude.{◌≡◌, ℕ, ◌+◌, ◌<◌, ℤ, Bool, true, false, List, [], ◌∷◌, ◌++◌, length, map, Some, slice_get, slice_index}
+use Rattle.std.specs.Prelude.{◌≡◌, ℕ, zero, ◌+◌, ◌<◌, ℤ, Bool, true, false, List, [], ◌∷◌, ◌++◌, length, map, Some, slice_get, slice_index}
 use Rattle.cw_i86.specs.declared.instr.Instr.{Instr}
 use Rattle.cw_i86.specs.declared.instr.Instr.TheVariants as i86
 use Rattle.cw_i86.specs.MachineRun.{End, Running}
@@ -34,19 +34,17 @@ module _ (p : OrderProgram) where
   abbrev pub statement_places : List StatementPlace
   statement_places = places_from 0 p.units
 
--- the instruction stores a number, as that of a Line or a Start does, and of all others only the one of the library that begins a record
-abbrev pub stores_number : Instr → Bool
-stores_number (i86.MovRm rm imm) = true
-stores_number _ = false
+-- The instruction does nothing, as that of a Start, and as no other of the code.
+abbrev pub does_nothing : Instr → Bool
+does_nothing (i86.XchgAx zero) = true
+does_nothing _ = false
 
--- at no place of the library does a statement begin, and at no place of the code where an instruction stands that stores no number
+-- at no place of the library does a statement begin, and at no place of the code where an instruction stands that does something
 pub record Ignores (image : List ℕ) (places : List StatementPlace) : Type 0 where
   pub library : (place : ℕ) → place < length library_bytes → lines_at places place ≡ []
-  pub others : (place : ℕ) (i : Instr) → Has image place i → stores_number i ≡ false → lines_at places place ≡ []
+  pub others : (place : ℕ) (i : Instr) → Has image place i → does_nothing i ≡ false → lines_at places place ≡ []
 
--- The list of places is one of the image. At the code of a Start its statement begins, and none at that of a Line, whose instruction stores a
--- number too, nor at another instruction.
+-- The list of places is one of the image. At the code of a Start its statement begins, and none at another instruction.
 pub record PlacesStand (p : OrderProgram) (image : List ℕ) (places : List StatementPlace) : Type 0 where
   pub starts : (g k line : ℕ) (o : Orders) → slice_get p.units g ≡ Some o → slice_get o.list k ≡ Some (order.Start line) → lines_at places (base_of p g + slice_index (order_places o.list) k) ≡ (g + 1, line) ∷ []
-  pub lines : (g k line : ℕ) (o : Orders) → slice_get p.units g ≡ Some o → slice_get o.list k ≡ Some (order.Line line) → lines_at places (base_of p g + slice_index (order_places o.list) k) ≡ []
   pub ignores : Ignores image places

@@ -18,7 +18,7 @@ use Rattle.cw_order.specs.FittingWords.{ConstantsFit, LinesFit}
 use Rattle.cw_order.specs.Activations.{Callable}
 use Rattle.cw_tmpl.specs.Names.{label_start, switch_start, procedure_start}
 use Rattle.cw_tmpl.specs.Pieces.{Filling, blanks, filled}
-use Rattle.cw_tmpl.specs.Library.{routines, library_bytes, entry_place}
+use Rattle.cw_tmpl.specs.Library.{places_of_entries, library_bytes, entry_place}
 use Rattle.cw_tmpl.specs.ReferenceCode.{names_of, pieces_of}
 
 -- ---- places in the image
@@ -64,7 +64,7 @@ pub record Fills (p : OrderProgram) (segment next : ℕ) (value : Filling) : Typ
   pub places : (add after : ℕ) → value 3 0 add after ≡ (base_of p segment + add) % 65536
   pub definitions : (d after : ℕ) → value 4 d 0 after ≡ definition_place p (defined_at p segment d)
   pub ahead : (d after : ℕ) → value 5 d 0 after ≡ (definition_place p (defined_at p segment d) + (65536 - after % 65536)) % 65536
-  pub library : (entry after : ℕ) → entry < length routines → value 7 entry 0 after ≡ (entry_place entry + (65536 - after % 65536)) % 65536
+  pub library : (entry after : ℕ) → entry < length places_of_entries → value 7 entry 0 after ≡ (entry_place entry + (65536 - after % 65536)) % 65536
   pub area : (after : ℕ) → value 8 0 0 after ≡ p.limits.area % 65536
   pub frames : (after : ℕ) → value 8 1 0 after ≡ p.limits.frames % 65536
   pub depth : (after : ℕ) → value 8 2 0 after ≡ p.limits.depth % 65536
@@ -93,13 +93,18 @@ pub record IsImage (p : OrderProgram) (image : List ℕ) : Type 0 where
   pub few : length p.units ≤ 255
 
 -- the orders that can stand behind others in a block
-abbrev pub EndsBlock : Order → Type 0
-EndsBlock order.Load = Unit {0}
-EndsBlock order.Store = Unit {0}
-EndsBlock order.Add = Unit {0}
-EndsBlock order.Sub = Unit {0}
-EndsBlock (order.JumpIf c m) = Unit {0}
-EndsBlock _ = ⊥
+abbrev pub StandsBehind : Order → Type 0
+StandsBehind (order.Const w) = Unit {0}
+StandsBehind (order.Home f n) = Unit {0}
+StandsBehind (order.FrameHome n) = Unit {0}
+StandsBehind order.Load = Unit {0}
+StandsBehind order.Store = Unit {0}
+StandsBehind (order.Add line) = Unit {0}
+StandsBehind (order.Sub line) = Unit {0}
+StandsBehind (order.JumpIf c m) = Unit {0}
+StandsBehind (order.Div s line) = Unit {0}
+StandsBehind order.WriteByte = Unit {0}
+StandsBehind _ = ⊥
 
 -- What templates need of the orders: their numbers are words, the unit's lists tell what the tables tell, and an index of a switch is a word
 -- with a sign. Calls and control arguments are in order. Each body begins with the first order of its list, a mark stands there or at an order
@@ -113,7 +118,7 @@ pub record Codable (p : OrderProgram) : Type 0 where
   pub switches : (g n : ℕ) (o : Orders) (gs : List Goal) → slice_get p.units g ≡ Some o → slice_get o.switches n ≡ Some gs → length gs < 32768
   pub callable : Callable p
   pub entries : (g : ℕ) (o : Orders) → slice_get p.units g ≡ Some o → o.entry ≡ 0
-  pub marks : (g m place : ℕ) → place_of p g m ≡ Some place → (place ≡ 0) ⊎ ((o : Order) × (order_at p g place ≡ Some o) × (EndsBlock o → ⊥))
+  pub marks : (g m place : ℕ) → place_of p g m ≡ Some place → (place ≡ 0) ⊎ ((o : Order) × (order_at p g place ≡ Some o) × (StandsBehind o → ⊥))
   pub frames : p.limits.frames ≤ p.limits.area
   pub depth : p.limits.depth < 65536
   pub room : p.room ≤ 32000
@@ -132,4 +137,4 @@ NeverStuck p memory input = (k : ℕ) → (shown_after (order_machine p) k (orde
 
 -- from the first instruction to the first order: the way past the library, and the entry of the first segment
 abbrev pub startup_cost : ℕ
-startup_cost = 20
+startup_cost = 14

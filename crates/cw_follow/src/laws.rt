@@ -16,6 +16,9 @@ ghost use Rattle.cw_follow.specs.Placing.{IsImage, Codable, BeginsWith, NeverStu
 
 use cw_dec86::no_instruction_begins_another;
 use cw_order::laws::{activations, words};
+use cw_routines::laws::{
+    bodies, calls, loops, numbers as products_and_quotients, pieces, standing,
+};
 use cw_run86::laws::{
     arithmetic, comparing, comparing_below, fetching, fields as stack_fields, jumps, logic, memory,
     moves, multiplying, numbers, offsets, ports, shifting, stacking, starting, tables,
@@ -58,6 +61,12 @@ pub fn code_follows_orders()
     jumps();
     tables();
     ports();
+    bodies();
+    calls();
+    loops();
+    products_and_quotients();
+    pieces();
+    standing();
 }
 
 /// The places of statements that the code of orders tells stand in their image: at a Start begins its statement, and nowhere else
@@ -66,4 +75,5 @@ pub fn places_stand()
     ensures { (p : OrderProgram) (image : List ℕ) → IsImage p image → Codable p → PlacesStand p image (statement_places p) }
 {
     no_instruction_begins_another();
+    standing();
 }

@@ -14,7 +14,7 @@ use Rattle.cw_unit.specs.declared.unit.Arg.TheFolds.{fold-roll-Cond, fold-roll-E
 use Rattle.cw_unit.specs.Scales.{operand_scale}
 use Rattle.cw_gen_expr.specs.Pieces.{MarkedOrders, Piece, plain, followed_by, with_end}
 use Rattle.cw_gen_expr.specs.Output.{added}
-use Rattle.cw_gen_expr.specs.ReferenceExpressions.{Scope, Value, Reference, ConditionPiece, two_values, argument_step, condition_step, expression_step, spot_step, reference_step, value_of, expression_piece, condition_piece, spot_piece, form_orders}
+use Rattle.cw_gen_expr.specs.ReferenceExpressions.{Scope, Value, Reference, ConditionPiece, saved, two_values, argument_step, condition_step, expression_step, spot_step, reference_step, value_of, expression_piece, condition_piece, spot_piece, form_orders}
 use Rattle.cw_gen_expr.proofs.Layers.{value_layer, condition_layer, spot_layer}
 use Rattle.cw_gen_expr.proofs.Scales.{operand-is}
 
@@ -53,6 +53,10 @@ two_steps p q x x1 x2 e1 e2 = e2 ∙ ap (added q) e1 ∙ sym (added-both p q x)
 
 pub three_steps : (p q r : Piece) (x x1 x2 x3 : MarkedOrders) → x1 ≡ added p x → x2 ≡ added q x1 → x3 ≡ added r x2 → x3 ≡ added (followed_by p (followed_by q r)) x
 three_steps p q r x x1 x2 x3 e1 e2 e3 = two_steps p (followed_by q r) x x1 x3 e1 (two_steps q r x1 x2 x3 e2 e3)
+
+-- two values, the first one saved, and the orders that take them
+pub two_saved : (p q : Piece) (os : List Order) (x x1 z x2 x3 : MarkedOrders) → x1 ≡ added p x → z ≡ added saved x1 → x2 ≡ added q z → x3 ≡ added (plain os) x2 → x3 ≡ added (two_values p q os) x
+two_saved p q os x x1 z x2 x3 e1 es e2 e3 = two_steps p (followed_by saved (followed_by q (plain os))) x x1 x3 e1 (three_steps saved q (plain os) x1 z x2 x3 es e2 e3)
 
 pub plain_steps : (os ps : List Order) (x x1 x2 : MarkedOrders) → x1 ≡ added (plain os) x → x2 ≡ added (plain ps) x1 → x2 ≡ added (plain (os ++ ps)) x
 plain_steps os ps x x1 x2 e1 e2 = two_steps (plain os) (plain ps) x x1 x2 e1 e2
@@ -111,15 +115,15 @@ module _ (s : Scope) where
   of_one e a a' y f g g' os x x1 x2 is made ea eg e1 e2 =
       by_layer e y f x x2 is (two_steps (expression_piece s a g) (plain os) x x1 x2 (value_at a a' g g' x x1 ea eg e1) e2 ∙ ap (λ p. added p x) (sym made))
 
-  pub of_two : (e a b a' b' : Expr) (y : Expr-F Arg Cond Expr Spot Ref) (f g h g' h' : ℕ) (os : List Order) (x x1 x2 x3 : MarkedOrders) → e ≡ roll-Expr y → (value_layer s y).at f ≡ two_values (expression_piece s a g) (expression_piece s b h) os → a' ≡ a → g' ≡ g → b' ≡ b → h' ≡ h → x1 ≡ added (expression_piece s a' g') x → x2 ≡ added (expression_piece s b' h') x1 → x3 ≡ added (plain os) x2 → x3 ≡ added (expression_piece s e f) x
-  of_two e a b a' b' y f g h g' h' os x x1 x2 x3 is made ea eg eb eh e1 e2 e3 =
+  pub of_two : (e a b a' b' : Expr) (y : Expr-F Arg Cond Expr Spot Ref) (f g h g' h' : ℕ) (os : List Order) (x x1 z x2 x3 : MarkedOrders) → e ≡ roll-Expr y → (value_layer s y).at f ≡ two_values (expression_piece s a g) (expression_piece s b h) os → a' ≡ a → g' ≡ g → b' ≡ b → h' ≡ h → x1 ≡ added (expression_piece s a' g') x → z ≡ added saved x1 → x2 ≡ added (expression_piece s b' h') z → x3 ≡ added (plain os) x2 → x3 ≡ added (expression_piece s e f) x
+  of_two e a b a' b' y f g h g' h' os x x1 z x2 x3 is made ea eg eb eh e1 es e2 e3 =
       by_layer e y f x x3 is
-      (three_steps (expression_piece s a g) (expression_piece s b h) (plain os) x x1 x2 x3 (value_at a a' g g' x x1 ea eg e1) (value_at b b' h h' x1 x2 eb eh e2) e3
+      (two_saved (expression_piece s a g) (expression_piece s b h) os x x1 z x2 x3 (value_at a a' g g' x x1 ea eg e1) es (value_at b b' h h' z x2 eb eh e2) e3
       ∙ ap (λ p. added p x) (sym made))
 
   -- a reference: its indexes, and the orders that make an address of them
-  pub of_spot : (a : Spot) (y : Spot-F Arg Cond Expr Spot Ref) (p : Piece) (x x1 x2 : MarkedOrders) → a ≡ roll-Spot y → spot_layer s y ≡ followed_by p (plain (form_orders s.layout y)) → x1 ≡ added p x → x2 ≡ added (plain (form_orders s.layout (out-Spot a))) x1 → x2 ≡ added (spot_piece s a) x
+  pub of_spot : (a : Spot) (y : Spot-F Arg Cond Expr Spot Ref) (p : Piece) (x x1 x2 : MarkedOrders) → a ≡ roll-Spot y → spot_layer s y ≡ followed_by p (plain (form_orders s.layout s.line y)) → x1 ≡ added p x → x2 ≡ added (plain (form_orders s.layout s.line (out-Spot a))) x1 → x2 ≡ added (spot_piece s a) x
   of_spot a y p x x1 x2 is made e1 e2 =
       by_spot a y x x2 is
-      (two_steps p (plain (form_orders s.layout y)) x x1 x2 e1 (e2 ∙ ap (λ z. added (plain (form_orders s.layout z)) x1) (ap out-Spot is ∙ out-roll-Spot y))
+      (two_steps p (plain (form_orders s.layout s.line y)) x x1 x2 e1 (e2 ∙ ap (λ z. added (plain (form_orders s.layout s.line z)) x1) (ap out-Spot is ∙ out-roll-Spot y))
       ∙ ap (λ q. added q x) (sym made))

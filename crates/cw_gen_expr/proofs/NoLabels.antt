@@ -29,7 +29,7 @@ module _ (s : Scope) where
 
   module _ (n : ℕ) (b : Below n) where
     -- an index with bounds has no label, where its expression has none
-    bounded_none : (e : Expr) (l u : ℤ) → expression_size e < n → NoLabel (followed_by (expression_piece s e 0) (plain (bounds_orders s.unit.bounds l u)))
+    bounded_none : (e : Expr) (l u : ℤ) → expression_size e < n → NoLabel (followed_by (expression_piece s e 0) (plain (bounds_orders s.unit.bounds s.line l u)))
     bounded_none e l u lt place next = nothing (b.values e lt 0 place next) refl
 
     spot_none : (x : Spot-F Arg Cond Expr Spot Ref) → spot_size_layer x ≤ n → NoLabel (spot_layer s x)
@@ -56,8 +56,8 @@ module _ (s : Scope) where
         nothing (b.conditions a (let z : condition_size a < n = omega (arith, le) in z) true (pick_mark when mark next) place (next + 1)) (b.conditions d (let z : condition_size d < n = omega (arith, le) in z) when mark _ _)
 
     argument_none : (x : Arg-F Arg Cond Expr Spot Ref) → argument_size_layer x ≤ n → NoLabel (argument_layer s x)
-    argument_none (layer.Value e f) le = b.values e (let z : expression_size e < n = omega (arith, le) in z) f
-    argument_none (layer.Place r) le = b.references r (let z : reference_size r < n = omega (arith, le) in z)
+    argument_none (layer.Value e f) le = λ place next. nothing (b.values e (let z : expression_size e < n = omega (arith, le) in z) f place next) refl
+    argument_none (layer.Place r) le = λ place next. nothing (b.references r (let z : reference_size r < n = omega (arith, le) in z) place next) refl
     argument_none _ le = λ place next. refl
 
     all_none : (args : List Arg) → total (map argument_size args) < n → NoLabel (sequence (map (argument_piece s) args))

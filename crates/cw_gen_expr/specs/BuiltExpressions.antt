@@ -1,10 +1,12 @@
 -- The expressions, conditions, references and arguments whose orders do what they mean: what the checks of a unit give. Numbers fit a
--- word at their scale, scales are at most 15, the items that are named have words, and conditional expressions stand in one another's
+-- word at their scale, scales are at most 15, the items that are named have words, what is called in an expression answers, and conditional expressions stand in one another's
 -- THEN parts in no more than so many levels, since each may jump once where it ends.
 use Rattle.std.specs.Prelude.{ℕ, zero, suc, max, nat_le, nat_lt, List, [], ◌∷◌, Bool, true, false, ◌&&◌}
 use Rattle.cw_word.specs.Decimal.{decimal_floor}
 use Rattle.cw_word.specs.FixedPoint.{fits_word}
 use Rattle.cw_unit.specs.declared.unit.Unit.{Unit as SourceUnit}
+use Rattle.cw_unit.specs.declared.unit.Target.{Target}
+use Rattle.cw_unit.specs.declared.unit.Target.TheVariants as target
 use Rattle.cw_unit.specs.declared.unit.Cond.{Cond, fold-Cond}
 use Rattle.cw_unit.specs.declared.unit.Expr.{Expr, Expr-F, fold-Expr}
 use Rattle.cw_unit.specs.declared.unit.Arg.{Arg, fold-Arg}
@@ -46,6 +48,11 @@ built_unscaled p = record { natural = 0; operand = 0; at = p }
 abbrev pub built_scaled : ℕ → (ℕ → ℕ → Bool) → BuiltValue
 built_scaled f p = record { natural = f; operand = f; at = p }
 
+-- WRITEBYTE has no answer
+abbrev pub answers : Target → Bool
+answers target.Write = false
+answers _ = true
+
 module _ (u : SourceUnit) (has_words : (item words : ℕ) → Bool) where
   abbrev pub spot_step : Spot-F Bool Bool BuiltValue Bool BuiltReference → Bool
   spot_step (layer.Direct i) = has_words i 1
@@ -84,7 +91,7 @@ module _ (u : SourceUnit) (has_words : (item words : ℕ) → Bool) where
   expression_step (layer.Const z) = built_unscaled (λ f levels. fits_word z)
   expression_step (layer.Text i) = built_unscaled (λ f levels. has_words i 1)
   expression_step (layer.Read r) = built_scaled r.scale (λ f levels. r.good)
-  expression_step (layer.Call t args) = built_scaled (answer_scale u t) (λ f levels. all_built args)
+  expression_step (layer.Call t args) = built_scaled (answer_scale u t) (λ f levels. answers t && all_built args)
   expression_step (layer.Force g e) = built_scaled g (λ f levels. whole e g)
   expression_step (layer.Locate r) = built_unscaled (λ f levels. r.good)
   expression_step (layer.Bits t b e) = built_unscaled (λ f levels. whole e e.operand)

@@ -23,7 +23,7 @@ parameters_of u None = []
 parameters_of u (Some q) = parameters_in (slice_get u.procs q)
 
 abbrev pub scope_of : SourceUnit → Option ℕ → Scope
-scope_of u who = record { unit = u; layout = layout_of u; parameters = parameters_of u who }
+scope_of u who = record { unit = u; layout = layout_of u; parameters = parameters_of u who; line = 0 }
 
 -- a word argument goes to an item
 abbrev pub bound_by : (argument : ℕ) → Sort → (family offset : ℕ) → Order

@@ -61,14 +61,20 @@ abbrev pub control_place : List Param → ℕ → ℕ
 control_place [] k = 0
 control_place (q ∷ qs) k = control_place_from q k (argument_words qs) (control_place qs)
 
--- the unit of a body, its storage layout, and the parameters of the procedure whose body it is, none for a segment's
+-- the unit of a body, its storage layout, the parameters of the procedure whose body it is, none for a segment's, and the line that
+-- orders name
 pub record Scope : Type 0 where
   pub unit : SourceUnit
   pub layout : Layout
   pub parameters : List Param
+  pub line : ℕ
 
+-- at no line
 abbrev pub scope_with : SourceUnit → Layout → List Param → Scope
-scope_with u y ps = record { unit = u; layout = y; parameters = ps }
+scope_with u y ps = record { unit = u; layout = y; parameters = ps; line = 0 }
+
+abbrev pub at_line : (line : ℕ) → Scope → Scope
+at_line n s = record { unit = s.unit; layout = s.layout; parameters = s.parameters; line = n }
 
 -- ---- items
 
@@ -91,22 +97,24 @@ table_orders y true i = item_order y i 0 ∷ order.Load ∷ []
 table_orders y false i = item_order y i 0 ∷ []
 
 -- the address of a reference whose indexes stand on the operand stack
-abbrev pub form_orders : {A C E S R : Type 0} → Layout → Spot-F A C E S R → List Order
-form_orders y (layer.Direct i) = item_order y i 0 ∷ []
-form_orders y (layer.Through i) = item_order y i 0 ∷ order.Load ∷ order.InArea ∷ []
-form_orders y (layer.One i l u e) = order.IndexLess l ∷ item_order y i 0 ∷ order.IndexAdd ∷ order.InArea ∷ []
-form_orders y (layer.Two i l1 u1 l2 u2 n e g) = order.IndexLess l2 ∷ order.IndexRow l1 n ∷ item_order y i 0 ∷ order.IndexAdd ∷ order.InArea ∷ []
-form_orders y (layer.ParamArray i e) = item_order y i 0 ∷ order.Load ∷ order.IndexAdd ∷ order.InArea ∷ []
-form_orders y (layer.Word i t n e) = table_orders y t i ++ order.IndexAdd ∷ order.InArea ∷ []
-form_orders y (layer.Elem i t n m w e) = order.IndexTimes n ∷ order.IndexPlus w ∷ (table_orders y t i ++ order.IndexAdd ∷ order.InArea ∷ [])
-form_orders y (layer.Bare e) = order.InArea ∷ []
+abbrev pub form_orders : {A C E S R : Type 0} → Layout → (line : ℕ) → Spot-F A C E S R → List Order
+form_orders y line (layer.Direct i) = item_order y i 0 ∷ []
+form_orders y line (layer.Through i) = item_order y i 0 ∷ order.Load ∷ order.InArea line ∷ []
+form_orders y line (layer.One i l u e) = order.IndexLess l line ∷ order.Save ∷ item_order y i 0 ∷ order.IndexAdd line ∷ order.InArea line ∷ []
+form_orders y line (layer.Two i l1 u1 l2 u2 n e g) =
+    order.IndexLess l2 line ∷ order.IndexRow l1 n line ∷ order.Save ∷ item_order y i 0 ∷ order.IndexAdd line ∷ order.InArea line ∷ []
+form_orders y line (layer.ParamArray i e) = order.Save ∷ item_order y i 0 ∷ order.Load ∷ order.IndexAdd line ∷ order.InArea line ∷ []
+form_orders y line (layer.Word i t n e) = order.Save ∷ (table_orders y t i ++ order.IndexAdd line ∷ order.InArea line ∷ [])
+form_orders y line (layer.Elem i t n m w e) =
+    order.IndexTimes n line ∷ order.IndexPlus w line ∷ order.Save ∷ (table_orders y t i ++ order.IndexAdd line ∷ order.InArea line ∷ [])
+form_orders y line (layer.Bare e) = order.InArea line ∷ []
 
 -- ---- operations
 
 -- an index is compared with its bounds where the unit asks for it
-abbrev pub bounds_orders : (compared : Bool) → (lower upper : ℤ) → List Order
-bounds_orders true l u = order.InBounds l u ∷ []
-bounds_orders false l u = []
+abbrev pub bounds_orders : (compared : Bool) → (line : ℕ) → (lower upper : ℤ) → List Order
+bounds_orders true line l u = order.InBounds l u line ∷ []
+bounds_orders false line l u = []
 
 abbrev pub load_orders : Option Field → List Order
 load_orders None = order.Load ∷ []
@@ -116,8 +124,8 @@ abbrev pub store_orders : Option Field → List Order
 store_orders None = order.Store ∷ []
 store_orders (Some s) = order.StorePart s.t s.b ∷ []
 
-abbrev pub rescale_orders : (from to : ℕ) → List Order
-rescale_orders from to = if from == to then [] else (order.Rescale from to ∷ [])
+abbrev pub rescale_orders : (line from to : ℕ) → List Order
+rescale_orders line from to = if from == to then [] else (order.Rescale from to line ∷ [])
 
 abbrev pub logic_order : LogicOp → Order
 logic_order logic.Mask = order.And
@@ -174,9 +182,13 @@ abbrev pub choice_piece : ConditionPiece → Piece → Piece → Piece
 choice_piece c a b =
     with_end (λ end. followed_by (with_end (λ other. followed_by (c false other) (followed_by a (plain (order.Jump end ∷ []))))) b)
 
+-- the top operand goes to the stack, and the accumulator is free for the next one
+abbrev pub saved : Piece
+saved = plain (order.Save ∷ [])
+
 -- two values, and what is done with them
 abbrev pub two_values : Piece → Piece → List Order → Piece
-two_values a b os = followed_by a (followed_by b (plain os))
+two_values a b os = followed_by a (followed_by saved (followed_by b (plain os)))
 
 -- of a value that has no scale of its own
 abbrev pub unscaled : (ℕ → Piece) → Value
@@ -187,9 +199,9 @@ scaled f p = record { natural = f; operand = f; at = p }
 
 module _ (s : Scope) where
   abbrev pub call_order : Target → Order
-  call_order (target.Own q) = order.CallProc q
-  call_order (target.Common d) = order.CallCommon d
-  call_order (target.Special k f) = order.CallSpecial (control_place s.parameters k)
+  call_order (target.Own q) = order.CallProc q s.line
+  call_order (target.Common d) = order.CallCommon d s.line
+  call_order (target.Special k f) = order.CallSpecial (control_place s.parameters k) s.line
   call_order target.Read = order.ReadByte
   call_order target.Write = order.WriteByte
 
@@ -199,21 +211,21 @@ module _ (s : Scope) where
 
   -- an index that has bounds
   abbrev pub bounded_piece : Value → (lower upper : ℤ) → Piece
-  bounded_piece e l u = followed_by (e.at 0) (plain (bounds_orders s.unit.bounds l u))
+  bounded_piece e l u = followed_by (e.at 0) (plain (bounds_orders s.unit.bounds s.line l u))
 
   -- the indexes of a reference; the words of a table and its entries count from 0
   abbrev pub index_piece : Spot-F Piece ConditionPiece Value Piece Reference → Piece
   index_piece (layer.Direct i) = plain []
   index_piece (layer.Through i) = plain []
   index_piece (layer.One i l u e) = bounded_piece e l u
-  index_piece (layer.Two i l1 u1 l2 u2 n e g) = followed_by (bounded_piece e l1 u1) (bounded_piece g l2 u2)
+  index_piece (layer.Two i l1 u1 l2 u2 n e g) = followed_by (bounded_piece e l1 u1) (followed_by saved (bounded_piece g l2 u2))
   index_piece (layer.ParamArray i e) = e.at 0
   index_piece (layer.Word i t n e) = bounded_piece e (pos 0) (pos n -ℤ pos 1)
   index_piece (layer.Elem i t n m w e) = bounded_piece e (pos 0) (pos m -ℤ pos 1)
   index_piece (layer.Bare e) = e.at 0
 
   abbrev pub spot_step : Spot-F Piece ConditionPiece Value Piece Reference → Piece
-  spot_step x = followed_by (index_piece x) (plain (form_orders s.layout x))
+  spot_step x = followed_by (index_piece x) (plain (form_orders s.layout s.line x))
 
   abbrev pub reference_step : Ref-F Piece ConditionPiece Value Piece Reference → Reference
   reference_step r = record { address = r.at; scale = r.f; field = r.field }
@@ -221,30 +233,31 @@ module _ (s : Scope) where
   abbrev pub expression_step : Expr-F Piece ConditionPiece Value Piece Reference → Value
   expression_step (layer.Num n) =
       record { natural = 0; operand = number_scale (nat_lt 0 n.places) n; at = λ f. plain (number_order (decimal_floor n.whole n.digits n.places f) ∷ []) }
-  expression_step (layer.Const z) = unscaled (λ f. plain (number_order (unsigned z) ∷ rescale_orders 0 f))
-  expression_step (layer.Text i) = unscaled (λ f. plain (item_order s.layout i 0 ∷ rescale_orders 0 f))
-  expression_step (layer.Read r) = scaled r.scale (λ f. followed_by r.address (plain (load_orders r.field ++ rescale_orders r.scale f)))
+  expression_step (layer.Const z) = unscaled (λ f. plain (number_order (unsigned z) ∷ rescale_orders s.line 0 f))
+  expression_step (layer.Text i) = unscaled (λ f. plain (item_order s.layout i 0 ∷ rescale_orders s.line 0 f))
+  expression_step (layer.Read r) = scaled r.scale (λ f. followed_by r.address (plain (load_orders r.field ++ rescale_orders s.line r.scale f)))
   expression_step (layer.Call t args) =
-      scaled (answer_scale s.unit t) (λ f. followed_by (sequence args) (plain (call_order t ∷ rescale_orders (answer_scale s.unit t) f)))
-  expression_step (layer.Force g e) = scaled g (λ f. followed_by (e.at g) (plain (rescale_orders g f)))
-  expression_step (layer.Locate r) = unscaled (λ f. followed_by r.address (plain (rescale_orders 0 f)))
-  expression_step (layer.Bits t b e) = unscaled (λ f. followed_by (e.at e.operand) (plain (order.Take t b ∷ rescale_orders 0 f)))
-  expression_step (layer.Logic op a b) = unscaled (λ f. two_values (a.at a.operand) (b.at b.operand) (logic_order op ∷ rescale_orders 0 f))
-  expression_step (layer.Sum a b) = scaled (max a.natural b.natural) (λ f. two_values (a.at f) (b.at f) (order.Add ∷ []))
-  expression_step (layer.Less a b) = scaled (max a.natural b.natural) (λ f. two_values (a.at f) (b.at f) (order.Sub ∷ []))
-  expression_step (layer.Minus a) = scaled a.natural (λ f. followed_by (a.at f) (plain (order.Neg ∷ [])))
+      scaled (answer_scale s.unit t) (λ f. followed_by (sequence args) (plain (call_order t ∷ rescale_orders s.line (answer_scale s.unit t) f)))
+  expression_step (layer.Force g e) = scaled g (λ f. followed_by (e.at g) (plain (rescale_orders s.line g f)))
+  expression_step (layer.Locate r) = unscaled (λ f. followed_by r.address (plain (rescale_orders s.line 0 f)))
+  expression_step (layer.Bits t b e) = unscaled (λ f. followed_by (e.at e.operand) (plain (order.Take t b ∷ rescale_orders s.line 0 f)))
+  expression_step (layer.Logic op a b) = unscaled (λ f. two_values (a.at a.operand) (b.at b.operand) (logic_order op ∷ rescale_orders s.line 0 f))
+  expression_step (layer.Sum a b) = scaled (max a.natural b.natural) (λ f. two_values (a.at f) (b.at f) (order.Add s.line ∷ []))
+  expression_step (layer.Less a b) = scaled (max a.natural b.natural) (λ f. two_values (a.at f) (b.at f) (order.Sub s.line ∷ []))
+  expression_step (layer.Minus a) = scaled a.natural (λ f. followed_by (a.at f) (plain (order.Neg s.line ∷ [])))
   expression_step (layer.Times a b) =
-      scaled (max a.natural b.natural) (λ f. two_values (a.at a.operand) (b.at b.operand) (order.Mul (narrow (pos f -ℤ pos (a.operand + b.operand))) ∷ []))
+      scaled (max a.natural b.natural) (λ f. two_values (a.at a.operand) (b.at b.operand) (order.Mul (narrow (pos f -ℤ pos (a.operand + b.operand))) s.line ∷ []))
   expression_step (layer.Over a b) =
-      scaled (max a.natural b.natural) (λ f. two_values (a.at a.operand) (b.at b.operand) (order.Div (narrow (pos (f + b.operand) -ℤ pos a.operand)) ∷ []))
+      scaled (max a.natural b.natural) (λ f. two_values (a.at a.operand) (b.at b.operand) (order.Div (narrow (pos (f + b.operand) -ℤ pos a.operand)) s.line ∷ []))
   expression_step (layer.Choice c a b) = scaled (max a.natural b.natural) (λ f. choice_piece c (a.at f) (b.at f))
 
+  -- an argument stands on the stack
   abbrev pub argument_step : Arg-F Piece ConditionPiece Value Piece Reference → Piece
-  argument_step (layer.Value e f) = e.at f
-  argument_step (layer.Place r) = r.address
-  argument_step (layer.Array i l) = plain (item_order s.layout i 0 ∷ order.IndexLess l ∷ [])
-  argument_step (layer.Same i) = plain (item_order s.layout i 0 ∷ order.Load ∷ [])
-  argument_step (layer.Base i) = plain (item_order s.layout i 0 ∷ [])
+  argument_step (layer.Value e f) = followed_by (e.at f) saved
+  argument_step (layer.Place r) = followed_by r.address saved
+  argument_step (layer.Array i l) = plain (item_order s.layout i 0 ∷ order.IndexLess l s.line ∷ order.Save ∷ [])
+  argument_step (layer.Same i) = plain (item_order s.layout i 0 ∷ order.Load ∷ order.Save ∷ [])
+  argument_step (layer.Base i) = plain (item_order s.layout i 0 ∷ order.Save ∷ [])
   argument_step (layer.Goal g) = plain (label_order g ∷ [])
   argument_step (layer.Switch n) = plain (order.SwitchOut n ∷ [])
   argument_step (layer.CommonSwitch d) = plain (order.SwitchCommon d ∷ [])

@@ -5,7 +5,7 @@ ghost use Rattle.cw_order.specs.declared.order.Order.TheVariants as order;
 ghost use Rattle.cw_gen_expr.specs.Pieces.{plain, sequence};
 ghost use Rattle.cw_gen_expr.specs.Output.{made, added};
 ghost use Rattle.cw_gen_expr.specs.UnitTables.{first_mark};
-ghost use Rattle.cw_gen_expr.specs.ReferenceExpressions.{expression_piece, condition_piece, argument_piece, spot_piece, bounds_orders, comparator_for, pick_mark, rescale_orders, load_orders, table_orders, form_orders, logic_order, narrow, call_order, scope_with};
+ghost use Rattle.cw_gen_expr.specs.ReferenceExpressions.{expression_piece, condition_piece, argument_piece, spot_piece, bounds_orders, comparator_for, pick_mark, rescale_orders, load_orders, table_orders, form_orders, logic_order, narrow, call_order, scope_with, at_line};
 
 use crate::orders::{item, number_word, place_of_control, scale_of_operand};
 use crate::output::Output;
@@ -40,13 +40,13 @@ fn pick(first: bool, m: u32, n: u32) -> u32
 }
 
 /// Adds what takes a word from one scale to another.
-pub fn emit_rescale(out: &mut Output, from: u8, to: u8) -> Result<(), NoMemory>
-    ensures { OnOk result (made out.new ≡ added (plain (rescale_orders from to)) (made out.old)) }
+pub fn emit_rescale(out: &mut Output, line: u16, from: u8, to: u8) -> Result<(), NoMemory>
+    ensures { OnOk result (made out.new ≡ added (plain (rescale_orders line from to)) (made out.old)) }
 {
     if from == to {
         Ok(())
     } else {
-        out.push(Order::Rescale { from, to })
+        out.push(Order::Rescale { from, to, line })
     }
 }
 
@@ -92,60 +92,81 @@ fn emit_table(
 }
 
 /// Adds the orders that make an address of a reference's indexes.
-fn emit_form(out: &mut Output, layout: &Layout, spot: &Spot) -> Result<(), NoMemory>
-    ensures { OnOk result (made out.new ≡ added (plain (form_orders layout.now (out-Spot spot.now))) (made out.old)) }
+fn emit_form(out: &mut Output, layout: &Layout, line: u16, spot: &Spot) -> Result<(), NoMemory>
+    ensures { OnOk result (made out.new ≡ added (plain (form_orders layout.now line (out-Spot spot.now))) (made out.old)) }
 {
     match spot {
         Spot::Direct(i) => out.push(item(layout, *i, 0)),
         Spot::Through(i) => {
             out.push(item(layout, *i, 0))?;
             out.push(Order::Load)?;
-            out.push(Order::InArea)
+            out.push(Order::InArea(line))
         }
         Spot::One(i, lower, _, _) => {
-            out.push(Order::IndexLess(*lower))?;
+            out.push(Order::IndexLess {
+                lower: *lower,
+                line,
+            })?;
+            out.push(Order::Save)?;
             out.push(item(layout, *i, 0))?;
-            out.push(Order::IndexAdd)?;
-            out.push(Order::InArea)
+            out.push(Order::IndexAdd(line))?;
+            out.push(Order::InArea(line))
         }
         Spot::Two(i, first, _, second, _, length, _, _) => {
-            out.push(Order::IndexLess(*second))?;
+            out.push(Order::IndexLess {
+                lower: *second,
+                line,
+            })?;
             out.push(Order::IndexRow {
                 lower: *first,
                 length: *length,
+                line,
             })?;
+            out.push(Order::Save)?;
             out.push(item(layout, *i, 0))?;
-            out.push(Order::IndexAdd)?;
-            out.push(Order::InArea)
+            out.push(Order::IndexAdd(line))?;
+            out.push(Order::InArea(line))
         }
         Spot::ParamArray(i, _) => {
+            out.push(Order::Save)?;
             out.push(item(layout, *i, 0))?;
             out.push(Order::Load)?;
-            out.push(Order::IndexAdd)?;
-            out.push(Order::InArea)
+            out.push(Order::IndexAdd(line))?;
+            out.push(Order::InArea(line))
         }
         Spot::Word(i, parameter, _, _) => {
+            out.push(Order::Save)?;
             emit_table(out, layout, *parameter, *i)?;
-            out.push(Order::IndexAdd)?;
-            out.push(Order::InArea)
+            out.push(Order::IndexAdd(line))?;
+            out.push(Order::InArea(line))
         }
         Spot::Elem(i, parameter, width, _, place, _) => {
-            out.push(Order::IndexTimes(*width))?;
-            out.push(Order::IndexPlus(*place))?;
+            out.push(Order::IndexTimes {
+                length: *width,
+                line,
+            })?;
+            out.push(Order::IndexPlus { word: *place, line })?;
+            out.push(Order::Save)?;
             emit_table(out, layout, *parameter, *i)?;
-            out.push(Order::IndexAdd)?;
-            out.push(Order::InArea)
+            out.push(Order::IndexAdd(line))?;
+            out.push(Order::InArea(line))
         }
-        Spot::Bare(_) => out.push(Order::InArea),
+        Spot::Bare(_) => out.push(Order::InArea(line)),
     }
 }
 
 /// Adds the comparison of an index with its bounds, where the unit asks for it.
-fn emit_bounds(out: &mut Output, unit: &Unit, lower: i16, upper: i16) -> Result<(), NoMemory>
-    ensures { OnOk result (made out.new ≡ added (plain (bounds_orders unit.now.bounds lower upper)) (made out.old)) }
+fn emit_bounds(
+    out: &mut Output,
+    unit: &Unit,
+    line: u16,
+    lower: i16,
+    upper: i16,
+) -> Result<(), NoMemory>
+    ensures { OnOk result (made out.new ≡ added (plain (bounds_orders unit.now.bounds line lower upper)) (made out.old)) }
 {
     if unit.bounds {
-        out.push(Order::InBounds { lower, upper })
+        out.push(Order::InBounds { lower, upper, line })
     } else {
         Ok(())
     }
@@ -153,14 +174,18 @@ fn emit_bounds(out: &mut Output, unit: &Unit, lower: i16, upper: i16) -> Result<
 
 /// Adds the comparison of an index that counts from 0 with a number of words or entries, where the unit asks for it.
 /// NoMemory comes for tables that no unit has, of over 32,768 words.
-fn emit_count(out: &mut Output, unit: &Unit, count: u32) -> Result<(), NoMemory>
-    ensures { OnOk result (made out.new ≡ added (plain (bounds_orders unit.now.bounds (pos 0) (pos count -ℤ pos 1))) (made out.old)) }
+fn emit_count(out: &mut Output, unit: &Unit, line: u16, count: u32) -> Result<(), NoMemory>
+    ensures { OnOk result (made out.new ≡ added (plain (bounds_orders unit.now.bounds line (pos 0) (pos count -ℤ pos 1))) (made out.old)) }
 {
     if !unit.bounds {
         return Ok(());
     }
     match i16::try_from(i64::from(count) - 1) {
-        Ok(upper) => out.push(Order::InBounds { lower: 0, upper }),
+        Ok(upper) => out.push(Order::InBounds {
+            lower: 0,
+            upper,
+            line,
+        }),
         Err(_) => Err(NoMemory),
     }
 }
@@ -176,17 +201,23 @@ fn power(power: i32) -> i8
 }
 
 /// Adds the order of a product at scale `to`, whose operands have the scales `f` and `g`.
-fn emit_product(out: &mut Output, to: u8, f: u8, g: u8) -> Result<(), NoMemory>
-    ensures { OnOk result (made out.new ≡ added (plain (order.Mul (narrow (pos to -ℤ pos (f + g))) ∷ [])) (made out.old)) }
+fn emit_product(out: &mut Output, line: u16, to: u8, f: u8, g: u8) -> Result<(), NoMemory>
+    ensures { OnOk result (made out.new ≡ added (plain (order.Mul (narrow (pos to -ℤ pos (f + g))) line ∷ [])) (made out.old)) }
 {
-    out.push(Order::Mul(power(i32::from(to) - i32::from(u16::from(f) + u16::from(g)))))
+    out.push(Order::Mul {
+        power: power(i32::from(to) - i32::from(u16::from(f) + u16::from(g))),
+        line,
+    })
 }
 
 /// Adds the order of a quotient at scale `to`, whose operands have the scales `f` and `g`.
-fn emit_quotient(out: &mut Output, to: u8, f: u8, g: u8) -> Result<(), NoMemory>
-    ensures { OnOk result (made out.new ≡ added (plain (order.Div (narrow (pos (to + g) -ℤ pos f)) ∷ [])) (made out.old)) }
+fn emit_quotient(out: &mut Output, line: u16, to: u8, f: u8, g: u8) -> Result<(), NoMemory>
+    ensures { OnOk result (made out.new ≡ added (plain (order.Div (narrow (pos (to + g) -ℤ pos f)) line ∷ [])) (made out.old)) }
 {
-    out.push(Order::Div(power(i32::from(u16::from(to) + u16::from(g)) - i32::from(f))))
+    out.push(Order::Div {
+        power: power(i32::from(u16::from(to) + u16::from(g)) - i32::from(f)),
+        line,
+    })
 }
 
 /// Adds the order that calls.
@@ -195,16 +226,24 @@ pub fn emit_call(
     unit: &Unit,
     layout: &Layout,
     parameters: &[Param],
+    line: u16,
     target: &Target,
 ) -> Result<(), NoMemory>
-    ensures { OnOk result (made out.new ≡ added (plain (call_order (scope_with unit.now layout.now parameters.now) target.now ∷ [])) (made out.old)) }
+    ensures { OnOk result (made out.new ≡ added (plain (call_order (at_line line (scope_with unit.now layout.now parameters.now)) target.now ∷ [])) (made out.old)) }
 {
     match target {
-        Target::Own(procedure) => out.push(Order::CallProc(*procedure)),
-        Target::Common(descriptor) => out.push(Order::CallCommon(*descriptor)),
-        Target::Special(control, _) => out.push(Order::CallSpecial(place_of_control(
-            parameters, *control,
-        )?)),
+        Target::Own(procedure) => out.push(Order::CallProc {
+            procedure: *procedure,
+            line,
+        }),
+        Target::Common(descriptor) => out.push(Order::CallCommon {
+            descriptor: *descriptor,
+            line,
+        }),
+        Target::Special(control, _) => {
+            let place = place_of_control(parameters, *control)?;
+            out.push(Order::CallSpecial { place, line })
+        }
         Target::Read => out.push(Order::ReadByte),
         Target::Write => out.push(Order::WriteByte),
     }
@@ -217,10 +256,11 @@ pub fn emit_expression(
     unit: &Unit,
     layout: &Layout,
     parameters: &[Param],
+    line: u16,
     e: &Expr,
     scale: u8,
 ) -> Result<(), NoMemory>
-    ensures { OnOk result (made out.new ≡ added (expression_piece (scope_with unit.now layout.now parameters.now) e.now scale) (made out.old)) }
+    ensures { OnOk result (made out.new ≡ added (expression_piece (at_line line (scope_with unit.now layout.now parameters.now)) e.now scale) (made out.old)) }
 {
     match e {
         Expr::Num(number) => {
@@ -229,85 +269,99 @@ pub fn emit_expression(
         }
         Expr::Const(z) => {
             out.push(Order::Const(z.cast_unsigned()))?;
-            emit_rescale(out, 0, scale)
+            emit_rescale(out, line, 0, scale)
         }
         Expr::Text(i) => {
             out.push(item(layout, *i, 0))?;
-            emit_rescale(out, 0, scale)
+            emit_rescale(out, line, 0, scale)
         }
         Expr::Read(reference) => {
             let reference = reference.get();
-            emit_address(out, unit, layout, parameters, &reference.at)?;
+            emit_address(out, unit, layout, parameters, line, &reference.at)?;
             emit_load(out, &reference.field)?;
-            emit_rescale(out, reference.f, scale)
+            emit_rescale(out, line, reference.f, scale)
         }
         Expr::Call(target, arguments) => {
-            emit_arguments(out, unit, layout, parameters, arguments.as_slice())?;
-            emit_call(out, unit, layout, parameters, target)?;
-            emit_rescale(out, answer_scale(unit, target), scale)
+            emit_arguments(out, unit, layout, parameters, line, arguments.as_slice())?;
+            emit_call(out, unit, layout, parameters, line, target)?;
+            emit_rescale(out, line, answer_scale(unit, target), scale)
         }
         Expr::Force(forced, a) => {
-            emit_expression(out, unit, layout, parameters, a.get(), *forced)?;
-            emit_rescale(out, *forced, scale)
+            emit_expression(out, unit, layout, parameters, line, a.get(), *forced)?;
+            emit_rescale(out, line, *forced, scale)
         }
         Expr::Locate(reference) => {
-            emit_address(out, unit, layout, parameters, &reference.get().at)?;
-            emit_rescale(out, 0, scale)
+            emit_address(out, unit, layout, parameters, line, &reference.get().at)?;
+            emit_rescale(out, line, 0, scale)
         }
         Expr::Bits(t, b, a) => {
             let a = a.get();
             let f = scale_of_operand(unit, a)?;
-            emit_expression(out, unit, layout, parameters, a, f)?;
+            emit_expression(out, unit, layout, parameters, line, a, f)?;
             out.push(Order::Take { t: *t, b: *b })?;
-            emit_rescale(out, 0, scale)
+            emit_rescale(out, line, 0, scale)
         }
         Expr::Logic(op, a, b) => {
             let (a, b) = (a.get(), b.get());
             let f = scale_of_operand(unit, a)?;
             let g = scale_of_operand(unit, b)?;
-            emit_expression(out, unit, layout, parameters, a, f)?;
-            emit_expression(out, unit, layout, parameters, b, g)?;
+            emit_expression(out, unit, layout, parameters, line, a, f)?;
+            out.push(Order::Save)?;
+            emit_expression(out, unit, layout, parameters, line, b, g)?;
             out.push(logic(*op))?;
-            emit_rescale(out, 0, scale)
+            emit_rescale(out, line, 0, scale)
         }
         Expr::Sum(a, b) => {
-            emit_expression(out, unit, layout, parameters, a.get(), scale)?;
-            emit_expression(out, unit, layout, parameters, b.get(), scale)?;
-            out.push(Order::Add)
+            emit_expression(out, unit, layout, parameters, line, a.get(), scale)?;
+            out.push(Order::Save)?;
+            emit_expression(out, unit, layout, parameters, line, b.get(), scale)?;
+            out.push(Order::Add(line))
         }
         Expr::Less(a, b) => {
-            emit_expression(out, unit, layout, parameters, a.get(), scale)?;
-            emit_expression(out, unit, layout, parameters, b.get(), scale)?;
-            out.push(Order::Sub)
+            emit_expression(out, unit, layout, parameters, line, a.get(), scale)?;
+            out.push(Order::Save)?;
+            emit_expression(out, unit, layout, parameters, line, b.get(), scale)?;
+            out.push(Order::Sub(line))
         }
         Expr::Minus(a) => {
-            emit_expression(out, unit, layout, parameters, a.get(), scale)?;
-            out.push(Order::Neg)
+            emit_expression(out, unit, layout, parameters, line, a.get(), scale)?;
+            out.push(Order::Neg(line))
         }
         Expr::Times(a, b) => {
             let (a, b) = (a.get(), b.get());
             let f = scale_of_operand(unit, a)?;
             let g = scale_of_operand(unit, b)?;
-            emit_expression(out, unit, layout, parameters, a, f)?;
-            emit_expression(out, unit, layout, parameters, b, g)?;
-            emit_product(out, scale, f, g)
+            emit_expression(out, unit, layout, parameters, line, a, f)?;
+            out.push(Order::Save)?;
+            emit_expression(out, unit, layout, parameters, line, b, g)?;
+            emit_product(out, line, scale, f, g)
         }
         Expr::Over(a, b) => {
             let (a, b) = (a.get(), b.get());
             let f = scale_of_operand(unit, a)?;
             let g = scale_of_operand(unit, b)?;
-            emit_expression(out, unit, layout, parameters, a, f)?;
-            emit_expression(out, unit, layout, parameters, b, g)?;
-            emit_quotient(out, scale, f, g)
+            emit_expression(out, unit, layout, parameters, line, a, f)?;
+            out.push(Order::Save)?;
+            emit_expression(out, unit, layout, parameters, line, b, g)?;
+            emit_quotient(out, line, scale, f, g)
         }
         Expr::Choice(condition, a, b) => {
             let end = out.new_mark()?;
             let other = out.new_mark()?;
-            emit_condition(out, unit, layout, parameters, condition.get(), false, other)?;
-            emit_expression(out, unit, layout, parameters, a.get(), scale)?;
+            emit_condition(
+                out,
+                unit,
+                layout,
+                parameters,
+                line,
+                condition.get(),
+                false,
+                other,
+            )?;
+            emit_expression(out, unit, layout, parameters, line, a.get(), scale)?;
             out.push(Order::Jump(end))?;
             out.set_mark(other)?;
-            emit_expression(out, unit, layout, parameters, b.get(), scale)?;
+            emit_expression(out, unit, layout, parameters, line, b.get(), scale)?;
             out.set_mark(end)
         }
     }
@@ -320,17 +374,19 @@ pub fn emit_condition(
     unit: &Unit,
     layout: &Layout,
     parameters: &[Param],
+    line: u16,
     condition: &Cond,
     when: bool,
     mark: u32,
 ) -> Result<(), NoMemory>
-    ensures { OnOk result (made out.new ≡ added (condition_piece (scope_with unit.now layout.now parameters.now) condition.now when mark) (made out.old)) }
+    ensures { OnOk result (made out.new ≡ added (condition_piece (at_line line (scope_with unit.now layout.now parameters.now)) condition.now when mark) (made out.old)) }
 {
     match condition {
         Cond::Cmp(op, a, b) => {
             let f = natural_scale(unit, a).max(natural_scale(unit, b));
-            emit_expression(out, unit, layout, parameters, a, f)?;
-            emit_expression(out, unit, layout, parameters, b, f)?;
+            emit_expression(out, unit, layout, parameters, line, a, f)?;
+            out.push(Order::Save)?;
+            emit_expression(out, unit, layout, parameters, line, b, f)?;
             out.push(Order::JumpIf {
                 comparator: comparator(*op, when),
                 mark,
@@ -343,11 +399,21 @@ pub fn emit_condition(
                 unit,
                 layout,
                 parameters,
+                line,
                 first.get(),
                 false,
                 pick(when, end, mark),
             )?;
-            emit_condition(out, unit, layout, parameters, second.get(), when, mark)?;
+            emit_condition(
+                out,
+                unit,
+                layout,
+                parameters,
+                line,
+                second.get(),
+                when,
+                mark,
+            )?;
             out.set_mark(end)
         }
         Cond::Or(first, second) => {
@@ -357,11 +423,21 @@ pub fn emit_condition(
                 unit,
                 layout,
                 parameters,
+                line,
                 first.get(),
                 true,
                 pick(when, mark, end),
             )?;
-            emit_condition(out, unit, layout, parameters, second.get(), when, mark)?;
+            emit_condition(
+                out,
+                unit,
+                layout,
+                parameters,
+                line,
+                second.get(),
+                when,
+                mark,
+            )?;
             out.set_mark(end)
         }
     }
@@ -374,68 +450,85 @@ pub fn emit_address(
     unit: &Unit,
     layout: &Layout,
     parameters: &[Param],
+    line: u16,
     spot: &Spot,
 ) -> Result<(), NoMemory>
-    ensures { OnOk result (made out.new ≡ added (spot_piece (scope_with unit.now layout.now parameters.now) spot.now) (made out.old)) }
+    ensures { OnOk result (made out.new ≡ added (spot_piece (at_line line (scope_with unit.now layout.now parameters.now)) spot.now) (made out.old)) }
 {
     match spot {
-        Spot::Direct(_) | Spot::Through(_) => emit_form(out, layout, spot),
+        Spot::Direct(_) | Spot::Through(_) => emit_form(out, layout, line, spot),
         Spot::One(_, lower, upper, e) => {
-            emit_expression(out, unit, layout, parameters, e, 0)?;
-            emit_bounds(out, unit, *lower, *upper)?;
-            emit_form(out, layout, spot)
+            emit_expression(out, unit, layout, parameters, line, e, 0)?;
+            emit_bounds(out, unit, line, *lower, *upper)?;
+            emit_form(out, layout, line, spot)
         }
         Spot::Two(_, l1, u1, l2, u2, _, a, b) => {
-            emit_expression(out, unit, layout, parameters, a, 0)?;
-            emit_bounds(out, unit, *l1, *u1)?;
-            emit_expression(out, unit, layout, parameters, b, 0)?;
-            emit_bounds(out, unit, *l2, *u2)?;
-            emit_form(out, layout, spot)
+            emit_expression(out, unit, layout, parameters, line, a, 0)?;
+            emit_bounds(out, unit, line, *l1, *u1)?;
+            out.push(Order::Save)?;
+            emit_expression(out, unit, layout, parameters, line, b, 0)?;
+            emit_bounds(out, unit, line, *l2, *u2)?;
+            emit_form(out, layout, line, spot)
         }
         Spot::Word(_, _, words, e) => {
-            emit_expression(out, unit, layout, parameters, e, 0)?;
-            emit_count(out, unit, *words)?;
-            emit_form(out, layout, spot)
+            emit_expression(out, unit, layout, parameters, line, e, 0)?;
+            emit_count(out, unit, line, *words)?;
+            emit_form(out, layout, line, spot)
         }
         Spot::Elem(_, _, _, entries, _, e) => {
-            emit_expression(out, unit, layout, parameters, e, 0)?;
-            emit_count(out, unit, u32::from(*entries))?;
-            emit_form(out, layout, spot)
+            emit_expression(out, unit, layout, parameters, line, e, 0)?;
+            emit_count(out, unit, line, u32::from(*entries))?;
+            emit_form(out, layout, line, spot)
         }
         Spot::ParamArray(_, e) => {
-            emit_expression(out, unit, layout, parameters, e, 0)?;
-            emit_form(out, layout, spot)
+            emit_expression(out, unit, layout, parameters, line, e, 0)?;
+            emit_form(out, layout, line, spot)
         }
         Spot::Bare(e) => {
-            emit_expression(out, unit, layout, parameters, e, 0)?;
-            emit_form(out, layout, spot)
+            emit_expression(out, unit, layout, parameters, line, e, 0)?;
+            emit_form(out, layout, line, spot)
         }
     }
 }
 
-/// Adds the orders that put an argument.
+/// Adds the orders that put an argument on the stack.
 #[cycle(tree)]
 pub fn emit_argument(
     out: &mut Output,
     unit: &Unit,
     layout: &Layout,
     parameters: &[Param],
+    line: u16,
     argument: &Arg,
 ) -> Result<(), NoMemory>
-    ensures { OnOk result (made out.new ≡ added (argument_piece (scope_with unit.now layout.now parameters.now) argument.now) (made out.old)) }
+    ensures { OnOk result (made out.new ≡ added (argument_piece (at_line line (scope_with unit.now layout.now parameters.now)) argument.now) (made out.old)) }
 {
     match argument {
-        Arg::Value(e, scale) => emit_expression(out, unit, layout, parameters, e, *scale),
-        Arg::Place(reference) => emit_address(out, unit, layout, parameters, &reference.at),
+        Arg::Value(e, scale) => {
+            emit_expression(out, unit, layout, parameters, line, e, *scale)?;
+            out.push(Order::Save)
+        }
+        Arg::Place(reference) => {
+            emit_address(out, unit, layout, parameters, line, &reference.at)?;
+            out.push(Order::Save)
+        }
         Arg::Array(i, lower) => {
             out.push(item(layout, *i, 0))?;
-            out.push(Order::IndexLess(*lower))
+            out.push(Order::IndexLess {
+                lower: *lower,
+                line,
+            })?;
+            out.push(Order::Save)
         }
         Arg::Same(i) => {
             out.push(item(layout, *i, 0))?;
-            out.push(Order::Load)
+            out.push(Order::Load)?;
+            out.push(Order::Save)
         }
-        Arg::Base(i) => out.push(item(layout, *i, 0)),
+        Arg::Base(i) => {
+            out.push(item(layout, *i, 0))?;
+            out.push(Order::Save)
+        }
         Arg::Goal(Goal::Own(label)) => out.push(Order::LabelOut(*label)),
         Arg::Goal(Goal::Common(descriptor)) => out.push(Order::LabelCommon(*descriptor)),
         Arg::Switch(switch) => out.push(Order::SwitchOut(*switch)),
@@ -456,12 +549,13 @@ pub fn emit_arguments(
     unit: &Unit,
     layout: &Layout,
     parameters: &[Param],
+    line: u16,
     arguments: &[Arg],
 ) -> Result<(), NoMemory>
-    ensures { OnOk result (made out.new ≡ added (sequence (map (argument_piece (scope_with unit.now layout.now parameters.now)) arguments.now)) (made out.old)) }
+    ensures { OnOk result (made out.new ≡ added (sequence (map (argument_piece (at_line line (scope_with unit.now layout.now parameters.now))) arguments.now)) (made out.old)) }
 {
     for argument in arguments {
-        emit_argument(out, unit, layout, parameters, argument)?;
+        emit_argument(out, unit, layout, parameters, line, argument)?;
     }
     Ok(())
 }
@@ -491,7 +585,7 @@ pub fn expr_orders(
     ensures err { OnErr result (out.new ≡ out.old) }
 {
     let mut made = Output::new(alloc, numbered_marks(unit)?)?;
-    emit_expression(&mut made, unit, layout, &[], e, scale)?;
+    emit_expression(&mut made, unit, layout, &[], 0, e, scale)?;
     let mut orders = made.orders.into_vec();
     let mut all = mem::replace(out, List::new(alloc)).into_vec();
     let appended = all.append(&mut orders).map_err(|_| NoMemory);

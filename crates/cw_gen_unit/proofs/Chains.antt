@@ -11,7 +11,7 @@ use Rattle.cw_unit.specs.declared.unit.Stmt.TheFolds.{fold-roll-Stmt}
 use Rattle.cw_unit.specs.declared.unit.Stmt.TheOpen as statement
 use Rattle.cw_gen_expr.specs.Pieces.{MarkedOrders, Piece, plain, followed_by, with_end, sequence}
 use Rattle.cw_gen_expr.specs.Output.{added}
-use Rattle.cw_gen_expr.specs.ReferenceExpressions.{Scope, ConditionPiece, choice_piece, item_order, spot_piece, reference_of}
+use Rattle.cw_gen_expr.specs.ReferenceExpressions.{Scope, at_line, ConditionPiece, choice_piece, item_order, spot_piece, reference_of}
 use Rattle.cw_gen_expr.proofs.Layers.{reference-made}
 use Rattle.cw_gen_expr.proofs.Making.{reserved, closed, added-end, added-nothing, two_steps}
 use Rattle.cw_gen_unit.specs.ReferenceStatements.{begin_orders, jump_piece, with_middle, set_orders, elements_piece, element_ways, ring_piece, statement_step, statement_piece}
@@ -55,11 +55,11 @@ chosen c a b end other x x1 x2 x3 x4 x5 x6 x7 x8 ee e1 eo e2 e3 e4 e5 e6 e7 e8 =
 -- ---- FOR
 
 -- the elements, the tail, the body and the way on
-module _ (s : Scope) (line item f : ℕ) (es : List Felem) (body : Piece) where
+module _ (s : Scope) (item f : ℕ) (es : List Felem) (body : Piece) where
   way_orders : List ℕ → List Order
-  way_orders ways = order.Line line ∷ item_order s.layout item 3 ∷ order.Load ∷ order.LoopWay ways ∷ []
+  way_orders ways = item_order s.layout item 3 ∷ order.Load ∷ order.LoopWay ways ∷ []
 
-  pub ringed : (end start set : ℕ) (ways : List ℕ) (x x1 x2 x3 x4 x5 x6 x7 x8 x9 x10 x11 : MarkedOrders) → end ≡ length x.marks → x1 ≡ reserved x → start ≡ length x1.marks → x2 ≡ reserved x1 → set ≡ length x2.marks → x3 ≡ reserved x2 → ways ≡ element_ways s item f set start 1 es (length x3.orders) (length x3.marks) → x4 ≡ added (elements_piece s item f set start 1 es) x3 → x5 ≡ added (plain (order.Jump end ∷ [])) x4 → x6 ≡ closed set x5 → x7 ≡ added (plain (set_orders s.layout item)) x6 → x8 ≡ closed start x7 → Adds body x8 x9 → x10 ≡ added (plain (order.Line line ∷ item_order s.layout item 3 ∷ order.Load ∷ order.LoopWay ways ∷ [])) x9 → x11 ≡ closed end x10 → Adds (ring_piece s line item f es body) x x11
+  pub ringed : (end start set : ℕ) (ways : List ℕ) (x x1 x2 x3 x4 x5 x6 x7 x8 x9 x10 x11 : MarkedOrders) → end ≡ length x.marks → x1 ≡ reserved x → start ≡ length x1.marks → x2 ≡ reserved x1 → set ≡ length x2.marks → x3 ≡ reserved x2 → ways ≡ element_ways s item f set start 1 es (length x3.orders) (length x3.marks) → x4 ≡ added (elements_piece s item f set start 1 es) x3 → x5 ≡ added (plain (order.Jump end ∷ [])) x4 → x6 ≡ closed set x5 → x7 ≡ added (plain (set_orders s.layout s.line item)) x6 → x8 ≡ closed start x7 → Adds body x8 x9 → x10 ≡ added (plain (item_order s.layout item 3 ∷ order.Load ∷ order.LoopWay ways ∷ [])) x9 → x11 ≡ closed end x10 → Adds (ring_piece s item f es body) x x11
   unfolding way_orders
   ringed end start set ways x x1 x2 x3 x4 x5 x6 x7 x8 x9 x10 x11 ee e1 es' e2 et e3 ew e4 e5 e6 e7 e8 inner e10 e11 =
       let n = length x.marks in
@@ -72,10 +72,10 @@ module _ (s : Scope) (line item f : ℕ) (es : List Felem) (body : Piece) where
       ew ∙ ap₂ (λ i j. element_ways s item f i j 1 es (length x3.orders) (length x3.marks)) (et ∙ marks2) (es' ∙ marks1)
       ∙ ap₂ (element_ways s item f (n + 1 + 1) (n + 1) 1 es) orders3 marks3 in
       let tail = λ (k j i : ℕ). followed_by (elements_piece s item f i j 1 es) (plain (order.Jump k ∷ [])) in
-      let first = λ (k j : ℕ). followed_by (with_end (tail k j)) (plain (set_orders s.layout item)) in
+      let first = λ (k j : ℕ). followed_by (with_end (tail k j)) (plain (set_orders s.layout s.line item)) in
       let second = λ (j : ℕ). followed_by body (plain (way_orders all)) in
       let elements = and_then (one (elements_piece s item f set start 1 es) x3 x4 e4) (one (plain (order.Jump end ∷ [])) x4 x5 e5) in
-      let set_tail = and_then (ends (tail end start) set x2 x3 x5 x6 et e3 elements e6) (one (plain (set_orders s.layout item)) x6 x7 e7) in
+      let set_tail = and_then (ends (tail end start) set x2 x3 x5 x6 et e3 elements e6) (one (plain (set_orders s.layout s.line item)) x6 x7 e7) in
       let way_on = and_then inner (one (plain (way_orders all)) x9 x10 (e10 ∙ ap (λ w. added (plain (way_orders w)) x9) same)) in
       record { is = (ends (λ k. with_middle (first k) second) end x x1 x10 x11 ee e1 (middle (first end) second start x1 x8 x10 es' (ends (first end) start x1 x2 x7 x8 es' e2 set_tail e8) way_on) e11).is }
 
@@ -105,7 +105,7 @@ pub address : (s : Scope) (r : Ref) (x x' : MarkedOrders) → x' ≡ added (spot
 address s r x x' h = one (reference_of s r).address x x' (h ∙ ap (λ v. added v.address x) (sym (reference-made s r)))
 
 -- a jump, behind the start of its statement
-pub jumped : (s : Scope) (who : Option ℕ) (line : ℕ) (d d' : Dest) (x x1 x2 : MarkedOrders) → d' ≡ d → x1 ≡ added (plain (begin_orders line)) x → Adds (jump_piece s who d) x1 x2 → x2 ≡ added (statement_step s who 0 (statement.Go line d')) x
+pub jumped : (s : Scope) (who : Option ℕ) (line : ℕ) (d d' : Dest) (x x1 x2 : MarkedOrders) → d' ≡ d → x1 ≡ added (plain (begin_orders line)) x → Adds (jump_piece (at_line line s) who d) x1 x2 → x2 ≡ added (statement_step s who 0 (statement.Go line d')) x
 jumped s who line d d' x x1 x2 is begun h =
     (and_then (one (plain (begin_orders line)) x x1 begun) h).is
-    ∙ ap (λ v. added (followed_by (plain (begin_orders line)) (jump_piece s who v)) x) (sym is)
+    ∙ ap (λ v. added (followed_by (plain (begin_orders line)) (jump_piece (at_line line s) who v)) x) (sym is)

@@ -1,5 +1,5 @@
 -- The orders of statements.
-use Rattle.std.specs.Prelude.{ℕ, ◌+◌, List, [], ◌∷◌, map, length, true, false, Option, Some, None, slice_get}
+use Rattle.std.specs.Prelude.{ℕ, ◌+◌, List, [], ◌∷◌, ◌++◌, map, length, true, false, Option, Some, None, slice_get}
 use Rattle.cw_order.specs.declared.order.Order.{Order}
 use Rattle.cw_order.specs.declared.order.Order.TheVariants as order
 use Rattle.cw_unit.specs.declared.layout.Layout.{Layout}
@@ -19,10 +19,10 @@ use Rattle.cw_unit.specs.declared.unit.Ref.{Ref, out-Ref}
 use Rattle.cw_unit.specs.declared.unit.Stmt.{Stmt, Stmt-F, fold-Stmt}
 use Rattle.cw_unit.specs.declared.unit.Stmt.TheOpen as statement
 use Rattle.cw_gen_expr.specs.Pieces.{Piece, plain, followed_by, sequence, with_end, with_labels}
-use Rattle.cw_gen_expr.specs.ReferenceExpressions.{Scope, argument_words, control_place, item_order, store_orders, choice_piece, number_order, call_order, condition_piece, argument_piece, reference_of, expression_piece}
+use Rattle.cw_gen_expr.specs.ReferenceExpressions.{Scope, at_line, saved, argument_words, control_place, item_order, store_orders, choice_piece, number_order, call_order, condition_piece, argument_piece, reference_of, expression_piece}
 use Rattle.cw_gen_expr.specs.UnitTables.{label_mark}
 
--- the start of a statement, which sets its line
+-- the start of a statement
 abbrev pub begin_orders : ℕ → List Order
 begin_orders line = order.Start line ∷ []
 
@@ -50,17 +50,17 @@ goal_order u who (goal.Common d) = order.GoCommon d
 abbrev pub jump_order : Scope → (who : Option ℕ) → Dest → Order
 jump_order s who (dest.Goal g) = goal_order s.unit who g
 jump_order s who (dest.Special k) = order.GoSpecial (control_place s.parameters k)
-jump_order s who (dest.Switch n e) = order.GoSwitch n
-jump_order s who (dest.CommonSwitch d e) = order.GoSwitchCommon d
-jump_order s who (dest.SpecialSwitch k e) = order.GoSwitchSpecial (control_place s.parameters k)
+jump_order s who (dest.Switch n e) = order.GoSwitch n s.line
+jump_order s who (dest.CommonSwitch d e) = order.GoSwitchCommon d s.line
+jump_order s who (dest.SpecialSwitch k e) = order.GoSwitchSpecial (control_place s.parameters k) s.line
 
 -- after the index of a switch, if there is one
 abbrev pub jump_piece : Scope → (who : Option ℕ) → Dest → Piece
 jump_piece s who (dest.Goal g) = plain (goal_order s.unit who g ∷ [])
 jump_piece s who (dest.Special k) = plain (order.GoSpecial (control_place s.parameters k) ∷ [])
-jump_piece s who (dest.Switch n e) = followed_by (expression_piece s e 0) (plain (order.GoSwitch n ∷ []))
-jump_piece s who (dest.CommonSwitch d e) = followed_by (expression_piece s e 0) (plain (order.GoSwitchCommon d ∷ []))
-jump_piece s who (dest.SpecialSwitch k e) = followed_by (expression_piece s e 0) (plain (order.GoSwitchSpecial (control_place s.parameters k) ∷ []))
+jump_piece s who (dest.Switch n e) = followed_by (expression_piece s e 0) (plain (order.GoSwitch n s.line ∷ []))
+jump_piece s who (dest.CommonSwitch d e) = followed_by (expression_piece s e 0) (plain (order.GoSwitchCommon d s.line ∷ []))
+jump_piece s who (dest.SpecialSwitch k e) = followed_by (expression_piece s e 0) (plain (order.GoSwitchSpecial (control_place s.parameters k) s.line ∷ []))
 
 -- ---- FOR
 
@@ -68,21 +68,25 @@ jump_piece s who (dest.SpecialSwitch k e) = followed_by (expression_piece s e 0)
 abbrev pub with_middle : (ℕ → Piece) → (ℕ → Piece) → Piece
 with_middle a b place next = followed_by (with_end a) (b next) place next
 
+-- the top operand is kept in a word of the loop
+abbrev pub keep_orders : Layout → (item word : ℕ) → List Order
+keep_orders y item n = order.Save ∷ item_order y item n ∷ order.Store ∷ []
+
 -- the number of an element is written
 abbrev pub number_orders : Layout → (item number : ℕ) → List Order
-number_orders y item i = number_order i ∷ item_order y item 3 ∷ order.Store ∷ []
+number_orders y item i = number_order i ∷ keep_orders y item 3
 
 -- the control variable is set through the first word of the loop
-abbrev pub set_orders : Layout → (item : ℕ) → List Order
-set_orders y item = item_order y item 0 ∷ order.SetVariable ∷ []
+abbrev pub set_orders : Layout → (line item : ℕ) → List Order
+set_orders y line item = order.Save ∷ item_order y item 0 ∷ order.SetVariable line ∷ []
 
 -- and the step added to it
-abbrev pub bump_orders : Layout → (item : ℕ) → List Order
-bump_orders y item = item_order y item 0 ∷ order.AddStep ∷ []
+abbrev pub bump_orders : Layout → (line item : ℕ) → List Order
+bump_orders y line item = item_order y item 0 ∷ order.AddStep line ∷ []
 
 -- the test of a STEP element, which goes on behind it where the control variable is past the limit
-abbrev pub turn_piece : Layout → (item body : ℕ) → Piece
-turn_piece y item body = with_end (λ next. plain (item_order y item 0 ∷ order.PutVariable ∷ order.Exhausted next ∷ order.Jump body ∷ []))
+abbrev pub turn_piece : Layout → (line item body : ℕ) → Piece
+turn_piece y line item body = with_end (λ next. plain (item_order y item 0 ∷ order.PutVariable line ∷ order.Exhausted next ∷ order.Jump body ∷ []))
 
 -- the mark where the body's end goes on with an element whose marks begin at this number
 abbrev pub way_mark : Felem → ℕ → ℕ
@@ -95,17 +99,17 @@ module _ (s : Scope) where
   abbrev pub while_values : (item scale body next number : ℕ) → Expr → Cond → Piece
   while_values item f body next i e c =
       followed_by (plain (number_orders s.layout item i))
-      (followed_by (expression_piece s e f) (followed_by (plain (set_orders s.layout item)) (followed_by (condition_piece s c false next) (plain (order.Jump body ∷ [])))))
+      (followed_by (expression_piece s e f) (followed_by (plain (set_orders s.layout s.line item)) (followed_by (condition_piece s c false next) (plain (order.Jump body ∷ [])))))
 
   -- the three values of a STEP element: the first is set, the step and the limit are kept
   abbrev pub step_values : (item scale turn number : ℕ) → (first step limit : Expr) → Piece
   step_values item f turn i a b d =
       followed_by (plain (number_orders s.layout item i))
       (followed_by (expression_piece s a f)
-      (followed_by (plain (set_orders s.layout item))
+      (followed_by (plain (set_orders s.layout s.line item))
       (followed_by (expression_piece s b f)
-      (followed_by (plain (item_order s.layout item 1 ∷ order.Store ∷ []))
-      (followed_by (expression_piece s d f) (plain (item_order s.layout item 2 ∷ order.Store ∷ order.Jump turn ∷ [])))))))
+      (followed_by (plain (keep_orders s.layout item 1))
+      (followed_by (expression_piece s d f) (plain (keep_orders s.layout item 2 ++ order.Jump turn ∷ [])))))))
 
   -- An element. Its first mark is where its body's end goes on: for a value the next element, for WHILE itself, for STEP its step, which
   -- has the second mark. A value goes to the tail that all have together
@@ -115,7 +119,7 @@ module _ (s : Scope) where
   element_piece item f set body i (element.While e c) =
       with_middle (λ own. plain []) (λ own. with_end (λ next. while_values item f body next i e c))
   element_piece item f set body i (element.Step a b d) =
-      with_middle (λ turn. followed_by (with_end (λ bump. step_values item f turn i a b d)) (plain (bump_orders s.layout item))) (λ turn. turn_piece s.layout item body)
+      with_middle (λ turn. followed_by (with_end (λ bump. step_values item f turn i a b d)) (plain (bump_orders s.layout s.line item))) (λ turn. turn_piece s.layout s.line item body)
 
   abbrev pub elements_piece : (item scale set body number : ℕ) → List Felem → Piece
   elements_piece item f set body i [] = plain []
@@ -128,35 +132,41 @@ module _ (s : Scope) where
       way_mark e next ∷ element_ways item f set body (i + 1) es (place + length x.orders) (next + length x.marks)
 
   -- the elements, the body, and the way on; the marks of the end, of the body and of the tail are numbered before those of the elements
-  abbrev pub ring_piece : (line item scale : ℕ) → List Felem → Piece → Piece
-  ring_piece line item f es body place next =
+  abbrev pub ring_piece : (item scale : ℕ) → List Felem → Piece → Piece
+  ring_piece item f es body place next =
       with_end
       (λ end.
-      with_middle (λ start. followed_by (with_end (λ set. followed_by (elements_piece item f set start 1 es) (plain (order.Jump end ∷ [])))) (plain (set_orders s.layout item)))
-      (λ start. followed_by body (plain (order.Line line ∷ item_order s.layout item 3 ∷ order.Load ∷ order.LoopWay (element_ways item f (next + 1 + 1) (next + 1) 1 es place (next + 1 + 1 + 1)) ∷ []))))
+      with_middle (λ start. followed_by (with_end (λ set. followed_by (elements_piece item f set start 1 es) (plain (order.Jump end ∷ [])))) (plain (set_orders s.layout s.line item)))
+      (λ start. followed_by body (plain (item_order s.layout item 3 ∷ order.Load ∷ order.LoopWay (element_ways item f (next + 1 + 1) (next + 1) 1 es place (next + 1 + 1 + 1)) ∷ []))))
       place
       next
 
-  abbrev pub loop_piece : (line item : ℕ) → Ref → List Felem → Piece → Piece
-  loop_piece line item r es body =
-      followed_by (plain (begin_orders line))
-      (followed_by (reference_of s r).address (followed_by (plain (item_order s.layout item 0 ∷ order.Store ∷ [])) (ring_piece line item (out-Ref r).f es body)))
+  abbrev pub loop_piece : (item : ℕ) → Ref → List Felem → Piece → Piece
+  loop_piece item r es body =
+      followed_by (plain (begin_orders s.line))
+      (followed_by (reference_of s r).address (followed_by (plain (keep_orders s.layout item 0)) (ring_piece item (out-Ref r).f es body)))
 
 -- ---- statements
 
 module _ (s : Scope) (who : Option ℕ) (answer : ℕ) where
+  -- each at its line
   abbrev pub statement_step : Stmt-F Piece → Piece
   statement_step (statement.Put line r e) =
-      followed_by (plain (begin_orders line)) (followed_by (expression_piece s e (out-Ref r).f) (followed_by (reference_of s r).address (plain (store_orders (out-Ref r).field))))
+      let h = at_line line s in
+      followed_by (plain (begin_orders line))
+      (followed_by (expression_piece h e (out-Ref r).f) (followed_by saved (followed_by (reference_of h r).address (plain (store_orders (out-Ref r).field)))))
   statement_step (statement.PutBits line t b r e) =
-      followed_by (plain (begin_orders line)) (followed_by (expression_piece s e 0) (followed_by (reference_of s r).address (plain (order.StorePart t b ∷ []))))
-  statement_step (statement.Go line d) = followed_by (plain (begin_orders line)) (jump_piece s who d)
+      let h = at_line line s in
+      followed_by (plain (begin_orders line))
+      (followed_by (expression_piece h e 0) (followed_by saved (followed_by (reference_of h r).address (plain (order.StorePart t b ∷ [])))))
+  statement_step (statement.Go line d) = followed_by (plain (begin_orders line)) (jump_piece (at_line line s) who d)
   statement_step (statement.Call line t args) =
-      followed_by (plain (begin_orders line)) (followed_by (sequence (map (argument_piece s) args)) (plain (call_order s t ∷ after_statement_call t)))
+      let h = at_line line s in
+      followed_by (plain (begin_orders line)) (followed_by (sequence (map (argument_piece h) args)) (plain (call_order h t ∷ after_statement_call t)))
   statement_step (statement.Answer line e) =
-      followed_by (plain (begin_orders line)) (followed_by (expression_piece s e answer) (plain (order.Return (argument_words s.parameters) true ∷ [])))
-  statement_step (statement.If line c a b) = followed_by (plain (begin_orders line)) (choice_piece (condition_piece s c) a b)
-  statement_step (statement.For line item r es body) = loop_piece s line item r es body
+      followed_by (plain (begin_orders line)) (followed_by (expression_piece (at_line line s) e answer) (plain (order.Return (argument_words s.parameters) true ∷ [])))
+  statement_step (statement.If line c a b) = followed_by (plain (begin_orders line)) (choice_piece (condition_piece (at_line line s) c) a b)
+  statement_step (statement.For line item r es body) = loop_piece (at_line line s) item r es body
   statement_step (statement.Seq ss) = sequence ss
   statement_step (statement.Mark ls t) = followed_by (with_labels ls) t
 

@@ -1,7 +1,7 @@
 //! The elements of a FOR.
 ghost use Rattle.std.specs.Prelude.{◌≡◌, length, OnOk, IfOk};
 ghost use Rattle.cw_gen_expr.specs.Output.{made, added};
-ghost use Rattle.cw_gen_expr.specs.ReferenceExpressions.{scope_with};
+ghost use Rattle.cw_gen_expr.specs.ReferenceExpressions.{scope_with, at_line};
 ghost use Rattle.cw_gen_unit.specs.ReferenceStatements.{while_values, step_values, way_mark, element_piece, elements_piece, element_ways};
 
 use crate::loops::{emit_bump, emit_keep, emit_number, emit_set, emit_turn};
@@ -19,6 +19,7 @@ fn emit_while(
     unit: &Unit,
     layout: &Layout,
     parameters: &[Param],
+    line: u16,
     looped: u32,
     scale: u8,
     body: u32,
@@ -27,12 +28,12 @@ fn emit_while(
     e: &Expr,
     condition: &Cond,
 ) -> Result<(), NoMemory>
-    ensures { OnOk result (made out.new ≡ added (while_values (scope_with unit.now layout.now parameters.now) looped scale body next number e.now condition.now) (made out.old)) }
+    ensures { OnOk result (made out.new ≡ added (while_values (at_line line (scope_with unit.now layout.now parameters.now)) looped scale body next number e.now condition.now) (made out.old)) }
 {
     emit_number(out, layout, looped, number)?;
-    emit_expression(out, unit, layout, parameters, e, scale)?;
-    emit_set(out, layout, looped)?;
-    emit_condition(out, unit, layout, parameters, condition, false, next)?;
+    emit_expression(out, unit, layout, parameters, line, e, scale)?;
+    emit_set(out, layout, line, looped)?;
+    emit_condition(out, unit, layout, parameters, line, condition, false, next)?;
     out.push(Order::Jump(body))
 }
 
@@ -42,6 +43,7 @@ fn emit_step(
     unit: &Unit,
     layout: &Layout,
     parameters: &[Param],
+    line: u16,
     looped: u32,
     scale: u8,
     turn: u32,
@@ -50,14 +52,14 @@ fn emit_step(
     step: &Expr,
     limit: &Expr,
 ) -> Result<(), NoMemory>
-    ensures { OnOk result (made out.new ≡ added (step_values (scope_with unit.now layout.now parameters.now) looped scale turn number first.now step.now limit.now) (made out.old)) }
+    ensures { OnOk result (made out.new ≡ added (step_values (at_line line (scope_with unit.now layout.now parameters.now)) looped scale turn number first.now step.now limit.now) (made out.old)) }
 {
     emit_number(out, layout, looped, number)?;
-    emit_expression(out, unit, layout, parameters, first, scale)?;
-    emit_set(out, layout, looped)?;
-    emit_expression(out, unit, layout, parameters, step, scale)?;
+    emit_expression(out, unit, layout, parameters, line, first, scale)?;
+    emit_set(out, layout, line, looped)?;
+    emit_expression(out, unit, layout, parameters, line, step, scale)?;
     emit_keep(out, layout, looped, 1)?;
-    emit_expression(out, unit, layout, parameters, limit, scale)?;
+    emit_expression(out, unit, layout, parameters, line, limit, scale)?;
     emit_keep(out, layout, looped, 2)?;
     out.push(Order::Jump(turn))
 }
@@ -68,6 +70,7 @@ fn emit_element(
     unit: &Unit,
     layout: &Layout,
     parameters: &[Param],
+    line: u16,
     looped: u32,
     scale: u8,
     set: u32,
@@ -76,13 +79,13 @@ fn emit_element(
     element: &Felem,
 ) -> Result<u32, NoMemory>
     ensures way { IfOk result (λ way. way ≡ way_mark element.now (length out.old.marks.items)) }
-    ensures orders { OnOk result (made out.new ≡ added (element_piece (scope_with unit.now layout.now parameters.now) looped scale set body number element.now) (made out.old)) }
+    ensures orders { OnOk result (made out.new ≡ added (element_piece (at_line line (scope_with unit.now layout.now parameters.now)) looped scale set body number element.now) (made out.old)) }
 {
     match element {
         Felem::One(e) => {
             let next = out.new_mark()?;
             emit_number(out, layout, looped, number)?;
-            emit_expression(out, unit, layout, parameters, e, scale)?;
+            emit_expression(out, unit, layout, parameters, line, e, scale)?;
             out.push(Order::Jump(set))?;
             out.set_mark(next)?;
             Ok(next)
@@ -92,7 +95,8 @@ fn emit_element(
             out.set_mark(own)?;
             let next = out.new_mark()?;
             emit_while(
-                out, unit, layout, parameters, looped, scale, body, next, number, e, condition,
+                out, unit, layout, parameters, line, looped, scale, body, next, number, e,
+                condition,
             )?;
             out.set_mark(next)?;
             Ok(own)
@@ -101,12 +105,13 @@ fn emit_element(
             let turn = out.new_mark()?;
             let bump = out.new_mark()?;
             emit_step(
-                out, unit, layout, parameters, looped, scale, turn, number, first, step, limit,
+                out, unit, layout, parameters, line, looped, scale, turn, number, first, step,
+                limit,
             )?;
             out.set_mark(bump)?;
-            emit_bump(out, layout, looped)?;
+            emit_bump(out, layout, line, looped)?;
             out.set_mark(turn)?;
-            emit_turn(out, layout, looped, body)?;
+            emit_turn(out, layout, line, looped, body)?;
             Ok(bump)
         }
     }
@@ -120,21 +125,22 @@ pub fn emit_elements(
     unit: &Unit,
     layout: &Layout,
     parameters: &[Param],
+    line: u16,
     looped: u32,
     scale: u8,
     set: u32,
     body: u32,
     elements: &[Felem],
 ) -> Result<List<u32>, NoMemory>
-    ensures ways { IfOk result (λ ways. ways ≡ element_ways (scope_with unit.now layout.now parameters.now) looped scale set body 1 elements.now (length out.old.orders) (length out.old.marks.items)) }
-    ensures orders { OnOk result (made out.new ≡ added (elements_piece (scope_with unit.now layout.now parameters.now) looped scale set body 1 elements.now) (made out.old)) }
+    ensures ways { IfOk result (λ ways. ways ≡ element_ways (at_line line (scope_with unit.now layout.now parameters.now)) looped scale set body 1 elements.now (length out.old.orders) (length out.old.marks.items)) }
+    ensures orders { OnOk result (made out.new ≡ added (elements_piece (at_line line (scope_with unit.now layout.now parameters.now)) looped scale set body 1 elements.now) (made out.old)) }
 {
     let mut ways = List::new(alloc);
     let mut number: u16 = 0;
     for element in elements {
         number = number.checked_add(1).ok_or(NoMemory)?;
         let way = emit_element(
-            out, unit, layout, parameters, looped, scale, set, body, number, element,
+            out, unit, layout, parameters, line, looped, scale, set, body, number, element,
         )?;
         ways.push(way)?;
     }

@@ -4,7 +4,7 @@ ghost use Rattle.cw_order.specs.declared.order.Order.TheVariants as order;
 ghost use Rattle.cw_gen_expr.specs.Pieces.{plain};
 ghost use Rattle.cw_gen_expr.specs.Output.{made, added};
 ghost use Rattle.cw_gen_expr.specs.ReferenceExpressions.{item_order};
-ghost use Rattle.cw_gen_unit.specs.ReferenceStatements.{number_orders, set_orders, bump_orders, turn_piece};
+ghost use Rattle.cw_gen_unit.specs.ReferenceStatements.{keep_orders, number_orders, set_orders, bump_orders, turn_piece};
 
 use cw_gen_expr::orders::item;
 use cw_gen_expr::output::Output;
@@ -14,8 +14,9 @@ use cw_word::{List, NoMemory};
 
 /// Keeps the top operand in a word of a loop.
 pub fn emit_keep(out: &mut Output, layout: &Layout, looped: u32, word: u16) -> Result<(), NoMemory>
-    ensures { OnOk result (made out.new ≡ added (plain (item_order layout.now looped word ∷ order.Store ∷ [])) (made out.old)) }
+    ensures { OnOk result (made out.new ≡ added (plain (keep_orders layout.now looped word)) (made out.old)) }
 {
+    out.push(Order::Save)?;
     out.push(item(layout, looped, word))?;
     out.push(Order::Store)
 }
@@ -34,28 +35,35 @@ pub fn emit_number(
 }
 
 /// Sets the control variable through the first word of the loop.
-pub fn emit_set(out: &mut Output, layout: &Layout, looped: u32) -> Result<(), NoMemory>
-    ensures { OnOk result (made out.new ≡ added (plain (set_orders layout.now looped)) (made out.old)) }
+pub fn emit_set(out: &mut Output, layout: &Layout, line: u16, looped: u32) -> Result<(), NoMemory>
+    ensures { OnOk result (made out.new ≡ added (plain (set_orders layout.now line looped)) (made out.old)) }
 {
+    out.push(Order::Save)?;
     out.push(item(layout, looped, 0))?;
-    out.push(Order::SetVariable)
+    out.push(Order::SetVariable(line))
 }
 
 /// Adds the step to the control variable.
-pub fn emit_bump(out: &mut Output, layout: &Layout, looped: u32) -> Result<(), NoMemory>
-    ensures { OnOk result (made out.new ≡ added (plain (bump_orders layout.now looped)) (made out.old)) }
+pub fn emit_bump(out: &mut Output, layout: &Layout, line: u16, looped: u32) -> Result<(), NoMemory>
+    ensures { OnOk result (made out.new ≡ added (plain (bump_orders layout.now line looped)) (made out.old)) }
 {
     out.push(item(layout, looped, 0))?;
-    out.push(Order::AddStep)
+    out.push(Order::AddStep(line))
 }
 
 /// The test of a STEP element, which jumps to the body or goes on behind it.
-pub fn emit_turn(out: &mut Output, layout: &Layout, looped: u32, body: u32) -> Result<(), NoMemory>
-    ensures { OnOk result (made out.new ≡ added (turn_piece layout.now looped body) (made out.old)) }
+pub fn emit_turn(
+    out: &mut Output,
+    layout: &Layout,
+    line: u16,
+    looped: u32,
+    body: u32,
+) -> Result<(), NoMemory>
+    ensures { OnOk result (made out.new ≡ added (turn_piece layout.now line looped body) (made out.old)) }
 {
     let next = out.new_mark()?;
     out.push(item(layout, looped, 0))?;
-    out.push(Order::PutVariable)?;
+    out.push(Order::PutVariable(line))?;
     out.push(Order::Exhausted(next))?;
     out.push(Order::Jump(body))?;
     out.set_mark(next)
@@ -65,13 +73,11 @@ pub fn emit_turn(out: &mut Output, layout: &Layout, looped: u32, body: u32) -> R
 pub fn emit_way(
     out: &mut Output,
     layout: &Layout,
-    line: u16,
     looped: u32,
     ways: List<u32>,
 ) -> Result<(), NoMemory>
-    ensures { OnOk result (made out.new ≡ added (plain (order.Line line ∷ item_order layout.now looped 3 ∷ order.Load ∷ order.LoopWay ways ∷ [])) (made out.old)) }
+    ensures { OnOk result (made out.new ≡ added (plain (item_order layout.now looped 3 ∷ order.Load ∷ order.LoopWay ways ∷ [])) (made out.old)) }
 {
-    out.push(Order::Line(line))?;
     out.push(item(layout, looped, 3))?;
     out.push(Order::Load)?;
     out.push(Order::LoopWay(ways))

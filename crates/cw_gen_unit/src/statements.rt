@@ -20,7 +20,7 @@ use cw_unit::unit::{Arg, Dest, Expr, Field, Goal, Param, Ref, Stmt, Target, Unit
 use cw_word::NoMemory;
 use std::alloc::Global;
 
-/// Adds the start of a statement, which sets its line.
+/// Adds the start of a statement.
 fn emit_begin(out: &mut Output, line: u16) -> Result<(), NoMemory>
     ensures { OnOk result (made out.new ≡ added (plain (begin_orders line)) (made out.old)) }
 {
@@ -53,8 +53,9 @@ fn emit_put(
     ensures { OnOk result (made out.new ≡ added (statement_step (scope_with unit.now layout.now parameters.now) None 0 (statement.Put line reference.now e.now)) (made out.old)) }
 {
     emit_begin(out, line)?;
-    emit_expression(out, unit, layout, parameters, e, reference.f)?;
-    emit_address(out, unit, layout, parameters, &reference.at)?;
+    emit_expression(out, unit, layout, parameters, line, e, reference.f)?;
+    out.push(Order::Save)?;
+    emit_address(out, unit, layout, parameters, line, &reference.at)?;
     emit_store(out, &reference.field)
 }
 
@@ -73,8 +74,9 @@ fn emit_put_bits(
     ensures { OnOk result (made out.new ≡ added (statement_step (scope_with unit.now layout.now parameters.now) None 0 (statement.PutBits line t b reference.now e.now)) (made out.old)) }
 {
     emit_begin(out, line)?;
-    emit_expression(out, unit, layout, parameters, e, 0)?;
-    emit_address(out, unit, layout, parameters, &reference.at)?;
+    emit_expression(out, unit, layout, parameters, line, e, 0)?;
+    out.push(Order::Save)?;
+    emit_address(out, unit, layout, parameters, line, &reference.at)?;
     out.push(Order::StorePart { t, b })
 }
 
@@ -137,17 +139,23 @@ fn emit_go(
             out.push(Order::GoSpecial(place))
         }
         Dest::Switch(switch, e) => {
-            emit_expression(out, unit, layout, parameters, e, 0)?;
-            out.push(Order::GoSwitch(*switch))
+            emit_expression(out, unit, layout, parameters, line, e, 0)?;
+            out.push(Order::GoSwitch {
+                switch: *switch,
+                line,
+            })
         }
         Dest::CommonSwitch(descriptor, e) => {
-            emit_expression(out, unit, layout, parameters, e, 0)?;
-            out.push(Order::GoSwitchCommon(*descriptor))
+            emit_expression(out, unit, layout, parameters, line, e, 0)?;
+            out.push(Order::GoSwitchCommon {
+                descriptor: *descriptor,
+                line,
+            })
         }
         Dest::SpecialSwitch(control, e) => {
             let place = place_of_control(parameters, *control)?;
-            emit_expression(out, unit, layout, parameters, e, 0)?;
-            out.push(Order::GoSwitchSpecial(place))
+            emit_expression(out, unit, layout, parameters, line, e, 0)?;
+            out.push(Order::GoSwitchSpecial { place, line })
         }
     }
 }
@@ -175,8 +183,8 @@ fn emit_call_statement(
     ensures { OnOk result (made out.new ≡ added (statement_step (scope_with unit.now layout.now parameters.now) None 0 (statement.Call line target.now arguments.now)) (made out.old)) }
 {
     emit_begin(out, line)?;
-    emit_arguments(out, unit, layout, parameters, arguments)?;
-    emit_call(out, unit, layout, parameters, target)?;
+    emit_arguments(out, unit, layout, parameters, line, arguments)?;
+    emit_call(out, unit, layout, parameters, line, target)?;
     emit_after_call(out, target)
 }
 
@@ -194,7 +202,7 @@ fn emit_answer(
 {
     let arguments = all_words(parameters)?;
     emit_begin(out, line)?;
-    emit_expression(out, unit, layout, parameters, e, answer)?;
+    emit_expression(out, unit, layout, parameters, line, e, answer)?;
     out.push(Order::Return {
         arguments,
         answers: true,
@@ -237,7 +245,9 @@ pub fn emit_statement(
             emit_begin(out, *line)?;
             let end = out.new_mark()?;
             let other = out.new_mark()?;
-            emit_condition(out, unit, layout, parameters, condition, false, other)?;
+            emit_condition(
+                out, unit, layout, parameters, *line, condition, false, other,
+            )?;
             emit_statement(
                 alloc,
                 out,
@@ -264,7 +274,7 @@ pub fn emit_statement(
         }
         Stmt::For(line, looped, reference, elements, body) => {
             emit_begin(out, *line)?;
-            emit_address(out, unit, layout, parameters, &reference.at)?;
+            emit_address(out, unit, layout, parameters, *line, &reference.at)?;
             emit_keep(out, layout, *looped, 0)?;
             let end = out.new_mark()?;
             let start = out.new_mark()?;
@@ -275,6 +285,7 @@ pub fn emit_statement(
                 unit,
                 layout,
                 parameters,
+                *line,
                 *looped,
                 reference.f,
                 set,
@@ -283,7 +294,7 @@ pub fn emit_statement(
             )?;
             out.push(Order::Jump(end))?;
             out.set_mark(set)?;
-            emit_set(out, layout, *looped)?;
+            emit_set(out, layout, *line, *looped)?;
             out.set_mark(start)?;
             emit_statement(
                 alloc,
@@ -295,7 +306,7 @@ pub fn emit_statement(
                 answer,
                 body.get(),
             )?;
-            emit_way(out, layout, *line, *looped, ways)?;
+            emit_way(out, layout, *looped, ways)?;
             out.set_mark(end)
         }
         Stmt::Seq(statements) => {

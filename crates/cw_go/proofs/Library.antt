@@ -1,12 +1,9 @@
 -- The image of units has code, and no more words than the data area.
-use Rattle.std.proofs.Common.{◌≡◌, ℕ, zero, suc, ◌+◌, ◌<◌, ◌≤◌, List, [], ◌∷◌, map, length, refl, ap, arith}
+use Rattle.std.proofs.Common.{◌≡◌, ℕ, zero, suc, ◌+◌, ◌<◌, ◌≤◌, List, [], ◌∷◌, map, length, refl, ap, subst, arith, lit<}
 use Rattle.std.specs.Prelude.{nat_eq, true, false, Bool, cond}
-use Rattle.cw_i86.specs.declared.instr.Instr.{Instr}
-use Rattle.cw_i86.specs.declared.instr.Instr.TheVariants as i86
 use Rattle.cw_unit.specs.declared.unit.Unit.{Unit as SourceUnit}
 use Rattle.cw_unit.specs.declared.layout.Limits.{Limits}
-use Rattle.cw_tmpl.specs.Mnemonics.{bytes_of_all}
-use Rattle.cw_tmpl.specs.Library.{routines, joined, library_bytes}
+use Rattle.cw_tmpl.specs.Library.{library_bytes}
 use Rattle.cw_link.specs.Contents.{Contents}
 use Rattle.cw_link.specs.Presets.{FilledWord}
 use Rattle.cw_link.specs.LinkedImage.{words_from, unless_last_zero, without_last_zeros, code_end, linked_size, linked_presets}
@@ -14,11 +11,8 @@ use Rattle.cw_build.specs.Compiled.{contents_of_units}
 use Rattle.cw_build.specs.Linking.{image_of}
 use Rattle.cw_correct.specs.Going.{names_of}
 
-begins_with_a_jump : (n : ℕ) (is : List Instr) → 0 < length (bytes_of_all (i86.Jump n ∷ is))
-begins_with_a_jump n is = omega arith
-
 library_is_some : 0 < length library_bytes
-library_is_some = begins_with_a_jump (length (bytes_of_all (joined routines))) (joined routines)
+library_is_some = let size : 334 ≡ length library_bytes = refl in subst (λ n. 0 < n) size (lit< tt)
 
 ends_behind : (start : ℕ) (cs : List Contents) → start ≤ code_end start cs
 ends_behind start [] = omega arith

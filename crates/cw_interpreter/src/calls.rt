@@ -5,7 +5,7 @@ use cw_unit::layout::Limits;
 use cw_unit::unit::Def;
 
 /// The words of an activation's record.
-const RECORD: usize = 8;
+const RECORD: usize = 6;
 
 impl<'a> Machine<'a> {
     // The argument that so many words of arguments follow.
@@ -69,11 +69,11 @@ impl<'a> Machine<'a> {
     // Calls, their beginning and their end.
     pub(crate) fn call_or_return(&mut self, order: &Order) {
         match order {
-            Order::CallProc(procedure) => {
+            Order::CallProc { procedure, .. } => {
                 self.call(Some(Control::Procedure(self.segment, *procedure)));
             }
-            Order::CallCommon(descriptor) => self.call(self.common(*descriptor)),
-            Order::CallSpecial(words) => self.call(self.control(*words)),
+            Order::CallCommon { descriptor, .. } => self.call(self.common(*descriptor)),
+            Order::CallSpecial { place, .. } => self.call(self.control(*place)),
             Order::Enter(size) => self.enter(u32::from(*size)),
             Order::Bind {
                 argument,
@@ -104,7 +104,6 @@ impl<'a> Machine<'a> {
                 self.activate(count);
                 self.segment = segment;
                 self.place = place;
-                self.line = 0;
             }
             None => self.end_with(End::Stuck),
         }
@@ -163,7 +162,6 @@ impl<'a> Machine<'a> {
         self.operands.truncate(last.arguments);
         self.segment = last.segment;
         self.place = last.place;
-        self.line = last.line;
         if answers {
             self.put(answer);
         }

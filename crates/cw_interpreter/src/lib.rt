@@ -1,6 +1,7 @@
 //! The machine of orders as a plain program, and programs of orders as texts: what the checks of orders and their code compare with.
 #![tactic(auto)]
 
+mod accumulator;
 mod calls;
 mod machine;
 mod reader;

@@ -1,4 +1,5 @@
 //! The machine of orders: its state, and the parts of its steps.
+use crate::accumulator::{line_of, loaded_after};
 use crate::segments::Program;
 use std::alloc::Global;
 
@@ -49,7 +50,7 @@ pub(crate) fn sizes(operands: &[Operand]) -> usize {
     words
 }
 
-/// A call at work: where its caller goes on, with the caller's line; how many operands stand below its arguments, and below its own
+/// A call at work: where its caller goes on, with the line of the call; how many operands stand below its arguments, and below its own
 /// operands; the words of the control stack below those; whether Enter has begun it; and its frame.
 #[derive(Clone, Copy)]
 pub(crate) struct Activation {
@@ -75,7 +76,7 @@ pub enum End {
     NoMemory,
 }
 
-/// A run: the segment at work, the place of the next order, the line, the activations, the arguments and operands of all of them, last
+/// A run: the segment at work, the place of the next order, the line of the order at work, whether the top operand is in the accumulator, the activations, the arguments and operands of all of them, last
 /// one last, the words of the data area, the bytes that are left to read, those that were written, and the end once it is there. From
 /// then on nothing is written.
 #[derive(Drop)]
@@ -84,6 +85,7 @@ pub struct Machine<'a> {
     pub(crate) segment: usize,
     pub(crate) place: usize,
     pub(crate) line: u16,
+    pub(crate) loaded: bool,
     pub(crate) activations: Vec<Activation>,
     pub(crate) operands: Vec<Operand>,
     pub(crate) memory: Vec<i16>,
@@ -104,6 +106,7 @@ impl<'a> Machine<'a> {
             segment: 0,
             place,
             line: 0,
+            loaded: false,
             activations: Vec::new(alloc),
             operands: Vec::new(alloc),
             memory,
@@ -134,6 +137,11 @@ impl<'a> Machine<'a> {
         match program.order(self.segment, self.place) {
             Some(order) => {
                 self.place = self.place.wrapping_add(1);
+                self.line = line_of(order);
+                match loaded_after(order, self.loaded) {
+                    Some(loaded) => self.loaded = loaded,
+                    None => self.end_with(End::Stuck),
+                }
                 self.carry_out(order);
             }
             None => self.end_with(End::Stuck),

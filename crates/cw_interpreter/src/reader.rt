@@ -2,7 +2,8 @@
 //!
 //! A text is a list of words with blanks between them; a word is a name with numbers behind it, each with a colon before it. Most
 //! are orders, by the order's name and its numbers. A comparison is written as such, a part's sign as `s` or `u`, and the
-//! answer of a Return as 1 or 0.
+//! answer of a Return as 1 or 0. The orders behind `Line:l` or `Start:l` have line l; those of a segment or a procedure before
+//! that have line 0.
 //! - `Mark:m` is the order at which mark m stands, and `End` is NextBody.
 //! - `Proc:m:a` begins a procedure of a arguments, whose mark is m; procedures count from 0.
 //! - `Label:m` is a label of the body at mark m, and `LabelIn:m` one of a procedure; labels count from 0.
@@ -83,19 +84,12 @@ fn comparator(text: &str) -> Option<Comparator> {
 // Orders of a name alone.
 fn bare(name: &str) -> Option<Order> {
     match name {
+        "Save" => Some(Order::Save),
         "Load" => Some(Order::Load),
         "Store" => Some(Order::Store),
-        "Add" => Some(Order::Add),
-        "Sub" => Some(Order::Sub),
-        "Neg" => Some(Order::Neg),
         "And" => Some(Order::And),
         "Or" => Some(Order::Or),
         "Xor" => Some(Order::Xor),
-        "IndexAdd" => Some(Order::IndexAdd),
-        "InArea" => Some(Order::InArea),
-        "SetVariable" => Some(Order::SetVariable),
-        "AddStep" => Some(Order::AddStep),
-        "PutVariable" => Some(Order::PutVariable),
         "Less" => Some(Order::Less),
         "Drop" => Some(Order::Drop),
         "Mark" => Some(Order::Mark),
@@ -106,23 +100,62 @@ fn bare(name: &str) -> Option<Order> {
     }
 }
 
+// Orders of a name and a line alone.
+fn lined(name: &str, line: u16) -> Option<Order> {
+    match name {
+        "Add" => Some(Order::Add(line)),
+        "Sub" => Some(Order::Sub(line)),
+        "Neg" => Some(Order::Neg(line)),
+        "IndexAdd" => Some(Order::IndexAdd(line)),
+        "InArea" => Some(Order::InArea(line)),
+        "SetVariable" => Some(Order::SetVariable(line)),
+        "AddStep" => Some(Order::AddStep(line)),
+        "PutVariable" => Some(Order::PutVariable(line)),
+        _ => None,
+    }
+}
+
+// Orders with one number and a line.
+fn of_word_lined(name: &str, n: u16, line: u16) -> Option<Order> {
+    match name {
+        "IndexTimes" => Some(Order::IndexTimes { length: n, line }),
+        "IndexPlus" => Some(Order::IndexPlus { word: n, line }),
+        "GoSwitchCommon" => Some(Order::GoSwitchCommon {
+            descriptor: n,
+            line,
+        }),
+        "CallProc" => Some(Order::CallProc { procedure: n, line }),
+        "CallCommon" => Some(Order::CallCommon {
+            descriptor: n,
+            line,
+        }),
+        "GoSwitch" => Some(Order::GoSwitch {
+            switch: u32::from(n),
+            line,
+        }),
+        "GoSwitchSpecial" => Some(Order::GoSwitchSpecial {
+            place: u8::try_from(n).ok()?,
+            line,
+        }),
+        "CallSpecial" => Some(Order::CallSpecial {
+            place: u8::try_from(n).ok()?,
+            line,
+        }),
+        _ => of_word(name, n),
+    }
+}
+
 // Orders with one number.
 fn of_word(name: &str, n: u16) -> Option<Order> {
     match name {
         "Const" => Some(Order::Const(n)),
         "FrameHome" => Some(Order::FrameHome(n)),
-        "IndexTimes" => Some(Order::IndexTimes(n)),
-        "IndexPlus" => Some(Order::IndexPlus(n)),
         "LabelCommon" => Some(Order::LabelCommon(n)),
         "SwitchCommon" => Some(Order::SwitchCommon(n)),
         "ProcOut" => Some(Order::ProcOut(n)),
         "ProcCommon" => Some(Order::ProcCommon(n)),
         "GoCommon" => Some(Order::GoCommon(n)),
-        "GoSwitchCommon" => Some(Order::GoSwitchCommon(n)),
-        "CallProc" => Some(Order::CallProc(n)),
-        "CallCommon" => Some(Order::CallCommon(n)),
         "Enter" => Some(Order::Enter(n)),
-        "Line" => Some(Order::Line(n)),
         "Start" => Some(Order::Start(n)),
         _ => of_byte(name, u8::try_from(n).ok()?),
     }
@@ -132,8 +165,6 @@ fn of_byte(name: &str, n: u8) -> Option<Order> {
     match name {
         "SpecialOut" => Some(Order::SpecialOut(n)),
         "GoSpecial" => Some(Order::GoSpecial(n)),
-        "GoSwitchSpecial" => Some(Order::GoSwitchSpecial(n)),
-        "CallSpecial" => Some(Order::CallSpecial(n)),
         _ => of_number(name, u32::from(n)),
     }
 }
@@ -144,14 +175,13 @@ fn of_number(name: &str, n: u32) -> Option<Order> {
         "Exhausted" => Some(Order::Exhausted(n)),
         "LabelOut" => Some(Order::LabelOut(n)),
         "SwitchOut" => Some(Order::SwitchOut(n)),
-        "GoSwitch" => Some(Order::GoSwitch(n)),
         "GoMain" => Some(Order::GoMain(n)),
         _ => None,
     }
 }
 
 // Orders of parts and of storage.
-fn of_parts(word: Spelled<'_>) -> Option<Order> {
+fn of_parts(word: Spelled<'_>, line: u16) -> Option<Order> {
     match word.name {
         "Home" => Some(Order::Home {
             family: word.word(0)?,
@@ -179,27 +209,39 @@ fn of_parts(word: Spelled<'_>) -> Option<Order> {
             argument: word.byte(0)?,
             offset: word.word(1)?,
         }),
-        _ => of_signs(word),
+        _ => of_signs(word, line),
     }
 }
 
 // Orders with other numbers.
-fn of_signs(word: Spelled<'_>) -> Option<Order> {
+fn of_signs(word: Spelled<'_>, line: u16) -> Option<Order> {
     match word.name {
         "Rescale" => Some(Order::Rescale {
             from: word.byte(0)?,
             to: word.byte(1)?,
+            line,
         }),
-        "Mul" => Some(Order::Mul(word.scale(0)?)),
-        "Div" => Some(Order::Div(word.scale(0)?)),
-        "IndexLess" => Some(Order::IndexLess(word.signed(0)?)),
+        "Mul" => Some(Order::Mul {
+            power: word.scale(0)?,
+            line,
+        }),
+        "Div" => Some(Order::Div {
+            power: word.scale(0)?,
+            line,
+        }),
+        "IndexLess" => Some(Order::IndexLess {
+            lower: word.signed(0)?,
+            line,
+        }),
         "IndexRow" => Some(Order::IndexRow {
             lower: word.signed(0)?,
             length: word.word(1)?,
+            line,
         }),
         "InBounds" => Some(Order::InBounds {
             lower: word.signed(0)?,
             upper: word.signed(1)?,
+            line,
         }),
         "JumpIf" => Some(Order::JumpIf {
             comparator: comparator(word.part(0))?,
@@ -221,17 +263,20 @@ fn loop_way(alloc: Global, word: Spelled<'_>) -> Option<Order> {
     Some(Order::LoopWay(marks))
 }
 
-fn order(alloc: Global, word: Spelled<'_>) -> Option<Order> {
+fn order(alloc: Global, word: Spelled<'_>, line: u16) -> Option<Order> {
     if word.name == "LoopWay" {
         return loop_way(alloc, word);
     }
     if let Some(order) = bare(word.name) {
         return Some(order);
     }
-    if let Some(order) = of_parts(word) {
+    if let Some(order) = lined(word.name, line) {
         return Some(order);
     }
-    of_word(word.name, word.word(0)?)
+    if let Some(order) = of_parts(word, line) {
+        return Some(order);
+    }
+    of_word_lined(word.name, word.word(0)?, line)
 }
 
 fn goals(alloc: Global, word: Spelled<'_>) -> Option<List<Goal>> {
@@ -312,8 +357,8 @@ impl Segment {
         self.orders.switches.push(goals).ok()
     }
 
-    fn add_order(&mut self, alloc: Global, word: Spelled<'_>) -> Option<()> {
-        let order = order(alloc, word)?;
+    fn add_order(&mut self, alloc: Global, word: Spelled<'_>, line: u16) -> Option<()> {
+        let order = order(alloc, word, line)?;
         self.orders.list.push(order).ok()
     }
 
@@ -322,7 +367,8 @@ impl Segment {
         self.orders.list.push(Order::Mark).ok()
     }
 
-    fn add(&mut self, alloc: Global, word: Spelled<'_>) -> Option<()> {
+    // The orders have this line.
+    fn add(&mut self, alloc: Global, word: Spelled<'_>, line: u16) -> Option<()> {
         match word.name {
             "Proc" => self.add_procedure(alloc, word),
             "Label" => self.add_label(word, false),
@@ -330,8 +376,18 @@ impl Segment {
             "Switch" => self.add_switch(alloc, word),
             "Names" => self.add_name(word),
             "Mark" => self.add_mark(alloc, word.long(0)?),
-            _ => self.add_order(alloc, word),
+            "Line" => Some(()),
+            _ => self.add_order(alloc, word, line),
         }
+    }
+}
+
+// The line of the orders from a word on.
+fn line_behind(word: Spelled<'_>, line: u16) -> Option<u16> {
+    match word.name {
+        "Line" | "Start" => word.word(0),
+        "Segment" | "Proc" => Some(0),
+        _ => Some(line),
     }
 }
 
@@ -358,21 +414,24 @@ impl Program {
         self.segments.push(segment).ok()
     }
 
-    fn add(&mut self, alloc: Global, word: Spelled<'_>) -> Option<()> {
+    fn add(&mut self, alloc: Global, word: Spelled<'_>, line: u16) -> Option<()> {
         match word.name {
             "Segment" => self.begin(alloc),
             "Limits" => {
                 self.limits = limits(word)?;
                 Some(())
             }
-            _ => self.segments.last_mut()?.add(alloc, word),
+            _ => self.segments.last_mut()?.add(alloc, word, line),
         }
     }
 
     fn add_all(&mut self, alloc: Global, text: &str) -> Option<()> {
+        let mut line = 0;
         self.begin(alloc)?;
         for spelled in text.split(' ') {
-            self.add(alloc, Spelled::of(spelled))?;
+            let word = Spelled::of(spelled);
+            line = line_behind(word, line)?;
+            self.add(alloc, word, line)?;
         }
         Some(())
     }

@@ -6,6 +6,7 @@ use cw_order::Order;
 impl<'a> Machine<'a> {
     pub(crate) fn carry_out(&mut self, order: &Order) {
         match order {
+            Order::Save => {}
             Order::Const(word) => self.put(word.cast_signed()),
             Order::Home { family, offset } => self.put(self.home(*family, *offset)),
             Order::FrameHome(offset) => {
@@ -51,12 +52,12 @@ impl<'a> Machine<'a> {
     // Orders on numbers.
     fn reckon(&mut self, order: &Order) {
         match order {
-            Order::Rescale { from, to } => {
+            Order::Rescale { from, to, .. } => {
                 let x = self.take_number();
                 let places = i32::from(*to).wrapping_sub(i32::from(*from));
                 self.put_number(floor_scaled(x, places), OVERFLOW);
             }
-            Order::Neg => {
+            Order::Neg(_) => {
                 let x = self.take_number();
                 self.put_number(x.wrapping_neg(), OVERFLOW);
             }
@@ -70,21 +71,21 @@ impl<'a> Machine<'a> {
 
     fn reckon_two(&mut self, order: &Order) {
         match order {
-            Order::Add => {
+            Order::Add(_) => {
                 let (x, y) = self.take_two();
                 self.put_number(x.wrapping_add(y), OVERFLOW);
             }
-            Order::Sub => {
+            Order::Sub(_) => {
                 let (x, y) = self.take_two();
                 self.put_number(x.wrapping_sub(y), OVERFLOW);
             }
-            Order::Mul(s) => {
+            Order::Mul { power, .. } => {
                 let (x, y) = self.take_two();
-                self.put_number(floor_scaled(x.wrapping_mul(y), i32::from(*s)), OVERFLOW);
+                self.put_number(floor_scaled(x.wrapping_mul(y), i32::from(*power)), OVERFLOW);
             }
-            Order::Div(s) => {
+            Order::Div { power, .. } => {
                 let (x, y) = self.take_two();
-                match trunc_scaled(x, y, i32::from(*s)) {
+                match trunc_scaled(x, y, i32::from(*power)) {
                     Some(quotient) => self.put_number(quotient, OVERFLOW),
                     None => self.stop(ZERO_DIVISOR),
                 }
@@ -130,23 +131,25 @@ impl<'a> Machine<'a> {
     // Orders on addresses.
     fn address(&mut self, order: &Order) {
         match order {
-            Order::IndexLess(lower) => {
+            Order::IndexLess { lower, .. } => {
                 let i = self.take_number();
                 self.put_number(i.wrapping_sub(i64::from(*lower)), ADDRESS);
             }
-            Order::IndexTimes(n) => {
+            Order::IndexTimes { length, .. } => {
                 let i = self.take_number();
-                self.put_number(i.wrapping_mul(i64::from(*n)), ADDRESS);
+                self.put_number(i.wrapping_mul(i64::from(*length)), ADDRESS);
             }
-            Order::IndexPlus(n) => {
+            Order::IndexPlus { word, .. } => {
                 let i = self.take_number();
-                self.put_number(i.wrapping_add(i64::from(*n)), ADDRESS);
+                self.put_number(i.wrapping_add(i64::from(*word)), ADDRESS);
             }
-            Order::IndexAdd => {
+            Order::IndexAdd(_) => {
                 let (i, j) = self.take_two();
                 self.put_number(i.wrapping_add(j), ADDRESS);
             }
-            Order::IndexRow { lower, length } => self.row(i64::from(*lower), i64::from(*length)),
+            Order::IndexRow { lower, length, .. } => {
+                self.row(i64::from(*lower), i64::from(*length));
+            }
             _ => self.test(order),
         }
     }
@@ -161,12 +164,12 @@ impl<'a> Machine<'a> {
     // Tests, and bytes.
     fn test(&mut self, order: &Order) {
         match order {
-            Order::InArea => {
+            Order::InArea(_) => {
                 let address = self.take();
                 self.in_area(address);
                 self.put(address);
             }
-            Order::InBounds { lower, upper } => {
+            Order::InBounds { lower, upper, .. } => {
                 let index = self.take();
                 if index < *lower || index > *upper {
                     self.stop(BOUNDS);

@@ -8,8 +8,7 @@ impl<'a> Machine<'a> {
     // Ways within a body.
     pub(crate) fn go(&mut self, order: &Order) {
         match order {
-            Order::Mark => {}
-            Order::Line(line) | Order::Start(line) => self.line = *line,
+            Order::Mark | Order::Start(_) => {}
             Order::Jump(mark) => self.go_to_mark(*mark),
             Order::JumpIf { comparator, mark } => {
                 let y = self.take();
@@ -26,14 +25,14 @@ impl<'a> Machine<'a> {
     // Orders on the words of loops.
     fn turn(&mut self, order: &Order) {
         match order {
-            Order::SetVariable => {
+            Order::SetVariable(_) => {
                 let words = self.take_number();
                 let value = self.take();
                 let variable = self.variable(words);
                 self.store(variable, value);
             }
-            Order::AddStep => self.add_step(),
-            Order::PutVariable => {
+            Order::AddStep(_) => self.add_step(),
+            Order::PutVariable(_) => {
                 let words = self.take();
                 let variable = self.variable(i64::from(words));
                 let value = self.word_at(variable);
@@ -95,7 +94,6 @@ impl<'a> Machine<'a> {
             Some(segment) => {
                 self.segment = next;
                 self.place = segment.orders.entry as usize;
-                self.line = 0;
                 self.operands.clear();
             }
             None => self.end_with(End::Ended),
@@ -107,13 +105,13 @@ impl<'a> Machine<'a> {
         let owner = self.activations.len();
         match order {
             Order::GoMain(mark) => self.leave_for(self.segment, *mark, 0),
-            Order::GoCommon(descriptor) | Order::GoSwitchCommon(descriptor) => {
+            Order::GoCommon(descriptor) | Order::GoSwitchCommon { descriptor, .. } => {
                 self.go_to(self.common(*descriptor));
             }
-            Order::GoSpecial(words) | Order::GoSwitchSpecial(words) => {
-                self.go_to(self.control(*words));
+            Order::GoSpecial(place) | Order::GoSwitchSpecial { place, .. } => {
+                self.go_to(self.control(*place));
             }
-            Order::GoSwitch(switch) => self.go_through(self.segment, *switch, owner),
+            Order::GoSwitch { switch, .. } => self.go_through(self.segment, *switch, owner),
             _ => self.call_or_return(order),
         }
     }
@@ -161,14 +159,10 @@ impl<'a> Machine<'a> {
         }
     }
 
-    // Goes on at a mark with the first so many activations and no operands. The line is that at which the last of these
-    // made its call.
+    // Goes on at a mark with the first so many activations and no operands.
     fn leave_for(&mut self, segment: usize, mark: u32, kept: usize) {
         self.segment = segment;
         self.go_to_mark(mark);
-        if let Some(dropped) = self.activations.get(kept) {
-            self.line = dropped.line;
-        }
         self.activations.truncate(kept);
         let floor = self.floor();
         self.operands.truncate(floor);

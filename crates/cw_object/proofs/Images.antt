@@ -1,14 +1,11 @@
 -- The image of objects is in the format.
-use Rattle.std.proofs.Common.{◌≡◌, ℕ, zero, suc, ◌+◌, ◌<◌, ◌≤◌, Bool, true, false, cond, not, eqb, nat_eq, List, [], ◌∷◌, ◌++◌, length, map, All, Option, Some, None, refl, sym, ap, subst, ◌∙◌, slice_index_or, arith}
+use Rattle.std.proofs.Common.{◌≡◌, ℕ, zero, suc, ◌+◌, ◌≤◌, Bool, true, false, cond, not, eqb, nat_eq, List, [], ◌∷◌, ◌++◌, length, map, All, Option, Some, None, refl, sym, ap, subst, ◌∙◌, slice_index_or, arith, lit≤}
 use Rattle.std.specs.List.{AllByRecursion}
-use Rattle.std.proofs.lemmas.List.{length-append, length-map}
+use Rattle.std.proofs.lemmas.List.{length-map}
 use Rattle.cw_word.specs.Name.{IsName}
-use Rattle.cw_i86.specs.declared.instr.Instr.TheVariants.{Jump}
-use Rattle.cw_i86.specs.Encoding.{bytes_of}
 use Rattle.cw_unit.specs.declared.layout.Limits.{Limits}
 use Rattle.cw_unit.specs.declared.layout.Preset.{Preset}
-use Rattle.cw_tmpl.specs.Mnemonics.{bytes_of_all}
-use Rattle.cw_tmpl.specs.Library.{past, joined, routines, library_bytes}
+use Rattle.cw_tmpl.specs.Library.{library_bytes}
 use Rattle.cw_fields.specs.Fields.{Reader, whole, text_bytes, IsWord}
 use Rattle.cw_view.specs.Payloads.{preset_bytes, FitsPreset}
 use Rattle.cw_fields.specs.Names.{name_in}
@@ -17,12 +14,12 @@ use Rattle.cw_view.specs.ObjectFormat.{Record, SegmentName, Descriptor, StorageF
 use Rattle.cw_fields.proofs.Spelled.{reads_name}
 use Rattle.cw_view.proofs.Forms.{reads_preset}
 use Rattle.cw_view.proofs.Whole.{begins}
-use Rattle.cw_image.specs.ImageFormat.{ends_nonzero, IsImage}
+use Rattle.cw_image.specs.ImageFormat.{ends_nonzero}
 use Rattle.cw_link.specs.Contents.{Contents, kept, values_in}
 use Rattle.cw_link.specs.Presets.{FilledWord, stands_at, first_at}
-use Rattle.cw_link.specs.LinkedImage.{filled_word, presets_from, linked_map, linked_presets, word_or_zero, words_from, unless_last_zero, without_last_zeros, code_end, linked_size, linked_code, linked_image}
+use Rattle.cw_link.specs.LinkedImage.{filled_word, presets_from, linked_map, linked_presets, word_or_zero, words_from, unless_last_zero, without_last_zeros, code_end, linked_size, linked_code}
 use Rattle.cw_object.specs.ObjectContents.{payloads_of, first_text, contents_in}
-use Rattle.cw_object.specs.ObjectImages.{AreLimits, LinksToImages}
+use Rattle.cw_object.specs.ObjectImages.{LinksToImages}
 use Rattle.cw_object.proofs.Telling.{one-back, in-object}
 
 -- ---- what an object tells fits
@@ -150,14 +147,8 @@ zeros-end (w ∷ ws) = unless-ends w (without_last_zeros ws) (zeros-end ws)
 
 -- ---- the code
 
-longer : (xs ys : List ℕ) → 1 ≤ length xs → 1 ≤ length (xs ++ ys)
-longer xs ys h = omega (arith, length-append xs ys, h)
-
-some-jump : (n : ℕ) → 1 ≤ length (bytes_of (Jump n))
-some-jump n = omega arith
-
 some-library : 1 ≤ length library_bytes
-some-library = longer (bytes_of past) (bytes_of_all (joined routines)) (some-jump (length (bytes_of_all (joined routines))))
+some-library = let size : 334 ≡ length library_bytes = refl in subst (λ n. 1 ≤ n) size (lit≤ tt)
 
 goes-on : (start : ℕ) (cs : List Contents) → start ≤ code_end start cs
 goes-on start [] = omega arith

@@ -21,8 +21,9 @@ use Rattle.cw_order.specs.declared.order.Orders.{Orders}
 use Rattle.cw_order.specs.OrderProgram.{LabelEntry, ProcedureEntry, OrderProgram, order_at, place_of, label_at, procedure_at, switch_at, label_of}
 use Rattle.cw_order.specs.OrderState.{OrderActivation, OrderState, at, operand_words, stack_words, argument_behind, argument_at, frame_word, frame_end, control_at}
 use Rattle.cw_order.specs.OrderChanges.{put_index, if_fits, put_address, bind, if_inside, Way, Onward, ToMark, Nowhere, way_of_one, way_of_two, to_mark_if, to_mark_in, way_past_limit, mark_of_number, comparison}
-use Rattle.cw_order.specs.OrderActions.{Action, Perform, Access, Alter, AlterWithin, SetLine, Pass, Branch, GoMain, GoLabel, GoSwitch, Call, Enter, Return, EndBody, home_word, common_label, common_switch, common_procedure, action_of}
-use Rattle.cw_order.specs.OrderMachine.{go_on, go_at, after, unrefused, leave_for, dropped_by, called, call_at, enter_with, return_with, next_body, branch, go_to_entry, go_to, go_to_goal, go_by_list, go_through, call_entry, call, enter, come_back, end_body, act, carry_out, step}
+use Rattle.cw_order.specs.Loading.{loaded_after}
+use Rattle.cw_order.specs.OrderActions.{Action, Perform, Access, Alter, AlterWithin, Pass, Branch, GoMain, GoLabel, GoSwitch, Call, Enter, Return, EndBody, home_word, common_label, common_switch, common_procedure, action_of}
+use Rattle.cw_order.specs.OrderMachine.{go_on, go_at, after, unrefused, leave_for, dropped_by, called, call_at, enter_with, return_with, next_body, branch, go_to_entry, go_to, go_to_goal, go_by_list, go_through, call_entry, call, enter, come_back, end_body, act, carry_with, carry_out, step}
 use Rattle.cw_order.specs.FittingWords.{OperandFits, WordsFit, ActivationFits, StateFits}
 
 -- ---- numbers
@@ -275,9 +276,9 @@ bounded-fits false z h w fits = tt
 -- ---- orders
 
 abbrev ActionFits : (area : ℕ) → Action → Type 0
-ActionFits area (Perform op) = Keeps (perform area op)
+ActionFits area (Perform line op) = Keeps (perform area op)
 ActionFits area (Access op) = Keeps (perform area op)
-ActionFits area (Alter f) = Keeps f
+ActionFits area (Alter line f) = Keeps f
 ActionFits area (AlterWithin f) = Keeps f
 ActionFits area (Branch f) = Leads f
 ActionFits area _ = Unit {0}
@@ -293,12 +294,12 @@ action-fits p g acts order.Load all = fetch-fits p.limits.area None
 action-fits p g acts order.Store all = store-fits p.limits.area (λ x z. z) (λ x z fz. fz)
 action-fits p g acts (order.LoadPart t b s) all = fetch-fits p.limits.area (Some (record { t = t; b = b; unsigned = not s }))
 action-fits p g acts (order.StorePart t b) all = store-fits p.limits.area (with_bits t b) (λ x z fz. signed-fits _)
-action-fits p g acts (order.Rescale from to) all = value-fits (λ x. rescaled x from to)
-action-fits p g acts order.Add all = values-fit (λ x y. x +ℤ y)
-action-fits p g acts order.Sub all = values-fit (λ x y. x -ℤ y)
-action-fits p g acts order.Neg all = value-fits (λ x. neg_ℤ x)
-action-fits p g acts (order.Mul s) all = values-fit (λ x y. scaled_product x y s)
-action-fits p g acts (order.Div s) all = on_two-fits (divide s) (λ x y fx fy. divide-fits s x y)
+action-fits p g acts (order.Rescale from to line) all = value-fits (λ x. rescaled x from to)
+action-fits p g acts (order.Add line) all = values-fit (λ x y. x +ℤ y)
+action-fits p g acts (order.Sub line) all = values-fit (λ x y. x -ℤ y)
+action-fits p g acts (order.Neg line) all = value-fits (λ x. neg_ℤ x)
+action-fits p g acts (order.Mul s line) all = values-fit (λ x y. scaled_product x y s)
+action-fits p g acts (order.Div s line) all = on_two-fits (divide s) (λ x y fx fy. divide-fits s x y)
 action-fits p g acts order.And all = bits-fit _
 action-fits p g acts order.Or all = bits-fit _
 action-fits p g acts order.Xor all = bits-fit _
@@ -309,29 +310,29 @@ action-fits p g acts order.Drop all = on_top-fits (λ x v. Changed v) (λ x fx v
 action-fits p g acts order.ReadByte all = λ w fits. read-fits w.input w fits.input fits
 action-fits p g acts order.WriteByte all =
     on_top-fits (λ x v. Changed (record v { output = v.output ++ byte_of x ∷ [] })) (λ x fx v fv. record { operands = fv.operands; memory = fv.memory; input = fv.input })
-action-fits p g acts (order.IndexLess lower) all = index-fits (λ i. i -ℤ lower)
-action-fits p g acts (order.IndexTimes n) all = index-fits (λ i. i *ℤ pos n)
-action-fits p g acts (order.IndexPlus n) all = index-fits (λ i. i +ℤ pos n)
-action-fits p g acts order.IndexAdd all = on_two-fits (λ i j v. put_index (i +ℤ j) v) (λ i j fi fj v fv. put_index-fits (i +ℤ j) v fv)
-action-fits p g acts (order.IndexRow lower width) all =
+action-fits p g acts (order.IndexLess lower line) all = index-fits (λ i. i -ℤ lower)
+action-fits p g acts (order.IndexTimes n line) all = index-fits (λ i. i *ℤ pos n)
+action-fits p g acts (order.IndexPlus n line) all = index-fits (λ i. i +ℤ pos n)
+action-fits p g acts (order.IndexAdd line) all = on_two-fits (λ i j v. put_index (i +ℤ j) v) (λ i j fi fj v fv. put_index-fits (i +ℤ j) v fv)
+action-fits p g acts (order.IndexRow lower width line) all =
     on_two-fits
     (λ i j v. if_fits (fits_word (i -ℤ lower)) (if_fits (fits_word ((i -ℤ lower) *ℤ pos width)) (put_index ((i -ℤ lower) *ℤ pos width +ℤ j) v)))
     (λ i j fi fj.
     if_fits-fits (fits_word (i -ℤ lower)) (λ v. if_fits (fits_word ((i -ℤ lower) *ℤ pos width)) (put_index ((i -ℤ lower) *ℤ pos width +ℤ j) v))
     (if_fits-fits (fits_word ((i -ℤ lower) *ℤ pos width)) (put_index ((i -ℤ lower) *ℤ pos width +ℤ j)) (put_index-fits ((i -ℤ lower) *ℤ pos width +ℤ j))))
-action-fits p g acts order.InArea all = on_top-fits (address_of p.limits.area) (λ z fz. address-fits p.limits.area z fz)
-action-fits p g acts (order.InBounds lower upper) all =
+action-fits p g acts (order.InArea line) all = on_top-fits (address_of p.limits.area) (λ z fz. address-fits p.limits.area z fz)
+action-fits p g acts (order.InBounds lower upper line) all =
     on_top-fits (λ x v. put_if (int_le lower x && int_le x upper) IndexRange x v) (λ x fx v fv. bounded-fits (int_le lower x && int_le x upper) x fx v fv)
 action-fits p g acts (order.Jump m) all = λ w fits. fits
 action-fits p g acts (order.JumpIf c m) all = way_of_two-fits (λ x y v. to_mark_if (holds (comparison c) x y) m v) (λ x y. to_mark_if-fits (holds (comparison c) x y) m)
 action-fits p g acts (order.Exhausted m) all = way_of_two-fits (λ x a v. way_past_limit (is_below a (p.limits.area - 2)) m x (number_of a) v) (λ x a. way_past_limit-fits (is_below a (p.limits.area - 2)) m x (number_of a))
-action-fits p g acts order.SetVariable all =
+action-fits p g acts (order.SetVariable line) all =
     on_top-fits (λ a v. if_inside (is_below a p.limits.area) (perform p.limits.area (SetVariable (number_of a)) v))
     (λ a fa. if_inside-fits (is_below a p.limits.area) (perform p.limits.area (SetVariable (number_of a))) (variable-fits p.limits.area (number_of a)))
-action-fits p g acts order.AddStep all =
+action-fits p g acts (order.AddStep line) all =
     on_top-fits (λ a v. if_inside (is_below a (p.limits.area - 1)) (perform p.limits.area (AddStep (number_of a)) v))
     (λ a fa. if_inside-fits (is_below a (p.limits.area - 1)) (perform p.limits.area (AddStep (number_of a))) (step-added-fits p.limits.area (number_of a)))
-action-fits p g acts order.PutVariable all =
+action-fits p g acts (order.PutVariable line) all =
     on_top-fits
     (λ a v.
     if_inside (is_below a p.limits.area)
@@ -362,38 +363,38 @@ no_operands-fit w fits = record { operands = All-nil OperandFits; memory = fits.
 these-fit : (operands : List Operand) (w : Words) → All OperandFits operands → WordsFit w → WordsFit (with_operands w operands)
 these-fit operands w all fits = record { operands = all; memory = fits.memory; input = fits.input }
 
-go_on-fits : (b : Bool) (g place line : ℕ) (acts : List OrderActivation) (w v : Words) → All ActivationFits acts → WordsFit w → WordsFit v → StateFits (go_on b g place line acts w v)
-go_on-fits true g place line acts w v all fits h = record { words = h; activations = all }
-go_on-fits false g place line acts w v all fits h = record { words = fits; activations = all }
+go_on-fits : (b : Bool) (g place : ℕ) (loaded : Bool) (acts : List OrderActivation) (w v : Words) → All ActivationFits acts → WordsFit w → WordsFit v → StateFits (go_on b g place loaded acts w v)
+go_on-fits true g place loaded acts w v all fits h = record { words = h; activations = all }
+go_on-fits false g place loaded acts w v all fits h = record { words = fits; activations = all }
 
-after-fits : (room : ℕ) (o : Outcome) (g place line : ℕ) (acts : List OrderActivation) (w : Words) → All ActivationFits acts → WordsFit w → OutcomeFits o → StateFits (after room o g place line acts w)
-after-fits room (Changed v) g place line acts w all fits h = go_on-fits (nat_le (stack_words v.operands acts) room) g place line acts w v all fits h
-after-fits room (Refused kind) g place line acts w all fits h = record { words = fits; activations = all }
-after-fits room Impossible g place line acts w all fits h = record { words = fits; activations = all }
+after-fits : (room line : ℕ) (o : Outcome) (g place : ℕ) (loaded : Bool) (acts : List OrderActivation) (w : Words) → All ActivationFits acts → WordsFit w → OutcomeFits o → StateFits (after room line o g place loaded acts w)
+after-fits room line (Changed v) g place loaded acts w all fits h = go_on-fits (nat_le (stack_words v.operands acts) room) g place loaded acts w v all fits h
+after-fits room line (Refused kind) g place loaded acts w all fits h = record { words = fits; activations = all }
+after-fits room line Impossible g place loaded acts w all fits h = record { words = fits; activations = all }
 
-go_at-fits : (q : Option ℕ) (g place line : ℕ) (acts : List OrderActivation) (w v : Words) → All ActivationFits acts → WordsFit w → WordsFit v → StateFits (go_at q g place line acts w v)
-go_at-fits None g place line acts w v all fits h = record { words = fits; activations = all }
-go_at-fits (Some q) g place line acts w v all fits h = record { words = h; activations = all }
+go_at-fits : (q : Option ℕ) (g place : ℕ) (loaded : Bool) (acts : List OrderActivation) (w v : Words) → All ActivationFits acts → WordsFit w → WordsFit v → StateFits (go_at q g place loaded acts w v)
+go_at-fits None g place loaded acts w v all fits h = record { words = fits; activations = all }
+go_at-fits (Some q) g place loaded acts w v all fits h = record { words = h; activations = all }
 
 unrefused-fits : (o : Outcome) → OutcomeFits o → OutcomeFits (unrefused o)
 unrefused-fits (Changed v) h = h
 unrefused-fits (Refused kind) h = tt
 unrefused-fits Impossible h = tt
 
-leave_for-fits : (q : Option ℕ) (to n g place line : ℕ) (acts : List OrderActivation) (w : Words) → All ActivationFits acts → WordsFit w → StateFits (leave_for q to n g place line acts w)
-leave_for-fits None to n g place line acts w all fits = record { words = fits; activations = all }
-leave_for-fits (Some q) to n g place line acts w all fits = record { words = no_operands-fit w fits; activations = All-drop ActivationFits n acts all }
+leave_for-fits : (q : Option ℕ) (to n g place : ℕ) (loaded : Bool) (acts : List OrderActivation) (w : Words) → All ActivationFits acts → WordsFit w → StateFits (leave_for q to n g place loaded acts w)
+leave_for-fits None to n g place loaded acts w all fits = record { words = fits; activations = all }
+leave_for-fits (Some q) to n g place loaded acts w all fits = record { words = no_operands-fit w fits; activations = All-drop ActivationFits n acts all }
 
-call_at-fits : (b : Bool) (q : Option ℕ) (to : ℕ) (a : OrderActivation) (g place line : ℕ) (acts : List OrderActivation) (w : Words) → ActivationFits a → All ActivationFits acts → WordsFit w → StateFits (call_at b q to a g place line acts w)
-call_at-fits true (Some q) to a g place line acts w fa all fits = record { words = no_operands-fit w fits; activations = All-cons ActivationFits a acts fa all }
-call_at-fits true None to a g place line acts w fa all fits = record { words = fits; activations = all }
-call_at-fits false q to a g place line acts w fa all fits = record { words = fits; activations = all }
+call_at-fits : (b : Bool) (q : Option ℕ) (to : ℕ) (a : OrderActivation) (g place : ℕ) (loaded : Bool) (acts : List OrderActivation) (w : Words) → ActivationFits a → All ActivationFits acts → WordsFit w → StateFits (call_at b q to a g place loaded acts w)
+call_at-fits true (Some q) to a g place loaded acts w fa all fits = record { words = no_operands-fit w fits; activations = All-cons ActivationFits a acts fa all }
+call_at-fits true None to a g place loaded acts w fa all fits = record { words = fits; activations = all }
+call_at-fits false q to a g place loaded acts w fa all fits = record { words = fits; activations = all }
 
-enter_with-fits : (entered shallow fits : Bool) (size : ℕ) (a : OrderActivation) (g place line : ℕ) (acts : List OrderActivation) (w : Words) → All ActivationFits (a ∷ acts) → WordsFit w → StateFits (enter_with entered shallow fits size a g place line acts w)
-enter_with-fits true shallow within size a g place line acts w all fits = record { words = fits; activations = all }
-enter_with-fits false false within size a g place line acts w all fits = record { words = fits; activations = all }
-enter_with-fits false true false size a g place line acts w all fits = record { words = fits; activations = all }
-enter_with-fits false true true size a g place line acts w all fits =
+enter_with-fits : (entered shallow fits : Bool) (size : ℕ) (a : OrderActivation) (g place : ℕ) (loaded : Bool) (acts : List OrderActivation) (w : Words) → All ActivationFits (a ∷ acts) → WordsFit w → StateFits (enter_with entered shallow fits size a g place loaded acts w)
+enter_with-fits true shallow within size a g place loaded acts w all fits = record { words = fits; activations = all }
+enter_with-fits false false within size a g place loaded acts w all fits = record { words = fits; activations = all }
+enter_with-fits false true false size a g place loaded acts w all fits = record { words = fits; activations = all }
+enter_with-fits false true true size a g place loaded acts w all fits =
     let f = All-head ActivationFits a acts all in
     record {
       words = fits;
@@ -403,108 +404,111 @@ enter_with-fits false true true size a g place line acts w all fits =
           (All-tail ActivationFits a acts all);
     }
 
-return_with-fits : (b answers : Bool) (operands : List Operand) (a : OrderActivation) (g place line : ℕ) (acts : List OrderActivation) (w : Words) → All OperandFits operands → All ActivationFits (a ∷ acts) → WordsFit w → StateFits (return_with b answers operands a g place line acts w)
-return_with-fits true false operands a g place line acts w some all fits =
+return_with-fits : (b answers : Bool) (operands : List Operand) (a : OrderActivation) (g place : ℕ) (loaded : Bool) (acts : List OrderActivation) (w : Words) → All OperandFits operands → All ActivationFits (a ∷ acts) → WordsFit w → StateFits (return_with b answers operands a g place loaded acts w)
+return_with-fits true false operands a g place loaded acts w some all fits =
     let f = All-head ActivationFits a acts all in
     record { words = these-fit a.operands w f.operands fits; activations = All-tail ActivationFits a acts all }
-return_with-fits true true (Word z ∷ rest) a g place line acts w some all fits =
+return_with-fits true true (Word z ∷ rest) a g place loaded acts w some all fits =
     let f = All-head ActivationFits a acts all in
     record {
       words = these-fit (Word z ∷ a.operands) w (All-cons OperandFits (Word z) a.operands (All-head OperandFits (Word z) rest some) f.operands) fits;
       activations = All-tail ActivationFits a acts all;
     }
-return_with-fits true true [] a g place line acts w some all fits = record { words = fits; activations = all }
-return_with-fits true true (Held c ∷ rest) a g place line acts w some all fits = record { words = fits; activations = all }
-return_with-fits false answers operands a g place line acts w some all fits = record { words = fits; activations = all }
+return_with-fits true true [] a g place loaded acts w some all fits = record { words = fits; activations = all }
+return_with-fits true true (Held c ∷ rest) a g place loaded acts w some all fits = record { words = fits; activations = all }
+return_with-fits false answers operands a g place loaded acts w some all fits = record { words = fits; activations = all }
 
-next_body-fits : (u : Option Orders) (g place line : ℕ) (w : Words) → WordsFit w → StateFits (next_body u g place line w)
-next_body-fits None g place line w fits = record { words = fits; activations = All-nil ActivationFits }
-next_body-fits (Some u) g place line w fits = record { words = no_operands-fit w fits; activations = All-nil ActivationFits }
+next_body-fits : (u : Option Orders) (g place : ℕ) (loaded : Bool) (w : Words) → WordsFit w → StateFits (next_body u g place loaded w)
+next_body-fits None g place loaded w fits = record { words = fits; activations = All-nil ActivationFits }
+next_body-fits (Some u) g place loaded w fits = record { words = no_operands-fit w fits; activations = All-nil ActivationFits }
 
 module _ (p : OrderProgram) where
-  branch-fits : (x : Way) (g place line : ℕ) (acts : List OrderActivation) (w : Words) → All ActivationFits acts → WordsFit w → WayFits x → StateFits (branch p x g place line acts w)
-  branch-fits (Onward v) g place line acts w all fits h = record { words = h; activations = all }
-  branch-fits (ToMark m v) g place line acts w all fits h =
-      go_at-fits (place_of p g m) g place line acts w v all fits h
-  branch-fits Nowhere g place line acts w all fits h = record { words = fits; activations = all }
+  branch-fits : (x : Way) (g place : ℕ) (loaded : Bool) (acts : List OrderActivation) (w : Words) → All ActivationFits acts → WordsFit w → WayFits x → StateFits (branch p x g place loaded acts w)
+  branch-fits (Onward v) g place loaded acts w all fits h = record { words = h; activations = all }
+  branch-fits (ToMark m v) g place loaded acts w all fits h =
+      go_at-fits (place_of p g m) g place loaded acts w v all fits h
+  branch-fits Nowhere g place loaded acts w all fits h = record { words = fits; activations = all }
 
-  go_to_entry-fits : (l : Option LabelEntry) (to owner g place line : ℕ) (acts : List OrderActivation) (w : Words) → All ActivationFits acts → WordsFit w → StateFits (go_to_entry p l to owner g place line acts w)
-  go_to_entry-fits None to owner g place line acts w all fits = record { words = fits; activations = all }
-  go_to_entry-fits (Some l) to owner g place line acts w all fits =
-      leave_for-fits (place_of p to l.mark) to (dropped_by l.in_procedure owner acts) g place line acts w all fits
+  go_to_entry-fits : (l : Option LabelEntry) (to owner g place : ℕ) (loaded : Bool) (acts : List OrderActivation) (w : Words) → All ActivationFits acts → WordsFit w → StateFits (go_to_entry p l to owner g place loaded acts w)
+  go_to_entry-fits None to owner g place loaded acts w all fits = record { words = fits; activations = all }
+  go_to_entry-fits (Some l) to owner g place loaded acts w all fits =
+      leave_for-fits (place_of p to l.mark) to (dropped_by l.in_procedure owner acts) g place loaded acts w all fits
 
-  go_to-fits : (c : Option Control) (g place line : ℕ) (acts : List OrderActivation) (w : Words) → All ActivationFits acts → WordsFit w → StateFits (go_to p c g place line acts w)
-  go_to-fits (Some (LabelControl to l owner)) g place line acts w all fits = go_to_entry-fits (label_at p to l) to owner g place line acts w all fits
-  go_to-fits (Some (SwitchControl to n owner)) g place line acts w all fits = record { words = fits; activations = all }
-  go_to-fits (Some (ProcedureControl to q)) g place line acts w all fits = record { words = fits; activations = all }
-  go_to-fits None g place line acts w all fits = record { words = fits; activations = all }
+  go_to-fits : (c : Option Control) (g place : ℕ) (loaded : Bool) (acts : List OrderActivation) (w : Words) → All ActivationFits acts → WordsFit w → StateFits (go_to p c g place loaded acts w)
+  go_to-fits (Some (LabelControl to l owner)) g place loaded acts w all fits = go_to_entry-fits (label_at p to l) to owner g place loaded acts w all fits
+  go_to-fits (Some (SwitchControl to n owner)) g place loaded acts w all fits = record { words = fits; activations = all }
+  go_to-fits (Some (ProcedureControl to q)) g place loaded acts w all fits = record { words = fits; activations = all }
+  go_to-fits None g place loaded acts w all fits = record { words = fits; activations = all }
 
-  go_to_goal-fits : (x : Option Goal) (to owner g place line : ℕ) (acts : List OrderActivation) (w : Words) → All ActivationFits acts → WordsFit w → StateFits (go_to_goal p x to owner g place line acts w)
-  go_to_goal-fits None to owner g place line acts w all fits = record { words = fits; activations = all }
-  go_to_goal-fits (Some x) to owner g place line acts w all fits = go_to-fits (with_label_owner owner (label_of p to x)) g place line acts w all fits
+  go_to_goal-fits : (line : ℕ) (x : Option Goal) (to owner g place : ℕ) (loaded : Bool) (acts : List OrderActivation) (w : Words) → All ActivationFits acts → WordsFit w → StateFits (go_to_goal p line x to owner g place loaded acts w)
+  go_to_goal-fits line None to owner g place loaded acts w all fits = record { words = fits; activations = all }
+  go_to_goal-fits line (Some x) to owner g place loaded acts w all fits = go_to-fits (with_label_owner owner (label_of p to x)) g place loaded acts w all fits
 
-  go_by_list-fits : (gs : Option (List Goal)) (operands : List Operand) (to owner g place line : ℕ) (acts : List OrderActivation) (w : Words) → All ActivationFits acts → WordsFit w → StateFits (go_by_list p gs operands to owner g place line acts w)
-  go_by_list-fits (Some gs) (Word z ∷ rest) to owner g place line acts w all fits = go_to_goal-fits (goal_at gs z) to owner g place line acts w all fits
-  go_by_list-fits (Some gs) (Held c ∷ rest) to owner g place line acts w all fits = record { words = fits; activations = all }
-  go_by_list-fits (Some gs) [] to owner g place line acts w all fits = record { words = fits; activations = all }
-  go_by_list-fits None operands to owner g place line acts w all fits = record { words = fits; activations = all }
+  go_by_list-fits : (line : ℕ) (gs : Option (List Goal)) (operands : List Operand) (to owner g place : ℕ) (loaded : Bool) (acts : List OrderActivation) (w : Words) → All ActivationFits acts → WordsFit w → StateFits (go_by_list p line gs operands to owner g place loaded acts w)
+  go_by_list-fits line (Some gs) (Word z ∷ rest) to owner g place loaded acts w all fits = go_to_goal-fits line (goal_at gs z) to owner g place loaded acts w all fits
+  go_by_list-fits line (Some gs) (Held c ∷ rest) to owner g place loaded acts w all fits = record { words = fits; activations = all }
+  go_by_list-fits line (Some gs) [] to owner g place loaded acts w all fits = record { words = fits; activations = all }
+  go_by_list-fits line None operands to owner g place loaded acts w all fits = record { words = fits; activations = all }
 
-  go_through-fits : (c : Option Control) (g place line : ℕ) (acts : List OrderActivation) (w : Words) → All ActivationFits acts → WordsFit w → StateFits (go_through p c g place line acts w)
-  go_through-fits (Some (SwitchControl to n owner)) g place line acts w all fits = go_by_list-fits (switch_at p to n) w.operands to owner g place line acts w all fits
-  go_through-fits (Some (LabelControl to l owner)) g place line acts w all fits = record { words = fits; activations = all }
-  go_through-fits (Some (ProcedureControl to q)) g place line acts w all fits = record { words = fits; activations = all }
-  go_through-fits None g place line acts w all fits = record { words = fits; activations = all }
+  go_through-fits : (line : ℕ) (c : Option Control) (g place : ℕ) (loaded : Bool) (acts : List OrderActivation) (w : Words) → All ActivationFits acts → WordsFit w → StateFits (go_through p line c g place loaded acts w)
+  go_through-fits line (Some (SwitchControl to n owner)) g place loaded acts w all fits = go_by_list-fits line (switch_at p to n) w.operands to owner g place loaded acts w all fits
+  go_through-fits line (Some (LabelControl to l owner)) g place loaded acts w all fits = record { words = fits; activations = all }
+  go_through-fits line (Some (ProcedureControl to q)) g place loaded acts w all fits = record { words = fits; activations = all }
+  go_through-fits line None g place loaded acts w all fits = record { words = fits; activations = all }
 
-  call_entry-fits : (e : Option ProcedureEntry) (to g place line : ℕ) (acts : List OrderActivation) (w : Words) → All ActivationFits acts → WordsFit w → StateFits (call_entry p e to g place line acts w)
-  call_entry-fits None to g place line acts w all fits = record { words = fits; activations = all }
-  call_entry-fits (Some e) to g place line acts w all fits =
-      call_at-fits _ (place_of p to e.mark) to (called e.arguments (frame_end p acts) g place line w.operands) g place line acts w
+  call_entry-fits : (line : ℕ) (e : Option ProcedureEntry) (to g place : ℕ) (loaded : Bool) (acts : List OrderActivation) (w : Words) → All ActivationFits acts → WordsFit w → StateFits (call_entry p line e to g place loaded acts w)
+  call_entry-fits line None to g place loaded acts w all fits = record { words = fits; activations = all }
+  call_entry-fits line (Some e) to g place loaded acts w all fits =
+      call_at-fits _ (place_of p to e.mark) to (called e.arguments (frame_end p acts) g place line w.operands) g place loaded acts w
       (record { operands = All-drop OperandFits e.arguments w.operands fits.operands; arguments = All-take OperandFits e.arguments w.operands fits.operands })
       all
       fits
 
-  call-fits : (c : Option Control) (g place line : ℕ) (acts : List OrderActivation) (w : Words) → All ActivationFits acts → WordsFit w → StateFits (call p c g place line acts w)
-  call-fits (Some (ProcedureControl to q)) g place line acts w all fits = call_entry-fits (procedure_at p to q) to g place line acts w all fits
-  call-fits (Some (LabelControl to l owner)) g place line acts w all fits = record { words = fits; activations = all }
-  call-fits (Some (SwitchControl to n owner)) g place line acts w all fits = record { words = fits; activations = all }
-  call-fits None g place line acts w all fits = record { words = fits; activations = all }
+  call-fits : (line : ℕ) (c : Option Control) (g place : ℕ) (loaded : Bool) (acts : List OrderActivation) (w : Words) → All ActivationFits acts → WordsFit w → StateFits (call p line c g place loaded acts w)
+  call-fits line (Some (ProcedureControl to q)) g place loaded acts w all fits = call_entry-fits line (procedure_at p to q) to g place loaded acts w all fits
+  call-fits line (Some (LabelControl to l owner)) g place loaded acts w all fits = record { words = fits; activations = all }
+  call-fits line (Some (SwitchControl to n owner)) g place loaded acts w all fits = record { words = fits; activations = all }
+  call-fits line None g place loaded acts w all fits = record { words = fits; activations = all }
 
-  enter-fits : (size g place line : ℕ) (acts : List OrderActivation) (w : Words) → All ActivationFits acts → WordsFit w → StateFits (enter p size g place line acts w)
-  enter-fits size g place line [] w all fits = record { words = fits; activations = all }
-  enter-fits size g place line (a ∷ acts) w all fits = enter_with-fits a.entered _ _ size a g place line acts w all fits
+  enter-fits : (size g place : ℕ) (loaded : Bool) (acts : List OrderActivation) (w : Words) → All ActivationFits acts → WordsFit w → StateFits (enter p size g place loaded acts w)
+  enter-fits size g place loaded [] w all fits = record { words = fits; activations = all }
+  enter-fits size g place loaded (a ∷ acts) w all fits = enter_with-fits a.entered _ _ size a g place loaded acts w all fits
 
-  come_back-fits : (n : ℕ) (answers : Bool) (g place line : ℕ) (acts : List OrderActivation) (w : Words) → All ActivationFits acts → WordsFit w → StateFits (come_back p n answers g place line acts w)
-  come_back-fits n answers g place line [] w all fits = record { words = fits; activations = all }
-  come_back-fits n answers g place line (a ∷ acts) w all fits =
-      return_with-fits (nat_eq (operand_words a.arguments) n) answers w.operands a g place line acts w fits.operands all fits
+  come_back-fits : (n : ℕ) (answers : Bool) (g place : ℕ) (loaded : Bool) (acts : List OrderActivation) (w : Words) → All ActivationFits acts → WordsFit w → StateFits (come_back p n answers g place loaded acts w)
+  come_back-fits n answers g place loaded [] w all fits = record { words = fits; activations = all }
+  come_back-fits n answers g place loaded (a ∷ acts) w all fits =
+      return_with-fits (nat_eq (operand_words a.arguments) n) answers w.operands a g place loaded acts w fits.operands all fits
 
-  end_body-fits : (g place line : ℕ) (acts : List OrderActivation) (w : Words) → All ActivationFits acts → WordsFit w → StateFits (end_body p g place line acts w)
-  end_body-fits g place line [] w all fits = next_body-fits (slice_get p.units (g + 1)) g place line w fits
-  end_body-fits g place line (a ∷ acts) w all fits = record { words = fits; activations = all }
+  end_body-fits : (g place : ℕ) (loaded : Bool) (acts : List OrderActivation) (w : Words) → All ActivationFits acts → WordsFit w → StateFits (end_body p g place loaded acts w)
+  end_body-fits g place loaded [] w all fits = next_body-fits (slice_get p.units (g + 1)) g place loaded w fits
+  end_body-fits g place loaded (a ∷ acts) w all fits = record { words = fits; activations = all }
 
-  act-fits : (x : Action) (g place line : ℕ) (acts : List OrderActivation) (w : Words) → ActionFits p.limits.area x → All ActivationFits acts → WordsFit w → StateFits (act p x g place line acts w)
-  act-fits (Perform op) g place line acts w h all fits = after-fits p.room (perform p.limits.area op w) g place line acts w all fits (h w fits)
-  act-fits (Access op) g place line acts w h all fits =
-      after-fits p.room (unrefused (perform p.limits.area op w)) g place line acts w all fits (unrefused-fits (perform p.limits.area op w) (h w fits))
-  act-fits (Alter f) g place line acts w h all fits = after-fits p.room (f w) g place line acts w all fits (h w fits)
-  act-fits (AlterWithin f) g place line acts w h all fits = after-fits p.room (unrefused (f w)) g place line acts w all fits (unrefused-fits (f w) (h w fits))
-  act-fits (SetLine n) g place line acts w h all fits = record { words = fits; activations = all }
-  act-fits Pass g place line acts w h all fits = record { words = fits; activations = all }
-  act-fits (Branch f) g place line acts w h all fits = branch-fits (f w) g place line acts w all fits (h w fits)
-  act-fits (GoMain m) g place line acts w h all fits = leave_for-fits (place_of p g m) g (length acts) g place line acts w all fits
-  act-fits (GoLabel c) g place line acts w h all fits = go_to-fits c g place line acts w all fits
-  act-fits (GoSwitch c) g place line acts w h all fits = go_through-fits c g place line acts w all fits
-  act-fits (Call c) g place line acts w h all fits = call-fits c g place line acts w all fits
-  act-fits (Enter size) g place line acts w h all fits = enter-fits size g place line acts w all fits
-  act-fits (Return n answers) g place line acts w h all fits = come_back-fits n answers g place line acts w all fits
-  act-fits EndBody g place line acts w h all fits = end_body-fits g place line acts w all fits
+  act-fits : (x : Action) (g place : ℕ) (loaded : Bool) (acts : List OrderActivation) (w : Words) → ActionFits p.limits.area x → All ActivationFits acts → WordsFit w → StateFits (act p x g place loaded acts w)
+  act-fits (Perform line op) g place loaded acts w h all fits = after-fits p.room line (perform p.limits.area op w) g place loaded acts w all fits (h w fits)
+  act-fits (Access op) g place loaded acts w h all fits =
+      after-fits p.room 0 (unrefused (perform p.limits.area op w)) g place loaded acts w all fits (unrefused-fits (perform p.limits.area op w) (h w fits))
+  act-fits (Alter line f) g place loaded acts w h all fits = after-fits p.room line (f w) g place loaded acts w all fits (h w fits)
+  act-fits (AlterWithin f) g place loaded acts w h all fits = after-fits p.room 0 (unrefused (f w)) g place loaded acts w all fits (unrefused-fits (f w) (h w fits))
+  act-fits Pass g place loaded acts w h all fits = record { words = fits; activations = all }
+  act-fits (Branch f) g place loaded acts w h all fits = branch-fits (f w) g place loaded acts w all fits (h w fits)
+  act-fits (GoMain m) g place loaded acts w h all fits = leave_for-fits (place_of p g m) g (length acts) g place loaded acts w all fits
+  act-fits (GoLabel c) g place loaded acts w h all fits = go_to-fits c g place loaded acts w all fits
+  act-fits (GoSwitch line c) g place loaded acts w h all fits = go_through-fits line c g place loaded acts w all fits
+  act-fits (Call line c) g place loaded acts w h all fits = call-fits line c g place loaded acts w all fits
+  act-fits (Enter size) g place loaded acts w h all fits = enter-fits size g place loaded acts w all fits
+  act-fits (Return n answers) g place loaded acts w h all fits = come_back-fits n answers g place loaded acts w all fits
+  act-fits EndBody g place loaded acts w h all fits = end_body-fits g place loaded acts w all fits
 
-  carry_out-fits : (o : Option Order) (g place line : ℕ) (acts : List OrderActivation) (w : Words) → All ActivationFits acts → WordsFit w → StateFits (carry_out p o g place line acts w)
-  carry_out-fits None g place line acts w all fits = record { words = fits; activations = all }
-  carry_out-fits (Some o) g place line acts w all fits = act-fits (action_of p g acts o) g place line acts w (action-fits p g acts o all) all fits
+  carry_with-fits : (after : Option Bool) (o : Order) (g place : ℕ) (loaded : Bool) (acts : List OrderActivation) (w : Words) → All ActivationFits acts → WordsFit w → StateFits (carry_with p after o g place loaded acts w)
+  carry_with-fits None o g place loaded acts w all fits = record { words = fits; activations = all }
+  carry_with-fits (Some after) o g place loaded acts w all fits = act-fits (action_of p g acts o) g place after acts w (action-fits p g acts o all) all fits
+
+  carry_out-fits : (o : Option Order) (g place : ℕ) (loaded : Bool) (acts : List OrderActivation) (w : Words) → All ActivationFits acts → WordsFit w → StateFits (carry_out p o g place loaded acts w)
+  carry_out-fits None g place loaded acts w all fits = record { words = fits; activations = all }
+  carry_out-fits (Some o) g place loaded acts w all fits = carry_with-fits (loaded_after o loaded) o g place loaded acts w all fits
 
   pub step-fits : (s : OrderState) → StateFits s → StateFits (step p s)
-  step-fits (at g place line acts w Running) h = carry_out-fits (order_at p g place) g place line acts w h.activations h.words
-  step-fits (at g place line acts w Ended) h = record { words = h.words; activations = h.activations }
-  step-fits (at g place line acts w (Stopped kind s l)) h = record { words = h.words; activations = h.activations }
-  step-fits (at g place line acts w Stuck) h = record { words = h.words; activations = h.activations }
+  step-fits (at g place loaded acts w Running) h = carry_out-fits (order_at p g place) g place loaded acts w h.activations h.words
+  step-fits (at g place loaded acts w Ended) h = record { words = h.words; activations = h.activations }
+  step-fits (at g place loaded acts w (Stopped kind s l)) h = record { words = h.words; activations = h.activations }
+  step-fits (at g place loaded acts w Stuck) h = record { words = h.words; activations = h.activations }

@@ -9,19 +9,19 @@ use Rattle.cw_order.specs.Example.{overflowing, overflowing_start, overflowing_s
 
 pub over : (p : OrderProgram) (s : OrderState) (k : ℕ) → (shown s).end ≢ Running → state_after (order_machine p) k s ≡ s
 over p s zero h = refl
-over p (at g place line acts w Running) (suc k) h = absurd (h refl)
-over p (at g place line acts w Ended) (suc k) h = over p (at g place line acts w Ended) k h
-over p (at g place line acts w (Stopped kind s l)) (suc k) h = over p (at g place line acts w (Stopped kind s l)) k h
-over p (at g place line acts w Stuck) (suc k) h = over p (at g place line acts w Stuck) k h
+over p (at g place loaded acts w Running) (suc k) h = absurd (h refl)
+over p (at g place loaded acts w Ended) (suc k) h = over p (at g place loaded acts w Ended) k h
+over p (at g place loaded acts w (Stopped kind s l)) (suc k) h = over p (at g place loaded acts w (Stopped kind s l)) k h
+over p (at g place loaded acts w Stuck) (suc k) h = over p (at g place loaded acts w Stuck) k h
 
-pub costs : cost (order_machine overflowing) 7 overflowing_start ≡ 25
+pub costs : cost (order_machine overflowing) 9 overflowing_start ≡ 29
 costs = refl
 
-pub stops : shown_after (order_machine overflowing) 7 overflowing_start ≡ overflowing_shows
+pub stops : shown_after (order_machine overflowing) 9 overflowing_start ≡ overflowing_shows
 stops = refl
 
-pub returns : shown_after (order_machine calling) 11 calling_start ≡ calling_shows
+pub returns : shown_after (order_machine calling) 12 calling_start ≡ calling_shows
 returns = refl
 
-pub returning_costs : cost (order_machine calling) 11 calling_start ≡ 92
+pub returning_costs : cost (order_machine calling) 12 calling_start ≡ 95
 returning_costs = refl

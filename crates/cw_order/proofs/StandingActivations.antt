@@ -22,8 +22,9 @@ use Rattle.cw_order.specs.declared.order.Orders.{Orders}
 use Rattle.cw_order.specs.OrderProgram.{LabelEntry, ProcedureEntry, OrderProgram, order_at, place_of, label_at, procedure_at, switch_at, label_of, defined_at}
 use Rattle.cw_order.specs.OrderState.{OrderActivation, OrderState, at, operand_words, stack_words, argument_behind, argument_at, frame_word, frame_end, control_in, control_at}
 use Rattle.cw_order.specs.OrderChanges.{put_index, if_fits, put_address, bind, if_inside, Way, Onward, ToMark, Nowhere, way_of_one, way_of_two, to_mark_if, to_mark_in, way_past_limit, mark_of_number, comparison}
-use Rattle.cw_order.specs.OrderActions.{Action, Perform, Access, Alter, AlterWithin, SetLine, Pass, Branch, GoMain, GoLabel, GoSwitch, Call, Enter, Return, EndBody, home_word, common_label, common_switch, common_procedure, action_of}
-use Rattle.cw_order.specs.OrderMachine.{go_on, go_at, after, unrefused, leave_for, line_below, dropped_by, called, call_at, enter_with, return_with, next_body, branch, go_to_entry, go_to, go_to_goal, go_by_list, go_through, call_entry, call, enter, come_back, end_body, act, carry_out, step}
+use Rattle.cw_order.specs.Loading.{loaded_after}
+use Rattle.cw_order.specs.OrderActions.{Action, Perform, Access, Alter, AlterWithin, Pass, Branch, GoMain, GoLabel, GoSwitch, Call, Enter, Return, EndBody, home_word, common_label, common_switch, common_procedure, action_of}
+use Rattle.cw_order.specs.OrderMachine.{go_on, go_at, after, unrefused, leave_for, dropped_by, called, call_at, enter_with, return_with, next_body, branch, go_to_entry, go_to, go_to_goal, go_by_list, go_through, call_entry, call, enter, come_back, end_body, act, carry_with, carry_out, step}
 use Rattle.cw_order.specs.Activations.{segment_below, IsThere, OwnsLabel, ControlStands, OperandStands, ActivationsStand, Beginning, LastStands, StateStands, Callable}
 
 -- ---- numbers
@@ -200,9 +201,9 @@ module _ (P : Operand → Type 0) (plain : (z : ℤ) → P (Word z)) where
   -- ---- actions
 
   abbrev ActionStands : (area : ℕ) → Action → Type 0
-  ActionStands area (Perform op) = Keeps (perform area op)
+  ActionStands area (Perform line op) = Keeps (perform area op)
   ActionStands area (Access op) = Keeps (perform area op)
-  ActionStands area (Alter f) = Keeps f
+  ActionStands area (Alter line f) = Keeps f
   ActionStands area (AlterWithin f) = Keeps f
   ActionStands area (Branch f) = Leads f
   ActionStands area _ = Unit {0}
@@ -303,12 +304,12 @@ module _ (p : OrderProgram) where
       action-stands order.Store = store-stands P plain p.limits.area (λ x z. z)
       action-stands (order.LoadPart t b s) = fetch-stands P plain p.limits.area (Some (record { t = t; b = b; unsigned = not s }))
       action-stands (order.StorePart t b) = store-stands P plain p.limits.area (with_bits t b)
-      action-stands (order.Rescale from to) = value-stands P plain (λ x. rescaled x from to)
-      action-stands order.Add = values-stand P plain (λ x y. x +ℤ y)
-      action-stands order.Sub = values-stand P plain (λ x y. x -ℤ y)
-      action-stands order.Neg = value-stands P plain (λ x. neg_ℤ x)
-      action-stands (order.Mul s) = values-stand P plain (λ x y. scaled_product x y s)
-      action-stands (order.Div s) = two-stands P plain (divide s) (λ x y. divide-stands P plain s x y)
+      action-stands (order.Rescale from to line) = value-stands P plain (λ x. rescaled x from to)
+      action-stands (order.Add line) = values-stand P plain (λ x y. x +ℤ y)
+      action-stands (order.Sub line) = values-stand P plain (λ x y. x -ℤ y)
+      action-stands (order.Neg line) = value-stands P plain (λ x. neg_ℤ x)
+      action-stands (order.Mul s line) = values-stand P plain (λ x y. scaled_product x y s)
+      action-stands (order.Div s line) = two-stands P plain (divide s) (λ x y. divide-stands P plain s x y)
       action-stands order.And = bits-stand P plain _
       action-stands order.Or = bits-stand P plain _
       action-stands order.Xor = bits-stand P plain _
@@ -319,29 +320,29 @@ module _ (p : OrderProgram) where
       action-stands order.ReadByte = λ w fits. read-stands P plain w.input w fits
       action-stands order.WriteByte =
           top-stands P plain (λ x v. Changed (record v { output = v.output ++ byte_of x ∷ [] })) (λ x v fv. fv)
-      action-stands (order.IndexLess lower) = index-stands P plain (λ i. i -ℤ lower)
-      action-stands (order.IndexTimes n) = index-stands P plain (λ i. i *ℤ pos n)
-      action-stands (order.IndexPlus n) = index-stands P plain (λ i. i +ℤ pos n)
-      action-stands order.IndexAdd = two-stands P plain (λ i j v. put_index (i +ℤ j) v) (λ i j. put_if-stands P plain AddressRange (i +ℤ j) (fits_word (i +ℤ j)))
-      action-stands (order.IndexRow lower width) =
+      action-stands (order.IndexLess lower line) = index-stands P plain (λ i. i -ℤ lower)
+      action-stands (order.IndexTimes n line) = index-stands P plain (λ i. i *ℤ pos n)
+      action-stands (order.IndexPlus n line) = index-stands P plain (λ i. i +ℤ pos n)
+      action-stands (order.IndexAdd line) = two-stands P plain (λ i j v. put_index (i +ℤ j) v) (λ i j. put_if-stands P plain AddressRange (i +ℤ j) (fits_word (i +ℤ j)))
+      action-stands (order.IndexRow lower width line) =
           two-stands P plain
           (λ i j v. if_fits (fits_word (i -ℤ lower)) (if_fits (fits_word ((i -ℤ lower) *ℤ pos width)) (put_index ((i -ℤ lower) *ℤ pos width +ℤ j) v)))
           (λ i j.
           if_fits-stands P plain (fits_word (i -ℤ lower)) (λ v. if_fits (fits_word ((i -ℤ lower) *ℤ pos width)) (put_index ((i -ℤ lower) *ℤ pos width +ℤ j) v))
           (if_fits-stands P plain (fits_word ((i -ℤ lower) *ℤ pos width)) (put_index ((i -ℤ lower) *ℤ pos width +ℤ j)) (put_if-stands P plain AddressRange ((i -ℤ lower) *ℤ pos width +ℤ j) (fits_word ((i -ℤ lower) *ℤ pos width +ℤ j)))))
-      action-stands order.InArea = top-stands P plain (address_of p.limits.area) (λ z. address-stands P plain p.limits.area z)
-      action-stands (order.InBounds lower upper) =
+      action-stands (order.InArea line) = top-stands P plain (address_of p.limits.area) (λ z. address-stands P plain p.limits.area z)
+      action-stands (order.InBounds lower upper line) =
           top-stands P plain (λ x v. put_if (int_le lower x && int_le x upper) IndexRange x v) (λ x. put_if-stands P plain IndexRange x (int_le lower x && int_le x upper))
       action-stands (order.Jump m) = λ n w l. l
       action-stands (order.JumpIf c m) = way_of_two-stands P plain (λ x y v. to_mark_if (holds (comparison c) x y) m v) (λ x y. to_mark_if-stands P plain (holds (comparison c) x y) m)
       action-stands (order.Exhausted m) = way_of_two-stands P plain (λ x a v. way_past_limit (is_below a (p.limits.area - 2)) m x (number_of a) v) (λ x a. way_past_limit-stands P plain (is_below a (p.limits.area - 2)) m x (number_of a))
-      action-stands order.SetVariable =
+      action-stands (order.SetVariable line) =
           top-stands P plain (λ a v. if_inside (is_below a p.limits.area) (perform p.limits.area (SetVariable (number_of a)) v))
           (λ a. if_inside-stands P plain (is_below a p.limits.area) (perform p.limits.area (SetVariable (number_of a))) (variable-stands P plain p.limits.area (number_of a)))
-      action-stands order.AddStep =
+      action-stands (order.AddStep line) =
           top-stands P plain (λ a v. if_inside (is_below a (p.limits.area - 1)) (perform p.limits.area (AddStep (number_of a)) v))
           (λ a. if_inside-stands P plain (is_below a (p.limits.area - 1)) (perform p.limits.area (AddStep (number_of a))) (step-added-stands P plain p.limits.area (number_of a)))
-      action-stands order.PutVariable =
+      action-stands (order.PutVariable line) =
           top-stands P plain
           (λ a v.
           if_inside (is_below a p.limits.area)
@@ -373,76 +374,76 @@ module _ (p : OrderProgram) where
     stand_below (suc n) g g' [] h = tt
     stand_below (suc n) g g' (a ∷ acts) h = stand_below n a.segment g' acts h.5
 
-    last_of : (g place line : ℕ) (acts : List OrderActivation) (operands : List Operand) → ActivationsStand p g acts → LastStands p g place line acts operands
-    last_of g place line [] operands h = tt
-    last_of g place line (a ∷ acts) operands h = inl h
+    last_of : (g place : ℕ) (acts : List OrderActivation) (operands : List Operand) → ActivationsStand p g acts → LastStands p g place acts operands
+    last_of g place [] operands h = tt
+    last_of g place (a ∷ acts) operands h = inl h
 
-    module _ (g place line : ℕ) (acts : List OrderActivation) (w : Words) (room : stack_words w.operands acts ≤ p.room) (working : ActivationsStand p g acts) (operands : All (OperandStands p g acts) w.operands) where
-      go_on-stands : (b : Bool) (v : Words) → nat_le (stack_words v.operands acts) p.room ≡ b → All (OperandStands p g acts) v.operands → StateStands p (go_on b g place line acts w v)
-      go_on-stands true v e h = record { room = leb-true (stack_words v.operands acts) p.room e; last = last_of g (place + 1) line acts v.operands working; operands = h }
+    module _ (g place : ℕ) (loaded : Bool) (acts : List OrderActivation) (w : Words) (room : stack_words w.operands acts ≤ p.room) (working : ActivationsStand p g acts) (operands : All (OperandStands p g acts) w.operands) where
+      go_on-stands : (b : Bool) (v : Words) → nat_le (stack_words v.operands acts) p.room ≡ b → All (OperandStands p g acts) v.operands → StateStands p (go_on b g place loaded acts w v)
+      go_on-stands true v e h = record { room = leb-true (stack_words v.operands acts) p.room e; last = last_of g (place + 1) acts v.operands working; operands = h }
       go_on-stands false v e h = tt
 
-      after-stands : (o : Outcome) → OutcomeStands (OperandStands p g acts) (λ z. tt) o → StateStands p (after p.room o g place line acts w)
-      after-stands (Changed v) h = go_on-stands (nat_le (stack_words v.operands acts) p.room) v refl h
-      after-stands (Refused kind) h = tt
-      after-stands Impossible h = tt
+      after-stands : (line : ℕ) (o : Outcome) → OutcomeStands (OperandStands p g acts) (λ z. tt) o → StateStands p (after p.room line o g place loaded acts w)
+      after-stands line (Changed v) h = go_on-stands (nat_le (stack_words v.operands acts) p.room) v refl h
+      after-stands line (Refused kind) h = tt
+      after-stands line Impossible h = tt
 
-      on_at : (to line' : ℕ) (v : Words) → Less (OperandStands p g acts) (λ z. tt) (operand_words w.operands) v.operands → StateStands p (at g to line' acts v Running)
-      on_at to line' v l =
+      on_at : (to : ℕ) (v : Words) → Less (OperandStands p g acts) (λ z. tt) (operand_words w.operands) v.operands → StateStands p (at g to loaded acts v Running)
+      on_at to v l =
           let fewer = l.words in
           let a = words_split w.operands acts in
           let b = words_split v.operands acts in
-          record { room = omega arith; last = last_of g to line' acts v.operands working; operands = l.stand }
+          record { room = omega arith; last = last_of g to acts v.operands working; operands = l.stand }
 
-      go_at-stands : (q : Option ℕ) (v : Words) → Less (OperandStands p g acts) (λ z. tt) (operand_words w.operands) v.operands → StateStands p (go_at q g place line acts w v)
+      go_at-stands : (q : Option ℕ) (v : Words) → Less (OperandStands p g acts) (λ z. tt) (operand_words w.operands) v.operands → StateStands p (go_at q g place loaded acts w v)
       go_at-stands None v l = tt
-      go_at-stands (Some q) v l = on_at q line v l
+      go_at-stands (Some q) v l = on_at q v l
 
-      branch-stands : (x : Way) → WayStands (OperandStands p g acts) (λ z. tt) (operand_words w.operands) x → StateStands p (branch p x g place line acts w)
-      branch-stands (Onward v) l = on_at (place + 1) line v l
+      branch-stands : (x : Way) → WayStands (OperandStands p g acts) (λ z. tt) (operand_words w.operands) x → StateStands p (branch p x g place loaded acts w)
+      branch-stands (Onward v) l = on_at (place + 1) v l
       branch-stands (ToMark m v) l = go_at-stands (place_of p g m) v l
       branch-stands Nowhere l = tt
 
-      leave_for-stands : (q : Option ℕ) (to n : ℕ) → StateStands p (leave_for q to n g place line acts w)
+      leave_for-stands : (q : Option ℕ) (to n : ℕ) → StateStands p (leave_for q to n g place loaded acts w)
       leave_for-stands None to n = tt
       leave_for-stands (Some q) to n =
           let a = words_split w.operands acts in
           let b = words_below n acts in
-          record { room = omega arith; last = last_of to q (line_below n line acts) (drop n acts) [] (stand_below n g to acts working); operands = All-nil (OperandStands p to (drop n acts)) }
+          record { room = omega arith; last = last_of to q (drop n acts) [] (stand_below n g to acts working); operands = All-nil (OperandStands p to (drop n acts)) }
 
-      go_to_entry-stands : (l : Option LabelEntry) (to owner : ℕ) → StateStands p (go_to_entry p l to owner g place line acts w)
+      go_to_entry-stands : (l : Option LabelEntry) (to owner : ℕ) → StateStands p (go_to_entry p l to owner g place loaded acts w)
       go_to_entry-stands None to owner = tt
       go_to_entry-stands (Some l) to owner = leave_for-stands (place_of p to l.mark) to (dropped_by l.in_procedure owner acts)
 
-      go_to-stands : (c : Option Control) → StateStands p (go_to p c g place line acts w)
+      go_to-stands : (c : Option Control) → StateStands p (go_to p c g place loaded acts w)
       go_to-stands (Some (LabelControl to l owner)) = go_to_entry-stands (label_at p to l) to owner
       go_to-stands (Some (SwitchControl to n owner)) = tt
       go_to-stands (Some (ProcedureControl to q)) = tt
       go_to-stands None = tt
 
-      go_to_goal-stands : (x : Option Goal) (to owner : ℕ) → StateStands p (go_to_goal p x to owner g place line acts w)
-      go_to_goal-stands None to owner = tt
-      go_to_goal-stands (Some x) to owner = go_to-stands (with_label_owner owner (label_of p to x))
+      go_to_goal-stands : (line : ℕ) (x : Option Goal) (to owner : ℕ) → StateStands p (go_to_goal p line x to owner g place loaded acts w)
+      go_to_goal-stands line None to owner = tt
+      go_to_goal-stands line (Some x) to owner = go_to-stands (with_label_owner owner (label_of p to x))
 
-      go_by_list-stands : (gs : Option (List Goal)) (xs : List Operand) (to owner : ℕ) → StateStands p (go_by_list p gs xs to owner g place line acts w)
-      go_by_list-stands (Some gs) (Word z ∷ rest) to owner = go_to_goal-stands (goal_at gs z) to owner
-      go_by_list-stands (Some gs) (Held c ∷ rest) to owner = tt
-      go_by_list-stands (Some gs) [] to owner = tt
-      go_by_list-stands None xs to owner = tt
+      go_by_list-stands : (line : ℕ) (gs : Option (List Goal)) (xs : List Operand) (to owner : ℕ) → StateStands p (go_by_list p line gs xs to owner g place loaded acts w)
+      go_by_list-stands line (Some gs) (Word z ∷ rest) to owner = go_to_goal-stands line (goal_at gs z) to owner
+      go_by_list-stands line (Some gs) (Held c ∷ rest) to owner = tt
+      go_by_list-stands line (Some gs) [] to owner = tt
+      go_by_list-stands line None xs to owner = tt
 
-      go_through-stands : (c : Option Control) → StateStands p (go_through p c g place line acts w)
-      go_through-stands (Some (SwitchControl to n owner)) = go_by_list-stands (switch_at p to n) w.operands to owner
-      go_through-stands (Some (LabelControl to l owner)) = tt
-      go_through-stands (Some (ProcedureControl to q)) = tt
-      go_through-stands None = tt
+      go_through-stands : (line : ℕ) (c : Option Control) → StateStands p (go_through p line c g place loaded acts w)
+      go_through-stands line (Some (SwitchControl to n owner)) = go_by_list-stands line (switch_at p to n) w.operands to owner
+      go_through-stands line (Some (LabelControl to l owner)) = tt
+      go_through-stands line (Some (ProcedureControl to q)) = tt
+      go_through-stands line None = tt
 
-      abbrev CalledFits : ProcedureEntry → Bool
-      CalledFits e = nat_le e.arguments (length w.operands) && nat_le (stack_words [] (called e.arguments (frame_end p acts) g place line w.operands ∷ acts)) p.room
+      abbrev CalledFits : (line : ℕ) → ProcedureEntry → Bool
+      CalledFits line e = nat_le e.arguments (length w.operands) && nat_le (stack_words [] (called e.arguments (frame_end p acts) g place line w.operands ∷ acts)) p.room
 
-      call_at-stands : (b : Bool) (k : Option ℕ) (to n : ℕ) (e : ProcedureEntry) → procedure_at p to n ≡ Some e → CalledFits e ≡ b → place_of p to e.mark ≡ k → StateStands p (call_at b k to (called e.arguments (frame_end p acts) g place line w.operands) g place line acts w)
-      call_at-stands true None to n e is eb ek = tt
-      call_at-stands false k to n e is eb ek = tt
-      call_at-stands true (Some k) to n e is eb ek =
+      call_at-stands : (line : ℕ) (b : Bool) (k : Option ℕ) (to n : ℕ) (e : ProcedureEntry) → procedure_at p to n ≡ Some e → CalledFits line e ≡ b → place_of p to e.mark ≡ k → StateStands p (call_at b k to (called e.arguments (frame_end p acts) g place line w.operands) g place loaded acts w)
+      call_at-stands line true None to n e is eb ek = tt
+      call_at-stands line false k to n e is eb ek = tt
+      call_at-stands line true (Some k) to n e is eb ek =
           let a = called e.arguments (frame_end p acts) g place line w.operands in
           let fits = both_true (nat_le e.arguments (length w.operands)) (nat_le (stack_words [] (a ∷ acts)) p.room) eb in
           let enter = callable.enters to n e k is ek in
@@ -453,7 +454,6 @@ module _ (p : OrderProgram) where
               size = enter.0;
               order = enter.1;
               none = refl;
-              no_line = refl;
               base = refl;
               top = refl;
               arguments = All-take (OperandStands p g acts) e.arguments w.operands operands;
@@ -463,70 +463,74 @@ module _ (p : OrderProgram) where
             operands = All-nil (OperandStands p to (a ∷ acts));
           }
 
-      call_entry-stands : (x : Option ProcedureEntry) (to n : ℕ) → procedure_at p to n ≡ x → StateStands p (call_entry p x to g place line acts w)
-      call_entry-stands None to n is = tt
-      call_entry-stands (Some e) to n is = call_at-stands (CalledFits e) (place_of p to e.mark) to n e is refl refl
+      call_entry-stands : (line : ℕ) (x : Option ProcedureEntry) (to n : ℕ) → procedure_at p to n ≡ x → StateStands p (call_entry p line x to g place loaded acts w)
+      call_entry-stands line None to n is = tt
+      call_entry-stands line (Some e) to n is = call_at-stands line (CalledFits line e) (place_of p to e.mark) to n e is refl refl
 
-      call-stands : (c : Option Control) → StateStands p (call p c g place line acts w)
-      call-stands (Some (ProcedureControl to q)) = call_entry-stands (procedure_at p to q) to q refl
-      call-stands (Some (LabelControl to l owner)) = tt
-      call-stands (Some (SwitchControl to n owner)) = tt
-      call-stands None = tt
+      call-stands : (line : ℕ) (c : Option Control) → StateStands p (call p line c g place loaded acts w)
+      call-stands line (Some (ProcedureControl to q)) = call_entry-stands line (procedure_at p to q) to q refl
+      call-stands line (Some (LabelControl to l owner)) = tt
+      call-stands line (Some (SwitchControl to n owner)) = tt
+      call-stands line None = tt
 
-    enter-stands : (size g place line : ℕ) (acts : List OrderActivation) (w : Words) → ActivationsStand p g acts → StateStands p (enter p size g place line acts w)
-    enter-stands size g place line [] w working = tt
-    enter-stands size g place line (a ∷ acts) w working =
-        subst (λ b. StateStands p (enter_with b (nat_lt (length acts) p.limits.depth) (nat_le (a.frame_base + size) p.limits.area) size a g place line acts w)) (sym working.0) tt
+    enter-stands : (size g place : ℕ) (loaded : Bool) (acts : List OrderActivation) (w : Words) → ActivationsStand p g acts → StateStands p (enter p size g place loaded acts w)
+    enter-stands size g place loaded [] w working = tt
+    enter-stands size g place loaded (a ∷ acts) w working =
+        subst (λ b. StateStands p (enter_with b (nat_lt (length acts) p.limits.depth) (nat_le (a.frame_base + size) p.limits.area) size a g place loaded acts w)) (sym working.0) tt
 
-    return-stands : (b answers : Bool) (xs : List Operand) (a : OrderActivation) (g place line : ℕ) (acts : List OrderActivation) (w : Words) → stack_words w.operands (a ∷ acts) ≤ p.room → ActivationsStand p g (a ∷ acts) → StateStands p (return_with b answers xs a g place line acts w)
-    return-stands true false xs a g place line acts w room working =
-        record { room = omega arith; last = last_of a.segment a.place a.line acts a.operands working.5; operands = working.4 }
-    return-stands true true (Word z ∷ rest) a g place line acts w room working =
+    return-stands : (b answers : Bool) (xs : List Operand) (a : OrderActivation) (g place : ℕ) (loaded : Bool) (acts : List OrderActivation) (w : Words) → stack_words w.operands (a ∷ acts) ≤ p.room → ActivationsStand p g (a ∷ acts) → StateStands p (return_with b answers xs a g place loaded acts w)
+    return-stands true false xs a g place loaded acts w room working =
+        record { room = omega arith; last = last_of a.segment a.place acts a.operands working.5; operands = working.4 }
+    return-stands true true (Word z ∷ rest) a g place loaded acts w room working =
         let s = words_split a.operands acts in
         let t = words_split (Word z ∷ a.operands) acts in
-        record { room = omega arith; last = last_of a.segment a.place a.line acts (Word z ∷ a.operands) working.5; operands = All-cons (OperandStands p a.segment acts) (Word z) a.operands tt working.4 }
-    return-stands true true [] a g place line acts w room working = tt
-    return-stands true true (Held c ∷ rest) a g place line acts w room working = tt
-    return-stands false answers xs a g place line acts w room working = tt
+        record { room = omega arith; last = last_of a.segment a.place acts (Word z ∷ a.operands) working.5; operands = All-cons (OperandStands p a.segment acts) (Word z) a.operands tt working.4 }
+    return-stands true true [] a g place loaded acts w room working = tt
+    return-stands true true (Held c ∷ rest) a g place loaded acts w room working = tt
+    return-stands false answers xs a g place loaded acts w room working = tt
 
-    come_back-stands : (n : ℕ) (answers : Bool) (g place line : ℕ) (acts : List OrderActivation) (w : Words) → stack_words w.operands acts ≤ p.room → ActivationsStand p g acts → StateStands p (come_back p n answers g place line acts w)
-    come_back-stands n answers g place line [] w room working = tt
-    come_back-stands n answers g place line (a ∷ acts) w room working = return-stands (nat_eq (operand_words a.arguments) n) answers w.operands a g place line acts w room working
+    come_back-stands : (n : ℕ) (answers : Bool) (g place : ℕ) (loaded : Bool) (acts : List OrderActivation) (w : Words) → stack_words w.operands acts ≤ p.room → ActivationsStand p g acts → StateStands p (come_back p n answers g place loaded acts w)
+    come_back-stands n answers g place loaded [] w room working = tt
+    come_back-stands n answers g place loaded (a ∷ acts) w room working = return-stands (nat_eq (operand_words a.arguments) n) answers w.operands a g place loaded acts w room working
 
-    next_body-stands : (u : Option Orders) (g place line : ℕ) (w : Words) → StateStands p (next_body u g place line w)
-    next_body-stands None g place line w = tt
-    next_body-stands (Some u) g place line w = record { room = omega arith; last = tt; operands = All-nil (OperandStands p (g + 1) []) }
+    next_body-stands : (u : Option Orders) (g place : ℕ) (loaded : Bool) (w : Words) → StateStands p (next_body u g place loaded w)
+    next_body-stands None g place loaded w = tt
+    next_body-stands (Some u) g place loaded w = record { room = omega arith; last = tt; operands = All-nil (OperandStands p (g + 1) []) }
 
-    end_body-stands : (g place line : ℕ) (acts : List OrderActivation) (w : Words) → StateStands p (end_body p g place line acts w)
-    end_body-stands g place line [] w = next_body-stands (slice_get p.units (g + 1)) g place line w
-    end_body-stands g place line (a ∷ acts) w = tt
+    end_body-stands : (g place : ℕ) (loaded : Bool) (acts : List OrderActivation) (w : Words) → StateStands p (end_body p g place loaded acts w)
+    end_body-stands g place loaded [] w = next_body-stands (slice_get p.units (g + 1)) g place loaded w
+    end_body-stands g place loaded (a ∷ acts) w = tt
 
-    module _ (g place line : ℕ) (acts : List OrderActivation) (w : Words) (room : stack_words w.operands acts ≤ p.room) (working : ActivationsStand p g acts) (operands : All (OperandStands p g acts) w.operands) where
-      act-stands : (x : Action) → ActionStands (OperandStands p g acts) (λ z. tt) p.limits.area x → StateStands p (act p x g place line acts w)
-      act-stands (Perform op) h = after-stands g place line acts w room working operands (perform p.limits.area op w) (h w operands)
-      act-stands (Access op) h = after-stands g place line acts w room working operands (unrefused (perform p.limits.area op w)) (unrefused-stands (OperandStands p g acts) (λ z. tt) (perform p.limits.area op w) (h w operands))
-      act-stands (Alter f) h = after-stands g place line acts w room working operands (f w) (h w operands)
-      act-stands (AlterWithin f) h = after-stands g place line acts w room working operands (unrefused (f w)) (unrefused-stands (OperandStands p g acts) (λ z. tt) (f w) (h w operands))
-      act-stands (SetLine n) h = record { room = room; last = last_of g (place + 1) n acts w.operands working; operands = operands }
-      act-stands Pass h = record { room = room; last = last_of g (place + 1) line acts w.operands working; operands = operands }
-      act-stands (Branch f) h = branch-stands g place line acts w room working operands (f w) (h (operand_words w.operands) w (record { stand = operands; words = omega arith }))
-      act-stands (GoMain m) h = leave_for-stands g place line acts w room working operands (place_of p g m) g (length acts)
-      act-stands (GoLabel c) h = go_to-stands g place line acts w room working operands c
-      act-stands (GoSwitch c) h = go_through-stands g place line acts w room working operands c
-      act-stands (Call c) h = call-stands g place line acts w room working operands c
-      act-stands (Enter size) h = enter-stands size g place line acts w working
-      act-stands (Return n answers) h = come_back-stands n answers g place line acts w room working
-      act-stands EndBody h = end_body-stands g place line acts w
+    module _ (g place : ℕ) (loaded : Bool) (acts : List OrderActivation) (w : Words) (room : stack_words w.operands acts ≤ p.room) (working : ActivationsStand p g acts) (operands : All (OperandStands p g acts) w.operands) where
+      act-stands : (x : Action) → ActionStands (OperandStands p g acts) (λ z. tt) p.limits.area x → StateStands p (act p x g place loaded acts w)
+      act-stands (Perform line op) h = after-stands g place loaded acts w room working operands line (perform p.limits.area op w) (h w operands)
+      act-stands (Access op) h = after-stands g place loaded acts w room working operands 0 (unrefused (perform p.limits.area op w)) (unrefused-stands (OperandStands p g acts) (λ z. tt) (perform p.limits.area op w) (h w operands))
+      act-stands (Alter line f) h = after-stands g place loaded acts w room working operands line (f w) (h w operands)
+      act-stands (AlterWithin f) h = after-stands g place loaded acts w room working operands 0 (unrefused (f w)) (unrefused-stands (OperandStands p g acts) (λ z. tt) (f w) (h w operands))
+      act-stands Pass h = record { room = room; last = last_of g (place + 1) acts w.operands working; operands = operands }
+      act-stands (Branch f) h = branch-stands g place loaded acts w room working operands (f w) (h (operand_words w.operands) w (record { stand = operands; words = omega arith }))
+      act-stands (GoMain m) h = leave_for-stands g place loaded acts w room working operands (place_of p g m) g (length acts)
+      act-stands (GoLabel c) h = go_to-stands g place loaded acts w room working operands c
+      act-stands (GoSwitch line c) h = go_through-stands g place loaded acts w room working operands line c
+      act-stands (Call line c) h = call-stands g place loaded acts w room working operands line c
+      act-stands (Enter size) h = enter-stands size g place loaded acts w working
+      act-stands (Return n answers) h = come_back-stands n answers g place loaded acts w room working
+      act-stands EndBody h = end_body-stands g place loaded acts w
 
-      carry_out-stands : (o : Option Order) → StateStands p (carry_out p o g place line acts w)
+    module _ (g place : ℕ) (loaded : Bool) (acts : List OrderActivation) (w : Words) (room : stack_words w.operands acts ≤ p.room) (working : ActivationsStand p g acts) (operands : All (OperandStands p g acts) w.operands) where
+      carry_with-stands : (after : Option Bool) (o : Order) → StateStands p (carry_with p after o g place loaded acts w)
+      carry_with-stands None o = tt
+      carry_with-stands (Some after) o = act-stands g place after acts w room working operands (action_of p g acts o) (action-stands g acts working o)
+
+      carry_out-stands : (o : Option Order) → StateStands p (carry_out p o g place loaded acts w)
       carry_out-stands None = tt
-      carry_out-stands (Some o) = act-stands (action_of p g acts o) (action-stands g acts working o)
+      carry_out-stands (Some o) = carry_with-stands (loaded_after o loaded) o
 
-    begin_with-stands : (shallow fits : Bool) (size : ℕ) (a : OrderActivation) (g place line : ℕ) (acts : List OrderActivation) (w : Words) → nat_le (a.frame_base + size) p.limits.area ≡ fits → stack_words w.operands (a ∷ acts) ≤ p.room → Beginning p g place line a acts w.operands
-        → StateStands p (enter_with false shallow fits size a g place line acts w)
-    begin_with-stands false fits size a g place line acts w e room b = tt
-    begin_with-stands true false size a g place line acts w e room b = tt
-    begin_with-stands true true size a g place line acts w e room b =
+    begin_with-stands : (shallow fits : Bool) (size : ℕ) (a : OrderActivation) (g place : ℕ) (loaded : Bool) (acts : List OrderActivation) (w : Words) → nat_le (a.frame_base + size) p.limits.area ≡ fits → stack_words w.operands (a ∷ acts) ≤ p.room → Beginning p g place a acts w.operands
+        → StateStands p (enter_with false shallow fits size a g place loaded acts w)
+    begin_with-stands false fits size a g place loaded acts w e room b = tt
+    begin_with-stands true false size a g place loaded acts w e room b = tt
+    begin_with-stands true true size a g place loaded acts w e room b =
         let a' : OrderActivation = record a { entered = true; frame_top = a.frame_base + size } in
         let top : a.frame_base + size ≤ p.limits.area = leb-true (a.frame_base + size) p.limits.area e in
         let base : a.frame_base ≤ p.limits.area = omega arith in
@@ -536,20 +540,22 @@ module _ (p : OrderProgram) where
           operands = subst (All (OperandStands p g (a' ∷ acts))) (sym b.none) (All-nil (OperandStands p g (a' ∷ acts)));
         }
 
-    begins-stands : (g place line : ℕ) (a : OrderActivation) (acts : List OrderActivation) (w : Words) → stack_words w.operands (a ∷ acts) ≤ p.room → Beginning p g place line a acts w.operands → StateStands p (step p (at g place line (a ∷ acts) w Running))
-    begins-stands g place line a acts w room b =
-        let goes : step p (at g place line (a ∷ acts) w Running) ≡ enter_with false (nat_lt (length acts) p.limits.depth) (nat_le (a.frame_base + b.size) p.limits.area) b.size a g place line acts w =
-        ap (λ x. carry_out p x g place line (a ∷ acts) w) b.order
-        ∙ ap (λ x. enter_with x (nat_lt (length acts) p.limits.depth) (nat_le (a.frame_base + b.size) p.limits.area) b.size a g place line acts w) b.begun in
-        subst (StateStands p) (sym goes) (begin_with-stands (nat_lt (length acts) p.limits.depth) (nat_le (a.frame_base + b.size) p.limits.area) b.size a g place line acts w refl room b)
+    -- an Enter wants the accumulator free
+    begins-stands : (g place : ℕ) (loaded : Bool) (a : OrderActivation) (acts : List OrderActivation) (w : Words) → stack_words w.operands (a ∷ acts) ≤ p.room → Beginning p g place a acts w.operands → StateStands p (step p (at g place loaded (a ∷ acts) w Running))
+    begins-stands g place true a acts w room b = subst (StateStands p) (sym (ap (λ x. carry_out p x g place true (a ∷ acts) w) b.order)) tt
+    begins-stands g place false a acts w room b =
+        let goes : step p (at g place false (a ∷ acts) w Running) ≡ enter_with false (nat_lt (length acts) p.limits.depth) (nat_le (a.frame_base + b.size) p.limits.area) b.size a g place false acts w =
+        ap (λ x. carry_out p x g place false (a ∷ acts) w) b.order
+        ∙ ap (λ x. enter_with x (nat_lt (length acts) p.limits.depth) (nat_le (a.frame_base + b.size) p.limits.area) b.size a g place false acts w) b.begun in
+        subst (StateStands p) (sym goes) (begin_with-stands (nat_lt (length acts) p.limits.depth) (nat_le (a.frame_base + b.size) p.limits.area) b.size a g place false acts w refl room b)
 
     pub step-stands : (s : OrderState) → StateStands p s → StateStands p (step p s)
-    step-stands (at g place line [] w Running) h = carry_out-stands g place line [] w h.room tt h.operands (order_at p g place)
-    step-stands (at g place line (a ∷ acts) w Running) h =
+    step-stands (at g place loaded [] w Running) h = carry_out-stands g place loaded [] w h.room tt h.operands (order_at p g place)
+    step-stands (at g place loaded (a ∷ acts) w Running) h =
         ⊎_elim
-        (λ (working : ActivationsStand p g (a ∷ acts)). carry_out-stands g place line (a ∷ acts) w h.room working h.operands (order_at p g place))
-        (λ (b : Beginning p g place line a acts w.operands). begins-stands g place line a acts w h.room b)
+        (λ (working : ActivationsStand p g (a ∷ acts)). carry_out-stands g place loaded (a ∷ acts) w h.room working h.operands (order_at p g place))
+        (λ (b : Beginning p g place a acts w.operands). begins-stands g place loaded a acts w h.room b)
         h.last
-    step-stands (at g place line acts w Ended) h = tt
-    step-stands (at g place line acts w (Stopped kind s l)) h = tt
-    step-stands (at g place line acts w Stuck) h = tt
+    step-stands (at g place loaded acts w Ended) h = tt
+    step-stands (at g place loaded acts w (Stopped kind s l)) h = tt
+    step-stands (at g place loaded acts w Stuck) h = tt

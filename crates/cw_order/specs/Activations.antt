@@ -48,32 +48,31 @@ module _ (p : OrderProgram) where
       (a.entered ≡ true) × (a.frame_base ≤ p.limits.area) × (a.frame_top ≤ p.limits.area)
       × All (OperandStands a.segment acts) a.arguments × All (OperandStands a.segment acts) a.operands × ActivationsStand a.segment acts
 
-  -- A call stands before the Enter of its procedure, with no operands, at no line and with a frame of no words.
-  pub record Beginning (g place line : ℕ) (a : OrderActivation) (acts : List OrderActivation) (operands : List Operand) : Type 0 where
+  -- A call stands before the Enter of its procedure, with no operands and with a frame of no words.
+  pub record Beginning (g place : ℕ) (a : OrderActivation) (acts : List OrderActivation) (operands : List Operand) : Type 0 where
     pub begun : a.entered ≡ false
     pub size : ℕ
     pub order : order_at p g place ≡ Some (order.Enter size)
     pub none : operands ≡ []
-    pub no_line : line ≡ 0
     pub base : a.frame_base ≡ frame_end p acts
     pub top : a.frame_top ≡ frame_end p acts
     pub arguments : All (OperandStands a.segment acts) a.arguments
     pub operands_stand : All (OperandStands a.segment acts) a.operands
     pub callers : ActivationsStand a.segment acts
 
-  abbrev pub LastStands : (segment place line : ℕ) → List OrderActivation → List Operand → Type 0
-  LastStands g place line [] operands = Unit {0}
-  LastStands g place line (a ∷ acts) operands = ActivationsStand g (a ∷ acts) ⊎ Beginning g place line a acts operands
+  abbrev pub LastStands : (segment place : ℕ) → List OrderActivation → List Operand → Type 0
+  LastStands g place [] operands = Unit {0}
+  LastStands g place (a ∷ acts) operands = ActivationsStand g (a ∷ acts) ⊎ Beginning g place a acts operands
 
-  pub record Stands (g place line : ℕ) (acts : List OrderActivation) (w : Words) : Type 0 where
+  pub record Stands (g place : ℕ) (acts : List OrderActivation) (w : Words) : Type 0 where
     pub room : stack_words w.operands acts ≤ p.room
-    pub last : LastStands g place line acts w.operands
+    pub last : LastStands g place acts w.operands
     pub operands : All (OperandStands g acts) w.operands
 
   -- of a run that is over nothing is said
   abbrev pub StateStands : OrderState → Type 0
-  StateStands (at g place line acts w Running) = Stands g place line acts w
-  StateStands (at g place line acts w _) = Unit {0}
+  StateStands (at g place loaded acts w Running) = Stands g place acts w
+  StateStands (at g place loaded acts w _) = Unit {0}
 
   -- ---- programs
 

@@ -17,11 +17,14 @@ overflowing = record {
         list =
             order.Start 1
             ∷ order.Const 72
+            ∷ order.Save
             ∷ order.WriteByte
             ∷ order.Start 2
             ∷ order.Const 32767
+            ∷ order.Save
             ∷ order.Const 1
-            ∷ order.Add
+            ∷ order.Add 2
+            ∷ order.Save
             ∷ order.WriteByte
             ∷ order.NextBody
             ∷ [];
@@ -55,18 +58,20 @@ calling = record {
             ∷ order.BindFrame 0 0
             ∷ order.FrameHome 0
             ∷ order.Load
+            ∷ order.Save
             ∷ order.WriteByte
             ∷ order.Return 1 false
-            ∷ order.Line 1
             ∷ order.Const 72
-            ∷ order.CallProc 0
+            ∷ order.Save
+            ∷ order.CallProc 0 1
             ∷ order.Jump 1
             ∷ order.Const 73
+            ∷ order.Save
             ∷ order.WriteByte
             ∷ order.NextBody
             ∷ [];
-        entry = 6;
-        marks = 0 ∷ 12 ∷ [];
+        entry = 7;
+        marks = 0 ∷ 14 ∷ [];
         labels = [];
         procedures = 0 ∷ [];
         switches = [];

@@ -3,8 +3,10 @@ use Rattle.std.specs.Prelude.{◌≡◌, ℕ, ◌<◌, Some}
 use Rattle.std.specs.List.{All}
 use Rattle.cw_word.specs.FixedPoint.{FitsWord}
 use Rattle.cw_unit.specs.Words.{Operand, Word, Held, Words}
+use Rattle.cw_order.specs.declared.order.Order.{Order}
 use Rattle.cw_order.specs.declared.order.Order.TheVariants as order
 use Rattle.cw_order.specs.OrderProgram.{OrderProgram, order_at}
+use Rattle.cw_order.specs.OrderLines.{line_of}
 use Rattle.cw_order.specs.OrderState.{OrderActivation, OrderState, words_of, activations_of}
 
 abbrev pub OperandFits : Operand → Type 0
@@ -29,7 +31,6 @@ pub record StateFits (s : OrderState) : Type 0 where
 abbrev pub ConstantsFit : OrderProgram → Type 0
 ConstantsFit p = (g place w : ℕ) → order_at p g place ≡ Some (order.Const w) → w < 65536
 
--- and each line that is set
-pub record LinesFit (p : OrderProgram) : Type 0 where
-  pub within : (g place line : ℕ) → order_at p g place ≡ Some (order.Line line) → line < 65536
-  pub begun : (g place line : ℕ) → order_at p g place ≡ Some (order.Start line) → line < 65536
+-- and each line that an order names
+abbrev pub LinesFit : OrderProgram → Type 0
+LinesFit p = (g place : ℕ) (o : Order) → order_at p g place ≡ Some o → line_of o < 65536

@@ -1,6 +1,8 @@
 pub mod OrderProgram
 pub mod OrderState
 pub mod OrderChanges
+pub mod OrderLines
+pub mod Loading
 pub mod OrderActions
 pub mod OrderCosts
 pub mod OrderMachine

@@ -12,21 +12,20 @@ use Rattle.cw_order.specs.OrderProgram.{OrderProgram, defined_at}
 use Rattle.cw_order.specs.OrderState.{OrderActivation, argument_at, control_at, frame_word}
 use Rattle.cw_order.specs.OrderChanges.{index, index_sum, index_row, difference, without_top, put_address, bind, Way, ToMark, way_of_one, way_of_two, to_mark_if, to_mark_in, comparison, set_variable, add_step, put_variable, way_past_limit, mark_of_number}
 
--- Perform does an operation, and so does Access, on an address that has been tested or is that of an item. Alter changes the words,
--- and so does AlterWithin, at an address of an item. Branch goes on here or there. GoMain goes to a label of the segment's body, GoLabel
--- to a label, GoSwitch through a switch. EndBody goes on with the next segment's body
+-- Perform does an operation, which may stop at a line. Access does one that never stops, or not on an address that has been tested or is
+-- that of an item. Alter changes the words, and may stop; AlterWithin changes them and never stops. Branch goes on here or there. GoMain
+-- goes to a label of the segment's body, GoLabel to a label, GoSwitch through a switch. EndBody goes on with the next segment's body
 pub data Action : Type 0 where
-  Perform : Operation → Action
+  Perform : (line : ℕ) → Operation → Action
   Access : Operation → Action
-  Alter : (Words → Outcome) → Action
+  Alter : (line : ℕ) → (Words → Outcome) → Action
   AlterWithin : (Words → Outcome) → Action
-  SetLine : (line : ℕ) → Action
   Pass : Action
   Branch : (Words → Way) → Action
   GoMain : (mark : ℕ) → Action
   GoLabel : Option Control → Action
-  GoSwitch : Option Control → Action
-  Call : Option Control → Action
+  GoSwitch : (line : ℕ) → Option Control → Action
+  Call : (line : ℕ) → Option Control → Action
   Enter : (size : ℕ) → Action
   Return : (arguments : ℕ) → (answers : Bool) → Action
   EndBody : Action
@@ -48,38 +47,39 @@ module _ (p : OrderProgram) where
 
   abbrev pub action_of : (segment : ℕ) → List OrderActivation → Order → Action
   -- words
-  action_of g acts (order.Const w) = Perform (Constant (signed w))
-  action_of g acts (order.Home family offset) = Perform (Constant (signed (home_word p.addresses g family offset)))
-  action_of g acts (order.FrameHome n) = Alter (put_address (frame_word acts n))
+  action_of g acts order.Save = Pass
+  action_of g acts (order.Const w) = Access (Constant (signed w))
+  action_of g acts (order.Home family offset) = Access (Constant (signed (home_word p.addresses g family offset)))
+  action_of g acts (order.FrameHome n) = AlterWithin (put_address (frame_word acts n))
   action_of g acts order.Load = Access (Fetch None)
   action_of g acts order.Store = Access (Store None)
   action_of g acts (order.LoadPart t b is_signed) = Access (Fetch (Some (record { t = t; b = b; unsigned = not is_signed })))
   action_of g acts (order.StorePart t b) = Access (StoreBits t b)
-  action_of g acts (order.Rescale from to) = Perform (Rescale from to)
-  action_of g acts order.Add = Perform Add
-  action_of g acts order.Sub = Perform Subtract
-  action_of g acts order.Neg = Perform Negate
-  action_of g acts (order.Mul s) = Perform (Multiply s)
-  action_of g acts (order.Div s) = Perform (Divide s)
-  action_of g acts order.And = Perform (Combine logic.Mask)
-  action_of g acts order.Or = Perform (Combine logic.Union)
-  action_of g acts order.Xor = Perform (Combine logic.Differ)
-  action_of g acts (order.Take t b) = Perform (Extract t b)
-  action_of g acts order.Less = Alter difference
-  action_of g acts order.Drop = Alter without_top
-  action_of g acts order.ReadByte = Perform ReadByte
-  action_of g acts order.WriteByte = Perform WriteByte
+  action_of g acts (order.Rescale from to line) = Perform line (Rescale from to)
+  action_of g acts (order.Add line) = Perform line Add
+  action_of g acts (order.Sub line) = Perform line Subtract
+  action_of g acts (order.Neg line) = Perform line Negate
+  action_of g acts (order.Mul s line) = Perform line (Multiply s)
+  action_of g acts (order.Div s line) = Perform line (Divide s)
+  action_of g acts order.And = Access (Combine logic.Mask)
+  action_of g acts order.Or = Access (Combine logic.Union)
+  action_of g acts order.Xor = Access (Combine logic.Differ)
+  action_of g acts (order.Take t b) = Access (Extract t b)
+  action_of g acts order.Less = AlterWithin difference
+  action_of g acts order.Drop = AlterWithin without_top
+  action_of g acts order.ReadByte = Access ReadByte
+  action_of g acts order.WriteByte = Access WriteByte
   -- addresses
-  action_of g acts (order.IndexLess lower) = Alter (index (λ i. i -ℤ lower))
-  action_of g acts (order.IndexTimes n) = Alter (index (λ i. i *ℤ pos n))
-  action_of g acts (order.IndexPlus n) = Alter (index (λ i. i +ℤ pos n))
-  action_of g acts order.IndexAdd = Alter index_sum
-  action_of g acts (order.IndexRow lower width) = Alter (index_row lower width)
-  action_of g acts order.InArea = Perform (Form Taken)
-  action_of g acts (order.InBounds lower upper) = Perform (InBounds lower upper)
-  action_of g acts order.SetVariable = Alter (set_variable p.limits.area)
-  action_of g acts order.AddStep = Alter (add_step p.limits.area)
-  action_of g acts order.PutVariable = Alter (put_variable p.limits.area)
+  action_of g acts (order.IndexLess lower line) = Alter line (index (λ i. i -ℤ lower))
+  action_of g acts (order.IndexTimes n line) = Alter line (index (λ i. i *ℤ pos n))
+  action_of g acts (order.IndexPlus n line) = Alter line (index (λ i. i +ℤ pos n))
+  action_of g acts (order.IndexAdd line) = Alter line index_sum
+  action_of g acts (order.IndexRow lower width line) = Alter line (index_row lower width)
+  action_of g acts (order.InArea line) = Perform line (Form Taken)
+  action_of g acts (order.InBounds lower upper line) = Perform line (InBounds lower upper)
+  action_of g acts (order.SetVariable line) = Alter line (set_variable p.limits.area)
+  action_of g acts (order.AddStep line) = Alter line (add_step p.limits.area)
+  action_of g acts (order.PutVariable line) = Alter line (put_variable p.limits.area)
   -- ways within a body
   action_of g acts (order.Jump m) = Branch (ToMark m)
   action_of g acts (order.JumpIf c m) = Branch (way_of_two (λ x y v. to_mark_if (holds (comparison c) x y) m v))
@@ -87,28 +87,27 @@ module _ (p : OrderProgram) where
       Branch (way_of_two (λ x a v. way_past_limit (is_below a (p.limits.area - 2)) m x (number_of a) v))
   action_of g acts (order.LoopWay marks) = Branch (λ w. way_of_one (λ i v. to_mark_in (mark_of_number marks i) v) w.operands w)
   action_of g acts order.Mark = Pass
-  action_of g acts (order.Line n) = SetLine n
-  action_of g acts (order.Start n) = SetLine n
+  action_of g acts (order.Start n) = Pass
   action_of g acts order.NextBody = EndBody
   -- control arguments
-  action_of g acts (order.LabelOut l) = Alter (held (Some (LabelControl g l (length acts))))
-  action_of g acts (order.LabelCommon d) = Alter (held (common_label g (length acts) d))
-  action_of g acts (order.SwitchOut n) = Alter (held (Some (SwitchControl g n (length acts))))
-  action_of g acts (order.SwitchCommon d) = Alter (held (common_switch g (length acts) d))
-  action_of g acts (order.ProcOut q) = Alter (held (Some (ProcedureControl g q)))
-  action_of g acts (order.ProcCommon d) = Alter (held (common_procedure g d))
-  action_of g acts (order.SpecialOut k) = Alter (held (control_at acts k))
+  action_of g acts (order.LabelOut l) = AlterWithin (held (Some (LabelControl g l (length acts))))
+  action_of g acts (order.LabelCommon d) = AlterWithin (held (common_label g (length acts) d))
+  action_of g acts (order.SwitchOut n) = AlterWithin (held (Some (SwitchControl g n (length acts))))
+  action_of g acts (order.SwitchCommon d) = AlterWithin (held (common_switch g (length acts) d))
+  action_of g acts (order.ProcOut q) = AlterWithin (held (Some (ProcedureControl g q)))
+  action_of g acts (order.ProcCommon d) = AlterWithin (held (common_procedure g d))
+  action_of g acts (order.SpecialOut k) = AlterWithin (held (control_at acts k))
   -- jumps
   action_of g acts (order.GoMain m) = GoMain m
   action_of g acts (order.GoCommon d) = GoLabel (common_label g (length acts) d)
   action_of g acts (order.GoSpecial k) = GoLabel (control_at acts k)
-  action_of g acts (order.GoSwitch n) = GoSwitch (Some (SwitchControl g n (length acts)))
-  action_of g acts (order.GoSwitchCommon d) = GoSwitch (common_switch g (length acts) d)
-  action_of g acts (order.GoSwitchSpecial k) = GoSwitch (control_at acts k)
+  action_of g acts (order.GoSwitch n line) = GoSwitch line (Some (SwitchControl g n (length acts)))
+  action_of g acts (order.GoSwitchCommon d line) = GoSwitch line (common_switch g (length acts) d)
+  action_of g acts (order.GoSwitchSpecial k line) = GoSwitch line (control_at acts k)
   -- calls
-  action_of g acts (order.CallProc q) = Call (Some (ProcedureControl g q))
-  action_of g acts (order.CallCommon d) = Call (common_procedure g d)
-  action_of g acts (order.CallSpecial k) = Call (control_at acts k)
+  action_of g acts (order.CallProc q line) = Call line (Some (ProcedureControl g q))
+  action_of g acts (order.CallCommon d line) = Call line (common_procedure g d)
+  action_of g acts (order.CallSpecial k line) = Call line (control_at acts k)
   action_of g acts (order.Enter size) = Enter size
   action_of g acts (order.Bind k family offset) =
       AlterWithin (bind p.limits.area (argument_at acts k) (Some (home_word p.addresses g family offset)))

@@ -1,14 +1,16 @@
--- How many instructions the code of an order takes at most, with those of a stop or an end (docs/CODE.md). A stop takes 11, the call of the
+-- How many instructions the code of an order takes at most, with those of a stop or an end (docs/CODE.md). A stop takes 13, the call of the
 -- library's among them. Some are bounds above what the code takes now: the orders of one step of the source may take 224 in all. The
--- dearest steps, with items in frames: the entry of a procedure with 32 word parameters, 172 (CallSpecial 16, Enter 28, 32 of BindFrame 4);
--- a product or a quotient, 120; an element of an array of two dimensions, 84 (IndexLess 16, IndexRow 32, FrameHome 4, IndexAdd 16, InArea
--- 16); that of a table, 76 (IndexTimes 18, IndexPlus 18, FrameHome, Load, IndexAdd, InArea); a word at another scale, 64; an element of an
--- array of one dimension, 52; a jump through a switch, 48; the test of a FOR's variable, 46 (FrameHome, PutVariable 22, Exhausted 20).
+-- dearest steps, with items in frames: the entry of a procedure with 32 word parameters, 174 (CallSpecial 16, Enter 30, 32 of BindFrame 4);
+-- a product or a quotient, 120; an element of an array of two dimensions, 93 (IndexLess 18, IndexRow 34, Save, FrameHome 4, IndexAdd 18,
+-- InArea 18); that of a table, 85 (IndexTimes 20, IndexPlus 20, Save, FrameHome, Load, IndexAdd, InArea); a word at another scale, 64; an
+-- element of an array of one dimension, 59; a jump through a switch, 50; the test of a FOR's variable, 48 (FrameHome, PutVariable 24,
+-- Exhausted 20).
 use Rattle.std.specs.Prelude.{ℕ, Option, Some, None}
 use Rattle.cw_order.specs.declared.order.Order.{Order}
 use Rattle.cw_order.specs.declared.order.Order.TheVariants as order
 
 abbrev pub weight_of : Order → ℕ
+weight_of order.Save = 1
 -- words
 weight_of (order.Const w) = 2
 weight_of (order.Home family offset) = 2
@@ -20,14 +22,14 @@ weight_of order.Store = 5
 weight_of (order.LoadPart t b is_signed) = 16
 -- the old word and the new one masked
 weight_of (order.StorePart t b) = 20
--- up to 15 shifts, each tested
-weight_of (order.Rescale from to) = 64
-weight_of order.Add = 15
-weight_of order.Sub = 15
-weight_of order.Neg = 14
--- up to 30 shifts of a pair of words
-weight_of (order.Mul s) = 120
-weight_of (order.Div s) = 120
+-- a product with a power of two, tested, or a shift
+weight_of (order.Rescale from to line) = 64
+weight_of (order.Add line) = 17
+weight_of (order.Sub line) = 17
+weight_of (order.Neg line) = 16
+-- a routine of the library shifts a pair of words, and its answer is tested
+weight_of (order.Mul s line) = 120
+weight_of (order.Div s line) = 120
 weight_of order.And = 4
 weight_of order.Or = 4
 weight_of order.Xor = 4
@@ -38,30 +40,29 @@ weight_of order.Drop = 1
 weight_of order.ReadByte = 12
 weight_of order.WriteByte = 2
 -- addresses: as sums
-weight_of (order.IndexLess lower) = 16
-weight_of (order.IndexTimes n) = 18
-weight_of (order.IndexPlus n) = 18
-weight_of order.IndexAdd = 16
+weight_of (order.IndexLess lower line) = 18
+weight_of (order.IndexTimes n line) = 20
+weight_of (order.IndexPlus n line) = 20
+weight_of (order.IndexAdd line) = 18
 -- three tests
-weight_of (order.IndexRow lower width) = 32
-weight_of order.InArea = 16
+weight_of (order.IndexRow lower width line) = 34
+weight_of (order.InArea line) = 18
 -- two comparisons
-weight_of (order.InBounds lower upper) = 18
+weight_of (order.InBounds lower upper line) = 20
 -- ways within a body
 weight_of (order.Jump m) = 1
--- two pops, a comparison, a short jump over a near one
+-- a pop, a comparison, a short jump over a near one
 weight_of (order.JumpIf c m) = 7
 -- the step's sign is tested, and then the limit
 weight_of (order.Exhausted m) = 20
 -- the address of the control variable is tested
-weight_of order.SetVariable = 22
-weight_of order.PutVariable = 22
+weight_of (order.SetVariable line) = 24
+weight_of (order.PutVariable line) = 24
 -- and the sum
-weight_of order.AddStep = 28
+weight_of (order.AddStep line) = 30
 -- the number is tested, and the way found in a table
 weight_of (order.LoopWay marks) = 12
 weight_of order.Mark = 0
-weight_of (order.Line n) = 1
 weight_of (order.Start n) = 1
 weight_of order.NextBody = 22
 -- control arguments: a place and a record
@@ -77,15 +78,15 @@ weight_of (order.GoMain m) = 16
 weight_of (order.GoCommon d) = 16
 weight_of (order.GoSpecial k) = 16
 -- the index is tested, and the label found in a table
-weight_of (order.GoSwitch n) = 48
-weight_of (order.GoSwitchCommon d) = 48
-weight_of (order.GoSwitchSpecial k) = 48
+weight_of (order.GoSwitch n line) = 50
+weight_of (order.GoSwitchCommon d line) = 50
+weight_of (order.GoSwitchSpecial k line) = 50
 -- calls
-weight_of (order.CallProc q) = 12
-weight_of (order.CallCommon d) = 12
-weight_of (order.CallSpecial k) = 16
+weight_of (order.CallProc q line) = 12
+weight_of (order.CallCommon d line) = 12
+weight_of (order.CallSpecial k line) = 16
 -- two tests, and the record's words
-weight_of (order.Enter size) = 28
+weight_of (order.Enter size) = 30
 weight_of (order.Bind k family offset) = 3
 -- the frame's base comes from the record
 weight_of (order.BindFrame k offset) = 4

@@ -4,7 +4,7 @@ use Rattle.cw_unit.specs.Stop.{End}
 use Rattle.cw_unit.specs.Words.{Control, Operand, Word, Held, Words}
 use Rattle.cw_order.specs.OrderProgram.{OrderProgram}
 
--- A call at work: the caller's segment, the place behind the call, the caller's line and its operands without the arguments, the
+-- A call at work: the caller's segment, the place behind the call, the line of the call, the caller's operands without the arguments, the
 -- arguments, last first as they stand on the stack, whether Enter has begun it, and where its frame begins and ends. Before Enter the
 -- frame has no words.
 pub record OrderActivation : Type 0 where
@@ -17,17 +17,18 @@ pub record OrderActivation : Type 0 where
   pub frame_base : ℕ
   pub frame_top : ℕ
 
--- The segment whose orders are carried out, the place in their list, the line that a stop tells, the activations, last first, the
--- words, and how the run stands. Stuck is for what cannot come: no order, a number that names nothing, an operand or an argument that
--- is missing or of the wrong sort, an address outside the data area where no test has failed, more words than the control stack has.
+-- The segment whose orders are carried out, the place in their list, whether the top operand is in the accumulator, the activations,
+-- last first, the words, and how the run stands. Stuck is for what cannot come: no order, one that wants the accumulator the other way,
+-- a number that names nothing, an operand or an argument that is missing or of the wrong sort, an address outside the data area where
+-- no test has failed, more words than the control stack has.
 pub data OrderState : Type 0 where
-  at : (segment place line : ℕ) → List OrderActivation → Words → End → OrderState
+  at : (segment place : ℕ) → (loaded : Bool) → List OrderActivation → Words → End → OrderState
 
 abbrev pub words_of : OrderState → Words
-words_of (at g place line acts w e) = w
+words_of (at g place loaded acts w e) = w
 
 abbrev pub activations_of : OrderState → List OrderActivation
-activations_of (at g place line acts w e) = acts
+activations_of (at g place loaded acts w e) = acts
 
 -- ---- the control stack
 
@@ -39,7 +40,7 @@ operand_words (Held c ∷ rest) = 2 + operand_words rest
 
 -- those of an activation's record (docs/CODE.md)
 abbrev pub record_words : ℕ
-record_words = 8
+record_words = 6
 
 -- all words of the control stack, less the record of the segment's body
 abbrev pub stack_words : List Operand → List OrderActivation → ℕ

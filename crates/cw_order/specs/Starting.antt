@@ -13,5 +13,5 @@ started_by (Some (order.Start line)) g w = (g + 1, line, w.memory) ∷ []
 started_by _ g w = []
 
 abbrev pub starts : OrderProgram → OrderState → List Begun
-starts p (at g place line acts w Running) = started_by (order_at p g place) g w
+starts p (at g place loaded acts w Running) = started_by (order_at p g place) g w
 starts p _ = []

@@ -13,10 +13,10 @@ ghost use Rattle.cw_order.specs.Example.{overflowing, overflowing_start, overflo
 /// A procedure gets its argument, and comes back behind its call.
 pub fn runs()
     ensures over { (p : OrderProgram) (s : OrderState) (k : ℕ) → (shown s).end ≢ Running → state_after (order_machine p) k s ≡ s }
-    ensures stops { shown_after (order_machine overflowing) 7 overflowing_start ≡ overflowing_shows }
-    ensures costs { cost (order_machine overflowing) 7 overflowing_start ≡ 25 }
-    ensures returns { shown_after (order_machine calling) 11 calling_start ≡ calling_shows }
-    ensures returning_costs { cost (order_machine calling) 11 calling_start ≡ 92 }
+    ensures stops { shown_after (order_machine overflowing) 9 overflowing_start ≡ overflowing_shows }
+    ensures costs { cost (order_machine overflowing) 9 overflowing_start ≡ 29 }
+    ensures returns { shown_after (order_machine calling) 12 calling_start ≡ calling_shows }
+    ensures returning_costs { cost (order_machine calling) 12 calling_start ≡ 95 }
 {}
 
 /// All operands, those of callers and arguments too, and all words of memory fit a word, in each state of a run that begins

@@ -4,6 +4,10 @@
 //! words. An address counts words from 0. Descriptors, labels, switches and procedures are named by their numbers in the
 //! unit. A parameter is named by how many words of arguments follow its own on the stack, where a label, switch or
 //! procedure takes two: so its place is known where it is used. Marks number the code labels of the unit.
+//!
+//! The top operand is in the accumulator, or all operands are on the stack and the accumulator is free. An order that puts
+//! a word wants it free and loads it, one that takes the last word frees it, and `Save` frees it for the next operand.
+//! Arguments are put on the stack. An order that can stop, and one that calls, names the line that the stop tells.
 use cw_unit::unit::Goal;
 use cw_word::List;
 
@@ -22,6 +26,8 @@ pub enum Comparator {
 /// is said of them.
 #[derive(Drop)]
 pub enum Order {
+    /// Puts the accumulator on the stack. The operands stay as they are.
+    Save,
     /// Puts a word.
     Const(u16),
     /// Puts the address of a word of a storage family.
@@ -50,18 +56,25 @@ pub enum Order {
     Rescale {
         from: u8,
         to: u8,
+        line: u16,
     },
     /// Takes two words and puts their sum; stops with Overflow where it does not fit.
-    Add,
+    Add(u16),
     /// Takes two words and puts the lower less the top one; stops with Overflow where it does not fit.
-    Sub,
+    Sub(u16),
     /// Takes a word and puts its negative; stops with Overflow where it does not fit.
-    Neg,
-    /// Takes two words and puts their product times 2^s, rounded down; stops with Overflow where it does not fit.
-    Mul(i8),
-    /// Takes two words and puts the lower times 2^s over the top one, rounded toward zero; stops with ZeroDivisor at 0,
+    Neg(u16),
+    /// Takes two words and puts their product times 2^`power`, rounded down; stops with Overflow where it does not fit.
+    Mul {
+        power: i8,
+        line: u16,
+    },
+    /// Takes two words and puts the lower times 2^`power` over the top one, rounded toward zero; stops with ZeroDivisor at 0,
     /// and with Overflow where the quotient does not fit.
-    Div(i8),
+    Div {
+        power: i8,
+        line: u16,
+    },
     /// Takes two words and puts the bits that both have.
     And,
     /// Takes two words and puts the bits that either has.
@@ -74,25 +87,36 @@ pub enum Order {
         b: u8,
     },
     /// Takes an index and puts it less the lower bound; stops with Address where that does not fit.
-    IndexLess(i16),
+    IndexLess {
+        lower: i16,
+        line: u16,
+    },
     /// Takes an index and puts it times the length of a row or an entry; stops with Address where that does not fit.
-    IndexTimes(u16),
+    IndexTimes {
+        length: u16,
+        line: u16,
+    },
     /// Takes an index and puts it with the number added; stops with Address where that does not fit.
-    IndexPlus(u16),
+    IndexPlus {
+        word: u16,
+        line: u16,
+    },
     /// Takes two indexes and puts their sum; stops with Address where that does not fit.
-    IndexAdd,
+    IndexAdd(u16),
     /// Takes an index, then the index of a row below it, and puts the latter less the lower bound, times the length of a
     /// row, plus the former; stops with Address where one of these does not fit.
     IndexRow {
         lower: i16,
         length: u16,
+        line: u16,
     },
     /// Stops with Address where the top operand is no address of the data area.
-    InArea,
+    InArea(u16),
     /// Stops with Bounds where the top operand is below one number or above the other.
     InBounds {
         lower: i16,
         upper: i16,
+        line: u16,
     },
     /// Takes two words and puts the lower less the top one, modulo 65,536.
     Less,
@@ -110,13 +134,13 @@ pub enum Order {
     Exhausted(u32),
     /// Takes the address of a loop's words, then the word below it, and stores that word in the loop's control variable,
     /// whose address is word 0 of the loop; stops with Address where that is no address of the data area.
-    SetVariable,
+    SetVariable(u16),
     /// Takes the address of a loop's words and adds the step, word 1 of the loop, to the control variable; stops with
     /// Address as `SetVariable` does, and then with Overflow where the sum does not fit.
-    AddStep,
+    AddStep(u16),
     /// Puts the value of the control variable below the address of a loop's words, which stays on top; stops with Address
     /// as `SetVariable` does.
-    PutVariable,
+    PutVariable(u16),
     /// Takes the number of a loop's element, from 1, and goes on at the mark of that number; further on where it has
     /// none.
     LoopWay(List<u32>),
@@ -140,23 +164,41 @@ pub enum Order {
     /// label that stands in no procedure has no owner, and all are dropped.
     GoSpecial(u8),
     /// Takes an index, from 1, and jumps to that label of a switch of this unit; stops with Switch where it has none.
-    GoSwitch(u32),
+    GoSwitch {
+        switch: u32,
+        line: u16,
+    },
     /// The same with the switch of a descriptor.
-    GoSwitchCommon(u16),
+    GoSwitchCommon {
+        descriptor: u16,
+        line: u16,
+    },
     /// The same with a switch parameter.
-    GoSwitchSpecial(u8),
+    GoSwitchSpecial {
+        place: u8,
+        line: u16,
+    },
     /// Drops all activations and all operands, and goes on at the mark of a label of the segment's body.
     GoMain(u32),
     /// Jumps to the label of a descriptor.
     GoCommon(u16),
-    /// Calls a procedure of this unit, with the arguments on the stack.
-    CallProc(u16),
+    /// Calls a procedure of this unit, with the arguments on the stack. The accumulator is loaded with the answer.
+    CallProc {
+        procedure: u16,
+        line: u16,
+    },
     /// Calls the procedure of a descriptor.
-    CallCommon(u16),
+    CallCommon {
+        descriptor: u16,
+        line: u16,
+    },
     /// Calls a procedure parameter.
-    CallSpecial(u8),
-    /// Begins the activation of the call, with a frame of so many words; stops with Depth or Frames, at the caller's line,
-    /// where there is no room.
+    CallSpecial {
+        place: u8,
+        line: u16,
+    },
+    /// Begins the activation of the call, with a frame of so many words; stops with Depth or Frames, at the line of
+    /// the call, where there is no room.
     Enter(u16),
     /// Stores a word argument in a word of a storage family.
     Bind {
@@ -176,11 +218,9 @@ pub enum Order {
     },
     /// Puts the next byte of the input, or -1 where there is none.
     ReadByte,
-    /// Takes a word and writes its low byte to the output.
+    /// Takes a word from the stack, as a call takes an argument, and writes its low byte to the output.
     WriteByte,
-    /// Sets the line that a stop tells, within a statement.
-    Line(u16),
-    /// Begins a statement of this line, which it sets as `Line` does: the place where that statement begins.
+    /// The place where a statement of this line begins. Does nothing.
     Start(u16),
     /// Goes on with the body of the next segment; where there is none, the program ends.
     NextBody,

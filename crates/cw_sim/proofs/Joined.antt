@@ -89,11 +89,11 @@ module _ (given : Given) (us : List SourceUnit) (m : Map) (limits : Limits) (inp
       given.lower q loaded.image loaded.words (initial_memory us m limits.area) input s (statement_places q) loaded.is_image
       (given.places q loaded.image loaded.is_image loaded.codable) loaded.codable loaded.begins orders_never_stuck loaded.starts loaded.bytes
 
-  whole : TracksAfter (λ o. is_running o.0) 20 A (initial_configuration p input, []) C (first, [])
-  whole = tracks_through (λ o. is_running o.0) A B C 0 20 20 _ _ _ refl upper lower
+  whole : TracksAfter (λ o. is_running o.0) startup_cost A (initial_configuration p input, []) C (first, [])
+  whole = tracks_through (λ o. is_running o.0) A B C 0 startup_cost startup_cost _ _ _ refl upper lower
 
   pace : KeepsPace (λ o. is_running o.0) 256 A (initial_configuration p input, []) C (first, [])
-  pace = keeps_budget (λ o. is_running o.0) A C 20 (let l : 20 ≤ 32 = omega arith in l) (λ c. let l : 224 ≤ 224 = omega arith in l) (λ c. let l : 1 ≤ 1 = omega arith in l) _ _ whole
+  pace = keeps_budget (λ o. is_running o.0) A C startup_cost (let l : startup_cost ≤ 32 = omega arith in l) (λ c. let l : 224 ≤ 224 = omega arith in l) (λ c. let l : 1 ≤ 1 = omega arith in l) _ _ whole
 
   shows_then : (k n : ℕ) → shown_after C k (first, []) ≡ shown_after A n (initial_configuration p input, []) → ShowsAs (observed (processor_after k first)) (meant p input n)
   shows_then k n e = shows_as _ _ (sym (shown_image k) ∙ (ap (λ x. x.0) e ∙ shown_source n)) (given.sound p input n loaded.well_formed)

@@ -14,13 +14,13 @@ use Rattle.cw_unit.specs.declared.unit.Arg.TheOpen as layer
 use Rattle.cw_unit.specs.declared.unit.Arg.TheOpen.{Arg-F, Cond-F, Spot-F, Ref-F}
 use Rattle.cw_unit.specs.Scales.{answer_scale}
 use Rattle.cw_gen_expr.specs.Pieces.{Piece, plain, followed_by, sequence, with_end}
-use Rattle.cw_gen_expr.specs.ReferenceExpressions.{Scope, ConditionPiece, Reference, control_place, item_order, table_orders, bounds_orders, load_orders, rescale_orders, logic_order, narrow, number_order, comparator_for, pick_mark, choice_piece, call_order, label_order, value_of, condition_piece, argument_piece, reference_of, expression_piece}
+use Rattle.cw_gen_expr.specs.ReferenceExpressions.{Scope, ConditionPiece, Reference, saved, two_values, control_place, item_order, table_orders, bounds_orders, load_orders, rescale_orders, logic_order, narrow, number_order, comparator_for, pick_mark, choice_piece, call_order, label_order, value_of, condition_piece, argument_piece, reference_of, expression_piece}
 use Rattle.cw_gen_expr.proofs.Layers.{value_layer, value-made, spot-made, reference-made, condition-made, argument-made, total, expression_size, expression-size, expression_size_layer, argument_size, argument-size, argument_size_layer, spot-size, spot_size_layer, reference_size, reference-size, condition_size, condition-size, condition_size_layer}
 use Rattle.cw_gen_expr.proofs.Layers as made
 use Rattle.cw_tokens.specs.LeastTokens.{separated, part, expression_tokens, argument_tokens, condition_tokens, reference_tokens}
 use Rattle.cw_tmpl.specs.Templates.{listed_size, listed_sizes}
 use Rattle.cw_size.proofs.Short.{sizes-append, first_short, Short, plainly, both_short, ended_short, eased}
-use Rattle.cw_size.proofs.OrderSizes.{item-first, item-load, table-short, bounds-short, rescale-short, times-short, logic-short, product-short, call-short, label-short}
+use Rattle.cw_size.proofs.OrderSizes.{item-first, item-load, saved-first, table-short, bounds-short, rescale-short, rescale-whole, rescale-same, times-short, logic-short, product-short, call-short, label-short}
 use Rattle.cw_size.proofs.TokenLayers.{expression_layer, expression-tokens, argument_layer, argument-tokens, condition_layer, condition-tokens, spot_layer, spot-tokens, reference-tokens, separated-within}
 
 pub choice_short : {m k n : ℕ} {i j : ℕ} (c : ConditionPiece) (a b : Piece) → ((when : Bool) (mark : ℕ) → Short (c when mark) 0 m) → Short a i k → Short b j n → Short (choice_piece c a b) (i + j) (m + k + n + 3)
@@ -36,63 +36,97 @@ choice_short {m = m} {k = k} {n = n} {i = i} {j = j} c a b hc ha hb =
 -- ---- trees
 
 -- What of 32 bytes for each token of an address is left, by what it reads or writes of its word. The load of a part has ten bytes more than
--- that of a word, and so needs nine of them more: a value may have three beside those of its tokens.
+-- that of a word. A value may have five beside those of its tokens, and 14 of them where it is at a scale that needs no rescaling.
 abbrev pub spared : Option Field → ℕ
-spared None = 16
-spared (Some s) = 25
+spared None = 14
+spared (Some s) = 24
 
-most-spared : (o : Option Field) → spared o ≤ 25
+most-spared : (o : Option Field) → spared o ≤ 24
 most-spared None = omega arith
 most-spared (Some s) = omega arith
 
-least-spared : (o : Option Field) → 16 ≤ spared o
+least-spared : (o : Option Field) → 14 ≤ spared o
 least-spared None = omega arith
 least-spared (Some s) = omega arith
 
 -- the address of a LOCATION parameter's item leaves as many of 32 bytes for its one token, and two indexes of 128 for the four beside them
-through-spared : (o : Option Field) → 16 + spared o ≤ 32 * (1 + part o)
+through-spared : (o : Option Field) → 18 + spared o ≤ 32 * (1 + part o)
 through-spared None = omega arith
 through-spared (Some s) = omega arith
 
-two-spared : (o : Option Field) → 109 + spared o ≤ 32 * (4 + part o)
+two-spared : (o : Option Field) → 114 + spared o ≤ 32 * (4 + part o)
 two-spared None = omega arith
 two-spared (Some s) = omega arith
 
 loads : (o : Option Field) → listed_sizes (load_orders o) + 9 ≤ spared o
-loads None = let z : 6 + 0 + 9 ≤ 16 = omega arith in z
-loads (Some s) = let z : 16 + 0 + 9 ≤ 25 = omega arith in z
+loads None = let z : 5 + 0 + 9 ≤ 14 = omega arith in z
+loads (Some s) = let z : 15 + 0 + 9 ≤ 24 = omega arith in z
 
 module _ (s : Scope) where
+  -- the rescaling from a scale to another, and so much to spare, have at most 14 bytes
+  abbrev Rescaled : (from to spare : ℕ) → Type 0
+  Rescaled from to spare = listed_sizes (rescale_orders s.line from to) + spare ≤ 14
+
   record Below (n : ℕ) : Type 0 where
-    values : (d : Expr) → expression_size d < n → (f : ℕ) → Short (expression_piece s d f) 0 (32 * expression_tokens d + 3)
+    values : (d : Expr) → expression_size d < n → (f spare : ℕ) → Rescaled (value_of s d).operand f spare → Short (expression_piece s d f) spare (32 * expression_tokens d + 5)
     conditions : (d : Cond) → condition_size d < n → (when : Bool) (mark : ℕ) → Short (condition_piece s d when mark) 0 (32 * condition_tokens d)
-    arguments : (d : Arg) → argument_size d < n → Short (argument_piece s d) 0 (32 * argument_tokens d + 3)
+    arguments : (d : Arg) → argument_size d < n → Short (argument_piece s d) 0 (32 * argument_tokens d + 6)
     references : (d : Ref) → reference_size d < n → Short (reference_of s d).address (spared (reference_of s d).field) (32 * reference_tokens d)
 
+  pub saved_short : Short saved 0 1
+  saved_short = plainly (order.Save ∷ []) 1 (let z : 1 + 0 ≤ 1 = omega arith in z)
+
   module _ (n : ℕ) (b : Below n) where
-    bounded : (e : Expr) (l u : ℤ) → expression_size e < n → Short (followed_by (expression_piece s e 0) (plain (bounds_orders s.unit.bounds l u))) 0 (32 * expression_tokens e + 23)
+    -- at whatever scale, at scale 0, and at its own
+    at-scale : (d : Expr) → expression_size d < n → (f : ℕ) → Short (expression_piece s d f) 0 (32 * expression_tokens d + 5)
+    at-scale d lt f =
+        let from = (value_of s d).operand in
+        let h = rescale-short s.line from f in
+        b.values d lt f 0 (let z : listed_sizes (rescale_orders s.line from f) + 0 ≤ 14 = omega (arith, h) in z)
+
+    at-zero : (d : Expr) → expression_size d < n → Short (expression_piece s d 0) 9 (32 * expression_tokens d + 5)
+    at-zero d lt =
+        let from = (value_of s d).operand in
+        let h = rescale-whole s.line from in
+        b.values d lt 0 9 (let z : listed_sizes (rescale_orders s.line from 0) + 9 ≤ 14 = omega (arith, h) in z)
+
+    at-operand : (d : Expr) → expression_size d < n → Short (expression_piece s d (value_of s d).operand) 14 (32 * expression_tokens d + 5)
+    at-operand d lt =
+        let f = (value_of s d).operand in
+        let h = rescale-same s.line f in
+        b.values d lt f 14 (let z : listed_sizes (rescale_orders s.line f f) + 14 ≤ 14 = omega (arith, h) in z)
+
+    bounded : (e : Expr) (l u : ℤ) → expression_size e < n → Short (followed_by (expression_piece s e 0) (plain (bounds_orders s.unit.bounds s.line l u))) 9 (32 * expression_tokens e + 25)
     bounded e l u lt =
-        eased (both_short (b.values e lt 0) (plainly (bounds_orders s.unit.bounds l u) 20 (bounds-short s.unit.bounds l u)))
-        (let z : 32 * expression_tokens e + 3 + 20 + 0 ≤ 32 * expression_tokens e + 23 + (0 + 0) = omega arith in z)
+        eased (both_short (at-zero e lt) (plainly (bounds_orders s.unit.bounds s.line l u) 20 (bounds-short s.unit.bounds s.line l u)))
+        (let z : 32 * expression_tokens e + 5 + 20 + 9 ≤ 32 * expression_tokens e + 25 + (9 + 0) = omega arith in z)
 
     -- indexes, and the orders that make an address of them
-    indexed : {p : Piece} (m k left most : ℕ) (os : List Order) → Short p 0 m → listed_sizes os ≤ k → m + k + left ≤ most → Short (followed_by p (plain os)) left most
-    indexed m k left most os h le z =
-        eased (both_short h (plainly os k le)) (let y : m + k + left ≤ most + (0 + 0) = omega (arith, z) in y)
+    indexed : {p : Piece} (l m k left most : ℕ) (os : List Order) → Short p l m → listed_sizes os ≤ k → m + k + left ≤ most + l → Short (followed_by p (plain os)) left most
+    indexed l m k left most os h le z =
+        eased (both_short h (plainly os k le)) (let y : m + k + left ≤ most + (l + 0) = omega (arith, z) in y)
 
     -- an address of no index
     direct : (left most : ℕ) (os : List Order) → listed_sizes os + left ≤ most → Short (followed_by (plain []) (plain os)) left most
     direct left most os h = record { at = λ place next. h }
 
+    -- the sum with the index that is saved
+    added : listed_sizes (order.IndexAdd s.line ∷ order.InArea s.line ∷ []) ≤ 19
+    added = let z : 10 + (9 + 0) ≤ 19 = omega arith in z
+
+    saved-item : (i : ℕ) → listed_sizes (order.Save ∷ item_order s.layout i 0 ∷ order.IndexAdd s.line ∷ order.InArea s.line ∷ []) ≤ 26
+    saved-item i =
+        saved-first (item_order s.layout i 0 ∷ order.IndexAdd s.line ∷ order.InArea s.line ∷ []) 25
+        (item-first s.layout i 0 (order.IndexAdd s.line ∷ order.InArea s.line ∷ []) 19 added)
+
     -- behind the index of a table
-    based : (t : Bool) (i : ℕ) → listed_sizes (table_orders s.layout t i ++ order.IndexAdd ∷ order.InArea ∷ []) ≤ 24
+    based : (t : Bool) (i : ℕ) → listed_sizes (order.Save ∷ (table_orders s.layout t i ++ order.IndexAdd s.line ∷ order.InArea s.line ∷ [])) ≤ 29
     based t i =
-        let rest : List Order = order.IndexAdd ∷ order.InArea ∷ [] in
+        let rest : List Order = order.IndexAdd s.line ∷ order.InArea s.line ∷ [] in
         let table = table-short s.layout t i in
         let all = sizes-append (table_orders s.layout t i) rest in
-        let two : listed_sizes rest ≤ 14 = (let z : 8 + (6 + 0) ≤ 14 = omega arith in z) in
-        let z : listed_sizes (table_orders s.layout t i ++ rest) ≤ 24 = omega (arith, table, all, two) in
-        z
+        let two : listed_sizes rest ≤ 19 = added in
+        saved-first (table_orders s.layout t i ++ rest) 28 (let z : listed_sizes (table_orders s.layout t i ++ rest) ≤ 28 = omega (arith, table, all, two) in z)
 
     spot_short : (x : Spot-F Arg Cond Expr Spot Ref) (field : Option Field) → spot_size_layer x ≤ n → Short (made.spot_layer s x) (spared field) (32 * spot_layer x field)
     spot_short (layer.Direct i) field le =
@@ -101,50 +135,48 @@ module _ (s : Scope) where
         let left = most-spared field in
         direct (spared field) (32 * 1) os (let z : listed_sizes os + spared field ≤ 32 * 1 = omega (arith, h, left) in z)
     spot_short (layer.Through i) field le =
-        let os : List Order = item_order s.layout i 0 ∷ order.Load ∷ order.InArea ∷ [] in
-        let h = item-load s.layout i 0 (order.InArea ∷ []) 6 (let z : 6 + 0 ≤ 6 = omega arith in z) in
+        let os : List Order = item_order s.layout i 0 ∷ order.Load ∷ order.InArea s.line ∷ [] in
+        let h = item-load s.layout i 0 (order.InArea s.line ∷ []) 9 (let z : 9 + 0 ≤ 9 = omega arith in z) in
         let left = through-spared field in
         direct (spared field) (32 * (1 + part field)) os (let z : listed_sizes os + spared field ≤ 32 * (1 + part field) = omega (arith, h, left) in z)
     spot_short (layer.One i l u e) field le =
-        let rest : List Order = item_order s.layout i 0 ∷ order.IndexAdd ∷ order.InArea ∷ [] in
-        let h = item-first s.layout i 0 (order.IndexAdd ∷ order.InArea ∷ []) 14 (let z : 8 + (6 + 0) ≤ 14 = omega arith in z) in
+        let rest : List Order = order.Save ∷ item_order s.layout i 0 ∷ order.IndexAdd s.line ∷ order.InArea s.line ∷ [] in
         let left = most-spared field in
-        indexed (32 * expression_tokens e + 23) 31 (spared field) (32 * (3 + expression_tokens e)) (order.IndexLess l ∷ rest) (bounded e l u (let z : expression_size e < n = omega (arith, le) in z))
-        (first_short (order.IndexLess l) rest 10 21 (let z : 10 ≤ 10 = omega arith in z) h)
-        (let z : 32 * expression_tokens e + 23 + 31 + spared field ≤ 32 * (3 + expression_tokens e) = omega (arith, left) in z)
+        indexed 9 (32 * expression_tokens e + 25) 38 (spared field) (32 * (3 + expression_tokens e)) (order.IndexLess l s.line ∷ rest) (bounded e l u (let z : expression_size e < n = omega (arith, le) in z))
+        (first_short (order.IndexLess l s.line) rest 12 26 (let z : 12 ≤ 12 = omega arith in z) (saved-item i))
+        (let z : 32 * expression_tokens e + 25 + 38 + spared field ≤ 32 * (3 + expression_tokens e) + 9 = omega (arith, left) in z)
     spot_short (layer.Two i l1 u1 l2 u2 m e g) field le =
-        let rest : List Order = item_order s.layout i 0 ∷ order.IndexAdd ∷ order.InArea ∷ [] in
-        let h = item-first s.layout i 0 (order.IndexAdd ∷ order.InArea ∷ []) 14 (let z : 8 + (6 + 0) ≤ 14 = omega arith in z) in
+        let rest : List Order = order.Save ∷ item_order s.layout i 0 ∷ order.IndexAdd s.line ∷ order.InArea s.line ∷ [] in
         let t = times-short m in
         let left = two-spared field in
-        indexed (32 * expression_tokens e + 23 + (32 * expression_tokens g + 23)) 63 (spared field) (32 * (4 + (part field + (expression_tokens e + expression_tokens g)))) (order.IndexLess l2 ∷ order.IndexRow l1 m ∷ rest)
-        (both_short (bounded e l1 u1 (let z : expression_size e < n = omega (arith, le) in z)) (bounded g l2 u2 (let z : expression_size g < n = omega (arith, le) in z)))
-        (first_short (order.IndexLess l2) (order.IndexRow l1 m ∷ rest) 10 53 (let z : 10 ≤ 10 = omega arith in z)
-        (first_short (order.IndexRow l1 m) rest 32 21 (let z : listed_size (order.IndexRow l1 m) ≤ 32 = omega (arith, t) in z) h))
-        (let z : 32 * expression_tokens e + 23 + (32 * expression_tokens g + 23) + 63 + spared field ≤ 32 * (4 + (part field + (expression_tokens e + expression_tokens g))) = omega (arith, left) in z)
+        indexed (9 + (0 + 9)) (32 * expression_tokens e + 25 + (1 + (32 * expression_tokens g + 25))) 76 (spared field) (32 * (4 + (part field + (expression_tokens e + expression_tokens g)))) (order.IndexLess l2 s.line ∷ order.IndexRow l1 m s.line ∷ rest)
+        (both_short (bounded e l1 u1 (let z : expression_size e < n = omega (arith, le) in z)) (both_short saved_short (bounded g l2 u2 (let z : expression_size g < n = omega (arith, le) in z))))
+        (first_short (order.IndexLess l2 s.line) (order.IndexRow l1 m s.line ∷ rest) 12 64 (let z : 12 ≤ 12 = omega arith in z)
+        (first_short (order.IndexRow l1 m s.line) rest 38 26 (let z : listed_size (order.IndexRow l1 m s.line) ≤ 38 = omega (arith, t) in z) (saved-item i)))
+        (let z : 32 * expression_tokens e + 25 + (1 + (32 * expression_tokens g + 25)) + 76 + spared field ≤ 32 * (4 + (part field + (expression_tokens e + expression_tokens g))) + (9 + (0 + 9)) = omega (arith, left) in z)
     spot_short (layer.ParamArray i e) field le =
-        let os : List Order = item_order s.layout i 0 ∷ order.Load ∷ order.IndexAdd ∷ order.InArea ∷ [] in
-        let h = item-load s.layout i 0 (order.IndexAdd ∷ order.InArea ∷ []) 14 (let z : 8 + (6 + 0) ≤ 14 = omega arith in z) in
+        let rest : List Order = item_order s.layout i 0 ∷ order.Load ∷ order.IndexAdd s.line ∷ order.InArea s.line ∷ [] in
+        let h = saved-first rest 28 (item-load s.layout i 0 (order.IndexAdd s.line ∷ order.InArea s.line ∷ []) 19 added) in
         let left = most-spared field in
-        indexed (32 * expression_tokens e + 3) 24 (spared field) (32 * (3 + expression_tokens e)) os (b.values e (let z : expression_size e < n = omega (arith, le) in z) 0) h
-        (let z : 32 * expression_tokens e + 3 + 24 + spared field ≤ 32 * (3 + expression_tokens e) = omega (arith, left) in z)
+        indexed 9 (32 * expression_tokens e + 5) 29 (spared field) (32 * (3 + expression_tokens e)) (order.Save ∷ rest) (at-zero e (let z : expression_size e < n = omega (arith, le) in z)) h
+        (let z : 32 * expression_tokens e + 5 + 29 + spared field ≤ 32 * (3 + expression_tokens e) + 9 = omega (arith, left) in z)
     spot_short (layer.Word i t m e) field le =
         let left = most-spared field in
-        indexed (32 * expression_tokens e + 23) 24 (spared field) (32 * (3 + expression_tokens e)) (table_orders s.layout t i ++ order.IndexAdd ∷ order.InArea ∷ [])
+        indexed 9 (32 * expression_tokens e + 25) 29 (spared field) (32 * (3 + expression_tokens e)) (order.Save ∷ (table_orders s.layout t i ++ order.IndexAdd s.line ∷ order.InArea s.line ∷ []))
         (bounded e (pos 0) (pos m -ℤ pos 1) (let z : expression_size e < n = omega (arith, le) in z))
         (based t i)
-        (let z : 32 * expression_tokens e + 23 + 24 + spared field ≤ 32 * (3 + expression_tokens e) = omega (arith, left) in z)
+        (let z : 32 * expression_tokens e + 25 + 29 + spared field ≤ 32 * (3 + expression_tokens e) + 9 = omega (arith, left) in z)
     spot_short (layer.Elem i t k m w e) field le =
-        let rest : List Order = table_orders s.layout t i ++ order.IndexAdd ∷ order.InArea ∷ [] in
+        let rest : List Order = order.Save ∷ (table_orders s.layout t i ++ order.IndexAdd s.line ∷ order.InArea s.line ∷ []) in
         let left = most-spared field in
-        indexed (32 * expression_tokens e + 23) 46 (spared field) (32 * (3 + expression_tokens e)) (order.IndexTimes k ∷ order.IndexPlus w ∷ rest)
+        indexed 9 (32 * expression_tokens e + 25) 55 (spared field) (32 * (3 + expression_tokens e)) (order.IndexTimes k s.line ∷ order.IndexPlus w s.line ∷ rest)
         (bounded e (pos 0) (pos m -ℤ pos 1) (let z : expression_size e < n = omega (arith, le) in z))
-        (first_short (order.IndexTimes k) (order.IndexPlus w ∷ rest) 12 34 (times-short k) (first_short (order.IndexPlus w) rest 10 24 (let z : 10 ≤ 10 = omega arith in z) (based t i)))
-        (let z : 32 * expression_tokens e + 23 + 46 + spared field ≤ 32 * (3 + expression_tokens e) = omega (arith, left) in z)
+        (first_short (order.IndexTimes k s.line) (order.IndexPlus w s.line ∷ rest) 14 41 (times-short k) (first_short (order.IndexPlus w s.line) rest 12 29 (let z : 12 ≤ 12 = omega arith in z) (based t i)))
+        (let z : 32 * expression_tokens e + 25 + 55 + spared field ≤ 32 * (3 + expression_tokens e) + 9 = omega (arith, left) in z)
     spot_short (layer.Bare e) field le =
         let left = most-spared field in
-        indexed (32 * expression_tokens e + 3) 6 (spared field) (32 * (2 + expression_tokens e)) (order.InArea ∷ []) (b.values e (let z : expression_size e < n = omega (arith, le) in z) 0) (let z : 6 + 0 ≤ 6 = omega arith in z)
-        (let z : 32 * expression_tokens e + 3 + 6 + spared field ≤ 32 * (2 + expression_tokens e) = omega (arith, left) in z)
+        indexed 9 (32 * expression_tokens e + 5) 9 (spared field) (32 * (2 + expression_tokens e)) (order.InArea s.line ∷ []) (at-zero e (let z : expression_size e < n = omega (arith, le) in z)) (let z : 9 + 0 ≤ 9 = omega arith in z)
+        (let z : 32 * expression_tokens e + 5 + 9 + spared field ≤ 32 * (2 + expression_tokens e) + 9 = omega (arith, left) in z)
 
     reference_short : (r : Ref) → reference_size r ≤ n → Short (reference_of s r).address (spared (reference_of s r).field) (32 * reference_tokens r)
     reference_short r le =
@@ -159,9 +191,10 @@ module _ (s : Scope) where
     condition_short (layer.Cmp op a d) le when mark =
         let f = max (value_of s a).natural (value_of s d).natural in
         eased
-        (both_short (b.values a (let z : expression_size a < n = omega (arith, le) in z) f)
-        (both_short (b.values d (let z : expression_size d < n = omega (arith, le) in z) f) (plainly (order.JumpIf (comparator_for when op) mark ∷ []) 9 (let z : 9 + 0 ≤ 9 = omega arith in z))))
-        (let z : 32 * expression_tokens a + 3 + (32 * expression_tokens d + 3 + 9) + 0 ≤ 32 * suc (expression_tokens a + expression_tokens d) + (0 + (0 + 0)) = omega arith in z)
+        (both_short (at-scale a (let z : expression_size a < n = omega (arith, le) in z) f)
+        (both_short saved_short
+        (both_short (at-scale d (let z : expression_size d < n = omega (arith, le) in z) f) (plainly (order.JumpIf (comparator_for when op) mark ∷ []) 8 (let z : 8 + 0 ≤ 8 = omega arith in z)))))
+        (let z : 32 * expression_tokens a + 5 + (1 + (32 * expression_tokens d + 5 + 8)) + 0 ≤ 32 * suc (expression_tokens a + expression_tokens d) + (0 + (0 + (0 + 0))) = omega arith in z)
     condition_short (layer.And a d) le when mark =
         ended_short (λ end. followed_by (condition_piece s a false (pick_mark when end mark)) (condition_piece s d when mark))
         (λ end. eased
@@ -174,139 +207,161 @@ module _ (s : Scope) where
         (let z : 32 * condition_tokens a + 32 * condition_tokens d + 0 ≤ 32 * suc (condition_tokens a + condition_tokens d) + (0 + 0) = omega arith in z))
 
     -- orders of one token
-    single : (os : List Order) → listed_sizes os ≤ 35 → Short (plain os) 0 (32 * 1 + 3)
-    single os h = plainly os (32 * 1 + 3) (let z : listed_sizes os ≤ 32 * 1 + 3 = omega (arith, h) in z)
+    single : (os : List Order) (spare : ℕ) → listed_sizes os + spare ≤ 37 → Short (plain os) spare (32 * 1 + 5)
+    single os spare h = record { at = λ place next. h }
 
-    argument_short : (x : Arg-F Arg Cond Expr Spot Ref) → argument_size_layer x ≤ n → Short (made.argument_layer s x) 0 (32 * argument_layer x + 3)
-    argument_short (layer.Value e f) le = b.values e (let z : expression_size e < n = omega (arith, le) in z) f
+    argument : (os : List Order) → listed_sizes os ≤ 38 → Short (plain os) 0 (32 * 1 + 6)
+    argument os h = plainly os (32 * 1 + 6) (let z : listed_sizes os ≤ 32 * 1 + 6 = omega (arith, h) in z)
+
+    argument_short : (x : Arg-F Arg Cond Expr Spot Ref) → argument_size_layer x ≤ n → Short (made.argument_layer s x) 0 (32 * argument_layer x + 6)
+    argument_short (layer.Value e f) le =
+        eased (both_short (at-scale e (let z : expression_size e < n = omega (arith, le) in z) f) saved_short)
+        (let z : 32 * expression_tokens e + 5 + 1 + 0 ≤ 32 * expression_tokens e + 6 + (0 + 0) = omega arith in z)
     argument_short (layer.Place r) le =
-        eased (b.references r (let z : reference_size r < n = omega (arith, le) in z)) (let z : 32 * reference_tokens r + 0 ≤ 32 * reference_tokens r + 3 + spared (reference_of s r).field = omega arith in z)
-    argument_short (layer.Array i l) le = single (item_order s.layout i 0 ∷ order.IndexLess l ∷ []) (item-first s.layout i 0 (order.IndexLess l ∷ []) 28 (let z : 10 + 0 ≤ 28 = omega arith in z))
-    argument_short (layer.Same i) le = single (item_order s.layout i 0 ∷ order.Load ∷ []) (item-load s.layout i 0 [] 25 (let z : 0 ≤ 25 = omega arith in z))
-    argument_short (layer.Base i) le = single (item_order s.layout i 0 ∷ []) (item-first s.layout i 0 [] 28 (let z : 0 ≤ 28 = omega arith in z))
+        eased (both_short (b.references r (let z : reference_size r < n = omega (arith, le) in z)) saved_short)
+        (let z : 32 * reference_tokens r + 1 + 0 ≤ 32 * reference_tokens r + 6 + (spared (reference_of s r).field + 0) = omega arith in z)
+    argument_short (layer.Array i l) le =
+        argument (item_order s.layout i 0 ∷ order.IndexLess l s.line ∷ order.Save ∷ []) (item-first s.layout i 0 (order.IndexLess l s.line ∷ order.Save ∷ []) 32 (let z : 12 + (1 + 0) ≤ 32 = omega arith in z))
+    argument_short (layer.Same i) le = argument (item_order s.layout i 0 ∷ order.Load ∷ order.Save ∷ []) (item-load s.layout i 0 (order.Save ∷ []) 29 (let z : 1 + 0 ≤ 29 = omega arith in z))
+    argument_short (layer.Base i) le = argument (item_order s.layout i 0 ∷ order.Save ∷ []) (item-first s.layout i 0 (order.Save ∷ []) 32 (let z : 1 + 0 ≤ 32 = omega arith in z))
     argument_short (layer.Goal g) le =
         let h = label-short s g in
-        single (label_order s g ∷ []) (let z : listed_size (label_order s g) + 0 ≤ 35 = omega (arith, h) in z)
-    argument_short (layer.Switch k) le = single (order.SwitchOut k ∷ []) (let z : 5 + 0 ≤ 35 = omega arith in z)
-    argument_short (layer.CommonSwitch d) le = single (order.SwitchCommon d ∷ []) (let z : 5 + 0 ≤ 35 = omega arith in z)
-    argument_short (layer.Proc q) le = single (order.ProcOut q ∷ []) (let z : 5 + 0 ≤ 35 = omega arith in z)
-    argument_short (layer.CommonProc d) le = single (order.ProcCommon d ∷ []) (let z : 5 + 0 ≤ 35 = omega arith in z)
-    argument_short (layer.Special k) le = single (order.SpecialOut (control_place s.parameters k) ∷ []) (let z : 10 + 0 ≤ 35 = omega arith in z)
+        argument (label_order s g ∷ []) (let z : listed_size (label_order s g) + 0 ≤ 38 = omega (arith, h) in z)
+    argument_short (layer.Switch k) le = argument (order.SwitchOut k ∷ []) (let z : 5 + 0 ≤ 38 = omega arith in z)
+    argument_short (layer.CommonSwitch d) le = argument (order.SwitchCommon d ∷ []) (let z : 5 + 0 ≤ 38 = omega arith in z)
+    argument_short (layer.Proc q) le = argument (order.ProcOut q ∷ []) (let z : 5 + 0 ≤ 38 = omega arith in z)
+    argument_short (layer.CommonProc d) le = argument (order.ProcCommon d ∷ []) (let z : 5 + 0 ≤ 38 = omega arith in z)
+    argument_short (layer.Special k) le = argument (order.SpecialOut (control_place s.parameters k) ∷ []) (let z : 10 + 0 ≤ 38 = omega arith in z)
 
     all_short : (args : List Arg) → total (map argument_size args) < n → Short (sequence (map (argument_piece s) args)) 0 (32 * separated (map argument_tokens args))
     all_short [] lt = plainly [] (32 * 0) (let z : 0 ≤ 32 * 0 = omega arith in z)
     all_short (a ∷ args) lt =
         let rest = separated (map argument_tokens args) in
         eased (both_short (b.arguments a (let z : argument_size a < n = omega (arith, lt) in z)) (all_short args (let z : total (map argument_size args) < n = omega (arith, lt) in z)))
-        (let z : 32 * argument_tokens a + 3 + 32 * rest + 0 ≤ 32 * (suc (argument_tokens a) + rest) + (0 + 0) = omega arith in z)
+        (let z : 32 * argument_tokens a + 6 + 32 * rest + 0 ≤ 32 * (suc (argument_tokens a) + rest) + (0 + 0) = omega arith in z)
 
     -- one value, and what is done with it, with so many tokens beside it
-    unary : (e : Expr) (f : ℕ) (os : List Order) (tokens m : ℕ) → expression_size e < n → listed_sizes os ≤ m → m ≤ 32 * tokens → Short (followed_by (expression_piece s e f) (plain os)) 0 (32 * (tokens + expression_tokens e) + 3)
-    unary e f os tokens m lt h le =
-        eased (both_short (b.values e lt f) (plainly os m h)) (let z : 32 * expression_tokens e + 3 + m + 0 ≤ 32 * (tokens + expression_tokens e) + 3 + (0 + 0) = omega (arith, le) in z)
+    unary : (e : Expr) (f : ℕ) (os : List Order) (tokens m spare : ℕ) → expression_size e < n → listed_sizes os ≤ m → m + spare ≤ 32 * tokens → Short (followed_by (expression_piece s e f) (plain os)) spare (32 * (tokens + expression_tokens e) + 5)
+    unary e f os tokens m spare lt h le =
+        eased (both_short (at-scale e lt f) (plainly os m h)) (let z : 32 * expression_tokens e + 5 + m + spare ≤ 32 * (tokens + expression_tokens e) + 5 + (0 + 0) = omega (arith, le) in z)
 
     -- two values, and what is done with them
-    binary : (a d : Expr) (f g : ℕ) (os : List Order) → expression_size a < n → expression_size d < n → listed_sizes os ≤ 29 → Short (followed_by (expression_piece s a f) (followed_by (expression_piece s d g) (plain os))) 0 (32 * suc (expression_tokens a + expression_tokens d) + 3)
-    binary a d f g os la ld h =
-        eased (both_short (b.values a la f) (both_short (b.values d ld g) (plainly os 29 h)))
-        (let z : 32 * expression_tokens a + 3 + (32 * expression_tokens d + 3 + 29) + 0 ≤ 32 * suc (expression_tokens a + expression_tokens d) + 3 + (0 + (0 + 0)) = omega arith in z)
+    binary : (a d : Expr) (f : ℕ) (os : List Order) (spare : ℕ) → expression_size a < n → expression_size d < n → listed_sizes os + spare ≤ 26
+        → Short (two_values (expression_piece s a f) (expression_piece s d f) os) spare (32 * suc (expression_tokens a + expression_tokens d) + 5)
+    binary a d f os spare la ld h =
+        eased (both_short (at-scale a la f) (both_short saved_short (both_short (at-scale d ld f) (plainly os (listed_sizes os) (let z : listed_sizes os ≤ listed_sizes os = omega arith in z)))))
+        (let z : 32 * expression_tokens a + 5 + (1 + (32 * expression_tokens d + 5 + listed_sizes os)) + spare ≤ 32 * suc (expression_tokens a + expression_tokens d) + 5 + (0 + (0 + (0 + 0))) = omega (arith, h) in z)
 
-    value_short : (x : Expr-F Arg Cond Expr Spot Ref) → expression_size_layer x ≤ n → (f : ℕ) → Short ((value_layer s x).at f) 0 (32 * expression_layer x + 3)
-    value_short (layer.Num k) le f = single (number_order (decimal_floor k.whole k.digits k.places f) ∷ []) (let z : 4 + 0 ≤ 35 = omega arith in z)
-    value_short (layer.Const z) le f =
-        let h = first_short (number_order (unsigned z)) (rescale_orders 0 f) 4 12 (let y : 4 ≤ 4 = omega arith in y) (rescale-short 0 f) in
-        single (number_order (unsigned z) ∷ rescale_orders 0 f) (let y : listed_sizes (number_order (unsigned z) ∷ rescale_orders 0 f) ≤ 35 = omega (arith, h) in y)
-    value_short (layer.Text i) le f =
-        let h = item-first s.layout i 0 (rescale_orders 0 f) 12 (rescale-short 0 f) in
-        single (item_order s.layout i 0 ∷ rescale_orders 0 f) (let z : listed_sizes (item_order s.layout i 0 ∷ rescale_orders 0 f) ≤ 35 = omega (arith, h) in z)
-    value_short (layer.Read r) le f =
-        let x = reference_of s r in
-        let all = sizes-append (load_orders x.field) (rescale_orders x.scale f) in
+    -- each at its own scale
+    operands : (a d : Expr) (os : List Order) (spare : ℕ) → expression_size a < n → expression_size d < n → listed_sizes os + spare ≤ 54
+        → Short (two_values (expression_piece s a (value_of s a).operand) (expression_piece s d (value_of s d).operand) os) spare (32 * suc (expression_tokens a + expression_tokens d) + 5)
+    operands a d os spare la ld h =
+        eased (both_short (at-operand a la) (both_short saved_short (both_short (at-operand d ld) (plainly os (listed_sizes os) (let z : listed_sizes os ≤ listed_sizes os = omega arith in z)))))
+        (let z : 32 * expression_tokens a + 5 + (1 + (32 * expression_tokens d + 5 + listed_sizes os)) + spare ≤ 32 * suc (expression_tokens a + expression_tokens d) + 5 + (14 + (0 + (14 + 0))) = omega (arith, h) in z)
+
+    value_short : (x : Expr-F Arg Cond Expr Spot Ref) → expression_size_layer x ≤ n → (f spare : ℕ) → Rescaled (value_layer s x).operand f spare → Short ((value_layer s x).at f) spare (32 * expression_layer x + 5)
+    value_short (layer.Num k) le f spare r =
+        single (number_order (decimal_floor k.whole k.digits k.places f) ∷ []) spare (let z : 3 + 0 + spare ≤ 37 = omega (arith, r) in z)
+    value_short (layer.Const z) le f spare r =
+        let h = first_short (number_order (unsigned z)) (rescale_orders s.line 0 f) 3 (listed_sizes (rescale_orders s.line 0 f)) (let y : 3 ≤ 3 = omega arith in y) (let y : listed_sizes (rescale_orders s.line 0 f) ≤ listed_sizes (rescale_orders s.line 0 f) = omega arith in y) in
+        single (number_order (unsigned z) ∷ rescale_orders s.line 0 f) spare (let y : listed_sizes (number_order (unsigned z) ∷ rescale_orders s.line 0 f) + spare ≤ 37 = omega (arith, h, r) in y)
+    value_short (layer.Text i) le f spare r =
+        let h = item-first s.layout i 0 (rescale_orders s.line 0 f) (listed_sizes (rescale_orders s.line 0 f)) (let y : listed_sizes (rescale_orders s.line 0 f) ≤ listed_sizes (rescale_orders s.line 0 f) = omega arith in y) in
+        single (item_order s.layout i 0 ∷ rescale_orders s.line 0 f) spare (let z : listed_sizes (item_order s.layout i 0 ∷ rescale_orders s.line 0 f) + spare ≤ 37 = omega (arith, h, r) in z)
+    value_short (layer.Read t) le f spare r =
+        let x = reference_of s t in
+        let os : List Order = load_orders x.field ++ rescale_orders s.line x.scale f in
+        let all = sizes-append (load_orders x.field) (rescale_orders s.line x.scale f) in
         let first = loads x.field in
-        let second = rescale-short x.scale f in
         eased
-        (both_short (b.references r (let z : reference_size r < n = omega (arith, le) in z))
-        (plainly (load_orders x.field ++ rescale_orders x.scale f) (spared x.field + 3) (let z : listed_sizes (load_orders x.field ++ rescale_orders x.scale f) ≤ spared x.field + 3 = omega (arith, all, first, second) in z)))
-        (let z : 32 * reference_tokens r + (spared x.field + 3) + 0 ≤ 32 * reference_tokens r + 3 + (spared x.field + 0) = omega arith in z)
-    value_short (layer.Call t args) le f =
+        (both_short (b.references t (let z : reference_size t < n = omega (arith, le) in z)) (plainly os (listed_sizes os) (let z : listed_sizes os ≤ listed_sizes os = omega arith in z)))
+        (let z : 32 * reference_tokens t + listed_sizes os + spare ≤ 32 * reference_tokens t + 5 + (spared x.field + 0) = omega (arith, all, first, r) in z)
+    value_short (layer.Call t args) le f spare r =
         let k = answer_scale s.unit t in
         let ns = map argument_tokens args in
         let listed = separated-within ns in
+        let rest : List Order = rescale_orders s.line k f in
+        let h = first_short (call_order s t) rest 13 (listed_sizes rest) (call-short s t) (let z : listed_sizes rest ≤ listed_sizes rest = omega arith in z) in
         eased
-        (both_short (all_short args (let z : total (map argument_size args) < n = omega (arith, le) in z)) (plainly (call_order s t ∷ rescale_orders k f) 31 (first_short (call_order s t) (rescale_orders k f) 19 12 (call-short s t) (rescale-short k f))))
-        (let z : 32 * separated ns + 31 + 0 ≤ 32 * expression_layer (layer.Call t args) + 3 + (0 + 0) = omega (arith, listed) in z)
-    value_short (layer.Force g e) le f = unary e g (rescale_orders g f) 3 12 (let z : expression_size e < n = omega (arith, le) in z) (rescale-short g f) (omega arith)
-    value_short (layer.Locate r) le f =
-        eased (both_short (b.references r (let z : reference_size r < n = omega (arith, le) in z)) (plainly (rescale_orders 0 f) 12 (rescale-short 0 f)))
-        (let z : 32 * reference_tokens r + 12 + 0 ≤ 32 * (3 + reference_tokens r) + 3 + (spared (reference_of s r).field + 0) = omega arith in z)
-    value_short (layer.Bits t d e) le f =
-        unary e (value_of s e).operand (order.Take t d ∷ rescale_orders 0 f) 6 22 (let z : expression_size e < n = omega (arith, le) in z)
-        (first_short (order.Take t d) (rescale_orders 0 f) 10 12 (let z : 10 ≤ 10 = omega arith in z) (rescale-short 0 f)) (omega arith)
-    value_short (layer.Logic op a d) le f =
-        let h = logic-short op in
-        binary a d (value_of s a).operand (value_of s d).operand (logic_order op ∷ rescale_orders 0 f) (let z : expression_size a < n = omega (arith, le) in z) (let z : expression_size d < n = omega (arith, le) in z)
-        (first_short (logic_order op) (rescale_orders 0 f) 17 12 (let z : listed_size (logic_order op) ≤ 17 = omega (arith, h) in z) (rescale-short 0 f))
-    value_short (layer.Sum a d) le f =
-        binary a d f f (order.Add ∷ []) (let z : expression_size a < n = omega (arith, le) in z) (let z : expression_size d < n = omega (arith, le) in z) (let z : 8 + 0 ≤ 29 = omega arith in z)
-    value_short (layer.Less a d) le f =
-        binary a d f f (order.Sub ∷ []) (let z : expression_size a < n = omega (arith, le) in z) (let z : expression_size d < n = omega (arith, le) in z) (let z : 10 + 0 ≤ 29 = omega arith in z)
-    value_short (layer.Minus a) le f =
-        eased (both_short (b.values a (let z : expression_size a < n = omega (arith, le) in z) f) (plainly (order.Neg ∷ []) 7 (let z : 7 + 0 ≤ 7 = omega arith in z)))
-        (let z : 32 * expression_tokens a + 3 + 7 + 0 ≤ 32 * suc (expression_tokens a) + 3 + (0 + 0) = omega arith in z)
-    value_short (layer.Times a d) le f =
-        let m = order.Mul (narrow (pos f -ℤ pos ((value_of s a).operand + (value_of s d).operand))) in
-        let h = product-short (narrow (pos f -ℤ pos ((value_of s a).operand + (value_of s d).operand))) in
-        binary a d (value_of s a).operand (value_of s d).operand (m ∷ []) (let z : expression_size a < n = omega (arith, le) in z) (let z : expression_size d < n = omega (arith, le) in z)
-        (let z : listed_size m + 0 ≤ 29 = omega (arith, h) in z)
-    value_short (layer.Over a d) le f =
-        let m = order.Div (narrow (pos (f + (value_of s d).operand) -ℤ pos (value_of s a).operand)) in
-        binary a d (value_of s a).operand (value_of s d).operand (m ∷ []) (let z : expression_size a < n = omega (arith, le) in z) (let z : expression_size d < n = omega (arith, le) in z) (let z : 9 + 0 ≤ 29 = omega arith in z)
-    value_short (layer.Choice c a d) le f =
+        (both_short (all_short args (let z : total (map argument_size args) < n = omega (arith, le) in z)) (plainly (call_order s t ∷ rest) (13 + listed_sizes rest) h))
+        (let z : 32 * separated ns + (13 + listed_sizes rest) + spare ≤ 32 * expression_layer (layer.Call t args) + 5 + (0 + 0) = omega (arith, listed, r) in z)
+    value_short (layer.Force g e) le f spare r =
+        unary e g (rescale_orders s.line g f) 3 (listed_sizes (rescale_orders s.line g f)) spare (let z : expression_size e < n = omega (arith, le) in z) (let z : listed_sizes (rescale_orders s.line g f) ≤ listed_sizes (rescale_orders s.line g f) = omega arith in z)
+        (let z : listed_sizes (rescale_orders s.line g f) + spare ≤ 32 * 3 = omega (arith, r) in z)
+    value_short (layer.Locate t) le f spare r =
+        let os : List Order = rescale_orders s.line 0 f in
+        eased (both_short (b.references t (let z : reference_size t < n = omega (arith, le) in z)) (plainly os (listed_sizes os) (let z : listed_sizes os ≤ listed_sizes os = omega arith in z)))
+        (let z : 32 * reference_tokens t + listed_sizes os + spare ≤ 32 * (3 + reference_tokens t) + 5 + (spared (reference_of s t).field + 0) = omega (arith, r) in z)
+    value_short (layer.Bits t d e) le f spare r =
+        let os : List Order = rescale_orders s.line 0 f in
+        unary e (value_of s e).operand (order.Take t d ∷ os) 6 (10 + listed_sizes os) spare (let z : expression_size e < n = omega (arith, le) in z)
+        (first_short (order.Take t d) os 10 (listed_sizes os) (let z : 10 ≤ 10 = omega arith in z) (let z : listed_sizes os ≤ listed_sizes os = omega arith in z)) (let z : 10 + listed_sizes os + spare ≤ 32 * 6 = omega (arith, r) in z)
+    value_short (layer.Logic op a d) le f spare r =
+        let os : List Order = rescale_orders s.line 0 f in
+        let h = first_short (logic_order op) os 3 (listed_sizes os) (logic-short op) (let z : listed_sizes os ≤ listed_sizes os = omega arith in z) in
+        operands a d (logic_order op ∷ os) spare (let z : expression_size a < n = omega (arith, le) in z) (let z : expression_size d < n = omega (arith, le) in z)
+        (let z : listed_sizes (logic_order op ∷ os) + spare ≤ 54 = omega (arith, h, r) in z)
+    value_short (layer.Sum a d) le f spare r =
+        binary a d f (order.Add s.line ∷ []) spare (let z : expression_size a < n = omega (arith, le) in z) (let z : expression_size d < n = omega (arith, le) in z) (let z : 10 + 0 + spare ≤ 26 = omega (arith, r) in z)
+    value_short (layer.Less a d) le f spare r =
+        binary a d f (order.Sub s.line ∷ []) spare (let z : expression_size a < n = omega (arith, le) in z) (let z : expression_size d < n = omega (arith, le) in z) (let z : 12 + 0 + spare ≤ 26 = omega (arith, r) in z)
+    value_short (layer.Minus a) le f spare r =
+        eased (both_short (at-scale a (let z : expression_size a < n = omega (arith, le) in z) f) (plainly (order.Neg s.line ∷ []) 9 (let z : 9 + 0 ≤ 9 = omega arith in z)))
+        (let z : 32 * expression_tokens a + 5 + 9 + spare ≤ 32 * suc (expression_tokens a) + 5 + (0 + 0) = omega (arith, r) in z)
+    value_short (layer.Times a d) le f spare r =
+        let power = narrow (pos f -ℤ pos ((value_of s a).operand + (value_of s d).operand)) in
+        let h = product-short s.line power in
+        operands a d (order.Mul power s.line ∷ []) spare (let z : expression_size a < n = omega (arith, le) in z) (let z : expression_size d < n = omega (arith, le) in z)
+        (let z : listed_size (order.Mul power s.line) + 0 + spare ≤ 54 = omega (arith, h, r) in z)
+    value_short (layer.Over a d) le f spare r =
+        let power = narrow (pos (f + (value_of s d).operand) -ℤ pos (value_of s a).operand) in
+        operands a d (order.Div power s.line ∷ []) spare (let z : expression_size a < n = omega (arith, le) in z) (let z : expression_size d < n = omega (arith, le) in z) (let z : 25 + 0 + spare ≤ 54 = omega (arith, r) in z)
+    value_short (layer.Choice c a d) le f spare r =
         let i = 32 * condition_tokens c in
-        let j = 32 * expression_tokens a + 3 in
-        let k = 32 * expression_tokens d + 3 in
+        let j = 32 * expression_tokens a + 5 in
+        let k = 32 * expression_tokens d + 5 in
         eased
         (choice_short (condition_piece s c) (expression_piece s a f) (expression_piece s d f) (λ when mark. b.conditions c (let z : condition_size c < n = omega (arith, le) in z) when mark)
-        (b.values a (let z : expression_size a < n = omega (arith, le) in z) f) (b.values d (let z : expression_size d < n = omega (arith, le) in z) f))
-        (let z : i + j + k + 3 + 0 ≤ 32 * (3 + (condition_tokens c + (expression_tokens a + expression_tokens d))) + 3 + (0 + 0) = omega arith in z)
+        (at-scale a (let z : expression_size a < n = omega (arith, le) in z) f) (at-scale d (let z : expression_size d < n = omega (arith, le) in z) f))
+        (let z : i + j + k + 3 + spare ≤ 32 * (3 + (condition_tokens c + (expression_tokens a + expression_tokens d))) + 5 + (0 + 0) = omega (arith, r) in z)
 
     next_below : Below (suc n)
     next_below = record {
-      values = λ d lt f.
-          subst (λ (p : Piece). Short p 0 (32 * expression_tokens d + 3)) (sym (ap (λ v. v.at f) (value-made s d)))
-          (subst (λ (k : ℕ). Short ((value_layer s (out-Expr d)).at f) 0 (32 * k + 3)) (sym (expression-tokens d))
-          (value_short (out-Expr d) (let z : expression_size_layer (out-Expr d) ≤ n = omega (arith, lt, expression-size d) in z) f));
+      values = λ d lt f spare r.
+          subst (λ (p : Piece). Short p spare (32 * expression_tokens d + 5)) (sym (ap (λ v. v.at f) (value-made s d)))
+          (subst (λ (k : ℕ). Short ((value_layer s (out-Expr d)).at f) spare (32 * k + 5)) (sym (expression-tokens d))
+          (value_short (out-Expr d) (let z : expression_size_layer (out-Expr d) ≤ n = omega (arith, lt, expression-size d) in z) f spare (subst (λ v. Rescaled v.operand f spare) (value-made s d) r)));
       conditions = λ d lt when mark.
           subst (λ (p : ConditionPiece). Short (p when mark) 0 (32 * condition_tokens d)) (sym (condition-made s d))
           (subst (λ (k : ℕ). Short (made.condition_layer s (out-Cond d) when mark) 0 (32 * k)) (sym (condition-tokens d))
           (condition_short (out-Cond d) (let z : condition_size_layer (out-Cond d) ≤ n = omega (arith, lt, condition-size d) in z) when mark));
       arguments = λ d lt.
-          subst (λ (p : Piece). Short p 0 (32 * argument_tokens d + 3)) (sym (argument-made s d))
-          (subst (λ (k : ℕ). Short (made.argument_layer s (out-Arg d)) 0 (32 * k + 3)) (sym (argument-tokens d))
+          subst (λ (p : Piece). Short p 0 (32 * argument_tokens d + 6)) (sym (argument-made s d))
+          (subst (λ (k : ℕ). Short (made.argument_layer s (out-Arg d)) 0 (32 * k + 6)) (sym (argument-tokens d))
           (argument_short (out-Arg d) (let z : argument_size_layer (out-Arg d) ≤ n = omega (arith, lt, argument-size d) in z)));
       references = λ d lt. reference_short d (let z : reference_size d ≤ n = omega (arith, lt) in z);
     }
 
   below : (n : ℕ) → Below n
   below zero = record {
-    values = λ d lt f. absurd (omega (arith, lt));
+    values = λ d lt f spare r. absurd (omega (arith, lt));
     conditions = λ d lt when mark. absurd (omega (arith, lt));
     arguments = λ d lt. absurd (omega (arith, lt));
     references = λ d lt. absurd (omega (arith, lt));
   }
   below (suc n) = next_below n (below n)
 
-  pub expression_short : (e : Expr) (f : ℕ) → Short (expression_piece s e f) 0 (32 * expression_tokens e + 3)
-  expression_short e f = (below (suc (expression_size e))).values e (let z : expression_size e < suc (expression_size e) = omega arith in z) f
+  pub expression_short : (e : Expr) (f : ℕ) → Short (expression_piece s e f) 0 (32 * expression_tokens e + 5)
+  expression_short e f = at-scale (suc (expression_size e)) (below (suc (expression_size e))) e (let z : expression_size e < suc (expression_size e) = omega arith in z) f
 
   pub condition_ended_short : (d : Cond) (when : Bool) (mark : ℕ) → Short (condition_piece s d when mark) 0 (32 * condition_tokens d)
   condition_ended_short d when mark = (below (suc (condition_size d))).conditions d (let z : condition_size d < suc (condition_size d) = omega arith in z) when mark
 
-  pub address_short : (r : Ref) → Short (reference_of s r).address 16 (32 * reference_tokens r)
+  pub address_short : (r : Ref) → Short (reference_of s r).address 14 (32 * reference_tokens r)
   address_short r =
       let left = least-spared (reference_of s r).field in
       eased ((below (suc (reference_size r))).references r (let z : reference_size r < suc (reference_size r) = omega arith in z))
-      (let z : 32 * reference_tokens r + 16 ≤ 32 * reference_tokens r + spared (reference_of s r).field = omega (arith, left) in z)
+      (let z : 32 * reference_tokens r + 14 ≤ 32 * reference_tokens r + spared (reference_of s r).field = omega (arith, left) in z)
 
   pub arguments_short : (args : List Arg) → Short (sequence (map (argument_piece s) args)) 0 (32 * separated (map argument_tokens args))
   arguments_short args =

@@ -1,5 +1,7 @@
 -- The bytes of the orders of expressions and statements, whatever their numbers.
-use Rattle.std.proofs.Common.{ℕ, zero, suc, ◌+◌, ◌-◌, ◌*◌, ◌%◌, ◌^◌, ◌≤◌, ◌==◌, nat_le, nat_lt, if◌then◌else◌, ℤ, pos, negsuc, List, [], ◌∷◌, ◌++◌, length, Bool, true, false, Option, Some, None, slice_get, slice_index_or, arith}
+use Rattle.std.proofs.Common.{◌≡◌, ℕ, zero, suc, ◌+◌, ◌-◌, ◌*◌, ◌%◌, ◌^◌, ◌≤◌, ◌==◌, nat_le, nat_lt, if◌then◌else◌, ℤ, pos, negsuc, List, [], ◌∷◌, ◌++◌, length, Bool, true, false, Option, Some, None, slice_get, slice_index_or, refl, ap, arith}
+use Rattle.std.proofs.lemmas.Bool.{leb-true}
+use Rattle.std.proofs.lemmas.Bool.Decides.{nat_tests}
 use Rattle.cw_order.specs.declared.order.Order.{Order}
 use Rattle.cw_order.specs.declared.order.Order.TheVariants as order
 use Rattle.cw_unit.specs.declared.layout.Layout.{Layout}
@@ -20,7 +22,7 @@ use Rattle.cw_unit.specs.declared.unit.Goal.TheVariants as goal
 use Rattle.cw_gen_expr.specs.ReferenceExpressions.{Scope, argument_words, placed_by, placed_in, item_order, table_orders, bounds_orders, store_orders, rescale_orders, logic_order, number_order, call_order, label_order}
 use Rattle.cw_gen_expr.specs.ReferenceEntries.{bound_by, bound_in, bound_order, parameter_orders, bind_orders}
 use Rattle.cw_gen_expr.specs.UnitTables.{label_mark}
-use Rattle.cw_gen_unit.specs.ReferenceStatements.{after_statement_call, from_procedure, own_order, goal_order, number_orders, set_orders, bump_orders}
+use Rattle.cw_gen_unit.specs.ReferenceStatements.{after_statement_call, from_procedure, own_order, goal_order, keep_orders, number_orders, set_orders, bump_orders}
 use Rattle.cw_tmpl.specs.Templates.{times_size, listed_size, sizes_behind, listed_sizes}
 use Rattle.cw_size.proofs.Short.{all-behind, sizes-append, first_short}
 
@@ -40,92 +42,134 @@ by-form P home frame y i n = at_family (slice_get y.families (slice_index_or y.h
     at_family None f o = home f (o % 65536)
     at_family (Some x) f o = at_sort x.sort f o
 
-pub item-short : (y : Layout) (i n : ℕ) → listed_size (item_order y i n) ≤ 7
-item-short = by-form (λ o. listed_size o ≤ 7) (λ f n. omega arith) (λ n. omega arith)
+pub item-short : (y : Layout) (i n : ℕ) → listed_size (item_order y i n) ≤ 6
+item-short = by-form (λ o. listed_size o ≤ 6) (λ f n. omega arith) (λ n. omega arith)
 
--- behind the address of an item, and behind its load or its store
-pub item-first : (y : Layout) (i n : ℕ) (os : List Order) (most : ℕ) → listed_sizes os ≤ most → listed_sizes (item_order y i n ∷ os) ≤ 7 + most
-item-first y i n os most = first_short (item_order y i n) os 7 most (item-short y i n)
+-- behind the address of an item, and behind its load
+pub item-first : (y : Layout) (i n : ℕ) (os : List Order) (most : ℕ) → listed_sizes os ≤ most → listed_sizes (item_order y i n ∷ os) ≤ 6 + most
+item-first y i n os most = first_short (item_order y i n) os 6 most (item-short y i n)
 
-pub item-load : (y : Layout) (i n : ℕ) (os : List Order) (most : ℕ) → listed_sizes os ≤ most → listed_sizes (item_order y i n ∷ order.Load ∷ os) ≤ 10 + most
+pub item-load : (y : Layout) (i n : ℕ) (os : List Order) (most : ℕ) → listed_sizes os ≤ most → listed_sizes (item_order y i n ∷ order.Load ∷ os) ≤ 9 + most
 item-load y i n os most h =
-    let behind = all-behind (Some order.Load) os in
-    by-form (λ o. listed_sizes (o ∷ order.Load ∷ os) ≤ 10 + most)
-    (λ f m. let z : 4 + (0 + sizes_behind (Some order.Load) os) ≤ 10 + most = omega (arith, h, behind) in z)
-    (λ m. let z : 7 + (3 + sizes_behind (Some order.Load) os) ≤ 10 + most = omega (arith, h, behind) in z)
+    by-form (λ o. listed_sizes (o ∷ order.Load ∷ os) ≤ 9 + most)
+    (λ f m.
+    let behind = all-behind (Some (order.Home f m)) (Some order.Load) os in
+    let z : 3 + (0 + sizes_behind (Some (order.Home f m)) (Some order.Load) os) ≤ 9 + most = omega (arith, h, behind) in
+    z)
+    (λ m.
+    let behind = all-behind (Some (order.FrameHome m)) (Some order.Load) os in
+    let z : 6 + (3 + sizes_behind (Some (order.FrameHome m)) (Some order.Load) os) ≤ 9 + most = omega (arith, h, behind) in
+    z)
     y
     i
     n
 
-pub item-store : (y : Layout) (i n : ℕ) (os : List Order) (most : ℕ) → listed_sizes os ≤ most → listed_sizes (item_order y i n ∷ order.Store ∷ os) ≤ 10 + most
-item-store y i n os most h =
-    let behind = all-behind (Some order.Store) os in
-    by-form (λ o. listed_sizes (o ∷ order.Store ∷ os) ≤ 10 + most)
-    (λ f m. let z : 4 + (0 + sizes_behind (Some order.Store) os) ≤ 10 + most = omega (arith, h, behind) in z)
-    (λ m. let z : 7 + (3 + sizes_behind (Some order.Store) os) ≤ 10 + most = omega (arith, h, behind) in z)
+-- behind the store of a saved operand there
+pub item-keep : (y : Layout) (i n : ℕ) (os : List Order) (most : ℕ) → listed_sizes os ≤ most → listed_sizes (order.Save ∷ item_order y i n ∷ order.Store ∷ os) ≤ 9 + most
+item-keep y i n os most h =
+    by-form (λ o. listed_sizes (order.Save ∷ o ∷ order.Store ∷ os) ≤ 9 + most)
+    (λ f m.
+    let behind = all-behind (Some (order.Home f m)) (Some order.Store) os in
+    let z : 1 + (3 + (0 + sizes_behind (Some (order.Home f m)) (Some order.Store) os)) ≤ 9 + most = omega (arith, h, behind) in
+    z)
+    (λ m.
+    let behind = all-behind (Some (order.FrameHome m)) (Some order.Store) os in
+    let z : 1 + (6 + (2 + sizes_behind (Some (order.FrameHome m)) (Some order.Store) os)) ≤ 9 + most = omega (arith, h, behind) in
+    z)
     y
     i
     n
 
-pub table-short : (y : Layout) (t : Bool) (i : ℕ) → listed_sizes (table_orders y t i) ≤ 10
+-- behind a saved operand
+pub saved-first : (os : List Order) (most : ℕ) → listed_sizes os ≤ most → listed_sizes (order.Save ∷ os) ≤ 1 + most
+saved-first os most = first_short order.Save os 1 most (let z : 1 ≤ 1 = omega arith in z)
+
+pub table-short : (y : Layout) (t : Bool) (i : ℕ) → listed_sizes (table_orders y t i) ≤ 9
 table-short y true i = item-load y i 0 [] 0 (let z : 0 ≤ 0 = omega arith in z)
 table-short y false i = item-first y i 0 [] 3 (let z : 0 ≤ 3 = omega arith in z)
 
 -- ---- parts, bounds and scales
 
-pub bounds-short : (c : Bool) (l h : ℤ) → listed_sizes (bounds_orders c l h) ≤ 20
-bounds-short true l h = omega arith
-bounds-short false l h = omega arith
+pub bounds-short : (c : Bool) (line : ℕ) (l h : ℤ) → listed_sizes (bounds_orders c line l h) ≤ 20
+bounds-short true line l h = omega arith
+bounds-short false line l h = omega arith
 
-pub store-short : (o : Option Field) → listed_sizes (store_orders o) ≤ 27
+pub store-short : (o : Option Field) → listed_sizes (store_orders o) ≤ 26
 store-short None = omega arith
 store-short (Some s) = omega arith
 
-pub times-short : (n : ℕ) → times_size n ≤ 12
+pub times-short : (n : ℕ) → times_size n ≤ 14
 times-short n = picked (n == 32768)
   where
-    picked : (b : Bool) → (if b then 12 else 10) ≤ 12
+    picked : (b : Bool) → (if b then 14 else 12) ≤ 14
     picked true = omega arith
     picked false = omega arith
 
-one-rescale : (from to : ℕ) → listed_size (order.Rescale from to) ≤ 12
-one-rescale from to = picked (nat_le from to) (times_size (2 ^ (to - from))) (times-short (2 ^ (to - from)))
+one-rescale : (line from to : ℕ) → listed_size (order.Rescale from to line) ≤ 14
+one-rescale line from to = picked (nat_le from to) (times_size (2 ^ (to - from))) (times-short (2 ^ (to - from)))
   where
-    picked : (b : Bool) (n : ℕ) → n ≤ 12 → (if b then n else 5) ≤ 12
+    picked : (b : Bool) (n : ℕ) → n ≤ 14 → (if b then n else 5) ≤ 14
     picked true n h = h
     picked false n h = omega arith
 
-pub rescale-short : (from to : ℕ) → listed_sizes (rescale_orders from to) ≤ 12
-rescale-short from to = picked (from == to)
+pub rescale-short : (line from to : ℕ) → listed_sizes (rescale_orders line from to) ≤ 14
+rescale-short line from to = picked (from == to)
   where
-    picked : (b : Bool) → listed_sizes (if b then [] else (order.Rescale from to ∷ [])) ≤ 12
+    picked : (b : Bool) → listed_sizes (if b then [] else (order.Rescale from to line ∷ [])) ≤ 14
     picked true = omega arith
-    picked false = let h = one-rescale from to in let z : listed_size (order.Rescale from to) + 0 ≤ 12 = omega (arith, h) in z
+    picked false = let h = one-rescale line from to in let z : listed_size (order.Rescale from to line) + 0 ≤ 14 = omega (arith, h) in z
+
+-- to scale 0, and to the same
+pub rescale-whole : (line from : ℕ) → listed_sizes (rescale_orders line from 0) ≤ 5
+rescale-whole line from = picked (from == 0) refl
+  where
+    by_order : (b : Bool) → nat_le from 0 ≡ b → (from == 0) ≡ false → (n : ℕ) → (if b then n else 5) ≤ 5
+    by_order true e f n =
+        let le : from ≤ 0 = leb-true from 0 e in
+        let none : from ≡ 0 = omega (arith, le) in
+        let same : (from == 0) ≡ true = ap (λ (k : ℕ). k == 0) none in
+        absurd (cc)
+    by_order false e f n = omega arith
+
+    picked : (b : Bool) → (from == 0) ≡ b → listed_sizes (if b then [] else (order.Rescale from 0 line ∷ [])) ≤ 5
+    picked true e = omega arith
+    picked false e =
+        let h = by_order (nat_le from 0) refl e (times_size (2 ^ (0 - from))) in let z : listed_size (order.Rescale from 0 line) + 0 ≤ 5 = omega (arith, h) in z
+
+pub rescale-same : (line f : ℕ) → listed_sizes (rescale_orders line f f) ≤ 0
+rescale-same line f = picked (f == f) (same f)
+  where
+    same : (k : ℕ) → (k == k) ≡ true
+    same k = grind (arith, nat_tests)
+
+    picked : (b : Bool) → b ≡ true → listed_sizes (if b then [] else (order.Rescale f f line ∷ [])) ≤ 0
+    picked true e = omega arith
+    picked false e = absurd (cc)
 
 pub logic-short : (op : LogicOp) → listed_size (logic_order op) ≤ 3
 logic-short logic.Mask = omega arith
 logic-short logic.Union = omega arith
 logic-short logic.Differ = omega arith
 
-pub product-short : (z : ℤ) → listed_size (order.Mul z) ≤ 20
-product-short (pos zero) = omega arith
-product-short (pos (suc n)) = let h = times-short (2 ^ suc n) in let z : times_size (2 ^ suc n) + 8 ≤ 20 = omega (arith, h) in z
-product-short (negsuc n) = picked (nat_lt n 15)
+pub product-short : (line : ℕ) (z : ℤ) → listed_size (order.Mul z line) ≤ 24
+product-short line (pos zero) = omega arith
+product-short line (pos (suc n)) = let h = times-short (2 ^ suc n) in let z : times_size (2 ^ suc n) + 10 ≤ 24 = omega (arith, h) in z
+product-short line (negsuc n) = picked (nat_lt n 15)
   where
-    picked : (b : Bool) → (if b then 9 else 10) ≤ 20
+    picked : (b : Bool) → (if b then 14 else 10) ≤ 24
     picked true = omega arith
     picked false = omega arith
 
 -- ---- calls and jumps
 
-pub call-short : (s : Scope) (t : Target) → listed_size (call_order s t) ≤ 19
+pub call-short : (s : Scope) (t : Target) → listed_size (call_order s t) ≤ 13
 call-short s (target.Own q) = omega arith
 call-short s (target.Common d) = omega arith
 call-short s (target.Special k f) = omega arith
 call-short s target.Read = omega arith
 call-short s target.Write = omega arith
 
-pub after-short : (t : Target) → listed_sizes (after_statement_call t) ≤ 1
+pub after-short : (t : Target) → listed_sizes (after_statement_call t) ≤ 0
 after-short (target.Own q) = omega arith
 after-short (target.Common d) = omega arith
 after-short (target.Special k f) = omega arith
@@ -154,18 +198,20 @@ goal-short u who (goal.Common d) = omega arith
 
 -- ---- FOR
 
-pub number-short : (y : Layout) (item i : ℕ) → listed_sizes (number_orders y item i) ≤ 14
+pub number-short : (y : Layout) (item i : ℕ) → listed_sizes (number_orders y item i) ≤ 12
 number-short y item i =
-    first_short (number_order i) (item_order y item 3 ∷ order.Store ∷ []) 4 10 (let z : 4 ≤ 4 = omega arith in z) (item-store y item 3 [] 0 (let z : 0 ≤ 0 = omega arith in z))
+    first_short (number_order i) (keep_orders y item 3) 3 9 (let z : 3 ≤ 3 = omega arith in z) (item-keep y item 3 [] 0 (let z : 0 ≤ 0 = omega arith in z))
 
-pub set-short : (y : Layout) (item : ℕ) → listed_sizes (set_orders y item) ≤ 13
-set-short y item = item-first y item 0 (order.SetVariable ∷ []) 6 (let z : 6 + 0 ≤ 6 = omega arith in z)
+pub set-short : (y : Layout) (line item : ℕ) → listed_sizes (set_orders y line item) ≤ 13
+set-short y line item =
+    saved-first (item_order y item 0 ∷ order.SetVariable line ∷ []) 12 (item-first y item 0 (order.SetVariable line ∷ []) 6 (let z : 6 + 0 ≤ 6 = omega arith in z))
 
-pub bump-short : (y : Layout) (item : ℕ) → listed_sizes (bump_orders y item) ≤ 13
-bump-short y item = item-first y item 0 (order.AddStep ∷ []) 6 (let z : 6 + 0 ≤ 6 = omega arith in z)
+pub bump-short : (y : Layout) (line item : ℕ) → listed_sizes (bump_orders y line item) ≤ 12
+bump-short y line item = item-first y item 0 (order.AddStep line ∷ []) 6 (let z : 6 + 0 ≤ 6 = omega arith in z)
 
-pub turn-short : (y : Layout) (item body mark : ℕ) → listed_sizes (item_order y item 0 ∷ order.PutVariable ∷ order.Exhausted mark ∷ order.Jump body ∷ []) ≤ 22
-turn-short y item body mark = item-first y item 0 (order.PutVariable ∷ order.Exhausted mark ∷ order.Jump body ∷ []) 15 (let z : 6 + (6 + (3 + 0)) ≤ 15 = omega arith in z)
+pub turn-short : (y : Layout) (line item body mark : ℕ) → listed_sizes (item_order y item 0 ∷ order.PutVariable line ∷ order.Exhausted mark ∷ order.Jump body ∷ []) ≤ 21
+turn-short y line item body mark =
+    item-first y item 0 (order.PutVariable line ∷ order.Exhausted mark ∷ order.Jump body ∷ []) 15 (let z : 6 + (6 + (3 + 0)) ≤ 15 = omega arith in z)
 
 -- ---- parameters
 

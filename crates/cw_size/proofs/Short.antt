@@ -5,34 +5,51 @@ use Rattle.cw_order.specs.declared.order.Order.TheVariants as order
 use Rattle.cw_gen_expr.specs.Pieces.{Piece, plain, followed_by, with_end, with_labels}
 use Rattle.cw_tmpl.specs.Templates.{listed_size, size_behind, sizes_behind, listed_sizes}
 
--- an order takes no more behind another
-behind-within : (before : Option Order) (o : Order) → size_behind before o ≤ listed_size o
-behind-within (Some (order.Home f n)) order.Load = omega arith
-behind-within (Some (order.Home f n)) order.Store = omega arith
-behind-within (Some (order.FrameHome n)) order.Load = omega arith
-behind-within (Some (order.FrameHome n)) order.Store = omega arith
-behind-within before o = omega arith
+-- an order takes no more behind others
+behind-within : (second first : Option Order) (o : Order) → size_behind second first o ≤ listed_size o
+behind-within second (Some (order.Home f n)) order.Load = omega arith
+behind-within second (Some (order.FrameHome n)) order.Load = omega arith
+behind-within (Some order.Save) (Some (order.Home f n)) order.Store = omega arith
+behind-within (Some order.Save) (Some (order.FrameHome n)) order.Store = omega arith
+behind-within second first o = omega arith
 
-pub all-behind : (before : Option Order) (os : List Order) → sizes_behind before os ≤ listed_sizes os
-all-behind before [] = omega arith
-all-behind before (o ∷ os) =
-    let h = behind-within before o in
-    let z : size_behind before o + sizes_behind (Some o) os ≤ listed_size o + sizes_behind (Some o) os = omega (arith, h) in
+second-within : (second : Option Order) (x o : Order) → size_behind second (Some x) o ≤ size_behind None (Some x) o
+second-within second (order.Home f n) order.Load = omega arith
+second-within second (order.FrameHome n) order.Load = omega arith
+second-within (Some order.Save) (order.Home f n) order.Store = omega arith
+second-within (Some order.Save) (order.FrameHome n) order.Store = omega arith
+second-within second x o = omega arith
+
+seconds-within : (second : Option Order) (x : Order) (os : List Order) → sizes_behind second (Some x) os ≤ sizes_behind None (Some x) os
+seconds-within second x [] = omega arith
+seconds-within second x (o ∷ os) =
+    let h = second-within second x o in
+    let z : size_behind second (Some x) o + sizes_behind (Some x) (Some o) os ≤ size_behind None (Some x) o + sizes_behind (Some x) (Some o) os = omega (arith, h) in
     z
 
-append-behind : (before : Option Order) (xs ys : List Order) → sizes_behind before (xs ++ ys) ≤ sizes_behind before xs + listed_sizes ys
-append-behind before [] ys = let h = all-behind before ys in let z : sizes_behind before ys ≤ 0 + listed_sizes ys = omega (arith, h) in z
-append-behind before (x ∷ xs) ys =
-    let h = append-behind (Some x) xs ys in
-    let z : size_behind before x + sizes_behind (Some x) (xs ++ ys) ≤ size_behind before x + sizes_behind (Some x) xs + listed_sizes ys = omega (arith, h) in
+pub all-behind : (second first : Option Order) (os : List Order) → sizes_behind second first os ≤ listed_sizes os
+all-behind second first [] = omega arith
+all-behind second first (o ∷ os) =
+    let h = behind-within second first o in
+    let k = seconds-within first o os in
+    let z : size_behind second first o + sizes_behind first (Some o) os ≤ listed_size o + sizes_behind None (Some o) os = omega (arith, h, k) in
+    z
+
+append-behind : (second first : Option Order) (xs ys : List Order) → sizes_behind second first (xs ++ ys) ≤ sizes_behind second first xs + listed_sizes ys
+append-behind second first [] ys =
+    let h = all-behind second first ys in let z : sizes_behind second first ys ≤ 0 + listed_sizes ys = omega (arith, h) in z
+append-behind second first (x ∷ xs) ys =
+    let h = append-behind first (Some x) xs ys in
+    let z : size_behind second first x + sizes_behind first (Some x) (xs ++ ys) ≤ size_behind second first x + sizes_behind first (Some x) xs + listed_sizes ys = omega (arith, h) in
     z
 
 pub sizes-append : (xs ys : List Order) → listed_sizes (xs ++ ys) ≤ listed_sizes xs + listed_sizes ys
-sizes-append = append-behind None
+sizes-append = append-behind None None
 
 -- an order, and orders behind it
 pub first_short : (o : Order) (os : List Order) (m n : ℕ) → listed_size o ≤ m → listed_sizes os ≤ n → listed_sizes (o ∷ os) ≤ m + n
-first_short o os m n h k = let behind = all-behind (Some o) os in let z : listed_size o + sizes_behind (Some o) os ≤ m + n = omega (arith, h, k, behind) in z
+first_short o os m n h k =
+    let behind = all-behind None (Some o) os in let z : listed_size o + sizes_behind None (Some o) os ≤ m + n = omega (arith, h, k, behind) in z
 
 -- the orders have at most so many bytes, even with some to spare
 pub record Short (p : Piece) (spare most : ℕ) : Type 0 where

@@ -1,5 +1,5 @@
 -- The orders of statements, with the landings of the labels that they set, are short by the tokens of their trees.
-use Rattle.std.proofs.Common.{◌≡◌, ℕ, zero, suc, ◌+◌, ◌*◌, ◌<◌, ◌≤◌, List, [], ◌∷◌, map, length, true, false, Option, refl, sym, ap, subst, arith}
+use Rattle.std.proofs.Common.{◌≡◌, ℕ, zero, suc, ◌+◌, ◌*◌, ◌<◌, ◌≤◌, List, [], ◌∷◌, ◌++◌, map, length, true, false, Option, refl, sym, ap, subst, arith}
 use Rattle.cw_order.specs.declared.order.Order.{Order}
 use Rattle.cw_order.specs.declared.order.Order.TheVariants as order
 use Rattle.cw_unit.specs.declared.layout.Layout.{Layout}
@@ -12,18 +12,18 @@ use Rattle.cw_unit.specs.declared.unit.Ref.{out-Ref}
 use Rattle.cw_unit.specs.declared.unit.Stmt.{Stmt, Stmt-F, out-Stmt, map-Stmt, fold-Stmt, fold_out-Stmt}
 use Rattle.cw_unit.specs.declared.unit.Stmt.TheOpen as statement
 use Rattle.cw_gen_expr.specs.Pieces.{Piece, plain, followed_by, sequence, with_end}
-use Rattle.cw_gen_expr.specs.ReferenceExpressions.{Scope, argument_words, control_place, item_order, store_orders, call_order, condition_piece, expression_piece}
+use Rattle.cw_gen_expr.specs.ReferenceExpressions.{Scope, at_line, argument_words, control_place, item_order, store_orders, call_order, condition_piece, expression_piece}
 use Rattle.cw_gen_expr.proofs.Layers.{total}
 use Rattle.cw_gen_unit.specs.ReferenceStatements as made
-use Rattle.cw_gen_unit.specs.ReferenceStatements.{begin_orders, after_statement_call, goal_order, jump_piece, with_middle, number_orders, set_orders, bump_orders, turn_piece, while_values, step_values, element_piece, elements_piece, element_ways, ring_piece, statement_piece}
+use Rattle.cw_gen_unit.specs.ReferenceStatements.{begin_orders, after_statement_call, goal_order, jump_piece, with_middle, keep_orders, number_orders, set_orders, bump_orders, turn_piece, while_values, step_values, element_piece, elements_piece, element_ways, ring_piece, statement_piece}
 use Rattle.cw_tokens.specs.LeastTokens as least
 use Rattle.cw_tokens.specs.LeastTokens.{separated, arguments, expression_tokens, argument_tokens, condition_tokens, reference_tokens, each_argument, element_tokens, each_element, jump_tokens, statement_tokens}
 use Rattle.cw_tmpl.specs.Templates.{listed_size, listed_sizes}
 use Rattle.cw_tokens.specs.SetLabels.{together, set_step, set_labels}
 use Rattle.cw_size.proofs.Short.{first_short, Short, plainly, both_short, ended_short, labels_short, eased}
-use Rattle.cw_size.proofs.OrderSizes.{item-load, item-store, store-short, call-short, after-short, goal-short, number-short, set-short, bump-short, turn-short}
+use Rattle.cw_size.proofs.OrderSizes.{item-load, item-keep, store-short, call-short, after-short, goal-short, number-short, set-short, bump-short, turn-short}
 use Rattle.cw_size.proofs.TokenLayers.{each-argument, separated-within}
-use Rattle.cw_size.proofs.Expressions.{choice_short, expression_short, condition_ended_short, address_short, arguments_short}
+use Rattle.cw_size.proofs.Expressions.{choice_short, saved_short, expression_short, condition_ended_short, address_short, arguments_short}
 
 -- ---- layers
 
@@ -63,11 +63,11 @@ statement-size = fold_out-Stmt ℕ size_step
 
 -- ---- lists of orders
 
-begin_short : (line : ℕ) → Short (plain (begin_orders line)) 0 5
-begin_short line = plainly (begin_orders line) 5 (let z : 5 + 0 ≤ 5 = omega arith in z)
+begin_short : (line : ℕ) → Short (plain (begin_orders line)) 0 1
+begin_short line = plainly (begin_orders line) 1 (let z : 1 + 0 ≤ 1 = omega arith in z)
 
-kept_short : (y : Layout) (item word : ℕ) (os : List Order) (most : ℕ) → listed_sizes os ≤ most → Short (plain (item_order y item word ∷ order.Store ∷ os)) 0 (10 + most)
-kept_short y item word os most h = plainly (item_order y item word ∷ order.Store ∷ os) (10 + most) (item-store y item word os most h)
+kept_short : (y : Layout) (item word : ℕ) (os : List Order) (most : ℕ) → listed_sizes os ≤ most → Short (plain (keep_orders y item word ++ os)) 0 (9 + most)
+kept_short y item word os most h = plainly (keep_orders y item word ++ os) (9 + most) (item-keep y item word os most h)
 
 -- ---- FOR
 
@@ -80,38 +80,38 @@ module _ (s : Scope) where
   element_short item f set body i (element.One e) =
       ended_short (λ next. followed_by (plain (number_orders s.layout item i)) (followed_by (expression_piece s e f) (plain (order.Jump set ∷ []))))
       (λ next. eased
-      (both_short (plainly (number_orders s.layout item i) 14 (number-short s.layout item i))
+      (both_short (plainly (number_orders s.layout item i) 12 (number-short s.layout item i))
       (both_short (expression_short s e f) (plainly (order.Jump set ∷ []) 3 (let z : 3 + 0 ≤ 3 = omega arith in z))))
-      (let z : 14 + (32 * expression_tokens e + 3 + 3) + 2 ≤ 32 * suc (expression_tokens e) + (0 + (0 + 0)) = omega arith in z))
+      (let z : 12 + (32 * expression_tokens e + 5 + 3) + 2 ≤ 32 * suc (expression_tokens e) + (0 + (0 + 0)) = omega arith in z))
   element_short item f set body i (element.While e c) =
       let a = expression_tokens e in
       let b = condition_tokens c in
       eased
       (middle_short (λ own. plain []) (λ own. with_end (λ next. while_values s item f body next i e c)) (λ own. plainly [] 0 (let z : 0 ≤ 0 = omega arith in z))
       (λ own. ended_short (λ next. while_values s item f body next i e c)
-      (λ next. both_short (plainly (number_orders s.layout item i) 14 (number-short s.layout item i))
+      (λ next. both_short (plainly (number_orders s.layout item i) 12 (number-short s.layout item i))
       (both_short (expression_short s e f)
-      (both_short (plainly (set_orders s.layout item) 13 (set-short s.layout item))
+      (both_short (plainly (set_orders s.layout s.line item) 13 (set-short s.layout s.line item))
       (both_short (condition_ended_short s c false next) (plainly (order.Jump body ∷ []) 3 (let z : 3 + 0 ≤ 3 = omega arith in z))))))))
-      (let z : 0 + (14 + (32 * a + 3 + (13 + (32 * b + 3)))) + 2 ≤ 32 * suc (suc (a + b)) + (0 + (0 + (0 + (0 + (0 + 0))))) = omega arith in z)
+      (let z : 0 + (12 + (32 * a + 5 + (13 + (32 * b + 3)))) + 2 ≤ 32 * suc (suc (a + b)) + (0 + (0 + (0 + (0 + (0 + 0))))) = omega arith in z)
   element_short item f set body i (element.Step a b d) =
       let k = expression_tokens a in
       let m = expression_tokens b in
       let n = expression_tokens d in
       eased
-      (middle_short (λ turn. followed_by (with_end (λ bump. step_values s item f turn i a b d)) (plain (bump_orders s.layout item))) (λ turn. turn_piece s.layout item body)
+      (middle_short (λ turn. followed_by (with_end (λ bump. step_values s item f turn i a b d)) (plain (bump_orders s.layout s.line item))) (λ turn. turn_piece s.layout s.line item body)
       (λ turn. both_short
       (ended_short (λ bump. step_values s item f turn i a b d)
-      (λ bump. both_short (plainly (number_orders s.layout item i) 14 (number-short s.layout item i))
+      (λ bump. both_short (plainly (number_orders s.layout item i) 12 (number-short s.layout item i))
       (both_short (expression_short s a f)
-      (both_short (plainly (set_orders s.layout item) 13 (set-short s.layout item))
+      (both_short (plainly (set_orders s.layout s.line item) 13 (set-short s.layout s.line item))
       (both_short (expression_short s b f)
       (both_short (kept_short s.layout item 1 [] 0 (let z : 0 ≤ 0 = omega arith in z))
       (both_short (expression_short s d f) (kept_short s.layout item 2 (order.Jump turn ∷ []) 3 (let z : 3 + 0 ≤ 3 = omega arith in z)))))))))
-      (plainly (bump_orders s.layout item) 13 (bump-short s.layout item)))
-      (λ turn. ended_short (λ next. plain (item_order s.layout item 0 ∷ order.PutVariable ∷ order.Exhausted next ∷ order.Jump body ∷ []))
-      (λ next. plainly (item_order s.layout item 0 ∷ order.PutVariable ∷ order.Exhausted next ∷ order.Jump body ∷ []) 22 (turn-short s.layout item body next))))
-      (let z : 14 + (32 * k + 3 + (13 + (32 * m + 3 + (10 + 0 + (32 * n + 3 + (10 + 3)))))) + 13 + 22 + 2 ≤ 32 * suc (2 + (k + (m + n))) + (0 + (0 + (0 + (0 + (0 + (0 + 0))))) + 0 + 0) = omega arith in z)
+      (plainly (bump_orders s.layout s.line item) 12 (bump-short s.layout s.line item)))
+      (λ turn. ended_short (λ next. plain (item_order s.layout item 0 ∷ order.PutVariable s.line ∷ order.Exhausted next ∷ order.Jump body ∷ []))
+      (λ next. plainly (item_order s.layout item 0 ∷ order.PutVariable s.line ∷ order.Exhausted next ∷ order.Jump body ∷ []) 21 (turn-short s.layout s.line item body next))))
+      (let z : 12 + (32 * k + 5 + (13 + (32 * m + 5 + (9 + 0 + (32 * n + 5 + (9 + 3)))))) + 12 + 21 + 2 ≤ 32 * suc (2 + (k + (m + n))) + (0 + (0 + (0 + (0 + (0 + (0 + 0))))) + 0 + 0) = omega arith in z)
 
   elements_short : (item f set body i : ℕ) (es : List Felem) → Short (elements_piece s item f set body i es) (2 * length es) (32 * separated (each_element es))
   elements_short item f set body i [] = plainly [] (32 * 0) (let z : 0 ≤ 32 * 0 = omega arith in z)
@@ -125,49 +125,44 @@ module _ (s : Scope) where
       let x = element_piece s item f set body i e place next in
       ap suc (ways-long item f set body (i + 1) es (place + length x.orders) (next + length x.marks))
 
-  ring_short : (line item f : ℕ) (es : List Felem) (body : Piece) (k m : ℕ) → Short body k m → Short (ring_piece s line item f es body) k (32 * separated (each_element es) + m + 52)
-  ring_short line item f es body k m hb = record { at = λ place next. (laid (element_ways s item f (next + 1 + 1) (next + 1) 1 es place (next + 1 + 1 + 1)) (ways-long item f (next + 1 + 1) (next + 1) 1 es place (next + 1 + 1 + 1))).at place next }
+  ring_short : (item f : ℕ) (es : List Felem) (body : Piece) (k m : ℕ) → Short body k m → Short (ring_piece s item f es body) k (32 * separated (each_element es) + m + 45)
+  ring_short item f es body k m hb = record { at = λ place next. (laid (element_ways s item f (next + 1 + 1) (next + 1) 1 es place (next + 1 + 1 + 1)) (ways-long item f (next + 1 + 1) (next + 1) 1 es place (next + 1 + 1 + 1))).at place next }
     where
-      way_orders : List ℕ → List Order
-      way_orders ways = order.Line line ∷ item_order s.layout item 3 ∷ order.Load ∷ order.LoopWay ways ∷ []
-
-      way_short : (ways : List ℕ) → length ways ≡ length es → listed_sizes (order.Line line ∷ item_order s.layout item 3 ∷ order.Load ∷ order.LoopWay ways ∷ []) ≤ 36 + 2 * length es
+      way_short : (ways : List ℕ) → length ways ≡ length es → listed_sizes (item_order s.layout item 3 ∷ order.Load ∷ order.LoopWay ways ∷ []) ≤ 29 + 2 * length es
       way_short ways e =
-          let os : List Order = item_order s.layout item 3 ∷ order.Load ∷ order.LoopWay ways ∷ [] in
-          let h = item-load s.layout item 3 (order.LoopWay ways ∷ []) (21 + 2 * length es) (let z : 21 + 2 * length ways + 0 ≤ 21 + 2 * length es = omega (arith, e) in z) in
-          let k = first_short (order.Line line) os 5 (10 + (21 + 2 * length es)) (let z : 5 ≤ 5 = omega arith in z) h in
-          let z : listed_sizes (order.Line line ∷ os) ≤ 36 + 2 * length es = omega (arith, k) in
+          let h = item-load s.layout item 3 (order.LoopWay ways ∷ []) (20 + 2 * length es) (let z : 20 + 2 * length ways + 0 ≤ 20 + 2 * length es = omega (arith, e) in z) in
+          let z : listed_sizes (item_order s.layout item 3 ∷ order.Load ∷ order.LoopWay ways ∷ []) ≤ 29 + 2 * length es = omega (arith, h) in
           z
 
       laid : (ways : List ℕ) → length ways ≡ length es
-          → Short (with_end (λ end. with_middle (λ start. followed_by (with_end (λ set. followed_by (elements_piece s item f set start 1 es) (plain (order.Jump end ∷ [])))) (plain (set_orders s.layout item))) (λ start. followed_by body (plain (order.Line line ∷ item_order s.layout item 3 ∷ order.Load ∷ order.LoopWay ways ∷ [])))))
-          k (32 * separated (each_element es) + m + 52)
+          → Short (with_end (λ end. with_middle (λ start. followed_by (with_end (λ set. followed_by (elements_piece s item f set start 1 es) (plain (order.Jump end ∷ [])))) (plain (set_orders s.layout s.line item))) (λ start. followed_by body (plain (item_order s.layout item 3 ∷ order.Load ∷ order.LoopWay ways ∷ [])))))
+          k (32 * separated (each_element es) + m + 45)
       laid ways e =
-          ended_short (λ end. with_middle (λ start. followed_by (with_end (λ set. followed_by (elements_piece s item f set start 1 es) (plain (order.Jump end ∷ [])))) (plain (set_orders s.layout item))) (λ start. followed_by body (plain (order.Line line ∷ item_order s.layout item 3 ∷ order.Load ∷ order.LoopWay ways ∷ []))))
+          ended_short (λ end. with_middle (λ start. followed_by (with_end (λ set. followed_by (elements_piece s item f set start 1 es) (plain (order.Jump end ∷ [])))) (plain (set_orders s.layout s.line item))) (λ start. followed_by body (plain (item_order s.layout item 3 ∷ order.Load ∷ order.LoopWay ways ∷ []))))
           (λ end. eased
-          (middle_short (λ start. followed_by (with_end (λ set. followed_by (elements_piece s item f set start 1 es) (plain (order.Jump end ∷ [])))) (plain (set_orders s.layout item))) (λ start. followed_by body (plain (order.Line line ∷ item_order s.layout item 3 ∷ order.Load ∷ order.LoopWay ways ∷ [])))
+          (middle_short (λ start. followed_by (with_end (λ set. followed_by (elements_piece s item f set start 1 es) (plain (order.Jump end ∷ [])))) (plain (set_orders s.layout s.line item))) (λ start. followed_by body (plain (item_order s.layout item 3 ∷ order.Load ∷ order.LoopWay ways ∷ [])))
           (λ start. both_short
           (ended_short (λ set. followed_by (elements_piece s item f set start 1 es) (plain (order.Jump end ∷ [])))
           (λ set. both_short (elements_short item f set start 1 es) (plainly (order.Jump end ∷ []) 3 (let z : 3 + 0 ≤ 3 = omega arith in z))))
-          (plainly (set_orders s.layout item) 13 (set-short s.layout item)))
-          (λ start. both_short hb (plainly (order.Line line ∷ item_order s.layout item 3 ∷ order.Load ∷ order.LoopWay ways ∷ []) (36 + 2 * length es) (way_short ways e))))
-          (let z : 32 * separated (each_element es) + 3 + 13 + (m + (36 + 2 * length es)) + k ≤ 32 * separated (each_element es) + m + 52 + (2 * length es + 0 + 0 + (k + 0)) = omega arith in z))
+          (plainly (set_orders s.layout s.line item) 13 (set-short s.layout s.line item)))
+          (λ start. both_short hb (plainly (item_order s.layout item 3 ∷ order.Load ∷ order.LoopWay ways ∷ []) (29 + 2 * length es) (way_short ways e))))
+          (let z : 32 * separated (each_element es) + 3 + 13 + (m + (29 + 2 * length es)) + k ≤ 32 * separated (each_element es) + m + 45 + (2 * length es + 0 + 0 + (k + 0)) = omega arith in z))
 
 -- ---- statements
 
 module _ (s : Scope) (who : Option ℕ) (answer : ℕ) where
   -- the index of a switch, and the way to it
-  switched : (e : Expr) (o : Order) → listed_size o ≤ 10 → Short (followed_by (expression_piece s e 0) (plain (o ∷ []))) 0 (32 * (3 + expression_tokens e))
-  switched e o h =
-      eased (both_short (expression_short s e 0) (plainly (o ∷ []) 10 (let z : listed_size o + 0 ≤ 10 = omega (arith, h) in z)))
-      (let z : 32 * expression_tokens e + 3 + 10 + 0 ≤ 32 * (3 + expression_tokens e) + (0 + 0) = omega arith in z)
+  switched : (line : ℕ) (e : Expr) (o : Order) → listed_size o ≤ 13 → Short (followed_by (expression_piece (at_line line s) e 0) (plain (o ∷ []))) 0 (32 * (3 + expression_tokens e))
+  switched line e o h =
+      eased (both_short (expression_short (at_line line s) e 0) (plainly (o ∷ []) 13 (let z : listed_size o + 0 ≤ 13 = omega (arith, h) in z)))
+      (let z : 32 * expression_tokens e + 5 + 13 + 0 ≤ 32 * (3 + expression_tokens e) + (0 + 0) = omega arith in z)
 
-  jump_short : (d : Dest) → Short (jump_piece s who d) 0 (32 * jump_tokens d)
-  jump_short (dest.Goal g) = let h = goal-short s.unit who g in plainly (goal_order s.unit who g ∷ []) (32 * 1) (let z : listed_size (goal_order s.unit who g) + 0 ≤ 32 * 1 = omega (arith, h) in z)
-  jump_short (dest.Special k) = plainly (order.GoSpecial (control_place s.parameters k) ∷ []) (32 * 1) (let z : 17 + 0 ≤ 32 * 1 = omega arith in z)
-  jump_short (dest.Switch n e) = switched e (order.GoSwitch n) (let z : 5 ≤ 10 = omega arith in z)
-  jump_short (dest.CommonSwitch d e) = switched e (order.GoSwitchCommon d) (let z : 5 ≤ 10 = omega arith in z)
-  jump_short (dest.SpecialSwitch k e) = switched e (order.GoSwitchSpecial (control_place s.parameters k)) (let z : 10 ≤ 10 = omega arith in z)
+  jump_short : (line : ℕ) (d : Dest) → Short (jump_piece (at_line line s) who d) 0 (32 * jump_tokens d)
+  jump_short line (dest.Goal g) = let h = goal-short s.unit who g in plainly (goal_order s.unit who g ∷ []) (32 * 1) (let z : listed_size (goal_order s.unit who g) + 0 ≤ 32 * 1 = omega (arith, h) in z)
+  jump_short line (dest.Special k) = plainly (order.GoSpecial (control_place s.parameters k) ∷ []) (32 * 1) (let z : 17 + 0 ≤ 32 * 1 = omega arith in z)
+  jump_short line (dest.Switch n e) = switched line e (order.GoSwitch n line) (let z : 8 ≤ 13 = omega arith in z)
+  jump_short line (dest.CommonSwitch d e) = switched line e (order.GoSwitchCommon d line) (let z : 8 ≤ 13 = omega arith in z)
+  jump_short line (dest.SpecialSwitch k e) = switched line e (order.GoSwitchSpecial (control_place s.parameters k) line) (let z : 13 ≤ 13 = omega arith in z)
 
   -- with the landings of its labels
   abbrev pub ShortStatement : Stmt → Type 0
@@ -186,42 +181,48 @@ module _ (s : Scope) (who : Option ℕ) (answer : ℕ) where
     layer_short (statement.Put line r e) le =
         eased
         (both_short (begin_short line)
-        (both_short (expression_short s e (out-Ref r).f) (both_short (address_short s r) (plainly (store_orders (out-Ref r).field) 27 (store-short (out-Ref r).field)))))
-        (let z : 5 + (32 * expression_tokens e + 3 + (32 * reference_tokens r + 27)) + 15 * 0 ≤ 32 * suc (reference_tokens r + expression_tokens e) + (0 + (0 + (16 + 0))) = omega arith in z)
+        (both_short (expression_short (at_line line s) e (out-Ref r).f)
+        (both_short (saved_short (at_line line s)) (both_short (address_short (at_line line s) r) (plainly (store_orders (out-Ref r).field) 26 (store-short (out-Ref r).field))))))
+        (let z : 1 + (32 * expression_tokens e + 5 + (1 + (32 * reference_tokens r + 26))) + 15 * 0 ≤ 32 * suc (reference_tokens r + expression_tokens e) + (0 + (0 + (0 + (14 + 0)))) = omega arith in z)
     layer_short (statement.PutBits line t b r e) le =
         eased
-        (both_short (begin_short line) (both_short (expression_short s e 0) (both_short (address_short s r) (plainly (order.StorePart t b ∷ []) 27 (let z : 27 + 0 ≤ 27 = omega arith in z)))))
-        (let z : 5 + (32 * expression_tokens e + 3 + (32 * reference_tokens r + 27)) + 15 * 0 ≤ 32 * (7 + (reference_tokens r + expression_tokens e)) + (0 + (0 + (16 + 0))) = omega arith in z)
+        (both_short (begin_short line)
+        (both_short (expression_short (at_line line s) e 0)
+        (both_short (saved_short (at_line line s)) (both_short (address_short (at_line line s) r) (plainly (order.StorePart t b ∷ []) 26 (let z : 26 + 0 ≤ 26 = omega arith in z))))))
+        (let z : 1 + (32 * expression_tokens e + 5 + (1 + (32 * reference_tokens r + 26))) + 15 * 0 ≤ 32 * (7 + (reference_tokens r + expression_tokens e)) + (0 + (0 + (0 + (14 + 0)))) = omega arith in z)
     layer_short (statement.Go line d) le =
-        eased (both_short (begin_short line) (jump_short d)) (let z : 5 + 32 * jump_tokens d + 15 * 0 ≤ 32 * suc (jump_tokens d) + (0 + 0) = omega arith in z)
+        eased (both_short (begin_short line) (jump_short line d)) (let z : 1 + 32 * jump_tokens d + 15 * 0 ≤ 32 * suc (jump_tokens d) + (0 + 0) = omega arith in z)
     layer_short (statement.Call line t args) le =
         let ns = map argument_tokens args in
         let listed = separated-within ns in
+        let h = at_line line s in
         subst (λ (l : List ℕ). Short (statement_layer s who answer (statement.Call line t args)) (15 * 0) (32 * suc (arguments l))) (sym (each-argument args))
         (eased
         (both_short (begin_short line)
-        (both_short (arguments_short s args) (plainly (call_order s t ∷ after_statement_call t) 20 (first_short (call_order s t) (after_statement_call t) 19 1 (call-short s t) (after-short t)))))
-        (let z : 5 + (32 * separated ns + 20) + 15 * 0 ≤ 32 * suc (arguments ns) + (0 + (0 + 0)) = omega (arith, listed) in z))
+        (both_short (arguments_short h args) (plainly (call_order h t ∷ after_statement_call t) 13 (first_short (call_order h t) (after_statement_call t) 13 0 (call-short h t) (after-short t)))))
+        (let z : 1 + (32 * separated ns + 13) + 15 * 0 ≤ 32 * suc (arguments ns) + (0 + (0 + 0)) = omega (arith, listed) in z))
     layer_short (statement.Answer line e) le =
-        eased (both_short (begin_short line) (both_short (expression_short s e answer) (plainly (order.Return (argument_words s.parameters) true ∷ []) 11 (let z : 11 + 0 ≤ 11 = omega arith in z))))
-        (let z : 5 + (32 * expression_tokens e + 3 + 11) + 15 * 0 ≤ 32 * suc (expression_tokens e) + (0 + (0 + 0)) = omega arith in z)
+        eased
+        (both_short (begin_short line) (both_short (expression_short (at_line line s) e answer) (plainly (order.Return (argument_words s.parameters) true ∷ []) 6 (let z : 6 + 0 ≤ 6 = omega arith in z))))
+        (let z : 1 + (32 * expression_tokens e + 5 + 6) + 15 * 0 ≤ 32 * suc (expression_tokens e) + (0 + (0 + 0)) = omega arith in z)
     layer_short (statement.If line c a b) le =
         let i = condition_tokens c in
         let j = statement_tokens a in
         let k = statement_tokens b in
         eased
         (both_short (begin_short line)
-        (choice_short (condition_piece s c) (statement_piece s who answer a) (statement_piece s who answer b) (λ when mark. condition_ended_short s c when mark)
+        (choice_short (condition_piece (at_line line s) c) (statement_piece s who answer a) (statement_piece s who answer b) (λ when mark. condition_ended_short (at_line line s) c when mark)
         (below a (let z : statement_size a < n = omega (arith, le) in z)) (below b (let z : statement_size b < n = omega (arith, le) in z))))
-        (let z : 5 + (32 * i + 32 * j + 32 * k + 3) + 15 * (set_labels a + set_labels b) ≤ 32 * (2 + (i + (j + k))) + (0 + (15 * set_labels a + 15 * set_labels b)) = omega arith in z)
+        (let z : 1 + (32 * i + 32 * j + 32 * k + 3) + 15 * (set_labels a + set_labels b) ≤ 32 * (2 + (i + (j + k))) + (0 + (15 * set_labels a + 15 * set_labels b)) = omega arith in z)
     layer_short (statement.For line item r es t) le =
         let m = separated (each_element es) in
+        let h = at_line line s in
         eased
         (both_short (begin_short line)
-        (both_short (address_short s r)
+        (both_short (address_short h r)
         (both_short (kept_short s.layout item 0 [] 0 (let z : 0 ≤ 0 = omega arith in z))
-        (ring_short s line item (out-Ref r).f es (statement_piece s who answer t) (15 * set_labels t) (32 * statement_tokens t) (below t (let z : statement_size t < n = omega (arith, le) in z))))))
-        (let z : 5 + (32 * reference_tokens r + (10 + 0 + (32 * m + 32 * statement_tokens t + 52))) + 15 * set_labels t ≤ 32 * (2 + (reference_tokens r + (m + statement_tokens t))) + (0 + (16 + (0 + 15 * set_labels t))) = omega arith in z)
+        (ring_short h item (out-Ref r).f es (statement_piece s who answer t) (15 * set_labels t) (32 * statement_tokens t) (below t (let z : statement_size t < n = omega (arith, le) in z))))))
+        (let z : 1 + (32 * reference_tokens r + (9 + 0 + (32 * m + 32 * statement_tokens t + 45))) + 15 * set_labels t ≤ 32 * (2 + (reference_tokens r + (m + statement_tokens t))) + (0 + (14 + (0 + 15 * set_labels t))) = omega arith in z)
     layer_short (statement.Seq ss) le = all_short ss (let z : total (map statement_size ss) < n = omega (arith, le) in z)
     layer_short (statement.Mark ls t) le =
         eased (both_short (labels_short ls) (below t (let z : statement_size t < n = omega (arith, le) in z)))

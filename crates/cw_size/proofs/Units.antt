@@ -35,9 +35,9 @@ module _ (u : SourceUnit) where
   procedure_short : (p : ℕ) (q : Proc) → Short (procedure_piece u p q) (15 * set_labels q.body) (32 * procedure_tokens q)
   procedure_short p q =
       eased
-      (both_short (plainly (entry_orders u p q) (12 + 13 * length q.params) (first_short (order.Enter (slice_index (layout_of u).frames p)) (bind_orders (layout_of u) q.params) 12 (13 * length q.params) (let z : 12 ≤ 12 = omega arith in z) (bind-short (layout_of u) q.params)))
-      (both_short (statement_short (scope_of u (Some p)) (Some p) (answer_of u (Some p)) q.body) (plainly (leave_orders q) 15 (let z : 4 + (11 + 0) ≤ 15 = omega arith in z))))
-      (let z : 12 + 13 * length q.params + (32 * statement_tokens q.body + 15) + 15 * set_labels q.body ≤ 32 * (4 + (2 * length q.params + statement_tokens q.body)) + (0 + (15 * set_labels q.body + 0)) = omega arith in z)
+      (both_short (plainly (entry_orders u p q) (9 + 13 * length q.params) (first_short (order.Enter (slice_index (layout_of u).frames p)) (bind_orders (layout_of u) q.params) 9 (13 * length q.params) (let z : 9 ≤ 9 = omega arith in z) (bind-short (layout_of u) q.params)))
+      (both_short (statement_short (scope_of u (Some p)) (Some p) (answer_of u (Some p)) q.body) (plainly (leave_orders q) 9 (let z : 3 + (6 + 0) ≤ 9 = omega arith in z))))
+      (let z : 9 + 13 * length q.params + (32 * statement_tokens q.body + 9) + 15 * set_labels q.body ≤ 32 * (4 + (2 * length q.params + statement_tokens q.body)) + (0 + (15 * set_labels q.body + 0)) = omega arith in z)
 
   procedures_short : (p : ℕ) (qs : List Proc) → Short (procedures_piece u p qs) (15 * set_in_procedures qs) (32 * procedures_tokens qs)
   procedures_short p [] = eased (plainly [] 0 (let z : 0 ≤ 0 = omega arith in z)) (let z : 0 + 15 * 0 ≤ 32 * 0 + 0 = omega arith in z)
@@ -52,7 +52,7 @@ module _ (u : SourceUnit) where
   pub short : ((o : Orders) → length (blanks (pieces_of o)) ≤ entry_size + (listed_sizes o.list + (landing_size * length o.labels + switch_sizes o.switches))) → LabelsStand u → length (orders_code (unit_orders u)).bytes ≤ 32 * least_tokens u
   short segment stand =
       let o = unit_orders u in
-      let all : length (orders_code o).bytes ≤ 15 + (listed_sizes o.list + (15 * length o.labels + switch_sizes o.switches)) = segment o in
+      let all : length (orders_code o).bytes ≤ 11 + (listed_sizes o.list + (15 * length o.labels + switch_sizes o.switches)) = segment o in
       let orders : listed_sizes o.list + (15 * set_labels u.body + 0 + 15 * set_in_procedures u.procs) ≤ 32 * statement_tokens u.body + 5 + 32 * procedures_tokens u.procs = unit_short.at 0 (first_mark u) in
       let labels : length o.labels ≡ length u.labels = labels-long u 0 u.labels in
       let few : length u.labels ≤ set_labels u.body + set_in_procedures u.procs = stand.few in

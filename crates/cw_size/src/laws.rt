@@ -13,9 +13,9 @@ ghost use Rattle.cw_tokens.specs.SetLabels.{set_labels, LabelsStand};
 
 use cw_tmpl::laws::sizes;
 
-/// The orders of an expression, at whatever scale, have at most 32 bytes for each of its tokens, and 3 more.
+/// The orders of an expression, at whatever scale, have at most 32 bytes for each of its tokens, and 5 more.
 pub fn short_expressions()
-    ensures { (s : Scope) (e : Expr) (f place next : ℕ) → listed_sizes (expression_piece s e f place next).orders ≤ 32 * expression_tokens e + 3 }
+    ensures { (s : Scope) (e : Expr) (f place next : ℕ) → listed_sizes (expression_piece s e f place next).orders ≤ 32 * expression_tokens e + 5 }
 {}
 
 /// The orders of a statement, with the landings of the labels that it sets, have at most 32 bytes for each of its tokens.

@@ -69,6 +69,7 @@ piece_blank pre rest (coded.Operate op reg t) = word_blank pre ((8 * op + 2 * 1 
 piece_blank pre rest (coded.Call t) = word_blank pre (0xE8 ∷ []) rest t
 piece_blank pre rest (coded.Jump t) = word_blank pre (0xE9 ∷ []) rest t
 piece_blank pre rest (coded.Word t) = word_blank pre [] rest t
+piece_blank pre rest (coded.Data n) = none _
 piece_blank pre rest (coded.Way t) = word_blank pre (0x2E ∷ 0xFF ∷ 0xA7 ∷ []) rest t
 
 pub all_blank : (pre : List ℕ) (ps : List Coded) → All (FillsBlank (pre ++ blanks ps)) (relocations (length pre) ps)
@@ -97,4 +98,5 @@ all_rise from at (coded.Operate op reg t ∷ ps) le = word_rises from (at + 4) t
 all_rise from at (coded.Call t ∷ ps) le = word_rises from (at + 3) t _ (omega arith) (all_rise (at + 3) (at + 3) ps (omega arith))
 all_rise from at (coded.Jump t ∷ ps) le = word_rises from (at + 3) t _ (omega arith) (all_rise (at + 3) (at + 3) ps (omega arith))
 all_rise from at (coded.Word t ∷ ps) le = word_rises from (at + 2) t _ (omega arith) (all_rise (at + 2) (at + 2) ps (omega arith))
+all_rise from at (coded.Data n ∷ ps) le = all_rise from _ ps (omega arith)
 all_rise from at (coded.Way t ∷ ps) le = word_rises from (at + 5) t _ (omega arith) (all_rise (at + 5) (at + 5) ps (omega arith))

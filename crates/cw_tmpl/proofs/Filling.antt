@@ -1,7 +1,7 @@
 -- Filling the relocations in turn gives the code with its words filled.
 use Rattle.std.proofs.Common.{◌≡◌, ℕ, ◌+◌, ◌*◌, ◌-◌, ◌/◌, ◌%◌, ◌≤◌, List, [], ◌∷◌, ◌++◌, length, set, refl, sym, ap, ◌∙◌, arith, append_assoc, length-append}
 use Rattle.std.proofs.Math.Seq.{set-append_seam}
-use Rattle.cw_i86.specs.Encoding.{bytes_of}
+use Rattle.cw_i86.specs.Encoding.{bytes_of, word}
 use Rattle.cw_unit.specs.declared.layout.Reloc.{Reloc}
 use Rattle.cw_tmpl.specs.declared.pieces.Target.{Target}
 use Rattle.cw_tmpl.specs.declared.pieces.Target.TheVariants as target
@@ -80,6 +80,7 @@ one_is value (coded.Operate op reg t) rs base at pre post e = word_is value ((8 
 one_is value (coded.Call t) rs base at pre post e = word_is value (0xE8 ∷ []) t rs base at pre post e
 one_is value (coded.Jump t) rs base at pre post e = word_is value (0xE9 ∷ []) t rs base at pre post e
 one_is value (coded.Word t) rs base at pre post e = word_is value [] t rs base at pre post e
+one_is value (coded.Data n) rs base at pre post e = ap (fill value base rs) (sym (append_assoc pre (word n) post))
 one_is value (coded.Way t) rs base at pre post e = word_is value (0x2E ∷ 0xFF ∷ 0xA7 ∷ []) t rs base at pre post e
 
 pub size_with : (w : ℕ) (p : Coded) → length (bytes_with w p) ≡ size_of p
@@ -91,6 +92,7 @@ size_with w (coded.Operate op reg t) = refl
 size_with w (coded.Call t) = refl
 size_with w (coded.Jump t) = refl
 size_with w (coded.Word t) = refl
+size_with w (coded.Data n) = refl
 size_with w (coded.Way t) = refl
 
 pub filled_is : (value : Filling) (ps : List Coded) (base at : ℕ) (pre post : List ℕ) → base + at ≡ length pre

@@ -1,5 +1,5 @@
 -- The sizes of the code, and the places in it.
-use Rattle.std.proofs.Common.{◌≡◌, ℕ, zero, suc, ◌+◌, ◌*◌, ◌≤◌, List, [], ◌∷◌, ◌++◌, length, drop, get_or, Some, refl, sym, ap, ◌∙◌, arith, append_assoc, length-append}
+use Rattle.std.proofs.Common.{◌≡◌, ℕ, zero, suc, ◌+◌, ◌*◌, ◌≤◌, List, [], ◌∷◌, ◌++◌, length, drop, get_or, Option, Some, None, refl, sym, ap, ap₂, ◌∙◌, arith, append_assoc, length-append}
 use Rattle.std.specs.Prelude.{◌%◌, ◌-◌, ◌^◌, ◌==◌, nat_le, nat_lt, ℤ, pos, negsuc, Bool, true, false, if◌then◌else◌, slice_get, slice_index}
 use Rattle.cw_order.specs.declared.order.Order.{Order}
 use Rattle.cw_order.specs.declared.order.Order.TheVariants as order
@@ -14,7 +14,7 @@ use Rattle.cw_unit.specs.declared.unit.Goal.TheVariants as goal
 use Rattle.cw_order.specs.declared.order.LabelMark.{LabelMark}
 use Rattle.cw_tmpl.specs.Pieces.{blanks}
 use Rattle.cw_tmpl.specs.Names.{Names, no_names, switch_size}
-use Rattle.cw_tmpl.specs.Blocks.{use_of, with_number, with_variable, after_home, after_frame_home, block_at, orders_left, left_at}
+use Rattle.cw_tmpl.specs.Blocks.{use_of, is_plain_divisor, after_saved_const, with_variable, after_saved_home, after_saved_frame_home, after_save, after_home, after_frame_home, block_at, orders_left, left_at}
 use Rattle.cw_tmpl.specs.Library.{overflow_entry, address_entry}
 use Rattle.cw_tmpl.specs.Templates.{template, mark_words, goal_words, landing_pieces, switch_pieces, times_if, rescale_if, product_start, product_down, row_start, row_end, block_pieces, block_size, order_size, listed_size, size_behind, sizes_behind, listed_sizes, distance, entry_pieces}
 use Rattle.cw_tmpl.specs.ReferenceCode.{templates, landings, switches, places_from, entry_size, order_places, landings_place, switches_place, names_of, mark_starts, pieces_of, switch_sizes, StandsAt}
@@ -30,7 +30,7 @@ size_of_goals names [] = refl
 size_of_goals names (goal.Own l ∷ gs) = omega (arith, size_of_goals names gs)
 size_of_goals names (goal.Common d ∷ gs) = omega (arith, size_of_goals names gs)
 
-loop_way_long : (names : Names) (place : ℕ) (marks : List ℕ) → length (blanks (template names place (order.LoopWay marks))) ≡ 21 + 2 * length marks
+loop_way_long : (names : Names) (place : ℕ) (marks : List ℕ) → length (blanks (template names place (order.LoopWay marks))) ≡ 20 + 2 * length marks
 loop_way_long names place marks = omega (arith, size_of_marks names marks)
 
 -- the code of a block is as long wherever it stands
@@ -38,18 +38,18 @@ pub size_everywhere : (names : Names) (place : ℕ) (b : Block) (o : Order) → 
 size_everywhere names place (block.Within n) o = refl
 size_everywhere names place block.Single (order.JumpIf c mark) = refl
 size_everywhere names place block.Single (order.LoopWay marks) = loop_way_long names place marks ∙ sym (loop_way_long no_names 0 marks)
-size_everywhere names place block.Single (order.Return n true) = refl
-size_everywhere names place block.Single (order.Return n false) = refl
 size_everywhere names place block.Single _ = refl
 size_everywhere names place (block.Fetch f n) o = refl
 size_everywhere names place (block.Assign f n) o = refl
 size_everywhere names place (block.FetchFrame n) o = refl
 size_everywhere names place (block.AssignFrame n) o = refl
-size_everywhere names place (block.Operate (simple.Number w) uses.Add) o = refl
-size_everywhere names place (block.Operate (simple.Number w) uses.Subtract) o = refl
+size_everywhere names place block.Write o = refl
+size_everywhere names place (block.Divide w) o = refl
+size_everywhere names place (block.Operate (simple.Number w) (uses.Add line)) o = refl
+size_everywhere names place (block.Operate (simple.Number w) (uses.Subtract line)) o = refl
 size_everywhere names place (block.Operate (simple.Number w) (uses.Compare c m)) o = refl
-size_everywhere names place (block.Operate (simple.Variable f n) uses.Add) o = refl
-size_everywhere names place (block.Operate (simple.Variable f n) uses.Subtract) o = refl
+size_everywhere names place (block.Operate (simple.Variable f n) (uses.Add line)) o = refl
+size_everywhere names place (block.Operate (simple.Variable f n) (uses.Subtract line)) o = refl
 size_everywhere names place (block.Operate (simple.Variable f n) (uses.Compare c m)) o = refl
 
 -- ---- the code before a place of the list
@@ -156,84 +156,122 @@ jump_arrives base own n to = omega arith
 
 -- ---- the code of a block is not longer than its orders in a list
 
--- behind an order that is not the address of a word
-behind_other : (o : Order) → ((x : Order) → size_behind (Some o) x ≡ listed_size x) → (os : List Order) → sizes_behind (Some o) os ≡ listed_sizes os
-behind_other o same [] = refl
-behind_other o same (x ∷ xs) = ap (λ n. n + sizes_behind (Some x) xs) (same x)
+-- no address behind this order is that of a block's store
+abbrev NoSave : Order → Type 0
+NoSave order.Save = ⊥
+NoSave _ = Unit {0}
+
+unsaved : (o : Order) → NoSave o → (x y : Order) → size_behind (Some o) (Some x) y ≡ size_behind None (Some x) y
+unsaved order.Save h x y = absurd h
+unsaved o h x y = refl
+
+behind_unsaved : (o : Order) → NoSave o → (x : Order) (os : List Order) → sizes_behind (Some o) (Some x) os ≡ sizes_behind None (Some x) os
+behind_unsaved o h x [] = refl
+behind_unsaved o h x (y ∷ ys) = ap (λ n. n + sizes_behind (Some x) (Some y) ys) (unsaved o h x y)
+
+-- behind an order that is neither a save nor the address of a word
+behind_other : (before : Option Order) (o : Order) → NoSave o → ((x : Order) → size_behind before (Some o) x ≡ listed_size x) → (os : List Order) → sizes_behind before (Some o) os ≡ listed_sizes os
+behind_other before o h same [] = refl
+behind_other before o h same (x ∷ xs) = ap₂ (λ m n. m + n) (same x) (behind_unsaved o h x xs)
+
+-- behind a save that is a block of its own
+behind_save : (x : Order) → ((y : Order) → size_behind (Some order.Save) (Some x) y ≡ size_behind None (Some x) y) → (os : List Order) → sizes_behind (Some order.Save) (Some x) os ≡ sizes_behind None (Some x) os
+behind_save x same [] = refl
+behind_save x same (y ∷ ys) = ap (λ n. n + sizes_behind (Some x) (Some y) ys) (same y)
 
 -- a block, and the orders behind it
 abbrev from_block : (b : Block) (o : Order) → List Order → ℕ
 from_block b o os = block_size b o + listed_sizes (drop (orders_left b) os)
 
-number_fits : (w : ℕ) (os : List Order) → from_block (with_number w (use_of (slice_get os 0))) (order.Const w) os ≤ listed_sizes (order.Const w ∷ os)
+quotient_fits : (plain : Bool) (w line : ℕ) (os : List Order) → from_block (if plain then block.Divide w else block.Single) order.Save (order.Const w ∷ order.Div (pos zero) line ∷ os) ≤ listed_sizes (order.Save ∷ order.Const w ∷ order.Div (pos zero) line ∷ os)
+quotient_fits true w line os = omega (arith, behind_other (Some (order.Const w)) (order.Div (pos zero) line) tt (λ x. refl) os)
+quotient_fits false w line os = omega arith
+
+number_fits : (w : ℕ) (os : List Order) → from_block (after_saved_const w (slice_get os 0)) order.Save (order.Const w ∷ os) ≤ listed_sizes (order.Save ∷ order.Const w ∷ os)
 number_fits w [] = omega arith
-number_fits w (order.Add ∷ os) = omega (arith, behind_other order.Add (λ x. refl) os)
-number_fits w (order.Sub ∷ os) = omega (arith, behind_other order.Sub (λ x. refl) os)
-number_fits w (order.JumpIf c m ∷ os) = omega (arith, behind_other (order.JumpIf c m) (λ x. refl) os)
+number_fits w (order.Add line ∷ os) = omega (arith, behind_other (Some (order.Const w)) (order.Add line) tt (λ x. refl) os)
+number_fits w (order.Sub line ∷ os) = omega (arith, behind_other (Some (order.Const w)) (order.Sub line) tt (λ x. refl) os)
+number_fits w (order.JumpIf c m ∷ os) = omega (arith, behind_other (Some (order.Const w)) (order.JumpIf c m) tt (λ x. refl) os)
+number_fits w (order.Div (pos zero) line ∷ os) = quotient_fits (is_plain_divisor w) w line os
 number_fits w (x ∷ os) = omega arith
 
-variable_fits : (f n : ℕ) (os : List Order) → from_block (with_variable f n (use_of (slice_get os 0))) (order.Home f n) (order.Load ∷ os) ≤ listed_sizes (order.Home f n ∷ order.Load ∷ os)
+variable_fits : (f n : ℕ) (os : List Order) → from_block (with_variable f n (use_of (slice_get os 0))) order.Save (order.Home f n ∷ order.Load ∷ os) ≤ listed_sizes (order.Save ∷ order.Home f n ∷ order.Load ∷ os)
 variable_fits f n [] = omega arith
-variable_fits f n (order.Add ∷ os) = omega (arith, behind_other order.Add (λ x. refl) os)
-variable_fits f n (order.Sub ∷ os) = omega (arith, behind_other order.Sub (λ x. refl) os)
-variable_fits f n (order.JumpIf c m ∷ os) = omega (arith, behind_other (order.JumpIf c m) (λ x. refl) os)
+variable_fits f n (order.Add line ∷ os) = omega (arith, behind_other (Some order.Load) (order.Add line) tt (λ x. refl) os)
+variable_fits f n (order.Sub line ∷ os) = omega (arith, behind_other (Some order.Load) (order.Sub line) tt (λ x. refl) os)
+variable_fits f n (order.JumpIf c m ∷ os) = omega (arith, behind_other (Some order.Load) (order.JumpIf c m) tt (λ x. refl) os)
 variable_fits f n (x ∷ os) = omega arith
 
-home_fits : (f n : ℕ) (os : List Order) → from_block (after_home f n (slice_get os 0) (slice_get os 1)) (order.Home f n) os ≤ listed_sizes (order.Home f n ∷ os)
+saved_home_fits : (f n : ℕ) (os : List Order) → from_block (after_saved_home f n (slice_get os 0) (slice_get os 1)) order.Save (order.Home f n ∷ os) ≤ listed_sizes (order.Save ∷ order.Home f n ∷ os)
+saved_home_fits f n [] = omega arith
+saved_home_fits f n (order.Load ∷ os) = variable_fits f n os
+saved_home_fits f n (order.Store ∷ os) = omega (arith, behind_other (Some (order.Home f n)) order.Store tt (λ x. refl) os)
+saved_home_fits f n (x ∷ os) = omega arith
+
+saved_frame_fits : (n : ℕ) (os : List Order) → from_block (after_saved_frame_home n (slice_get os 0)) order.Save (order.FrameHome n ∷ os) ≤ listed_sizes (order.Save ∷ order.FrameHome n ∷ os)
+saved_frame_fits n [] = omega arith
+saved_frame_fits n (order.Store ∷ os) = omega (arith, behind_other (Some (order.FrameHome n)) order.Store tt (λ x. refl) os)
+saved_frame_fits n (x ∷ os) = omega arith
+
+save_fits : (os : List Order) → from_block (after_save (slice_get os 0) (slice_get os 1) (slice_get os 2)) order.Save os ≤ listed_sizes (order.Save ∷ os)
+save_fits [] = omega arith
+save_fits (order.Const w ∷ os) = number_fits w os
+save_fits (order.Home f n ∷ os) = saved_home_fits f n os
+save_fits (order.FrameHome n ∷ os) = saved_frame_fits n os
+save_fits (order.WriteByte ∷ os) = omega (arith, behind_other (Some order.Save) order.WriteByte tt (λ x. refl) os)
+save_fits (x ∷ os) = omega (arith, behind_save x (λ y. refl) os)
+
+home_fits : (f n : ℕ) (os : List Order) → from_block (after_home f n (slice_get os 0)) (order.Home f n) os ≤ listed_sizes (order.Home f n ∷ os)
 home_fits f n [] = omega arith
-home_fits f n (order.Load ∷ os) = variable_fits f n os
-home_fits f n (order.Store ∷ os) = omega (arith, behind_other order.Store (λ x. refl) os)
-home_fits f n (x ∷ os) = omega arith
+home_fits f n (order.Load ∷ os) = omega (arith, behind_other (Some (order.Home f n)) order.Load tt (λ x. refl) os)
+home_fits f n (x ∷ os) = omega (arith, behind_unsaved (order.Home f n) tt x os)
 
 frame_fits : (n : ℕ) (os : List Order) → from_block (after_frame_home n (slice_get os 0)) (order.FrameHome n) os ≤ listed_sizes (order.FrameHome n ∷ os)
 frame_fits n [] = omega arith
-frame_fits n (order.Load ∷ os) = omega (arith, behind_other order.Load (λ x. refl) os)
-frame_fits n (order.Store ∷ os) = omega (arith, behind_other order.Store (λ x. refl) os)
-frame_fits n (x ∷ os) = omega arith
+frame_fits n (order.Load ∷ os) = omega (arith, behind_other (Some (order.FrameHome n)) order.Load tt (λ x. refl) os)
+frame_fits n (x ∷ os) = omega (arith, behind_unsaved (order.FrameHome n) tt x os)
 
 -- a multiplication by a number, and codes that hang on one
-times_long : (b : Bool) (stop n : ℕ) → length (blanks (times_if b stop n)) ≡ (if b then 12 else 10)
-times_long true stop n = refl
-times_long false stop n = refl
+times_long : (b : Bool) (stop line n : ℕ) → length (blanks (times_if b stop line n)) ≡ (if b then 14 else 12)
+times_long true stop line n = refl
+times_long false stop line n = refl
 
-rescale_long : (up top : Bool) (from to : ℕ) → length (blanks (rescale_if up top from to)) ≡ (if up then if top then 12 else 10 else 5)
-rescale_long true top from to = times_long top overflow_entry (2 ^ (to - from))
-rescale_long false top from to = refl
+rescale_long : (up top : Bool) (line from to : ℕ) → length (blanks (rescale_if up top line from to)) ≡ (if up then if top then 14 else 12 else 5)
+rescale_long true top line from to = times_long top overflow_entry line (2 ^ (to - from))
+rescale_long false top line from to = refl
 
-product_scaled_long : (b : Bool) (n : ℕ) → length (blanks (product_start ++ times_if b overflow_entry n)) ≡ (if b then 12 else 10) + 8
-product_scaled_long true n = refl
-product_scaled_long false n = refl
+product_scaled_long : (b : Bool) (line n : ℕ) → length (blanks (product_start line ++ times_if b overflow_entry line n)) ≡ (if b then 14 else 12) + 10
+product_scaled_long true line n = refl
+product_scaled_long false line n = refl
 
-product_down_long : (b : Bool) (n : ℕ) → length (blanks (product_down b n)) ≡ (if b then 9 else 10)
-product_down_long true n = refl
-product_down_long false n = refl
+product_down_long : (b : Bool) (line n : ℕ) → length (blanks (product_down line b n)) ≡ (if b then 14 else 10)
+product_down_long true line n = refl
+product_down_long false line n = refl
 
-row_long : (b : Bool) (lower : ℤ) (n : ℕ) → length (blanks (row_start lower ++ (times_if b address_entry n ++ row_end))) ≡ (if b then 12 else 10) + 20
-row_long true lower n = refl
-row_long false lower n = refl
+row_long : (b : Bool) (line : ℕ) (lower : ℤ) (n : ℕ) → length (blanks (row_start line lower ++ (times_if b address_entry line n ++ row_end line))) ≡ (if b then 14 else 12) + 24
+row_long true line lower n = refl
+row_long false line lower n = refl
 
 pub listed : (o : Order) → order_size o ≡ listed_size o
 listed (order.JumpIf c m) = refl
 listed (order.LoadPart t b true) = refl
 listed (order.LoadPart t b false) = refl
-listed (order.Rescale from to) = rescale_long (nat_le from to) (2 ^ (to - from) == 32768) from to
-listed (order.Mul (pos zero)) = refl
-listed (order.Mul (pos (suc n))) = product_scaled_long (2 ^ suc n == 32768) (2 ^ suc n)
-listed (order.Mul (negsuc n)) = product_down_long (nat_lt n 15) n
-listed (order.Div (pos n)) = refl
-listed (order.Div (negsuc n)) = refl
+listed (order.Rescale from to line) = rescale_long (nat_le from to) (2 ^ (to - from) == 32768) line from to
+listed (order.Mul (pos zero) line) = refl
+listed (order.Mul (pos (suc n)) line) = product_scaled_long (2 ^ suc n == 32768) line (2 ^ suc n)
+listed (order.Mul (negsuc n) line) = product_down_long (nat_lt n 15) line n
+listed (order.Div (pos n) line) = refl
+listed (order.Div (negsuc n) line) = refl
 listed (order.LoopWay marks) = loop_way_long no_names 0 marks
-listed (order.Return n true) = refl
-listed (order.Return n false) = refl
-listed (order.IndexTimes n) = times_long (n == 32768) address_entry n
-listed (order.IndexRow lower n) = row_long (n == 32768) lower n
+listed (order.IndexTimes n line) = times_long (n == 32768) address_entry line n
+listed (order.IndexRow lower n line) = row_long (n == 32768) line lower n
 listed _ = refl
 
 block_fits : (o : Order) (os : List Order) → from_block (block_at 0 (o ∷ os)) o os ≤ listed_sizes (o ∷ os)
-block_fits (order.Const w) os = number_fits w os
+block_fits order.Save os = save_fits os
 block_fits (order.Home f n) os = home_fits f n os
 block_fits (order.FrameHome n) os = frame_fits n os
-block_fits o os = omega (arith, listed o, behind_other o (λ x. refl) os)
+block_fits o os = omega (arith, listed o, behind_other None o tt (λ x. refl) os)
 
 whole_within : (names : Names) (place left : ℕ) (os : List Order) → length (blanks (templates names place left os)) ≤ listed_sizes (drop left os)
 whole_within names place zero [] = omega arith

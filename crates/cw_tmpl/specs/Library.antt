@@ -1,256 +1,297 @@
--- The run-time library: the code before that of the first segment, without relocated words.
-use Rattle.std.specs.Prelude.{ℕ, ◌+◌, ◌-◌, ◌*◌, false, true, List, [], ◌∷◌, ◌++◌, length, take, nat_lt, if◌then◌else◌, Option, Some, None}
+-- The run-time library: the code before that of the first segment, without relocated words. The words of the data area are in DI for the
+-- whole run, and BP is at the record at work: behind the place to come back to and the caller's BP it has the segment, the calls that are
+-- left, and the base and the top of the frame.
+use Rattle.std.specs.Prelude.{ℕ, ◌+◌, false, true, List, [], ◌∷◌, ◌++◌, length, Option, slice_get, slice_index}
 use Rattle.cw_i86.specs.declared.instr.Instr.{Instr}
 use Rattle.cw_i86.specs.declared.instr.Instr.TheVariants as i86
-use Rattle.cw_i86.specs.declared.instr.Imm.TheVariants as imm
 use Rattle.cw_i86.specs.declared.instr.Rm.TheVariants as rms
 use Rattle.cw_run86.specs.Views.{with_number}
-use Rattle.cw_unit.specs.Stop.{StopKind, Overflow, ZeroDivisor, SwitchRange, AddressRange, IndexRange, stop_number}
-use Rattle.cw_tmpl.specs.Mnemonics.{ax, bx, cx, dx, sp, bp, si, di, al, ah, line_slot, segment_slot, calls_slot, top_slot, slot, at_bx, near_field, set_word, load, store, move, add, subtract, compare, one_of, double, shift_up, shift_down, shift_down_signed, multiply, divide, jump_to, jump_if_no_overflow, jump_if_equal, jump_if_unequal, jump_if_below, jump_if_at_most, bytes_of_all}
+use Rattle.cw_unit.specs.Stop.{StopKind, Overflow, ZeroDivisor, SwitchRange, AddressRange, FramesFull, DepthReached, IndexRange}
+use Rattle.cw_tmpl.specs.Mnemonics.{ax, bx, cx, dx, sp, bp, si, di, al, ah, segment_slot, calls_slot, top_slot, slot, at_bx, at_si, near_field, code_at_bx, code_at_si, code_behind_si, set_word, set_byte, load, store, move, add, add_number, add_word, subtract, subtract_word, compare, one_of, either, negate, double, exchange, shift_up, shift_down, shift_down_signed, multiply, divide, jump_to, jump_if_overflow, jump_if_below, jump_if_not_below, jump_if_equal, jump_if_unequal, jump_if_at_most, bytes_of_all}
 
--- ---- the routines
+-- ---- the end, and the entries of earlier libraries
 
 -- The program has ended.
 abbrev pub end_routine : List Instr
 end_routine = i86.Hlt ∷ []
 
--- Makes the base record of a segment, which holds no activation, from the words of the data area in AX, those of the
--- frame area in BX, the calls that may be active in CX and the number of the segment in DX. Drops all that the stack has.
+abbrev pub end_place : ℕ
+end_place = 3
+
+-- The routines of earlier libraries had other registers and another record. At their entries stands a byte with which no instruction begins:
+-- so code that an earlier generator made stops there as bad code.
+abbrev pub no_instruction : ℕ
+no_instruction = 0xCC
+
+abbrev pub retired_place : ℕ
+retired_place = 4
+
+-- ---- the start of a body
+
+-- Makes the base record of a segment, which holds no activation, at the end of the stack, and drops all that the stack has. Behind the call
+-- stand four words: those of the data area and of the frame area, the calls that may be active and the number of the segment.
+abbrev pub start_place : ℕ
+start_place = 5
+
 abbrev pub start_routine : List Instr
 start_routine =
-    i86.Pop si ∷ set_word sp 0 ∷ set_word di 0
-    -- no return address and no caller's record
-    ∷ i86.Push di ∷ i86.Push di ∷ move bp sp
-    -- line 0, segment, calls left
-    ∷ i86.Push di ∷ i86.Push dx ∷ i86.Push cx
+    i86.Pop si ∷ set_word bp 0 ∷ move sp bp ∷ load di code_at_si
+    -- the segment, and the calls
+    ∷ i86.PushRm (code_behind_si 6) ∷ i86.PushRm (code_behind_si 4)
     -- the base and the top of the frame are the start of the frame area
-    ∷ move di ax ∷ subtract di bx ∷ i86.Push di ∷ i86.Push di ∷ jump_to si ∷ []
+    ∷ move ax di ∷ subtract_word ax (code_behind_si 2) ∷ i86.Push ax ∷ i86.Push ax
+    ∷ add_number si 8 ∷ jump_to si ∷ []
 
--- its place
-abbrev pub start_place : ℕ
-start_place = 4
+-- ---- the stops
 
--- Stops with a kind. The way on is the common end of the stops, so many bytes ahead.
-abbrev pub stop_routine : ℕ → ℕ → List Instr
-stop_routine kind ahead = i86.MovImm al (imm.Byte kind) ∷ i86.JumpShort ahead ∷ []
+-- Stops with a kind, at the line in the word behind the call. The way on is the common end of these stops, so many bytes ahead.
+abbrev pub stop_routine : (kind ahead : ℕ) → List Instr
+stop_routine kind ahead = set_byte al kind ∷ i86.JumpShort ahead ∷ []
 
--- Tells the kind in AL, and the segment and the line of the activation record, low byte first.
-abbrev pub stop_end : List Instr
-stop_end =
-    i86.Out 0x13 ∷ load ax (slot segment_slot) ∷ i86.Out 0x14 ∷ load ax (slot line_slot) ∷ i86.Out 0x15
+-- takes the line from behind the call
+abbrev pub line_place : ℕ
+line_place = 51
+
+abbrev pub line_taken : List Instr
+line_taken = i86.Pop bx ∷ load dx code_at_bx ∷ []
+
+-- Tells the kind in AL, the segment of the record and the line in DX, low byte first.
+abbrev pub tell_place : ℕ
+tell_place = 55
+
+abbrev pub tell : List Instr
+tell =
+    i86.Out 0x13 ∷ load ax (slot segment_slot) ∷ i86.Out 0x14 ∷ move ax dx ∷ i86.Out 0x15
     ∷ i86.Mov false true al (rms.Reg ah) ∷ i86.Out 0x16 ∷ i86.Hlt ∷ []
 
--- the place of this end
-abbrev pub stop_end_place : ℕ
-stop_end_place = 54
+-- Stops with a kind, at the line in DX. The way on leads back.
+abbrev pub told_stop : (kind back : ℕ) → List Instr
+told_stop kind back = set_byte al kind ∷ i86.JumpShort back ∷ []
 
--- Begins an activation whose frame has the words in AX, in the segment of the number in DX, where the data area has the words in BX. Until
--- its record is made the caller's is at work: so a stop tells the caller's segment and line. The jumps lead back to the two stops.
+-- where the stop of a kind with the line behind its call begins, and that with the line in DX
+abbrev pub stop_place : StopKind → ℕ
+stop_place Overflow = 35
+stop_place ZeroDivisor = 39
+stop_place AddressRange = 43
+stop_place IndexRange = 47
+stop_place SwitchRange = 79
+stop_place DepthReached = 83
+stop_place FramesFull = 87
+
+abbrev pub bad_address_place : ℕ
+bad_address_place = 71
+
+abbrev pub bad_sum_place : ℕ
+bad_sum_place = 75
+
+-- ---- calls and input
+
+-- Begins an activation whose frame has the words in AX, in the segment of the number in CX; the line of the call is in DX. Until its record is
+-- made the caller's is at work: so a stop tells the caller's segment.
+abbrev pub enter_place : ℕ
+enter_place = 91
+
 abbrev pub enter_routine : List Instr
 enter_routine =
     i86.Pop si
-    -- one call less
-    ∷ load cx (slot calls_slot) ∷ set_word di 1 ∷ compare cx di ∷ jump_if_below 0xDC ∷ subtract cx di
+    -- a call is left
+    ∷ load bx (slot calls_slot) ∷ either bx bx ∷ jump_if_equal 0xF0
     -- the frame begins at the top of the caller's, and ends within the words that are left
-    ∷ load di (slot top_slot) ∷ subtract bx di ∷ compare bx ax ∷ jump_if_below 0xCD ∷ add ax di
-    -- the record: the caller's, line 0, segment, calls left, base and top of the frame
-    ∷ i86.Push bp ∷ move bp sp ∷ i86.Push bx ∷ i86.MovRm (slot line_slot) (imm.Word 0)
-    ∷ i86.Push dx ∷ i86.Push cx ∷ i86.Push di ∷ i86.Push ax ∷ jump_to si ∷ []
+    ∷ move bx di ∷ subtract_word bx (slot top_slot) ∷ compare bx ax ∷ jump_if_below 0xEB
+    ∷ load bx (slot top_slot) ∷ add ax bx ∷ load dx (slot calls_slot) ∷ i86.Dec dx
+    -- the record: the caller's, the segment, the calls left, the base and the top of the frame
+    ∷ i86.Push bp ∷ move bp sp ∷ i86.Push cx ∷ i86.Push dx ∷ i86.Push bx ∷ i86.Push ax ∷ jump_to si ∷ []
 
--- its place
-abbrev pub enter_place : ℕ
-enter_place = 71
+-- The next byte of the input in AX, and at its end -1.
+abbrev pub read_place : ℕ
+read_place = 126
 
--- ---- products and quotients
+abbrev pub read_routine : List Instr
+read_routine =
+    i86.In 0x11 ∷ i86.TestRm false al (rms.Reg al) ∷ jump_if_unequal 5 ∷ i86.In 0x10 ∷ set_byte ah 0 ∷ i86.Ret
+    ∷ set_word ax 65535 ∷ i86.Ret ∷ []
+
+-- ---- loops
 --
--- These are called, with operands in AX and BX and a count in CX, and come back with their result in AX, or stop. CX, DX, BX, SI and DI
--- are then of no use. The counts are 1 to 15, and 0 to 16 for the quotient that is scaled up.
+-- These take the address of a loop's words in AX. The first three take the line in DX too: where the address of the control variable is
+-- outside the data area, or a sum fits no word, they stop there.
 
--- the place of the stop of a kind
-abbrev pub stop_place : StopKind → ℕ
-stop_place kind = 22 + 4 * stop_number kind
-
--- a call of the stop of a kind, in front of a place of the library
-abbrev pub call_stop : StopKind → (behind : ℕ) → Instr
-call_stop kind behind = i86.Call (stop_place kind + (65536 - behind))
-
--- 16 less the count, for the bits that leave a word
-abbrev pub turn_count : List Instr
-turn_count = set_word di 16 ∷ subtract di cx ∷ move cx di ∷ []
-
--- The product over 2 to the count, rounded down. The two words of the quotient have to be those of one word.
-abbrev pub product_place : ℕ
-product_place = 110
-
-abbrev pub product_routine : List Instr
-product_routine =
-    multiply bx ∷ shift_down ax ∷ move bx dx ∷ shift_down_signed dx
-    ∷ (turn_count ++
-    (shift_up bx ∷ add ax bx ∷ move bx dx ∷ i86.Cwd
-    ∷ compare dx bx ∷ jump_if_equal 3 ∷ call_stop Overflow (product_place + 29) ∷ i86.Ret ∷ []))
-
--- a divisor of 0 stops; then the magnitudes in AX and BX, and in SI all bits set where the signs differ
-abbrev pub magnitudes : (behind : ℕ) → List Instr
-magnitudes behind =
-    set_word si 0 ∷ compare bx si ∷ jump_if_unequal 3 ∷ call_stop ZeroDivisor behind
-    ∷ i86.Cwd ∷ move si dx ∷ one_of ax dx ∷ subtract ax dx ∷ move di ax
-    ∷ move ax bx ∷ i86.Cwd ∷ one_of si dx ∷ one_of ax dx ∷ subtract ax dx ∷ move bx ax ∷ move ax di ∷ []
-
--- the dividend's magnitude over 2 to the count
-abbrev pub quotient_down_place : ℕ
-quotient_down_place = 140
-
-abbrev pub quotient_down_routine : List Instr
-quotient_down_routine = magnitudes (quotient_down_place + 10) ++ (shift_down ax ∷ set_word dx 0 ∷ i86.JumpShort 45 ∷ [])
-
--- The dividend's magnitude times 2 to the count, as a pair of words. From there on both have one way: a quotient that is not below
--- 32,768, or, where the signs differ, 32,769, stops.
-abbrev pub quotient_up_place : ℕ
-quotient_up_place = 179
-
-abbrev pub quotient_end_place : ℕ
-quotient_end_place = 224
-
-abbrev pub quotient_end : List Instr
-quotient_end =
-    compare dx bx ∷ jump_if_below 3 ∷ call_stop Overflow (quotient_end_place + 7)
-    ∷ divide bx ∷ set_word dx 32768 ∷ subtract dx si ∷ compare ax dx ∷ jump_if_below 3 ∷ call_stop Overflow (quotient_end_place + 21)
-    ∷ one_of ax si ∷ subtract ax si ∷ i86.Ret ∷ []
-
-abbrev pub quotient_up_routine : List Instr
-quotient_up_routine = magnitudes (quotient_up_place + 10) ++ (move dx ax ∷ shift_up ax ∷ (turn_count ++ (shift_down dx ∷ quotient_end)))
-
--- ---- addresses and loops
---
--- Where an address is tested the words of the data area come in DX; where it is not below them the routine stops.
-
--- the address in AX
-abbrev pub in_area_place : ℕ
-in_area_place = 250
-
-abbrev pub in_area_routine : List Instr
-in_area_routine = compare ax dx ∷ jump_if_below 3 ∷ call_stop AddressRange (in_area_place + 7) ∷ i86.Ret ∷ []
-
--- BX at the words of a loop, whose address is in AX
+-- BX is twice the address in AX
 abbrev pub loop_reached : List Instr
-loop_reached = i86.Pop si ∷ move bx ax ∷ double bx ∷ []
+loop_reached = move bx ax ∷ double bx ∷ []
 
--- BX at the control variable, whose address it has
-abbrev pub variable_reached : (behind : ℕ) → List Instr
-variable_reached behind = compare bx dx ∷ jump_if_below 3 ∷ call_stop AddressRange behind ∷ double bx ∷ []
-
--- the word below the address of a loop into its control variable
+-- the word on the stack becomes the control variable
 abbrev pub set_variable_place : ℕ
-set_variable_place = 258
+set_variable_place = 141
 
 abbrev pub set_variable_routine : List Instr
 set_variable_routine =
-    loop_reached ++ (load bx at_bx ∷ (variable_reached (set_variable_place + 14) ++ (i86.Pop ax ∷ store at_bx ax ∷ i86.Pop ax ∷ jump_to si ∷ [])))
+    i86.Pop si ∷ (loop_reached ++ (load bx at_bx ∷ compare bx di ∷ jump_if_not_below 0xAF ∷ double bx ∷ i86.Pop ax ∷ store at_bx ax ∷ jump_to si ∷ []))
 
 -- the step of a loop added to its control variable
 abbrev pub add_step_place : ℕ
-add_step_place = 280
+add_step_place = 159
 
 abbrev pub add_step_routine : List Instr
 add_step_routine =
-    loop_reached ++ (load cx (near_field 2) ∷ load bx at_bx ∷ (variable_reached (add_step_place + 17) ++
-    (load ax at_bx ∷ add ax cx ∷ jump_if_no_overflow 3 ∷ call_stop Overflow (add_step_place + 28)
-    ∷ store at_bx ax ∷ i86.Pop ax ∷ jump_to si ∷ [])))
+    loop_reached
+    ++ (load si at_bx ∷ compare si di ∷ jump_if_not_below 0x9E ∷ double si
+    ∷ load ax at_si ∷ add_word ax (near_field 2) ∷ jump_if_overflow 0x99 ∷ store at_si ax ∷ i86.Ret ∷ [])
 
--- the value of the control variable below the address of its loop
+-- the value of the control variable on the stack; AX stays
 abbrev pub put_variable_place : ℕ
-put_variable_place = 313
+put_variable_place = 181
 
 abbrev pub put_variable_routine : List Instr
 put_variable_routine =
-    loop_reached ++ (load bx at_bx ∷ (variable_reached (put_variable_place + 14) ++ (load cx at_bx ∷ i86.Push cx ∷ jump_to si ∷ [])))
+    i86.Pop si ∷ (loop_reached ++ (load bx at_bx ∷ compare bx di ∷ jump_if_not_below 0x87 ∷ double bx ∷ load cx at_bx ∷ i86.Push cx ∷ jump_to si ∷ []))
 
--- The words of a loop at the address in AX, and the value of its control variable below it. Where that is past the limit the way on is
--- behind the call, and else 3 bytes further, past a jump. Where the step is negative, the value and the limit are turned bit by bit, which
--- turns their order; where it is 0, none is past the limit.
+-- Takes the value of the control variable from the stack. Where that is past the limit the way on is behind the call, and else 3 bytes
+-- further, past a jump. Where the step is negative, the value and the limit are turned bit by bit, which turns their order; where it is 0,
+-- none is past the limit.
+abbrev pub exhausted_place : ℕ
+exhausted_place = 199
+
 abbrev pub exhausted_routine : List Instr
 exhausted_routine =
-    loop_reached ++ (i86.Pop cx ∷ load ax (near_field 2) ∷ load bx (near_field 4) ∷ i86.Cwd
-    ∷ with_number 7 0 ∷ i86.Pop ax ∷ jump_if_equal 10
+    i86.Pop si ∷ (loop_reached
+    ++ (i86.Pop cx ∷ load ax (near_field 2) ∷ load bx (near_field 4) ∷ i86.Cwd
+    ∷ with_number 7 0 ∷ jump_if_equal 10
     ∷ one_of cx dx ∷ one_of bx dx ∷ compare cx bx ∷ jump_if_at_most 2 ∷ jump_to si
-    ∷ set_word bx 3 ∷ add si bx ∷ jump_to si ∷ [])
+    ∷ add_number si 3 ∷ jump_to si ∷ []))
 
--- its place
-abbrev pub exhausted_place : ℕ
-exhausted_place = 334
+-- ---- products and quotients
+--
+-- These take operands in AX and BX and a count in CX, and come back with their result in AX and OF clear, or, where it fits no word, with OF
+-- set. The counts are 1 to 15, and 0 to 16 for the quotient that is scaled up. The divisor is not 0.
+
+-- The product over 2 to the count, rounded down. The two words of the quotient have to be those of one word.
+abbrev pub product_place : ℕ
+product_place = 232
+
+abbrev pub product_routine : List Instr
+product_routine =
+    multiply bx ∷ shift_down ax ∷ move bx dx ∷ shift_down_signed dx ∷ negate cx ∷ add_number cx 16
+    ∷ shift_up bx ∷ add ax bx ∷ move bx dx ∷ i86.Cwd ∷ compare dx bx ∷ jump_if_unequal 1 ∷ i86.Ret ∷ []
+
+-- sets OF
+abbrev pub too_large_place : ℕ
+too_large_place = 257
+
+abbrev pub too_large : List Instr
+too_large = set_byte al 0x80 ∷ i86.AluRm 0 false true al (rms.Reg al) ∷ i86.Ret ∷ []
+
+-- the magnitudes in AX and BX, and in SI all bits set where the signs differ
+abbrev pub magnitudes : List Instr
+magnitudes =
+    i86.Cwd ∷ move si dx ∷ one_of ax dx ∷ subtract ax dx ∷ exchange
+    ∷ i86.Cwd ∷ one_of si dx ∷ one_of ax dx ∷ subtract ax dx ∷ exchange ∷ []
+
+-- the dividend's magnitude over 2 to the count
+abbrev pub quotient_down_place : ℕ
+quotient_down_place = 262
+
+abbrev pub quotient_down_routine : List Instr
+quotient_down_routine = magnitudes ++ (shift_down ax ∷ set_word dx 0 ∷ i86.JumpShort 0x1B ∷ [])
+
+-- The dividend's magnitude times 2 to the count, as a pair of words. From there on both have one way: a quotient that is not below
+-- 32,768, or, where the signs differ, 32,769, is too large.
+abbrev pub quotient_up_place : ℕ
+quotient_up_place = 285
+
+abbrev pub quotient_up_routine : List Instr
+quotient_up_routine = magnitudes ++ (move dx ax ∷ shift_up ax ∷ negate cx ∷ add_number cx 16 ∷ shift_down dx ∷ [])
+
+abbrev pub quotient_end_place : ℕ
+quotient_end_place = 312
+
+abbrev pub quotient_end : List Instr
+quotient_end =
+    compare dx bx ∷ jump_if_not_below 0xC5 ∷ divide bx ∷ set_word dx 32768 ∷ subtract dx si ∷ compare ax dx ∷ jump_if_not_below 0xBA
+    ∷ one_of ax si ∷ subtract ax si ∷ either ax ax ∷ i86.Ret ∷ []
 
 -- ---- the whole
 
+-- the stops with the line behind their call, and then those with the line in DX: address and sum of the routines of loops, switch, depth, frames
 abbrev pub routines : List (List Instr)
 routines =
-    end_routine ∷ start_routine
-    -- overflow, zero divisor, switch, address, frames, depth, bounds
-    ∷ stop_routine 1 24 ∷ stop_routine 2 20 ∷ stop_routine 3 16 ∷ stop_routine 4 12 ∷ stop_routine 5 8 ∷ stop_routine 6 4 ∷ (stop_routine 7 0 ++ stop_end)
-    ∷ enter_routine ∷ product_routine ∷ quotient_down_routine ∷ quotient_up_routine
-    ∷ in_area_routine ∷ set_variable_routine ∷ add_step_routine ∷ put_variable_routine ∷ exhausted_routine ∷ []
+    start_routine
+    ∷ stop_routine 1 12 ∷ stop_routine 2 8 ∷ stop_routine 4 4 ∷ stop_routine 7 0 ∷ line_taken ∷ tell
+    ∷ told_stop 4 0xEC ∷ told_stop 1 0xE8 ∷ told_stop 3 0xE4 ∷ told_stop 6 0xE0 ∷ told_stop 5 0xDC
+    ∷ enter_routine ∷ read_routine ∷ set_variable_routine ∷ add_step_routine ∷ put_variable_routine ∷ exhausted_routine
+    ∷ product_routine ∷ too_large ∷ quotient_down_routine ∷ quotient_up_routine ∷ quotient_end ∷ []
 
 abbrev pub joined : List (List Instr) → List Instr
 joined [] = []
 joined (r ∷ rs) = r ++ joined rs
 
--- the way past the library
-abbrev pub past : Instr
-past = i86.Jump (length (bytes_of_all (joined routines)))
+-- the way past the library, and the end
+abbrev pub front : List Instr
+front = i86.Jump (2 + length (bytes_of_all (joined routines))) ∷ end_routine
 
 abbrev pub library_bytes : List ℕ
-library_bytes = bytes_of_all (past ∷ joined routines)
+library_bytes = bytes_of_all front ++ no_instruction ∷ bytes_of_all (joined routines)
 
 -- ---- the entries, by number
+--
+-- Numbers are not used again: 1 to 17 were entries of earlier libraries.
 
 abbrev pub start_entry : ℕ
-start_entry = 1
-
--- the stop of a kind
-abbrev pub stop_entry : StopKind → ℕ
-stop_entry kind = stop_number kind + 1
+start_entry = 18
 
 abbrev pub overflow_entry : ℕ
-overflow_entry = stop_entry Overflow
+overflow_entry = 19
+
+abbrev pub zero_divisor_entry : ℕ
+zero_divisor_entry = 20
 
 abbrev pub address_entry : ℕ
-address_entry = stop_entry AddressRange
-
-abbrev pub switch_entry : ℕ
-switch_entry = stop_entry SwitchRange
+address_entry = 21
 
 abbrev pub bounds_entry : ℕ
-bounds_entry = stop_entry IndexRange
+bounds_entry = 22
+
+abbrev pub switch_entry : ℕ
+switch_entry = 23
 
 abbrev pub enter_entry : ℕ
-enter_entry = 9
+enter_entry = 24
+
+abbrev pub read_entry : ℕ
+read_entry = 25
 
 abbrev pub product_entry : ℕ
-product_entry = 10
+product_entry = 26
 
 abbrev pub quotient_down_entry : ℕ
-quotient_down_entry = 11
+quotient_down_entry = 27
 
 abbrev pub quotient_up_entry : ℕ
-quotient_up_entry = 12
-
-abbrev pub in_area_entry : ℕ
-in_area_entry = 13
+quotient_up_entry = 28
 
 abbrev pub set_variable_entry : ℕ
-set_variable_entry = 14
+set_variable_entry = 29
 
 abbrev pub add_step_entry : ℕ
-add_step_entry = 15
+add_step_entry = 30
 
 abbrev pub put_variable_entry : ℕ
-put_variable_entry = 16
+put_variable_entry = 31
 
 abbrev pub exhausted_entry : ℕ
-exhausted_entry = 17
+exhausted_entry = 32
+
+abbrev pub places_of_entries : List ℕ
+places_of_entries =
+    end_place ∷ retired_place ∷ retired_place ∷ retired_place ∷ retired_place ∷ retired_place ∷ retired_place ∷ retired_place ∷ retired_place
+    ∷ retired_place ∷ retired_place ∷ retired_place ∷ retired_place ∷ retired_place ∷ retired_place ∷ retired_place ∷ retired_place ∷ retired_place
+    ∷ start_place ∷ stop_place Overflow ∷ stop_place ZeroDivisor ∷ stop_place AddressRange ∷ stop_place IndexRange ∷ stop_place SwitchRange
+    ∷ enter_place ∷ read_place ∷ product_place ∷ quotient_down_place ∷ quotient_up_place
+    ∷ set_variable_place ∷ add_step_place ∷ put_variable_place ∷ exhausted_place ∷ []
 
 -- the place of a routine
-abbrev pub entry_place : ℕ → ℕ
-entry_place k = length (bytes_of_all (past ∷ joined (take k routines)))
-
 abbrev pub library_entry : ℕ → Option ℕ
-library_entry k = if nat_lt k (length routines) then Some (entry_place k) else None
+library_entry k = slice_get places_of_entries k
+
+abbrev pub entry_place : ℕ → ℕ
+entry_place k = slice_index places_of_entries k

@@ -40,35 +40,33 @@ abbrev pub ah : ℕ
 ah = 4
 
 -- the words of an activation record, as displacements from BP
-abbrev pub line_slot : ℕ
-line_slot = 0xFE
-
 abbrev pub segment_slot : ℕ
-segment_slot = 0xFC
+segment_slot = 0xFE
 
 abbrev pub calls_slot : ℕ
-calls_slot = 0xFA
+calls_slot = 0xFC
 
 abbrev pub base_slot : ℕ
-base_slot = 0xF8
+base_slot = 0xFA
 
 abbrev pub top_slot : ℕ
-top_slot = 0xF6
+top_slot = 0xF8
 
 -- the first word of the arguments, as a displacement from BP
 abbrev pub first_argument : ℕ
 first_argument = 4
 
--- what BP and SP hold for the base record, where there are no operands
+-- what BP and SP hold for the base record, where there are no operands: it is at the end of the stack, without a caller's BP and a place to
+-- come back to
 abbrev pub base_record : ℕ
-base_record = 0xFFFC
+base_record = 0
 
 abbrev pub base_operands : ℕ
-base_operands = 0xFFF2
+base_operands = 0xFFF8
 
 -- how far the last word of a record is below its BP
 abbrev pub record_depth : ℕ
-record_depth = 10
+record_depth = 8
 
 abbrev pub memory : Place → Rm
 memory place = rms.Mem (record { cs = false; place = place })
@@ -90,12 +88,29 @@ field by = memory (places.Far 7 by)
 abbrev pub near_field : ℕ → Rm
 near_field by = memory (places.Near 7 by)
 
+-- the word of the data segment at SI
+abbrev pub at_si : Rm
+at_si = memory (places.Plain 4)
+
+-- the word of the code at BX, at SI, and so many bytes behind that
+abbrev pub code_at_bx : Rm
+code_at_bx = rms.Mem (record { cs = true; place = places.Plain 7 })
+
+abbrev pub code_at_si : Rm
+code_at_si = rms.Mem (record { cs = true; place = places.Plain 4 })
+
+abbrev pub code_behind_si : ℕ → Rm
+code_behind_si by = rms.Mem (record { cs = true; place = places.Near 4 by })
+
 -- the word of a table of the code that begins there, by BX
 abbrev pub entry_of_table : ℕ → Rm
 entry_of_table at = rms.Mem (record { cs = true; place = places.Far 7 at })
 
 abbrev pub set_word : ℕ → ℕ → Instr
 set_word reg w = i86.MovImm reg (imm.Word w)
+
+abbrev pub set_byte : ℕ → ℕ → Instr
+set_byte reg b = i86.MovImm reg (imm.Byte b)
 
 abbrev pub load : ℕ → Rm → Instr
 load reg rm = i86.Mov true true reg rm
@@ -108,6 +123,16 @@ move to from = load to (rms.Reg from)
 
 abbrev pub add : ℕ → ℕ → Instr
 add to from = i86.AluRm 0 true true to (rms.Reg from)
+
+-- a byte with its sign added to a register, and words of memory
+abbrev pub add_number : ℕ → ℕ → Instr
+add_number reg b = i86.AluShort 0 (rms.Reg reg) b
+
+abbrev pub add_word : ℕ → Rm → Instr
+add_word reg rm = i86.AluRm 0 true true reg rm
+
+abbrev pub subtract_word : ℕ → Rm → Instr
+subtract_word reg rm = i86.AluRm 5 true true reg rm
 
 abbrev pub subtract : ℕ → ℕ → Instr
 subtract to from = i86.AluRm 5 true true to (rms.Reg from)
@@ -144,23 +169,40 @@ multiply reg = i86.Unary 5 true (rms.Reg reg)
 abbrev pub divide : ℕ → Instr
 divide reg = i86.Unary 6 true (rms.Reg reg)
 
+abbrev pub divide_signed : ℕ → Instr
+divide_signed reg = i86.Unary 7 true (rms.Reg reg)
+
 abbrev pub double : ℕ → Instr
 double reg = i86.Shift 4 true false (rms.Reg reg)
 
 abbrev pub jump_to : ℕ → Instr
 jump_to reg = i86.JumpRm (rms.Reg reg)
 
+-- AX and BX change places
+abbrev pub exchange : Instr
+exchange = i86.XchgAx bx
+
+-- does nothing
+abbrev pub nothing : Instr
+nothing = i86.XchgAx ax
+
+abbrev pub jump_if_overflow : ℕ → Instr
+jump_if_overflow by = i86.JumpIf 0 by
+
 abbrev pub jump_if_no_overflow : ℕ → Instr
 jump_if_no_overflow by = i86.JumpIf 1 by
+
+abbrev pub jump_if_below : ℕ → Instr
+jump_if_below by = i86.JumpIf 2 by
+
+abbrev pub jump_if_not_below : ℕ → Instr
+jump_if_not_below by = i86.JumpIf 3 by
 
 abbrev pub jump_if_equal : ℕ → Instr
 jump_if_equal by = i86.JumpIf 4 by
 
 abbrev pub jump_if_unequal : ℕ → Instr
 jump_if_unequal by = i86.JumpIf 5 by
-
-abbrev pub jump_if_below : ℕ → Instr
-jump_if_below by = i86.JumpIf 2 by
 
 abbrev pub jump_if_not_less : ℕ → Instr
 jump_if_not_less by = i86.JumpIf 13 by

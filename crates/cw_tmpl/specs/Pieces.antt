@@ -1,5 +1,5 @@
 -- Code with words that the linker fills.
-use Rattle.std.specs.Prelude.{true, false, ℕ, ◌+◌, ◌-◌, ◌/◌, ◌%◌, List, [], ◌∷◌, ◌++◌, length, slice_set, Option, Some, None}
+use Rattle.std.specs.Prelude.{true, false, ℕ, ◌+◌, ◌-◌, ◌/◌, ◌%◌, ◌<◌, List, [], ◌∷◌, ◌++◌, length, slice_set, Option, Some, None}
 use Rattle.cw_i86.specs.Encoding.{bytes_of, word, IsInstr}
 use Rattle.cw_i86.specs.declared.instr.Imm.TheVariants as imm
 use Rattle.cw_i86.specs.declared.instr.Instr.TheVariants as i86
@@ -23,6 +23,7 @@ bytes_with w (coded.Operate op reg t) = bytes_of (with_memory op reg w)
 bytes_with w (coded.Call t) = bytes_of (i86.Call w)
 bytes_with w (coded.Jump t) = bytes_of (i86.Jump w)
 bytes_with w (coded.Word t) = word w
+bytes_with w (coded.Data n) = word n
 bytes_with w (coded.Way t) = bytes_of (i86.JumpRm (entry_of_table w))
 
 -- the same with every word
@@ -38,9 +39,10 @@ target_of (coded.Operate op reg t) = Some t
 target_of (coded.Call t) = Some t
 target_of (coded.Jump t) = Some t
 target_of (coded.Word t) = Some t
+target_of (coded.Data n) = None
 target_of (coded.Way t) = Some t
 
--- The instruction has the numbers of its row.
+-- The instruction has the numbers of its row, and a word that is known is one.
 abbrev pub IsCoded : Coded → Type 0
 IsCoded (coded.Whole i) = IsInstr i
 IsCoded (coded.Move reg t) = IsInstr (i86.MovImm reg (imm.Word 0))
@@ -50,6 +52,7 @@ IsCoded (coded.Operate op reg t) = IsInstr (with_memory op reg 0)
 IsCoded (coded.Call t) = Unit {0}
 IsCoded (coded.Jump t) = Unit {0}
 IsCoded (coded.Word t) = Unit {0}
+IsCoded (coded.Data n) = n < 65536
 IsCoded (coded.Way t) = Unit {0}
 
 abbrev pub AllCoded : List Coded → Type 0

@@ -1,14 +1,12 @@
--- The code of blocks of orders. Each order has code, but for Mark, which only names a place.
+-- The code of blocks of orders. Each order has code, but for Mark, which only names a place, and Drop, behind which AX is free.
 --
--- The top operand is in AX and the others are on the stack of the processor, below them a word of no meaning; where there is no operand, AX
--- itself has no meaning and the stack no word. So a word is put by PUSH AX before it comes to AX, and POP AX takes the top one after its
--- use, and no code asks how many operands there are. Addresses of the data area are in words. A stop is called in the library, which
--- reads line and segment from the activation record. A jump goes by the distance from its end, so its code hangs on where it stands, and on
--- where the marks' code starts: both are places in the code of the segment.
+-- The top operand is in AX, or AX is free, as the orders have it; all others are on the stack of the processor. Addresses of the data area
+-- are in words, and DI has their number. A stop is called in the library, with the line behind the call; a routine that may stop, and a call,
+-- take the line in DX. The segment is told by the activation record. A jump goes by the distance from its end, so its code hangs on where it
+-- stands, and on where the marks' code starts: both are places in the code of the segment.
 use Rattle.std.specs.Prelude.{ℕ, ◌*◌, zero, suc, ◌+◌, ◌-◌, ◌%◌, ◌^◌, ◌==◌, nat_lt, nat_le, ℤ, pos, negsuc, Bool, true, false, List, [], ◌∷◌, ◌++◌, length, if◌then◌else◌, Option, Some, None}
 use Rattle.cw_i86.specs.declared.instr.Instr.{Instr}
 use Rattle.cw_i86.specs.declared.instr.Instr.TheVariants as i86
-use Rattle.cw_i86.specs.declared.instr.Imm.TheVariants as imm
 use Rattle.cw_run86.specs.Views.{with_number, Comparison, Equal, Unequal, Less, NotLess, AtMost, Greater, condition_of}
 use Rattle.cw_unit.specs.declared.unit.Goal.{Goal}
 use Rattle.cw_unit.specs.declared.unit.Goal.TheVariants as goal
@@ -30,21 +28,29 @@ use Rattle.cw_tmpl.specs.declared.blocks.Use.{Use}
 use Rattle.cw_tmpl.specs.declared.blocks.Use.TheVariants as uses
 use Rattle.cw_tmpl.specs.declared.blocks.Block.{Block}
 use Rattle.cw_tmpl.specs.declared.blocks.Block.TheVariants as block
-use Rattle.cw_tmpl.specs.Mnemonics.{ax, bx, cx, dx, sp, bp, si, di, line_slot, segment_slot, base_slot, base_record, base_operands, record_depth, slot, argument, at_bx, field, set_word, load, store, move, add, subtract, compare, negate, double, both, either, one_of, shift_up, shift_down, shift_down_signed, multiply, jump_to, jump_if_no_overflow, jump_if_below, jump_if_unequal, jump_if_not_less, jump_if_at_most}
-use Rattle.cw_tmpl.specs.Library.{start_entry, overflow_entry, address_entry, switch_entry, bounds_entry, enter_entry, product_entry, quotient_down_entry, quotient_up_entry, in_area_entry, set_variable_entry, add_step_entry, put_variable_entry, exhausted_entry}
+use Rattle.cw_tmpl.specs.Mnemonics.{ax, bx, cx, dx, sp, bp, si, di, segment_slot, base_slot, base_record, base_operands, record_depth, slot, argument, at_bx, field, set_word, load, store, move, add, subtract, compare, exchange, negate, double, both, either, one_of, shift_up, shift_down, shift_down_signed, multiply, divide_signed, jump_to, nothing, jump_if_no_overflow, jump_if_below, jump_if_unequal, jump_if_not_less, jump_if_at_most}
+use Rattle.cw_tmpl.specs.Library.{start_entry, overflow_entry, zero_divisor_entry, address_entry, switch_entry, bounds_entry, enter_entry, read_entry, product_entry, quotient_down_entry, quotient_up_entry, set_variable_entry, add_step_entry, put_variable_entry, exhausted_entry}
 use Rattle.cw_tmpl.specs.Pieces.{size_of, blanks}
 use Rattle.cw_tmpl.specs.Names.{Names, no_names, mark_place, label_start, procedure_start, switch_start, own}
 
 abbrev pub call_library : ℕ → Coded
 call_library entry = coded.Call (target.LibraryAhead entry)
 
--- a stop, by its entry, called where the overflow flag is set
-abbrev pub unless_overflow : (stop : ℕ) → List Coded
-unless_overflow stop = coded.Whole (jump_if_no_overflow 3) ∷ call_library stop ∷ []
+-- a stop, by its entry, with its line behind the call
+abbrev pub call_stop : (stop line : ℕ) → List Coded
+call_stop stop line = call_library stop ∷ coded.Data line ∷ []
+
+-- the same where the overflow flag is set
+abbrev pub unless_overflow : (stop line : ℕ) → List Coded
+unless_overflow stop line = coded.Whole (jump_if_no_overflow 5) ∷ call_stop stop line
 
 -- behind an operation on AX that may overflow
-abbrev pub checked : List Coded
-checked = unless_overflow overflow_entry
+abbrev pub checked : (line : ℕ) → List Coded
+checked line = unless_overflow overflow_entry line
+
+-- a routine of the library that takes the line in DX
+abbrev pub call_at_line : (entry line : ℕ) → List Coded
+call_at_line entry line = coded.Whole (set_word dx line) ∷ call_library entry ∷ []
 
 -- the operand below the top one in AX, and the top one in BX
 abbrev pub take_two : List Coded
@@ -56,16 +62,16 @@ abbrev pub on_both : Instr → List Coded
 on_both operation = coded.Whole (i86.Pop bx) ∷ coded.Whole operation ∷ []
 
 -- an operation on AX and a word in BX
-abbrev pub with_word : (stop w : ℕ) → Instr → List Coded
-with_word stop w operation = coded.Whole (set_word bx w) ∷ coded.Whole operation ∷ unless_overflow stop
+abbrev pub with_word : (stop line w : ℕ) → Instr → List Coded
+with_word stop line w operation = coded.Whole (set_word bx w) ∷ coded.Whole operation ∷ unless_overflow stop line
 
 -- AX times a number up to 32,768. As a word this one is -32,768, so AX is turned first.
-abbrev pub times_if : Bool → (stop n : ℕ) → List Coded
-times_if true stop n = coded.Whole (negate ax) ∷ coded.Whole (set_word bx n) ∷ coded.Whole (multiply bx) ∷ unless_overflow stop
-times_if false stop n = coded.Whole (set_word bx n) ∷ coded.Whole (multiply bx) ∷ unless_overflow stop
+abbrev pub times_if : Bool → (stop line n : ℕ) → List Coded
+times_if true stop line n = coded.Whole (negate ax) ∷ coded.Whole (set_word bx n) ∷ coded.Whole (multiply bx) ∷ unless_overflow stop line
+times_if false stop line n = coded.Whole (set_word bx n) ∷ coded.Whole (multiply bx) ∷ unless_overflow stop line
 
-abbrev pub times : (stop n : ℕ) → List Coded
-times stop n = times_if (n == 32768) stop n
+abbrev pub times : (stop line n : ℕ) → List Coded
+times stop line n = times_if (n == 32768) stop line n
 
 -- t bits of AX from bit b, without a sign, and with one
 abbrev pub taken : (t b : ℕ) → List Coded
@@ -77,7 +83,7 @@ taken_signed t b =
 
 -- the word at the address in AX
 abbrev pub load_top : List Coded
-load_top = coded.Whole (move bx ax) ∷ coded.Whole (double bx) ∷ coded.Whole (load ax at_bx) ∷ []
+load_top = coded.Whole exchange ∷ coded.Whole (double bx) ∷ coded.Whole (load ax at_bx) ∷ []
 
 abbrev pub load_part : (t b : ℕ) → (is_signed : Bool) → List Coded
 load_part t b true = load_top ++ taken_signed t b
@@ -89,68 +95,65 @@ store_part t b =
     coded.Whole (move bx ax) ∷ coded.Whole (i86.Pop ax) ∷ coded.Whole (double bx)
     ∷ coded.Whole (set_word cx b) ∷ coded.Whole (shift_up ax) ∷ coded.Whole (set_word cx (field_mask t b)) ∷ coded.Whole (both ax cx)
     ∷ coded.Whole (load dx at_bx) ∷ coded.Whole (set_word cx (65535 - field_mask t b)) ∷ coded.Whole (both dx cx)
-    ∷ coded.Whole (either dx ax) ∷ coded.Whole (store at_bx dx) ∷ coded.Whole (i86.Pop ax) ∷ []
+    ∷ coded.Whole (either dx ax) ∷ coded.Whole (store at_bx dx) ∷ []
 
-abbrev pub rescale_if : (up top : Bool) → (from to : ℕ) → List Coded
-rescale_if true top from to = times_if top overflow_entry (2 ^ (to - from))
-rescale_if false top from to = coded.Whole (set_word cx (from - to)) ∷ coded.Whole (shift_down_signed ax) ∷ []
+abbrev pub rescale_if : (up top : Bool) → (line from to : ℕ) → List Coded
+rescale_if true top line from to = times_if top overflow_entry line (2 ^ (to - from))
+rescale_if false top line from to = coded.Whole (set_word cx (from - to)) ∷ coded.Whole (shift_down_signed ax) ∷ []
 
-abbrev pub rescale : (from to : ℕ) → List Coded
-rescale from to = rescale_if (nat_le from to) (2 ^ (to - from) == 32768) from to
+abbrev pub rescale : (line from to : ℕ) → List Coded
+rescale line from to = rescale_if (nat_le from to) (2 ^ (to - from) == 32768) line from to
 
--- a routine of the library on the two operands on top and a count
-abbrev pub by_routine : (entry count : ℕ) → List Coded
-by_routine entry count = coded.Whole (move bx ax) ∷ coded.Whole (i86.Pop ax) ∷ coded.Whole (set_word cx count) ∷ call_library entry ∷ []
+-- A routine of the library on AX and BX and a count; the overflow flag tells that the result fits no word.
+abbrev pub by_routine : (line entry count : ℕ) → List Coded
+by_routine line entry count = coded.Whole (set_word cx count) ∷ call_library entry ∷ checked line
 
 -- The product of two words has at most 31 bits and a sign: from 2 ^ -16 on it always fits, and is the upper word, shifted further.
-abbrev pub product_start : List Coded
-product_start = coded.Whole (i86.Pop bx) ∷ coded.Whole (multiply bx) ∷ unless_overflow overflow_entry
+abbrev pub product_start : (line : ℕ) → List Coded
+product_start line = coded.Whole (i86.Pop bx) ∷ coded.Whole (multiply bx) ∷ checked line
 
-abbrev pub product_up : ℕ → List Coded
-product_up zero = product_start
-product_up (suc n) = product_start ++ times overflow_entry (2 ^ suc n)
+abbrev pub product_up : (line : ℕ) → ℕ → List Coded
+product_up line zero = product_start line
+product_up line (suc n) = product_start line ++ times overflow_entry line (2 ^ suc n)
 
-abbrev pub product_down : Bool → ℕ → List Coded
-product_down true n = by_routine product_entry (n + 1)
-product_down false n =
+abbrev pub product_down : (line : ℕ) → Bool → ℕ → List Coded
+product_down line true n = coded.Whole (i86.Pop bx) ∷ by_routine line product_entry (n + 1)
+product_down line false n =
     coded.Whole (i86.Pop bx) ∷ coded.Whole (multiply bx)
     ∷ coded.Whole (move ax dx) ∷ coded.Whole (set_word cx (n - 15)) ∷ coded.Whole (shift_down_signed ax) ∷ []
 
-abbrev pub product : ℤ → List Coded
-product (pos n) = product_up n
-product (negsuc n) = product_down (nat_lt n 15) n
+abbrev pub product : (line : ℕ) → ℤ → List Coded
+product line (pos n) = product_up line n
+product line (negsuc n) = product_down line (nat_lt n 15) n
 
-abbrev pub quotient : ℤ → List Coded
-quotient (pos n) = by_routine quotient_up_entry n
-quotient (negsuc n) = by_routine quotient_down_entry (n + 1)
+-- the divisor in BX, which is tested, and the dividend in AX
+abbrev pub divisor_tested : (line : ℕ) → List Coded
+divisor_tested line = take_two ++ (coded.Whole (either bx bx) ∷ coded.Whole (jump_if_unequal 5) ∷ call_stop zero_divisor_entry line)
 
-abbrev pub row_start : (lower : ℤ) → List Coded
-row_start lower =
+abbrev pub quotient : (line : ℕ) → ℤ → List Coded
+quotient line (pos n) = divisor_tested line ++ by_routine line quotient_up_entry n
+quotient line (negsuc n) = divisor_tested line ++ by_routine line quotient_down_entry (n + 1)
+
+abbrev pub row_start : (line : ℕ) → (lower : ℤ) → List Coded
+row_start line lower =
     coded.Whole (move cx ax) ∷ coded.Whole (i86.Pop ax) ∷ coded.Whole (set_word bx (unsigned lower)) ∷ coded.Whole (subtract ax bx)
-    ∷ unless_overflow address_entry
+    ∷ unless_overflow address_entry line
 
-abbrev pub row_end : List Coded
-row_end = coded.Whole (add ax cx) ∷ unless_overflow address_entry
+abbrev pub row_end : (line : ℕ) → List Coded
+row_end line = coded.Whole (add ax cx) ∷ unless_overflow address_entry line
 
-abbrev pub index_row : (lower : ℤ) → (n : ℕ) → List Coded
-index_row lower n = row_start lower ++ (times address_entry n ++ row_end)
+abbrev pub index_row : (line : ℕ) → (lower : ℤ) → (n : ℕ) → List Coded
+index_row line lower n = row_start line lower ++ (times address_entry line n ++ row_end line)
 
--- a routine of the library that tests an address
-abbrev pub by_area : (entry : ℕ) → List Coded
-by_area entry = coded.Move dx (target.Limit limit.DataWords) ∷ call_library entry ∷ []
+-- the address in AX is tested
+abbrev pub in_area : (line : ℕ) → List Coded
+in_area line = coded.Whole (compare ax di) ∷ coded.Whole (jump_if_below 5) ∷ call_stop address_entry line
 
 -- the top operand is compared with both bounds
-abbrev pub in_bounds : (lower upper : ℤ) → List Coded
-in_bounds lower upper =
-    coded.Whole (set_word bx (unsigned lower)) ∷ coded.Whole (compare ax bx) ∷ coded.Whole (jump_if_not_less 3) ∷ call_library bounds_entry
-    ∷ coded.Whole (set_word bx (unsigned upper)) ∷ coded.Whole (compare ax bx) ∷ coded.Whole (jump_if_at_most 3) ∷ call_library bounds_entry ∷ []
-
--- port 11h tells whether the input has ended, by 1, and port 10h gives the next byte
-abbrev pub read_byte : List Coded
-read_byte =
-    coded.Whole (i86.Push ax) ∷ coded.Whole (set_word ax 0) ∷ coded.Whole (set_word bx 0) ∷ coded.Whole (i86.In 0x11)
-    ∷ coded.Whole (compare ax bx) ∷ coded.Whole (jump_if_unequal 4) ∷ coded.Whole (i86.In 0x10) ∷ coded.Whole (i86.JumpShort 2)
-    ∷ coded.Whole (negate ax) ∷ []
+abbrev pub in_bounds : (line : ℕ) → (lower upper : ℤ) → List Coded
+in_bounds line lower upper =
+    coded.Whole (with_number 7 (unsigned lower)) ∷ coded.Whole (jump_if_not_less 5) ∷ (call_stop bounds_entry line
+    ++ coded.Whole (with_number 7 (unsigned upper)) ∷ coded.Whole (jump_if_at_most 5) ∷ call_stop bounds_entry line)
 
 -- how far it is from the end of an instruction to a place of the same code
 abbrev pub distance : (from to : ℕ) → ℕ
@@ -172,38 +175,31 @@ opposite_of comparator.Unequal = Equal
 abbrev pub pass_unless : Comparator → Coded
 pass_unless c = coded.Whole (i86.JumpIf (condition_of (opposite_of c)) 3)
 
--- behind a comparison in a block that begins at a place, so many bytes behind that: the next operand in AX, and the way on
+-- behind a comparison that ends so far into the code of the segment: the way on
 abbrev pub branch : Comparator → (end to : ℕ) → List Coded
-branch c end to = coded.Whole (i86.Pop ax) ∷ pass_unless c ∷ jump_near end to ∷ []
+branch c end to = pass_unless c ∷ jump_near end to ∷ []
 
 -- goes to a place where a comparison of the two operands on top holds; the code stands at a place
 abbrev pub jump_where : Comparator → (place to : ℕ) → List Coded
-jump_where c place to = coded.Whole (i86.Pop bx) ∷ coded.Whole (compare bx ax) ∷ branch c (place + 9) to
+jump_where c place to = coded.Whole (i86.Pop bx) ∷ coded.Whole (compare bx ax) ∷ branch c (place + 8) to
 
 -- ---- calls
 
--- a call, with all arguments and operands on the stack; the code stands at a place
-abbrev pub call_near : (place to : ℕ) → List Coded
-call_near place to = coded.Whole (i86.Push ax) ∷ coded.Whole (i86.Call (distance (place + 4) to)) ∷ []
+-- a call at a line, with all arguments and operands on the stack; the code stands at a place
+abbrev pub call_near : (line place to : ℕ) → List Coded
+call_near line place to = coded.Whole (set_word dx line) ∷ coded.Whole (i86.Call (distance (place + 6) to)) ∷ []
 
 -- goes to the place in AX, with the place to come back to on the stack
 abbrev pub back_jump : (behind : Target) → List Coded
 back_jump behind = coded.Move bx behind ∷ coded.Whole (i86.Push bx) ∷ coded.Whole (jump_to ax) ∷ []
 
--- a control argument: the record in BP, and in AX the place
+-- a control argument: the record in BP, and the place
 abbrev pub control_out : Target → List Coded
-control_out t = coded.Whole (i86.Push ax) ∷ coded.Whole (i86.Push bp) ∷ coded.Move ax t ∷ []
+control_out t = coded.Whole (i86.Push bp) ∷ coded.Move ax t ∷ coded.Whole (i86.Push ax) ∷ []
 
--- the record and so many words of arguments are dropped, and SI is the place behind the call
-abbrev pub record_dropped : (arguments : ℕ) → List Coded
-record_dropped n =
-    coded.Whole (move sp bp) ∷ coded.Whole (i86.Pop bp) ∷ coded.Whole (i86.Pop si)
-    ∷ coded.Whole (set_word bx (2 * n)) ∷ coded.Whole (add sp bx) ∷ []
-
--- back in the caller: an answer stays in AX, and without one the caller's top operand comes there
-abbrev pub return_with : (answers : Bool) → (arguments : ℕ) → List Coded
-return_with true n = record_dropped n ++ coded.Whole (jump_to si) ∷ []
-return_with false n = record_dropped n ++ coded.Whole (i86.Pop ax) ∷ coded.Whole (jump_to si) ∷ []
+-- back in the caller, without the record and so many words of arguments; an answer stays in AX
+abbrev pub return_with : (arguments : ℕ) → List Coded
+return_with n = coded.Whole (move sp bp) ∷ coded.Whole (i86.Pop bp) ∷ coded.Whole (i86.RetAdd (2 * n)) ∷ []
 
 -- the record in BP, without operands
 abbrev pub operands_dropped : List Coded
@@ -220,8 +216,8 @@ abbrev pub base_jump : (place to : ℕ) → List Coded
 base_jump place to = base_restored ++ jump_near (place + 15) to ∷ []
 
 -- the way to a switch, whose labels the activation at work owns
-abbrev pub switch_near : (place to : ℕ) → List Coded
-switch_near place to = coded.Whole (move di bp) ∷ jump_near (place + 5) to ∷ []
+abbrev pub switch_near : (line place to : ℕ) → List Coded
+switch_near line place to = coded.Whole (set_word dx line) ∷ coded.Whole (move si bp) ∷ jump_near (place + 8) to ∷ []
 
 -- ---- loops and switches
 
@@ -249,13 +245,13 @@ goal_words names (x ∷ xs) = goal_word names x ∷ goal_words names xs
 -- goes on at the mark of the number; behind the table where there is none
 abbrev pub loop_way : Names → (place : ℕ) → List ℕ → List Coded
 loop_way names place marks =
-    number_compared (length marks) ++ (coded.Whole (i86.Pop ax) ∷ coded.Whole (jump_if_below 3) ∷ jump_near (place + 14) (place + 21 + 2 * length marks)
-    ∷ coded.Whole (double bx) ∷ coded.Way (own (place + 21)) ∷ mark_words names marks)
+    number_compared (length marks) ++ (coded.Whole (jump_if_below 3) ∷ jump_near (place + 13) (place + 20 + 2 * length marks)
+    ∷ coded.Whole (double bx) ∷ coded.Way (own (place + 20)) ∷ mark_words names marks)
 
--- A switch takes its index in AX, and the record of the activation that owns its labels in DI.
+-- A switch takes its index in AX, the line in DX, and the record of the activation that owns its labels in SI.
 abbrev pub switch_pieces : Names → (place : ℕ) → List Goal → List Coded
 switch_pieces names place goals =
-    number_compared (length goals) ++ (coded.Whole (jump_if_below 3) ∷ call_library switch_entry ∷ coded.Whole (double bx) ∷ coded.Whole (move bp di)
+    number_compared (length goals) ++ (coded.Whole (jump_if_below 3) ∷ call_library switch_entry ∷ coded.Whole (double bx) ∷ coded.Whole (move bp si)
     ∷ (operands_dropped ++ coded.Way (own (place + 29)) ∷ goal_words names goals))
 
 -- the landing of a label: where its mark's code starts, with the base record
@@ -265,57 +261,53 @@ landing_pieces names place m = base_jump place (mark_place names m.mark)
 -- ---- one order
 
 abbrev pub template : Names → (place : ℕ) → Order → List Coded
-template names place (order.Const w) = coded.Whole (i86.Push ax) ∷ coded.Whole (set_word ax w) ∷ []
-template names place (order.Home family offset) = coded.Whole (i86.Push ax) ∷ coded.Move ax (target.Word family offset) ∷ []
+template names place order.Save = coded.Whole (i86.Push ax) ∷ []
+template names place (order.Const w) = coded.Whole (set_word ax w) ∷ []
+template names place (order.Home family offset) = coded.Move ax (target.Word family offset) ∷ []
 template names place order.Load = load_top
-template names place order.Store =
-    coded.Whole (move bx ax) ∷ coded.Whole (double bx) ∷ coded.Whole (i86.Pop ax) ∷ coded.Whole (store at_bx ax) ∷ coded.Whole (i86.Pop ax) ∷ []
-template names place order.Add = coded.Whole (i86.Pop bx) ∷ coded.Whole (add ax bx) ∷ checked
-template names place order.Sub = coded.Whole (move bx ax) ∷ coded.Whole (i86.Pop ax) ∷ coded.Whole (subtract ax bx) ∷ checked
-template names place order.Neg = coded.Whole (negate ax) ∷ checked
+template names place order.Store = coded.Whole (move bx ax) ∷ coded.Whole (double bx) ∷ coded.Whole (i86.Pop ax) ∷ coded.Whole (store at_bx ax) ∷ []
+template names place (order.Add line) = coded.Whole (i86.Pop bx) ∷ coded.Whole (add ax bx) ∷ checked line
+template names place (order.Sub line) = coded.Whole (move bx ax) ∷ coded.Whole (i86.Pop ax) ∷ coded.Whole (subtract ax bx) ∷ checked line
+template names place (order.Neg line) = coded.Whole (negate ax) ∷ checked line
 template names place (order.LoadPart t b is_signed) = load_part t b is_signed
 template names place (order.StorePart t b) = store_part t b
-template names place (order.Rescale from to) = rescale from to
-template names place (order.Mul s) = product s
-template names place (order.Div s) = quotient s
+template names place (order.Rescale from to line) = rescale line from to
+template names place (order.Mul s line) = product line s
+template names place (order.Div s line) = quotient line s
 template names place order.And = on_both (both ax bx)
 template names place order.Or = on_both (either ax bx)
 template names place order.Xor = on_both (one_of ax bx)
 template names place (order.Take t b) = taken t b
 template names place order.Less = take_two ++ (coded.Whole (subtract ax bx) ∷ [])
-template names place order.Drop = coded.Whole (i86.Pop ax) ∷ []
-template names place (order.IndexLess lower) = with_word address_entry (unsigned lower) (subtract ax bx)
-template names place (order.IndexTimes n) = times address_entry n
-template names place (order.IndexPlus n) = with_word address_entry n (add ax bx)
-template names place order.IndexAdd = coded.Whole (i86.Pop bx) ∷ coded.Whole (add ax bx) ∷ unless_overflow address_entry
-template names place (order.IndexRow lower n) = index_row lower n
-template names place order.InArea = by_area in_area_entry
-template names place (order.InBounds lower upper) = in_bounds lower upper
-template names place order.ReadByte = read_byte
-template names place order.WriteByte = coded.Whole (i86.Out 0x12) ∷ coded.Whole (i86.Pop ax) ∷ []
-template names place (order.Line n) = coded.Whole (i86.MovRm (slot line_slot) (imm.Word n)) ∷ []
-template names place (order.Start n) = coded.Whole (i86.MovRm (slot line_slot) (imm.Word n)) ∷ []
+template names place (order.IndexLess lower line) = with_word address_entry line (unsigned lower) (subtract ax bx)
+template names place (order.IndexTimes n line) = times address_entry line n
+template names place (order.IndexPlus n line) = with_word address_entry line n (add ax bx)
+template names place (order.IndexAdd line) = coded.Whole (i86.Pop bx) ∷ coded.Whole (add ax bx) ∷ unless_overflow address_entry line
+template names place (order.IndexRow lower n line) = index_row line lower n
+template names place (order.InArea line) = in_area line
+template names place (order.InBounds lower upper line) = in_bounds line lower upper
+template names place order.ReadByte = call_library read_entry ∷ []
+template names place order.WriteByte = coded.Whole (i86.Pop ax) ∷ coded.Whole (i86.Out 0x12) ∷ []
+template names place (order.Start n) = coded.Whole nothing ∷ []
 template names place order.NextBody = coded.Move ax target.NextSegment ∷ coded.Whole (jump_to ax) ∷ []
 template names place (order.Jump mark) = jump_near (place + 3) (mark_place names mark) ∷ []
 template names place (order.JumpIf c mark) = jump_where c place (mark_place names mark)
-template names place (order.FrameHome n) = coded.Whole (i86.Push ax) ∷ coded.Whole (load ax (slot base_slot)) ∷ coded.Whole (with_number 0 n) ∷ []
+template names place (order.FrameHome n) = coded.Whole (load ax (slot base_slot)) ∷ coded.Whole (with_number 0 n) ∷ []
 template names place (order.Exhausted mark) = past_limit place (mark_place names mark)
-template names place order.SetVariable = by_area set_variable_entry
-template names place order.AddStep = by_area add_step_entry
-template names place order.PutVariable = by_area put_variable_entry
+template names place (order.SetVariable line) = call_at_line set_variable_entry line
+template names place (order.AddStep line) = call_at_line add_step_entry line
+template names place (order.PutVariable line) = call_at_line put_variable_entry line
 template names place (order.LoopWay marks) = loop_way names place marks
 -- calls
-template names place (order.CallProc q) = call_near place (procedure_start names q)
-template names place (order.CallCommon d) = coded.Whole (i86.Push ax) ∷ coded.Call (target.DefinitionAhead d) ∷ []
-template names place (order.CallSpecial k) =
-    coded.Whole (i86.Push ax) ∷ coded.Whole (load ax (argument k)) ∷ back_jump (own (place + 11))
-template names place (order.Enter size) =
-    coded.Whole (set_word ax size) ∷ coded.Move dx (target.Limit limit.Segment) ∷ coded.Move bx (target.Limit limit.DataWords) ∷ call_library enter_entry ∷ []
-template names place (order.Bind k family offset) =
-    coded.Whole (load cx (argument k)) ∷ coded.Move bx (target.Bytes family offset) ∷ coded.Whole (store at_bx cx) ∷ []
+template names place (order.CallProc q line) = call_near line place (procedure_start names q)
+template names place (order.CallCommon d line) = coded.Whole (set_word dx line) ∷ coded.Call (target.DefinitionAhead d) ∷ []
+template names place (order.CallSpecial k line) =
+    coded.Whole (set_word dx line) ∷ coded.Whole (load ax (argument k)) ∷ back_jump (own (place + 13))
+template names place (order.Enter size) = coded.Whole (set_word ax size) ∷ coded.Move cx (target.Limit limit.Segment) ∷ call_library enter_entry ∷ []
+template names place (order.Bind k family offset) = coded.Whole (load ax (argument k)) ∷ coded.Store (target.Bytes family offset) ∷ []
 template names place (order.BindFrame k offset) =
     coded.Whole (load cx (argument k)) ∷ coded.Whole (load bx (slot base_slot)) ∷ coded.Whole (double bx) ∷ coded.Whole (store (field (2 * offset % 65536)) cx) ∷ []
-template names place (order.Return n answers) = return_with answers n
+template names place (order.Return n answers) = return_with n
 -- control arguments
 template names place (order.LabelOut l) = control_out (own (label_start names l))
 template names place (order.LabelCommon d) = control_out (target.Definition d)
@@ -324,17 +316,19 @@ template names place (order.SwitchCommon d) = control_out (target.Definition d)
 template names place (order.ProcOut q) = control_out (own (procedure_start names q))
 template names place (order.ProcCommon d) = control_out (target.Definition d)
 template names place (order.SpecialOut k) =
-    coded.Whole (i86.Push ax) ∷ coded.Whole (load ax (argument (k + 1))) ∷ coded.Whole (i86.Push ax) ∷ coded.Whole (load ax (argument k)) ∷ []
+    coded.Whole (load ax (argument (k + 1))) ∷ coded.Whole (i86.Push ax) ∷ coded.Whole (load ax (argument k)) ∷ coded.Whole (i86.Push ax) ∷ []
 -- jumps that may leave activations
 template names place (order.GoMain mark) = base_jump place (mark_place names mark)
 template names place (order.GoCommon d) = coded.Jump (target.DefinitionAhead d) ∷ []
 template names place (order.GoSpecial k) =
     coded.Whole (load bx (argument k)) ∷ coded.Whole (load bp (argument (k + 1))) ∷ (operands_dropped ++ coded.Whole (jump_to bx) ∷ [])
-template names place (order.GoSwitch n) = switch_near place (switch_start names n)
-template names place (order.GoSwitchCommon d) = coded.Whole (move di bp) ∷ coded.Jump (target.DefinitionAhead d) ∷ []
-template names place (order.GoSwitchSpecial k) =
-    coded.Whole (load di (argument (k + 1))) ∷ coded.Whole (load bx (argument k)) ∷ coded.Whole (jump_to bx) ∷ []
+template names place (order.GoSwitch n line) = switch_near line place (switch_start names n)
+template names place (order.GoSwitchCommon d line) =
+    coded.Whole (set_word dx line) ∷ coded.Whole (move si bp) ∷ coded.Jump (target.DefinitionAhead d) ∷ []
+template names place (order.GoSwitchSpecial k line) =
+    coded.Whole (set_word dx line) ∷ coded.Whole (load si (argument (k + 1))) ∷ coded.Whole (load bx (argument k)) ∷ coded.Whole (jump_to bx) ∷ []
 -- without code
+template names place order.Drop = []
 template names place order.Mark = []
 
 -- ---- blocks
@@ -345,28 +339,30 @@ operation op (simple.Number w) = coded.Whole (with_number op w)
 operation op (simple.Variable family offset) = coded.Operate op ax (target.Bytes family offset)
 
 abbrev pub operated : Names → (place : ℕ) → Simple → Use → List Coded
-operated names place s uses.Add = operation 0 s ∷ checked
-operated names place s uses.Subtract = operation 5 s ∷ checked
-operated names place s (uses.Compare c mark) = operation 7 s ∷ branch c (place + size_of (operation 7 s) + 6) (mark_place names mark)
+operated names place s (uses.Add line) = operation 0 s ∷ checked line
+operated names place s (uses.Subtract line) = operation 5 s ∷ checked line
+operated names place s (uses.Compare c mark) = operation 7 s ∷ branch c (place + size_of (operation 7 s) + 5) (mark_place names mark)
 
 -- the code of a block, which begins with an order
 abbrev pub block_pieces : Names → (place : ℕ) → Block → Order → List Coded
 block_pieces names place (block.Within n) o = []
 block_pieces names place block.Single o = template names place o
-block_pieces names place (block.Fetch family offset) o = coded.Whole (i86.Push ax) ∷ coded.Load (target.Bytes family offset) ∷ []
-block_pieces names place (block.Assign family offset) o = coded.Store (target.Bytes family offset) ∷ coded.Whole (i86.Pop ax) ∷ []
+block_pieces names place (block.Fetch family offset) o = coded.Load (target.Bytes family offset) ∷ []
+block_pieces names place (block.Assign family offset) o = coded.Store (target.Bytes family offset) ∷ []
 block_pieces names place (block.FetchFrame n) o =
-    coded.Whole (i86.Push ax) ∷ coded.Whole (load bx (slot base_slot)) ∷ coded.Whole (double bx) ∷ coded.Whole (load ax (field (2 * n % 65536))) ∷ []
+    coded.Whole (load bx (slot base_slot)) ∷ coded.Whole (double bx) ∷ coded.Whole (load ax (field (2 * n % 65536))) ∷ []
 block_pieces names place (block.AssignFrame n) o =
-    coded.Whole (load bx (slot base_slot)) ∷ coded.Whole (double bx) ∷ coded.Whole (store (field (2 * n % 65536)) ax) ∷ coded.Whole (i86.Pop ax) ∷ []
+    coded.Whole (load bx (slot base_slot)) ∷ coded.Whole (double bx) ∷ coded.Whole (store (field (2 * n % 65536)) ax) ∷ []
+block_pieces names place block.Write o = coded.Whole (i86.Out 0x12) ∷ []
+block_pieces names place (block.Divide w) o = coded.Whole (set_word bx w) ∷ coded.Whole i86.Cwd ∷ coded.Whole (divide_signed bx) ∷ []
 block_pieces names place (block.Operate s u) o = operated names place s u
 
 -- what the code of a segment begins with: the base record is made
 abbrev pub entry_pieces : List Coded
 entry_pieces =
-    coded.Move ax (target.Limit limit.DataWords) ∷ coded.Move bx (target.Limit limit.FrameWords)
-    ∷ coded.Move cx (target.Limit limit.Calls) ∷ coded.Move dx (target.Limit limit.Segment)
-    ∷ call_library start_entry ∷ []
+    call_library start_entry
+    ∷ coded.Word (target.Limit limit.DataWords) ∷ coded.Word (target.Limit limit.FrameWords)
+    ∷ coded.Word (target.Limit limit.Calls) ∷ coded.Word (target.Limit limit.Segment) ∷ []
 
 -- the bytes of a block's code, which are as many wherever it stands and whatever it names
 abbrev pub block_size : Block → Order → ℕ
@@ -378,56 +374,56 @@ order_size o = block_size block.Single o
 
 -- a multiplication by a number
 abbrev pub times_size : ℕ → ℕ
-times_size n = if n == 32768 then 12 else 10
+times_size n = if n == 32768 then 14 else 12
 
 -- the same, order by order
 abbrev pub listed_size : Order → ℕ
-listed_size (order.Const w) = 4
-listed_size (order.Home family offset) = 4
-listed_size order.Load = 6
-listed_size order.Store = 8
-listed_size order.Add = 8
-listed_size order.Sub = 10
-listed_size order.Neg = 7
-listed_size (order.LoadPart t b is_signed) = 16
-listed_size (order.StorePart t b) = 27
-listed_size (order.Rescale from to) = if nat_le from to then times_size (2 ^ (to - from)) else 5
-listed_size (order.Mul (pos zero)) = 8
-listed_size (order.Mul (pos (suc n))) = times_size (2 ^ suc n) + 8
-listed_size (order.Mul (negsuc n)) = if nat_lt n 15 then 9 else 10
-listed_size (order.Div s) = 9
+listed_size order.Save = 1
+listed_size (order.Const w) = 3
+listed_size (order.Home family offset) = 3
+listed_size order.Load = 5
+listed_size order.Store = 7
+listed_size (order.Add line) = 10
+listed_size (order.Sub line) = 12
+listed_size (order.Neg line) = 9
+listed_size (order.LoadPart t b is_signed) = 15
+listed_size (order.StorePart t b) = 26
+listed_size (order.Rescale from to line) = if nat_le from to then times_size (2 ^ (to - from)) else 5
+listed_size (order.Mul (pos zero) line) = 10
+listed_size (order.Mul (pos (suc n)) line) = times_size (2 ^ suc n) + 10
+listed_size (order.Mul (negsuc n) line) = if nat_lt n 15 then 14 else 10
+listed_size (order.Div s line) = 25
 listed_size order.And = 3
 listed_size order.Or = 3
 listed_size order.Xor = 3
 listed_size (order.Take t b) = 10
 listed_size order.Less = 5
-listed_size order.Drop = 1
-listed_size (order.IndexLess lower) = 10
-listed_size (order.IndexTimes n) = times_size n
-listed_size (order.IndexPlus n) = 10
-listed_size order.IndexAdd = 8
-listed_size (order.IndexRow lower n) = times_size n + 20
-listed_size order.InArea = 6
-listed_size (order.InBounds lower upper) = 20
-listed_size order.ReadByte = 19
+listed_size order.Drop = 0
+listed_size (order.IndexLess lower line) = 12
+listed_size (order.IndexTimes n line) = times_size n
+listed_size (order.IndexPlus n line) = 12
+listed_size (order.IndexAdd line) = 10
+listed_size (order.IndexRow lower n line) = times_size n + 24
+listed_size (order.InArea line) = 9
+listed_size (order.InBounds lower upper line) = 20
+listed_size order.ReadByte = 3
 listed_size order.WriteByte = 3
-listed_size (order.Line n) = 5
 listed_size order.NextBody = 5
 listed_size (order.Jump mark) = 3
-listed_size (order.JumpIf c mark) = 9
-listed_size (order.FrameHome n) = 7
+listed_size (order.JumpIf c mark) = 8
+listed_size (order.FrameHome n) = 6
 listed_size (order.Exhausted mark) = 6
-listed_size order.SetVariable = 6
-listed_size order.AddStep = 6
-listed_size order.PutVariable = 6
-listed_size (order.LoopWay marks) = 21 + 2 * length marks
-listed_size (order.CallProc q) = 4
-listed_size (order.CallCommon d) = 4
-listed_size (order.CallSpecial k) = 11
-listed_size (order.Enter size) = 12
-listed_size (order.Bind k family offset) = 9
+listed_size (order.SetVariable line) = 6
+listed_size (order.AddStep line) = 6
+listed_size (order.PutVariable line) = 6
+listed_size (order.LoopWay marks) = 20 + 2 * length marks
+listed_size (order.CallProc q line) = 6
+listed_size (order.CallCommon d line) = 6
+listed_size (order.CallSpecial k line) = 13
+listed_size (order.Enter size) = 9
+listed_size (order.Bind k family offset) = 7
 listed_size (order.BindFrame k offset) = 13
-listed_size (order.Return n answers) = if answers then 11 else 12
+listed_size (order.Return n answers) = 6
 listed_size (order.LabelOut l) = 5
 listed_size (order.LabelCommon d) = 5
 listed_size (order.SwitchOut n) = 5
@@ -438,23 +434,24 @@ listed_size (order.SpecialOut k) = 10
 listed_size (order.GoMain mark) = 15
 listed_size (order.GoCommon d) = 3
 listed_size (order.GoSpecial k) = 17
-listed_size (order.GoSwitch n) = 5
-listed_size (order.GoSwitchCommon d) = 5
-listed_size (order.GoSwitchSpecial k) = 10
+listed_size (order.GoSwitch n line) = 8
+listed_size (order.GoSwitchCommon d line) = 8
+listed_size (order.GoSwitchSpecial k line) = 13
 listed_size order.Mark = 0
-listed_size (order.Start n) = 5
+listed_size (order.Start n) = 1
 
--- the same behind an order: a load or a store behind the address of a word is in its block
-abbrev pub size_behind : Option Order → Order → ℕ
-size_behind (Some (order.Home f n)) order.Load = 0
-size_behind (Some (order.Home f n)) order.Store = 0
-size_behind (Some (order.FrameHome n)) order.Load = 3
-size_behind (Some (order.FrameHome n)) order.Store = 3
-size_behind _ o = listed_size o
+-- The same behind two orders: a load behind the address of a word is in its block, and so is a store there, where the top operand is saved before
+-- the address.
+abbrev pub size_behind : (second first : Option Order) → Order → ℕ
+size_behind _ (Some (order.Home f n)) order.Load = 0
+size_behind _ (Some (order.FrameHome n)) order.Load = 3
+size_behind (Some order.Save) (Some (order.Home f n)) order.Store = 0
+size_behind (Some order.Save) (Some (order.FrameHome n)) order.Store = 2
+size_behind _ _ o = listed_size o
 
-abbrev pub sizes_behind : Option Order → List Order → ℕ
-sizes_behind before [] = 0
-sizes_behind before (o ∷ os) = size_behind before o + sizes_behind (Some o) os
+abbrev pub sizes_behind : (second first : Option Order) → List Order → ℕ
+sizes_behind second first [] = 0
+sizes_behind second first (o ∷ os) = size_behind second first o + sizes_behind first (Some o) os
 
 abbrev pub listed_sizes : List Order → ℕ
-listed_sizes os = sizes_behind None os
+listed_sizes os = sizes_behind None None os

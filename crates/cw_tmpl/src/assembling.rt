@@ -150,6 +150,7 @@ impl Assembly {
                 self.put_instruction(&Instr::Jump(0))?;
                 self.relocate(target)
             }
+            Coded::Data(word) => self.put_bytes(&word.to_le_bytes()),
             Coded::Word(target) => {
                 self.put_bytes(&[0, 0])?;
                 self.relocate(target)

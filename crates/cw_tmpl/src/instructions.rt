@@ -22,29 +22,23 @@ pub const SI: u8 = 6;
 pub const DI: u8 = 7;
 
 /// What BP holds where the base record is at work, and what SP then holds where there are no operands.
-pub const BASE_RECORD: u16 = 0xFFFC;
+pub const BASE_RECORD: u16 = 0;
 
-pub const BASE_OPERANDS: u16 = 0xFFF2;
+pub const BASE_OPERANDS: u16 = 0xFFF8;
 
 /// How far the last word of a record is below its BP.
-pub const RECORD_DEPTH: u16 = 10;
+pub const RECORD_DEPTH: u16 = 8;
 
-/// The word of the activation record that holds the line, at BP - 2.
-pub const LINE: Rm = Rm::Mem(Mem {
+/// The word of the activation record that holds the number of the segment, at BP - 2.
+pub const SEGMENT: Rm = Rm::Mem(Mem {
     cs: false,
     place: Place::Near(6, 0xFE),
 });
 
-/// The word that holds the number of the segment, at BP - 4.
-pub const SEGMENT: Rm = Rm::Mem(Mem {
-    cs: false,
-    place: Place::Near(6, 0xFC),
-});
-
-/// The word that holds the frame base, at BP - 8.
+/// The word that holds the frame base, at BP - 6.
 pub const BASE: Rm = Rm::Mem(Mem {
     cs: false,
-    place: Place::Near(6, 0xF8),
+    place: Place::Near(6, 0xFA),
 });
 
 /// The word of the data segment at BX.
@@ -249,6 +243,17 @@ pub fn multiply(reg: u8) -> Instr
     }
 }
 
+/// IDIV by a register.
+pub fn divide_signed(reg: u8) -> Instr
+    ensures { result ≡ mnemonics.divide_signed reg }
+{
+    Instr::Unary {
+        op: 7,
+        wide: true,
+        rm: Rm::Reg(reg),
+    }
+}
+
 /// JB.
 pub fn jump_if_below(by: u8) -> Instr
     ensures { result ≡ mnemonics.jump_if_below by }
@@ -275,6 +280,20 @@ pub fn jump_if_at_most(by: u8) -> Instr
     ensures { result ≡ mnemonics.jump_if_at_most by }
 {
     Instr::JumpIf { cond: 14, by }
+}
+
+/// XCHG of AX and BX.
+pub fn exchange() -> Instr
+    ensures { result ≡ mnemonics.exchange }
+{
+    Instr::XchgAx(BX)
+}
+
+/// NOP.
+pub fn nothing() -> Instr
+    ensures { result ≡ mnemonics.nothing }
+{
+    Instr::XchgAx(AX)
 }
 
 /// JMP to the place in a register.

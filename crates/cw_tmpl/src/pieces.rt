@@ -34,7 +34,7 @@ pub enum Target {
     NextSegment,
 }
 
-/// A piece of code: an instruction, or a word of a table. The word that is filled ends the piece.
+/// A piece of code: an instruction, or a word alone. The word that is filled ends the piece.
 #[derive(Clone, Copy)]
 pub enum Coded {
     Whole(Instr),
@@ -59,6 +59,8 @@ pub enum Coded {
     Jump(Target),
     /// The word alone.
     Word(Target),
+    /// A word that is known, as a line behind a call.
+    Data(u16),
     /// JMP to the place that an entry of a table of the code tells, where the word is the table's place and BX counts bytes.
     Way(Target),
 }

@@ -8,22 +8,27 @@ use Rattle.cw_order.specs.declared.order.Order.TheVariants as order
 use Rattle.cw_order.specs.FittingWords.{ConstantsFit}
 use Rattle.cw_order.specs.OrderProgram.{order_at}
 use Rattle.cw_gen_unit.specs.ReferenceUnits.{unit_orders, orders_program}
-use Rattle.cw_follow.specs.Placing.{EndsBlock, Codable}
+use Rattle.cw_follow.specs.Placing.{StandsBehind, Codable}
 use Rattle.cw_built.specs.Built.{is_built}
 use Rattle.cw_built.specs.Coded.{ends_block, have_code}
 use Rattle.cw_built.proofs.Programs.{codes, lines, tables, paired, switches, entries, marks, callable}
 
-begins-block : (o : Order) → ends_block o ≡ false → EndsBlock o → ⊥
+begins-block : (o : Order) → ends_block o ≡ false → StandsBehind o → ⊥
+begins-block (order.Const w) e t = absurd (cc)
+begins-block (order.Home f n) e t = absurd (cc)
+begins-block (order.FrameHome n) e t = absurd (cc)
 begins-block order.Load e t = absurd (cc)
 begins-block order.Store e t = absurd (cc)
-begins-block order.Add e t = absurd (cc)
-begins-block order.Sub e t = absurd (cc)
+begins-block (order.Add line) e t = absurd (cc)
+begins-block (order.Sub line) e t = absurd (cc)
 begins-block (order.JumpIf c m) e t = absurd (cc)
+begins-block (order.Div s line) e t = absurd (cc)
+begins-block order.WriteByte e t = absurd (cc)
 begins-block _ e t = t
 
 module _ (us : List SourceUnit) (m : Map) (limits : Limits) (room : ℕ) (h : All (λ u. IsTrue (have_code (unit_orders u))) us) where
   marked : (g mark place : ℕ) → (place ≡ 0) ⊎ ((o : Order) × (order_at (orders_program us m limits room) g place ≡ Some o) × (ends_block o ≡ false))
-      → (place ≡ 0) ⊎ ((o : Order) × (order_at (orders_program us m limits room) g place ≡ Some o) × (EndsBlock o → ⊥))
+      → (place ≡ 0) ⊎ ((o : Order) × (order_at (orders_program us m limits room) g place ≡ Some o) × (StandsBehind o → ⊥))
   marked g mark place (inl e) = inl e
   marked g mark place (inr b) = inr (b.0, b.1, begins-block b.0 b.2)
 

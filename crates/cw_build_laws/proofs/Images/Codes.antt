@@ -1,7 +1,6 @@
 -- What the linker fills in is what the orders mean.
-use Rattle.std.proofs.Common.{◌≡◌, ℕ, zero, suc, ◌+◌, ◌-◌, ◌*◌, ◌%◌, ◌<◌, ◌≤◌, Bool, true, false, cond, List, [], ◌∷◌, ◌++◌, length, map, Option, Some, None, slice_get, refl, sym, ap, ◌∙◌, subst, arith}
+use Rattle.std.proofs.Common.{◌≡◌, ℕ, zero, suc, ◌+◌, ◌-◌, ◌*◌, ◌%◌, ◌<◌, ◌≤◌, Bool, true, false, List, [], ◌∷◌, ◌++◌, length, map, Option, Some, None, slice_get, refl, sym, ap, ◌∙◌, subst, arith}
 use Rattle.std.specs.Prelude.{All, nat_lt, slice_index, slice_index_or}
-use Rattle.std.proofs.lemmas.Bool.{lt-ltb}
 use Rattle.std.proofs.lemmas.List.Elements.{All-head, All-tail}
 use Rattle.cw_unit.specs.declared.unit.Unit.{Unit as SourceUnit}
 use Rattle.cw_unit.specs.declared.descriptor.Desc.{Desc}
@@ -12,7 +11,7 @@ use Rattle.cw_order.specs.declared.order.Orders.{Orders}
 use Rattle.cw_order.specs.OrderProgram.{OrderProgram, defined_at}
 use Rattle.cw_order.specs.OrderActions.{home_word}
 use Rattle.cw_gen_unit.specs.ReferenceUnits.{unit_orders, orders_program}
-use Rattle.cw_tmpl.specs.Library.{routines, library_bytes, library_entry, entry_place}
+use Rattle.cw_tmpl.specs.Library.{places_of_entries, library_bytes, library_entry, entry_place}
 use Rattle.cw_tmpl.specs.Pieces.{Filling, blanks}
 use Rattle.cw_tmpl.specs.ReferenceCode.{pieces_of}
 use Rattle.cw_follow.specs.Placing.{base_of, definition_place, Fills, place_after}
@@ -27,8 +26,13 @@ use Rattle.cw_build_laws.proofs.Images.Filling.{value_of, AllFill}
 twice_word : (n : ℕ) → (2 * n) % 65536 ≡ 2 * (n % 65536) % 65536
 twice_word n = omega arith
 
-entry_filled : (k : ℕ) → k < length routines → entry_or_zero (library_entry k) ≡ entry_place k
-entry_filled k lt = ap (λ b. entry_or_zero (cond b (Some (entry_place k)) None)) (lt-ltb k (length routines) lt)
+found_there : (places : List ℕ) (k : ℕ) → k < length places → entry_or_zero (slice_get places k) ≡ slice_index places k
+found_there [] k lt = absurd (omega (arith, lt))
+found_there (x ∷ xs) zero lt = refl
+found_there (x ∷ xs) (suc k) lt = found_there xs k (let z : k < length xs = omega (arith, lt) in z)
+
+entry_filled : (k : ℕ) → k < length places_of_entries → entry_or_zero (library_entry k) ≡ entry_place k
+entry_filled = found_there places_of_entries
 
 -- ---- the way on
 

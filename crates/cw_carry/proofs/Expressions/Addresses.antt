@@ -20,142 +20,173 @@ use Rattle.cw_unit.specs.Configuration.{address_at}
 use Rattle.cw_unit.specs.Step.{after as source_after, addressing_of, compares_in, address_step}
 use Rattle.cw_order.specs.declared.order.Order.{Order}
 use Rattle.cw_order.specs.declared.order.Order.TheVariants as order
+use Rattle.cw_order.specs.Loading.{loaded_after}
 use Rattle.cw_order.specs.OrderCosts.{weight_of}
 use Rattle.cw_gen_expr.specs.Pieces.{plain, followed_by}
-use Rattle.cw_gen_expr.specs.ReferenceExpressions.{item_order, table_orders, form_orders, rescale_orders, narrow, bounds_orders, expression_piece, reference_of}
+use Rattle.cw_gen_expr.specs.ReferenceExpressions.{at_line, saved, item_order, table_orders, form_orders, rescale_orders, narrow, bounds_orders, expression_piece, reference_of}
 use Rattle.cw_gen_expr.specs.BuiltExpressions.{whole, built_value, built_reference, is_spot}
 use Rattle.cw_gen_expr.proofs.Layers.{spot_layer, spot-made, reference-made, built_spot_layer, spot-built, reference-built, reference_size, reference-size, spot-size, spot_size_layer, expression_size}
-use Rattle.cw_carry.proofs.Expressions.Standing.{Stands, Made, both_made, one_made}
-use Rattle.cw_carry.proofs.Expressions.Effects.{IsPossible, is_silent, all_silent, total_weight}
-use Rattle.cw_carry.proofs.Expressions.Carried.{here, Ready, OperationFits, operation_orders}
+use Rattle.cw_carry.proofs.Expressions.Standing.{Stands, Made, saved_made, one_made}
+use Rattle.cw_carry.proofs.Expressions.Effects.{IsPossible, is_silent, all_silent, total_weight, through_all, loaded_through, TellsLine, OnLine}
+use Rattle.cw_carry.proofs.Expressions.Carried.{Ready, OperationFits, operation_orders, gives_word, takes_index}
 use Rattle.cw_carry.proofs.Expressions.Operations.{operation-runs, form-runs, behind_item}
 use Rattle.cw_carry.proofs.Expressions.Stepping.{Compiled, source, target, IsSane, work_size, silent}
-use Rattle.cw_carry.proofs.Expressions.Moments.{both, item_silent, item_light, IsLight, silent_and, Moment, here_in, layout, scope, has_words, code, marks, At, Leads_to, Steps, next, run, Facts, becomes, done_by}
+use Rattle.cw_carry.proofs.Expressions.Moments.{both, item_silent, item_light, item_loads, item_tells, IsLight, silent_and, Moment, here_in, layout, scope, has_words, code, marks, At, Leads_to, Close, at_close, close_to, past_save, Steps, next, run, Facts, becomes, done_by}
 
 -- ---- operations
 
 module _ (c : Compiled) (t : Moment c) where
-  operated : (op : Operation) (os : List Order) (line : ℕ) (k : Work) (q n l : ℕ) (r : Bool) (w : Words) → operation_orders op ≡ os → IsLight os → OperationFits op r → Stands (code c t) q (operation_orders op) n → line ≡ l → Ready c.limits.area r w.operands → Leads_to c t n l false k → Facts c t (Do op line k) w → Steps c t (Do op line k) q l w
-  operated op os line k q n l r w e light f stands same ready carried facts =
-      done_by c t (Do op line k) k line q n l os w false (perform c.limits.area op w) same (subst (λ x. Stands (code c t) q x n) e stands) light facts refl
-      (λ ok. subst (λ x. run c t x w ≡ perform c.limits.area op w) e (operation-runs (target c) (here_in c t) t.calls_below op r w.operands w.memory w.input w.output f ready facts.fits ok))
+  operated : (op : Operation) (os : List Order) (line : ℕ) (k : Work) (q n : ℕ) (r : Bool) (w : Words) → operation_orders line op ≡ os → IsLight line true (gives_word op) os → OperationFits op r → Stands (code c t) q (operation_orders line op) n → Ready c.limits.area r w.operands → Leads_to c t n (gives_word op) false k → Facts c t (Do op line k) w → Steps c t (Do op line k) q true w
+  operated op os line k q n r w e light f stands ready carried facts =
+      done_by c t (Do op line k) k line q n true (gives_word op) os w false (perform c.limits.area op w) (subst (λ x. Stands (code c t) q x n) e stands) light facts refl
+      (λ ok. subst (λ x. run c t x w ≡ perform c.limits.area op w) e (operation-runs (target c) (here_in c t) t.calls_below line op r w.operands w.memory w.input w.output f ready facts.fits ok))
       (λ v h. tt)
       carried
 
   -- an order of its own
-  single : (o : Order) → IsTrue (is_silent o) → 0 < weight_of o → weight_of o ≤ 160 → IsLight (o ∷ [])
-  single o h some le = record {
+  single : (line : ℕ) (l m : Bool) (o : Order) → IsTrue (is_silent o) → 0 < weight_of o → weight_of o ≤ 159 → TellsLine line o → loaded_after o l ≡ Some m → IsLight line l m (o ∷ [])
+  single line l m o h some le tells turn = record {
     quiet = silent_and (is_silent o) true h refl;
-    light = (let z : weight_of o + 0 ≤ 160 = omega (arith, le) in z);
+    light = (let z : weight_of o + 0 ≤ 159 = omega (arith, le) in z);
     some = (let z : 0 < weight_of o + 0 = omega (arith, some) in z);
     short = (let z : 1 ≤ 12 = omega arith in z);
+    at = (tells, tt);
+    turns = ap (λ x. through_all x []) turn;
   }
 
-  rescaled : (b : Bool) (from to line : ℕ) (k : Work) (q n l : ℕ) (r : Bool) (w : Words) → (from == to) ≡ b → Stands (code c t) q (rescale_orders from to) n → line ≡ l → Ready c.limits.area r w.operands → Leads_to c t n l false k → Facts c t (Do (Rescale from to) line k) w → Steps c t (Do (Rescale from to) line k) q l w
-  rescaled false from to line k q n l r w is stands same ready carried facts =
-      operated (Rescale from to) (order.Rescale from to ∷ []) line k q n l r w (ap (λ b. if b then [] else (order.Rescale from to ∷ [])) is) (single (order.Rescale from to) refl (omega arith) (omega arith)) tt stands same ready carried facts
-  rescaled true from to line k q n l r w is stands same ready carried facts = unchanged (perform c.limits.area (Rescale from to) w) refl
+  rescaled : (b : Bool) (from to line : ℕ) (k : Work) (q n : ℕ) (r : Bool) (w : Words) → (from == to) ≡ b → Stands (code c t) q (rescale_orders line from to) n → Ready c.limits.area r w.operands → Leads_to c t n true false k → Facts c t (Do (Rescale from to) line k) w → Steps c t (Do (Rescale from to) line k) q true w
+  rescaled false from to line k q n r w is stands ready carried facts =
+      operated (Rescale from to) (order.Rescale from to line ∷ []) line k q n r w (ap (λ b. if b then [] else (order.Rescale from to line ∷ [])) is) (single line true true (order.Rescale from to line) refl (omega arith) (omega arith) refl refl) tt stands ready carried facts
+  rescaled true from to line k q n r w is stands ready carried facts = unchanged (perform c.limits.area (Rescale from to) w) refl
     where
-      none : rescale_orders from to ≡ []
-      none = ap (λ b. if b then [] else (order.Rescale from to ∷ [])) is
+      none : rescale_orders line from to ≡ []
+      none = ap (λ b. if b then [] else (order.Rescale from to line ∷ [])) is
 
       at_n : q ≡ n
       at_n = subst (λ os. Stands (code c t) q os n) none stands
 
-      kept : IsPossible (perform c.limits.area (Rescale from to) w) → Steps c t (Do (Rescale from to) line k) q l w
+      kept : IsPossible (perform c.limits.area (Rescale from to) w) → Steps c t (Do (Rescale from to) line k) q true w
       kept ok =
-          let stays : Changed w ≡ perform c.limits.area (Rescale from to) w = subst (λ os. run c t os w ≡ perform c.limits.area (Rescale from to) w) none (operation-runs (target c) (here_in c t) t.calls_below (Rescale from to) r w.operands w.memory w.input w.output tt ready facts.fits ok) in
-          silent c t.segment t.acts t.calls_below t.unit t.unit_is t.calls (Do (Rescale from to) line k) k q l false w
+          let stays : Changed w ≡ perform c.limits.area (Rescale from to) w = subst (λ os. run c t os w ≡ perform c.limits.area (Rescale from to) w) none (operation-runs (target c) (here_in c t) t.calls_below line (Rescale from to) r w.operands w.memory w.input w.output tt ready facts.fits ok) in
+          silent c t.segment t.acts t.calls_below t.unit t.unit_is t.calls (Do (Rescale from to) line k) k q true false w
           (ap (λ o. source_after o t.segment line (Do (Rescale from to) line k) k t.acts w) (sym stays)) tt
-          (subst (λ x. Leads_to c t x l false k) (sym at_n) carried)
+          (subst (λ x. Leads_to c t x true false k) (sym at_n) carried)
           (let z : work_size c k < 1 + work_size c k = omega arith in z)
 
-      unchanged : (out : Outcome) → perform c.limits.area (Rescale from to) w ≡ out → Steps c t (Do (Rescale from to) line k) q l w
+      unchanged : (out : Outcome) → perform c.limits.area (Rescale from to) w ≡ out → Steps c t (Do (Rescale from to) line k) q true w
       unchanged (Changed v) h = kept (subst IsPossible (sym h) tt)
       unchanged (Refused kind) h = kept (subst IsPossible (sym h) tt)
       unchanged Impossible h = absurd (subst (λ o. IsSane (source_after o t.segment line (Do (Rescale from to) line k) k t.acts w)) h facts.sane)
 
-  pub operation : (op : Operation) (line : ℕ) (k : Work) (q n l : ℕ) (r : Bool) (w : Words) → OperationFits op r → Stands (code c t) q (operation_orders op) n → line ≡ l → Ready c.limits.area r w.operands → Leads_to c t n l false k → Facts c t (Do op line k) w → Steps c t (Do op line k) q l w
-  operation (Rescale from to) line k q n l r w f stands same ready carried facts = rescaled (from == to) from to line k q n l r w refl stands same ready carried facts
-  operation (Fetch None) line k q n l r w f stands same ready carried facts =
-      operated (Fetch None) (order.Load ∷ []) line k q n l r w refl (single (order.Load) refl (omega arith) (omega arith)) f stands same ready carried facts
-  operation (Fetch (Some x)) line k q n l r w f stands same ready carried facts =
-      operated (Fetch (Some x)) (order.LoadPart x.t x.b (not x.unsigned) ∷ []) line k q n l r w refl (single (order.LoadPart x.t x.b (not x.unsigned)) refl (omega arith) (omega arith)) f stands same ready carried facts
-  operation (Store None) line k q n l r w f stands same ready carried facts =
-      operated (Store None) (order.Store ∷ []) line k q n l r w refl (single (order.Store) refl (omega arith) (omega arith)) f stands same ready carried facts
-  operation (Store (Some x)) line k q n l r w f stands same ready carried facts =
-      operated (Store (Some x)) (order.StorePart x.t x.b ∷ []) line k q n l r w refl (single (order.StorePart x.t x.b) refl (omega arith) (omega arith)) f stands same ready carried facts
-  operation (StoreBits y b) line k q n l r w f stands same ready carried facts =
-      operated (StoreBits y b) (order.StorePart y b ∷ []) line k q n l r w refl (single (order.StorePart y b) refl (omega arith) (omega arith)) f stands same ready carried facts
-  operation Add line k q n l r w f stands same ready carried facts =
-      operated Add (order.Add ∷ []) line k q n l r w refl (single (order.Add) refl (omega arith) (omega arith)) f stands same ready carried facts
-  operation Subtract line k q n l r w f stands same ready carried facts =
-      operated Subtract (order.Sub ∷ []) line k q n l r w refl (single (order.Sub) refl (omega arith) (omega arith)) f stands same ready carried facts
-  operation Negate line k q n l r w f stands same ready carried facts =
-      operated Negate (order.Neg ∷ []) line k q n l r w refl (single (order.Neg) refl (omega arith) (omega arith)) f stands same ready carried facts
-  operation (Multiply x) line k q n l r w f stands same ready carried facts =
-      operated (Multiply x) (order.Mul (narrow x) ∷ []) line k q n l r w refl (single (order.Mul (narrow x)) refl (omega arith) (omega arith)) f stands same ready carried facts
-  operation (Divide x) line k q n l r w f stands same ready carried facts =
-      operated (Divide x) (order.Div (narrow x) ∷ []) line k q n l r w refl (single (order.Div (narrow x)) refl (omega arith) (omega arith)) f stands same ready carried facts
-  operation (Combine logic.Mask) line k q n l r w f stands same ready carried facts =
-      operated (Combine logic.Mask) (order.And ∷ []) line k q n l r w refl (single (order.And) refl (omega arith) (omega arith)) f stands same ready carried facts
-  operation (Combine logic.Union) line k q n l r w f stands same ready carried facts =
-      operated (Combine logic.Union) (order.Or ∷ []) line k q n l r w refl (single (order.Or) refl (omega arith) (omega arith)) f stands same ready carried facts
-  operation (Combine logic.Differ) line k q n l r w f stands same ready carried facts =
-      operated (Combine logic.Differ) (order.Xor ∷ []) line k q n l r w refl (single (order.Xor) refl (omega arith) (omega arith)) f stands same ready carried facts
-  operation (Extract y b) line k q n l r w f stands same ready carried facts =
-      operated (Extract y b) (order.Take y b ∷ []) line k q n l r w refl (single (order.Take y b) refl (omega arith) (omega arith)) f stands same ready carried facts
-  operation (InBounds x y) line k q n l r w f stands same ready carried facts =
-      operated (InBounds x y) (order.InBounds x y ∷ []) line k q n l r w refl (single (order.InBounds x y) refl (omega arith) (omega arith)) f stands same ready carried facts
-  operation _ line k q n l r w f stands same ready carried facts = absurd f
+  pub operation : (op : Operation) (line : ℕ) (k : Work) (q n : ℕ) (r : Bool) (w : Words) → OperationFits op r → Stands (code c t) q (operation_orders line op) n → Ready c.limits.area r w.operands → Leads_to c t n (gives_word op) false k → Facts c t (Do op line k) w → Steps c t (Do op line k) q true w
+  operation (Rescale from to) line k q n r w f stands ready carried facts = rescaled (from == to) from to line k q n r w refl stands ready carried facts
+  operation (Fetch None) line k q n r w f stands ready carried facts =
+      operated (Fetch None) (order.Load ∷ []) line k q n r w refl (single line true true order.Load refl (omega arith) (omega arith) tt refl) f stands ready carried facts
+  operation (Fetch (Some x)) line k q n r w f stands ready carried facts =
+      operated (Fetch (Some x)) (order.LoadPart x.t x.b (not x.unsigned) ∷ []) line k q n r w refl (single line true true (order.LoadPart x.t x.b (not x.unsigned)) refl (omega arith) (omega arith) tt refl) f stands ready carried facts
+  operation (Store None) line k q n r w f stands ready carried facts =
+      operated (Store None) (order.Store ∷ []) line k q n r w refl (single line true false order.Store refl (omega arith) (omega arith) tt refl) f stands ready carried facts
+  operation (Store (Some x)) line k q n r w f stands ready carried facts =
+      operated (Store (Some x)) (order.StorePart x.t x.b ∷ []) line k q n r w refl (single line true false (order.StorePart x.t x.b) refl (omega arith) (omega arith) tt refl) f stands ready carried facts
+  operation (StoreBits y b) line k q n r w f stands ready carried facts =
+      operated (StoreBits y b) (order.StorePart y b ∷ []) line k q n r w refl (single line true false (order.StorePart y b) refl (omega arith) (omega arith) tt refl) f stands ready carried facts
+  operation Add line k q n r w f stands ready carried facts =
+      operated Add (order.Add line ∷ []) line k q n r w refl (single line true true (order.Add line) refl (omega arith) (omega arith) refl refl) f stands ready carried facts
+  operation Subtract line k q n r w f stands ready carried facts =
+      operated Subtract (order.Sub line ∷ []) line k q n r w refl (single line true true (order.Sub line) refl (omega arith) (omega arith) refl refl) f stands ready carried facts
+  operation Negate line k q n r w f stands ready carried facts =
+      operated Negate (order.Neg line ∷ []) line k q n r w refl (single line true true (order.Neg line) refl (omega arith) (omega arith) refl refl) f stands ready carried facts
+  operation (Multiply x) line k q n r w f stands ready carried facts =
+      operated (Multiply x) (order.Mul (narrow x) line ∷ []) line k q n r w refl (single line true true (order.Mul (narrow x) line) refl (omega arith) (omega arith) refl refl) f stands ready carried facts
+  operation (Divide x) line k q n r w f stands ready carried facts =
+      operated (Divide x) (order.Div (narrow x) line ∷ []) line k q n r w refl (single line true true (order.Div (narrow x) line) refl (omega arith) (omega arith) refl refl) f stands ready carried facts
+  operation (Combine logic.Mask) line k q n r w f stands ready carried facts =
+      operated (Combine logic.Mask) (order.And ∷ []) line k q n r w refl (single line true true order.And refl (omega arith) (omega arith) tt refl) f stands ready carried facts
+  operation (Combine logic.Union) line k q n r w f stands ready carried facts =
+      operated (Combine logic.Union) (order.Or ∷ []) line k q n r w refl (single line true true order.Or refl (omega arith) (omega arith) tt refl) f stands ready carried facts
+  operation (Combine logic.Differ) line k q n r w f stands ready carried facts =
+      operated (Combine logic.Differ) (order.Xor ∷ []) line k q n r w refl (single line true true order.Xor refl (omega arith) (omega arith) tt refl) f stands ready carried facts
+  operation (Extract y b) line k q n r w f stands ready carried facts =
+      operated (Extract y b) (order.Take y b ∷ []) line k q n r w refl (single line true true (order.Take y b) refl (omega arith) (omega arith) tt refl) f stands ready carried facts
+  operation (InBounds x y) line k q n r w f stands ready carried facts =
+      operated (InBounds x y) (order.InBounds x y line ∷ []) line k q n r w refl (single line true true (order.InBounds x y line) refl (omega arith) (omega arith) refl refl) f stands ready carried facts
+  operation _ line k q n r w f stands ready carried facts = absurd f
 
 -- ---- the orders of an address
 
-module _ (y : Layout) where
-  pub item_and : (i : ℕ) (os : List Order) → IsTrue (all_silent os) → total_weight os ≤ 150 → length os ≤ 10 → IsLight (item_order y i 0 ∷ os)
-  item_and i os h le short =
+module _ (y : Layout) (line : ℕ) where
+  pub item_and : (m : Bool) (i : ℕ) (os : List Order) → IsTrue (all_silent os) → total_weight os ≤ 150 → length os ≤ 10 → OnLine line os → loaded_through os true ≡ Some m → IsLight line false m (item_order y i 0 ∷ os)
+  item_and m i os h le short tells turns =
       let w = item_light y i 0 in
       record {
         quiet = silent_and (is_silent (item_order y i 0)) (all_silent os) (item_silent y i 0) h;
-        light = (let z : weight_of (item_order y i 0) + total_weight os ≤ 160 = omega (arith, w.1, le) in z);
+        light = (let z : weight_of (item_order y i 0) + total_weight os ≤ 159 = omega (arith, w.1, le) in z);
         some = (let z : 0 < weight_of (item_order y i 0) + total_weight os = omega (arith, w.0) in z);
         short = (let z : suc (length os) ≤ 12 = omega (arith, short) in z);
+        at = (item_tells line y i 0, tells);
+        turns = ap (λ x. through_all x os) (item_loads y i 0) ∙ turns;
       }
 
-  pub with_order : (o : Order) (os : List Order) → IsTrue (is_silent o) → weight_of o ≤ 40 → IsLight os → total_weight os ≤ 100 → length os ≤ 10 → IsLight (o ∷ os)
-  with_order o os h small light le short = record {
+  pub with_order : (l k m : Bool) (o : Order) (os : List Order) → IsTrue (is_silent o) → weight_of o ≤ 40 → IsLight line k m os → total_weight os ≤ 100 → length os ≤ 10 → TellsLine line o → loaded_after o l ≡ Some k → IsLight line l m (o ∷ os)
+  with_order l k m o os h small light le short tells turn = record {
     quiet = silent_and (is_silent o) (all_silent os) h light.quiet;
-    light = (let z : weight_of o + total_weight os ≤ 160 = omega (arith, small, le) in z);
+    light = (let z : weight_of o + total_weight os ≤ 159 = omega (arith, small, le) in z);
     some = (let z : 0 < weight_of o + total_weight os = omega (arith, light.some) in z);
     short = (let z : suc (length os) ≤ 12 = omega (arith, short) in z);
+    at = (tells, light.at);
+    turns = ap (λ x. through_all x os) turn ∙ light.turns;
   }
 
-  table_light : (tb : Bool) (i : ℕ) → IsLight (table_orders y tb i ++ order.IndexAdd ∷ order.InArea ∷ []) × (total_weight (table_orders y tb i ++ order.IndexAdd ∷ order.InArea ∷ []) ≤ 40) × (length (table_orders y tb i ++ order.IndexAdd ∷ order.InArea ∷ []) ≤ 4)
-  table_light true i = let w = item_light y i 0 in (item_and i (order.Load ∷ order.IndexAdd ∷ order.InArea ∷ []) refl (omega arith) (omega arith), (let z : weight_of (item_order y i 0) + 36 ≤ 40 = omega (arith, w.1) in z), omega arith)
-  table_light false i = let w = item_light y i 0 in (item_and i (order.IndexAdd ∷ order.InArea ∷ []) refl (omega arith) (omega arith), (let z : weight_of (item_order y i 0) + 32 ≤ 40 = omega (arith, w.1) in z), omega arith)
+  -- behind a Save
+  pub with_save : (m : Bool) (os : List Order) → IsLight line false m os → total_weight os ≤ 100 → length os ≤ 10 → IsLight line true m (order.Save ∷ os)
+  with_save m os light le short = with_order true false m order.Save os refl (omega arith) light le short tt refl
 
-  form_light : (x : Spot-F Arg Cond Expr Spot Ref) → IsLight (form_orders y x)
-  form_light (layer.Direct i) = item_and i [] refl (omega arith) (omega arith)
-  form_light (layer.Through i) = item_and i (order.Load ∷ order.InArea ∷ []) refl (omega arith) (omega arith)
+  -- the address of an item, with an index below it
+  abbrev based : (i : ℕ) → List Order
+  based i = item_order y i 0 ∷ order.IndexAdd line ∷ order.InArea line ∷ []
+
+  based_light : (i : ℕ) → IsLight line false true (based i)
+  based_light i = item_and true i (order.IndexAdd line ∷ order.InArea line ∷ []) refl (omega arith) (omega arith) (refl, (refl, tt)) refl
+
+  saved_light : (i : ℕ) → IsLight line true true (order.Save ∷ based i)
+  saved_light i =
+      let w = item_light y i 0 in
+      with_save true (based i) (based_light i) (let z : weight_of (item_order y i 0) + 36 ≤ 100 = omega (arith, w.1) in z) (omega arith)
+
+  abbrev tabled : (tb : Bool) (i : ℕ) → List Order
+  tabled tb i = table_orders y tb i ++ order.IndexAdd line ∷ order.InArea line ∷ []
+
+  table_light : (tb : Bool) (i : ℕ) → IsLight line false true (tabled tb i) × (total_weight (tabled tb i) ≤ 44) × (length (tabled tb i) ≤ 4)
+  table_light true i = let w = item_light y i 0 in (item_and true i (order.Load ∷ order.IndexAdd line ∷ order.InArea line ∷ []) refl (omega arith) (omega arith) (tt, (refl, (refl, tt))) refl, (let z : weight_of (item_order y i 0) + 40 ≤ 44 = omega (arith, w.1) in z), omega arith)
+  table_light false i = let w = item_light y i 0 in (based_light i, (let z : weight_of (item_order y i 0) + 36 ≤ 44 = omega (arith, w.1) in z), omega arith)
+
+  saved_table : (tb : Bool) (i : ℕ) → IsLight line true true (order.Save ∷ tabled tb i)
+  saved_table tb i =
+      let tl = table_light tb i in
+      with_save true (tabled tb i) tl.0 (let z : total_weight (tabled tb i) ≤ 100 = omega (arith, tl.1) in z) (let z : length (tabled tb i) ≤ 10 = omega (arith, tl.2) in z)
+
+  form_light : (x : Spot-F Arg Cond Expr Spot Ref) → IsLight line (takes_index x) true (form_orders y line x)
+  form_light (layer.Direct i) = item_and true i [] refl (omega arith) (omega arith) tt refl
+  form_light (layer.Through i) = item_and true i (order.Load ∷ order.InArea line ∷ []) refl (omega arith) (omega arith) (tt, (refl, tt)) refl
   form_light (layer.One i k h e) =
       let w = item_light y i 0 in
-      with_order (order.IndexLess k) (item_order y i 0 ∷ order.IndexAdd ∷ order.InArea ∷ []) refl (omega arith) (item_and i (order.IndexAdd ∷ order.InArea ∷ []) refl (omega arith) (omega arith)) (let z : weight_of (item_order y i 0) + 32 ≤ 100 = omega (arith, w.1) in z) (omega arith)
+      with_order true true true (order.IndexLess k line) (order.Save ∷ based i) refl (omega arith) (saved_light i) (let z : 1 + (weight_of (item_order y i 0) + 36) ≤ 100 = omega (arith, w.1) in z) (omega arith) refl refl
   form_light (layer.Two i k1 h1 k2 h2 n e f) =
       let w = item_light y i 0 in
-      with_order (order.IndexLess k2) (order.IndexRow k1 n ∷ item_order y i 0 ∷ order.IndexAdd ∷ order.InArea ∷ []) refl (omega arith)
-      (with_order (order.IndexRow k1 n) (item_order y i 0 ∷ order.IndexAdd ∷ order.InArea ∷ []) refl (omega arith) (item_and i (order.IndexAdd ∷ order.InArea ∷ []) refl (omega arith) (omega arith)) (let z : weight_of (item_order y i 0) + 32 ≤ 100 = omega (arith, w.1) in z) (omega arith))
-      (let z : 32 + (weight_of (item_order y i 0) + 32) ≤ 100 = omega (arith, w.1) in z)
-      (omega arith)
-  form_light (layer.ParamArray i e) = item_and i (order.Load ∷ order.IndexAdd ∷ order.InArea ∷ []) refl (omega arith) (omega arith)
-  form_light (layer.Word i tb m e) = (table_light tb i).0
+      with_order true true true (order.IndexLess k2 line) (order.IndexRow k1 n line ∷ order.Save ∷ based i) refl (omega arith)
+      (with_order true true true (order.IndexRow k1 n line) (order.Save ∷ based i) refl (omega arith) (saved_light i) (let z : 1 + (weight_of (item_order y i 0) + 36) ≤ 100 = omega (arith, w.1) in z) (omega arith) refl refl)
+      (let z : 34 + (1 + (weight_of (item_order y i 0) + 36)) ≤ 100 = omega (arith, w.1) in z)
+      (omega arith) refl refl
+  form_light (layer.ParamArray i e) = saved_table true i
+  form_light (layer.Word i tb m e) = saved_table tb i
   form_light (layer.Elem i tb n m k e) =
       let tl = table_light tb i in
-      let rest = table_orders y tb i ++ order.IndexAdd ∷ order.InArea ∷ [] in
-      with_order (order.IndexTimes n) (order.IndexPlus k ∷ rest) refl (omega arith)
-      (with_order (order.IndexPlus k) rest refl (omega arith) tl.0 (let z : total_weight rest ≤ 100 = omega (arith, tl.1) in z) (let z : length rest ≤ 10 = omega (arith, tl.2) in z))
-      (let z : 18 + total_weight rest ≤ 100 = omega (arith, tl.1) in z)
-      (let z : suc (length rest) ≤ 10 = omega (arith, tl.2) in z)
-  form_light (layer.Bare e) = record { quiet = refl; light = omega arith; some = omega arith; short = omega arith }
+      let rest = order.Save ∷ tabled tb i in
+      with_order true true true (order.IndexTimes n line) (order.IndexPlus k line ∷ rest) refl (omega arith)
+      (with_order true true true (order.IndexPlus k line) rest refl (omega arith) (saved_table tb i) (let z : 1 + total_weight (tabled tb i) ≤ 100 = omega (arith, tl.1) in z) (let z : suc (length (tabled tb i)) ≤ 10 = omega (arith, tl.2) in z) refl refl)
+      (let z : 20 + (1 + total_weight (tabled tb i)) ≤ 100 = omega (arith, tl.1) in z)
+      (let z : suc (suc (length (tabled tb i))) ≤ 10 = omega (arith, tl.2) in z) refl refl
+  form_light (layer.Bare e) = record { quiet = refl; light = omega arith; some = omega arith; short = omega arith; at = (refl, tt); turns = refl }
 
 -- ---- an address that was formed is one of the area
 
@@ -229,15 +260,15 @@ index_is false e l u line k = refl
 
 module _ (c : Compiled) (t : Moment c) where
   -- by the orders behind the indexes
-  pub address_formed : (spot : Spot) (line : ℕ) (k : Work) (q n l : ℕ) (w : Words) → IsTrue (is_spot t.unit (has_words c t) spot) → Stands (code c t) q (form_orders (layout c t) (out-Spot spot)) n → line ≡ l → Leads_to c t n l true k → Facts c t (FormAt spot line k) w → Steps c t (FormAt spot line k) q l w
-  address_formed spot line k q n l w b stands same carried facts =
+  pub address_formed : (spot : Spot) (line : ℕ) (k : Work) (q n : ℕ) (w : Words) → IsTrue (is_spot t.unit (has_words c t) spot) → Stands (code c t) q (form_orders (layout c t) line (out-Spot spot)) n → Leads_to c t n true true k → Facts c t (FormAt spot line k) w → Steps c t (FormAt spot line k) q (takes_index (out-Spot spot)) w
+  address_formed spot line k q n w b stands carried facts =
       let f = addressing_of (source c) (out-Spot spot) t.segment t.acts w in
-      done_by c t (FormAt spot line k) k line q n l (form_orders (layout c t) (out-Spot spot)) w true (form_address c.limits.area f w) same stands (form_light (layout c t) (out-Spot spot)) facts refl
-      (λ ok. form-runs (target c) (here_in c t) t.calls_below (source c) t.segment t.acts (layout c t) (has_words c t) t.in_words t.stand t.unit (out-Spot spot) w.operands w.memory w.input w.output (sym (spot-built t.unit (has_words c t) spot) ∙ b) facts.fits ok)
+      done_by c t (FormAt spot line k) k line q n (takes_index (out-Spot spot)) true (form_orders (layout c t) line (out-Spot spot)) w true (form_address c.limits.area f w) stands (form_light (layout c t) line (out-Spot spot)) facts refl
+      (λ ok. form-runs (target c) (here_in c t) t.calls_below (source c) t.segment t.acts (layout c t) (has_words c t) t.in_words t.stand line t.unit (out-Spot spot) w.operands w.memory w.input w.output (sym (spot-built t.unit (has_words c t) spot) ∙ b) facts.fits ok)
       (λ v e. formed c.limits.area f w.operands w.memory w.input w.output v e)
       carried
 
-  module _ (a : Ref) (x : Spot-F Arg Cond Expr Spot Ref) (line : ℕ) (k : Work) (l : ℕ) (w : Words) (is : out-Spot (out-Ref a).at ≡ x) (built : IsTrue (built_spot_layer t.unit (has_words c t) x)) (same : line ≡ l) where
+  module _ (a : Ref) (x : Spot-F Arg Cond Expr Spot Ref) (line : ℕ) (k : Work) (w : Words) (is : out-Spot (out-Ref a).at ≡ x) (built : IsTrue (built_spot_layer t.unit (has_words c t) x)) where
     spot : Spot
     spot = (out-Ref a).at
 
@@ -245,24 +276,24 @@ module _ (c : Compiled) (t : Moment c) where
     size_is = reference-size a ∙ spot-size (out-Ref a).at ∙ ap spot_size_layer is
 
     -- what stands behind the indexes
-    form_at : (q n : ℕ) → Stands (code c t) q (form_orders (layout c t) x) n → Leads_to c t n l true k → At c t q l false (FormAt (out-Ref a).at line k)
+    form_at : (q n : ℕ) → Stands (code c t) q (form_orders (layout c t) line x) n → Leads_to c t n true true k → At c t q (takes_index x) false (FormAt (out-Ref a).at line k)
     form_at q n stands carried =
-        (n, spot-built t.unit (has_words c t) (out-Ref a).at ∙ ap (built_spot_layer t.unit (has_words c t)) is ∙ built, subst (λ z. Stands (code c t) q (form_orders (layout c t) z) n) (sym is) stands, same, carried)
+        (n, spot-built t.unit (has_words c t) (out-Ref a).at ∙ ap (built_spot_layer t.unit (has_words c t)) is ∙ built, subst (λ z. Stands (code c t) q (form_orders (layout c t) line z) n) (sym is) stands, sym (ap takes_index is), carried)
 
     -- an index
-    index_at : (e : Expr) (q n free last : ℕ) (next' : Work) → IsTrue (whole (built_value t.unit (has_words c t) e) 0) → Made (code c t) (marks c t) (expression_piece (scope c t) e 0 q free) q n free last → At c t n l false next' → At c t q l false (Eval e 0 line next')
-    index_at e q n free last next' b made carried = (n, 64, 0, free, last, b, made, (let z : 0 + 64 ≤ 64 = omega arith in z), same, (n, here refl, carried))
+    index_at : (e : Expr) (q n free last : ℕ) (next' : Work) → IsTrue (whole (built_value t.unit (has_words c t) e) 0) → Made (code c t) (marks c t) (expression_piece (at_line line (scope c t)) e 0 q free) q n free last → Close c t n true false next' → At c t q false false (Eval e 0 line next')
+    index_at e q n free last next' b made carried = (n, 64, 0, free, last, b, made, (let z : 0 + 64 ≤ 64 = omega arith in z), refl, carried)
 
     -- the comparison of an index with its bounds
-    compared_at : (compared : Bool) (lower upper : ℤ) (q n : ℕ) (next' : Work) → Stands (code c t) q (bounds_orders compared lower upper) n → At c t n l false next' → At c t q l false (compared_work compared lower upper line next')
-    compared_at true lower upper q n next' stands carried = (n, tt, stands, same, (n, here refl, carried))
-    compared_at false lower upper q n next' stands carried = subst (λ z. At c t z l false next') (sym stands) carried
+    compared_at : (compared : Bool) (lower upper : ℤ) (q n : ℕ) (next' : Work) → Stands (code c t) q (bounds_orders compared line lower upper) n → Close c t n true false next' → Close c t q true false (compared_work compared lower upper line next')
+    compared_at true lower upper q n next' stands carried = at_close c t q true false (Do (InBounds lower upper) line next') (n, tt, stands, refl, close_to c t n true false next' carried)
+    compared_at false lower upper q n next' stands carried = subst (λ z. Close c t z true false next') (sym stands) carried
 
     -- an index that has bounds
-    bounded_at : (e : Expr) (lower upper : ℤ) (q n free last : ℕ) (next' : Work) → IsTrue (whole (built_value t.unit (has_words c t) e) 0) → Made (code c t) (marks c t) (followed_by (expression_piece (scope c t) e 0) (plain (bounds_orders t.unit.bounds lower upper)) q free) q n free last → At c t n l false next' → At c t q l false (index_work t.unit.bounds e lower upper line next')
+    bounded_at : (e : Expr) (lower upper : ℤ) (q n free last : ℕ) (next' : Work) → IsTrue (whole (built_value t.unit (has_words c t) e) 0) → Made (code c t) (marks c t) (followed_by (expression_piece (at_line line (scope c t)) e 0) (plain (bounds_orders t.unit.bounds line lower upper)) q free) q n free last → Close c t n true false next' → At c t q false false (index_work t.unit.bounds e lower upper line next')
     bounded_at e lower upper q n free last next' b made carried =
-        let parts = one_made (code c t) (marks c t) (expression_piece (scope c t) e 0) (bounds_orders t.unit.bounds lower upper) q n free last made in
-        subst (λ k'. At c t q l false k') (index_is t.unit.bounds e lower upper line next')
+        let parts = one_made (code c t) (marks c t) (expression_piece (at_line line (scope c t)) e 0) (bounds_orders t.unit.bounds line lower upper) q n free last made in
+        subst (λ k'. At c t q false false k') (index_is t.unit.bounds e lower upper line next')
         (index_at e q parts.0 free parts.1 (compared_work t.unit.bounds lower upper line next') b parts.2 (compared_at t.unit.bounds lower upper parts.0 n next' parts.3 carried))
 
   -- the work of an index begins with its expression
@@ -275,69 +306,71 @@ module _ (c : Compiled) (t : Moment c) where
       ap (λ v. address_step (source c) (compares_in (source c) v) (out-Ref a).at (out-Spot (out-Ref a).at) t.segment line k t.acts w) t.unit_is
       ∙ ap (λ z. address_step (source c) t.unit.bounds (out-Ref a).at z t.segment line k t.acts w) is
 
-  pub addressed : (a : Ref) (x : Spot-F Arg Cond Expr Spot Ref) (line : ℕ) (k : Work) (q n free last l : ℕ) (w : Words) → out-Spot (out-Ref a).at ≡ x → IsTrue (built_spot_layer t.unit (has_words c t) x) → Made (code c t) (marks c t) (spot_layer (scope c t) x q free) q n free last → line ≡ l → Leads_to c t n l true k → Facts c t (Address a line k) w → Steps c t (Address a line k) q l w
-  addressed a (layer.Direct i) line k q n free last l w is b made same carried facts =
+  pub addressed : (a : Ref) (x : Spot-F Arg Cond Expr Spot Ref) (line : ℕ) (k : Work) (q n free last : ℕ) (w : Words) → out-Spot (out-Ref a).at ≡ x → IsTrue (built_spot_layer t.unit (has_words c t) x) → Made (code c t) (marks c t) (spot_layer (at_line line (scope c t)) x q free) q n free last → Leads_to c t n true true k → Facts c t (Address a line k) w → Steps c t (Address a line k) q false w
+  addressed a (layer.Direct i) line k q n free last w is b made carried facts =
       let parts = one_made (code c t) (marks c t) (plain []) (item_order (layout c t) i 0 ∷ []) q n free last made in
       let stands = subst (λ z. Stands (code c t) z (item_order (layout c t) i 0 ∷ []) n) (sym parts.2.0) parts.3 in
       let at = address_at (source c) t.segment t.acts i in
-      done_by c t (Address a line k) k line q n l (item_order (layout c t) i 0 ∷ []) w true (Changed (put (pos at) w)) same stands (form_light (layout c t) (layer.Direct i)) facts
+      done_by c t (Address a line k) k line q n false true (item_order (layout c t) i 0 ∷ []) w true (Changed (put (pos at) w)) stands (form_light (layout c t) line (layer.Direct i)) facts
       (addresses a (layer.Direct i) line k w is)
       (λ ok. behind_item (target c) (here_in c t) t.calls_below (source c) t.segment t.acts (layout c t) (has_words c t) t.in_words t.stand i 1 [] w b (let z : 0 < 1 = omega arith in z))
       (λ v e. subst (λ z. Ready c.limits.area true z.operands) (same_words (put (pos at) w) v e) (at, w.operands, refl, (let inside = t.stand.within i 0 1 b (omega arith) in let z : at < c.limits.area = omega (arith, inside) in z)))
       carried
-  addressed a (layer.Through i) line k q n free last l w is b made same carried facts =
+  addressed a (layer.Through i) line k q n free last w is b made carried facts =
       let x : Spot-F Arg Cond Expr Spot Ref = layer.Through i in
-      let parts = one_made (code c t) (marks c t) (plain []) (form_orders (layout c t) x) q n free last made in
-      let stands = subst (λ z. Stands (code c t) z (form_orders (layout c t) x) n) (sym parts.2.0) parts.3 in
-      becomes c t (Address a line k) (FormAt (out-Ref a).at line k) q l w (addresses a (layer.Through i) line k w is) (form_at a x line k l w is b same q n stands carried)
-      (let z : 0 < reference_size a = omega (arith, size_is a x line k l w is b same) in z)
-  addressed a (layer.One i lower upper e) line k q n free last l w is b made same carried facts =
+      let parts = one_made (code c t) (marks c t) (plain []) (form_orders (layout c t) line x) q n free last made in
+      let stands = subst (λ z. Stands (code c t) z (form_orders (layout c t) line x) n) (sym parts.2.0) parts.3 in
+      becomes c t (Address a line k) (FormAt (out-Ref a).at line k) q false w (addresses a (layer.Through i) line k w is) (form_at a x line k w is b q n stands carried)
+      (let z : 0 < reference_size a = omega (arith, size_is a x line k w is b) in z)
+  addressed a (layer.One i lower upper e) line k q n free last w is b made carried facts =
       let x : Spot-F Arg Cond Expr Spot Ref = layer.One i lower upper e in
-      let parts = one_made (code c t) (marks c t) (followed_by (expression_piece (scope c t) e 0) (plain (bounds_orders t.unit.bounds lower upper))) (form_orders (layout c t) x) q n free last made in
-      becomes c t (Address a line k) (index_work t.unit.bounds e lower upper line (FormAt (out-Ref a).at line k)) q l w (addresses a (layer.One i lower upper e) line k w is)
-      (bounded_at a x line k l w is b same e lower upper q parts.0 free parts.1 (FormAt (out-Ref a).at line k) (both (has_words c t i 1) (whole (built_value t.unit (has_words c t) e) 0) b).1 parts.2 (form_at a x line k l w is b same parts.0 n parts.3 carried))
-      (let z : work_size c (index_work t.unit.bounds e lower upper line (FormAt (out-Ref a).at line k)) < reference_size a = omega (arith, size_is a x line k l w is b same, index_size t.unit.bounds e lower upper line (FormAt (out-Ref a).at line k)) in z)
-  addressed a (layer.Two i l1 u1 l2 u2 m e f) line k q n free last l w is b made same carried facts =
+      let parts = one_made (code c t) (marks c t) (followed_by (expression_piece (at_line line (scope c t)) e 0) (plain (bounds_orders t.unit.bounds line lower upper))) (form_orders (layout c t) line x) q n free last made in
+      becomes c t (Address a line k) (index_work t.unit.bounds e lower upper line (FormAt (out-Ref a).at line k)) q false w (addresses a (layer.One i lower upper e) line k w is)
+      (bounded_at a x line k w is b e lower upper q parts.0 free parts.1 (FormAt (out-Ref a).at line k) (both (has_words c t i 1) (whole (built_value t.unit (has_words c t) e) 0) b).1 parts.2 (at_close c t parts.0 true false (FormAt (out-Ref a).at line k) (form_at a x line k w is b parts.0 n parts.3 carried)))
+      (let z : work_size c (index_work t.unit.bounds e lower upper line (FormAt (out-Ref a).at line k)) < reference_size a = omega (arith, size_is a x line k w is b, index_size t.unit.bounds e lower upper line (FormAt (out-Ref a).at line k)) in z)
+  addressed a (layer.Two i l1 u1 l2 u2 m e f) line k q n free last w is b made carried facts =
       let x : Spot-F Arg Cond Expr Spot Ref = layer.Two i l1 u1 l2 u2 m e f in
-      let first = followed_by (expression_piece (scope c t) e 0) (plain (bounds_orders t.unit.bounds l1 u1)) in
-      let second = followed_by (expression_piece (scope c t) f 0) (plain (bounds_orders t.unit.bounds l2 u2)) in
-      let parts = one_made (code c t) (marks c t) (followed_by first second) (form_orders (layout c t) x) q n free last made in
-      let two = both_made (code c t) (marks c t) first second q parts.0 free parts.1 parts.2 in
+      let first = followed_by (expression_piece (at_line line (scope c t)) e 0) (plain (bounds_orders t.unit.bounds line l1 u1)) in
+      let second = followed_by (expression_piece (at_line line (scope c t)) f 0) (plain (bounds_orders t.unit.bounds line l2 u2)) in
+      let parts = one_made (code c t) (marks c t) (followed_by first (followed_by saved second)) (form_orders (layout c t) line x) q n free last made in
+      let two = saved_made (code c t) (marks c t) first second q parts.0 free parts.1 parts.2 in
       let hs = both (whole (built_value t.unit (has_words c t) e) 0) (whole (built_value t.unit (has_words c t) f) 0) (both (has_words c t i 1) (whole (built_value t.unit (has_words c t) e) 0 && whole (built_value t.unit (has_words c t) f) 0) b).1 in
       let form = FormAt (out-Ref a).at line k in
-      becomes c t (Address a line k) (index_work t.unit.bounds e l1 u1 line (index_work t.unit.bounds f l2 u2 line form)) q l w (addresses a x line k w is)
-      (bounded_at a x line k l w is b same e l1 u1 q two.0 free two.1 (index_work t.unit.bounds f l2 u2 line form) hs.0 two.2
-      (bounded_at a x line k l w is b same f l2 u2 two.0 parts.0 two.1 parts.1 form hs.1 two.3 (form_at a x line k l w is b same parts.0 n parts.3 carried)))
-      (let z : work_size c (index_work t.unit.bounds e l1 u1 line (index_work t.unit.bounds f l2 u2 line form)) < reference_size a = omega (arith, size_is a x line k l w is b same, index_size t.unit.bounds e l1 u1 line (index_work t.unit.bounds f l2 u2 line form)) in z)
-  addressed a (layer.ParamArray i e) line k q n free last l w is b made same carried facts =
+      becomes c t (Address a line k) (index_work t.unit.bounds e l1 u1 line (index_work t.unit.bounds f l2 u2 line form)) q false w (addresses a x line k w is)
+      (bounded_at a x line k w is b e l1 u1 q two.0 free two.1 (index_work t.unit.bounds f l2 u2 line form) hs.0 two.2
+      (past_save c t 0 two.0 false (index_work t.unit.bounds f l2 u2 line form) two.3
+      (at_close c t (two.0 + 1) false false (index_work t.unit.bounds f l2 u2 line form)
+      (bounded_at a x line k w is b f l2 u2 (two.0 + 1) parts.0 two.1 parts.1 form hs.1 two.4 (at_close c t parts.0 true false form (form_at a x line k w is b parts.0 n parts.3 carried))))))
+      (let z : work_size c (index_work t.unit.bounds e l1 u1 line (index_work t.unit.bounds f l2 u2 line form)) < reference_size a = omega (arith, size_is a x line k w is b, index_size t.unit.bounds e l1 u1 line (index_work t.unit.bounds f l2 u2 line form)) in z)
+  addressed a (layer.ParamArray i e) line k q n free last w is b made carried facts =
       let x : Spot-F Arg Cond Expr Spot Ref = layer.ParamArray i e in
-      let parts = one_made (code c t) (marks c t) (expression_piece (scope c t) e 0) (form_orders (layout c t) x) q n free last made in
-      becomes c t (Address a line k) (Eval e 0 line (FormAt (out-Ref a).at line k)) q l w (addresses a (layer.ParamArray i e) line k w is)
-      (index_at a x line k l w is b same e q parts.0 free parts.1 (FormAt (out-Ref a).at line k) (both (has_words c t i 1) (whole (built_value t.unit (has_words c t) e) 0) b).1 parts.2 (form_at a x line k l w is b same parts.0 n parts.3 carried))
-      (let z : expression_size e < reference_size a = omega (arith, size_is a x line k l w is b same) in z)
-  addressed a (layer.Word i tb m e) line k q n free last l w is b made same carried facts =
+      let parts = one_made (code c t) (marks c t) (expression_piece (at_line line (scope c t)) e 0) (form_orders (layout c t) line x) q n free last made in
+      becomes c t (Address a line k) (Eval e 0 line (FormAt (out-Ref a).at line k)) q false w (addresses a (layer.ParamArray i e) line k w is)
+      (index_at a x line k w is b e q parts.0 free parts.1 (FormAt (out-Ref a).at line k) (both (has_words c t i 1) (whole (built_value t.unit (has_words c t) e) 0) b).1 parts.2 (at_close c t parts.0 true false (FormAt (out-Ref a).at line k) (form_at a x line k w is b parts.0 n parts.3 carried)))
+      (let z : expression_size e < reference_size a = omega (arith, size_is a x line k w is b) in z)
+  addressed a (layer.Word i tb m e) line k q n free last w is b made carried facts =
       let x : Spot-F Arg Cond Expr Spot Ref = layer.Word i tb m e in
-      let parts = one_made (code c t) (marks c t) (followed_by (expression_piece (scope c t) e 0) (plain (bounds_orders t.unit.bounds (pos 0) (pos m -ℤ pos 1)))) (form_orders (layout c t) x) q n free last made in
-      becomes c t (Address a line k) (index_work t.unit.bounds e (pos 0) (pos m -ℤ pos 1) line (FormAt (out-Ref a).at line k)) q l w (addresses a (layer.Word i tb m e) line k w is)
-      (bounded_at a x line k l w is b same e (pos 0) (pos m -ℤ pos 1) q parts.0 free parts.1 (FormAt (out-Ref a).at line k) (both (has_words c t i 1) (whole (built_value t.unit (has_words c t) e) 0) b).1 parts.2 (form_at a x line k l w is b same parts.0 n parts.3 carried))
-      (let z : work_size c (index_work t.unit.bounds e (pos 0) (pos m -ℤ pos 1) line (FormAt (out-Ref a).at line k)) < reference_size a = omega (arith, size_is a x line k l w is b same, index_size t.unit.bounds e (pos 0) (pos m -ℤ pos 1) line (FormAt (out-Ref a).at line k)) in z)
-  addressed a (layer.Elem i tb m entries place e) line k q n free last l w is b made same carried facts =
+      let parts = one_made (code c t) (marks c t) (followed_by (expression_piece (at_line line (scope c t)) e 0) (plain (bounds_orders t.unit.bounds line (pos 0) (pos m -ℤ pos 1)))) (form_orders (layout c t) line x) q n free last made in
+      becomes c t (Address a line k) (index_work t.unit.bounds e (pos 0) (pos m -ℤ pos 1) line (FormAt (out-Ref a).at line k)) q false w (addresses a (layer.Word i tb m e) line k w is)
+      (bounded_at a x line k w is b e (pos 0) (pos m -ℤ pos 1) q parts.0 free parts.1 (FormAt (out-Ref a).at line k) (both (has_words c t i 1) (whole (built_value t.unit (has_words c t) e) 0) b).1 parts.2 (at_close c t parts.0 true false (FormAt (out-Ref a).at line k) (form_at a x line k w is b parts.0 n parts.3 carried)))
+      (let z : work_size c (index_work t.unit.bounds e (pos 0) (pos m -ℤ pos 1) line (FormAt (out-Ref a).at line k)) < reference_size a = omega (arith, size_is a x line k w is b, index_size t.unit.bounds e (pos 0) (pos m -ℤ pos 1) line (FormAt (out-Ref a).at line k)) in z)
+  addressed a (layer.Elem i tb m entries place e) line k q n free last w is b made carried facts =
       let x : Spot-F Arg Cond Expr Spot Ref = layer.Elem i tb m entries place e in
-      let parts = one_made (code c t) (marks c t) (followed_by (expression_piece (scope c t) e 0) (plain (bounds_orders t.unit.bounds (pos 0) (pos entries -ℤ pos 1)))) (form_orders (layout c t) x) q n free last made in
-      becomes c t (Address a line k) (index_work t.unit.bounds e (pos 0) (pos entries -ℤ pos 1) line (FormAt (out-Ref a).at line k)) q l w (addresses a (layer.Elem i tb m entries place e) line k w is)
-      (bounded_at a x line k l w is b same e (pos 0) (pos entries -ℤ pos 1) q parts.0 free parts.1 (FormAt (out-Ref a).at line k) (both (has_words c t i 1) (whole (built_value t.unit (has_words c t) e) 0) b).1 parts.2 (form_at a x line k l w is b same parts.0 n parts.3 carried))
-      (let z : work_size c (index_work t.unit.bounds e (pos 0) (pos entries -ℤ pos 1) line (FormAt (out-Ref a).at line k)) < reference_size a = omega (arith, size_is a x line k l w is b same, index_size t.unit.bounds e (pos 0) (pos entries -ℤ pos 1) line (FormAt (out-Ref a).at line k)) in z)
-  addressed a (layer.Bare e) line k q n free last l w is b made same carried facts =
+      let parts = one_made (code c t) (marks c t) (followed_by (expression_piece (at_line line (scope c t)) e 0) (plain (bounds_orders t.unit.bounds line (pos 0) (pos entries -ℤ pos 1)))) (form_orders (layout c t) line x) q n free last made in
+      becomes c t (Address a line k) (index_work t.unit.bounds e (pos 0) (pos entries -ℤ pos 1) line (FormAt (out-Ref a).at line k)) q false w (addresses a (layer.Elem i tb m entries place e) line k w is)
+      (bounded_at a x line k w is b e (pos 0) (pos entries -ℤ pos 1) q parts.0 free parts.1 (FormAt (out-Ref a).at line k) (both (has_words c t i 1) (whole (built_value t.unit (has_words c t) e) 0) b).1 parts.2 (at_close c t parts.0 true false (FormAt (out-Ref a).at line k) (form_at a x line k w is b parts.0 n parts.3 carried)))
+      (let z : work_size c (index_work t.unit.bounds e (pos 0) (pos entries -ℤ pos 1) line (FormAt (out-Ref a).at line k)) < reference_size a = omega (arith, size_is a x line k w is b, index_size t.unit.bounds e (pos 0) (pos entries -ℤ pos 1) line (FormAt (out-Ref a).at line k)) in z)
+  addressed a (layer.Bare e) line k q n free last w is b made carried facts =
       let x : Spot-F Arg Cond Expr Spot Ref = layer.Bare e in
-      let parts = one_made (code c t) (marks c t) (expression_piece (scope c t) e 0) (form_orders (layout c t) x) q n free last made in
-      becomes c t (Address a line k) (Eval e 0 line (FormAt (out-Ref a).at line k)) q l w (addresses a (layer.Bare e) line k w is)
-      (index_at a x line k l w is b same e q parts.0 free parts.1 (FormAt (out-Ref a).at line k) b parts.2 (form_at a x line k l w is b same parts.0 n parts.3 carried))
-      (let z : expression_size e < reference_size a = omega (arith, size_is a x line k l w is b same) in z)
+      let parts = one_made (code c t) (marks c t) (expression_piece (at_line line (scope c t)) e 0) (form_orders (layout c t) line x) q n free last made in
+      becomes c t (Address a line k) (Eval e 0 line (FormAt (out-Ref a).at line k)) q false w (addresses a (layer.Bare e) line k w is)
+      (index_at a x line k w is b e q parts.0 free parts.1 (FormAt (out-Ref a).at line k) b parts.2 (at_close c t parts.0 true false (FormAt (out-Ref a).at line k) (form_at a x line k w is b parts.0 n parts.3 carried)))
+      (let z : expression_size e < reference_size a = omega (arith, size_is a x line k w is b) in z)
 
   -- as the relation has it
-  pub address_follows : (a : Ref) (line : ℕ) (k : Work) (q n free last l : ℕ) (w : Words) → IsTrue (built_reference t.unit (has_words c t) a).good → Made (code c t) (marks c t) ((reference_of (scope c t) a).address q free) q n free last → line ≡ l → Leads_to c t n l true k → Facts c t (Address a line k) w → Steps c t (Address a line k) q l w
-  address_follows a line k q n free last l w b made same carried facts =
-      addressed a (out-Spot (out-Ref a).at) line k q n free last l w refl
+  pub address_follows : (a : Ref) (line : ℕ) (k : Work) (q n free last : ℕ) (w : Words) → IsTrue (built_reference t.unit (has_words c t) a).good → Made (code c t) (marks c t) ((reference_of (at_line line (scope c t)) a).address q free) q n free last → Leads_to c t n true true k → Facts c t (Address a line k) w → Steps c t (Address a line k) q false w
+  address_follows a line k q n free last w b made carried facts =
+      addressed a (out-Spot (out-Ref a).at) line k q n free last w refl
       (sym (ap (λ r. r.good) (reference-built t.unit (has_words c t) a) ∙ spot-built t.unit (has_words c t) (out-Ref a).at) ∙ b)
-      (subst (λ z. Made (code c t) (marks c t) (z q free) q n free last) (ap (λ r. r.address) (reference-made (scope c t) a) ∙ spot-made (scope c t) (out-Ref a).at) made)
-      same carried facts
+      (subst (λ z. Made (code c t) (marks c t) (z q free) q n free last) (ap (λ r. r.address) (reference-made (at_line line (scope c t)) a) ∙ spot-made (at_line line (scope c t)) (out-Ref a).at) made)
+      carried facts

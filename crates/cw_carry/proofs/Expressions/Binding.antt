@@ -1,5 +1,5 @@
 -- The arguments of a call as they are bound to parameters.
-use Rattle.std.proofs.Common.{◌≡◌, ℕ, zero, suc, ◌+◌, ◌*◌, ◌≤◌, ℤ, List, [], ◌∷◌, ◌++◌, length, set, Option, Some, None, refl, sym, ap, ◌∙◌, subst, arith, append_assoc, append-nil}
+use Rattle.std.proofs.Common.{◌≡◌, ℕ, zero, suc, ◌+◌, ◌*◌, ◌≤◌, ℤ, List, [], ◌∷◌, ◌++◌, length, set, false, Option, Some, None, refl, sym, ap, ◌∙◌, subst, arith, append_assoc, append-nil}
 use Rattle.std.specs.Prelude.{slice_get, slice_index_or, IsTrue}
 use Rattle.std.proofs.lemmas.Option.{none-some, same_Some}
 use Rattle.cw_unit.specs.declared.layout.Layout.{Layout}
@@ -12,9 +12,10 @@ use Rattle.cw_unit.specs.Words.{Control, Operand, Word, Held, Words, Changed, wi
 use Rattle.cw_unit.specs.Step.{Bound, bind_one, bind_all, reversed_onto}
 use Rattle.cw_order.specs.OrderProgram.{OrderProgram}
 use Rattle.cw_order.specs.OrderState.{OrderActivation, operand_words, argument_behind}
+use Rattle.cw_order.specs.Loading.{loaded_after}
 use Rattle.cw_order.specs.OrderCosts.{weight_of}
 use Rattle.cw_gen_expr.specs.ReferenceExpressions.{parameter_words, argument_words, control_place_from, control_place}
-use Rattle.cw_carry.proofs.Expressions.Effects.{then_do, is_silent, all_silent, total_weight, growth, total_growth, effect, run_orders}
+use Rattle.cw_carry.proofs.Expressions.Effects.{through_all, loaded_through, TellsLine, OnLine, then_do, is_silent, all_silent, total_weight, growth, total_growth, effect, run_orders}
 use Rattle.cw_carry.proofs.Expressions.Operations.{words}
 use Rattle.cw_carry.proofs.Expressions.Moments.{silent_and}
 use Rattle.cw_gen_expr.specs.ReferenceEntries.{bound_by, bound_in, bound_order, parameter_orders, bind_orders}
@@ -221,3 +222,37 @@ bind_light y (param.Table i n ∷ qs) = with_word y i qs (bind_light y qs)
 bind_light y (param.Label k ∷ qs) = without_word y qs (bind_light y qs)
 bind_light y (param.Switch k ∷ qs) = without_word y qs (bind_light y qs)
 bind_light y (param.Proc k s ∷ qs) = without_word y qs (bind_light y qs)
+
+-- they find the accumulator free and leave it so, and none stops
+bound_free : (line : ℕ) (y : Layout) (k i : ℕ) → (loaded_after (bound_order y k i) false ≡ Some false) × TellsLine line (bound_order y k i)
+bound_free line y k i = of_family (slice_get y.families (slice_index_or y.homes i (0, 0)).0) (slice_index_or y.homes i (0, 0)).0 (slice_index_or y.homes i (0, 0)).1
+  where
+    of_sort : (x : Sort) (f o : ℕ) → (loaded_after (bound_by k x f o) false ≡ Some false) × TellsLine line (bound_by k x f o)
+    of_sort (sort.Common d) f o = (refl, tt)
+    of_sort sort.Own f o = (refl, tt)
+    of_sort (sort.Absolute a) f o = (refl, tt)
+    of_sort (sort.Frame b) f o = (refl, tt)
+
+    of_family : (x : Option Family) (f o : ℕ) → (loaded_after (bound_in k x f o) false ≡ Some false) × TellsLine line (bound_in k x f o)
+    of_family None f o = (refl, tt)
+    of_family (Some x) f o = of_sort x.sort f o
+
+pub bind_on_line : (line : ℕ) (y : Layout) (ps : List Param) → OnLine line (bind_orders y ps)
+bind_on_line line y [] = tt
+bind_on_line line y (param.Value i s ∷ qs) = ((bound_free line y (argument_words qs) i).1, bind_on_line line y qs)
+bind_on_line line y (param.Location i s ∷ qs) = ((bound_free line y (argument_words qs) i).1, bind_on_line line y qs)
+bind_on_line line y (param.Array i s ∷ qs) = ((bound_free line y (argument_words qs) i).1, bind_on_line line y qs)
+bind_on_line line y (param.Table i n ∷ qs) = ((bound_free line y (argument_words qs) i).1, bind_on_line line y qs)
+bind_on_line line y (param.Label k ∷ qs) = bind_on_line line y qs
+bind_on_line line y (param.Switch k ∷ qs) = bind_on_line line y qs
+bind_on_line line y (param.Proc k s ∷ qs) = bind_on_line line y qs
+
+pub bind_free : (y : Layout) (ps : List Param) → loaded_through (bind_orders y ps) false ≡ Some false
+bind_free y [] = refl
+bind_free y (param.Value i s ∷ qs) = ap (λ x. through_all x (bind_orders y qs)) (bound_free 0 y (argument_words qs) i).0 ∙ bind_free y qs
+bind_free y (param.Location i s ∷ qs) = ap (λ x. through_all x (bind_orders y qs)) (bound_free 0 y (argument_words qs) i).0 ∙ bind_free y qs
+bind_free y (param.Array i s ∷ qs) = ap (λ x. through_all x (bind_orders y qs)) (bound_free 0 y (argument_words qs) i).0 ∙ bind_free y qs
+bind_free y (param.Table i n ∷ qs) = ap (λ x. through_all x (bind_orders y qs)) (bound_free 0 y (argument_words qs) i).0 ∙ bind_free y qs
+bind_free y (param.Label k ∷ qs) = bind_free y qs
+bind_free y (param.Switch k ∷ qs) = bind_free y qs
+bind_free y (param.Proc k s ∷ qs) = bind_free y qs

@@ -2,6 +2,7 @@
 use Rattle.std.proofs.Common.{◌≡◌, ℕ, zero, suc, ◌+◌, ◌-◌, ◌*◌, ◌<◌, ◌≤◌, ℤ, pos, negsuc, ◌+ℤ◌, ◌-ℤ◌, ◌*ℤ◌, neg_ℤ, List, [], ◌∷◌, set, length, Bool, true, false, Option, Some, None, refl, sym, ap, ◌∙◌, subst, arith}
 use Rattle.std.specs.Prelude.{slice_get, int_le, not, IsTrue, ◌&&◌}
 use Rattle.std.proofs.lemmas.Bool.{false≢true, le-leb}
+use Rattle.std.proofs.lemmas.Option.{none-some, same_Some}
 use Rattle.cw_track.specs.Machine.{Machine}
 use Rattle.cw_track.specs.Watching.{noted}
 use Rattle.cw_track.proofs.Paths.{Path, stay, next as move}
@@ -20,10 +21,11 @@ use Rattle.cw_order.specs.declared.order.Order.{Order}
 use Rattle.cw_order.specs.declared.order.Order.TheVariants as order
 use Rattle.cw_order.specs.OrderProgram.{OrderProgram, order_at}
 use Rattle.cw_order.specs.OrderState.{OrderActivation, at as state, operand_words, stack_words, argument_at, frame_word}
-use Rattle.cw_order.specs.OrderActions.{Action, Perform, Access, Alter, AlterWithin, home_word, action_of}
+use Rattle.cw_order.specs.Loading.{loaded_after}
+use Rattle.cw_order.specs.OrderActions.{Action, Perform, Access, Alter, AlterWithin, Pass, home_word, action_of}
 use Rattle.cw_order.specs.OrderChanges.{bind, put_address, put_index, if_fits, if_inside}
 use Rattle.cw_order.specs.OrderCosts.{weight_of, weight_at}
-use Rattle.cw_order.specs.OrderMachine.{go_on, after, unrefused, act, carry_out, order_machine}
+use Rattle.cw_order.specs.OrderMachine.{go_on, after, unrefused, act, carry_with, carry_out, order_machine}
 use Rattle.cw_order.specs.Starting.{started_by, starts}
 use Rattle.cw_carry.proofs.Expressions.Standing.{Stands}
 
@@ -43,11 +45,78 @@ IsPossible Impossible = ⊥
 
 -- what an action does to words; one that does more is none of these
 abbrev pub word_effect : (area : ℕ) → Action → Words → Outcome
-word_effect area (Perform op) w = perform area op w
+word_effect area (Perform line op) w = perform area op w
 word_effect area (Access op) w = unrefused (perform area op w)
-word_effect area (Alter f) w = f w
+word_effect area (Alter line f) w = f w
 word_effect area (AlterWithin f) w = unrefused (f w)
+word_effect area Pass w = Changed w
 word_effect area _ w = Impossible
+
+-- ---- the accumulator
+
+-- how orders one after another leave it, where each finds it as it wants it
+abbrev pub through_all : Option Bool → List Order → Option Bool
+through_all None os = None
+through_all (Some l) [] = Some l
+through_all (Some l) (o ∷ os) = through_all (loaded_after o l) os
+
+abbrev pub loaded_through : List Order → (loaded : Bool) → Option Bool
+loaded_through os l = through_all (Some l) os
+
+turned : (m : Bool) (x : Option Bool) (os : List Order) → through_all x os ≡ Some m → (l : Bool) × (x ≡ Some l) × (through_all (Some l) os ≡ Some m)
+turned m None [] h = absurd (none-some m h)
+turned m None (o ∷ os) h = absurd (none-some m h)
+turned m (Some l) os h = (l, refl, h)
+
+-- ---- lines
+
+-- an order that can stop tells this line
+abbrev pub TellsLine : (line : ℕ) → Order → Type 0
+TellsLine line (order.Rescale from to n) = n ≡ line
+TellsLine line (order.Add n) = n ≡ line
+TellsLine line (order.Sub n) = n ≡ line
+TellsLine line (order.Neg n) = n ≡ line
+TellsLine line (order.Mul s n) = n ≡ line
+TellsLine line (order.Div s n) = n ≡ line
+TellsLine line (order.IndexLess lower n) = n ≡ line
+TellsLine line (order.IndexTimes k n) = n ≡ line
+TellsLine line (order.IndexPlus k n) = n ≡ line
+TellsLine line (order.IndexAdd n) = n ≡ line
+TellsLine line (order.IndexRow lower width n) = n ≡ line
+TellsLine line (order.InArea n) = n ≡ line
+TellsLine line (order.InBounds lower upper n) = n ≡ line
+TellsLine line (order.SetVariable n) = n ≡ line
+TellsLine line (order.AddStep n) = n ≡ line
+TellsLine line (order.PutVariable n) = n ≡ line
+TellsLine line _ = Unit {0}
+
+abbrev pub OnLine : (line : ℕ) → List Order → Type 0
+OnLine line [] = Unit {0}
+OnLine line (o ∷ os) = TellsLine line o × OnLine line os
+
+abbrev Tells : (line : ℕ) → Action → Type 0
+Tells line (Perform n op) = n ≡ line
+Tells line (Alter n f) = n ≡ line
+Tells line _ = Unit {0}
+
+told : (p : OrderProgram) (g : ℕ) (acts : List OrderActivation) (line : ℕ) (o : Order) → TellsLine line o → Tells line (action_of p g acts o)
+told p g acts line (order.Rescale from to n) h = h
+told p g acts line (order.Add n) h = h
+told p g acts line (order.Sub n) h = h
+told p g acts line (order.Neg n) h = h
+told p g acts line (order.Mul s n) h = h
+told p g acts line (order.Div s n) h = h
+told p g acts line (order.IndexLess lower n) h = h
+told p g acts line (order.IndexTimes k n) h = h
+told p g acts line (order.IndexPlus k n) h = h
+told p g acts line (order.IndexAdd n) h = h
+told p g acts line (order.IndexRow lower width n) h = h
+told p g acts line (order.InArea n) h = h
+told p g acts line (order.InBounds lower upper n) h = h
+told p g acts line (order.SetVariable n) h = h
+told p g acts line (order.AddStep n) h = h
+told p g acts line (order.PutVariable n) h = h
+told p g acts line _ h = tt
 
 -- an order that costs something, writes nothing and begins no statement
 abbrev pub is_silent : Order → Bool
@@ -98,6 +167,7 @@ both_true true b h = (refl, h)
 both_true false b h = absurd (false≢true h)
 
 pub costs_some : (o : Order) → IsTrue (is_silent o) → 0 < weight_of o
+costs_some order.Save h = (let z : 0 < 1 = omega arith in z)
 costs_some (order.Const w) h = (let z : 0 < 2 = omega arith in z)
 costs_some (order.Home family offset) h = (let z : 0 < 2 = omega arith in z)
 costs_some (order.FrameHome n) h = (let z : 0 < 4 = omega arith in z)
@@ -105,12 +175,12 @@ costs_some order.Load h = (let z : 0 < 4 = omega arith in z)
 costs_some order.Store h = (let z : 0 < 5 = omega arith in z)
 costs_some (order.LoadPart t b is_signed) h = (let z : 0 < 16 = omega arith in z)
 costs_some (order.StorePart t b) h = (let z : 0 < 20 = omega arith in z)
-costs_some (order.Rescale from to) h = (let z : 0 < 64 = omega arith in z)
-costs_some order.Add h = (let z : 0 < 15 = omega arith in z)
-costs_some order.Sub h = (let z : 0 < 15 = omega arith in z)
-costs_some order.Neg h = (let z : 0 < 14 = omega arith in z)
-costs_some (order.Mul s) h = (let z : 0 < 120 = omega arith in z)
-costs_some (order.Div s) h = (let z : 0 < 120 = omega arith in z)
+costs_some (order.Rescale from to line) h = (let z : 0 < 64 = omega arith in z)
+costs_some (order.Add line) h = (let z : 0 < 17 = omega arith in z)
+costs_some (order.Sub line) h = (let z : 0 < 17 = omega arith in z)
+costs_some (order.Neg line) h = (let z : 0 < 16 = omega arith in z)
+costs_some (order.Mul s line) h = (let z : 0 < 120 = omega arith in z)
+costs_some (order.Div s line) h = (let z : 0 < 120 = omega arith in z)
 costs_some order.And h = (let z : 0 < 4 = omega arith in z)
 costs_some order.Or h = (let z : 0 < 4 = omega arith in z)
 costs_some order.Xor h = (let z : 0 < 4 = omega arith in z)
@@ -119,22 +189,21 @@ costs_some order.Less h = (let z : 0 < 4 = omega arith in z)
 costs_some order.Drop h = (let z : 0 < 1 = omega arith in z)
 costs_some order.ReadByte h = (let z : 0 < 12 = omega arith in z)
 costs_some order.WriteByte h = absurd (false≢true h)
-costs_some (order.IndexLess lower) h = (let z : 0 < 16 = omega arith in z)
-costs_some (order.IndexTimes n) h = (let z : 0 < 18 = omega arith in z)
-costs_some (order.IndexPlus n) h = (let z : 0 < 18 = omega arith in z)
-costs_some order.IndexAdd h = (let z : 0 < 16 = omega arith in z)
-costs_some (order.IndexRow lower width) h = (let z : 0 < 32 = omega arith in z)
-costs_some order.InArea h = (let z : 0 < 16 = omega arith in z)
-costs_some (order.InBounds lower upper) h = (let z : 0 < 18 = omega arith in z)
+costs_some (order.IndexLess lower line) h = (let z : 0 < 18 = omega arith in z)
+costs_some (order.IndexTimes n line) h = (let z : 0 < 20 = omega arith in z)
+costs_some (order.IndexPlus n line) h = (let z : 0 < 20 = omega arith in z)
+costs_some (order.IndexAdd line) h = (let z : 0 < 18 = omega arith in z)
+costs_some (order.IndexRow lower width line) h = (let z : 0 < 34 = omega arith in z)
+costs_some (order.InArea line) h = (let z : 0 < 18 = omega arith in z)
+costs_some (order.InBounds lower upper line) h = (let z : 0 < 20 = omega arith in z)
 costs_some (order.Jump m) h = (let z : 0 < 1 = omega arith in z)
 costs_some (order.JumpIf c m) h = (let z : 0 < 7 = omega arith in z)
 costs_some (order.Exhausted m) h = (let z : 0 < 20 = omega arith in z)
-costs_some order.SetVariable h = (let z : 0 < 22 = omega arith in z)
-costs_some order.AddStep h = (let z : 0 < 28 = omega arith in z)
-costs_some order.PutVariable h = (let z : 0 < 22 = omega arith in z)
+costs_some (order.SetVariable line) h = (let z : 0 < 24 = omega arith in z)
+costs_some (order.AddStep line) h = (let z : 0 < 30 = omega arith in z)
+costs_some (order.PutVariable line) h = (let z : 0 < 24 = omega arith in z)
 costs_some (order.LoopWay marks) h = (let z : 0 < 12 = omega arith in z)
 costs_some order.Mark h = absurd (false≢true h)
-costs_some (order.Line n) h = (let z : 0 < 1 = omega arith in z)
 costs_some (order.Start n) h = absurd (false≢true h)
 costs_some order.NextBody h = (let z : 0 < 22 = omega arith in z)
 costs_some (order.LabelOut l) h = (let z : 0 < 6 = omega arith in z)
@@ -147,13 +216,13 @@ costs_some (order.SpecialOut k) h = (let z : 0 < 6 = omega arith in z)
 costs_some (order.GoMain m) h = (let z : 0 < 16 = omega arith in z)
 costs_some (order.GoCommon d) h = (let z : 0 < 16 = omega arith in z)
 costs_some (order.GoSpecial k) h = (let z : 0 < 16 = omega arith in z)
-costs_some (order.GoSwitch n) h = (let z : 0 < 48 = omega arith in z)
-costs_some (order.GoSwitchCommon d) h = (let z : 0 < 48 = omega arith in z)
-costs_some (order.GoSwitchSpecial k) h = (let z : 0 < 48 = omega arith in z)
-costs_some (order.CallProc q) h = (let z : 0 < 12 = omega arith in z)
-costs_some (order.CallCommon d) h = (let z : 0 < 12 = omega arith in z)
-costs_some (order.CallSpecial k) h = (let z : 0 < 16 = omega arith in z)
-costs_some (order.Enter size) h = (let z : 0 < 28 = omega arith in z)
+costs_some (order.GoSwitch n line) h = (let z : 0 < 50 = omega arith in z)
+costs_some (order.GoSwitchCommon d line) h = (let z : 0 < 50 = omega arith in z)
+costs_some (order.GoSwitchSpecial k line) h = (let z : 0 < 50 = omega arith in z)
+costs_some (order.CallProc q line) h = (let z : 0 < 12 = omega arith in z)
+costs_some (order.CallCommon d line) h = (let z : 0 < 12 = omega arith in z)
+costs_some (order.CallSpecial k line) h = (let z : 0 < 16 = omega arith in z)
+costs_some (order.Enter size) h = (let z : 0 < 30 = omega arith in z)
 costs_some (order.Bind k family offset) h = (let z : 0 < 3 = omega arith in z)
 costs_some (order.BindFrame k offset) h = (let z : 0 < 4 = omega arith in z)
 costs_some (order.Return n answers) h = (let z : 0 < 12 = omega arith in z)
@@ -255,6 +324,9 @@ module _ (area : ℕ) (w : Words) where
   taken : (rest : List Operand) → 1 + operand_words rest ≤ n → operand_words rest ≤ 2 + n
   taken rest le = let l : operand_words rest ≤ 2 + operand_words w.operands = omega (arith, le) in l
 
+  taken_none : n ≤ 2 + n
+  taken_none = let l : operand_words w.operands ≤ 2 + operand_words w.operands = omega arith in l
+
   same_one : n ≤ 1 + n
   same_one = let l : operand_words w.operands ≤ 1 + operand_words w.operands = omega arith in l
 
@@ -334,58 +406,61 @@ module _ (p : OrderProgram) (g : ℕ) (acts : List OrderActivation) where
   run_orders (o ∷ os) w = then_do (effect o w) (λ v. run_orders os v)
 
   fine_order : (o : Order) (w : Words) → IsTrue (is_silent o) → Fine (operand_words w.operands) w.output (effect o w)
+  fine_order order.Save w s = (taken_none p.limits.area w, refl)
+  fine_order order.Mark w s = absurd (false≢true s)
+  fine_order (order.Start n) w s = absurd (false≢true s)
   fine_order (order.Const k) w s = fine_operation p.limits.area w (Constant (signed k)) refl
   fine_order (order.Home f o) w s = fine_operation p.limits.area w (Constant (signed (home_word p.addresses g f o))) refl
-  fine_order (order.FrameHome k) w s = fine_address _ _ _ w (same p.limits.area w) refl
+  fine_order (order.FrameHome k) w s = fine_unrefused _ _ _ (fine_address _ _ _ w (same p.limits.area w) refl)
   fine_order order.Load w s = fine_unrefused _ _ _ (fine_operation p.limits.area w (Fetch None) refl)
   fine_order order.Store w s = fine_unrefused _ _ _ (fine_operation p.limits.area w (Store None) refl)
   fine_order (order.LoadPart t b k) w s = fine_unrefused _ _ _ (fine_operation p.limits.area w (Fetch (Some (record { t = t; b = b; unsigned = not k }))) refl)
   fine_order (order.StorePart t b) w s = fine_unrefused _ _ _ (fine_operation p.limits.area w (StoreBits t b) refl)
-  fine_order (order.Rescale f t) w s = fine_operation p.limits.area w (Rescale f t) refl
-  fine_order order.Add w s = fine_operation p.limits.area w Add refl
-  fine_order order.Sub w s = fine_operation p.limits.area w Subtract refl
-  fine_order order.Neg w s = fine_operation p.limits.area w Negate refl
-  fine_order (order.Mul k) w s = fine_operation p.limits.area w (Multiply k) refl
-  fine_order (order.Div k) w s = fine_operation p.limits.area w (Divide k) refl
-  fine_order order.And w s = fine_operation p.limits.area w (Combine logic.Mask) refl
-  fine_order order.Or w s = fine_operation p.limits.area w (Combine logic.Union) refl
-  fine_order order.Xor w s = fine_operation p.limits.area w (Combine logic.Differ) refl
-  fine_order (order.Take t b) w s = fine_operation p.limits.area w (Extract t b) refl
-  fine_order order.Less w s = fine_two _ _ (λ x y v. Changed (put (signed (word_difference (unsigned x) (unsigned y))) v)) w.operands w (same p.limits.area w) (λ x y rest le. (replaced p.limits.area w rest le, refl))
-  fine_order order.Drop w s = fine_one _ _ (λ x v. Changed v) w.operands w (same p.limits.area w) (λ x rest le. (taken p.limits.area w rest le, refl))
+  fine_order (order.Rescale f t line) w s = fine_operation p.limits.area w (Rescale f t) refl
+  fine_order (order.Add line) w s = fine_operation p.limits.area w Add refl
+  fine_order (order.Sub line) w s = fine_operation p.limits.area w Subtract refl
+  fine_order (order.Neg line) w s = fine_operation p.limits.area w Negate refl
+  fine_order (order.Mul k line) w s = fine_operation p.limits.area w (Multiply k) refl
+  fine_order (order.Div k line) w s = fine_operation p.limits.area w (Divide k) refl
+  fine_order order.And w s = fine_unrefused _ _ _ (fine_operation p.limits.area w (Combine logic.Mask) refl)
+  fine_order order.Or w s = fine_unrefused _ _ _ (fine_operation p.limits.area w (Combine logic.Union) refl)
+  fine_order order.Xor w s = fine_unrefused _ _ _ (fine_operation p.limits.area w (Combine logic.Differ) refl)
+  fine_order (order.Take t b) w s = fine_unrefused _ _ _ (fine_operation p.limits.area w (Extract t b) refl)
+  fine_order order.Less w s = fine_unrefused _ _ _ (fine_two _ _ (λ x y v. Changed (put (signed (word_difference (unsigned x) (unsigned y))) v)) w.operands w (same p.limits.area w) (λ x y rest le. (replaced p.limits.area w rest le, refl)))
+  fine_order order.Drop w s = fine_unrefused _ _ _ (fine_one _ _ (λ x v. Changed v) w.operands w (same p.limits.area w) (λ x rest le. (taken p.limits.area w rest le, refl)))
   fine_order order.ReadByte w s = fine_operation p.limits.area w ReadByte refl
   fine_order order.WriteByte w s = absurd (false≢true s)
-  fine_order (order.IndexLess l) w s = fine_one _ _ (λ i v. put_index (i -ℤ l) v) w.operands w (same p.limits.area w) (λ x rest le. fine_put _ _ _ _ _ (with_operands w rest) (fewer p.limits.area w rest le) refl)
-  fine_order (order.IndexTimes k) w s = fine_one _ _ (λ i v. put_index (i *ℤ pos k) v) w.operands w (same p.limits.area w) (λ x rest le. fine_put _ _ _ _ _ (with_operands w rest) (fewer p.limits.area w rest le) refl)
-  fine_order (order.IndexPlus k) w s = fine_one _ _ (λ i v. put_index (i +ℤ pos k) v) w.operands w (same p.limits.area w) (λ x rest le. fine_put _ _ _ _ _ (with_operands w rest) (fewer p.limits.area w rest le) refl)
-  fine_order order.IndexAdd w s = fine_two _ _ (λ i j v. put_index (i +ℤ j) v) w.operands w (same p.limits.area w) (λ x y rest le. fine_put _ _ _ _ _ (with_operands w rest) (fewer p.limits.area w rest le) refl)
-  fine_order (order.IndexRow l k) w s =
+  fine_order (order.IndexLess l line) w s = fine_one _ _ (λ i v. put_index (i -ℤ l) v) w.operands w (same p.limits.area w) (λ x rest le. fine_put _ _ _ _ _ (with_operands w rest) (fewer p.limits.area w rest le) refl)
+  fine_order (order.IndexTimes k line) w s = fine_one _ _ (λ i v. put_index (i *ℤ pos k) v) w.operands w (same p.limits.area w) (λ x rest le. fine_put _ _ _ _ _ (with_operands w rest) (fewer p.limits.area w rest le) refl)
+  fine_order (order.IndexPlus k line) w s = fine_one _ _ (λ i v. put_index (i +ℤ pos k) v) w.operands w (same p.limits.area w) (λ x rest le. fine_put _ _ _ _ _ (with_operands w rest) (fewer p.limits.area w rest le) refl)
+  fine_order (order.IndexAdd line) w s = fine_two _ _ (λ i j v. put_index (i +ℤ j) v) w.operands w (same p.limits.area w) (λ x y rest le. fine_put _ _ _ _ _ (with_operands w rest) (fewer p.limits.area w rest le) refl)
+  fine_order (order.IndexRow l k line) w s =
       fine_two _ _ (λ i j v. if_fits (fits_word (i -ℤ l)) (if_fits (fits_word ((i -ℤ l) *ℤ pos k)) (put_index ((i -ℤ l) *ℤ pos k +ℤ j) v))) w.operands w (same p.limits.area w) (λ x y rest le.
       let last = put_index ((x -ℤ l) *ℤ pos k +ℤ y) (with_operands w rest) in
       let second = if_fits (fits_word ((x -ℤ l) *ℤ pos k)) last in
       fine_fits (operand_words w.operands) w.output (fits_word (x -ℤ l)) second (fine_fits (operand_words w.operands) w.output (fits_word ((x -ℤ l) *ℤ pos k)) last (fine_put (operand_words w.operands) w.output (fits_word ((x -ℤ l) *ℤ pos k +ℤ y)) AddressRange ((x -ℤ l) *ℤ pos k +ℤ y) (with_operands w rest) (fewer p.limits.area w rest le) refl)))
-  fine_order order.InArea w s = fine_operation p.limits.area w (Form Taken) refl
-  fine_order order.SetVariable w s =
+  fine_order (order.InArea line) w s = fine_operation p.limits.area w (Form Taken) refl
+  fine_order (order.SetVariable line) w s =
       fine_one _ _ (λ a v. if_inside (is_below a p.limits.area) (perform p.limits.area (SetVariable (number_of a)) v)) w.operands w (same p.limits.area w)
       (λ a rest le. fine_inside _ _ (is_below a p.limits.area) (perform p.limits.area (SetVariable (number_of a)) (with_operands w rest)) (fine_behind p.limits.area (SetVariable (number_of a)) rest w refl le))
-  fine_order order.AddStep w s =
+  fine_order (order.AddStep line) w s =
       fine_one _ _ (λ a v. if_inside (is_below a (p.limits.area - 1)) (perform p.limits.area (AddStep (number_of a)) v)) w.operands w (same p.limits.area w)
       (λ a rest le. fine_inside _ _ (is_below a (p.limits.area - 1)) (perform p.limits.area (AddStep (number_of a)) (with_operands w rest)) (fine_behind p.limits.area (AddStep (number_of a)) rest w refl le))
-  fine_order order.PutVariable w s =
+  fine_order (order.PutVariable line) w s =
       fine_one _ _ (λ a v. if_inside (is_below a p.limits.area) (at_address p.limits.area (λ i t. Changed (put a (put (word_at t.memory i) t))) (word_at v.memory (number_of a)) v)) w.operands w (same p.limits.area w)
       (λ a rest le.
       let z = word_at w.memory (number_of a) in
       let f : ℕ → Words → Outcome = λ i t. Changed (put a (put (word_at t.memory i) t)) in
       fine_inside (operand_words w.operands) w.output (is_below a p.limits.area) (at_address p.limits.area f z (with_operands w rest))
       (fine_through (operand_words w.operands) w.output (is_below z p.limits.area) f z (with_operands w rest) (λ i. ((let l : 1 + (1 + operand_words rest) ≤ 2 + operand_words w.operands = omega (arith, le) in l), refl))))
-  fine_order (order.InBounds l u) w s = fine_operation p.limits.area w (InBounds l u) refl
+  fine_order (order.InBounds l u line) w s = fine_operation p.limits.area w (InBounds l u) refl
   fine_order (order.LabelOut l) w s = fine_held _ _ (Some (LabelControl g l (length acts))) w (same p.limits.area w) refl
-  fine_order (order.LabelCommon d) w s = fine_held _ _ _ w (same p.limits.area w) refl
+  fine_order (order.LabelCommon d) w s = fine_unrefused _ _ _ (fine_held _ _ _ w (same p.limits.area w) refl)
   fine_order (order.SwitchOut l) w s = fine_held _ _ (Some (SwitchControl g l (length acts))) w (same p.limits.area w) refl
-  fine_order (order.SwitchCommon d) w s = fine_held _ _ _ w (same p.limits.area w) refl
+  fine_order (order.SwitchCommon d) w s = fine_unrefused _ _ _ (fine_held _ _ _ w (same p.limits.area w) refl)
   fine_order (order.ProcOut l) w s = fine_held _ _ (Some (ProcedureControl g l)) w (same p.limits.area w) refl
-  fine_order (order.ProcCommon d) w s = fine_held _ _ _ w (same p.limits.area w) refl
-  fine_order (order.SpecialOut k) w s = fine_held _ _ _ w (same p.limits.area w) refl
+  fine_order (order.ProcCommon d) w s = fine_unrefused _ _ _ (fine_held _ _ _ w (same p.limits.area w) refl)
+  fine_order (order.SpecialOut k) w s = fine_unrefused _ _ _ (fine_held _ _ _ w (same p.limits.area w) refl)
   fine_order (order.Bind k f o) w s = fine_unrefused _ _ _ (fine_bind _ _ p.limits.area (argument_at acts k) (Some (home_word p.addresses g f o)) w (same p.limits.area w) refl)
   fine_order (order.BindFrame k o) w s = fine_unrefused _ _ _ (fine_bind _ _ p.limits.area (argument_at acts k) (frame_word acts o) w (same p.limits.area w) refl)
   fine_order _ w s = tt
@@ -412,12 +487,18 @@ module _ (p : OrderProgram) (g : ℕ) (acts : List OrderActivation) where
 
   -- ---- steps
 
-  acts_as : (a : Action) (q l : ℕ) (w : Words) → IsPossible (word_effect p.limits.area a w) → act p a g q l acts w ≡ after p.room (word_effect p.limits.area a w) g q l acts w
-  acts_as (Perform op) q l w h = refl
-  acts_as (Access op) q l w h = refl
-  acts_as (Alter f) q l w h = refl
-  acts_as (AlterWithin f) q l w h = refl
-  acts_as _ q l w h = absurd h
+  no_stop : (n k : ℕ) (o : Outcome) (q : ℕ) (l : Bool) (w : Words) → after p.room n (unrefused o) g q l acts w ≡ after p.room k (unrefused o) g q l acts w
+  no_stop n k (Changed v) q l w = refl
+  no_stop n k (Refused kind) q l w = refl
+  no_stop n k Impossible q l w = refl
+
+  acts_as : (a : Action) (line q : ℕ) (l : Bool) (w : Words) → Tells line a → stack_words w.operands acts ≤ p.room → IsPossible (word_effect p.limits.area a w) → act p a g q l acts w ≡ after p.room line (word_effect p.limits.area a w) g q l acts w
+  acts_as (Perform n op) line q l w tells room h = ap (λ k. after p.room k (perform p.limits.area op w) g q l acts w) tells
+  acts_as (Access op) line q l w tells room h = no_stop 0 line (perform p.limits.area op w) q l w
+  acts_as (Alter n f) line q l w tells room h = ap (λ k. after p.room k (f w) g q l acts w) tells
+  acts_as (AlterWithin f) line q l w tells room h = no_stop 0 line (f w) q l w
+  acts_as Pass line q l w tells room h = sym (ap (λ b. go_on b g q l acts w w) (le-leb (stack_words w.operands acts) p.room room))
+  acts_as _ line q l w tells room h = absurd h
 
   beneath : (xs ys : List Operand) (n : ℕ) (bs : List OrderActivation) → operand_words ys ≤ n + operand_words xs → stack_words ys bs ≤ n + stack_words xs bs
   beneath xs ys n [] le = le
@@ -434,44 +515,52 @@ module _ (p : OrderProgram) (g : ℕ) (acts : List OrderActivation) where
   abbrev Seen : Words → Observation × List Begun → Type 0
   Seen w = Shows w.output
 
-  -- orders that stand at a place run on to the next one, or to a stop; they show nothing new on the way, and no statement begins
-  abbrev pub Ran : (q next l : ℕ) → List Order → Words → Outcome → Type 0
-  Ran q next l os w (Changed v) = Path (Seen w) B (total_weight os) (state g q l acts w Running) (state g next l acts v Running) × (v.output ≡ w.output)
-  Ran q next l os w (Refused kind) =
-      (n : ℕ) × (place : ℕ) × (v : Words) × (0 < n) × (n ≤ total_weight os) × Path (Seen w) B n (state g q l acts w Running) (state g place l acts v (Stopped kind (g + 1) l)) × (v.output ≡ w.output)
-  Ran q next l os w Impossible = Unit {0}
+  -- orders that stand at a place run on to the next one, or to a stop at a line; they show nothing new on the way, and no statement begins
+  abbrev pub Ran : (line q next : ℕ) → (l m : Bool) → List Order → Words → Outcome → Type 0
+  Ran line q next l m os w (Changed v) = Path (Seen w) B (total_weight os) (state g q l acts w Running) (state g next m acts v Running) × (v.output ≡ w.output)
+  Ran line q next l m os w (Refused kind) =
+      (n : ℕ) × (place : ℕ) × (loaded : Bool) × (v : Words) × (0 < n) × (n ≤ total_weight os) × Path (Seen w) B n (state g q l acts w Running) (state g place loaded acts v (Stopped kind (g + 1) line)) × (v.output ≡ w.output)
+  Ran line q next l m os w Impossible = Unit {0}
 
-  module _ (code : List Order) (at_code : (q : ℕ) (o : Order) → slice_get code q ≡ Some o → order_at p g q ≡ Some o) where
-    further : (o : Order) (os : List Order) (q next l : ℕ) (w v : Words) (out : Outcome) → BeginsNone o → order_at p g q ≡ Some o → B.step (state g q l acts w Running) ≡ state g (q + 1) l acts v Running → v.output ≡ w.output → Ran (q + 1) next l os v out → Ran q next l (o ∷ os) w out
-    further o os q next l w v (Changed u) none h e kept (path, same) =
-        (move (refl, ap (λ x. started_by x g w) h ∙ none g w) e (let z : weight_of o + total_weight os ≡ weight_at (order_at p g q) + total_weight os = omega (arith, ap weight_at h) in z) (subst (λ x. Path (Shows x) B (total_weight os) (state g (q + 1) l acts v Running) (state g next l acts u Running)) kept path), same ∙ kept)
-    further o os q next l w v (Refused kind) none h e kept (n, place, u, some, le, path, same) =
-        (weight_of o + n, place, u, (let z : 0 < weight_of o + n = omega (arith, some) in z), (let z : weight_of o + n ≤ weight_of o + total_weight os = omega (arith, le) in z), move (refl, ap (λ x. started_by x g w) h ∙ none g w) e (let z : weight_of o + n ≡ weight_at (order_at p g q) + n = omega (arith, ap weight_at h) in z) (subst (λ x. Path (Shows x) B n (state g (q + 1) l acts v Running) (state g place l acts u (Stopped kind (g + 1) l))) kept path), same ∙ kept)
-    further o os q next l w v Impossible none h e kept ran = tt
+  -- one order, which finds the accumulator as it wants it
+  pub carried_out : (o : Order) (q : ℕ) (l l' : Bool) (w : Words) → order_at p g q ≡ Some o → loaded_after o l ≡ Some l' → carry_out p (order_at p g q) g q l acts w ≡ act p (action_of p g acts o) g q l' acts w
+  carried_out o q l l' w at_q turn = ap (λ x. carry_out p x g q l acts w) at_q ∙ ap (λ x. carry_with p x o g q l acts w) turn
 
-    ran_one : (o : Order) (os : List Order) (q next l : ℕ) (w : Words) (e : Outcome) → BeginsNone o → order_at p g q ≡ Some o → effect o w ≡ e → 0 < weight_of o → Fine (operand_words w.operands) w.output e → growth o + total_growth os + stack_words w.operands acts ≤ p.room → ((v : Words) → e ≡ Changed v → operand_words v.operands ≤ growth o + operand_words w.operands) → ((v : Words) → total_growth os + stack_words v.operands acts ≤ p.room → Ran (q + 1) next l os v (run_orders os v)) → Ran q next l (o ∷ os) w (then_do e (λ v. run_orders os v))
-    ran_one o os q next l w (Changed v) none at_q e some (le, kept) room little rest =
+  module _ (code : List Order) (at_code : (q : ℕ) (o : Order) → slice_get code q ≡ Some o → order_at p g q ≡ Some o) (line : ℕ) where
+    further : (o : Order) (os : List Order) (q next : ℕ) (l l' m : Bool) (w v : Words) (out : Outcome) → BeginsNone o → order_at p g q ≡ Some o → B.step (state g q l acts w Running) ≡ state g (q + 1) l' acts v Running → v.output ≡ w.output → Ran line (q + 1) next l' m os v out → Ran line q next l m (o ∷ os) w out
+    further o os q next l l' m w v (Changed u) none h e kept (path, same) =
+        (move (refl, ap (λ x. started_by x g w) h ∙ none g w) e (let z : weight_of o + total_weight os ≡ weight_at (order_at p g q) + total_weight os = omega (arith, ap weight_at h) in z) (subst (λ x. Path (Shows x) B (total_weight os) (state g (q + 1) l' acts v Running) (state g next m acts u Running)) kept path), same ∙ kept)
+    further o os q next l l' m w v (Refused kind) none h e kept (n, place, loaded, u, some, le, path, same) =
+        (weight_of o + n, place, loaded, u, (let z : 0 < weight_of o + n = omega (arith, some) in z), (let z : weight_of o + n ≤ weight_of o + total_weight os = omega (arith, le) in z), move (refl, ap (λ x. started_by x g w) h ∙ none g w) e (let z : weight_of o + n ≡ weight_at (order_at p g q) + n = omega (arith, ap weight_at h) in z) (subst (λ x. Path (Shows x) B n (state g (q + 1) l' acts v Running) (state g place loaded acts u (Stopped kind (g + 1) line))) kept path), same ∙ kept)
+    further o os q next l l' m w v Impossible none h e kept ran = tt
+
+    ran_one : (o : Order) (os : List Order) (q next : ℕ) (l l' m : Bool) (w : Words) (e : Outcome) → BeginsNone o → order_at p g q ≡ Some o → TellsLine line o → loaded_after o l ≡ Some l' → effect o w ≡ e → 0 < weight_of o → Fine (operand_words w.operands) w.output e → growth o + total_growth os + stack_words w.operands acts ≤ p.room → ((v : Words) → e ≡ Changed v → operand_words v.operands ≤ growth o + operand_words w.operands) → ((v : Words) → total_growth os + stack_words v.operands acts ≤ p.room → Ran line (q + 1) next l' m os v (run_orders os v)) → Ran line q next l m (o ∷ os) w (then_do e (λ v. run_orders os v))
+    ran_one o os q next l l' m w (Changed v) none at_q tells turn e some (le, kept) room little rest =
         let grown = beneath w.operands v.operands (growth o) acts (little v refl) in
         let fits : stack_words v.operands acts ≤ p.room = omega (arith, grown, room) in
-        further o os q next l w v (run_orders os v) none at_q
-        (ap (λ x. carry_out p x g q l acts w) at_q ∙ acts_as (action_of p g acts o) q l w (subst IsPossible (sym e) tt) ∙ ap (λ x. after p.room x g q l acts w) e ∙ ap (λ b. go_on b g q l acts w v) (le-leb (stack_words v.operands acts) p.room fits))
+        let fitted : stack_words w.operands acts ≤ p.room = omega (arith, room) in
+        further o os q next l l' m w v (run_orders os v) none at_q
+        (carried_out o q l l' w at_q turn ∙ acts_as (action_of p g acts o) line q l' w (told p g acts line o tells) fitted (subst IsPossible (sym e) tt) ∙ ap (λ x. after p.room line x g q l' acts w) e ∙ ap (λ b. go_on b g q l' acts w v) (le-leb (stack_words v.operands acts) p.room fits))
         kept
-        (rest v (let l : total_growth os + stack_words v.operands acts ≤ p.room = omega (arith, grown, room) in l))
-    ran_one o os q next l w (Refused kind) none at_q e some fine room little rest = (
-      weight_of o,
-      q,
-      w,
-      some,
-      (let z : weight_of o ≤ weight_of o + total_weight os = omega arith in z),
-      move (refl, ap (λ x. started_by x g w) at_q ∙ none g w) (ap (λ x. carry_out p x g q l acts w) at_q ∙ acts_as (action_of p g acts o) q l w (subst IsPossible (sym e) tt) ∙ ap (λ x. after p.room x g q l acts w) e)
-          (let z : weight_of o ≡ weight_at (order_at p g q) + 0 = omega (arith, ap weight_at at_q) in z)
-          (stay refl refl),
-      refl,
-    )
-    ran_one o os q next l w Impossible none at_q e some fine room little rest = tt
+        (rest v (let z : total_growth os + stack_words v.operands acts ≤ p.room = omega (arith, grown, room) in z))
+    ran_one o os q next l l' m w (Refused kind) none at_q tells turn e some fine room little rest =
+        let fitted : stack_words w.operands acts ≤ p.room = omega (arith, room) in (
+          weight_of o,
+          q,
+          l',
+          w,
+          some,
+          (let z : weight_of o ≤ weight_of o + total_weight os = omega arith in z),
+          move (refl, ap (λ x. started_by x g w) at_q ∙ none g w) (carried_out o q l l' w at_q turn ∙ acts_as (action_of p g acts o) line q l' w (told p g acts line o tells) fitted (subst IsPossible (sym e) tt) ∙ ap (λ x. after p.room line x g q l' acts w) e)
+              (let z : weight_of o ≡ weight_at (order_at p g q) + 0 = omega (arith, ap weight_at at_q) in z)
+              (stay refl refl),
+          refl,
+        )
+    ran_one o os q next l l' m w Impossible none at_q tells turn e some fine room little rest = tt
 
-    pub run_through : (os : List Order) (q next l : ℕ) (w : Words) → Stands code q os next → IsTrue (all_silent os) → total_growth os + stack_words w.operands acts ≤ p.room → Ran q next l os w (run_orders os w)
-    run_through [] q next l w stands s room = (stay (ap (λ x. state g x l acts w Running) stands) refl, refl)
-    run_through (o ∷ os) q next l w (h, stands) s room =
+    pub run_through : (os : List Order) (q next : ℕ) (l m : Bool) (w : Words) → Stands code q os next → IsTrue (all_silent os) → OnLine line os → loaded_through os l ≡ Some m → total_growth os + stack_words w.operands acts ≤ p.room → Ran line q next l m os w (run_orders os w)
+    run_through [] q next l m w stands s tells turns room = (stay (ap (λ x. state g x l acts w Running) stands ∙ ap (λ x. state g next x acts w Running) (same_Some l m turns)) refl, refl)
+    run_through (o ∷ os) q next l m w (h, stands) s tells turns room =
         let silent = both_true (is_silent o) (all_silent os) s in
-        ran_one o os q next l w (effect o w) (begins_none o silent.0) (at_code q o h) refl (costs_some o silent.0) (fine_order o w silent.0) room (λ v e. grows o w v silent.0 e) (λ v small. run_through os (q + 1) next l v stands silent.1 small)
+        let turn = turned m (loaded_after o l) os turns in
+        ran_one o os q next l turn.0 m w (effect o w) (begins_none o silent.0) (at_code q o h) tells.0 turn.1 refl (costs_some o silent.0) (fine_order o w silent.0) room (λ v e. grows o w v silent.0 e) (λ v small. run_through os (q + 1) next turn.0 m v stands silent.1 tells.1 turn.2 small)

@@ -1,5 +1,5 @@
 -- The orders follow the source through jumps, also those that end activations.
-use Rattle.std.proofs.Common.{◌≡◌, inl, ℕ, zero, suc, ◌+◌, ◌-◌, ◌<◌, ◌≤◌, List, [], ◌∷◌, length, drop, false, Option, Some, None, refl, sym, ap, ◌∙◌, subst, arith}
+use Rattle.std.proofs.Common.{◌≡◌, inl, ℕ, zero, suc, ◌+◌, ◌-◌, ◌<◌, ◌≤◌, List, [], ◌∷◌, length, drop, Bool, false, Option, Some, None, refl, sym, ap, ◌∙◌, subst, arith}
 use Rattle.std.specs.Prelude.{slice_get, is_some, option_map}
 use Rattle.std.proofs.lemmas.Option.{slice_get-map}
 use Rattle.cw_track.proofs.Paths.{join, weaken}
@@ -16,9 +16,10 @@ use Rattle.cw_unit.specs.Behaviour.{shown}
 use Rattle.cw_order.specs.declared.order.Order.{Order}
 use Rattle.cw_order.specs.OrderProgram.{label_at, label_in, mark_in, place_of}
 use Rattle.cw_order.specs.OrderState.{OrderActivation, at as state}
+use Rattle.cw_order.specs.Loading.{loaded_after}
 use Rattle.cw_order.specs.OrderActions.{action_of}
 use Rattle.cw_order.specs.OrderCosts.{weight_of}
-use Rattle.cw_order.specs.OrderMachine.{act, line_below, leave_for, dropped_by, go_to_entry, go_to}
+use Rattle.cw_order.specs.OrderMachine.{act, leave_for, dropped_by, go_to_entry, go_to}
 use Rattle.cw_gen_expr.specs.UnitTables.{tables_of, label_mark, label_entry}
 use Rattle.cw_carry.proofs.Expressions.Effects.{BeginsNone}
 use Rattle.cw_carry.proofs.Expressions.Carried.{Via, who_of, CarriedIn, going}
@@ -31,7 +32,7 @@ module _ (c : Compiled) where
   pub record Reached (h : ℕ) (v : SourceUnit) (who : Option ℕ) (label : ℕ) (k : Work) : Type 0 where
     pub place : ℕ
     pub marked : slice_get (c.orders_for v).marks (label_mark v label) ≡ Some place
-    pub carried : (l : ℕ) → Via (c.orders_for v).list (c.orders_for v).marks 64 place (λ x. CarriedIn c.units c.addresses c.limits c.orders_for c.places c.has_words h v who x l false k)
+    pub carried : Via (c.orders_for v).list (c.orders_for v).marks 64 place false (λ x m. CarriedIn c.units c.addresses c.limits c.orders_for c.places c.has_words h v who x m false k)
 
   -- each label of a body is reached
   pub record LabelsReach : Type 0 where
@@ -50,7 +51,7 @@ module _ (c : Compiled) where
   all_dropped [] = refl
   all_dropped (b ∷ bs) = all_dropped bs
 
-  module _ (t : Moment c) (reach : LabelsReach) (now : Work) (o : Order) (q l : ℕ) (w : Words) (at_q : slice_get (code c t) q ≡ Some o) (cheap : weight_of o ≤ 48) (some : 0 < weight_of o) (none_begins : BeginsNone o) (sane : IsSane (next c t now w)) where
+  module _ (t : Moment c) (reach : LabelsReach) (now : Work) (o : Order) (q : ℕ) (l : Bool) (w : Words) (at_q : slice_get (code c t) q ≡ Some o) (turn : loaded_after o l ≡ Some false) (cheap : weight_of o ≤ 50) (some : 0 < weight_of o) (none_begins : BeginsNone o) (sane : IsSane (next c t now w)) where
     abbrev g : ℕ
     g = here_in c t
 
@@ -61,17 +62,17 @@ module _ (c : Compiled) where
     v0 = with_operands w []
 
     -- elsewhere: in another body, with fewer calls
-    lands_at : (label h s' : ℕ) (who' : Option ℕ) (acts' : List Activation) (bs' : List OrderActivation) (v : SourceUnit) (k : Work) (line' : ℕ) → segment_of s' acts' ≡ h → who_of acts' ≡ who' → slice_get c.units h ≡ Some v → AllCalls c s' acts' bs' → (at : Reached h v who' label k) → next c t now w ≡ configuration s' k acts' v0 Running → act (target c) (action_of (target c) g bs o) g q l bs w ≡ state h at.place line' bs' v0 Running → Steps c t now q l w
-    lands_at label h s' who' acts' bs' v k line' seg whose v_is calls at e f =
+    lands_at : (label h s' : ℕ) (who' : Option ℕ) (acts' : List Activation) (bs' : List OrderActivation) (v : SourceUnit) (k : Work) → segment_of s' acts' ≡ h → who_of acts' ≡ who' → slice_get c.units h ≡ Some v → AllCalls c s' acts' bs' → (at : Reached h v who' label k) → next c t now w ≡ configuration s' k acts' v0 Running → act (target c) (action_of (target c) g bs o) g q false bs w ≡ state h at.place false bs' v0 Running → Steps c t now q l w
+    lands_at label h s' who' acts' bs' v k seg whose v_is calls at e f =
         let seen = Seen c t.segment t.acts bs t.unit t.unit_is w in
-        let to = at.carried line' in
+        let to = at.carried in
         let v_here : slice_get c.units (segment_of s' acts') ≡ Some v = ap (λ z. slice_get c.units z) seg ∙ v_is in
-        let on = walk c s' acts' bs' v v_here 64 at.place to.0 line' v0 to.1 in
+        let on = walk c s' acts' bs' v v_here 64 at.place false to.0 to.1 v0 to.2 in
         let u0 = state g q l bs w Running in
-        let u1 = state (segment_of s' acts') at.place line' bs' v0 Running in
-        let u2 = state (segment_of s' acts') to.0 line' bs' v0 Running in
-        let all = join seen (B c) (weight_of o) on.0 (weight_of o + on.0) u0 u1 u2 refl (one_order c t o q l w u1 none_begins at_q (f ∙ ap (λ z. state z at.place line' bs' v0 Running) (sym seg))) on.2 in
-        let there = subst (λ z. CarriedIn c.units c.addresses c.limits c.orders_for c.places c.has_words z v (who_of acts') to.0 line' false k) (sym seg) (subst (λ z. CarriedIn c.units c.addresses c.limits c.orders_for c.places c.has_words h v z to.0 line' false k) (sym whose) to.2) in
+        let u1 = state (segment_of s' acts') at.place false bs' v0 Running in
+        let u2 = state (segment_of s' acts') to.0 to.1 bs' v0 Running in
+        let all = join seen (B c) (weight_of o) on.0 (weight_of o + on.0) u0 u1 u2 refl (one_order c t o q l false w u1 none_begins at_q turn (f ∙ ap (λ z. state z at.place false bs' v0 Running) (sym seg))) on.2 in
+        let there = subst (λ z. CarriedIn c.units c.addresses c.limits c.orders_for c.places c.has_words z v (who_of acts') to.0 to.1 false k) (sym seg) (subst (λ z. CarriedIn c.units c.addresses c.limits c.orders_for c.places c.has_words h v z to.0 to.1 false k) (sym whose) to.3) in
         record {
           spent = weight_of o + on.0;
           reached = u2;
@@ -91,24 +92,20 @@ module _ (c : Compiled) where
     module _ (h label owner : ℕ) (jumps : next c t now w ≡ jump_to (source c) (Some (h, label)) owner t.segment now t.acts w) (owned : (v : SourceUnit) (m : Label) (p : ℕ) → slice_get c.units h ≡ Some v → slice_get v.labels label ≡ Some m → m.proc ≡ Some p → (segment_of t.segment (kept owner t.acts) ≡ h) × (who_of (kept owner t.acts) ≡ Some p)) where
       -- what the orders do: they go there, or stay where they can; a mark that is met by a plain jump is of this body, and nothing is in hand
       pub record Goes_to : Type 0 where
-        pub to_body : (v : SourceUnit) (m : Label) (k : Work) → slice_get c.units h ≡ Some v → slice_get v.labels label ≡ Some m → m.proc ≡ None → (at : Reached h v None label k) → (line' : ℕ) × (act (target c) (action_of (target c) g bs o) g q l bs w ≡ state h at.place line' [] v0 Running)
-        pub to_procedure : (v : SourceUnit) (m : Label) (p : ℕ) (k : Work) → slice_get c.units h ≡ Some v → slice_get v.labels label ≡ Some m → m.proc ≡ Some p → (at : Reached h v (Some p) label k) → (line' : ℕ) × (act (target c) (action_of (target c) g bs o) g q l bs w ≡ state h at.place line' (drop (length bs - owner) bs) v0 Running)
+        pub to_body : (v : SourceUnit) (m : Label) (k : Work) → slice_get c.units h ≡ Some v → slice_get v.labels label ≡ Some m → m.proc ≡ None → (at : Reached h v None label k) → act (target c) (action_of (target c) g bs o) g q false bs w ≡ state h at.place false [] v0 Running
+        pub to_procedure : (v : SourceUnit) (m : Label) (p : ℕ) (k : Work) → slice_get c.units h ≡ Some v → slice_get v.labels label ≡ Some m → m.proc ≡ Some p → (at : Reached h v (Some p) label k) → act (target c) (action_of (target c) g bs o) g q false bs w ≡ state h at.place false (drop (length bs - owner) bs) v0 Running
 
-      pub by_control : act (target c) (action_of (target c) g bs o) g q l bs w ≡ go_to (target c) (Some (LabelControl h label owner)) g q l bs w → Goes_to
+      pub by_control : act (target c) (action_of (target c) g bs o) g q false bs w ≡ go_to (target c) (Some (LabelControl h label owner)) g q false bs w → Goes_to
       by_control f = record {
-        to_body = λ v m k v_is m_is none at. (
-          line_below (length bs) l bs,
-          f ∙ ap (λ e. go_to_entry (target c) e h owner g q l bs w) (entry_is h label v m v_is m_is)
-              ∙ ap (λ x. leave_for (place_of (target c) h (label_mark v label)) h (dropped_by (is_some x) owner bs) g q l bs w) none
-              ∙ ap (λ x. leave_for x h (length bs) g q l bs w) (marked h label v None k v_is at)
-              ∙ ap (λ x. state h at.place (line_below (length bs) l bs) x v0 Running) (all_dropped bs),
-        );
-        to_procedure = λ v m p k v_is m_is own at. (
-          line_below (length bs - owner) l bs,
-          f ∙ ap (λ e. go_to_entry (target c) e h owner g q l bs w) (entry_is h label v m v_is m_is)
-              ∙ ap (λ x. leave_for (place_of (target c) h (label_mark v label)) h (dropped_by (is_some x) owner bs) g q l bs w) own
-              ∙ ap (λ x. leave_for x h (length bs - owner) g q l bs w) (marked h label v (Some p) k v_is at),
-        );
+        to_body = λ v m k v_is m_is none at.
+            f ∙ ap (λ e. go_to_entry (target c) e h owner g q false bs w) (entry_is h label v m v_is m_is)
+            ∙ ap (λ x. leave_for (place_of (target c) h (label_mark v label)) h (dropped_by (is_some x) owner bs) g q false bs w) none
+            ∙ ap (λ x. leave_for x h (length bs) g q false bs w) (marked h label v None k v_is at)
+            ∙ ap (λ x. state h at.place false x v0 Running) (all_dropped bs);
+        to_procedure = λ v m p k v_is m_is own at.
+            f ∙ ap (λ e. go_to_entry (target c) e h owner g q false bs w) (entry_is h label v m v_is m_is)
+            ∙ ap (λ x. leave_for (place_of (target c) h (label_mark v label)) h (dropped_by (is_some x) owner bs) g q false bs w) own
+            ∙ ap (λ x. leave_for x h (length bs - owner) g q false bs w) (marked h label v (Some p) k v_is at);
       }
 
       module _ (goes : Goes_to) where
@@ -120,7 +117,7 @@ module _ (c : Compiled) where
         from_body v m v_is m_is none (Some k) k_is e =
             let at = reach.of_body h v label k v_is m m_is none k_is in
             let there = goes.to_body v m k v_is m_is none at in
-            lands_at label h h None [] [] v k there.0 refl refl v_is tt at e there.1
+            lands_at label h h None [] [] v k refl refl v_is tt at e there
 
         from_procedure : (v : SourceUnit) (m : Label) (p : ℕ) (proc : Proc) → slice_get c.units h ≡ Some v → slice_get v.labels label ≡ Some m → m.proc ≡ Some p → slice_get v.procs p ≡ Some proc → (k : Option Work) → label_continuation label proc.body Leave ≡ k → next c t now w ≡ work_from t.segment k (kept owner t.acts) w → Steps c t now q l w
         from_procedure v m p proc v_is m_is own proc_is None k_is e = absurd (subst IsSane e sane)
@@ -130,7 +127,7 @@ module _ (c : Compiled) where
             let who = owned v m p v_is m_is own in
             let same = same_length c t.segment t.acts bs t.calls in
             let calls = subst (λ n. AllCalls c t.segment (kept owner t.acts) (drop (n - owner) bs)) same (fewer_calls t.segment (length t.acts - owner) t.acts bs t.calls) in
-            lands_at label h t.segment (Some p) (kept owner t.acts) (drop (length bs - owner) bs) v k there.0 who.0 who.1 v_is calls at e there.1
+            lands_at label h t.segment (Some p) (kept owner t.acts) (drop (length bs - owner) bs) v k who.0 who.1 v_is calls at e there
 
         in_label : (v : SourceUnit) (m : Label) → slice_get c.units h ≡ Some v → slice_get v.labels label ≡ Some m → (p : Option ℕ) → m.proc ≡ p → next c t now w ≡ jump_in_unit v (Some m) t.segment h label owner now t.acts w → Steps c t now q l w
         in_label v m v_is m_is None none e =

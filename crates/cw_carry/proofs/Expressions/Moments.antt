@@ -14,19 +14,22 @@ use Rattle.cw_unit.specs.Work.{Work}
 use Rattle.cw_unit.specs.Configuration.{Configuration, at as configuration, Activation, segment_of}
 use Rattle.cw_unit.specs.Step.{after as source_after}
 use Rattle.cw_order.specs.declared.order.Order.{Order}
+use Rattle.cw_order.specs.declared.order.Order.TheVariants as order
 use Rattle.cw_track.proofs.Paths.{Path, stay, next as move, weaken}
 use Rattle.cw_unit.specs.Behaviour.{shown}
 use Rattle.cw_order.specs.OrderProgram.{order_at}
 use Rattle.cw_order.specs.OrderState.{OrderActivation, OrderState, at as state, stack_words}
+use Rattle.cw_order.specs.Loading.{loaded_after}
 use Rattle.cw_order.specs.OrderActions.{action_of}
-use Rattle.cw_order.specs.OrderMachine.{act, carry_out}
+use Rattle.cw_order.specs.OrderMachine.{act}
 use Rattle.cw_order.specs.Starting.{started_by}
 use Rattle.cw_order.specs.OrderCosts.{weight_of, weight_at}
 use Rattle.cw_order.specs.FittingWords.{WordsFit}
 use Rattle.cw_gen_expr.specs.ReferenceExpressions.{Scope, placed_by, placed_in, item_order}
+use Rattle.cw_gen_expr.specs.BuiltExpressions.{most_levels}
 use Rattle.cw_carry.proofs.Expressions.Standing.{Stands}
-use Rattle.cw_carry.proofs.Expressions.Effects.{IsPossible, BeginsNone, is_silent, all_silent, total_weight, run_orders}
-use Rattle.cw_carry.proofs.Expressions.Carried.{here, Ready, who_of}
+use Rattle.cw_carry.proofs.Expressions.Effects.{IsPossible, BeginsNone, is_silent, all_silent, total_weight, TellsLine, OnLine, loaded_through, carried_out, run_orders}
+use Rattle.cw_carry.proofs.Expressions.Carried.{here, saved, Via, wider, Ready, who_of}
 use Rattle.cw_gen_expr.specs.ReferenceEntries.{scope_of}
 use Rattle.cw_carry.proofs.Expressions.Operations.{ItemsStand}
 use Rattle.cw_carry.proofs.Expressions.Stepping.{Quiet, Compiled, source, target, A, B, AllCalls, work_size, Carried, Leading, From, FromNoting, IsSane, Seen, order_here, lands, silent, straight}
@@ -63,12 +66,42 @@ item_light y i n = of_family (slice_get y.families (slice_index_or y.homes i (0,
     of_family None f o = (omega arith, omega arith)
     of_family (Some x) f o = of_sort x.sort f o
 
--- a list of orders that writes nothing, costs something, and is not too dear or too long
-pub record IsLight (os : List Order) : Type 0 where
+-- it wants the accumulator free and loads it, and never stops
+pub item_loads : (y : Layout) (i n : ℕ) → loaded_after (item_order y i n) false ≡ Some true
+item_loads y i n = of_family (slice_get y.families (slice_index_or y.homes i (0, 0)).0) (slice_index_or y.homes i (0, 0)).0 ((slice_index_or y.homes i (0, 0)).1 + n)
+  where
+    of_sort : (x : Sort) (f o : ℕ) → loaded_after (placed_by x f o) false ≡ Some true
+    of_sort (sort.Common d) f o = refl
+    of_sort sort.Own f o = refl
+    of_sort (sort.Absolute a) f o = refl
+    of_sort (sort.Frame b) f o = refl
+
+    of_family : (x : Option Family) (f o : ℕ) → loaded_after (placed_in x f o) false ≡ Some true
+    of_family None f o = refl
+    of_family (Some x) f o = of_sort x.sort f o
+
+pub item_tells : (line : ℕ) (y : Layout) (i n : ℕ) → TellsLine line (item_order y i n)
+item_tells line y i n = of_family (slice_get y.families (slice_index_or y.homes i (0, 0)).0) (slice_index_or y.homes i (0, 0)).0 ((slice_index_or y.homes i (0, 0)).1 + n)
+  where
+    of_sort : (x : Sort) (f o : ℕ) → TellsLine line (placed_by x f o)
+    of_sort (sort.Common d) f o = tt
+    of_sort sort.Own f o = tt
+    of_sort (sort.Absolute a) f o = tt
+    of_sort (sort.Frame b) f o = tt
+
+    of_family : (x : Option Family) (f o : ℕ) → TellsLine line (placed_in x f o)
+    of_family None f o = tt
+    of_family (Some x) f o = of_sort x.sort f o
+
+-- a list of orders that writes nothing, costs something, is not too dear or too long, names a line, and finds the accumulator in one
+-- mode and leaves it in another
+pub record IsLight (line : ℕ) (l m : Bool) (os : List Order) : Type 0 where
   pub quiet : IsTrue (all_silent os)
-  pub light : total_weight os ≤ 160
+  pub light : total_weight os ≤ 159
   pub some : 0 < total_weight os
   pub short : length os ≤ 12
+  pub at : OnLine line os
+  pub turns : loaded_through os l ≡ Some m
 
 -- with the order of an item before or within
 pub silent_and : (a b : Bool) → IsTrue a → IsTrue b → IsTrue (a && b)
@@ -105,16 +138,16 @@ module _ (c : Compiled) where
     abbrev pub marks : List ℕ
     marks = (c.orders_for t.unit).marks
 
-    abbrev pub At : (place line : ℕ) → (ready : Bool) → Work → Type 0
+    abbrev pub At : (place : ℕ) → (loaded ready : Bool) → Work → Type 0
     At = Carried c t.segment t.acts t.calls_below t.unit t.unit_is
 
-    abbrev pub Leads_to : (place line : ℕ) → (ready : Bool) → Work → Type 0
+    abbrev pub Leads_to : (place : ℕ) → (loaded ready : Bool) → Work → Type 0
     Leads_to = Leading c t.segment t.acts t.calls_below t.unit t.unit_is
 
-    abbrev pub Steps : Work → (q l : ℕ) → Words → Type 0
+    abbrev pub Steps : Work → (q : ℕ) → (l : Bool) → Words → Type 0
     Steps = From c t.segment t.acts t.calls_below t.unit t.unit_is
 
-    abbrev pub StepsNoting : Work → (q l : ℕ) → Words → Type 0
+    abbrev pub StepsNoting : Work → (q : ℕ) → (l : Bool) → Words → Type 0
     StepsNoting = FromNoting c t.segment t.acts t.calls_below t.unit t.unit_is
 
     abbrev pub config : Work → Words → Configuration
@@ -132,28 +165,42 @@ module _ (c : Compiled) where
       pub room : 24 + stack_words w.operands t.calls_below ≤ c.room
       pub sane : IsSane (next k w)
 
-    pub at_once : (q l : ℕ) (r : Bool) (k : Work) → At q l r k → Leads_to q l r k
-    at_once q l r k h = (q, here refl, h)
+    pub at_once : (q : ℕ) (l r : Bool) (k : Work) → At q l r k → Leads_to q l r k
+    at_once q l r k h = (q, l, here refl refl, h)
+
+    -- without a jump
+    abbrev pub Close : (place : ℕ) → (loaded ready : Bool) → Work → Type 0
+    Close q l r k = Via code marks 0 q l (λ x m. At x m r k)
+
+    pub at_close : (q : ℕ) (l r : Bool) (k : Work) → At q l r k → Close q l r k
+    at_close q l r k h = (q, l, here refl refl, h)
+
+    pub close_to : (q : ℕ) (l r : Bool) (k : Work) → Close q l r k → Leads_to q l r k
+    close_to q l r k (x, m, way, h) = (x, m, wider code marks 0 most_levels q l x m (let z : 0 ≤ 64 = omega arith in z) way, h)
+
+    -- behind a Save
+    pub past_save : (n q : ℕ) (r : Bool) (k : Work) → slice_get code q ≡ Some order.Save → Via code marks n (q + 1) false (λ x m. At x m r k) → Via code marks n q true (λ x m. At x m r k)
+    past_save n q r k h (x, m, way, carried) = (x, m, saved h refl way, carried)
 
     -- by no order, to works that are carried out at this place
-    pub becomes : (now k : Work) (q l : ℕ) (w : Words) → next now w ≡ config k w → At q l false k → work_size c k < work_size c now → Steps now q l w
+    pub becomes : (now k : Work) (q : ℕ) (l : Bool) (w : Words) → next now w ≡ config k w → At q l false k → work_size c k < work_size c now → Steps now q l w
     becomes now k q l w e carried less =
         silent c t.segment t.acts t.calls_below t.unit t.unit_is t.calls now k q l false w e tt (at_once q l false k carried) less
 
     -- by orders that do what the source does
-    pub done_by : (now k : Work) (line q n l : ℕ) (os : List Order) (w : Words) (r : Bool) (out : Outcome) → line ≡ l → Stands code q os n → IsLight os → Facts now w → next now w ≡ source_after out t.segment line now k t.acts w → (IsPossible out → run os w ≡ out) → ((v : Words) → out ≡ Changed v → Ready c.limits.area r v.operands) → Leads_to n l r k → Steps now q l w
-    done_by now k line q n l os w r out same stands light facts e runs ready carried =
-        straight c t.segment t.acts t.calls_below t.unit t.unit_is t.calls now k line q n l os w r same stands light.quiet light.light light.some (let z : 2 * length os + stack_words w.operands t.calls_below ≤ c.room = omega (arith, light.short, facts.room) in z) out e runs ready carried facts.sane
+    pub done_by : (now k : Work) (line q n : ℕ) (l m : Bool) (os : List Order) (w : Words) (r : Bool) (out : Outcome) → Stands code q os n → IsLight line l m os → Facts now w → next now w ≡ source_after out t.segment line now k t.acts w → (IsPossible out → run os w ≡ out) → ((v : Words) → out ≡ Changed v → Ready c.limits.area r v.operands) → Leads_to n m r k → Steps now q l w
+    done_by now k line q n l m os w r out stands light facts e runs ready carried =
+        straight c t.segment t.acts t.calls_below t.unit t.unit_is t.calls now k line q n l m os w r stands light.quiet light.at light.turns light.light light.some (let z : 2 * length os + stack_words w.operands t.calls_below ≤ c.room = omega (arith, light.short, facts.room) in z) out e runs ready carried facts.sane
 
     -- one order, whatever it does, where no statement begins
-    pub one_order : (o : Order) (q l : ℕ) (w : Words) (u : OrderState) → BeginsNone o → slice_get code q ≡ Some o → act (target c) (action_of (target c) here_in t.calls_below o) here_in q l t.calls_below w ≡ u → Path (Seen c t.segment t.acts t.calls_below t.unit t.unit_is w) (B c) (weight_of o) (state here_in q l t.calls_below w Running) u
-    one_order o q l w u none h f =
+    pub one_order : (o : Order) (q : ℕ) (l m : Bool) (w : Words) (u : OrderState) → BeginsNone o → slice_get code q ≡ Some o → loaded_after o l ≡ Some m → act (target c) (action_of (target c) here_in t.calls_below o) here_in q m t.calls_below w ≡ u → Path (Seen c t.segment t.acts t.calls_below t.unit t.unit_is w) (B c) (weight_of o) (state here_in q l t.calls_below w Running) u
+    one_order o q l m w u none h turn f =
         let at_q = order_here c t.segment t.acts t.calls_below t.unit t.unit_is q o h in
-        move (refl, ap (λ x. started_by x here_in w) at_q ∙ none here_in w) (ap (λ x. carry_out (target c) x here_in q l t.calls_below w) at_q ∙ f) (let z : weight_of o ≡ weight_at (order_at (target c) here_in q) + 0 = omega (arith, ap weight_at at_q) in z) (stay refl refl)
+        move (refl, ap (λ x. started_by x here_in w) at_q ∙ none here_in w) (carried_out (target c) here_in t.calls_below o q l m w at_q turn ∙ f) (let z : weight_of o ≡ weight_at (order_at (target c) here_in q) + 0 = omega (arith, ap weight_at at_q) in z) (stay refl refl)
 
     -- by one order, which changes words and place
-    pub acts_once : (now k : Work) (o : Order) (q p l : ℕ) (r : Bool) (w v : Words) → BeginsNone o → slice_get code q ≡ Some o → 0 < weight_of o → weight_of o ≤ 160 → next now w ≡ configuration t.segment k t.acts v Running → act (target c) (action_of (target c) here_in t.calls_below o) here_in q l t.calls_below w ≡ state here_in p l t.calls_below v Running → Ready c.limits.area r v.operands → Leads_to p l r k → Steps now q l w
-    acts_once now k o q p l r w v none h some light e f ready carried =
-        lands c t.segment t.acts t.calls_below t.unit t.unit_is t.calls now k q p l l r w v (weight_of o) e
-        (weaken (Seen c t.segment t.acts t.calls_below t.unit t.unit_is w) (Quiet (shown (config now w)) (shown (configuration t.segment k t.acts v Running))) (B c) (weight_of o) (state here_in q l t.calls_below w Running) (state here_in p l t.calls_below v Running) (λ x y. (inl y.0, y.1)) (one_order o q l w (state here_in p l t.calls_below v Running) none h f))
+    pub acts_once : (now k : Work) (o : Order) (q p : ℕ) (l m r : Bool) (w v : Words) → BeginsNone o → slice_get code q ≡ Some o → loaded_after o l ≡ Some m → 0 < weight_of o → weight_of o ≤ 159 → next now w ≡ configuration t.segment k t.acts v Running → act (target c) (action_of (target c) here_in t.calls_below o) here_in q m t.calls_below w ≡ state here_in p m t.calls_below v Running → Ready c.limits.area r v.operands → Leads_to p m r k → Steps now q l w
+    acts_once now k o q p l m r w v none h turn some light e f ready carried =
+        lands c t.segment t.acts t.calls_below t.unit t.unit_is t.calls now k q p l m r w v (weight_of o) e
+        (weaken (Seen c t.segment t.acts t.calls_below t.unit t.unit_is w) (Quiet (shown (config now w)) (shown (configuration t.segment k t.acts v Running))) (B c) (weight_of o) (state here_in q l t.calls_below w Running) (state here_in p m t.calls_below v Running) (λ x y. (inl y.0, y.1)) (one_order o q l m w (state here_in p m t.calls_below v Running) none h turn f))
         light ready carried (inl some)

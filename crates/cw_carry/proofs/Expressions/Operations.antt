@@ -7,6 +7,8 @@ use Rattle.std.proofs.lemmas.List.Elements.{All-head}
 use Rattle.std.proofs.lemmas.Int.{ints}
 use Rattle.std.proofs.Math.IntN.{+ℤ_comm}
 use Rattle.cw_word.specs.FixedPoint.{FitsWord, fits_word, floor_div, floor_scaled, rescaled}
+use Rattle.cw_word.specs.BitField.{unsigned_field}
+use Rattle.cw_word.specs.Word.{signed, unsigned}
 use Rattle.cw_unit.specs.declared.layout.Layout.{Layout}
 use Rattle.cw_unit.specs.declared.unit.Unit.{Unit as SourceUnit}
 use Rattle.cw_unit.specs.declared.unit.Field.{Field}
@@ -21,10 +23,10 @@ use Rattle.cw_unit.specs.declared.unit.Arg.TheOpen as layer
 use Rattle.cw_unit.specs.declared.unit.Arg.TheOpen.{Spot-F}
 use Rattle.cw_unit.specs.Program.{Program}
 use Rattle.cw_unit.specs.Stop.{Overflow, AddressRange}
-use Rattle.cw_unit.specs.Words.{Operand, Word, Held, Words, Outcome, Changed, Refused, Impossible, with_operands, with_memory, is_below, put, put_if, put_value, word_at, through, field_value, stored_value}
+use Rattle.cw_unit.specs.Words.{Control, Operand, Word, Held, Words, Outcome, Changed, Refused, Impossible, on_one, on_two, logic_word, with_operands, with_memory, is_below, put, put_if, put_value, word_at, through, field_value, stored_value}
 use Rattle.cw_unit.specs.Operation.{Operation, Constant, Rescale, Fetch, Store, StoreBits, Add, Subtract, Negate, Multiply, Divide, Combine, Extract, InBounds, Form, Addressing, Known, Taken, Indexed, Indexed2, Scaled, Keep, SetVariable, AddStep, ReadByte, WriteByte, fitting, address_of, form_address, perform}
 use Rattle.cw_unit.specs.Configuration.{Activation, address_at}
-use Rattle.cw_unit.specs.Step.{table_base, addressing_of}
+use Rattle.cw_unit.specs.Step.{held, table_base, addressing_of}
 use Rattle.cw_order.specs.declared.order.Order.{Order}
 use Rattle.cw_order.specs.declared.order.Order.TheVariants as order
 use Rattle.cw_order.specs.OrderProgram.{OrderProgram}
@@ -36,7 +38,7 @@ use Rattle.cw_gen_expr.specs.ReferenceExpressions.{item_order, table_orders, for
 use Rattle.cw_gen_expr.specs.BuiltExpressions.{whole, built_value}
 use Rattle.cw_gen_expr.proofs.Layers.{built_spot_layer}
 use Rattle.cw_carry.proofs.Expressions.Effects.{then_do, IsPossible, effect, run_orders}
-use Rattle.cw_carry.proofs.Expressions.Carried.{Ready, OperationFits, operation_orders, set_orders, bump_orders}
+use Rattle.cw_carry.proofs.Expressions.Carried.{Ready, OperationFits, operation_orders, keep_orders, set_orders, bump_orders}
 
 -- ---- numbers
 
@@ -74,6 +76,23 @@ then_changed (Changed v) = refl
 then_changed (Refused kind) = refl
 then_changed Impossible = refl
 
+-- what never stops
+pub plain_one : (f : ℤ → Words → Words) (hand : List Operand) (w : Words) → unrefused (on_one (λ x v. Changed (f x v)) hand w) ≡ on_one (λ x v. Changed (f x v)) hand w
+plain_one f [] w = refl
+plain_one f (Held c ∷ rest) w = refl
+plain_one f (Word x ∷ rest) w = refl
+
+pub plain_two : (f : ℤ → ℤ → Words → Words) (hand : List Operand) (w : Words) → unrefused (on_two (λ x y v. Changed (f x y v)) hand w) ≡ on_two (λ x y v. Changed (f x y v)) hand w
+plain_two f [] w = refl
+plain_two f (Held c ∷ rest) w = refl
+plain_two f (Word y ∷ []) w = refl
+plain_two f (Word y ∷ Held c ∷ rest) w = refl
+plain_two f (Word y ∷ Word x ∷ rest) w = refl
+
+pub plain_held : (x : Option Control) (w : Words) → unrefused (held x w) ≡ held x w
+plain_held None w = refl
+plain_held (Some c) w = refl
+
 abbrev pub words : List Operand → List ℤ → List ℕ → List ℕ → Words
 words hand memory input output = record { operands = hand; memory = memory; input = input; output = output }
 
@@ -89,11 +108,11 @@ module _ (p : OrderProgram) (g : ℕ) (bs : List OrderActivation) where
   one : (o : Order) (w : Words) → run (o ∷ []) w ≡ effect p g bs o w
   one o w = then_changed (effect p g bs o w)
 
-  rescales : (b : Bool) (from to : ℕ) (hand : List Operand) (memory : List ℤ) (input output : List ℕ) → (b ≡ true → from ≡ to) → WordsFit (words hand memory input output) → IsPossible (perform area (Rescale from to) (words hand memory input output)) → run (if b then [] else (order.Rescale from to ∷ [])) (words hand memory input output) ≡ perform area (Rescale from to) (words hand memory input output)
-  rescales false from to hand memory input output same fits ok = one (order.Rescale from to) (words hand memory input output)
-  rescales true from to [] memory input output same fits ok = absurd ok
-  rescales true from to (Held c ∷ rest) memory input output same fits ok = absurd ok
-  rescales true from to (Word x ∷ rest) memory input output same fits ok =
+  rescales : (line : ℕ) (b : Bool) (from to : ℕ) (hand : List Operand) (memory : List ℤ) (input output : List ℕ) → (b ≡ true → from ≡ to) → WordsFit (words hand memory input output) → IsPossible (perform area (Rescale from to) (words hand memory input output)) → run (if b then [] else (order.Rescale from to line ∷ [])) (words hand memory input output) ≡ perform area (Rescale from to) (words hand memory input output)
+  rescales line false from to hand memory input output same fits ok = one (order.Rescale from to line) (words hand memory input output)
+  rescales line true from to [] memory input output same fits ok = absurd ok
+  rescales line true from to (Held c ∷ rest) memory input output same fits ok = absurd ok
+  rescales line true from to (Word x ∷ rest) memory input output same fits ok =
       let v = words rest memory input output in
       sym (ap (λ t. put_value (rescaled x from t) v) (sym (same refl)) ∙ ap (λ z. put_value z v) (rescaled-same x from) ∙ ap (λ t. put_if t Overflow x v) (tested x (All-head OperandFits (Word x) rest fits.operands)))
 
@@ -105,11 +124,11 @@ module _ (p : OrderProgram) (g : ℕ) (bs : List OrderActivation) where
   fetches s n rest memory input output lt =
       ap (λ b. through b (λ i t. Changed (put (field_value s (word_at t.memory i)) t)) (pos n) (words rest memory input output)) (lt-ltb n area lt)
 
-  loads : (s : Option Field) (n : ℕ) (rest : List Operand) (memory : List ℤ) (input output : List ℕ) → n < area → run (operation_orders (Fetch s)) (words (Word (pos n) ∷ rest) memory input output) ≡ perform area (Fetch s) (words (Word (pos n) ∷ rest) memory input output)
-  loads None n rest memory input output lt =
+  loads : (line : ℕ) (s : Option Field) (n : ℕ) (rest : List Operand) (memory : List ℤ) (input output : List ℕ) → n < area → run (operation_orders line (Fetch s)) (words (Word (pos n) ∷ rest) memory input output) ≡ perform area (Fetch s) (words (Word (pos n) ∷ rest) memory input output)
+  loads line None n rest memory input output lt =
       let w = words (Word (pos n) ∷ rest) memory input output in
       one order.Load w ∙ ap unrefused (fetches None n rest memory input output lt) ∙ sym (fetches None n rest memory input output lt)
-  loads (Some s) n rest memory input output lt =
+  loads line (Some s) n rest memory input output lt =
       let w = words (Word (pos n) ∷ rest) memory input output in
       one (order.LoadPart s.t s.b (not s.unsigned)) w
       ∙ ap (λ b. unrefused (perform area (Fetch (Some (record { t = s.t; b = s.b; unsigned = b }))) w)) (twice_not s.unsigned)
@@ -125,42 +144,42 @@ module _ (p : OrderProgram) (g : ℕ) (bs : List OrderActivation) where
   unrefused-stored f n (Held c ∷ rest) memory input output lt = refl
   unrefused-stored f n (Word z ∷ rest) memory input output lt = ap unrefused (stored f n z rest memory input output lt) ∙ sym (stored f n z rest memory input output lt)
 
-  stores : (s : Option Field) (n : ℕ) (hand : List Operand) (memory : List ℤ) (input output : List ℕ) → n < area → run (operation_orders (Store s)) (words (Word (pos n) ∷ hand) memory input output) ≡ perform area (Store s) (words (Word (pos n) ∷ hand) memory input output)
-  stores None n hand memory input output lt = one order.Store (words (Word (pos n) ∷ hand) memory input output) ∙ unrefused-stored (stored_value None) n hand memory input output lt
-  stores (Some s) n hand memory input output lt =
+  stores : (line : ℕ) (s : Option Field) (n : ℕ) (hand : List Operand) (memory : List ℤ) (input output : List ℕ) → n < area → run (operation_orders line (Store s)) (words (Word (pos n) ∷ hand) memory input output) ≡ perform area (Store s) (words (Word (pos n) ∷ hand) memory input output)
+  stores line None n hand memory input output lt = one order.Store (words (Word (pos n) ∷ hand) memory input output) ∙ unrefused-stored (stored_value None) n hand memory input output lt
+  stores line (Some s) n hand memory input output lt =
       one (order.StorePart s.t s.b) (words (Word (pos n) ∷ hand) memory input output) ∙ unrefused-stored (stored_value (Some s)) n hand memory input output lt
 
-  combines : (op : LogicOp) (w : Words) → run (operation_orders (Combine op)) w ≡ perform area (Combine op) w
-  combines logic.Mask w = one order.And w
-  combines logic.Union w = one order.Or w
-  combines logic.Differ w = one order.Xor w
+  combines : (line : ℕ) (op : LogicOp) (w : Words) → run (operation_orders line (Combine op)) w ≡ perform area (Combine op) w
+  combines line logic.Mask w = one order.And w ∙ plain_two (λ x y v. put (signed (logic_word logic.Mask (unsigned x) (unsigned y))) v) w.operands w
+  combines line logic.Union w = one order.Or w ∙ plain_two (λ x y v. put (signed (logic_word logic.Union (unsigned x) (unsigned y))) v) w.operands w
+  combines line logic.Differ w = one order.Xor w ∙ plain_two (λ x y v. put (signed (logic_word logic.Differ (unsigned x) (unsigned y))) v) w.operands w
 
   same_scale : (from to : ℕ) → (from == to) ≡ true → from ≡ to
   same_scale from to h = grind (arith, nat_tests)
 
-  pub operation-runs : (op : Operation) (r : Bool) (hand : List Operand) (memory : List ℤ) (input output : List ℕ) → OperationFits op r → Ready area r hand → WordsFit (words hand memory input output) → IsPossible (perform area op (words hand memory input output)) → run (operation_orders op) (words hand memory input output) ≡ perform area op (words hand memory input output)
-  operation-runs (Rescale from to) r hand memory input output f ready fits ok = rescales (from == to) from to hand memory input output (same_scale from to) fits ok
-  operation-runs (Fetch s) false hand memory input output f ready fits ok = absurd (false≢true f)
-  operation-runs (Fetch s) true hand memory input output f (n, rest, is, lt) fits ok =
-      subst (λ h. run (operation_orders (Fetch s)) (words h memory input output) ≡ perform area (Fetch s) (words h memory input output)) (sym is) (loads s n rest memory input output lt)
-  operation-runs (Store s) false hand memory input output f ready fits ok = absurd (false≢true f)
-  operation-runs (Store s) true hand memory input output f (n, rest, is, lt) fits ok =
-      subst (λ h. run (operation_orders (Store s)) (words h memory input output) ≡ perform area (Store s) (words h memory input output)) (sym is) (stores s n rest memory input output lt)
-  operation-runs (StoreBits t b) false hand memory input output f ready fits ok = absurd (false≢true f)
-  operation-runs (StoreBits t b) true hand memory input output f (n, rest, is, lt) fits ok =
-      subst (λ h. run (operation_orders (StoreBits t b)) (words h memory input output) ≡ perform area (StoreBits t b) (words h memory input output)) (sym is)
+  pub operation-runs : (line : ℕ) (op : Operation) (r : Bool) (hand : List Operand) (memory : List ℤ) (input output : List ℕ) → OperationFits op r → Ready area r hand → WordsFit (words hand memory input output) → IsPossible (perform area op (words hand memory input output)) → run (operation_orders line op) (words hand memory input output) ≡ perform area op (words hand memory input output)
+  operation-runs line (Rescale from to) r hand memory input output f ready fits ok = rescales line (from == to) from to hand memory input output (same_scale from to) fits ok
+  operation-runs line (Fetch s) false hand memory input output f ready fits ok = absurd (false≢true f)
+  operation-runs line (Fetch s) true hand memory input output f (n, rest, is, lt) fits ok =
+      subst (λ h. run (operation_orders line (Fetch s)) (words h memory input output) ≡ perform area (Fetch s) (words h memory input output)) (sym is) (loads line s n rest memory input output lt)
+  operation-runs line (Store s) false hand memory input output f ready fits ok = absurd (false≢true f)
+  operation-runs line (Store s) true hand memory input output f (n, rest, is, lt) fits ok =
+      subst (λ h. run (operation_orders line (Store s)) (words h memory input output) ≡ perform area (Store s) (words h memory input output)) (sym is) (stores line s n rest memory input output lt)
+  operation-runs line (StoreBits t b) false hand memory input output f ready fits ok = absurd (false≢true f)
+  operation-runs line (StoreBits t b) true hand memory input output f (n, rest, is, lt) fits ok =
+      subst (λ h. run (operation_orders line (StoreBits t b)) (words h memory input output) ≡ perform area (StoreBits t b) (words h memory input output)) (sym is)
       (one (order.StorePart t b) (words (Word (pos n) ∷ rest) memory input output) ∙ unrefused-stored (Rattle.cw_unit.specs.Words.with_bits t b) n rest memory input output lt)
-  operation-runs Add r hand memory input output f ready fits ok = one order.Add (words hand memory input output)
-  operation-runs Subtract r hand memory input output f ready fits ok = one order.Sub (words hand memory input output)
-  operation-runs Negate r hand memory input output f ready fits ok = one order.Neg (words hand memory input output)
-  operation-runs (Multiply s) r hand memory input output f ready fits ok =
-      one (order.Mul (narrow s)) (words hand memory input output) ∙ ap (λ k. perform area (Multiply k) (words hand memory input output)) f
-  operation-runs (Divide s) r hand memory input output f ready fits ok =
-      one (order.Div (narrow s)) (words hand memory input output) ∙ ap (λ k. perform area (Divide k) (words hand memory input output)) f
-  operation-runs (Combine op) r hand memory input output f ready fits ok = combines op (words hand memory input output)
-  operation-runs (Extract t b) r hand memory input output f ready fits ok = one (order.Take t b) (words hand memory input output)
-  operation-runs (InBounds l u) r hand memory input output f ready fits ok = one (order.InBounds l u) (words hand memory input output)
-  operation-runs _ r hand memory input output f ready fits ok = absurd f
+  operation-runs line Add r hand memory input output f ready fits ok = one (order.Add line) (words hand memory input output)
+  operation-runs line Subtract r hand memory input output f ready fits ok = one (order.Sub line) (words hand memory input output)
+  operation-runs line Negate r hand memory input output f ready fits ok = one (order.Neg line) (words hand memory input output)
+  operation-runs line (Multiply s) r hand memory input output f ready fits ok =
+      one (order.Mul (narrow s) line) (words hand memory input output) ∙ ap (λ k. perform area (Multiply k) (words hand memory input output)) f
+  operation-runs line (Divide s) r hand memory input output f ready fits ok =
+      one (order.Div (narrow s) line) (words hand memory input output) ∙ ap (λ k. perform area (Divide k) (words hand memory input output)) f
+  operation-runs line (Combine op) r hand memory input output f ready fits ok = combines line op (words hand memory input output)
+  operation-runs line (Extract t b) r hand memory input output f ready fits ok = one (order.Take t b) (words hand memory input output) ∙ plain_one (λ x v. put (signed (unsigned_field (unsigned x) t b)) v) hand (words hand memory input output)
+  operation-runs line (InBounds l u) r hand memory input output f ready fits ok = one (order.InBounds l u line) (words hand memory input output)
+  operation-runs line _ r hand memory input output f ready fits ok = absurd f
 
   -- ---- addresses
 
@@ -190,17 +209,17 @@ module _ (p : OrderProgram) (g : ℕ) (bs : List OrderActivation) where
       pub behind_load : (n : ℕ) (os : List Order) (hand : List Operand) (memory : List ℤ) (input output : List ℕ) → n < area → run (order.Load ∷ os) (words (Word (pos n) ∷ hand) memory input output) ≡ run os (words (Word (word_at memory n) ∷ hand) memory input output)
       behind_load n os hand memory input output lt = ap (λ o. then_do (unrefused o) (λ v. run os v)) (fetches None n hand memory input output lt)
 
-      pub area_tested : (w : Words) → run (order.InArea ∷ []) w ≡ form_address area Taken w
-      area_tested w = one order.InArea w
+      pub area_tested : (line : ℕ) (w : Words) → run (order.InArea line ∷ []) w ≡ form_address area Taken w
+      area_tested line w = one (order.InArea line) w
 
       -- a base and an index
-      added_fits : (b : Bool) (x base : ℤ) (v : Words) → fits_word (x +ℤ base) ≡ b → then_do (put_if b AddressRange (x +ℤ base) v) (λ t. run (order.InArea ∷ []) t) ≡ address_of area (x +ℤ base) v
-      added_fits true x base v h = area_tested (put (x +ℤ base) v)
-      added_fits false x base v h = sym (ap (λ b. put_if b AddressRange (x +ℤ base) v) (outside (x +ℤ base) area in_words h))
+      added_fits : (line : ℕ) (b : Bool) (x base : ℤ) (v : Words) → fits_word (x +ℤ base) ≡ b → then_do (put_if b AddressRange (x +ℤ base) v) (λ t. run (order.InArea line ∷ []) t) ≡ address_of area (x +ℤ base) v
+      added_fits line true x base v h = area_tested line (put (x +ℤ base) v)
+      added_fits line false x base v h = sym (ap (λ b. put_if b AddressRange (x +ℤ base) v) (outside (x +ℤ base) area in_words h))
 
-      pub added : (x base : ℤ) (hand : List Operand) (memory : List ℤ) (input output : List ℕ) → run (order.IndexAdd ∷ order.InArea ∷ []) (words (Word base ∷ Word x ∷ hand) memory input output) ≡ address_of area (base +ℤ x) (words hand memory input output)
-      added x base hand memory input output =
-          added_fits (fits_word (x +ℤ base)) x base (words hand memory input output) refl ∙ ap (λ z. address_of area z (words hand memory input output)) (+ℤ_comm x base)
+      pub added : (line : ℕ) (x base : ℤ) (hand : List Operand) (memory : List ℤ) (input output : List ℕ) → run (order.IndexAdd line ∷ order.InArea line ∷ []) (words (Word base ∷ Word x ∷ hand) memory input output) ≡ address_of area (base +ℤ x) (words hand memory input output)
+      added line x base hand memory input output =
+          added_fits line (fits_word (x +ℤ base)) x base (words hand memory input output) refl ∙ ap (λ z. address_of area z (words hand memory input output)) (+ℤ_comm x base)
 
       -- the base of a table
       pub behind_table : (t : Bool) (i : ℕ) (os : List Order) (hand : List Operand) (memory : List ℤ) (input output : List ℕ) → IsTrue (has_words i 1) → run (table_orders y t i ++ os) (words hand memory input output) ≡ run os (put (table_base program t s acts (words hand memory input output) i) (words hand memory input output))
@@ -208,27 +227,27 @@ module _ (p : OrderProgram) (g : ℕ) (bs : List OrderActivation) where
           behind_item i 1 (order.Load ∷ os) (words hand memory input output) h some ∙ behind_load (address i) os hand memory input output (inside i 1 h some)
       behind_table false i os hand memory input output h = behind_item i 1 os (words hand memory input output) h some
 
-      one_index : (b : Bool) (x l base : ℤ) (i : ℕ) (rest : List Operand) (memory : List ℤ) (input output : List ℕ) → IsTrue (has_words i 1) → then_do (put_if b AddressRange (x -ℤ l) (words rest memory input output)) (λ v. run (item_order y i 0 ∷ order.IndexAdd ∷ order.InArea ∷ []) v) ≡ fitting b (address_of area (pos (address i) +ℤ (x -ℤ l)) (words rest memory input output))
-      one_index true x l base i rest memory input output h =
-          behind_item i 1 (order.IndexAdd ∷ order.InArea ∷ []) (words (Word (x -ℤ l) ∷ rest) memory input output) h some ∙ added (x -ℤ l) (pos (address i)) rest memory input output
-      one_index false x l base i rest memory input output h = refl
+      one_index : (line : ℕ) (b : Bool) (x l base : ℤ) (i : ℕ) (rest : List Operand) (memory : List ℤ) (input output : List ℕ) → IsTrue (has_words i 1) → then_do (put_if b AddressRange (x -ℤ l) (words rest memory input output)) (λ v. run (order.Save ∷ item_order y i 0 ∷ order.IndexAdd line ∷ order.InArea line ∷ []) v) ≡ fitting b (address_of area (pos (address i) +ℤ (x -ℤ l)) (words rest memory input output))
+      one_index line true x l base i rest memory input output h =
+          behind_item i 1 (order.IndexAdd line ∷ order.InArea line ∷ []) (words (Word (x -ℤ l) ∷ rest) memory input output) h some ∙ added line (x -ℤ l) (pos (address i)) rest memory input output
+      one_index line false x l base i rest memory input output h = refl
 
-      row_index : (b1 b2 b4 : Bool) (row k : ℤ) (i : ℕ) (rest : List Operand) (memory : List ℤ) (input output : List ℕ) → IsTrue (has_words i 1) → then_do (Rattle.cw_order.specs.OrderChanges.if_fits b1 (Rattle.cw_order.specs.OrderChanges.if_fits b2 (put_if b4 AddressRange (row +ℤ k) (words rest memory input output)))) (λ v. run (item_order y i 0 ∷ order.IndexAdd ∷ order.InArea ∷ []) v) ≡ fitting b1 (fitting b2 (fitting true (fitting b4 (address_of area (pos (address i) +ℤ (row +ℤ k)) (words rest memory input output)))))
-      row_index false b2 b4 row k i rest memory input output h = refl
-      row_index true false b4 row k i rest memory input output h = refl
-      row_index true true false row k i rest memory input output h = refl
-      row_index true true true row k i rest memory input output h =
-          behind_item i 1 (order.IndexAdd ∷ order.InArea ∷ []) (words (Word (row +ℤ k) ∷ rest) memory input output) h some ∙ added (row +ℤ k) (pos (address i)) rest memory input output
+      row_index : (line : ℕ) (b1 b2 b4 : Bool) (row k : ℤ) (i : ℕ) (rest : List Operand) (memory : List ℤ) (input output : List ℕ) → IsTrue (has_words i 1) → then_do (Rattle.cw_order.specs.OrderChanges.if_fits b1 (Rattle.cw_order.specs.OrderChanges.if_fits b2 (put_if b4 AddressRange (row +ℤ k) (words rest memory input output)))) (λ v. run (order.Save ∷ item_order y i 0 ∷ order.IndexAdd line ∷ order.InArea line ∷ []) v) ≡ fitting b1 (fitting b2 (fitting true (fitting b4 (address_of area (pos (address i) +ℤ (row +ℤ k)) (words rest memory input output)))))
+      row_index line false b2 b4 row k i rest memory input output h = refl
+      row_index line true false b4 row k i rest memory input output h = refl
+      row_index line true true false row k i rest memory input output h = refl
+      row_index line true true true row k i rest memory input output h =
+          behind_item i 1 (order.IndexAdd line ∷ order.InArea line ∷ []) (words (Word (row +ℤ k) ∷ rest) memory input output) h some ∙ added line (row +ℤ k) (pos (address i)) rest memory input output
 
       none_fits : (b1 b2 : Bool) (o : Outcome) → Refused AddressRange ≡ fitting b1 (fitting b2 (fitting false o))
       none_fits false b2 o = refl
       none_fits true false o = refl
       none_fits true true o = refl
 
-      two_indexes : (b3 : Bool) (i : ℕ) (l1 l2 x z : ℤ) (n : ℕ) (rest : List Operand) (memory : List ℤ) (input output : List ℕ) → IsTrue (has_words i 1) → then_do (put_if b3 AddressRange (z -ℤ l2) (words (Word x ∷ rest) memory input output)) (λ v. run (order.IndexRow l1 n ∷ item_order y i 0 ∷ order.IndexAdd ∷ order.InArea ∷ []) v) ≡ fitting (fits_word (x -ℤ l1)) (fitting (fits_word ((x -ℤ l1) *ℤ pos n)) (fitting b3 (fitting (fits_word ((x -ℤ l1) *ℤ pos n +ℤ (z -ℤ l2))) (address_of area (pos (address i) +ℤ ((x -ℤ l1) *ℤ pos n +ℤ (z -ℤ l2))) (words rest memory input output)))))
-      two_indexes true i l1 l2 x z n rest memory input output h =
-          row_index (fits_word (x -ℤ l1)) (fits_word ((x -ℤ l1) *ℤ pos n)) (fits_word ((x -ℤ l1) *ℤ pos n +ℤ (z -ℤ l2))) ((x -ℤ l1) *ℤ pos n) (z -ℤ l2) i rest memory input output h
-      two_indexes false i l1 l2 x z n rest memory input output h =
+      two_indexes : (line : ℕ) (b3 : Bool) (i : ℕ) (l1 l2 x z : ℤ) (n : ℕ) (rest : List Operand) (memory : List ℤ) (input output : List ℕ) → IsTrue (has_words i 1) → then_do (put_if b3 AddressRange (z -ℤ l2) (words (Word x ∷ rest) memory input output)) (λ v. run (order.IndexRow l1 n line ∷ order.Save ∷ item_order y i 0 ∷ order.IndexAdd line ∷ order.InArea line ∷ []) v) ≡ fitting (fits_word (x -ℤ l1)) (fitting (fits_word ((x -ℤ l1) *ℤ pos n)) (fitting b3 (fitting (fits_word ((x -ℤ l1) *ℤ pos n +ℤ (z -ℤ l2))) (address_of area (pos (address i) +ℤ ((x -ℤ l1) *ℤ pos n +ℤ (z -ℤ l2))) (words rest memory input output)))))
+      two_indexes line true i l1 l2 x z n rest memory input output h =
+          row_index line (fits_word (x -ℤ l1)) (fits_word ((x -ℤ l1) *ℤ pos n)) (fits_word ((x -ℤ l1) *ℤ pos n +ℤ (z -ℤ l2))) ((x -ℤ l1) *ℤ pos n) (z -ℤ l2) i rest memory input output h
+      two_indexes line false i l1 l2 x z n rest memory input output h =
           none_fits (fits_word (x -ℤ l1)) (fits_word ((x -ℤ l1) *ℤ pos n)) (fitting (fits_word ((x -ℤ l1) *ℤ pos n +ℤ (z -ℤ l2))) (address_of area (pos (address i) +ℤ ((x -ℤ l1) *ℤ pos n +ℤ (z -ℤ l2))) (words rest memory input output)))
 
       same_base : (t : Bool) (i : ℕ) (hand rest : List Operand) (memory : List ℤ) (input output : List ℕ) → table_base program t s acts (words hand memory input output) i ≡ table_base program t s acts (words rest memory input output) i
@@ -236,19 +255,19 @@ module _ (p : OrderProgram) (g : ℕ) (bs : List OrderActivation) where
       same_base false i hand rest memory input output = refl
 
       -- an index to the base of a table
-      to_table : (t : Bool) (i : ℕ) (k : ℤ) (rest : List Operand) (memory : List ℤ) (input output : List ℕ) → IsTrue (has_words i 1) → run (table_orders y t i ++ order.IndexAdd ∷ order.InArea ∷ []) (words (Word k ∷ rest) memory input output) ≡ address_of area (table_base program t s acts (words rest memory input output) i +ℤ k) (words rest memory input output)
-      to_table t i k rest memory input output h =
-          behind_table t i (order.IndexAdd ∷ order.InArea ∷ []) (Word k ∷ rest) memory input output h
-          ∙ ap (λ z. run (order.IndexAdd ∷ order.InArea ∷ []) (put z (words (Word k ∷ rest) memory input output))) (same_base t i (Word k ∷ rest) rest memory input output)
-          ∙ added k (table_base program t s acts (words rest memory input output) i) rest memory input output
+      to_table : (line : ℕ) (t : Bool) (i : ℕ) (k : ℤ) (rest : List Operand) (memory : List ℤ) (input output : List ℕ) → IsTrue (has_words i 1) → run (table_orders y t i ++ order.IndexAdd line ∷ order.InArea line ∷ []) (words (Word k ∷ rest) memory input output) ≡ address_of area (table_base program t s acts (words rest memory input output) i +ℤ k) (words rest memory input output)
+      to_table line t i k rest memory input output h =
+          behind_table t i (order.IndexAdd line ∷ order.InArea line ∷ []) (Word k ∷ rest) memory input output h
+          ∙ ap (λ z. run (order.IndexAdd line ∷ order.InArea line ∷ []) (put z (words (Word k ∷ rest) memory input output))) (same_base t i (Word k ∷ rest) rest memory input output)
+          ∙ added line k (table_base program t s acts (words rest memory input output) i) rest memory input output
 
-      element_plus : (b : Bool) (t : Bool) (i : ℕ) (k : ℤ) (rest : List Operand) (memory : List ℤ) (input output : List ℕ) → IsTrue (has_words i 1) → then_do (put_if b AddressRange k (words rest memory input output)) (λ v. run (table_orders y t i ++ order.IndexAdd ∷ order.InArea ∷ []) v) ≡ fitting b (address_of area (table_base program t s acts (words rest memory input output) i +ℤ k) (words rest memory input output))
-      element_plus true t i k rest memory input output h = to_table t i k rest memory input output h
-      element_plus false t i k rest memory input output h = refl
+      element_plus : (line : ℕ) (b : Bool) (t : Bool) (i : ℕ) (k : ℤ) (rest : List Operand) (memory : List ℤ) (input output : List ℕ) → IsTrue (has_words i 1) → then_do (put_if b AddressRange k (words rest memory input output)) (λ v. run (order.Save ∷ (table_orders y t i ++ order.IndexAdd line ∷ order.InArea line ∷ [])) v) ≡ fitting b (address_of area (table_base program t s acts (words rest memory input output) i +ℤ k) (words rest memory input output))
+      element_plus line true t i k rest memory input output h = to_table line t i k rest memory input output h
+      element_plus line false t i k rest memory input output h = refl
 
-      element_times : (b : Bool) (t : Bool) (i place : ℕ) (row : ℤ) (rest : List Operand) (memory : List ℤ) (input output : List ℕ) → IsTrue (has_words i 1) → then_do (put_if b AddressRange row (words rest memory input output)) (λ v. run (order.IndexPlus place ∷ (table_orders y t i ++ order.IndexAdd ∷ order.InArea ∷ [])) v) ≡ fitting b (fitting (fits_word (row +ℤ pos place)) (address_of area (table_base program t s acts (words rest memory input output) i +ℤ (row +ℤ pos place)) (words rest memory input output)))
-      element_times true t i place row rest memory input output h = element_plus (fits_word (row +ℤ pos place)) t i (row +ℤ pos place) rest memory input output h
-      element_times false t i place row rest memory input output h = refl
+      element_times : (line : ℕ) (b : Bool) (t : Bool) (i place : ℕ) (row : ℤ) (rest : List Operand) (memory : List ℤ) (input output : List ℕ) → IsTrue (has_words i 1) → then_do (put_if b AddressRange row (words rest memory input output)) (λ v. run (order.IndexPlus place line ∷ order.Save ∷ (table_orders y t i ++ order.IndexAdd line ∷ order.InArea line ∷ [])) v) ≡ fitting b (fitting (fits_word (row +ℤ pos place)) (address_of area (table_base program t s acts (words rest memory input output) i +ℤ (row +ℤ pos place)) (words rest memory input output)))
+      element_times line true t i place row rest memory input output h = element_plus line (fits_word (row +ℤ pos place)) t i (row +ℤ pos place) rest memory input output h
+      element_times line false t i place row rest memory input output h = refl
 
       -- an index without a lower bound
       from_zero : (x base : ℤ) (v : Words) → FitsWord x → address_of area (base +ℤ x) v ≡ fitting (fits_word (x -ℤ pos 0)) (address_of area (base +ℤ (x -ℤ pos 0)) v)
@@ -258,50 +277,50 @@ module _ (p : OrderProgram) (g : ℕ) (bs : List OrderActivation) where
       both true b h = (refl, h)
       both false b h = absurd (false≢true h)
 
-      pub form-runs : (u : SourceUnit) (x : Spot-F Arg Cond Expr Spot Ref) (hand : List Operand) (memory : List ℤ) (input output : List ℕ) → IsTrue (built_spot_layer u has_words x) → WordsFit (words hand memory input output) → IsPossible (form_address area (addressing_of program x s acts (words hand memory input output)) (words hand memory input output)) → run (form_orders y x) (words hand memory input output) ≡ form_address area (addressing_of program x s acts (words hand memory input output)) (words hand memory input output)
-      form-runs u (layer.Direct i) hand memory input output b fits ok =
+      pub form-runs : (line : ℕ) (u : SourceUnit) (x : Spot-F Arg Cond Expr Spot Ref) (hand : List Operand) (memory : List ℤ) (input output : List ℕ) → IsTrue (built_spot_layer u has_words x) → WordsFit (words hand memory input output) → IsPossible (form_address area (addressing_of program x s acts (words hand memory input output)) (words hand memory input output)) → run (form_orders y line x) (words hand memory input output) ≡ form_address area (addressing_of program x s acts (words hand memory input output)) (words hand memory input output)
+      form-runs line u (layer.Direct i) hand memory input output b fits ok =
           let w = words hand memory input output in
           behind_item i 1 [] w b some ∙ sym (ap (λ t. put_if t AddressRange (pos (address i)) w) (lt-ltb (address i) area (inside i 1 b some)))
-      form-runs u (layer.Through i) hand memory input output b fits ok =
+      form-runs line u (layer.Through i) hand memory input output b fits ok =
           let w = words hand memory input output in
-          behind_item i 1 (order.Load ∷ order.InArea ∷ []) w b some ∙ behind_load (address i) (order.InArea ∷ []) hand memory input output (inside i 1 b some) ∙ area_tested (put (word_at memory (address i)) w)
-      form-runs u (layer.One i l h e) [] memory input output b fits ok = refl
-      form-runs u (layer.One i l h e) (Held c ∷ rest) memory input output b fits ok = refl
-      form-runs u (layer.One i l h e) (Word x ∷ rest) memory input output b fits ok =
-          one_index (fits_word (x -ℤ l)) x l (pos (address i)) i rest memory input output (both (has_words i 1) (whole (built_value u has_words e) 0) b).0
-      form-runs u (layer.Two i l1 h1 l2 h2 n e f) [] memory input output b fits ok = absurd ok
-      form-runs u (layer.Two i l1 h1 l2 h2 n e f) (Held c ∷ rest) memory input output b fits ok = absurd ok
-      form-runs u (layer.Two i l1 h1 l2 h2 n e f) (Word z ∷ []) memory input output b fits ok = absurd ok
-      form-runs u (layer.Two i l1 h1 l2 h2 n e f) (Word z ∷ Held c ∷ rest) memory input output b fits ok = absurd ok
-      form-runs u (layer.Two i l1 h1 l2 h2 n e f) (Word z ∷ Word x ∷ rest) memory input output b fits ok =
-          two_indexes (fits_word (z -ℤ l2)) i l1 l2 x z n rest memory input output (both (has_words i 1) (whole (built_value u has_words e) 0 && whole (built_value u has_words f) 0) b).0
-      form-runs u (layer.ParamArray i e) [] memory input output b fits ok = absurd ok
-      form-runs u (layer.ParamArray i e) (Held c ∷ rest) memory input output b fits ok = absurd ok
-      form-runs u (layer.ParamArray i e) (Word x ∷ rest) memory input output b fits ok =
+          behind_item i 1 (order.Load ∷ order.InArea line ∷ []) w b some ∙ behind_load (address i) (order.InArea line ∷ []) hand memory input output (inside i 1 b some) ∙ area_tested line (put (word_at memory (address i)) w)
+      form-runs line u (layer.One i l h e) [] memory input output b fits ok = refl
+      form-runs line u (layer.One i l h e) (Held c ∷ rest) memory input output b fits ok = refl
+      form-runs line u (layer.One i l h e) (Word x ∷ rest) memory input output b fits ok =
+          one_index line (fits_word (x -ℤ l)) x l (pos (address i)) i rest memory input output (both (has_words i 1) (whole (built_value u has_words e) 0) b).0
+      form-runs line u (layer.Two i l1 h1 l2 h2 n e f) [] memory input output b fits ok = absurd ok
+      form-runs line u (layer.Two i l1 h1 l2 h2 n e f) (Held c ∷ rest) memory input output b fits ok = absurd ok
+      form-runs line u (layer.Two i l1 h1 l2 h2 n e f) (Word z ∷ []) memory input output b fits ok = absurd ok
+      form-runs line u (layer.Two i l1 h1 l2 h2 n e f) (Word z ∷ Held c ∷ rest) memory input output b fits ok = absurd ok
+      form-runs line u (layer.Two i l1 h1 l2 h2 n e f) (Word z ∷ Word x ∷ rest) memory input output b fits ok =
+          two_indexes line (fits_word (z -ℤ l2)) i l1 l2 x z n rest memory input output (both (has_words i 1) (whole (built_value u has_words e) 0 && whole (built_value u has_words f) 0) b).0
+      form-runs line u (layer.ParamArray i e) [] memory input output b fits ok = absurd ok
+      form-runs line u (layer.ParamArray i e) (Held c ∷ rest) memory input output b fits ok = absurd ok
+      form-runs line u (layer.ParamArray i e) (Word x ∷ rest) memory input output b fits ok =
           let h = (both (has_words i 1) (whole (built_value u has_words e) 0) b).0 in
-          behind_item i 1 (order.Load ∷ order.IndexAdd ∷ order.InArea ∷ []) (words (Word x ∷ rest) memory input output) h some
-          ∙ behind_load (address i) (order.IndexAdd ∷ order.InArea ∷ []) (Word x ∷ rest) memory input output (inside i 1 h some)
-          ∙ added x (word_at memory (address i)) rest memory input output
+          behind_item i 1 (order.Load ∷ order.IndexAdd line ∷ order.InArea line ∷ []) (words (Word x ∷ rest) memory input output) h some
+          ∙ behind_load (address i) (order.IndexAdd line ∷ order.InArea line ∷ []) (Word x ∷ rest) memory input output (inside i 1 h some)
+          ∙ added line x (word_at memory (address i)) rest memory input output
           ∙ from_zero x (word_at memory (address i)) (words rest memory input output) (All-head OperandFits (Word x) rest fits.operands)
-      form-runs u (layer.Word i t m e) [] memory input output b fits ok = absurd ok
-      form-runs u (layer.Word i t m e) (Held c ∷ rest) memory input output b fits ok = absurd ok
-      form-runs u (layer.Word i t m e) (Word x ∷ rest) memory input output b fits ok =
+      form-runs line u (layer.Word i t m e) [] memory input output b fits ok = absurd ok
+      form-runs line u (layer.Word i t m e) (Held c ∷ rest) memory input output b fits ok = absurd ok
+      form-runs line u (layer.Word i t m e) (Word x ∷ rest) memory input output b fits ok =
           let h = (both (has_words i 1) (whole (built_value u has_words e) 0) b).0 in
-          to_table t i x rest memory input output h
+          to_table line t i x rest memory input output h
           ∙ ap (λ z. address_of area (z +ℤ x) (words rest memory input output)) (same_base t i rest (Word x ∷ rest) memory input output)
           ∙ from_zero x (table_base program t s acts (words (Word x ∷ rest) memory input output) i) (words rest memory input output) (All-head OperandFits (Word x) rest fits.operands)
-      form-runs u (layer.Elem i t n m q e) [] memory input output b fits ok = refl
-      form-runs u (layer.Elem i t n m q e) (Held c ∷ rest) memory input output b fits ok = refl
-      form-runs u (layer.Elem i t n m q e) (Word x ∷ rest) memory input output b fits ok =
+      form-runs line u (layer.Elem i t n m q e) [] memory input output b fits ok = refl
+      form-runs line u (layer.Elem i t n m q e) (Held c ∷ rest) memory input output b fits ok = refl
+      form-runs line u (layer.Elem i t n m q e) (Word x ∷ rest) memory input output b fits ok =
           let h = (both (has_words i 1) (whole (built_value u has_words e) 0) b).0 in
-          element_times (fits_word (x *ℤ pos n)) t i q (x *ℤ pos n) rest memory input output h
+          element_times line (fits_word (x *ℤ pos n)) t i q (x *ℤ pos n) rest memory input output h
           ∙ ap (λ z. fitting (fits_word (x *ℤ pos n)) (fitting (fits_word (x *ℤ pos n +ℤ pos q)) (address_of area (z +ℤ (x *ℤ pos n +ℤ pos q)) (words rest memory input output)))) (same_base t i rest (Word x ∷ rest) memory input output)
-      form-runs u (layer.Bare e) hand memory input output b fits ok = area_tested (words hand memory input output)
+      form-runs line u (layer.Bare e) hand memory input output b fits ok = area_tested line (words hand memory input output)
 
       -- ---- loops
 
       -- a word is kept in a word of an item
-      pub keeps : (i n k : ℕ) (hand : List Operand) (memory : List ℤ) (input output : List ℕ) → IsTrue (has_words i k) → n < k → IsPossible (perform area (Keep (address i + n)) (words hand memory input output)) → run (item_order y i n ∷ order.Store ∷ []) (words hand memory input output) ≡ perform area (Keep (address i + n)) (words hand memory input output)
+      pub keeps : (i n k : ℕ) (hand : List Operand) (memory : List ℤ) (input output : List ℕ) → IsTrue (has_words i k) → n < k → IsPossible (perform area (Keep (address i + n)) (words hand memory input output)) → run (keep_orders y i n) (words hand memory input output) ≡ perform area (Keep (address i + n)) (words hand memory input output)
       keeps i n k [] memory input output h lt ok = absurd ok
       keeps i n k (Held c ∷ rest) memory input output h lt ok = absurd ok
       keeps i n k (Word z ∷ rest) memory input output h lt ok =
@@ -315,22 +334,22 @@ module _ (p : OrderProgram) (g : ℕ) (bs : List OrderActivation) where
           ap (λ o. then_do o (λ v. run (order.Load ∷ os) v)) (stand.puts i n k (words hand memory input output) h lt)
           ∙ behind_load (address i + n) os hand memory input output (stand.within i n k h lt)
 
-      pub sets : (i k : ℕ) (hand : List Operand) (memory : List ℤ) (input output : List ℕ) → IsTrue (has_words i k) → 0 < k → run (set_orders y i) (words hand memory input output) ≡ perform area (SetVariable (address i)) (words hand memory input output)
-      sets i k hand memory input output h lt =
+      pub sets : (line : ℕ) (i k : ℕ) (hand : List Operand) (memory : List ℤ) (input output : List ℕ) → IsTrue (has_words i k) → 0 < k → run (set_orders y line i) (words hand memory input output) ≡ perform area (SetVariable (address i)) (words hand memory input output)
+      sets line i k hand memory input output h lt =
           let w = words hand memory input output in
-          behind_item i k (order.SetVariable ∷ []) w h lt ∙ one order.SetVariable (put (pos (address i)) w)
+          behind_item i k (order.SetVariable line ∷ []) w h lt ∙ one (order.SetVariable line) (put (pos (address i)) w)
           ∙ ap (λ b. if_inside b (perform area (SetVariable (address i)) w)) (lt-ltb (address i) area (inside i k h lt))
 
-      pub bumps : (i k : ℕ) (hand : List Operand) (memory : List ℤ) (input output : List ℕ) → IsTrue (has_words i k) → 1 < k → run (bump_orders y i) (words hand memory input output) ≡ perform area (AddStep (address i)) (words hand memory input output)
-      bumps i k hand memory input output h lt =
+      pub bumps : (line : ℕ) (i k : ℕ) (hand : List Operand) (memory : List ℤ) (input output : List ℕ) → IsTrue (has_words i k) → 1 < k → run (bump_orders y line i) (words hand memory input output) ≡ perform area (AddStep (address i)) (words hand memory input output)
+      bumps line i k hand memory input output h lt =
           let w = words hand memory input output in
           let both_words : address i < area - 1 = omega (arith, stand.within i 1 k h lt) in
-          behind_item i k (order.AddStep ∷ []) w h (let l : 0 < k = omega (arith, lt) in l) ∙ one order.AddStep (put (pos (address i)) w)
+          behind_item i k (order.AddStep line ∷ []) w h (let l : 0 < k = omega (arith, lt) in l) ∙ one (order.AddStep line) (put (pos (address i)) w)
           ∙ ap (λ b. if_inside b (perform area (AddStep (address i)) w)) (lt-ltb (address i) (area - 1) both_words)
 
       -- the value of the control variable, below the address of the loop
-      pub variable_put : (i k : ℕ) (hand : List Operand) (memory : List ℤ) (input output : List ℕ) → IsTrue (has_words i k) → 0 < k → run (item_order y i 0 ∷ order.PutVariable ∷ []) (words hand memory input output) ≡ through (is_below (word_at memory (address i)) area) (λ j v. Changed (put (pos (address i)) (put (word_at v.memory j) v))) (word_at memory (address i)) (words hand memory input output)
-      variable_put i k hand memory input output h lt =
+      pub variable_put : (line : ℕ) (i k : ℕ) (hand : List Operand) (memory : List ℤ) (input output : List ℕ) → IsTrue (has_words i k) → 0 < k → run (item_order y i 0 ∷ order.PutVariable line ∷ []) (words hand memory input output) ≡ through (is_below (word_at memory (address i)) area) (λ j v. Changed (put (pos (address i)) (put (word_at v.memory j) v))) (word_at memory (address i)) (words hand memory input output)
+      variable_put line i k hand memory input output h lt =
           let w = words hand memory input output in
-          behind_item i k (order.PutVariable ∷ []) w h lt ∙ one order.PutVariable (put (pos (address i)) w)
+          behind_item i k (order.PutVariable line ∷ []) w h lt ∙ one (order.PutVariable line) (put (pos (address i)) w)
           ∙ ap (λ b. if_inside b (through (is_below (word_at memory (address i)) area) (λ j v. Changed (put (pos (address i)) (put (word_at v.memory j) v))) (word_at memory (address i)) w)) (lt-ltb (address i) area (inside i k h lt))

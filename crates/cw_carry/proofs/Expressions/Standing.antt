@@ -1,11 +1,11 @@
 -- Lists that stand in the code and in the table of marks, and pieces of orders that stand in both.
-use Rattle.std.proofs.Common.{◌≡◌, ℕ, zero, suc, ◌+◌, List, [], ◌∷◌, ◌++◌, length, false, Some, refl, ap, ◌∙◌, subst, arith}
+use Rattle.std.proofs.Common.{◌≡◌, ℕ, zero, suc, ◌+◌, List, [], ◌∷◌, ◌++◌, length, false, Some, refl, sym, ap, ◌∙◌, subst, arith}
 use Rattle.std.specs.Prelude.{slice_get}
 use Rattle.std.proofs.lemmas.Option.{none-some}
 use Rattle.cw_order.specs.declared.order.Order.{Order}
 use Rattle.cw_order.specs.declared.order.Order.TheVariants as order
 use Rattle.cw_gen_expr.specs.Pieces.{MarkedOrders, Piece, plain, followed_by, with_end}
-use Rattle.cw_gen_expr.specs.ReferenceExpressions.{ConditionPiece, choice_piece, two_values}
+use Rattle.cw_gen_expr.specs.ReferenceExpressions.{ConditionPiece, choice_piece, saved, two_values}
 
 -- a list stands in another from one place to the next one given. No length is named, so that a list is taken apart with the middle
 -- place as it comes
@@ -78,12 +78,19 @@ module _ (code : List Order) (marks : List ℕ) where
       let os = parted code q m.orders (order.Mark ∷ []) next o in
       (os.0, (os.1, k.1), os.2.0, os.2.1, k.0 ∙ ap (λ n. Some n) (ends_at code q m.orders os.0 os.1))
 
-  -- two values, and the orders that take them
-  pub two_made : (a b : Piece) (os : List Order) (q next free last : ℕ) → Made (two_values a b os q free) q next free last → (x : ℕ) × (m : ℕ) × (y : ℕ) × (n : ℕ) × Made (a q free) q x free m × Made (b x m) x y m n × Stands code y os next
+  -- two pieces with a Save between them
+  pub saved_made : (a b : Piece) (q next free last : ℕ) → Made (followed_by a (followed_by saved b) q free) q next free last → (x : ℕ) × (m : ℕ) × Made (a q free) q x free m × (slice_get code x ≡ Some order.Save) × Made (b (x + 1) m) (x + 1) next m last
+  saved_made a b q next free last made =
+      let first = both_made a (followed_by saved b) q next free last made in
+      let save = both_made saved b first.0 next first.1 last first.3 in
+      (first.0, first.1, first.2, save.2.0.0, subst (λ i. Made (b i first.1) i next first.1 last) (sym save.2.0.1) (subst (λ j. Made (b save.0 j) save.0 next j last) (sym save.2.1) save.3))
+
+  -- two values, the first one saved, and the orders that take them
+  pub two_made : (a b : Piece) (os : List Order) (q next free last : ℕ) → Made (two_values a b os q free) q next free last → (x : ℕ) × (m : ℕ) × (y : ℕ) × (n : ℕ) × Made (a q free) q x free m × (slice_get code x ≡ Some order.Save) × Made (b (x + 1) m) (x + 1) y m n × Stands code y os next
   two_made a b os q next free last made =
-      let first = both_made a (followed_by b (plain os)) q next free last made in
-      let second = both_made b (plain os) first.0 next first.1 last first.3 in
-      (first.0, first.1, second.0, second.1, first.2, second.2, second.3.0)
+      let first = saved_made a (followed_by b (plain os)) q next free last made in
+      let second = both_made b (plain os) (first.0 + 1) next first.1 last first.4 in
+      (first.0, first.1, second.0, second.1, first.2, first.3, second.2, second.3.0)
 
   -- one value, and the orders that take it
   pub one_made : (a : Piece) (os : List Order) (q next free last : ℕ) → Made (followed_by a (plain os) q free) q next free last → (x : ℕ) × (m : ℕ) × Made (a q free) q x free m × Stands code x os next

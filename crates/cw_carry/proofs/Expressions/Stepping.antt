@@ -1,6 +1,7 @@
 -- How the orders go on while the source makes a step: by none, by those of an operation, and then over marks and jumps.
 use Rattle.std.proofs.Common.{◌≡◌, ◌≢◌, ◌⊎◌, inl, inr, ℕ, zero, suc, ◌+◌, ◌*◌, ◌<◌, ◌≤◌, ℤ, pos, List, [], ◌∷◌, ◌++◌, length, Bool, true, false, Option, Some, None, refl, sym, ap, ◌∙◌, subst, arith}
 use Rattle.std.specs.Prelude.{slice_get, option_map, IsTrue}
+use Rattle.std.proofs.lemmas.Bool.{false≢true}
 use Rattle.std.proofs.lemmas.Option.{slice_get-map}
 use Rattle.cw_track.specs.Machine.{Machine}
 use Rattle.cw_track.specs.Tracking.{step_budget}
@@ -32,8 +33,8 @@ use Rattle.cw_gen_expr.specs.UnitTables.{tables_of}
 use Rattle.cw_gen_expr.specs.BuiltExpressions.{most_levels}
 use Rattle.cw_gen_expr.proofs.Layers.{expression_size, reference_size, condition_size, argument_size}
 use Rattle.cw_carry.proofs.Expressions.Standing.{Stands}
-use Rattle.cw_carry.proofs.Expressions.Effects.{IsPossible, all_silent, total_weight, total_growth, growth_within, run_orders, Ran, run_through}
-use Rattle.cw_carry.proofs.Expressions.Carried.{Leads, here, past, over as leap, Via, Ready, Places, who_of, CarriedIn, Calls, Together, going, over}
+use Rattle.cw_carry.proofs.Expressions.Effects.{IsPossible, all_silent, total_weight, total_growth, growth_within, OnLine, loaded_through, run_orders, Ran, run_through}
+use Rattle.cw_carry.proofs.Expressions.Carried.{Leads, here, past, over as leap, saved, Via, Ready, Places, who_of, CarriedIn, Calls, Together, going, over}
 
 -- what the orders are made from and run with
 pub record Compiled : Type 1 where
@@ -134,16 +135,16 @@ module _ (c : Compiled) where
     abbrev pub marks : List ℕ
     marks = (c.orders_for u).marks
 
-    abbrev pub Carried : (place line : ℕ) → (ready : Bool) → Work → Type 0
+    abbrev pub Carried : (place : ℕ) → (loaded ready : Bool) → Work → Type 0
     Carried = CarriedIn c.units c.addresses c.limits c.orders_for c.places c.has_words g u (who_of acts)
 
-    abbrev pub Leading : (place line : ℕ) → (ready : Bool) → Work → Type 0
-    Leading q l r k = Via code marks most_levels q (λ x. Carried x l r k)
+    abbrev pub Leading : (place : ℕ) → (loaded ready : Bool) → Work → Type 0
+    Leading q l r k = Via code marks most_levels q l (λ x m. Carried x m r k)
 
-    abbrev pub From : Work → (q l : ℕ) → Words → Type 0
+    abbrev pub From : Work → (q : ℕ) → (l : Bool) → Words → Type 0
     From k q l w = Goes (configuration s k acts w Running) (state g q l bs w Running)
 
-    abbrev pub FromNoting : Work → (q l : ℕ) → Words → Type 0
+    abbrev pub FromNoting : Work → (q : ℕ) → (l : Bool) → Words → Type 0
     FromNoting k q l w = GoesNoting (configuration s k acts w Running) (state g q l bs w Running)
 
     pub order_here : (q : ℕ) (o : Order) → slice_get code q ≡ Some o → order_at target g q ≡ Some o
@@ -156,44 +157,58 @@ module _ (c : Compiled) where
     abbrev pub Seen : Words → Observation × List Begun → Type 0
     Seen w = Unnoted (λ o. o ≡ record { output = w.output; end = Running })
 
-    -- a way over marks and jumps
-    pub walk : (n p q l : ℕ) (w : Words) → Leads code marks n p q → (j : ℕ) × (j ≤ n) × Path (Seen w) B j (state g p l bs w Running) (state g q l bs w Running)
-    walk n p q l w (here e) = (0, (let z : 0 ≤ n = omega arith in z), stay (ap (λ x. state g x l bs w Running) e) refl)
-    walk n p q l w (past h way) =
-        let rest = walk n (p + 1) q l w way in
+    abbrev pub save_cost : Bool → ℕ
+    save_cost true = 1
+    save_cost false = 0
+
+    -- a way over marks, a Save and jumps
+    pub walk : (n p : ℕ) (l : Bool) (q : ℕ) (m : Bool) (w : Words) → Leads code marks n p l q m → (j : ℕ) × (j ≤ n + save_cost l) × Path (Seen w) B j (state g p l bs w Running) (state g q m bs w Running)
+    walk n p l q m w (here e f) = (0, (let z : 0 ≤ n + save_cost l = omega arith in z), stay (ap (λ x. state g x l bs w Running) e ∙ ap (λ x. state g q x bs w Running) f) refl)
+    walk n p l q m w (past h way) =
+        let rest = walk n (p + 1) l q m w way in
         let at_p = order_here p order.Mark h in
         (rest.0, rest.1, move (refl, ap (λ x. started_by x g w) at_p) (ap (λ x. carry_out target x g p l bs w) at_p) (let z : rest.0 ≡ weight_at (order_at target g p) + rest.0 = omega (arith, ap weight_at at_p) in z) rest.2)
-    walk n p q l w (leap {n' = n'} {r = r} {m = mark} h t e way) =
-        let rest = walk n' r q l w way in
+    walk n p l q m w (leap {n' = n'} {r = r} {k = mark} h t e way) =
+        let rest = walk n' r l q m w way in
         let at_p = order_here p (order.Jump mark) h in
-        (suc rest.0, (let z : suc rest.0 ≤ n = omega (arith, rest.1, e) in z), move (refl, ap (λ x. started_by x g w) at_p) (ap (λ x. carry_out target x g p l bs w) at_p ∙ ap (λ o. go_at o g p l bs w w) (mark_here mark r t)) (let z : suc rest.0 ≡ weight_at (order_at target g p) + rest.0 = omega (arith, ap weight_at at_p) in z) rest.2)
+        (suc rest.0, (let z : suc rest.0 ≤ n + save_cost l = omega (arith, rest.1, e) in z), move (refl, ap (λ x. started_by x g w) at_p) (ap (λ x. carry_out target x g p l bs w) at_p ∙ ap (λ o. go_at o g p l bs w w) (mark_here mark r t)) (let z : suc rest.0 ≡ weight_at (order_at target g p) + rest.0 = omega (arith, ap weight_at at_p) in z) rest.2)
+    walk n p false q m w (saved h e way) = absurd (false≢true e)
+    walk n p true q m w (saved h e way) =
+        let rest = walk n (p + 1) false q m w way in
+        let at_p = order_here p order.Save h in
+        (suc rest.0, (let z : suc rest.0 ≤ n + 1 = omega (arith, rest.1) in z), move (refl, ap (λ x. started_by x g w) at_p) (ap (λ x. carry_out target x g p true bs w) at_p) (let z : suc rest.0 ≡ weight_at (order_at target g p) + rest.0 = omega (arith, ap weight_at at_p) in z) rest.2)
+
+    pub within_levels : (j : ℕ) (l : Bool) → j ≤ 64 + save_cost l → j ≤ 65
+    within_levels j true le = le
+    within_levels j false le = omega (arith, le)
 
     module _ (calls : AllCalls s acts bs) where
       -- behind some orders, which show nothing new, or what the source shows after its step, the way goes on to what carries out the work
-      pub lands : (now k : Work) (q p l l' : ℕ) (r : Bool) (w v : Words) (spent : ℕ) → A.step (configuration s now acts w Running) ≡ configuration s k acts v Running → Path (Quiet (shown (configuration s now acts w Running)) (shown (configuration s k acts v Running))) B spent (state g q l bs w Running) (state g p l' bs v Running) → spent ≤ 160 → Ready c.limits.area r v.operands → Leading p l' r k → (0 < spent) ⊎ (work_size k < work_size now) → From now q l w
-      lands now k q p l l' r w v spent e path le ready (x, way, carried) progress =
-          let on = walk most_levels p x l' v way in
+      pub lands : (now k : Work) (q p : ℕ) (l l' r : Bool) (w v : Words) (spent : ℕ) → A.step (configuration s now acts w Running) ≡ configuration s k acts v Running → Path (Quiet (shown (configuration s now acts w Running)) (shown (configuration s k acts v Running))) B spent (state g q l bs w Running) (state g p l' bs v Running) → spent ≤ 159 → Ready c.limits.area r v.operands → Leading p l' r k → (0 < spent) ⊎ (work_size k < work_size now) → From now q l w
+      lands now k q p l l' r w v spent e path le ready (x, m, way, carried) progress =
+          let on = walk most_levels p l' x m v way in
+          let few = within_levels on.0 l' on.1 in
           let before = shown (configuration s now acts w Running) in
           let behind = shown (configuration s k acts v Running) in
-          let all = join (Quiet before behind) B spent on.0 (spent + on.0) (state g q l bs w Running) (state g p l' bs v Running) (state g x l' bs v Running) refl path (weaken (Seen v) (Quiet before behind) B on.0 (state g p l' bs v Running) (state g x l' bs v Running) (λ o h. (inr h.0, h.1)) on.2) in
+          let all = join (Quiet before behind) B spent on.0 (spent + on.0) (state g q l bs w Running) (state g p l' bs v Running) (state g x m bs v Running) refl path (weaken (Seen v) (Quiet before behind) B on.0 (state g p l' bs v Running) (state g x m bs v Running) (λ o h. (inr h.0, h.1)) on.2) in
           record {
             spent = spent + on.0;
-            reached = state g x l' bs v Running;
-            path = subst (λ d. Path (Quiet before (shown d)) B (spent + on.0) (state g q l bs w Running) (state g x l' bs v Running)) (sym e) all;
-            within = (let z : spent + on.0 ≤ 224 = omega (arith, on.1, le) in z);
-            belongs = subst (λ d. Belong d (state g x l' bs v Running)) (sym e) (going u unit_is r ready carried calls);
+            reached = state g x m bs v Running;
+            path = subst (λ d. Path (Quiet before (shown d)) B (spent + on.0) (state g q l bs w Running) (state g x m bs v Running)) (sym e) all;
+            within = (let z : spent + on.0 ≤ 224 = omega (arith, few, le) in z);
+            belongs = subst (λ d. Belong d (state g x m bs v Running)) (sym e) (going u unit_is r ready carried calls);
             progress = Rattle.std.proofs.Common.⊎_elim (λ (h : 0 < spent). inl (let z : 0 < spent + on.0 = omega (arith, h) in z)) (λ (h : work_size k < work_size now). inr (let z : rank (A.step (configuration s now acts w Running)) < work_size now = omega (arith, ap rank e, h) in z)) progress;
           }
 
       -- by no order
-      pub silent : (now k : Work) (q l : ℕ) (r : Bool) (w : Words) → A.step (configuration s now acts w Running) ≡ configuration s k acts w Running → Ready c.limits.area r w.operands → Leading q l r k → work_size k < work_size now → From now q l w
-      silent now k q l r w e ready carried less = lands now k q q l l r w w 0 e (stay refl refl) (let z : 0 ≤ 160 = omega arith in z) ready carried (inr less)
+      pub silent : (now k : Work) (q : ℕ) (l r : Bool) (w : Words) → A.step (configuration s now acts w Running) ≡ configuration s k acts w Running → Ready c.limits.area r w.operands → Leading q l r k → work_size k < work_size now → From now q l w
+      silent now k q l r w e ready carried less = lands now k q q l l r w w 0 e (stay refl refl) (let z : 0 ≤ 159 = omega arith in z) ready carried (inr less)
 
       -- a stop
-      pub stops : (now : Work) (q p l : ℕ) (w v : Words) (kind : StopKind) (line spent : ℕ) → A.step (configuration s now acts w Running) ≡ configuration s now acts w (Stopped kind (g + 1) line) → Path (Seen w) B spent (state g q l bs w Running) (state g p l bs v (Stopped kind (g + 1) line)) → v.output ≡ w.output → spent ≤ 224 → 0 < spent → From now q l w
-      stops now q p l w v kind line spent e path same le some =
+      pub stops : (now : Work) (q p : ℕ) (l m : Bool) (w v : Words) (kind : StopKind) (line spent : ℕ) → A.step (configuration s now acts w Running) ≡ configuration s now acts w (Stopped kind (g + 1) line) → Path (Seen w) B spent (state g q l bs w Running) (state g p m bs v (Stopped kind (g + 1) line)) → v.output ≡ w.output → spent ≤ 224 → 0 < spent → From now q l w
+      stops now q p l m w v kind line spent e path same le some =
           let before = shown (configuration s now acts w Running) in
-          let t = state g p l bs v (Stopped kind (g + 1) line) in
+          let t = state g p m bs v (Stopped kind (g + 1) line) in
           record {
             spent = spent;
             reached = t;
@@ -203,21 +218,20 @@ module _ (c : Compiled) where
             progress = inl some;
           }
 
-      -- the orders of an operation, which do what the source does
-      module _ (now k : Work) (line q next l : ℕ) (os : List Order) (w : Words) (r : Bool) (same : line ≡ l) (stands : Stands code q os next) (quiet : IsTrue (all_silent os)) (light : total_weight os ≤ 160) (some : 0 < total_weight os) (roomy : 2 * length os + stack_words w.operands bs ≤ c.room) where
-        did : (out : Outcome) → A.step (configuration s now acts w Running) ≡ source_after out s line now k acts w → Ran target g bs q next l os w out → ((v : Words) → out ≡ Changed v → Ready c.limits.area r v.operands) → Leading next l r k → IsSane (A.step (configuration s now acts w Running)) → From now q l w
+      -- the orders of an operation, which do what the source does, and stop at its line
+      module _ (now k : Work) (line q next : ℕ) (l m : Bool) (os : List Order) (w : Words) (r : Bool) (stands : Stands code q os next) (quiet : IsTrue (all_silent os)) (at : OnLine line os) (turns : loaded_through os l ≡ Some m) (light : total_weight os ≤ 159) (some : 0 < total_weight os) (roomy : 2 * length os + stack_words w.operands bs ≤ c.room) where
+        did : (out : Outcome) → A.step (configuration s now acts w Running) ≡ source_after out s line now k acts w → Ran target g bs line q next l m os w out → ((v : Words) → out ≡ Changed v → Ready c.limits.area r v.operands) → Leading next m r k → IsSane (A.step (configuration s now acts w Running)) → From now q l w
         did (Changed v) e (path, kept) ready carried sane =
-            lands now k q next l l r w v (total_weight os) e (weaken (Seen w) (Quiet (shown (configuration s now acts w Running)) (shown (configuration s k acts v Running))) B (total_weight os) (state g q l bs w Running) (state g next l bs v Running) (λ o h. (inl h.0, h.1)) path) light (ready v refl) carried (inl some)
-        did (Refused kind) e (n, place, v, positive, le, path, kept) ready carried sane =
-            stops now q place l w v kind line n e
-            (subst (λ x. Path (Seen w) B n (state g q l bs w Running) (state g place l bs v (Stopped kind (g + 1) x))) (sym same) path)
-            kept (let z : n ≤ 224 = omega (arith, le, light) in z) positive
+            lands now k q next l m r w v (total_weight os) e (weaken (Seen w) (Quiet (shown (configuration s now acts w Running)) (shown (configuration s k acts v Running))) B (total_weight os) (state g q l bs w Running) (state g next m bs v Running) (λ o h. (inl h.0, h.1)) path) light (ready v refl) carried (inl some)
+        did (Refused kind) e (n, place, m', v, positive, le, path, kept) ready carried sane =
+            stops now q place l m' w v kind line n e path kept (let z : n ≤ 224 = omega (arith, le, light) in z) positive
         did Impossible e ran ready carried sane = absurd (subst IsSane e sane)
 
+        runs_on : Ran target g bs line q next l m os w (run_orders target g bs os w)
+        runs_on = run_through target g bs code order_here line os q next l m w stands quiet at turns (let z : total_growth os + stack_words w.operands bs ≤ c.room = omega (arith, roomy, growth_within os) in z)
+
         -- by the orders of the operation
-        pub straight : (out : Outcome) → A.step (configuration s now acts w Running) ≡ source_after out s line now k acts w → (IsPossible out → run_orders target g bs os w ≡ out) → ((v : Words) → out ≡ Changed v → Ready c.limits.area r v.operands) → Leading next l r k → IsSane (A.step (configuration s now acts w Running)) → From now q l w
-        straight (Changed v) e runs ready carried sane =
-            did (Changed v) e (subst (Ran target g bs q next l os w) (runs tt) (run_through target g bs code order_here os q next l w stands quiet (let z : total_growth os + stack_words w.operands bs ≤ c.room = omega (arith, roomy, growth_within os) in z))) ready carried sane
-        straight (Refused kind) e runs ready carried sane =
-            did (Refused kind) e (subst (Ran target g bs q next l os w) (runs tt) (run_through target g bs code order_here os q next l w stands quiet (let z : total_growth os + stack_words w.operands bs ≤ c.room = omega (arith, roomy, growth_within os) in z))) ready carried sane
-        straight Impossible e runs ready carried sane = did Impossible e tt ready carried sane
+        pub straight : (out : Outcome) → A.step (configuration s now acts w Running) ≡ source_after out s line now k acts w → (IsPossible out → run_orders target g bs os w ≡ out) → ((v : Words) → out ≡ Changed v → Ready c.limits.area r v.operands) → Leading next m r k → IsSane (A.step (configuration s now acts w Running)) → From now q l w
+        straight (Changed v) e runs ready carried sane = did (Changed v) e (subst (Ran target g bs line q next l m os w) (runs tt) runs_on) ready carried sane
+        straight (Refused kind) e runs ready carried sane = did (Refused kind) e (subst (Ran target g bs line q next l m os w) (runs tt) runs_on) ready carried sane
+        straight Impossible e runs ready carried sane = absurd (subst IsSane e sane)

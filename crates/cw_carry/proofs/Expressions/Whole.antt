@@ -2,7 +2,7 @@
 -- orders tracks the source.
 use Rattle.std.proofs.Common.{◌≡◌, inl, ℕ, suc, ◌+◌, ◌<◌, ◌≤◌, ℤ, List, [], ◌∷◌, length, set, Bool, true, false, Option, Some, None, refl, sym, ap, ap₂, ◌∙◌, subst, arith}
 use Rattle.std.specs.Prelude.{slice_get, IsTrue, nat_lt, option_map}
-use Rattle.std.proofs.lemmas.Bool.{true≢false}
+use Rattle.std.proofs.lemmas.Bool.{true≢false, false≢true}
 use Rattle.std.proofs.lemmas.Option.{slice_get-map}
 use Rattle.cw_track.specs.Tracking.{Tracks}
 use Rattle.cw_track.proofs.Paths.{Path, stay, next as move}
@@ -14,6 +14,7 @@ use Rattle.cw_unit.specs.declared.unit.Proc.{Proc}
 use Rattle.cw_unit.specs.declared.unit.Param.{Param}
 use Rattle.cw_unit.specs.declared.unit.Stmt.{Stmt}
 use Rattle.cw_unit.specs.declared.unit.Dest.{Dest}
+use Rattle.cw_unit.specs.declared.unit.Spot.{out-Spot}
 use Rattle.cw_unit.specs.declared.unit.Target.{Target}
 use Rattle.cw_unit.specs.declared.unit.Target.TheVariants as target_of
 use Rattle.cw_unit.specs.Storage.{layout_of}
@@ -28,15 +29,16 @@ use Rattle.cw_unit.specs.Begun.{Begun, begins}
 use Rattle.cw_order.specs.declared.order.Order.{Order}
 use Rattle.cw_order.specs.declared.order.Order.TheVariants as order
 use Rattle.cw_order.specs.OrderState.{OrderActivation, OrderState, at as state, operand_words, record_words, stack_words, argument_behind, control_at as order_control}
+use Rattle.cw_order.specs.Loading.{loaded_after}
 use Rattle.cw_order.specs.OrderActions.{action_of}
 use Rattle.cw_order.specs.OrderCosts.{weight_of}
 use Rattle.cw_order.specs.OrderMachine.{act, call, next_body as order_next_body, step as order_step}
 use Rattle.cw_order.specs.Starting.{started_by, starts}
 use Rattle.cw_order.specs.FittingWords.{WordsFit, StateFits}
-use Rattle.cw_gen_expr.specs.ReferenceExpressions.{argument_words, control_place, call_order}
+use Rattle.cw_gen_expr.specs.ReferenceExpressions.{at_line, argument_words, control_place, call_order}
 use Rattle.cw_carry.proofs.Expressions.Standing.{Stands}
 use Rattle.cw_carry.proofs.Expressions.Effects.{BeginsNone, effect}
-use Rattle.cw_carry.proofs.Expressions.Carried.{Via, Ready, after_call, who_of, CarriedIn, going, over}
+use Rattle.cw_carry.proofs.Expressions.Carried.{Via, Ready, after_call, answered, takes_index, takes_number, who_of, CarriedIn, going, over}
 use Rattle.cw_gen_expr.specs.ReferenceEntries.{parameters_of}
 use Rattle.cw_carry.proofs.Expressions.Operations.{ItemsStand}
 use Rattle.cw_carry.proofs.Expressions.Stepping.{Compiled, source, target, orders, A, B, AllCalls, Belong, Goes, GoesNoting, quietly, IsSane, work_size, rank}
@@ -53,13 +55,13 @@ use Rattle.cw_carry.proofs.Expressions.Returns.{return_follows, leave_follows}
 module _ (c : Compiled) where
   -- what statements, jumps and loops must do, how each body begins, and where procedures stand
   pub record Rules : Type 0 where
-    pub statement : (t : Moment c) (s : Stmt) (k : Work) (q n levels j l : ℕ) (w : Words) → (c.places (here_in c t) t.unit (who_of t.acts)).StatementAt q s levels n → j + levels ≤ 64 → ((l' : ℕ) → Via (code c t) (marks c t) j n (λ x. At c t x l' false k)) → Facts c t (Run s k) w → StepsNoting c t (Run s k) q l w
-    pub jump : (t : Moment c) (d : Dest) (line q l : ℕ) (w : Words) → (c.places (here_in c t) t.unit (who_of t.acts)).JumpAt q d → line ≡ l → Facts c t (Jump d line) w → JumpSound c t.segment t.acts w d → Steps c t (Jump d line) q l w
-    pub element : (t : Moment c) (i : ℕ) (x : Loop) (k : Work) (q n j l : ℕ) (w : Words) → (c.places (here_in c t) t.unit (who_of t.acts)).ElementAt q i x n → suc j ≤ 64 → x.line ≡ l → ((l' : ℕ) → Via (code c t) (marks c t) j n (λ y. At c t y l' false k)) → Facts c t (Element i x k) w → Steps c t (Element i x k) q l w
-    pub turn : (t : Moment c) (i : ℕ) (x : Loop) (k : Work) (q n j l : ℕ) (w : Words) → (c.places (here_in c t) t.unit (who_of t.acts)).TurnAt q i x n → suc j ≤ 64 → x.line ≡ l → ((l' : ℕ) → Via (code c t) (marks c t) j n (λ y. At c t y l' false k)) → Facts c t (Turn i x k) w → Steps c t (Turn i x k) q l w
-    pub bump : (t : Moment c) (i : ℕ) (x : Loop) (k : Work) (q n j l : ℕ) (w : Words) → (c.places (here_in c t) t.unit (who_of t.acts)).BumpAt q i x n → suc j ≤ 64 → x.line ≡ l → ((l' : ℕ) → Via (code c t) (marks c t) j n (λ y. At c t y l' false k)) → Facts c t (Bump i x k) w → Steps c t (Bump i x k) q l w
-    pub on : (t : Moment c) (x : Loop) (k : Work) (q n j l : ℕ) (w : Words) → (c.places (here_in c t) t.unit (who_of t.acts)).OnAt q x n → suc j ≤ 64 → ((l' : ℕ) → Via (code c t) (marks c t) j n (λ y. At c t y l' false k)) → Facts c t (On x k) w → Steps c t (On x k) q l w
-    pub begins : (g : ℕ) (v : SourceUnit) (l : ℕ) → slice_get c.units g ≡ Some v → CarriedIn c.units c.addresses c.limits c.orders_for c.places c.has_words g v None (c.orders_for v).entry l false (Run v.body Nothing)
+    pub statement : (t : Moment c) (s : Stmt) (k : Work) (q n levels j : ℕ) (w : Words) → (c.places (here_in c t) t.unit (who_of t.acts)).StatementAt q s levels n → j + levels ≤ 64 → Via (code c t) (marks c t) j n false (λ x m. At c t x m false k) → Facts c t (Run s k) w → StepsNoting c t (Run s k) q false w
+    pub jump : (t : Moment c) (d : Dest) (line q : ℕ) (w : Words) → (c.places (here_in c t) t.unit (who_of t.acts)).JumpAt line q d → Facts c t (Jump d line) w → JumpSound c t.segment t.acts w d → Steps c t (Jump d line) q (takes_number d) w
+    pub element : (t : Moment c) (i : ℕ) (x : Loop) (k : Work) (q n j : ℕ) (w : Words) → (c.places (here_in c t) t.unit (who_of t.acts)).ElementAt q i x n → suc j ≤ 64 → Via (code c t) (marks c t) j n false (λ y m. At c t y m false k) → Facts c t (Element i x k) w → Steps c t (Element i x k) q false w
+    pub turn : (t : Moment c) (i : ℕ) (x : Loop) (k : Work) (q n j : ℕ) (w : Words) → (c.places (here_in c t) t.unit (who_of t.acts)).TurnAt q i x n → suc j ≤ 64 → Via (code c t) (marks c t) j n false (λ y m. At c t y m false k) → Facts c t (Turn i x k) w → Steps c t (Turn i x k) q false w
+    pub bump : (t : Moment c) (i : ℕ) (x : Loop) (k : Work) (q n j : ℕ) (w : Words) → (c.places (here_in c t) t.unit (who_of t.acts)).BumpAt q i x n → suc j ≤ 64 → Via (code c t) (marks c t) j n false (λ y m. At c t y m false k) → Facts c t (Bump i x k) w → Steps c t (Bump i x k) q false w
+    pub on : (t : Moment c) (x : Loop) (k : Work) (q n j : ℕ) (w : Words) → (c.places (here_in c t) t.unit (who_of t.acts)).OnAt q x n → suc j ≤ 64 → Via (code c t) (marks c t) j n false (λ y m. At c t y m false k) → Facts c t (On x k) w → Steps c t (On x k) q false w
+    pub begins : (g : ℕ) (v : SourceUnit) → slice_get c.units g ≡ Some v → CarriedIn c.units c.addresses c.limits c.orders_for c.places c.has_words g v None (c.orders_for v).entry false false (Run v.body Nothing)
     pub procedures : (h p : ℕ) (v : SourceUnit) (proc : Proc) → slice_get c.units h ≡ Some v → slice_get v.procs p ≡ Some proc → ProcedureAt c h v p proc
 
   -- ---- the words of the control stack
@@ -103,32 +105,32 @@ module _ (c : Compiled) where
   module _ (rules : Rules) (in_words : c.limits.area ≤ 32768) where
     -- ---- calls
 
-    module _ (t : Moment c) (tg : Target) (line : ℕ) (wanted : Bool) (k : Work) (q n l : ℕ) (w : Words) (o : Order) (call_here : slice_get (code c t) q ≡ Some o) (cheap : weight_of o ≤ 16) (some : 0 < weight_of o) (none_begins : BeginsNone o) (behind : Stands (code c t) (q + 1) (after_call (target_of.Own 0) wanted) n) (same : line ≡ l) (carried : Leads_to c t n l false k) (facts : Facts c t (Enter tg line wanted k) w) (sound : Sound t.segment (Enter tg line wanted k) t.acts w) where
+    module _ (t : Moment c) (tg : Target) (line : ℕ) (wanted : Bool) (k : Work) (q n : ℕ) (w : Words) (o : Order) (call_here : slice_get (code c t) q ≡ Some o) (turn : loaded_after o false ≡ Some false) (cheap : weight_of o ≤ 16) (some : 0 < weight_of o) (none_begins : BeginsNone o) (behind : Stands (code c t) (q + 1) (after_call (target_of.Own 0) wanted) n) (carried : Leads_to c t n wanted false k) (facts : Facts c t (Enter tg line wanted k) w) (sound : Sound t.segment (Enter tg line wanted k) t.acts w) where
       no_procedure : (h p : ℕ) (b : Bool) (r : Option Proc) → r ≡ None → enter_procedure (source c) b r t.segment line h p wanted (Enter tg line wanted k) k t.acts w ≡ configuration t.segment (Enter tg line wanted k) t.acts w Stuck
       no_procedure h p true r e = ap (λ x. enter_procedure (source c) true x t.segment line h p wanted (Enter tg line wanted k) k t.acts w) e
       no_procedure h p false r e = ap (λ x. enter_procedure (source c) false x t.segment line h p wanted (Enter tg line wanted k) k t.acts w) e
 
-      entered : (h p : ℕ) → callee_of (source c) (here_in c t) t.acts tg ≡ Calling h p → act (target c) (action_of (target c) (here_in c t) t.calls_below o) (here_in c t) q l t.calls_below w ≡ call (target c) (Some (ProcedureControl h p)) (here_in c t) q l t.calls_below w → Steps c t (Enter tg line wanted k) q l w
+      entered : (h p : ℕ) → callee_of (source c) (here_in c t) t.acts tg ≡ Calling h p → act (target c) (action_of (target c) (here_in c t) t.calls_below o) (here_in c t) q false t.calls_below w ≡ call (target c) line (Some (ProcedureControl h p)) (here_in c t) q false t.calls_below w → Steps c t (Enter tg line wanted k) q false w
       entered h p callee calls_it = in_unit (slice_get c.units h) refl
         where
           steps : next c t (Enter tg line wanted k) w ≡ enter_step (source c) (Calling h p) t.segment line wanted (Enter tg line wanted k) k t.acts w
           steps = ap (λ x. enter_step (source c) x t.segment line wanted (Enter tg line wanted k) k t.acts w) callee
 
-          lost : Rattle.cw_unit.specs.Configuration.procedure_at (source c) h p ≡ None → Steps c t (Enter tg line wanted k) q l w
+          lost : Rattle.cw_unit.specs.Configuration.procedure_at (source c) h p ≡ None → Steps c t (Enter tg line wanted k) q false w
           lost e = absurd (subst IsSane (steps ∙ no_procedure h p (nat_lt (length t.acts) c.limits.depth) (Rattle.cw_unit.specs.Configuration.procedure_at (source c) h p) e) facts.sane)
 
-          in_procs : (v : SourceUnit) → slice_get c.units h ≡ Some v → (r : Option Proc) → slice_get v.procs p ≡ r → Steps c t (Enter tg line wanted k) q l w
+          in_procs : (v : SourceUnit) → slice_get c.units h ≡ Some v → (r : Option Proc) → slice_get v.procs p ≡ r → Steps c t (Enter tg line wanted k) q false w
           in_procs v v_is None e = lost (ap (λ x. Rattle.cw_unit.specs.Configuration.procedure_in x p) v_is ∙ e)
           in_procs v v_is (Some proc) e =
-              call_follows c t tg line wanted k q n l w h p v proc o v_is e (rules.procedures h p v proc v_is e) call_here cheap some none_begins calls_it steps same behind carried facts (sound.enough tg line wanted k refl h p v proc callee v_is e) (sound.binds t.calls_below h p v t.calls v_is proc e)
+              call_follows c t tg line wanted k q n w h p v proc o v_is e (rules.procedures h p v proc v_is e) call_here turn cheap some none_begins calls_it steps behind carried facts (sound.enough tg line wanted k refl h p v proc callee v_is e) (sound.binds t.calls_below h p v t.calls v_is proc e)
 
-          in_unit : (v : Option SourceUnit) → slice_get c.units h ≡ v → Steps c t (Enter tg line wanted k) q l w
+          in_unit : (v : Option SourceUnit) → slice_get c.units h ≡ v → Steps c t (Enter tg line wanted k) q false w
           in_unit None e = lost (ap (λ x. Rattle.cw_unit.specs.Configuration.procedure_in x p) e)
           in_unit (Some v) e = in_procs v e (slice_get v.procs p) refl
 
       -- what is called, as the orders have it
-      entered_by : (x : Callee) (y : Option Control) → callee_of (source c) (here_in c t) t.acts tg ≡ x → act (target c) (action_of (target c) (here_in c t) t.calls_below o) (here_in c t) q l t.calls_below w ≡ call (target c) y (here_in c t) q l t.calls_below w → ((h p : ℕ) → x ≡ Calling h p → y ≡ Some (ProcedureControl h p)) → (x ≡ Reading → ⊥) → (x ≡ Writing → ⊥) → Steps c t (Enter tg line wanted k) q l w
-      entered_by (Calling h p) y e f g0 r0 r1 = entered h p e (f ∙ ap (λ z. call (target c) z (here_in c t) q l t.calls_below w) (g0 h p refl))
+      entered_by : (x : Callee) (y : Option Control) → callee_of (source c) (here_in c t) t.acts tg ≡ x → act (target c) (action_of (target c) (here_in c t) t.calls_below o) (here_in c t) q false t.calls_below w ≡ call (target c) line y (here_in c t) q false t.calls_below w → ((h p : ℕ) → x ≡ Calling h p → y ≡ Some (ProcedureControl h p)) → (x ≡ Reading → ⊥) → (x ≡ Writing → ⊥) → Steps c t (Enter tg line wanted k) q false w
+      entered_by (Calling h p) y e f g0 r0 r1 = entered h p e (f ∙ ap (λ z. call (target c) line z (here_in c t) q false t.calls_below w) (g0 h p refl))
       entered_by Missing y e f g0 r0 r1 = absurd (subst IsSane (ap (λ x. enter_step (source c) x t.segment line wanted (Enter tg line wanted k) k t.acts w) e) facts.sane)
       entered_by Reading y e f g0 r0 r1 = absurd (r0 refl)
       entered_by Writing y e f g0 r0 r1 = absurd (r1 refl)
@@ -185,37 +187,38 @@ module _ (c : Compiled) where
     special_after j f true = refl
     special_after j f false = refl
 
-    enters : (t : Moment c) (tg : Target) (line : ℕ) (wanted : Bool) (k : Work) (q n l : ℕ) (w : Words) → Stands (code c t) q (call_order (scope c t) tg ∷ after_call tg wanted) n → line ≡ l → Leads_to c t n l false k → Facts c t (Enter tg line wanted k) w → Sound t.segment (Enter tg line wanted k) t.acts w → Steps c t (Enter tg line wanted k) q l w
-    enters t (target_of.Own p) line wanted k q n l w stands same carried facts sound =
-        entered t (target_of.Own p) line wanted k q n l w (order.CallProc p) stands.0 (omega arith) (omega arith) (λ g x. refl) (subst (λ os. Stands (code c t) (q + 1) os n) (own_after p wanted) stands.1) same carried facts sound (here_in c t) p refl refl
-    enters t (target_of.Common d) line wanted k q n l w stands same carried facts sound =
+    enters : (t : Moment c) (tg : Target) (line : ℕ) (wanted : Bool) (k : Work) (q n : ℕ) (w : Words) → Stands (code c t) q (call_order (at_line line (scope c t)) tg ∷ after_call tg wanted) n → IsTrue (answered tg wanted) → Leads_to c t n wanted false k → Facts c t (Enter tg line wanted k) w → Sound t.segment (Enter tg line wanted k) t.acts w → Steps c t (Enter tg line wanted k) q false w
+    enters t (target_of.Own p) line wanted k q n w stands answer carried facts sound =
+        entered t (target_of.Own p) line wanted k q n w (order.CallProc p line) stands.0 refl (omega arith) (omega arith) (λ g x. refl) (subst (λ os. Stands (code c t) (q + 1) os n) (own_after p wanted) stands.1) carried facts sound (here_in c t) p refl refl
+    enters t (target_of.Common d) line wanted k q n w stands answer carried facts sound =
         let x = procedure_of_def (definition_of (source c) (here_in c t) d) in
-        entered_by t (target_of.Common d) line wanted k q n l w (order.CallCommon d) stands.0 (omega arith) (omega arith) (λ g x. refl) (subst (λ os. Stands (code c t) (q + 1) os n) (common_after d wanted) stands.1) same carried facts sound
+        entered_by t (target_of.Common d) line wanted k q n w (order.CallCommon d line) stands.0 refl (omega arith) (omega arith) (λ g x. refl) (subst (λ os. Stands (code c t) (q + 1) os n) (common_after d wanted) stands.1) carried facts sound
         (callee_of_place x) (as_procedure x) refl
-        (ap (λ z. call (target c) (as_procedure (procedure_of_def z)) (here_in c t) q l t.calls_below w) (defined_is c t d))
+        (ap (λ z. call (target c) line (as_procedure (procedure_of_def z)) (here_in c t) q false t.calls_below w) (defined_is c t d))
         (λ h p e. place_is x h p e)
         (λ e. place_no_byte x (reading (callee_of_place x) e))
         (λ e. place_no_byte x (writing (callee_of_place x) e))
-    enters t (target_of.Special j f) line wanted k q n l w stands same carried facts sound =
+    enters t (target_of.Special j f) line wanted k q n w stands answer carried facts sound =
         let at = control_place (scope c t).parameters j in
         by_control (control_at t.acts j) refl
       where
-        by_control : (x : Option Control) → control_at t.acts j ≡ x → Steps c t (Enter (target_of.Special j f) line wanted k) q l w
+        by_control : (x : Option Control) → control_at t.acts j ≡ x → Steps c t (Enter (target_of.Special j f) line wanted k) q false w
         by_control x e =
             let at = control_place (scope c t).parameters j in
-            entered_by t (target_of.Special j f) line wanted k q n l w (order.CallSpecial at) stands.0 (omega arith) (omega arith) (λ g x. refl) (subst (λ os. Stands (code c t) (q + 1) os n) (special_after j f wanted) stands.1) same carried facts sound
+            entered_by t (target_of.Special j f) line wanted k q n w (order.CallSpecial at line) stands.0 refl (omega arith) (omega arith) (λ g x. refl) (subst (λ os. Stands (code c t) (q + 1) os n) (special_after j f wanted) stands.1) carried facts sound
             (callee_of_control x) (order_control t.calls_below at) (ap callee_of_control e) refl
             (λ h p is. control_is c t.segment t.acts t.calls_below t.unit t.unit_is t.calls j (ProcedureControl h p) (e ∙ control_of x h p is))
             (λ is. control_no_byte x (reading (callee_of_control x) is))
             (λ is. control_no_byte x (writing (callee_of_control x) is))
-    enters t target_of.Read line wanted k q n l w stands same carried facts sound = byte_read c t line wanted k q n l w stands same carried facts
-    enters t target_of.Write line wanted k q n l w stands same carried facts sound =
-        byte_written c t line wanted k q n l w.operands w.memory w.input w.output stands carried facts
+    enters t target_of.Read line wanted k q n w stands answer carried facts sound = byte_read c t line wanted k q n w stands carried facts
+    enters t target_of.Write line true k q n w stands answer carried facts sound = absurd (false≢true answer)
+    enters t target_of.Write line false k q n w stands answer carried facts sound =
+        byte_written c t line false k q n w.operands w.memory w.input w.output stands carried facts
 
     -- ---- the end of a body
 
-    ends_at : (s q l : ℕ) (u : SourceUnit) (w : Words) → slice_get c.units s ≡ Some u → slice_get (c.orders_for u).list q ≡ Some order.NextBody → w.operands ≡ [] → Goes c (configuration s Nothing [] w Running) (state s q l [] w Running)
-    ends_at s q l u w unit_is h empty = next_unit (slice_get c.units (s + 1)) refl
+    ends_at : (s q : ℕ) (u : SourceUnit) (w : Words) → slice_get c.units s ≡ Some u → slice_get (c.orders_for u).list q ≡ Some order.NextBody → w.operands ≡ [] → Goes c (configuration s Nothing [] w Running) (state s q false [] w Running)
+    ends_at s q u w unit_is h empty = next_unit (slice_get c.units (s + 1)) refl
       where
         no_hand : Rattle.cw_unit.specs.Words.with_operands w [] ≡ w
         no_hand = ap (λ xs. Rattle.cw_unit.specs.Words.with_operands w xs) (sym empty)
@@ -226,7 +229,7 @@ module _ (c : Compiled) where
         units_are : (v : Option SourceUnit) → slice_get c.units (s + 1) ≡ v → slice_get (target c).units (s + 1) ≡ option_map c.orders_for v
         units_are v e = slice_get-map c.orders_for c.units (s + 1) ∙ ap (option_map c.orders_for) e
 
-        goes_to : (x : Configuration) (y : OrderState) → (A c).step (configuration s Nothing [] w Running) ≡ x → (orders c).step (state s q l [] w Running) ≡ y → Belong c x y → Goes c (configuration s Nothing [] w Running) (state s q l [] w Running)
+        goes_to : (x : Configuration) (y : OrderState) → (A c).step (configuration s Nothing [] w Running) ≡ x → (orders c).step (state s q false [] w Running) ≡ y → Belong c x y → Goes c (configuration s Nothing [] w Running) (state s q false [] w Running)
         goes_to x y e f belongs = record {
           spent = 22;
           reached = y;
@@ -236,15 +239,15 @@ module _ (c : Compiled) where
           progress = inl (let z : 0 < 22 = omega arith in z);
         }
 
-        next_unit : (v : Option SourceUnit) → slice_get c.units (s + 1) ≡ v → Goes c (configuration s Nothing [] w Running) (state s q l [] w Running)
+        next_unit : (v : Option SourceUnit) → slice_get c.units (s + 1) ≡ v → Goes c (configuration s Nothing [] w Running) (state s q false [] w Running)
         next_unit None e =
-            goes_to (configuration s Nothing [] w Ended) (state s q l [] w Ended) (ap (λ x. source_next_body (source c) x s [] w) e)
-            (ap (λ x. Rattle.cw_order.specs.OrderMachine.carry_out (target c) x s q l [] w) at_q ∙ ap (λ x. order_next_body x s q l w) (units_are None e))
+            goes_to (configuration s Nothing [] w Ended) (state s q false [] w Ended) (ap (λ x. source_next_body (source c) x s [] w) e)
+            (ap (λ x. Rattle.cw_order.specs.OrderMachine.carry_out (target c) x s q false [] w) at_q ∙ ap (λ x. order_next_body x s q false w) (units_are None e))
             (over refl refl)
         next_unit (Some v) e =
-            goes_to (configuration (s + 1) (Run v.body Nothing) [] w Running) (state (s + 1) (c.orders_for v).entry 0 [] w Running) (ap (λ x. source_next_body (source c) x s [] w) e)
-            (ap (λ x. Rattle.cw_order.specs.OrderMachine.carry_out (target c) x s q l [] w) at_q ∙ ap (λ x. order_next_body x s q l w) (units_are (Some v) e) ∙ ap (λ x. state (s + 1) (c.orders_for v).entry 0 [] x Running) no_hand)
-            (going v e false tt (rules.begins (s + 1) v 0 e) tt)
+            goes_to (configuration (s + 1) (Run v.body Nothing) [] w Running) (state (s + 1) (c.orders_for v).entry false [] w Running) (ap (λ x. source_next_body (source c) x s [] w) e)
+            (ap (λ x. Rattle.cw_order.specs.OrderMachine.carry_out (target c) x s q false [] w) at_q ∙ ap (λ x. order_next_body x s q false w) (units_are (Some v) e) ∙ ap (λ x. state (s + 1) (c.orders_for v).entry false [] x Running) no_hand)
+            (going v e false tt (rules.begins (s + 1) v e) tt)
 
     -- ---- works that look at the calls
 
@@ -252,26 +255,26 @@ module _ (c : Compiled) where
     IsEmpty [] = Unit {0}
     IsEmpty (a ∷ acts) = ⊥
 
-    nothing_from : (s : ℕ) (acts : List Activation) (bs : List OrderActivation) (u : SourceUnit) (w : Words) (q l : ℕ) → slice_get c.units (segment_of s acts) ≡ Some u → AllCalls c s acts bs → slice_get (c.orders_for u).list q ≡ Some order.NextBody → acts ≡ [] → w.operands ≡ [] → Goes c (configuration s Nothing acts w Running) (state (segment_of s acts) q l bs w Running)
+    nothing_from : (s : ℕ) (acts : List Activation) (bs : List OrderActivation) (u : SourceUnit) (w : Words) (q : ℕ) → slice_get c.units (segment_of s acts) ≡ Some u → AllCalls c s acts bs → slice_get (c.orders_for u).list q ≡ Some order.NextBody → acts ≡ [] → w.operands ≡ [] → Goes c (configuration s Nothing acts w Running) (state (segment_of s acts) q false bs w Running)
     unfolding IsEmpty
-    nothing_from s [] [] u w q l unit_is calls h none empty = ends_at s q l u w unit_is h empty
-    nothing_from s [] (b ∷ bs) u w q l unit_is calls h none empty = absurd calls
-    nothing_from s (a ∷ acts) bs u w q l unit_is calls h none empty = absurd (subst IsEmpty (sym none) tt)
+    nothing_from s [] [] u w q unit_is calls h none empty = ends_at s q u w unit_is h empty
+    nothing_from s [] (b ∷ bs) u w q unit_is calls h none empty = absurd calls
+    nothing_from s (a ∷ acts) bs u w q unit_is calls h none empty = absurd (subst IsEmpty (sym none) tt)
 
     no_caller : (s : ℕ) (hand : List Operand) (now : Work) (w : Words) → IsSane (Rattle.cw_unit.specs.Step.come_back_with hand s now [] w) → ⊥
     no_caller s [] now w h = h
     no_caller s (Word z ∷ rest) now w h = h
     no_caller s (Rattle.cw_unit.specs.Words.Held x ∷ rest) now w h = h
 
-    return_from : (s : ℕ) (acts : List Activation) (bs : List OrderActivation) (u : SourceUnit) (w : Words) (q l : ℕ) → slice_get c.units (segment_of s acts) ≡ Some u → AllCalls c s acts bs → slice_get (c.orders_for u).list q ≡ Some (order.Return (argument_words (parameters_of u (who_of acts))) true) → 24 + stack_words w.operands bs ≤ c.room → IsSane ((A c).step (configuration s Return acts w Running)) → Goes c (configuration s Return acts w Running) (state (segment_of s acts) q l bs w Running)
-    return_from s [] bs u w q l unit_is calls h room sane = absurd (no_caller s w.operands Return w sane)
-    return_from s (a ∷ acts) [] u w q l unit_is calls h room sane = absurd calls
-    return_from s (a ∷ acts) (b ∷ bs) u w q l unit_is calls h room sane = return_follows c s a acts b bs u unit_is calls w q l w.operands refl h room sane
+    return_from : (s : ℕ) (acts : List Activation) (bs : List OrderActivation) (u : SourceUnit) (w : Words) (q : ℕ) → slice_get c.units (segment_of s acts) ≡ Some u → AllCalls c s acts bs → slice_get (c.orders_for u).list q ≡ Some (order.Return (argument_words (parameters_of u (who_of acts))) true) → 24 + stack_words w.operands bs ≤ c.room → IsSane ((A c).step (configuration s Return acts w Running)) → Goes c (configuration s Return acts w Running) (state (segment_of s acts) q true bs w Running)
+    return_from s [] bs u w q unit_is calls h room sane = absurd (no_caller s w.operands Return w sane)
+    return_from s (a ∷ acts) [] u w q unit_is calls h room sane = absurd calls
+    return_from s (a ∷ acts) (b ∷ bs) u w q unit_is calls h room sane = return_follows c s a acts b bs u unit_is calls w q w.operands refl h room sane
 
-    leave_from : (s : ℕ) (acts : List Activation) (bs : List OrderActivation) (u : SourceUnit) (w : Words) (q l : ℕ) → slice_get c.units (segment_of s acts) ≡ Some u → AllCalls c s acts bs → slice_get (c.orders_for u).list q ≡ Some (order.Const 0) → slice_get (c.orders_for u).list (q + 1) ≡ Some (order.Return (argument_words (parameters_of u (who_of acts))) true) → 24 + stack_words w.operands bs ≤ c.room → IsSane ((A c).step (configuration s Leave acts w Running)) → Goes c (configuration s Leave acts w Running) (state (segment_of s acts) q l bs w Running)
-    leave_from s [] bs u w q l unit_is calls zero_at h room sane = absurd sane
-    leave_from s (a ∷ acts) [] u w q l unit_is calls zero_at h room sane = absurd calls
-    leave_from s (a ∷ acts) (b ∷ bs) u w q l unit_is calls zero_at h room sane = leave_follows c s a acts b bs u unit_is calls w q l zero_at h room
+    leave_from : (s : ℕ) (acts : List Activation) (bs : List OrderActivation) (u : SourceUnit) (w : Words) (q : ℕ) → slice_get c.units (segment_of s acts) ≡ Some u → AllCalls c s acts bs → slice_get (c.orders_for u).list q ≡ Some (order.Const 0) → slice_get (c.orders_for u).list (q + 1) ≡ Some (order.Return (argument_words (parameters_of u (who_of acts))) true) → 24 + stack_words w.operands bs ≤ c.room → IsSane ((A c).step (configuration s Leave acts w Running)) → Goes c (configuration s Leave acts w Running) (state (segment_of s acts) q false bs w Running)
+    leave_from s [] bs u w q unit_is calls zero_at h room sane = absurd sane
+    leave_from s (a ∷ acts) [] u w q unit_is calls zero_at h room sane = absurd calls
+    leave_from s (a ∷ acts) (b ∷ bs) u w q unit_is calls zero_at h room sane = leave_follows c s a acts b bs u unit_is calls w q zero_at h room
 
     -- ---- all works
 
@@ -292,40 +295,47 @@ module _ (c : Compiled) where
       unfolding moment
       facts_of k sound = record { fits = fits; room = roomy s w.operands acts bs calls sound.room; sane = sound.sane }
 
-      abbrev Carried : (q l : ℕ) → Bool → Work → Type 0
+      abbrev Carried : (q : ℕ) → (l r : Bool) → Work → Type 0
       Carried q l r k = CarriedIn c.units c.addresses c.limits c.orders_for c.places c.has_words (segment_of s acts) u (who_of acts) q l r k
 
-      goes_on : (k : Work) (q l : ℕ) (r : Bool) → Ready c.limits.area r w.operands → Carried q l r k → Sound s k acts w → GoesNoting c (configuration s k acts w Running) (state (segment_of s acts) q l bs w Running)
+      abbrev Noting : Work → (q : ℕ) → (l : Bool) → Type 0
+      Noting k q l = GoesNoting c (configuration s k acts w Running) (state (segment_of s acts) q l bs w Running)
+
+      -- where the accumulator is as the work has it
+      turned_to : (k : Work) (q : ℕ) (l m : Bool) → l ≡ m → Noting k q m → Noting k q l
+      turned_to k q l m same goes = subst (Noting k q) (sym same) goes
+
+      goes_on : (k : Work) (q : ℕ) (l r : Bool) → Ready c.limits.area r w.operands → Carried q l r k → Sound s k acts w → Noting k q l
       unfolding moment
-      goes_on Nothing q l r ready h sound = let none = sound.ends refl in quietly c (nothing_from s acts bs u w q l unit_is calls h none.0 none.1) refl
-      goes_on (Run st k) q l r ready (n, levels, j, at, le, via) sound = rules.statement (moment (Run st k) sound) st k q n levels j l w at le via (facts_of (Run st k) sound)
+      goes_on Nothing q l r ready (h, same) sound = let none = sound.ends refl in turned_to Nothing q l false same (quietly c (nothing_from s acts bs u w q unit_is calls h none.0 none.1) refl)
+      goes_on (Run st k) q l r ready (n, levels, j, at, le, same, via) sound = turned_to (Run st k) q l false same (rules.statement (moment (Run st k) sound) st k q n levels j w at le via (facts_of (Run st k) sound))
       goes_on (Eval e f line k) q l r ready (n, levels, j, free, last, b, made, le, same, via) sound =
-          quietly c (evaluation_follows c (moment (Eval e f line k) sound) e f line k q n levels j free last l w b made le same via (facts_of (Eval e f line k) sound)) refl
+          turned_to (Eval e f line k) q l false same (quietly c (evaluation_follows c (moment (Eval e f line k) sound) e f line k q n levels j free last w b made le via (facts_of (Eval e f line k) sound)) refl)
       goes_on (Address a line k) q l r ready (n, free, last, b, made, same, carried) sound =
-          quietly c (address_follows c (moment (Address a line k) sound) a line k q n free last l w b made same carried (facts_of (Address a line k) sound)) refl
+          turned_to (Address a line k) q l false same (quietly c (address_follows c (moment (Address a line k) sound) a line k q n free last w b made carried (facts_of (Address a line k) sound)) refl)
       goes_on (FormAt spot line k) q l r ready (n, b, stands, same, carried) sound =
-          quietly c (address_formed c (moment (FormAt spot line k) sound) spot line k q n l w b stands same carried (facts_of (FormAt spot line k) sound)) refl
+          turned_to (FormAt spot line k) q l (takes_index (out-Spot spot)) same (quietly c (address_formed c (moment (FormAt spot line k) sound) spot line k q n w b stands carried (facts_of (FormAt spot line k) sound)) refl)
       goes_on (Do op line k) q l r ready (n, f, stands, same, carried) sound =
-          quietly c (operation c (moment (Do op line k) sound) op line k q n l r w f stands same ready carried (facts_of (Do op line k) sound)) refl
+          turned_to (Do op line k) q l true same (quietly c (operation c (moment (Do op line k) sound) op line k q n r w f stands ready carried (facts_of (Do op line k) sound)) refl)
       goes_on (Test d line pass fail) q l r ready (when, mark, to, n, free, last, b, made, to_is, same, on, at_mark) sound =
-          quietly c (test_follows c (moment (Test d line pass fail) sound) d when line pass fail q l mark to n free last w b made to_is same on at_mark) refl
-      goes_on (Choose op line pass fail) q l r ready (when, mark, to, h, to_is, on, at_mark) sound =
-          quietly c (choice_follows c (moment (Choose op line pass fail) sound) op when line pass fail q l mark to w.operands w.memory w.input w.output h to_is on at_mark sound.sane) refl
-      goes_on (Jump d line) q l r ready (at, same) sound = quietly c (rules.jump (moment (Jump d line) sound) d line q l w at same (facts_of (Jump d line) sound) (sound.jumps d line refl)) refl
+          turned_to (Test d line pass fail) q l false same (quietly c (test_follows c (moment (Test d line pass fail) sound) d when line pass fail q mark to n free last w b made to_is on at_mark) refl)
+      goes_on (Choose op line pass fail) q l r ready (when, mark, to, h, to_is, same, on, at_mark) sound =
+          turned_to (Choose op line pass fail) q l true same (quietly c (choice_follows c (moment (Choose op line pass fail) sound) op when line pass fail q mark to w.operands w.memory w.input w.output h to_is on at_mark sound.sane) refl)
+      goes_on (Jump d line) q l r ready (at, same) sound = turned_to (Jump d line) q l (takes_number d) same (quietly c (rules.jump (moment (Jump d line) sound) d line q w at (facts_of (Jump d line) sound) (sound.jumps d line refl)) refl)
       goes_on (Give a line k) q l r ready (n, free, last, b, made, same, carried) sound =
-          quietly c (argument_follows c (moment (Give a line k) sound) a line k q n free last l w b made same carried (facts_of (Give a line k) sound)) refl
-      goes_on (Enter tg line wanted k) q l r ready (n, stands, same, carried) sound =
-          quietly c (enters (moment (Enter tg line wanted k) sound) tg line wanted k q n l w stands same carried (facts_of (Enter tg line wanted k) sound) sound) refl
-      goes_on Return q l r ready h sound = quietly c (return_from s acts bs u w q l unit_is calls h (roomy s w.operands acts bs calls sound.room) sound.sane) refl
-      goes_on Leave q l r ready h sound = quietly c (leave_from s acts bs u w q l unit_is calls h.0 h.1 (roomy s w.operands acts bs calls sound.room) sound.sane) refl
+          turned_to (Give a line k) q l false same (quietly c (argument_follows c (moment (Give a line k) sound) a line k q n free last w b made carried (facts_of (Give a line k) sound)) refl)
+      goes_on (Enter tg line wanted k) q l r ready (n, stands, answer, same, carried) sound =
+          turned_to (Enter tg line wanted k) q l false same (quietly c (enters (moment (Enter tg line wanted k) sound) tg line wanted k q n w stands answer carried (facts_of (Enter tg line wanted k) sound) sound) refl)
+      goes_on Return q l r ready (h, same) sound = turned_to Return q l true same (quietly c (return_from s acts bs u w q unit_is calls h (roomy s w.operands acts bs calls sound.room) sound.sane) refl)
+      goes_on Leave q l r ready (zero_at, h, same) sound = turned_to Leave q l false same (quietly c (leave_from s acts bs u w q unit_is calls zero_at h (roomy s w.operands acts bs calls sound.room) sound.sane) refl)
       goes_on (KeepAt i x k) q l r ready (n, b, lt, stands, same, carried) sound =
-          quietly c (word_kept c (moment (KeepAt i x k) sound) i x k q n l w b lt stands same carried (facts_of (KeepAt i x k) sound)) refl
+          turned_to (KeepAt i x k) q l true same (quietly c (word_kept c (moment (KeepAt i x k) sound) i x k q n w b lt stands carried (facts_of (KeepAt i x k) sound)) refl)
       goes_on (SetVar x k) q l r ready (n, b, stands, same, carried) sound =
-          quietly c (variable_set c (moment (SetVar x k) sound) x k q n l w b stands same carried (facts_of (SetVar x k) sound)) refl
-      goes_on (Element i x k) q l r ready (n, j, at, le, same, via) sound = quietly c (rules.element (moment (Element i x k) sound) i x k q n j l w at le same via (facts_of (Element i x k) sound)) refl
-      goes_on (Turn i x k) q l r ready (n, j, at, le, same, via) sound = quietly c (rules.turn (moment (Turn i x k) sound) i x k q n j l w at le same via (facts_of (Turn i x k) sound)) refl
-      goes_on (Bump i x k) q l r ready (n, j, at, le, same, via) sound = quietly c (rules.bump (moment (Bump i x k) sound) i x k q n j l w at le same via (facts_of (Bump i x k) sound)) refl
-      goes_on (On x k) q l r ready (n, j, at, le, via) sound = quietly c (rules.on (moment (On x k) sound) x k q n j l w at le via (facts_of (On x k) sound)) refl
+          turned_to (SetVar x k) q l true same (quietly c (variable_set c (moment (SetVar x k) sound) x k q n w b stands carried (facts_of (SetVar x k) sound)) refl)
+      goes_on (Element i x k) q l r ready (n, j, at, le, same, via) sound = turned_to (Element i x k) q l false same (quietly c (rules.element (moment (Element i x k) sound) i x k q n j w at le via (facts_of (Element i x k) sound)) refl)
+      goes_on (Turn i x k) q l r ready (n, j, at, le, same, via) sound = turned_to (Turn i x k) q l false same (quietly c (rules.turn (moment (Turn i x k) sound) i x k q n j w at le via (facts_of (Turn i x k) sound)) refl)
+      goes_on (Bump i x k) q l r ready (n, j, at, le, same, via) sound = turned_to (Bump i x k) q l false same (quietly c (rules.bump (moment (Bump i x k) sound) i x k q n j w at le via (facts_of (Bump i x k) sound)) refl)
+      goes_on (On x k) q l r ready (n, j, at, le, same, via) sound = turned_to (On x k) q l false same (quietly c (rules.on (moment (On x k) sound) x k q n j w at le via (facts_of (On x k) sound)) refl)
 
     -- ---- whole runs
 
@@ -356,7 +366,7 @@ module _ (c : Compiled) where
       agrees x t (going u unit_is r ready carried calls) = refl
       agrees x t (over {e = e} off same) = ap (λ o. record { output = o; end = e }) same
 
-      still : (s : ℕ) (k : Work) (acts : List Activation) (g q l : ℕ) (bs : List OrderActivation) (v w : Words) (e : End) → is_running (record { output = w.output; end = e }) ≡ false → ((A c).step (configuration s k acts w e) ≡ configuration s k acts w e) × ((orders c).step (state g q l bs v e) ≡ state g q l bs v e)
+      still : (s : ℕ) (k : Work) (acts : List Activation) (g q : ℕ) (l : Bool) (bs : List OrderActivation) (v w : Words) (e : End) → is_running (record { output = w.output; end = e }) ≡ false → ((A c).step (configuration s k acts w e) ≡ configuration s k acts w e) × ((orders c).step (state g q l bs v e) ≡ state g q l bs v e)
       still s k acts g q l bs v w Running off = absurd (true≢false off)
       still s k acts g q l bs v w Ended off = (refl, refl)
       still s k acts g q l bs v w (Stopped kind h line) off = (refl, refl)
@@ -373,7 +383,7 @@ module _ (c : Compiled) where
       none-begun s (Run st k) acts w Stuck off = refl
       none-begun s _ acts w e off = refl
 
-      none-started : (g q l : ℕ) (bs : List OrderActivation) (v w : Words) (e : End) → is_running (record { output = w.output; end = e }) ≡ false → starts (target c) (state g q l bs v e) ≡ []
+      none-started : (g q : ℕ) (l : Bool) (bs : List OrderActivation) (v w : Words) (e : End) → is_running (record { output = w.output; end = e }) ≡ false → starts (target c) (state g q l bs v e) ≡ []
       none-started g q l bs v w Running off = absurd (true≢false off)
       none-started g q l bs v w Ended off = refl
       none-started g q l bs v w (Stopped kind h line) off = refl

@@ -1,5 +1,5 @@
 -- Each constant in the orders of statements, procedures and units is a word.
-use Rattle.std.proofs.Common.{◌≡◌, ℕ, zero, suc, ◌+◌, ◌<◌, ◌≤◌, List, [], ◌∷◌, map, true, false, Option, Some, None, sym, ap, ◌∙◌, subst, arith}
+use Rattle.std.proofs.Common.{◌≡◌, ℕ, zero, suc, ◌+◌, ◌<◌, ◌≤◌, List, [], ◌∷◌, ◌++◌, map, true, false, Option, Some, None, sym, ap, ◌∙◌, subst, arith}
 use Rattle.std.specs.Prelude.{slice_get, slice_index_or}
 use Rattle.std.proofs.lemmas.Option.{none-some, slice_get-map}
 use Rattle.cw_unit.specs.declared.layout.Layout.{Layout}
@@ -32,14 +32,14 @@ use Rattle.cw_order.specs.declared.order.Order.TheVariants as order
 use Rattle.cw_order.specs.OrderProgram.{order_in}
 use Rattle.cw_order.specs.FittingWords.{ConstantsFit}
 use Rattle.cw_gen_expr.specs.Pieces.{Piece, plain, followed_by, sequence, with_end, with_labels}
-use Rattle.cw_gen_expr.specs.ReferenceExpressions.{Scope, item_order, store_orders, call_order, argument_piece, reference_of, condition_piece, expression_piece, choice_piece, control_place, argument_words}
+use Rattle.cw_gen_expr.specs.ReferenceExpressions.{Scope, at_line, saved, item_order, store_orders, call_order, argument_piece, reference_of, condition_piece, expression_piece, choice_piece, control_place, argument_words}
 use Rattle.cw_gen_expr.specs.ReferenceEntries.{scope_of, bound_by, bound_in, bound_order, parameter_orders, bind_orders}
 use Rattle.cw_gen_expr.specs.UnitTables.{first_mark}
 use Rattle.cw_gen_expr.proofs.Layers.{total}
-use Rattle.cw_gen_unit.specs.ReferenceStatements.{begin_orders, after_statement_call, own_order, goal_order, jump_piece, with_middle, number_orders, set_orders, bump_orders, turn_piece, while_values, step_values, element_piece, elements_piece, element_ways, ring_piece, statement_piece}
+use Rattle.cw_gen_unit.specs.ReferenceStatements.{begin_orders, after_statement_call, own_order, goal_order, jump_piece, with_middle, keep_orders, number_orders, set_orders, bump_orders, turn_piece, while_values, step_values, element_piece, elements_piece, element_ways, ring_piece, statement_piece}
 use Rattle.cw_gen_unit.specs.ReferenceUnits.{answer_of, entry_orders, leave_orders, procedure_piece, procedures_piece, body_piece, unit_piece, unit_orders, orders_program}
 use Rattle.cw_carry.proofs.Statements.Shapes.{statement_layer, statement-made}
-use Rattle.cw_carry.proofs.Runs.ConstantWords.{IsWord, Fit, together, each, Fits, plain_fit, both_fit, end_fit, item_word, number_word, call_word, choice_fit, value_words, condition_words, reference_words, argument_list_words}
+use Rattle.cw_carry.proofs.Runs.ConstantWords.{IsWord, Fit, together, each, Fits, plain_fit, both_fit, end_fit, item_word, number_word, call_word, choice_fit, save_fit, value_words, condition_words, reference_words, argument_list_words}
 
 -- ---- orders of statements
 
@@ -72,78 +72,78 @@ after_call_fit target.Read = (tt, tt)
 middle_fit : (a b : ℕ → Piece) → Fits (with_end a) → ((k : ℕ) → Fits (b k)) → Fits (with_middle a b)
 middle_fit a b x y place next = both_fit (with_end a) (b next) x (y next) place next
 
-module _ (y : Layout) (item : ℕ) where
+module _ (y : Layout) (line item : ℕ) where
   number_fit : (i : ℕ) → Fit (number_orders y item i)
-  number_fit i = (number_word i, (item_word y item 3, (tt, tt)))
+  number_fit i = (number_word i, (tt, (item_word y item 3, (tt, tt))))
 
-  set_fit : Fit (set_orders y item)
-  set_fit = (item_word y item 0, (tt, tt))
+  set_fit : Fit (set_orders y line item)
+  set_fit = (tt, (item_word y item 0, (tt, tt)))
 
-  bump_fit : Fit (bump_orders y item)
+  bump_fit : Fit (bump_orders y line item)
   bump_fit = (item_word y item 0, (tt, tt))
 
-  turn_fit : (body : ℕ) → Fits (turn_piece y item body)
+  turn_fit : (body : ℕ) → Fits (turn_piece y line item body)
   turn_fit body =
-      end_fit (λ next. plain (item_order y item 0 ∷ order.PutVariable ∷ order.Exhausted next ∷ order.Jump body ∷ []))
+      end_fit (λ next. plain (item_order y item 0 ∷ order.PutVariable line ∷ order.Exhausted next ∷ order.Jump body ∷ []))
       (λ k place next. (item_word y item 0, (tt, (tt, (tt, tt)))))
 
 module _ (s : Scope) where
   while_fit : (item f body next i : ℕ) (e : Expr) (c : Cond) → Fits (while_values s item f body next i e c)
   while_fit item f body next i e c =
       let r3 = followed_by (condition_piece s c false next) (plain (order.Jump body ∷ [])) in
-      let r2 = followed_by (plain (set_orders s.layout item)) r3 in
+      let r2 = followed_by (plain (set_orders s.layout s.line item)) r3 in
       let r1 = followed_by (expression_piece s e f) r2 in
-      both_fit (plain (number_orders s.layout item i)) r1 (plain_fit (number_orders s.layout item i) (number_fit s.layout item i))
+      both_fit (plain (number_orders s.layout item i)) r1 (plain_fit (number_orders s.layout item i) (number_fit s.layout s.line item i))
       (both_fit (expression_piece s e f) r2 (value_words s e f)
-      (both_fit (plain (set_orders s.layout item)) r3 (plain_fit (set_orders s.layout item) (set_fit s.layout item))
+      (both_fit (plain (set_orders s.layout s.line item)) r3 (plain_fit (set_orders s.layout s.line item) (set_fit s.layout s.line item))
       (both_fit (condition_piece s c false next) (plain (order.Jump body ∷ [])) (condition_words s c false next) (plain_fit (order.Jump body ∷ []) (tt, tt)))))
 
   step_fit : (item f turn i : ℕ) (a b d : Expr) → Fits (step_values s item f turn i a b d)
   step_fit item f turn i a b d =
-      let last = item_order s.layout item 2 ∷ order.Store ∷ order.Jump turn ∷ [] in
-      let keep = item_order s.layout item 1 ∷ order.Store ∷ [] in
+      let last = keep_orders s.layout item 2 ++ order.Jump turn ∷ [] in
+      let keep = keep_orders s.layout item 1 in
       let r5 = followed_by (expression_piece s d f) (plain last) in
       let r4 = followed_by (plain keep) r5 in
       let r3 = followed_by (expression_piece s b f) r4 in
-      let r2 = followed_by (plain (set_orders s.layout item)) r3 in
+      let r2 = followed_by (plain (set_orders s.layout s.line item)) r3 in
       let r1 = followed_by (expression_piece s a f) r2 in
-      both_fit (plain (number_orders s.layout item i)) r1 (plain_fit (number_orders s.layout item i) (number_fit s.layout item i))
+      both_fit (plain (number_orders s.layout item i)) r1 (plain_fit (number_orders s.layout item i) (number_fit s.layout s.line item i))
       (both_fit (expression_piece s a f) r2 (value_words s a f)
-      (both_fit (plain (set_orders s.layout item)) r3 (plain_fit (set_orders s.layout item) (set_fit s.layout item))
+      (both_fit (plain (set_orders s.layout s.line item)) r3 (plain_fit (set_orders s.layout s.line item) (set_fit s.layout s.line item))
       (both_fit (expression_piece s b f) r4 (value_words s b f)
-      (both_fit (plain keep) r5 (plain_fit keep (item_word s.layout item 1, (tt, tt)))
-      (both_fit (expression_piece s d f) (plain last) (value_words s d f) (plain_fit last (item_word s.layout item 2, (tt, (tt, tt)))))))))
+      (both_fit (plain keep) r5 (plain_fit keep (tt, (item_word s.layout item 1, (tt, tt))))
+      (both_fit (expression_piece s d f) (plain last) (value_words s d f) (plain_fit last (tt, (item_word s.layout item 2, (tt, (tt, tt))))))))))
 
   element_fit : (item f set body i : ℕ) (e : Felem) → Fits (element_piece s item f set body i e)
   element_fit item f set body i (element.One e) =
       let behind = followed_by (expression_piece s e f) (plain (order.Jump set ∷ [])) in
       end_fit (λ next. followed_by (plain (number_orders s.layout item i)) behind)
-      (λ k. both_fit (plain (number_orders s.layout item i)) behind (plain_fit (number_orders s.layout item i) (number_fit s.layout item i)) (both_fit (expression_piece s e f) (plain (order.Jump set ∷ [])) (value_words s e f) (plain_fit (order.Jump set ∷ []) (tt, tt))))
+      (λ k. both_fit (plain (number_orders s.layout item i)) behind (plain_fit (number_orders s.layout item i) (number_fit s.layout s.line item i)) (both_fit (expression_piece s e f) (plain (order.Jump set ∷ [])) (value_words s e f) (plain_fit (order.Jump set ∷ []) (tt, tt))))
   element_fit item f set body i (element.While e c) =
       middle_fit (λ own. plain []) (λ own. with_end (λ next. while_values s item f body next i e c)) (end_fit (λ own. plain []) (λ k. plain_fit [] tt)) (λ k. end_fit (λ next. while_values s item f body next i e c) (λ m. while_fit item f body m i e c))
   element_fit item f set body i (element.Step a b d) =
       let values = λ (turn : ℕ). with_end (λ bump. step_values s item f turn i a b d) in
-      middle_fit (λ turn. followed_by (values turn) (plain (bump_orders s.layout item))) (λ turn. turn_piece s.layout item body)
-      (end_fit (λ turn. followed_by (values turn) (plain (bump_orders s.layout item))) (λ k. both_fit (values k) (plain (bump_orders s.layout item)) (end_fit (λ bump. step_values s item f k i a b d) (λ m. step_fit item f k i a b d)) (plain_fit (bump_orders s.layout item) (bump_fit s.layout item))))
-      (λ k. turn_fit s.layout item body)
+      middle_fit (λ turn. followed_by (values turn) (plain (bump_orders s.layout s.line item))) (λ turn. turn_piece s.layout s.line item body)
+      (end_fit (λ turn. followed_by (values turn) (plain (bump_orders s.layout s.line item))) (λ k. both_fit (values k) (plain (bump_orders s.layout s.line item)) (end_fit (λ bump. step_values s item f k i a b d) (λ m. step_fit item f k i a b d)) (plain_fit (bump_orders s.layout s.line item) (bump_fit s.layout s.line item))))
+      (λ k. turn_fit s.layout s.line item body)
 
   elements_fit : (item f set body i : ℕ) (es : List Felem) → Fits (elements_piece s item f set body i es)
   elements_fit item f set body i [] = λ place next. tt
   elements_fit item f set body i (e ∷ es) = both_fit (element_piece s item f set body i e) (elements_piece s item f set body (i + 1) es) (element_fit item f set body i e) (elements_fit item f set body (i + 1) es)
 
-  ring_fit : (line item f : ℕ) (es : List Felem) (body : Piece) → Fits body → Fits (ring_piece s line item f es body)
-  ring_fit line item f es body h place next =
+  ring_fit : (item f : ℕ) (es : List Felem) (body : Piece) → Fits body → Fits (ring_piece s item f es body)
+  ring_fit item f es body h place next =
       let ways = element_ways s item f (next + 1 + 1) (next + 1) 1 es place (next + 1 + 1 + 1) in
-      let on = order.Line line ∷ item_order s.layout item 3 ∷ order.Load ∷ order.LoopWay ways ∷ [] in
+      let on = item_order s.layout item 3 ∷ order.Load ∷ order.LoopWay ways ∷ [] in
       let tail = λ (k j i : ℕ). followed_by (elements_piece s item f i j 1 es) (plain (order.Jump k ∷ [])) in
-      let first = λ (k j : ℕ). followed_by (with_end (tail k j)) (plain (set_orders s.layout item)) in
+      let first = λ (k j : ℕ). followed_by (with_end (tail k j)) (plain (set_orders s.layout s.line item)) in
       let second = λ (j : ℕ). followed_by body (plain on) in
       let tail_fit = λ (k j : ℕ). end_fit (tail k j) (λ i. both_fit (elements_piece s item f i j 1 es) (plain (order.Jump k ∷ [])) (elements_fit item f i j 1 es) (plain_fit (order.Jump k ∷ []) (tt, tt))) in
       end_fit (λ k. with_middle (first k) second)
       (λ k.
       middle_fit (first k) second
-      (end_fit (first k) (λ j. both_fit (with_end (tail k j)) (plain (set_orders s.layout item)) (tail_fit k j) (plain_fit (set_orders s.layout item) (set_fit s.layout item))))
-      (λ j. both_fit body (plain on) h (plain_fit on (tt, (item_word s.layout item 3, (tt, (tt, tt)))))))
+      (end_fit (first k) (λ j. both_fit (with_end (tail k j)) (plain (set_orders s.layout s.line item)) (tail_fit k j) (plain_fit (set_orders s.layout s.line item) (set_fit s.layout s.line item))))
+      (λ j. both_fit body (plain on) h (plain_fit on (item_word s.layout item 3, (tt, (tt, tt))))))
       place
       next
 
@@ -165,16 +165,17 @@ depth_layer x = depth_step (map-Stmt Stmt ℕ depth x)
 depth-is : (x : Stmt) → depth x ≡ depth_layer (out-Stmt x)
 depth-is = fold_out-Stmt ℕ depth_step
 
-module _ (s : Scope) (who : Option ℕ) (answer : ℕ) where
-  begun : (line : ℕ) (p : Piece) → Fits p → Fits (followed_by (plain (begin_orders line)) p)
-  begun line p h = both_fit (plain (begin_orders line)) p (plain_fit (begin_orders line) (tt, tt)) h
-
+module _ (s : Scope) (who : Option ℕ) where
   jump_fit : (d : Dest) → Fits (jump_piece s who d)
   jump_fit (dest.Goal g) = λ place next. (goal_word s.unit who g, tt)
   jump_fit (dest.Special k) = λ place next. (tt, tt)
-  jump_fit (dest.Switch n e) = both_fit (expression_piece s e 0) (plain (order.GoSwitch n ∷ [])) (value_words s e 0) (plain_fit (order.GoSwitch n ∷ []) (tt, tt))
-  jump_fit (dest.CommonSwitch d e) = both_fit (expression_piece s e 0) (plain (order.GoSwitchCommon d ∷ [])) (value_words s e 0) (plain_fit (order.GoSwitchCommon d ∷ []) (tt, tt))
-  jump_fit (dest.SpecialSwitch k e) = both_fit (expression_piece s e 0) (plain (order.GoSwitchSpecial (control_place s.parameters k) ∷ [])) (value_words s e 0) (plain_fit (order.GoSwitchSpecial (control_place s.parameters k) ∷ []) (tt, tt))
+  jump_fit (dest.Switch n e) = both_fit (expression_piece s e 0) (plain (order.GoSwitch n s.line ∷ [])) (value_words s e 0) (plain_fit (order.GoSwitch n s.line ∷ []) (tt, tt))
+  jump_fit (dest.CommonSwitch d e) = both_fit (expression_piece s e 0) (plain (order.GoSwitchCommon d s.line ∷ [])) (value_words s e 0) (plain_fit (order.GoSwitchCommon d s.line ∷ []) (tt, tt))
+  jump_fit (dest.SpecialSwitch k e) = both_fit (expression_piece s e 0) (plain (order.GoSwitchSpecial (control_place s.parameters k) s.line ∷ [])) (value_words s e 0) (plain_fit (order.GoSwitchSpecial (control_place s.parameters k) s.line ∷ []) (tt, tt))
+
+module _ (s : Scope) (who : Option ℕ) (answer : ℕ) where
+  begun : (line : ℕ) (p : Piece) → Fits p → Fits (followed_by (plain (begin_orders line)) p)
+  begun line p h = both_fit (plain (begin_orders line)) p (plain_fit (begin_orders line) (tt, tt)) h
 
   abbrev Below : ℕ → Type 0
   Below n = (t : Stmt) → depth t < n → Fits (statement_piece s who answer t)
@@ -186,29 +187,35 @@ module _ (s : Scope) (who : Option ℕ) (answer : ℕ) where
 
   layer_fit : (n : ℕ) → Below n → (x : Stmt-F Stmt) → depth_layer x ≤ n → Fits (statement_layer s who answer x)
   layer_fit n below (statement.Put line r e) le =
-      let behind = followed_by (reference_of s r).address (plain (store_orders (out-Ref r).field)) in
-      begun line (followed_by (expression_piece s e (out-Ref r).f) behind)
-      (both_fit (expression_piece s e (out-Ref r).f) behind (value_words s e (out-Ref r).f) (both_fit (reference_of s r).address (plain (store_orders (out-Ref r).field)) (reference_words s r) (plain_fit (store_orders (out-Ref r).field) (store_fit (out-Ref r).field))))
+      let h = at_line line s in
+      let behind = followed_by (reference_of h r).address (plain (store_orders (out-Ref r).field)) in
+      begun line (followed_by (expression_piece h e (out-Ref r).f) (followed_by saved behind))
+      (both_fit (expression_piece h e (out-Ref r).f) (followed_by saved behind) (value_words h e (out-Ref r).f) (both_fit saved behind save_fit (both_fit (reference_of h r).address (plain (store_orders (out-Ref r).field)) (reference_words h r) (plain_fit (store_orders (out-Ref r).field) (store_fit (out-Ref r).field)))))
   layer_fit n below (statement.PutBits line t b r e) le =
-      let behind = followed_by (reference_of s r).address (plain (order.StorePart t b ∷ [])) in
-      begun line (followed_by (expression_piece s e 0) behind)
-      (both_fit (expression_piece s e 0) behind (value_words s e 0) (both_fit (reference_of s r).address (plain (order.StorePart t b ∷ [])) (reference_words s r) (plain_fit (order.StorePart t b ∷ []) (tt, tt))))
-  layer_fit n below (statement.Go line d) le = begun line (jump_piece s who d) (jump_fit d)
+      let h = at_line line s in
+      let behind = followed_by (reference_of h r).address (plain (order.StorePart t b ∷ [])) in
+      begun line (followed_by (expression_piece h e 0) (followed_by saved behind))
+      (both_fit (expression_piece h e 0) (followed_by saved behind) (value_words h e 0) (both_fit saved behind save_fit (both_fit (reference_of h r).address (plain (order.StorePart t b ∷ [])) (reference_words h r) (plain_fit (order.StorePart t b ∷ []) (tt, tt)))))
+  layer_fit n below (statement.Go line d) le = begun line (jump_piece (at_line line s) who d) (jump_fit (at_line line s) who d)
   layer_fit n below (statement.Call line t args) le =
-      begun line (followed_by (sequence (map (argument_piece s) args)) (plain (call_order s t ∷ after_statement_call t)))
-      (both_fit (sequence (map (argument_piece s) args)) (plain (call_order s t ∷ after_statement_call t)) (argument_list_words s args) (plain_fit (call_order s t ∷ after_statement_call t) (call_word s t, after_call_fit t)))
+      let h = at_line line s in
+      begun line (followed_by (sequence (map (argument_piece h) args)) (plain (call_order h t ∷ after_statement_call t)))
+      (both_fit (sequence (map (argument_piece h) args)) (plain (call_order h t ∷ after_statement_call t)) (argument_list_words h args) (plain_fit (call_order h t ∷ after_statement_call t) (call_word h t, after_call_fit t)))
   layer_fit n below (statement.Answer line e) le =
+      let h = at_line line s in
       let back = order.Return (argument_words s.parameters) true ∷ [] in
-      begun line (followed_by (expression_piece s e answer) (plain back)) (both_fit (expression_piece s e answer) (plain back) (value_words s e answer) (plain_fit back (tt, tt)))
+      begun line (followed_by (expression_piece h e answer) (plain back)) (both_fit (expression_piece h e answer) (plain back) (value_words h e answer) (plain_fit back (tt, tt)))
   layer_fit n below (statement.If line c a b) le =
-      begun line (choice_piece (condition_piece s c) (statement_piece s who answer a) (statement_piece s who answer b))
-      (choice_fit (condition_piece s c) (statement_piece s who answer a) (statement_piece s who answer b) (λ m. condition_words s c false m) (below a (let z : depth a < n = omega (arith, le) in z)) (below b (let z : depth b < n = omega (arith, le) in z)))
+      let h = at_line line s in
+      begun line (choice_piece (condition_piece h c) (statement_piece s who answer a) (statement_piece s who answer b))
+      (choice_fit (condition_piece h c) (statement_piece s who answer a) (statement_piece s who answer b) (λ m. condition_words h c false m) (below a (let z : depth a < n = omega (arith, le) in z)) (below b (let z : depth b < n = omega (arith, le) in z)))
   layer_fit n below (statement.For line item r es t) le =
-      let keep = item_order s.layout item 0 ∷ order.Store ∷ [] in
-      let ring = ring_piece s line item (out-Ref r).f es (statement_piece s who answer t) in
-      begun line (followed_by (reference_of s r).address (followed_by (plain keep) ring))
-      (both_fit (reference_of s r).address (followed_by (plain keep) ring) (reference_words s r)
-      (both_fit (plain keep) ring (plain_fit keep (item_word s.layout item 0, (tt, tt))) (ring_fit s line item (out-Ref r).f es (statement_piece s who answer t) (below t (let z : depth t < n = omega (arith, le) in z)))))
+      let h = at_line line s in
+      let keep = keep_orders s.layout item 0 in
+      let ring = ring_piece h item (out-Ref r).f es (statement_piece s who answer t) in
+      begun line (followed_by (reference_of h r).address (followed_by (plain keep) ring))
+      (both_fit (reference_of h r).address (followed_by (plain keep) ring) (reference_words h r)
+      (both_fit (plain keep) ring (plain_fit keep (tt, (item_word s.layout item 0, (tt, tt)))) (ring_fit h item (out-Ref r).f es (statement_piece s who answer t) (below t (let z : depth t < n = omega (arith, le) in z)))))
   layer_fit n below (statement.Seq ss) le = list_fit n below ss (let z : total (map depth ss) < n = omega (arith, le) in z)
   layer_fit n below (statement.Mark ls t) le = both_fit (with_labels ls) (statement_piece s who answer t) (λ place next. (tt, tt)) (below t (let z : depth t < n = omega (arith, le) in z))
 

@@ -26,7 +26,7 @@ use Rattle.cw_unit.specs.Scales.{answer_scale}
 use Rattle.cw_order.specs.declared.order.Order.{Order}
 use Rattle.cw_order.specs.declared.order.Order.TheVariants as order
 use Rattle.cw_gen_expr.specs.Pieces.{Piece, plain, followed_by, sequence, with_end}
-use Rattle.cw_gen_expr.specs.ReferenceExpressions.{Scope, ConditionPiece, choice_piece, two_values, placed_by, placed_in, item_order, table_orders, bounds_orders, load_orders, rescale_orders, logic_order, number_order, narrow, comparator_for, call_order, label_order, pick_mark, value_of, condition_piece, argument_piece, reference_of, expression_piece}
+use Rattle.cw_gen_expr.specs.ReferenceExpressions.{Scope, ConditionPiece, choice_piece, saved, two_values, placed_by, placed_in, item_order, table_orders, bounds_orders, load_orders, rescale_orders, logic_order, number_order, narrow, comparator_for, call_order, label_order, pick_mark, value_of, condition_piece, argument_piece, reference_of, expression_piece}
 use Rattle.cw_gen_expr.proofs.Layers.{value_layer, value-made, argument_layer, argument-made, spot_layer, spot-made, reference-made, condition_layer, condition-made, total, expression_size, expression-size, expression_size_layer, argument_size, argument-size, argument_size_layer, spot-size, spot_size_layer, reference_size, reference-size, condition_size, condition-size, condition_size_layer}
 
 -- ---- lists of orders, and pieces
@@ -88,12 +88,12 @@ item_word y i n = of_family (slice_get y.families (slice_index_or y.homes i (0, 
 pub number_word : (n : ℕ) → IsWord (number_order n)
 number_word n = let z : n % 65536 < 65536 = omega arith in z
 
-rescale_by : (b : Bool) (from to : ℕ) → Fit (if b then [] else (order.Rescale from to ∷ []))
-rescale_by true from to = tt
-rescale_by false from to = (tt, tt)
+rescale_by : (b : Bool) (line from to : ℕ) → Fit (if b then [] else (order.Rescale from to line ∷ []))
+rescale_by true line from to = tt
+rescale_by false line from to = (tt, tt)
 
-pub rescale_fit : (from to : ℕ) → Fit (rescale_orders from to)
-rescale_fit from to = rescale_by (from == to) from to
+pub rescale_fit : (line from to : ℕ) → Fit (rescale_orders line from to)
+rescale_fit line from to = rescale_by (from == to) line from to
 
 load_fit : (x : Option Field) → Fit (load_orders x)
 load_fit None = (tt, tt)
@@ -104,13 +104,16 @@ logic_word logic.Mask = tt
 logic_word logic.Union = tt
 logic_word logic.Differ = tt
 
-bounds_fit : (b : Bool) (l u : ℤ) → Fit (bounds_orders b l u)
-bounds_fit true l u = (tt, tt)
-bounds_fit false l u = tt
+bounds_fit : (b : Bool) (line : ℕ) (l u : ℤ) → Fit (bounds_orders b line l u)
+bounds_fit true line l u = (tt, tt)
+bounds_fit false line l u = tt
 
-table_fit : (y : Layout) (t : Bool) (i : ℕ) → Fit (table_orders y t i ++ order.IndexAdd ∷ order.InArea ∷ [])
-table_fit y true i = (item_word y i 0, (tt, (tt, (tt, tt))))
-table_fit y false i = (item_word y i 0, (tt, (tt, tt)))
+table_fit : (y : Layout) (line : ℕ) (t : Bool) (i : ℕ) → Fit (table_orders y t i ++ order.IndexAdd line ∷ order.InArea line ∷ [])
+table_fit y line true i = (item_word y i 0, (tt, (tt, (tt, tt))))
+table_fit y line false i = (item_word y i 0, (tt, (tt, tt)))
+
+pub save_fit : Fits saved
+save_fit place next = (tt, tt)
 
 module _ (s : Scope) where
   pub call_word : (t : Target) → IsWord (call_order s t)
@@ -131,30 +134,31 @@ module _ (s : Scope) where
     references : (d : Ref) → reference_size d < n → Fits (reference_of s d).address
 
   module _ (n : ℕ) (b : Below n) where
-    bounded_fit : (e : Expr) (l u : ℤ) → expression_size e < n → Fits (followed_by (expression_piece s e 0) (plain (bounds_orders s.unit.bounds l u)))
-    bounded_fit e l u lt = both_fit (expression_piece s e 0) (plain (bounds_orders s.unit.bounds l u)) (b.values e lt 0) (plain_fit (bounds_orders s.unit.bounds l u) (bounds_fit s.unit.bounds l u))
+    bounded_fit : (e : Expr) (l u : ℤ) → expression_size e < n → Fits (followed_by (expression_piece s e 0) (plain (bounds_orders s.unit.bounds s.line l u)))
+    bounded_fit e l u lt = both_fit (expression_piece s e 0) (plain (bounds_orders s.unit.bounds s.line l u)) (b.values e lt 0) (plain_fit (bounds_orders s.unit.bounds s.line l u) (bounds_fit s.unit.bounds s.line l u))
 
     spot_fit : (x : Spot-F Arg Cond Expr Spot Ref) → spot_size_layer x ≤ n → Fits (spot_layer s x)
     spot_fit (layer.Direct i) le = λ place next. (item_word s.layout i 0, tt)
     spot_fit (layer.Through i) le = λ place next. (item_word s.layout i 0, (tt, (tt, tt)))
     spot_fit (layer.One i l u e) le =
-        both_fit (followed_by (expression_piece s e 0) (plain (bounds_orders s.unit.bounds l u))) (plain (order.IndexLess l ∷ item_order s.layout i 0 ∷ order.IndexAdd ∷ order.InArea ∷ []))
-        (bounded_fit e l u (let z : expression_size e < n = omega (arith, le) in z)) (λ place next. (tt, (item_word s.layout i 0, (tt, (tt, tt)))))
+        both_fit (followed_by (expression_piece s e 0) (plain (bounds_orders s.unit.bounds s.line l u))) (plain (order.IndexLess l s.line ∷ order.Save ∷ item_order s.layout i 0 ∷ order.IndexAdd s.line ∷ order.InArea s.line ∷ []))
+        (bounded_fit e l u (let z : expression_size e < n = omega (arith, le) in z)) (λ place next. (tt, (tt, (item_word s.layout i 0, (tt, (tt, tt))))))
     spot_fit (layer.Two i l1 u1 l2 u2 m e g) le =
-        both_fit (followed_by (followed_by (expression_piece s e 0) (plain (bounds_orders s.unit.bounds l1 u1))) (followed_by (expression_piece s g 0) (plain (bounds_orders s.unit.bounds l2 u2))))
-        (plain (order.IndexLess l2 ∷ order.IndexRow l1 m ∷ item_order s.layout i 0 ∷ order.IndexAdd ∷ order.InArea ∷ []))
-        (both_fit (followed_by (expression_piece s e 0) (plain (bounds_orders s.unit.bounds l1 u1))) (followed_by (expression_piece s g 0) (plain (bounds_orders s.unit.bounds l2 u2)))
-        (bounded_fit e l1 u1 (let z : expression_size e < n = omega (arith, le) in z)) (bounded_fit g l2 u2 (let z : expression_size g < n = omega (arith, le) in z)))
-        (λ place next. (tt, (tt, (item_word s.layout i 0, (tt, (tt, tt))))))
+        let first = followed_by (expression_piece s e 0) (plain (bounds_orders s.unit.bounds s.line l1 u1)) in
+        let second = followed_by (expression_piece s g 0) (plain (bounds_orders s.unit.bounds s.line l2 u2)) in
+        both_fit (followed_by first (followed_by saved second))
+        (plain (order.IndexLess l2 s.line ∷ order.IndexRow l1 m s.line ∷ order.Save ∷ item_order s.layout i 0 ∷ order.IndexAdd s.line ∷ order.InArea s.line ∷ []))
+        (both_fit first (followed_by saved second) (bounded_fit e l1 u1 (let z : expression_size e < n = omega (arith, le) in z)) (both_fit saved second save_fit (bounded_fit g l2 u2 (let z : expression_size g < n = omega (arith, le) in z))))
+        (λ place next. (tt, (tt, (tt, (item_word s.layout i 0, (tt, (tt, tt)))))))
     spot_fit (layer.ParamArray i e) le =
-        both_fit (expression_piece s e 0) (plain (item_order s.layout i 0 ∷ order.Load ∷ order.IndexAdd ∷ order.InArea ∷ [])) (b.values e (let z : expression_size e < n = omega (arith, le) in z) 0) (λ place next. (item_word s.layout i 0, (tt, (tt, (tt, tt)))))
+        both_fit (expression_piece s e 0) (plain (order.Save ∷ item_order s.layout i 0 ∷ order.Load ∷ order.IndexAdd s.line ∷ order.InArea s.line ∷ [])) (b.values e (let z : expression_size e < n = omega (arith, le) in z) 0) (λ place next. (tt, (item_word s.layout i 0, (tt, (tt, (tt, tt))))))
     spot_fit (layer.Word i t m e) le =
-        both_fit (followed_by (expression_piece s e 0) (plain (bounds_orders s.unit.bounds (pos 0) (pos m -ℤ pos 1)))) (plain (table_orders s.layout t i ++ order.IndexAdd ∷ order.InArea ∷ []))
-        (bounded_fit e (pos 0) (pos m -ℤ pos 1) (let z : expression_size e < n = omega (arith, le) in z)) (λ place next. table_fit s.layout t i)
+        both_fit (followed_by (expression_piece s e 0) (plain (bounds_orders s.unit.bounds s.line (pos 0) (pos m -ℤ pos 1)))) (plain (order.Save ∷ (table_orders s.layout t i ++ order.IndexAdd s.line ∷ order.InArea s.line ∷ [])))
+        (bounded_fit e (pos 0) (pos m -ℤ pos 1) (let z : expression_size e < n = omega (arith, le) in z)) (λ place next. (tt, table_fit s.layout s.line t i))
     spot_fit (layer.Elem i t k m q e) le =
-        both_fit (followed_by (expression_piece s e 0) (plain (bounds_orders s.unit.bounds (pos 0) (pos m -ℤ pos 1)))) (plain (order.IndexTimes k ∷ order.IndexPlus q ∷ (table_orders s.layout t i ++ order.IndexAdd ∷ order.InArea ∷ [])))
-        (bounded_fit e (pos 0) (pos m -ℤ pos 1) (let z : expression_size e < n = omega (arith, le) in z)) (λ place next. (tt, (tt, table_fit s.layout t i)))
-    spot_fit (layer.Bare e) le = both_fit (expression_piece s e 0) (plain (order.InArea ∷ [])) (b.values e (let z : expression_size e < n = omega (arith, le) in z) 0) (λ place next. (tt, tt))
+        both_fit (followed_by (expression_piece s e 0) (plain (bounds_orders s.unit.bounds s.line (pos 0) (pos m -ℤ pos 1)))) (plain (order.IndexTimes k s.line ∷ order.IndexPlus q s.line ∷ order.Save ∷ (table_orders s.layout t i ++ order.IndexAdd s.line ∷ order.InArea s.line ∷ [])))
+        (bounded_fit e (pos 0) (pos m -ℤ pos 1) (let z : expression_size e < n = omega (arith, le) in z)) (λ place next. (tt, (tt, (tt, table_fit s.layout s.line t i))))
+    spot_fit (layer.Bare e) le = both_fit (expression_piece s e 0) (plain (order.InArea s.line ∷ [])) (b.values e (let z : expression_size e < n = omega (arith, le) in z) 0) (λ place next. (tt, tt))
 
     reference_fit : (r : Ref) → reference_size r ≤ n → Fits (reference_of s r).address
     reference_fit r le =
@@ -162,7 +166,7 @@ module _ (s : Scope) where
 
     -- two values, and an order behind them
     two_fit : (p q : Piece) (os : List Order) → Fits p → Fits q → Fit os → Fits (two_values p q os)
-    two_fit p q os x y z = both_fit p (followed_by q (plain os)) x (both_fit q (plain os) y (plain_fit os z))
+    two_fit p q os x y z = both_fit p (followed_by saved (followed_by q (plain os))) x (both_fit saved (followed_by q (plain os)) save_fit (both_fit q (plain os) y (plain_fit os z)))
 
     condition_fit : (x : Cond-F Arg Cond Expr Spot Ref) → condition_size_layer x ≤ n → (when : Bool) (mark : ℕ) → Fits (condition_layer s x when mark)
     condition_fit (layer.Cmp op a d) le when mark =
@@ -176,11 +180,11 @@ module _ (s : Scope) where
         (λ k. both_fit (condition_piece s a true (pick_mark when mark k)) (condition_piece s d when mark) (b.conditions a (let z : condition_size a < n = omega (arith, le) in z) true (pick_mark when mark k)) (b.conditions d (let z : condition_size d < n = omega (arith, le) in z) when mark))
 
     argument_fit : (x : Arg-F Arg Cond Expr Spot Ref) → argument_size_layer x ≤ n → Fits (argument_layer s x)
-    argument_fit (layer.Value e f) le = b.values e (let z : expression_size e < n = omega (arith, le) in z) f
-    argument_fit (layer.Place r) le = b.references r (let z : reference_size r < n = omega (arith, le) in z)
-    argument_fit (layer.Array i l) le = λ place next. (item_word s.layout i 0, (tt, tt))
-    argument_fit (layer.Same i) le = λ place next. (item_word s.layout i 0, (tt, tt))
-    argument_fit (layer.Base i) le = λ place next. (item_word s.layout i 0, tt)
+    argument_fit (layer.Value e f) le = both_fit (expression_piece s e f) saved (b.values e (let z : expression_size e < n = omega (arith, le) in z) f) save_fit
+    argument_fit (layer.Place r) le = both_fit (reference_of s r).address saved (b.references r (let z : reference_size r < n = omega (arith, le) in z)) save_fit
+    argument_fit (layer.Array i l) le = λ place next. (item_word s.layout i 0, (tt, (tt, tt)))
+    argument_fit (layer.Same i) le = λ place next. (item_word s.layout i 0, (tt, (tt, tt)))
+    argument_fit (layer.Base i) le = λ place next. (item_word s.layout i 0, (tt, tt))
     argument_fit (layer.Goal g) le = λ place next. (label_word g, tt)
     argument_fit (layer.Switch i) le = λ place next. (tt, tt)
     argument_fit (layer.CommonSwitch i) le = λ place next. (tt, tt)
@@ -195,33 +199,33 @@ module _ (s : Scope) where
 
     value_fit : (x : Expr-F Arg Cond Expr Spot Ref) → expression_size_layer x ≤ n → (f : ℕ) → Fits ((value_layer s x).at f)
     value_fit (layer.Num k) le f = λ place next. (number_word (decimal_floor k.whole k.digits k.places f), tt)
-    value_fit (layer.Const z) le f = λ place next. (number_word (unsigned z), rescale_fit 0 f)
-    value_fit (layer.Text i) le f = λ place next. (item_word s.layout i 0, rescale_fit 0 f)
+    value_fit (layer.Const z) le f = λ place next. (number_word (unsigned z), rescale_fit s.line 0 f)
+    value_fit (layer.Text i) le f = λ place next. (item_word s.layout i 0, rescale_fit s.line 0 f)
     value_fit (layer.Read r) le f =
         let a = reference_of s r in
-        both_fit a.address (plain (load_orders a.field ++ rescale_orders a.scale f)) (b.references r (let z : reference_size r < n = omega (arith, le) in z)) (λ place next. together (load_orders a.field) (rescale_orders a.scale f) (load_fit a.field) (rescale_fit a.scale f))
+        both_fit a.address (plain (load_orders a.field ++ rescale_orders s.line a.scale f)) (b.references r (let z : reference_size r < n = omega (arith, le) in z)) (λ place next. together (load_orders a.field) (rescale_orders s.line a.scale f) (load_fit a.field) (rescale_fit s.line a.scale f))
     value_fit (layer.Call t args) le f =
-        both_fit (sequence (map (argument_piece s) args)) (plain (call_order s t ∷ rescale_orders (answer_scale s.unit t) f)) (arguments_fit args (let z : total (map argument_size args) < n = omega (arith, le) in z)) (λ place next. (call_word t, rescale_fit (answer_scale s.unit t) f))
-    value_fit (layer.Force g e) le f = both_fit (expression_piece s e g) (plain (rescale_orders g f)) (b.values e (let z : expression_size e < n = omega (arith, le) in z) g) (λ place next. rescale_fit g f)
-    value_fit (layer.Locate r) le f = both_fit (reference_of s r).address (plain (rescale_orders 0 f)) (b.references r (let z : reference_size r < n = omega (arith, le) in z)) (λ place next. rescale_fit 0 f)
+        both_fit (sequence (map (argument_piece s) args)) (plain (call_order s t ∷ rescale_orders s.line (answer_scale s.unit t) f)) (arguments_fit args (let z : total (map argument_size args) < n = omega (arith, le) in z)) (λ place next. (call_word t, rescale_fit s.line (answer_scale s.unit t) f))
+    value_fit (layer.Force g e) le f = both_fit (expression_piece s e g) (plain (rescale_orders s.line g f)) (b.values e (let z : expression_size e < n = omega (arith, le) in z) g) (λ place next. rescale_fit s.line g f)
+    value_fit (layer.Locate r) le f = both_fit (reference_of s r).address (plain (rescale_orders s.line 0 f)) (b.references r (let z : reference_size r < n = omega (arith, le) in z)) (λ place next. rescale_fit s.line 0 f)
     value_fit (layer.Bits t d e) le f =
         let g = (value_of s e).operand in
-        both_fit (expression_piece s e g) (plain (order.Take t d ∷ rescale_orders 0 f)) (b.values e (let z : expression_size e < n = omega (arith, le) in z) g) (λ place next. (tt, rescale_fit 0 f))
+        both_fit (expression_piece s e g) (plain (order.Take t d ∷ rescale_orders s.line 0 f)) (b.values e (let z : expression_size e < n = omega (arith, le) in z) g) (λ place next. (tt, rescale_fit s.line 0 f))
     value_fit (layer.Logic op a d) le f =
         let g = (value_of s a).operand in
         let h = (value_of s d).operand in
-        two_fit (expression_piece s a g) (expression_piece s d h) (logic_order op ∷ rescale_orders 0 f) (b.values a (let z : expression_size a < n = omega (arith, le) in z) g) (b.values d (let z : expression_size d < n = omega (arith, le) in z) h) (logic_word op, rescale_fit 0 f)
-    value_fit (layer.Sum a d) le f = two_fit (expression_piece s a f) (expression_piece s d f) (order.Add ∷ []) (b.values a (let z : expression_size a < n = omega (arith, le) in z) f) (b.values d (let z : expression_size d < n = omega (arith, le) in z) f) (tt, tt)
-    value_fit (layer.Less a d) le f = two_fit (expression_piece s a f) (expression_piece s d f) (order.Sub ∷ []) (b.values a (let z : expression_size a < n = omega (arith, le) in z) f) (b.values d (let z : expression_size d < n = omega (arith, le) in z) f) (tt, tt)
-    value_fit (layer.Minus a) le f = both_fit (expression_piece s a f) (plain (order.Neg ∷ [])) (b.values a (let z : expression_size a < n = omega (arith, le) in z) f) (λ place next. (tt, tt))
+        two_fit (expression_piece s a g) (expression_piece s d h) (logic_order op ∷ rescale_orders s.line 0 f) (b.values a (let z : expression_size a < n = omega (arith, le) in z) g) (b.values d (let z : expression_size d < n = omega (arith, le) in z) h) (logic_word op, rescale_fit s.line 0 f)
+    value_fit (layer.Sum a d) le f = two_fit (expression_piece s a f) (expression_piece s d f) (order.Add s.line ∷ []) (b.values a (let z : expression_size a < n = omega (arith, le) in z) f) (b.values d (let z : expression_size d < n = omega (arith, le) in z) f) (tt, tt)
+    value_fit (layer.Less a d) le f = two_fit (expression_piece s a f) (expression_piece s d f) (order.Sub s.line ∷ []) (b.values a (let z : expression_size a < n = omega (arith, le) in z) f) (b.values d (let z : expression_size d < n = omega (arith, le) in z) f) (tt, tt)
+    value_fit (layer.Minus a) le f = both_fit (expression_piece s a f) (plain (order.Neg s.line ∷ [])) (b.values a (let z : expression_size a < n = omega (arith, le) in z) f) (λ place next. (tt, tt))
     value_fit (layer.Times a d) le f =
         let g = (value_of s a).operand in
         let h = (value_of s d).operand in
-        two_fit (expression_piece s a g) (expression_piece s d h) (order.Mul (narrow (pos f -ℤ pos (g + h))) ∷ []) (b.values a (let z : expression_size a < n = omega (arith, le) in z) g) (b.values d (let z : expression_size d < n = omega (arith, le) in z) h) (tt, tt)
+        two_fit (expression_piece s a g) (expression_piece s d h) (order.Mul (narrow (pos f -ℤ pos (g + h))) s.line ∷ []) (b.values a (let z : expression_size a < n = omega (arith, le) in z) g) (b.values d (let z : expression_size d < n = omega (arith, le) in z) h) (tt, tt)
     value_fit (layer.Over a d) le f =
         let g = (value_of s a).operand in
         let h = (value_of s d).operand in
-        two_fit (expression_piece s a g) (expression_piece s d h) (order.Div (narrow (pos (f + h) -ℤ pos g)) ∷ []) (b.values a (let z : expression_size a < n = omega (arith, le) in z) g) (b.values d (let z : expression_size d < n = omega (arith, le) in z) h) (tt, tt)
+        two_fit (expression_piece s a g) (expression_piece s d h) (order.Div (narrow (pos (f + h) -ℤ pos g)) s.line ∷ []) (b.values a (let z : expression_size a < n = omega (arith, le) in z) g) (b.values d (let z : expression_size d < n = omega (arith, le) in z) h) (tt, tt)
     value_fit (layer.Choice k a d) le f =
         choice_fit (condition_piece s k) (expression_piece s a f) (expression_piece s d f) (λ m. b.conditions k (let z : condition_size k < n = omega (arith, le) in z) false m) (b.values a (let z : expression_size a < n = omega (arith, le) in z) f) (b.values d (let z : expression_size d < n = omega (arith, le) in z) f)
 

@@ -1,5 +1,5 @@
 -- The machine of the orders of well-formed units tracks their meaning, at each storage map and limits that suit them.
-use Rattle.std.proofs.Common.{◌≡◌, ◌≢◌, ℕ, zero, suc, ◌+◌, ◌<◌, ◌≤◌, List, [], ◌∷◌, map, IsTrue, Option, Some, None, is_some, refl, sym, ap, ap₂, ◌∙◌, subst, arith}
+use Rattle.std.proofs.Common.{◌≡◌, ◌≢◌, ℕ, zero, suc, ◌+◌, ◌<◌, ◌≤◌, List, [], ◌∷◌, map, IsTrue, Option, Some, None, is_some, refl, sym, ap, ◌∙◌, subst, arith}
 use Rattle.std.specs.Prelude.{All, slice_get}
 use Rattle.std.proofs.lemmas.Option.{none-some, same_Some}
 use Rattle.cw_track.specs.Tracking.{Tracks}
@@ -94,10 +94,11 @@ module _ (us : List SourceUnit) (m : Map) (limits : Limits) (room : ℕ) (suits 
   call-words None q = refl
   call-words (Some u) q = procedure-words (slice_get u.procs q)
 
-  words-are : (xs : List Operand) (acts : List Activation) → held_words (c us m limits room) xs acts ≡ stack_words p xs acts
-  words-are xs [] = hand-words xs
-  words-are xs (a ∷ acts) =
-      ap₂ (λ h n. h + (8 + n)) (hand-words xs) (ap₂ (λ n k. n + k) (call-words (slice_get us a.segment) a.procedure) (words-are a.operands acts))
+  -- a record of the orders takes no more than the source reckons with
+  words-within : (xs : List Operand) (acts : List Activation) → held_words (c us m limits room) xs acts ≤ stack_words p xs acts
+  words-within xs [] = let z : held_words (c us m limits room) xs [] ≤ stack_words p xs [] = omega (arith, hand-words xs) in z
+  words-within xs (a ∷ acts) =
+      let z : held_words (c us m limits room) xs (a ∷ acts) ≤ stack_words p xs (a ∷ acts) = omega (arith, hand-words xs, call-words (slice_get us a.segment) a.procedure, words-within a.operands acts) in z
 
   -- the frame at work is that of the last call
   frame-here : (s : ℕ) (k : Work) (acts : List Activation) (w : Words) (bs : List OrderActivation) → AllCalls (c us m limits room) s acts bs → FramesApart p acts → Coherent p s k acts w → FrameHere us m limits room suits.valid suits.area (segment_of s acts) (who_of acts) (base_of acts) bs
@@ -138,7 +139,7 @@ module _ (us : List SourceUnit) (m : Map) (limits : Limits) (room : ℕ) (suits 
   sound : (s : ℕ) (k : Work) (acts : List Activation) (w : Words) → Coherent p s k acts w → stack_words p w.operands acts + 72 ≤ control_need us limits.depth → FramesApart p acts → IsSane (step p (configuration s k acts w Running)) → Sound (c us m limits room) s k acts w
   sound s k acts w known words apart not_stuck = record {
     sane = not_stuck;
-    room = (let same = words-are w.operands acts in let z : 24 + held_words (c us m limits room) w.operands acts ≤ room = omega (arith, words, suits.has_room, same) in z);
+    room = (let less = words-within w.operands acts in let z : 24 + held_words (c us m limits room) w.operands acts ≤ room = omega (arith, words, suits.has_room, less) in z);
     stand = λ bs u calls u-is.
         let frame = frame-here s k acts w bs calls apart known in
         let put = λ (i n j : ℕ) (x : Words) (h : IsTrue (has_words u (who_of acts) i j)) (lt : n < j). item-put us m limits room suits.valid suits.area (segment_of s acts) u (who_of acts) (base_of acts) bs i n j x u-is frame h lt in

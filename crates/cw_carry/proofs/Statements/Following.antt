@@ -62,12 +62,12 @@ module _ (us : List SourceUnit) (m : Map) (limits : Limits) (room : ℕ) (h : Ha
   abbrev c : Compiled
   c = compiled us m limits room h
 
-  pub begins : (g : ℕ) (v : SourceUnit) (l : ℕ) → slice_get us g ≡ Some v → CarriedIn us m limits unit_orders c.places h g v None 0 l false (Run v.body Nothing)
-  begins g v l is =
+  pub begins : (g : ℕ) (v : SourceUnit) → slice_get us g ≡ Some v → CarriedIn us m limits unit_orders c.places h g v None 0 false false (Run v.body Nothing)
+  begins g v is =
       let all = unit_made v in
       let parts = both_made (unit_orders v).list (unit_orders v).marks (body_piece v) (procedures_piece v 0 v.procs) 0 all.0 (first_mark v) all.1 all.2 in
       let body = body_stands v (unit_orders v).list (unit_orders v).marks parts.0 (first_mark v) parts.1 parts.2 in
-      (body.0, 64, 0, (first_mark v, body.1, built.bodies g v is, body.2), (let z : 0 + 64 ≤ 64 = omega arith in z), λ l'. (body.0, here refl, body.3))
+      (body.0, 64, 0, (first_mark v, body.1, built.bodies g v is, body.2), (let z : 0 + 64 ≤ 64 = omega arith in z), refl, (body.0, false, here refl refl, (body.3, refl)))
 
   -- the parts of the table of marks
   abbrev second_place : SourceUnit → ℕ
@@ -151,7 +151,7 @@ module _ (us : List SourceUnit) (m : Map) (limits : Limits) (room : ℕ) (h : Ha
         let parts = both_made (unit_orders v).list (unit_orders v).marks (body_piece v) (procedures_piece v 0 v.procs) 0 all.0 (first_mark v) all.1 all.2 in
         let body = body_stands v (unit_orders v).list (unit_orders v).marks parts.0 (first_mark v) parts.1 parts.2 in
         let labels = (statement_piece (scope_of v None) None 0 v.body 0 (first_mark v)).labels in
-        let there = body_reaches unit_orders v None (h g v None) label v.body Nothing 0 body.0 (first_mark v) body.1 64 0 (built.bodies g v is) body.2 (let z : 0 + 64 ≤ 64 = omega arith in z) (λ l. (body.0, here refl, body.3)) in
+        let there = body_reaches unit_orders v None (h g v None) label v.body Nothing 0 body.0 (first_mark v) body.1 64 0 (built.bodies g v is) body.2 (let z : 0 + 64 ≤ 64 = omega arith in z) (body.0, false, here refl refl, (body.3, refl)) in
         let at = known unit_orders v None (h g v None) label (place_of label labels) (label_continuation label v.body Nothing) there k k_is in
         record {
           place = at.0;
@@ -162,7 +162,7 @@ module _ (us : List SourceUnit) (m : Map) (limits : Limits) (room : ℕ) (h : Ha
         let each = stands v p proc p_is in
         let st = each.2 in
         let labels = (statement_piece (scope_of v (Some p)) (Some p) (answer_of v (Some p)) proc.body st.start st.free).labels in
-        let there = body_reaches unit_orders v (Some p) (h g v (Some p)) label proc.body Leave st.start st.after st.free st.last 64 0 (built.procedures g p v proc is p_is) st.body (let z : 0 + 64 ≤ 64 = omega arith in z) (λ l. (st.after, here refl, (st.leaves, parameters_here v p proc (unit_orders v).list (st.after + 1) p_is st.returns))) in
+        let there = body_reaches unit_orders v (Some p) (h g v (Some p)) label proc.body Leave st.start st.after st.free st.last 64 0 (built.procedures g p v proc is p_is) st.body (let z : 0 + 64 ≤ 64 = omega arith in z) (st.after, false, here refl refl, (st.leaves, parameters_here v p proc (unit_orders v).list (st.after + 1) p_is st.returns, refl)) in
         let at = known unit_orders v (Some p) (h g v (Some p)) label (place_of label labels) (label_continuation label proc.body Leave) there k k_is in
         record {
           place = at.0;
@@ -183,10 +183,10 @@ module _ (us : List SourceUnit) (m : Map) (limits : Limits) (room : ℕ) (h : Ha
       let body = first us not_empty in
       let w : Words = record { operands = []; memory = initial_memory us m limits.area; input = input; output = [] } in
       let first_work : initial_configuration (source c) input ≡ configuration 0 (Run body.0.body Nothing) [] w Running = ap (λ v. configuration 0 (first_body v) [] w Running) body.1 in
-      let first_place : order_start (target c) (initial_memory us m limits.area) input ≡ state 0 0 0 [] w Running = ap (λ v. state 0 (entry_of v) 0 [] w Running) (slice_get-map unit_orders us 0 ∙ ap (option_map unit_orders) body.1) in
+      let first_place : order_start (target c) (initial_memory us m limits.area) input ≡ state 0 0 false [] w Running = ap (λ v. state 0 (entry_of v) false [] w Running) (slice_get-map unit_orders us 0 ∙ ap (option_map unit_orders) body.1) in
       tracked c (rules c (λ g u who. refl) refl reaches begins procedures) in_words keeps (initial_configuration (source c) input) (order_start (target c) (initial_memory us m limits.area) input)
       (record {
-        belongs = subst (λ x. Rattle.cw_carry.proofs.Expressions.Stepping.Belong c x (order_start (target c) (initial_memory us m limits.area) input)) (sym first_work) (subst (Rattle.cw_carry.proofs.Expressions.Stepping.Belong c (configuration 0 (Run body.0.body Nothing) [] w Running)) (sym first_place) (going body.0 body.1 false tt (begins 0 body.0 0 body.1) tt));
+        belongs = subst (λ x. Rattle.cw_carry.proofs.Expressions.Stepping.Belong c x (order_start (target c) (initial_memory us m limits.area) input)) (sym first_work) (subst (Rattle.cw_carry.proofs.Expressions.Stepping.Belong c (configuration 0 (Run body.0.body Nothing) [] w Running)) (sym first_place) (going body.0 body.1 false tt (begins 0 body.0 body.1) tt));
         sound = sound;
         words_fit = record {
           words = record { operands = All-nil OperandFits; memory = fits; input = bytes };

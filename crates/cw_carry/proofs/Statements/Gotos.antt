@@ -1,5 +1,5 @@
 -- The orders follow the source through GOTO.
-use Rattle.std.proofs.Common.{◌≡◌, ℕ, List, [], ◌∷◌, length, Option, Some, None, refl, sym, ap, ap₂, ◌∙◌, subst, arith}
+use Rattle.std.proofs.Common.{◌≡◌, ℕ, List, [], ◌∷◌, length, true, false, Option, Some, None, refl, sym, ap, ap₂, ◌∙◌, subst, arith}
 use Rattle.std.specs.Prelude.{slice_get}
 use Rattle.std.proofs.lemmas.Option.{none-some, same_Some}
 use Rattle.cw_unit.specs.declared.unit.Unit.{Unit as SourceUnit}
@@ -15,9 +15,9 @@ use Rattle.cw_unit.specs.Step.{label_of_def, label_of_goal, switch_of_def, with_
 use Rattle.cw_order.specs.declared.order.Order.TheVariants as order
 use Rattle.cw_order.specs.OrderState.{OrderActivation}
 use Rattle.cw_order.specs.OrderMachine.{go_to, go_through}
-use Rattle.cw_gen_expr.specs.ReferenceExpressions.{control_place}
+use Rattle.cw_gen_expr.specs.ReferenceExpressions.{at_line, control_place}
 use Rattle.cw_gen_expr.specs.UnitTables.{label_mark}
-use Rattle.cw_carry.proofs.Expressions.Carried.{who_of}
+use Rattle.cw_carry.proofs.Expressions.Carried.{takes_number, who_of}
 use Rattle.cw_carry.proofs.Expressions.Stepping.{Compiled, source, target, AllCalls, IsSane}
 use Rattle.cw_carry.proofs.Expressions.Moments.{Moment, here_in, scope, code, Steps, next, Facts}
 use Rattle.cw_carry.proofs.Expressions.Arguments.{same_length, control_is, defined_is}
@@ -30,7 +30,7 @@ key_of (Some (LabelControl h label owner)) = (h, label, owner)
 key_of _ = (0, 0, 0)
 
 module _ (c : Compiled) where
-  module _ (t : Moment c) (reach : LabelsReach c) (line q l : ℕ) (w : Words) (same : line ≡ l) where
+  module _ (t : Moment c) (reach : LabelsReach c) (line q : ℕ) (w : Words) where
     abbrev who : Option ℕ
     who = who_of t.acts
 
@@ -49,7 +49,7 @@ module _ (c : Compiled) where
     no_calls (a ∷ acts) bs' calls h = absurd (none-some a.procedure (sym h))
 
     -- a label of the unit
-    module _ (label : ℕ) (at_q : slice_get (code c t) q ≡ Some (jump_order (scope c t) who (dest.Goal (goal.Own label)))) (facts : Facts c t (Jump (dest.Goal (goal.Own label)) line) w) (sound : JumpSound c t.segment t.acts w (dest.Goal (goal.Own label))) where
+    module _ (label : ℕ) (at_q : slice_get (code c t) q ≡ Some (jump_order (at_line line (scope c t)) who (dest.Goal (goal.Own label)))) (facts : Facts c t (Jump (dest.Goal (goal.Own label)) line) w) (sound : JumpSound c t.segment t.acts w (dest.Goal (goal.Own label))) where
       abbrev d : Dest
       d = dest.Goal (goal.Own label)
 
@@ -60,35 +60,35 @@ module _ (c : Compiled) where
       unit_is v v_is = same_Some t.unit v (sym t.unit_is ∙ v_is)
 
       -- by the order that the generator chooses
-      by_proc : (a : Option ℕ) (x : Option Label) → who ≡ a → slice_get t.unit.labels label ≡ x → slice_get (code c t) q ≡ Some (own_order a x (label_mark t.unit label)) → Steps c t (Jump d line) q l w
+      by_proc : (a : Option ℕ) (x : Option Label) → who ≡ a → slice_get t.unit.labels label ≡ x → slice_get (code c t) q ≡ Some (own_order a x (label_mark t.unit label)) → Steps c t (Jump d line) q (takes_number d) w
       by_proc None x who_is x_is h =
-          plain_jump c t reach (Jump d line) (order.Jump (label_mark t.unit label)) q l line w h (omega arith) (omega arith) (λ h x. refl) same facts.sane label refl (sound.clean (goal.Own label) refl) refl owned
+          plain_jump c t reach (Jump d line) (order.Jump (label_mark t.unit label)) q false line w h refl (omega arith) (omega arith) (λ h x. refl) facts.sane label refl (sound.clean (goal.Own label) refl) refl owned
           (λ v m v_is m_is none. no_calls t.acts bs t.calls who_is)
       by_proc (Some p) None who_is x_is h =
-          plain_jump c t reach (Jump d line) (order.Jump (label_mark t.unit label)) q l line w h (omega arith) (omega arith) (λ h x. refl) same facts.sane label refl (sound.clean (goal.Own label) refl) refl owned
+          plain_jump c t reach (Jump d line) (order.Jump (label_mark t.unit label)) q false line w h refl (omega arith) (omega arith) (λ h x. refl) facts.sane label refl (sound.clean (goal.Own label) refl) refl owned
           (λ v m v_is m_is none. absurd (none-some m (sym x_is ∙ ap (λ u. slice_get u.labels label) (unit_is v v_is) ∙ m_is)))
       by_proc (Some p) (Some m0) who_is x_is h = by_owner m0.proc refl (h ∙ ap (λ y. Some y) refl)
         where
           same_label : (v : SourceUnit) (m : Label) → slice_get c.units g ≡ Some v → slice_get v.labels label ≡ Some m → m0 ≡ m
           same_label v m v_is m_is = same_Some m0 m (sym x_is ∙ ap (λ u. slice_get u.labels label) (unit_is v v_is) ∙ m_is)
 
-          by_owner : (r : Option ℕ) → m0.proc ≡ r → slice_get (code c t) q ≡ Some (from_procedure (Some m0) (label_mark t.unit label)) → Steps c t (Jump d line) q l w
+          by_owner : (r : Option ℕ) → m0.proc ≡ r → slice_get (code c t) q ≡ Some (from_procedure (Some m0) (label_mark t.unit label)) → Steps c t (Jump d line) q (takes_number d) w
           by_owner None none h' =
-              main_jump c t reach (Jump d line) (order.GoMain (label_mark t.unit label)) q l line w (h' ∙ ap (λ z. Some (elim z [ None ↦ order.GoMain (label_mark t.unit label) | Some r ↦ order.Jump (label_mark t.unit label) ])) none) (omega arith) (omega arith) (λ h x. refl) same facts.sane label refl refl owned
+              main_jump c t reach (Jump d line) (order.GoMain (label_mark t.unit label)) q false line w (h' ∙ ap (λ z. Some (elim z [ None ↦ order.GoMain (label_mark t.unit label) | Some r ↦ order.Jump (label_mark t.unit label) ])) none) refl (omega arith) (omega arith) (λ h x. refl) facts.sane label refl refl owned
               (λ v m p' v_is m_is own. none-some p' (sym none ∙ ap (λ y. y.proc) (same_label v m v_is m_is) ∙ own))
           by_owner (Some r) some_proc h' =
-              plain_jump c t reach (Jump d line) (order.Jump (label_mark t.unit label)) q l line w (h' ∙ ap (λ z. Some (elim z [ None ↦ order.GoMain (label_mark t.unit label) | Some r' ↦ order.Jump (label_mark t.unit label) ])) some_proc) (omega arith) (omega arith) (λ h x. refl) same facts.sane label refl (sound.clean (goal.Own label) refl) refl owned
+              plain_jump c t reach (Jump d line) (order.Jump (label_mark t.unit label)) q false line w (h' ∙ ap (λ z. Some (elim z [ None ↦ order.GoMain (label_mark t.unit label) | Some r' ↦ order.Jump (label_mark t.unit label) ])) some_proc) refl (omega arith) (omega arith) (λ h x. refl) facts.sane label refl (sound.clean (goal.Own label) refl) refl owned
               (λ v m v_is m_is none. absurd (none-some r (sym none ∙ sym (ap (λ y. y.proc) (same_label v m v_is m_is)) ∙ some_proc)))
 
-      own_follows : Steps c t (Jump d line) q l w
+      own_follows : Steps c t (Jump d line) q (takes_number d) w
       own_follows = by_proc who (slice_get t.unit.labels label) refl refl at_q
 
-    pub jump_follows : (d : Dest) → slice_get (code c t) q ≡ Some (jump_order (scope c t) who d) → Facts c t (Jump d line) w → JumpSound c t.segment t.acts w d → Steps c t (Jump d line) q l w
+    pub jump_follows : (d : Dest) → slice_get (code c t) q ≡ Some (jump_order (at_line line (scope c t)) who d) → Facts c t (Jump d line) w → JumpSound c t.segment t.acts w d → Steps c t (Jump d line) q (takes_number d) w
     jump_follows (dest.Goal (goal.Own label)) at_q facts sound = own_follows label at_q facts sound
     jump_follows (dest.Goal (goal.Common d)) at_q facts sound =
-        label_control c t reach (Jump (dest.Goal (goal.Common d)) line) (order.GoCommon d) q l line w at_q (omega arith) (omega arith) (λ h x. refl) same facts.sane
+        label_control c t reach (Jump (dest.Goal (goal.Common d)) line) (order.GoCommon d) q false line w at_q refl (omega arith) (omega arith) (λ h x. refl) facts.sane
         (with_label_owner (length t.acts) (label_of_def (definition_of (source c) g d))) (by_common (label_of_def (definition_of (source c) g d)) refl)
-        (ap₂ (λ m z. go_to (target c) (with_label_owner m (label_of_def z)) g q l bs w) (sym lengths) (defined_is c t d))
+        (ap₂ (λ m z. go_to (target c) (with_label_owner m (label_of_def z)) g q false bs w) (sym lengths) (defined_is c t d))
         (λ h label owner is. of_common (label_of_def (definition_of (source c) g d)) refl h label owner is)
       where
         by_common : (x : Option (ℕ × ℕ)) → label_of_def (definition_of (source c) g d) ≡ x → next c t (Jump (dest.Goal (goal.Common d)) line) w ≡ jump_to_control (source c) (with_label_owner (length t.acts) x) t.segment (Jump (dest.Goal (goal.Common d)) line) t.acts w
@@ -103,37 +103,37 @@ module _ (c : Compiled) where
         at : ℕ
         at = control_place (scope c t).parameters k
 
-        by_control : (x : Option Control) → control_at t.acts k ≡ x → Steps c t (Jump (dest.Special k) line) q l w
+        by_control : (x : Option Control) → control_at t.acts k ≡ x → Steps c t (Jump (dest.Special k) line) q false w
         by_control None e = absurd (subst IsSane (ap (λ x. jump_to_control (source c) x t.segment (Jump (dest.Special k) line) t.acts w) e) facts.sane)
         by_control (Some x) e =
-            label_control c t reach (Jump (dest.Special k) line) (order.GoSpecial at) q l line w at_q (omega arith) (omega arith) (λ h x. refl) same facts.sane (Some x)
+            label_control c t reach (Jump (dest.Special k) line) (order.GoSpecial at) q false line w at_q refl (omega arith) (omega arith) (λ h x. refl) facts.sane (Some x)
             (ap (λ y. jump_to_control (source c) y t.segment (Jump (dest.Special k) line) t.acts w) e)
-            (ap (λ y. go_to (target c) y g q l bs w) (control_is c t.segment t.acts bs t.unit t.unit_is t.calls k x e))
+            (ap (λ y. go_to (target c) y g q false bs w) (control_is c t.segment t.acts bs t.unit t.unit_is t.calls k x e))
             (λ h label owner is. sound.owned h label owner (e ∙ is))
     jump_follows (dest.Switch n e) at_q facts sound =
-        switch_follows c t reach (Jump (dest.Switch n e) line) (order.GoSwitch n) q l line w at_q (omega arith) (omega arith) (λ h x. refl) same facts.sane g n (length t.acts) refl
-        (ap (λ m. go_through (target c) (Some (SwitchControl g n m)) g q l bs w) (sym lengths))
+        switch_follows c t reach (Jump (dest.Switch n e) line) (order.GoSwitch n line) q true line w at_q refl (omega arith) (omega arith) (λ h x. refl) facts.sane g n (length t.acts) refl
+        (ap (λ m. go_through (target c) line (Some (SwitchControl g n m)) g q false bs w) (sym lengths))
         (λ gs x z h label gs_is x_is is. sound.owned h label (length t.acts) (gs, x, z, gs_is, x_is, is, refl))
     jump_follows (dest.CommonSwitch d e) at_q facts sound = by_switch (switch_of_def (definition_of (source c) g d)) refl
       where
-        by_switch : (x : Option (ℕ × ℕ)) → switch_of_def (definition_of (source c) g d) ≡ x → Steps c t (Jump (dest.CommonSwitch d e) line) q l w
+        by_switch : (x : Option (ℕ × ℕ)) → switch_of_def (definition_of (source c) g d) ≡ x → Steps c t (Jump (dest.CommonSwitch d e) line) q true w
         by_switch None is = absurd (subst IsSane (ap (λ z. jump_by_switch (source c) z (length t.acts) t.segment line (Jump (dest.CommonSwitch d e) line) t.acts w) is) facts.sane)
         by_switch (Some y) is =
-            switch_follows c t reach (Jump (dest.CommonSwitch d e) line) (order.GoSwitchCommon d) q l line w at_q (omega arith) (omega arith) (λ h x. refl) same facts.sane y.0 y.1 (length t.acts)
+            switch_follows c t reach (Jump (dest.CommonSwitch d e) line) (order.GoSwitchCommon d line) q true line w at_q refl (omega arith) (omega arith) (λ h x. refl) facts.sane y.0 y.1 (length t.acts)
             (ap (λ z. jump_by_switch (source c) z (length t.acts) t.segment line (Jump (dest.CommonSwitch d e) line) t.acts w) is)
-            (ap₂ (λ m z. go_through (target c) (with_switch_owner m (switch_of_def z)) g q l bs w) (sym lengths) (defined_is c t d) ∙ ap (λ z. go_through (target c) (with_switch_owner (length t.acts) z) g q l bs w) is)
+            (ap₂ (λ m z. go_through (target c) line (with_switch_owner m (switch_of_def z)) g q false bs w) (sym lengths) (defined_is c t d) ∙ ap (λ z. go_through (target c) line (with_switch_owner (length t.acts) z) g q false bs w) is)
             (λ gs x z h label gs_is x_is to_is. sound.owned h label (length t.acts) (y.0, y.1, gs, x, z, is, gs_is, x_is, to_is, refl))
     jump_follows (dest.SpecialSwitch k e) at_q facts sound = by_control (control_at t.acts k) refl
       where
         at : ℕ
         at = control_place (scope c t).parameters k
 
-        by_control : (x : Option Control) → control_at t.acts k ≡ x → Steps c t (Jump (dest.SpecialSwitch k e) line) q l w
+        by_control : (x : Option Control) → control_at t.acts k ≡ x → Steps c t (Jump (dest.SpecialSwitch k e) line) q true w
         by_control None is = absurd (subst IsSane (ap (λ x. jump_by_control (source c) x t.segment line (Jump (dest.SpecialSwitch k e) line) t.acts w) is) facts.sane)
         by_control (Some (LabelControl h label owner)) is = absurd (subst IsSane (ap (λ x. jump_by_control (source c) x t.segment line (Jump (dest.SpecialSwitch k e) line) t.acts w) is) facts.sane)
         by_control (Some (ProcedureControl h p)) is = absurd (subst IsSane (ap (λ x. jump_by_control (source c) x t.segment line (Jump (dest.SpecialSwitch k e) line) t.acts w) is) facts.sane)
         by_control (Some (SwitchControl h0 n0 owner)) is =
-            switch_follows c t reach (Jump (dest.SpecialSwitch k e) line) (order.GoSwitchSpecial at) q l line w at_q (omega arith) (omega arith) (λ h x. refl) same facts.sane h0 n0 owner
+            switch_follows c t reach (Jump (dest.SpecialSwitch k e) line) (order.GoSwitchSpecial at line) q true line w at_q refl (omega arith) (omega arith) (λ h x. refl) facts.sane h0 n0 owner
             (ap (λ x. jump_by_control (source c) x t.segment line (Jump (dest.SpecialSwitch k e) line) t.acts w) is)
-            (ap (λ x. go_through (target c) x g q l bs w) (control_is c t.segment t.acts bs t.unit t.unit_is t.calls k (SwitchControl h0 n0 owner) is))
+            (ap (λ x. go_through (target c) line x g q false bs w) (control_is c t.segment t.acts bs t.unit t.unit_is t.calls k (SwitchControl h0 n0 owner) is))
             (λ gs x z h label gs_is x_is to_is. sound.owned h label owner (h0, n0, gs, x, z, is, gs_is, x_is, to_is))

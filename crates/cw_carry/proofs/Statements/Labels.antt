@@ -14,10 +14,9 @@ use Rattle.cw_unit.specs.Work.{Work, Run, On, run_all, loop_of}
 use Rattle.cw_unit.specs.LabelContinuation.{label_continuation, list_continuation, first_work, work_if, has_label}
 use Rattle.cw_unit.proofs.Continuations.{in-list, in-choice, in-loop, in-mark}
 use Rattle.cw_order.specs.declared.order.Order.{Order}
-use Rattle.cw_order.specs.declared.order.Order.TheVariants as order
 use Rattle.cw_order.specs.declared.order.Orders.{Orders}
 use Rattle.cw_gen_expr.specs.Pieces.{Piece, plain, followed_by, sequence, with_labels}
-use Rattle.cw_gen_expr.specs.ReferenceExpressions.{Scope, item_order, choice_piece, condition_piece, reference_of}
+use Rattle.cw_gen_expr.specs.ReferenceExpressions.{at_line, Scope, choice_piece, condition_piece, reference_of}
 use Rattle.cw_gen_expr.specs.BuiltExpressions.{most_levels, within, is_condition, built_reference}
 use Rattle.cw_gen_expr.proofs.Layers.{total}
 use Rattle.cw_gen_expr.proofs.NoLabels.{value_unlabelled, condition_unlabelled, reference_unlabelled, arguments_unlabelled}
@@ -25,7 +24,7 @@ use Rattle.cw_carry.proofs.Expressions.Standing.{Made, both_made, choice_made}
 use Rattle.cw_carry.proofs.Expressions.Carried.{Leads, here, past, over, Via, CarriesOut}
 use Rattle.cw_gen_expr.specs.ReferenceEntries.{scope_of}
 use Rattle.cw_carry.proofs.Expressions.Moments.{both}
-use Rattle.cw_gen_unit.specs.ReferenceStatements.{begin_orders, jump_piece, ring_piece, statement_piece}
+use Rattle.cw_gen_unit.specs.ReferenceStatements.{keep_orders, begin_orders, jump_piece, ring_piece, statement_piece}
 use Rattle.cw_gen_unit.specs.BuiltStatements.{all_within, is_statement, are_elements}
 use Rattle.cw_carry.proofs.Statements.Shapes.{statement_layer, statement-made, built_layer, statement-built}
 use Rattle.cw_carry.proofs.Statements.Sites.{sites}
@@ -110,9 +109,9 @@ module _ (orders_for : SourceUnit → Orders) (u : SourceUnit) (who : Option ℕ
   abbrev good : Stmt → ℕ → Bool
   good = is_statement u has_words who answer
 
-  -- what follows a statement, whatever the line
+  -- what follows a statement
   abbrev pub After : (jumps next : ℕ) → Work → Type 0
-  After n next k = (l : ℕ) → Via code marks n next (λ x. CarriesOut (sites orders_for u who has_words) code marks scope has_words x l false k)
+  After n next k = Via code marks n next false (λ x m. CarriesOut (sites orders_for u who has_words) code marks scope has_words x m false k)
 
   -- a place for a label and the label's continuation, or neither
   abbrev pub Reaches : Option ℕ → Option Work → Type 0
@@ -139,7 +138,7 @@ module _ (orders_for : SourceUnit → Orders) (u : SourceUnit) (who : Option ℕ
   row_carried (s ∷ ss) k q next free last levels n b made le after =
       let bs = both (good s levels) (all_within u has_words who answer levels (map good ss)) b in
       let parts = both_made code marks (piece s) (sequence (map piece ss)) q next free last made in
-      λ l. (q, here refl, (parts.0, levels, n, (free, parts.1, bs.0, parts.2), le, row_carried ss k parts.0 next parts.1 last levels n bs.1 parts.3 le after))
+      (q, false, here refl refl, (parts.0, levels, n, (free, parts.1, bs.0, parts.2), le, refl, row_carried ss k parts.0 next parts.1 last levels n bs.1 parts.3 le after))
 
   abbrev Below : ℕ → Type 0
   Below size = (s : Stmt) (k : Work) (q next free last levels n : ℕ) → depth s < size → IsTrue (good s levels) → Made code marks (piece s q free) q next free last → n + levels ≤ most_levels → After n next k → Reaches (place_of label (piece s q free).labels) (label_continuation label s k)
@@ -170,13 +169,13 @@ module _ (orders_for : SourceUnit → Orders) (u : SourceUnit) (who : Option ℕ
         let tests = both (is_condition u has_words c) (within levels (good a) && good b levels) built in
         let branches = both (within levels (good a)) (good b levels) tests.1 in
         let level = a_level levels (good a) branches.0 in
-        let at = begun line (choice_piece (condition_piece scope c) (piece a) (piece b)) q next free last made in
-        let ch = choice_made code marks (condition_piece scope c) (piece a) (piece b) at.0 next at.1 last at.2 in
-        let end : After n ch.end k = λ l. let v = after l in (v.0, past ch.end_marks (subst (λ x. Leads code marks n x v.0) (sym ch.next_is) v.1), v.2) in
-        let behind_first : After (suc n) ch.jump k = λ l. let v = end l in (v.0, over ch.jumps ch.end_is refl v.1, v.2) in
+        let at = begun line (choice_piece (condition_piece (at_line line scope) c) (piece a) (piece b)) q next free last made in
+        let ch = choice_made code marks (condition_piece (at_line line scope) c) (piece a) (piece b) at.0 next at.1 last at.2 in
+        let end : After n ch.end k = (after.0, after.1, past ch.end_marks (subst (λ x. Leads code marks n x false after.0 after.1) (sym ch.next_is) after.2), after.3) in
+        let behind_first : After (suc n) ch.jump k = (end.0, end.1, over ch.jumps ch.end_is refl end.2, end.3) in
         let va = (piece a ch.first ch.first_free).labels in
         let vb = (piece b ch.second ch.second_free).labels in
-        let labels = at.3 ∙ ch.labels ∙ ap (λ l. l ++ vb) (ap (λ l. l ++ (va ++ [])) (condition_unlabelled scope c false (at.1 + 1) at.0 (at.1 + 1 + 1)) ∙ append-nil va) in
+        let labels = at.3 ∙ ch.labels ∙ ap (λ l. l ++ vb) (ap (λ l. l ++ (va ++ [])) (condition_unlabelled (at_line line scope) c false (at.1 + 1) at.0 (at.1 + 1 + 1)) ∙ append-nil va) in
         subst (λ t. Reaches (place_of label (statement_layer scope who answer (statement.If line c a b) q free).labels) (label_continuation label t k)) (sym (stmt.rolls-If line c a b))
         (subst (Reaches (place_of label (statement_layer scope who answer (statement.If line c a b) q free).labels)) (sym (in-choice label line c a b k))
         (subst (λ o. Reaches o (first_work (label_continuation label a k) (label_continuation label b k))) (sym (ap (place_of label) labels ∙ place_in_both label va vb))
@@ -193,19 +192,19 @@ module _ (orders_for : SourceUnit → Orders) (u : SourceUnit) (who : Option ℕ
         let b4 = both (are_elements u has_words who answer f es) (within levels (λ m. true) && good s most_levels) b3.1 in
         let b5 = both (within levels (λ m. true)) (good s most_levels) b4.1 in
         let level = a_level levels (λ m. true) b5.0 in
-        let keep = item_order scope.layout item 0 ∷ order.Store ∷ [] in
-        let ring = ring_piece scope line item f es (piece s) in
-        let at = begun line (followed_by (reference_of scope r).address (followed_by (plain keep) ring)) q next free last made in
-        let address = both_made code marks (reference_of scope r).address (followed_by (plain keep) ring) at.0 next at.1 last at.2 in
+        let keep = keep_orders scope.layout item 0 in
+        let ring = ring_piece (at_line line scope) item f es (piece s) in
+        let at = begun line (followed_by (reference_of (at_line line scope) r).address (followed_by (plain keep) ring)) q next free last made in
+        let address = both_made code marks (reference_of (at_line line scope) r).address (followed_by (plain keep) ring) at.0 next at.1 last at.2 in
         let kept = both_made code marks (plain keep) ring address.0 next address.1 last address.3 in
         let whole = ring_whole orders_for u who has_words line item r es s kept.0 next kept.1 last b2.0 (ltb-true (length es) 32767 b3.0) b4.0 b5.1 kept.3 in
         let site = whole.0 in
         let x = loop_of line item r es s in
         subst (λ t. Reaches (place_of label (statement_layer scope who answer (statement.For line item r es s) q free).labels) (label_continuation label t k)) (sym (stmt.rolls-For line item r es s))
         (subst (Reaches (place_of label (statement_layer scope who answer (statement.For line item r es s) q free).labels)) (sym (in-loop label line item r es s k))
-        (subst (λ ls. Reaches (place_of label ls) (label_continuation label s (On x k))) (sym (at.3 ∙ address.4 ∙ ap₂ (λ l m. l ++ m) (reference_unlabelled scope r at.0 at.1) (kept.4 ∙ whole.2)))
+        (subst (λ ls. Reaches (place_of label ls) (label_continuation label s (On x k))) (sym (at.3 ∙ address.4 ∙ ap₂ (λ l m. l ++ m) (reference_unlabelled (at_line line scope) r at.0 at.1) (kept.4 ∙ whole.2)))
         (below s (On x k) (site.head + 1) site.on site.body_at.0 site.body_at.1 64 0 small site.body_at.2 site.body_at.3 (let l : 0 + 64 ≤ most_levels = omega arith in l)
-        (λ l. (site.on, here refl, (next, n, (site, refl), (let v : suc n ≤ most_levels = omega (arith, le, level.1) in v), after))))))
+        (site.on, false, here refl refl, (next, n, (site, refl), (let v : suc n ≤ most_levels = omega (arith, le, level.1) in v), refl, after)))))
 
     marked_reached : (ls : List ℕ) (t : Stmt) → depth t < size → IsTrue (built_layer u has_words who answer (statement.Mark ls t) levels) → Made code marks (statement_layer scope who answer (statement.Mark ls t) q free) q next free last → Reached (statement.Mark ls t) k q free
     marked_reached ls t small b made =
@@ -216,25 +215,25 @@ module _ (orders_for : SourceUnit → Orders) (u : SourceUnit) (who : Option ℕ
         (subst (Reaches (place_of label (statement_layer scope who answer (statement.Mark ls t) q free).labels)) (sym (in-mark label ls t k))
         (subst (λ o. Reaches o (work_if (has_label label ls) (Run t k) (label_continuation label t k))) (sym places)
         (if_reaches (has_label label ls) q (place_of label vt) (Run t k) (label_continuation label t k)
-        (λ l. (parts.0, past parts.2.0.0 (here parts.2.0.1), (next, levels, n, (parts.1, last, b, parts.3), le, after)))
+        (parts.0, false, past parts.2.0.0 (here parts.2.0.1 refl), (next, levels, n, (parts.1, last, b, parts.3), le, refl, after))
         (below t k parts.0 next parts.1 last levels n small b parts.3 le after))))
 
     layer_reaches : (x : Stmt-F Stmt) → depth_layer x ≤ size → IsTrue (built_layer u has_words who answer x levels) → Made code marks (statement_layer scope who answer x q free) q next free last → Reached x k q free
     layer_reaches (statement.Put line r e) small b made =
         subst (λ t. Reaches (place_of label (statement_layer scope who answer (statement.Put line r e) q free).labels) (label_continuation label t k)) (sym (stmt.rolls-Put line r e))
-        (none_reached (statement_layer scope who answer (statement.Put line r e) q free).labels (nothing (value_unlabelled scope e _ _ _) (nothing (reference_unlabelled scope r _ _) refl)))
+        (none_reached (statement_layer scope who answer (statement.Put line r e) q free).labels (nothing (value_unlabelled (at_line line scope) e _ _ _) (nothing (reference_unlabelled (at_line line scope) r _ _) refl)))
     layer_reaches (statement.PutBits line d w r e) small b made =
         subst (λ t. Reaches (place_of label (statement_layer scope who answer (statement.PutBits line d w r e) q free).labels) (label_continuation label t k)) (sym (stmt.rolls-PutBits line d w r e))
-        (none_reached (statement_layer scope who answer (statement.PutBits line d w r e) q free).labels (nothing (value_unlabelled scope e _ _ _) (nothing (reference_unlabelled scope r _ _) refl)))
+        (none_reached (statement_layer scope who answer (statement.PutBits line d w r e) q free).labels (nothing (value_unlabelled (at_line line scope) e _ _ _) (nothing (reference_unlabelled (at_line line scope) r _ _) refl)))
     layer_reaches (statement.Go line d) small b made =
         subst (λ t. Reaches (place_of label (statement_layer scope who answer (statement.Go line d) q free).labels) (label_continuation label t k)) (sym (stmt.rolls-Go line d))
-        (none_reached (statement_layer scope who answer (statement.Go line d) q free).labels (jump_unlabelled scope who answer d _ _))
+        (none_reached (statement_layer scope who answer (statement.Go line d) q free).labels (jump_unlabelled (at_line line scope) who answer d _ _))
     layer_reaches (statement.Call line tg args) small b made =
         subst (λ t. Reaches (place_of label (statement_layer scope who answer (statement.Call line tg args) q free).labels) (label_continuation label t k)) (sym (stmt.rolls-Call line tg args))
-        (none_reached (statement_layer scope who answer (statement.Call line tg args) q free).labels (nothing (arguments_unlabelled scope args _ _) refl))
+        (none_reached (statement_layer scope who answer (statement.Call line tg args) q free).labels (nothing (arguments_unlabelled (at_line line scope) args _ _) refl))
     layer_reaches (statement.Answer line e) small b made =
         subst (λ t. Reaches (place_of label (statement_layer scope who answer (statement.Answer line e) q free).labels) (label_continuation label t k)) (sym (stmt.rolls-Answer line e))
-        (none_reached (statement_layer scope who answer (statement.Answer line e) q free).labels (nothing (value_unlabelled scope e _ _ _) refl))
+        (none_reached (statement_layer scope who answer (statement.Answer line e) q free).labels (nothing (value_unlabelled (at_line line scope) e _ _ _) refl))
     layer_reaches (statement.If line c a b') small b made = choice_reached line c a b' (let l : depth a + depth b' < size = omega (arith, small) in l) b made
     layer_reaches (statement.For line item r es s) small b made = loop_reached line item r es s (let l : depth s < size = omega (arith, small) in l) b made
     layer_reaches (statement.Seq ss) small b made =

@@ -1,5 +1,5 @@
 -- The orders follow the source through the elements of a FOR.
-use Rattle.std.proofs.Common.{◌≡◌, inl, ℕ, zero, suc, ◌+◌, ◌-◌, ◌*◌, ◌%◌, ◌<◌, ◌≤◌, ℤ, pos, negsuc, List, [], ◌∷◌, length, set, Bool, true, false, Option, Some, None, refl, sym, ap, ◌∙◌, subst, arith}
+use Rattle.std.proofs.Common.{◌≡◌, inl, ℕ, zero, suc, ◌+◌, ◌-◌, ◌*◌, ◌%◌, ◌<◌, ◌≤◌, ℤ, pos, negsuc, List, [], ◌∷◌, ◌++◌, length, set, Bool, true, false, Option, Some, None, refl, sym, ap, ◌∙◌, subst, arith}
 use Rattle.std.specs.Prelude.{slice_get, IsTrue, ◌&&◌}
 use Rattle.std.proofs.lemmas.Bool.{lt-ltb}
 use Rattle.std.proofs.lemmas.Option.{none-some, same_Some, slice_get_within}
@@ -10,7 +10,7 @@ use Rattle.cw_unit.specs.declared.unit.Felem.{Felem}
 use Rattle.cw_unit.specs.declared.unit.Felem.TheVariants as element
 use Rattle.cw_unit.specs.declared.unit.Cond.{Cond}
 use Rattle.cw_unit.specs.declared.unit.Expr.{Expr}
-use Rattle.cw_unit.specs.Stop.{AddressRange, Running, Stopped}
+use Rattle.cw_unit.specs.Stop.{AddressRange, Running}
 use Rattle.cw_unit.specs.Words.{Word, Words, Changed, Refused, with_memory, put, word_at, number_of, is_below, through}
 use Rattle.cw_unit.specs.Operation.{AddStep, perform, is_past}
 use Rattle.cw_unit.specs.Work.{Work, Run, Eval, Test, KeepAt, SetVar, Element, Turn, Bump, On, Loop, element_at, element_work, next_work, next_element}
@@ -27,16 +27,16 @@ use Rattle.cw_order.specs.OrderCosts.{weight_of, weight_at}
 use Rattle.cw_order.specs.OrderMachine.{act, branch, go_at, carry_out}
 use Rattle.cw_order.specs.Starting.{started_by}
 use Rattle.cw_gen_expr.specs.Pieces.{Piece, plain, followed_by, with_end}
-use Rattle.cw_gen_expr.specs.ReferenceExpressions.{Scope, item_order, expression_piece, condition_piece}
+use Rattle.cw_gen_expr.specs.ReferenceExpressions.{Scope, at_line, item_order, expression_piece, condition_piece}
 use Rattle.cw_gen_expr.specs.BuiltExpressions.{is_expression, is_condition, most_levels}
 use Rattle.cw_carry.proofs.Expressions.Standing.{Stands, Made, both_made, one_made, end_made}
-use Rattle.cw_carry.proofs.Expressions.Effects.{then_do, is_silent, all_silent, total_weight, total_growth, growth_within, Ran, run_through}
+use Rattle.cw_carry.proofs.Expressions.Effects.{then_do, through_all, loaded_through, OnLine, is_silent, all_silent, total_weight, total_growth, growth_within, Ran, run_through}
 use Rattle.cw_carry.proofs.Expressions.Carried.{Leads, here, past, over as leap, Via, wider, who_of}
 use Rattle.cw_carry.proofs.Expressions.Operations.{keeps, bumps, behind_word, variable_put}
 use Rattle.cw_carry.proofs.Expressions.Stepping.{Quiet, Compiled, source, target, B, work_size, Seen, order_here, mark_here, lands, silent, stops}
 use Rattle.cw_carry.proofs.Expressions.Addresses.{item_and}
-use Rattle.cw_carry.proofs.Expressions.Moments.{both, item_silent, item_light, IsLight, silent_and, Moment, here_in, layout, scope, has_words, code, marks, At, Leads_to, Steps, config, next, run, Facts, at_once, done_by, one_order}
-use Rattle.cw_gen_unit.specs.ReferenceStatements.{number_orders, set_orders, bump_orders, element_piece, way_mark}
+use Rattle.cw_carry.proofs.Expressions.Moments.{both, item_silent, item_light, item_loads, item_tells, IsLight, silent_and, Moment, here_in, layout, scope, has_words, code, marks, At, Leads_to, at_close, Steps, config, next, run, Facts, at_once, done_by, one_order}
+use Rattle.cw_gen_unit.specs.ReferenceStatements.{keep_orders, number_orders, set_orders, bump_orders, element_piece, way_mark}
 use Rattle.cw_gen_unit.specs.BuiltStatements.{is_element, are_elements}
 use Rattle.cw_carry.proofs.Statements.Sites.{LoopSite, ElementSite, TurnSite, BumpSite, OnSite, sites}
 use Rattle.cw_gen_unit.specs.ReferenceUnits.{answer_of}
@@ -76,13 +76,13 @@ module _ (code : List Order) (marks : List ℕ) (s : Scope) (who : Option ℕ) (
   pd = expression_piece s d f
 
   abbrev keep1 : List Order
-  keep1 = item_order s.layout item 1 ∷ order.Store ∷ []
+  keep1 = keep_orders s.layout item 1
 
   abbrev keep2 : ℕ → List Order
-  keep2 turn = item_order s.layout item 2 ∷ order.Store ∷ order.Jump turn ∷ []
+  keep2 turn = keep_orders s.layout item 2 ++ order.Jump turn ∷ []
 
   abbrev step_turn : (body mark : ℕ) → List Order
-  step_turn body mark = item_order s.layout item 0 ∷ order.PutVariable ∷ order.Exhausted mark ∷ order.Jump body ∷ []
+  step_turn body mark = item_order s.layout item 0 ∷ order.PutVariable s.line ∷ order.Exhausted mark ∷ order.Jump body ∷ []
 
   abbrev after_keep1 : ℕ → Piece
   after_keep1 turn = followed_by pd (plain (keep2 turn))
@@ -94,7 +94,7 @@ module _ (code : List Order) (marks : List ℕ) (s : Scope) (who : Option ℕ) (
   after_set turn = followed_by pb (after_b turn)
 
   abbrev after_a : ℕ → Piece
-  after_a turn = followed_by (plain (set_orders s.layout item)) (after_set turn)
+  after_a turn = followed_by (plain (set_orders s.layout s.line item)) (after_set turn)
 
   abbrev after_number : ℕ → Piece
   after_number turn = followed_by pa (after_a turn)
@@ -110,7 +110,7 @@ module _ (code : List Order) (marks : List ℕ) (s : Scope) (who : Option ℕ) (
     pub m2 : ℕ
     pub a_made : Made code marks (pa n1 m1) n1 n2 m1 m2
     pub n3 : ℕ
-    pub sets : Stands code n2 (set_orders s.layout item) n3
+    pub sets : Stands code n2 (set_orders s.layout s.line item) n3
     pub m3 : ℕ
     pub n4 : ℕ
     pub m4 : ℕ
@@ -127,7 +127,7 @@ module _ (code : List Order) (marks : List ℕ) (s : Scope) (who : Option ℕ) (
   first_made turn q n free last made =
       let p1 = both_made code marks (plain (number_orders s.layout item i)) (after_number turn) q n free last made in
       let p2 = both_made code marks pa (after_a turn) p1.0 n p1.1 last p1.3 in
-      let p3 = both_made code marks (plain (set_orders s.layout item)) (after_set turn) p2.0 n p2.1 last p2.3 in
+      let p3 = both_made code marks (plain (set_orders s.layout s.line item)) (after_set turn) p2.0 n p2.1 last p2.3 in
       let p4 = both_made code marks pb (after_b turn) p3.0 n p3.1 last p3.3 in
       let p5 = both_made code marks (plain keep1) (after_keep1 turn) p4.0 n p4.1 last p4.3 in
       let p6 = one_made code marks pd (keep2 turn) p5.0 n p5.1 last p5.3 in
@@ -142,7 +142,7 @@ module _ (code : List Order) (marks : List ℕ) (s : Scope) (who : Option ℕ) (
     pub bump_start : ℕ
     pub bump_next : bump + 1 ≡ bump_start
     pub turn : ℕ
-    pub bumps : Stands code bump_start (bump_orders s.layout item) turn
+    pub bumps : Stands code bump_start (bump_orders s.layout s.line item) turn
     pub turn_is : slice_get marks free ≡ Some turn
     pub turn_marks : slice_get code turn ≡ Some order.Mark
     pub turn_start : ℕ
@@ -156,11 +156,11 @@ module _ (code : List Order) (marks : List ℕ) (s : Scope) (who : Option ℕ) (
 
   step_made : (set body q n free last : ℕ) → Made code marks (element_piece s item f set body i (element.Step a b d) q free) q n free last → StepMade body q n free last
   step_made set body q n free last made =
-      let middle = λ (turn : ℕ). followed_by (with_end (λ bump. first_piece turn)) (plain (bump_orders s.layout item)) in
+      let middle = λ (turn : ℕ). followed_by (with_end (λ bump. first_piece turn)) (plain (bump_orders s.layout s.line item)) in
       let second = λ (mark : ℕ). plain (step_turn body mark) in
       let whole = both_made code marks (with_end middle) (with_end second) q n free last made in
       let turn = end_made code marks middle q whole.0 free whole.1 whole.2 in
-      let halves = both_made code marks (with_end (λ bump. first_piece free)) (plain (bump_orders s.layout item)) q turn.0 (free + 1) whole.1 turn.1 in
+      let halves = both_made code marks (with_end (λ bump. first_piece free)) (plain (bump_orders s.layout s.line item)) q turn.0 (free + 1) whole.1 turn.1 in
       let bumped = end_made code marks (λ bump. first_piece free) q halves.0 (free + 1) halves.1 halves.2 in
       let end = end_made code marks second whole.0 n whole.1 last whole.3 in
       record {
@@ -197,7 +197,7 @@ three_of_four = omega arith
 none_of_four : 0 < 4
 none_of_four = omega arith
 
-module _ (c : Compiled) (at_sites : (g : ℕ) (u : Rattle.cw_unit.specs.declared.unit.Unit.Unit) (who : Option ℕ) → c.places g u who ≡ sites c.orders_for u who (c.has_words g u who)) (t : Moment c) (x : Loop) (k : Work) (n j : ℕ) (fits_in : suc j ≤ 64) (after : (l : ℕ) → Via (code c t) (marks c t) j n (λ y. At c t y l false k)) where
+module _ (c : Compiled) (at_sites : (g : ℕ) (u : Rattle.cw_unit.specs.declared.unit.Unit.Unit) (who : Option ℕ) → c.places g u who ≡ sites c.orders_for u who (c.has_words g u who)) (t : Moment c) (x : Loop) (k : Work) (n j : ℕ) (fits_in : suc j ≤ 64) (after : Via (code c t) (marks c t) j n false (λ y m. At c t y m false k)) where
   abbrev who : Option ℕ
   who = who_of t.acts
 
@@ -207,64 +207,65 @@ module _ (c : Compiled) (at_sites : (g : ℕ) (u : Rattle.cw_unit.specs.declared
   abbrev Site : Type 0
   Site = LoopSite c.orders_for t.unit who (has_words c t) x n
 
+  abbrev here_scope : Scope
+  here_scope = at_line x.line (scope c t)
+
   -- what the parts of the loop carry out
-  element_carried : (q i l : ℕ) → ElementSite c.orders_for t.unit who (has_words c t) q i x n → x.line ≡ l → At c t q l false (Element i x k)
-  element_carried q i l site same = (n, j, subst (λ p. p.ElementAt q i x n) (sym (at_sites (here_in c t) t.unit who)) site, fits_in, same, after)
+  element_carried : (q i : ℕ) → ElementSite c.orders_for t.unit who (has_words c t) q i x n → At c t q false false (Element i x k)
+  element_carried q i site = (n, j, subst (λ p. p.ElementAt q i x n) (sym (at_sites (here_in c t) t.unit who)) site, fits_in, refl, after)
 
-  turn_carried : (q i l : ℕ) → TurnSite c.orders_for t.unit who (has_words c t) q i x n → x.line ≡ l → At c t q l false (Turn i x k)
-  turn_carried q i l site same = (n, j, subst (λ p. p.TurnAt q i x n) (sym (at_sites (here_in c t) t.unit who)) site, fits_in, same, after)
+  turn_carried : (q i : ℕ) → TurnSite c.orders_for t.unit who (has_words c t) q i x n → At c t q false false (Turn i x k)
+  turn_carried q i site = (n, j, subst (λ p. p.TurnAt q i x n) (sym (at_sites (here_in c t) t.unit who)) site, fits_in, refl, after)
 
-  bump_carried : (q i l : ℕ) → BumpSite c.orders_for t.unit who (has_words c t) q i x n → x.line ≡ l → At c t q l false (Bump i x k)
-  bump_carried q i l site same = (n, j, subst (λ p. p.BumpAt q i x n) (sym (at_sites (here_in c t) t.unit who)) site, fits_in, same, after)
+  bump_carried : (q i : ℕ) → BumpSite c.orders_for t.unit who (has_words c t) q i x n → At c t q false false (Bump i x k)
+  bump_carried q i site = (n, j, subst (λ p. p.BumpAt q i x n) (sym (at_sites (here_in c t) t.unit who)) site, fits_in, refl, after)
 
-  on_carried : (q l : ℕ) → OnSite c.orders_for t.unit who (has_words c t) q x n → At c t q l false (On x k)
-  on_carried q l site = (n, j, subst (λ p. p.OnAt q x n) (sym (at_sites (here_in c t) t.unit who)) site, fits_in, after)
+  on_carried : (q : ℕ) → OnSite c.orders_for t.unit who (has_words c t) q x n → At c t q false false (On x k)
+  on_carried q site = (n, j, subst (λ p. p.OnAt q x n) (sym (at_sites (here_in c t) t.unit who)) site, fits_in, refl, after)
 
   -- the body, behind its mark
-  body_start : (site : Site) (l : ℕ) → At c t (site.head + 1) l false (Run x.body (On x k))
-  body_start site l =
-      (site.on, 64, 0, subst (λ p. p.StatementAt (site.head + 1) x.body 64 site.on) (sym (at_sites (here_in c t) t.unit who)) site.body_at, (let z : 0 + 64 ≤ 64 = omega arith in z), λ l'. (site.on, here refl, on_carried site.on l' (site, refl)))
+  body_start : (site : Site) → At c t (site.head + 1) false false (Run x.body (On x k))
+  body_start site =
+      (site.on, 64, 0, subst (λ p. p.StatementAt (site.head + 1) x.body 64 site.on) (sym (at_sites (here_in c t) t.unit who)) site.body_at, (let z : 0 + 64 ≤ 64 = omega arith in z), refl, (site.on, false, here refl refl, on_carried site.on (site, refl)))
 
-  body_carried : (site : Site) (l : ℕ) → Leads_to c t site.head l false (Run x.body (On x k))
-  body_carried site l = (site.head + 1, past site.head_marks (here refl), body_start site l)
+  body_carried : (site : Site) → Leads_to c t site.head false false (Run x.body (On x k))
+  body_carried site = (site.head + 1, false, past site.head_marks (here refl refl), body_start site)
 
   -- by a jump to the body's mark
-  to_body : (site : Site) (q l : ℕ) → slice_get (code c t) q ≡ Some (order.Jump site.body) → Leads_to c t q l false (Run x.body (On x k))
-  to_body site q l h = (site.head + 1, leap h site.head_is (let z : 64 ≡ suc 63 = refl in z) (past site.head_marks (here refl)), body_start site l)
+  to_body : (site : Site) (q : ℕ) → slice_get (code c t) q ≡ Some (order.Jump site.body) → Leads_to c t q false false (Run x.body (On x k))
+  to_body site q h = (site.head + 1, false, leap h site.head_is (let z : 64 ≡ suc 63 = refl in z) (past site.head_marks (here refl refl)), body_start site)
 
   -- past the last element
-  to_end : (site : Site) (q l : ℕ) → slice_get (code c t) q ≡ Some (order.Jump site.end) → Leads_to c t q l false k
-  to_end site q l h =
-      let v = after l in
-      (v.0, leap h site.end_is refl (wider (code c t) (marks c t) j 63 site.out v.0 (let z : j ≤ 63 = omega (arith, fits_in) in z) (past site.out_marks (subst (λ y. Leads (code c t) (marks c t) j y v.0) (sym site.next_is) v.1))), v.2)
+  to_end : (site : Site) (q : ℕ) → slice_get (code c t) q ≡ Some (order.Jump site.end) → Leads_to c t q false false k
+  to_end site q h =
+      (after.0, after.1, leap h site.end_is refl (wider (code c t) (marks c t) j 63 site.out false after.0 after.1 (let z : j ≤ 63 = omega (arith, fits_in) in z) (past site.out_marks (subst (λ y. Leads (code c t) (marks c t) j y false after.0 after.1) (sym site.next_is) after.2))), after.3)
 
   next_element_site : (site : Site) (i : ℕ) → i ≤ length x.elements → ElementSite c.orders_for t.unit who (has_words c t) (site.place (i + 1)) (i + 1) x n
   next_element_site site i le = (site, refl, (let z : 1 ≤ i + 1 = omega arith in z), (let z : i + 1 ≤ length x.elements + 1 = omega (arith, le) in z))
 
   -- ---- the number of an element
 
-  item_3 : IsLight (number_orders (layout c t) x.item 1) → Unit {0}
-  item_3 h = tt
-
-  number_light : (i : ℕ) → IsLight (number_orders (layout c t) x.item i)
+  number_light : (i : ℕ) → IsLight x.line false false (number_orders (layout c t) x.item i)
   number_light i =
       let w = item_light (layout c t) x.item 3 in
       record {
         quiet = silent_and (is_silent (item_order (layout c t) x.item 3)) true (item_silent (layout c t) x.item 3) refl;
-        light = (let z : 2 + (weight_of (item_order (layout c t) x.item 3) + (5 + 0)) ≤ 160 = omega (arith, w.1) in z);
-        some = (let z : 0 < 2 + (weight_of (item_order (layout c t) x.item 3) + (5 + 0)) = omega arith in z);
-        short = (let z : 3 ≤ 12 = omega arith in z);
+        light = (let z : 2 + (1 + (weight_of (item_order (layout c t) x.item 3) + (5 + 0))) ≤ 159 = omega (arith, w.1) in z);
+        some = (let z : 0 < 2 + (1 + (weight_of (item_order (layout c t) x.item 3) + (5 + 0))) = omega arith in z);
+        short = (let z : 4 ≤ 12 = omega arith in z);
+        at = (tt, (tt, (item_tells x.line (layout c t) x.item 3, (tt, tt))));
+        turns = ap (λ y. through_all y (order.Store ∷ [])) (item_loads (layout c t) x.item 3);
       }
 
   numbered : (i : ℕ) (w : Words) → i < 32768 → IsTrue (has_words c t x.item 4) → run c t (number_orders (layout c t) x.item i) w ≡ Changed (with_memory w (set w.memory (address_at (source c) t.segment t.acts x.item + 3) (pos i)))
   numbered i w small words =
       let e : i % 65536 ≡ i = omega arith in
       let z : signed i ≡ pos i = omega (arith, ints) in
-      ap (λ v. then_do (Changed (put v w)) (λ u. run c t (item_order (layout c t) x.item 3 ∷ order.Store ∷ []) u)) (ap signed e ∙ z)
+      ap (λ v. then_do (Changed (put v w)) (λ u. run c t (keep_orders (layout c t) x.item 3) u)) (ap signed e ∙ z)
       ∙ keeps (target c) (here_in c t) t.calls_below (source c) t.segment t.acts (layout c t) (has_words c t) t.in_words t.stand x.item 3 4 (Word (pos i) ∷ w.operands) w.memory w.input w.output words (let v : 3 < 4 = omega arith in v) tt
 
   -- behind a mark
-  behind_mark : (now : Work) (q l : ℕ) (w : Words) → slice_get (code c t) q ≡ Some order.Mark → Steps c t now (q + 1) l w → Steps c t now q l w
+  behind_mark : (now : Work) (q : ℕ) (l : Bool) (w : Words) → slice_get (code c t) q ≡ Some order.Mark → Steps c t now (q + 1) l w → Steps c t now q l w
   behind_mark now q l w h goes =
       let at_q = order_here c t.segment t.acts t.calls_below t.unit t.unit_is q order.Mark h in
       record {
@@ -276,57 +277,57 @@ module _ (c : Compiled) (at_sites : (g : ℕ) (u : Rattle.cw_unit.specs.declared
         progress = goes.progress;
       }
 
-  begins_element : (i : ℕ) (e : Felem) (q m l : ℕ) (w : Words) → IsTrue (has_words c t x.item 4) → i < 32768 → element_at x.elements i ≡ Some e → Stands (code c t) q (number_orders (layout c t) x.item i) m → x.line ≡ l → At c t m l false (element_work e i x k) → Facts c t (Element i x k) w → Steps c t (Element i x k) q l w
-  begins_element i e q m l w words small is stands same carried facts =
-      done_by c t (Element i x k) (element_work e i x k) x.line q m l (number_orders (layout c t) x.item i) w false (Changed (with_memory w (set w.memory (address_at (source c) t.segment t.acts x.item + 3) (pos i)))) same stands (number_light i) facts
+  begins_element : (i : ℕ) (e : Felem) (q m : ℕ) (w : Words) → IsTrue (has_words c t x.item 4) → i < 32768 → element_at x.elements i ≡ Some e → Stands (code c t) q (number_orders (layout c t) x.item i) m → At c t m false false (element_work e i x k) → Facts c t (Element i x k) w → Steps c t (Element i x k) q false w
+  begins_element i e q m w words small is stands carried facts =
+      done_by c t (Element i x k) (element_work e i x k) x.line q m false false (number_orders (layout c t) x.item i) w false (Changed (with_memory w (set w.memory (address_at (source c) t.segment t.acts x.item + 3) (pos i)))) stands (number_light i) facts
       (ap (λ o. element_step (source c) o t.segment i x k t.acts w) is)
-      (λ ok. numbered i w small words) (λ v h. tt) (at_once c t m l false (element_work e i x k) carried)
+      (λ ok. numbered i w small words) (λ v h. tt) (at_once c t m false false (element_work e i x k) carried)
 
   -- ---- an element of each kind
 
-  value_at : (e : Expr) (line q m free last l : ℕ) (k' : Work) → IsTrue (is_expression t.unit (has_words c t) e x.scale most_levels) → Made (code c t) (marks c t) (expression_piece (scope c t) e x.scale q free) q m free last → line ≡ l → At c t m l false k' → At c t q l false (Eval e x.scale line k')
-  value_at e line q m free last l k' b made same carried = (m, 64, 0, free, last, b, made, (let z : 0 + 64 ≤ 64 = omega arith in z), same, (m, here refl, carried))
+  value_at : (e : Expr) (q m free last : ℕ) (k' : Work) → IsTrue (is_expression t.unit (has_words c t) e x.scale most_levels) → Made (code c t) (marks c t) (expression_piece here_scope e x.scale q free) q m free last → At c t m true false k' → At c t q false false (Eval e x.scale x.line k')
+  value_at e q m free last k' b made carried = (m, 64, 0, free, last, b, made, (let z : 0 + 64 ≤ 64 = omega arith in z), refl, at_close c t m true false k' carried)
 
   -- where the way on leads, for an element of each kind: at its way mark
-  abbrev Way : Site → ℕ → Felem → ℕ → Type 0
-  Way site i e l = (y : ℕ) × (slice_get (marks c t) (way_mark e (site.free i)) ≡ Some y) × Leads_to c t y l false (next_work e i x k)
+  abbrev Way : Site → ℕ → Felem → Type 0
+  Way site i e = (y : ℕ) × (slice_get (marks c t) (way_mark e (site.free i)) ≡ Some y) × Leads_to c t y false false (next_work e i x k)
 
-  abbrev Begin : Site → ℕ → Felem → ℕ → Type 0
-  Begin site i e l = (w : Words) → Facts c t (Element i x k) w → Steps c t (Element i x k) (site.place i) l w
+  abbrev Begin : Site → ℕ → Felem → Type 0
+  Begin site i e = (w : Words) → Facts c t (Element i x k) w → Steps c t (Element i x k) (site.place i) false w
 
-  module _ (site : Site) (i : ℕ) (l : ℕ) (same : x.line ≡ l) (below : i ≤ length x.elements) where
+  module _ (site : Site) (i : ℕ) (below : i ≤ length x.elements) where
     small : i < 32768
     small = let f = site.few in let z : i < 32768 = omega (arith, below, f) in z
 
-    following : (y : ℕ) → slice_get (code c t) y ≡ Some order.Mark → y + 1 ≡ site.place (i + 1) → Leads_to c t y l false (Element (i + 1) x k)
-    following y h e = (site.place (i + 1), past h (here e), element_carried (site.place (i + 1)) (i + 1) l (next_element_site site i below) same)
+    following : (y : ℕ) → slice_get (code c t) y ≡ Some order.Mark → y + 1 ≡ site.place (i + 1) → Leads_to c t y false false (Element (i + 1) x k)
+    following y h e = (site.place (i + 1), false, past h (here e refl), element_carried (site.place (i + 1)) (i + 1) (next_element_site site i below))
 
-    of_value : (e : Expr) → element_at x.elements i ≡ Some (element.One e) → IsTrue (is_expression t.unit (has_words c t) e x.scale 63) → Begin site i (element.One e) l × Way site i (element.One e) l
+    of_value : (e : Expr) → element_at x.elements i ≡ Some (element.One e) → IsTrue (is_expression t.unit (has_words c t) e x.scale 63) → Begin site i (element.One e) × Way site i (element.One e)
     of_value e is b =
         let q = site.place i in
         let free = site.free i in
-        let value = expression_piece (scope c t) e x.scale in
+        let value = expression_piece here_scope e x.scale in
         let body = λ (mark : ℕ). followed_by (plain (number_orders (layout c t) x.item i)) (followed_by value (plain (order.Jump site.set ∷ []))) in
         let end = end_made (code c t) (marks c t) body q (site.place (i + 1)) free (site.free (i + 1)) (site.each i (element.One e) is) in
         let parts = both_made (code c t) (marks c t) (plain (number_orders (layout c t) x.item i)) (followed_by value (plain (order.Jump site.set ∷ []))) q end.0 (free + 1) (site.free (i + 1)) end.1 in
         let v = one_made (code c t) (marks c t) value (order.Jump site.set ∷ []) parts.0 end.0 parts.1 (site.free (i + 1)) parts.3 in
-        let sets : At c t (site.tail + 1) l false (SetVar x (Run x.body (On x k))) = (site.head, site.words, site.sets, same, body_carried site l) in
-        let carried : At c t parts.0 l false (element_work (element.One e) i x k) = (v.0, 63, 1, parts.1, v.1, b, v.2, (let z : 1 + 63 ≤ 64 = omega arith in z), same, (site.tail + 1, leap v.3.0 site.tail_is refl (past site.tail_marks (here refl)), sets)) in (
-          λ w facts. begins_element i (element.One e) q parts.0 l w site.words small is parts.2.0 same carried facts,
+        let sets : At c t (site.tail + 1) true false (SetVar x (Run x.body (On x k))) = (site.head, site.words, site.sets, refl, body_carried site) in
+        let carried : At c t parts.0 false false (element_work (element.One e) i x k) = (v.0, 63, 1, parts.1, v.1, b, v.2, (let z : 1 + 63 ≤ 64 = omega arith in z), refl, (site.tail + 1, true, leap v.3.0 site.tail_is refl (past site.tail_marks (here refl refl)), sets)) in (
+          λ w facts. begins_element i (element.One e) q parts.0 w site.words small is parts.2.0 carried facts,
           (end.0, end.4, following end.0 end.2 end.3),
         )
 
-    of_while : (e : Expr) (d : Cond) → element_at x.elements i ≡ Some (element.While e d) → IsTrue (is_expression t.unit (has_words c t) e x.scale most_levels && is_condition t.unit (has_words c t) d) → Begin site i (element.While e d) l × Way site i (element.While e d) l
+    of_while : (e : Expr) (d : Cond) → element_at x.elements i ≡ Some (element.While e d) → IsTrue (is_expression t.unit (has_words c t) e x.scale most_levels && is_condition t.unit (has_words c t) d) → Begin site i (element.While e d) × Way site i (element.While e d)
     of_while e d is b =
         let bs = both (is_expression t.unit (has_words c t) e x.scale most_levels) (is_condition t.unit (has_words c t) d) b in
         let q = site.place i in
         let free = site.free i in
         let last = site.free (i + 1) in
-        let value = expression_piece (scope c t) e x.scale in
+        let value = expression_piece here_scope e x.scale in
         let number = number_orders (layout c t) x.item i in
-        let setting = set_orders (layout c t) x.item in
+        let setting = set_orders (layout c t) x.line x.item in
         let jump = order.Jump site.body ∷ [] in
-        let r3 = λ (mark : ℕ). followed_by (condition_piece (scope c t) d false mark) (plain jump) in
+        let r3 = λ (mark : ℕ). followed_by (condition_piece here_scope d false mark) (plain jump) in
         let r2 = λ (mark : ℕ). followed_by (plain setting) (r3 mark) in
         let r1 = λ (mark : ℕ). followed_by value (r2 mark) in
         let body = λ (mark : ℕ). followed_by (plain number) (r1 mark) in
@@ -337,28 +338,28 @@ module _ (c : Compiled) (at_sites : (g : ℕ) (u : Rattle.cw_unit.specs.declared
         let p1 = both_made (code c t) (marks c t) (plain number) (r1 own.1) own.0 end.0 (own.1 + 1) last end.1 in
         let p2 = both_made (code c t) (marks c t) value (r2 own.1) p1.0 end.0 p1.1 last p1.3 in
         let p3 = both_made (code c t) (marks c t) (plain setting) (r3 own.1) p2.0 end.0 p2.1 last p2.3 in
-        let p4 = one_made (code c t) (marks c t) (condition_piece (scope c t) d false own.1) jump p3.0 end.0 p3.1 last p3.3 in
-        let test : At c t p3.0 l false (Test d x.line (Run x.body (On x k)) (Element (i + 1) x k)) = (false, own.1, end.0, p4.0, p3.1, p4.1, bs.1, p4.2, end.4, same, to_body site p4.0 l p4.3.0, following end.0 end.2 end.3) in
-        let carried : At c t p1.0 l false (element_work (element.While e d) i x k) = value_at e x.line p1.0 p2.0 p1.1 p2.1 l (SetVar x (Test d x.line (Run x.body (On x k)) (Element (i + 1) x k))) bs.0 p2.2 same (p3.0, site.words, p3.2.0, same, at_once c t p3.0 l false (Test d x.line (Run x.body (On x k)) (Element (i + 1) x k)) test) in
+        let p4 = one_made (code c t) (marks c t) (condition_piece here_scope d false own.1) jump p3.0 end.0 p3.1 last p3.3 in
+        let test : At c t p3.0 false false (Test d x.line (Run x.body (On x k)) (Element (i + 1) x k)) = (false, own.1, end.0, p4.0, p3.1, p4.1, bs.1, p4.2, end.4, refl, to_body site p4.0 p4.3.0, following end.0 end.2 end.3) in
+        let carried : At c t p1.0 false false (element_work (element.While e d) i x k) = value_at e p1.0 p2.0 p1.1 p2.1 (SetVar x (Test d x.line (Run x.body (On x k)) (Element (i + 1) x k))) bs.0 p2.2 (p3.0, site.words, p3.2.0, refl, at_once c t p3.0 false false (Test d x.line (Run x.body (On x k)) (Element (i + 1) x k)) test) in
         let mark_here' : slice_get (code c t) q ≡ Some order.Mark = subst (λ z. slice_get (code c t) z ≡ Some order.Mark) (sym at_mark) mark.2 in
         let next_here : q + 1 ≡ own.0 = ap (λ z. z + 1) at_mark ∙ mark.3 in (
-          λ w facts. behind_mark (Element i x k) q l w mark_here' (subst (λ z. Steps c t (Element i x k) z l w) (sym next_here) (begins_element i (element.While e d) own.0 p1.0 l w site.words small is p1.2.0 same carried facts)),
-          (q, mark.4 ∙ ap (λ z. Some z) (sym at_mark), at_once c t q l false (Element i x k) (element_carried q i l (site, refl, (element_within x.elements i (element.While e d) is).0, (let z : i ≤ length x.elements + 1 = omega (arith, below) in z)) same)),
+          λ w facts. behind_mark (Element i x k) q false w mark_here' (subst (λ z. Steps c t (Element i x k) z false w) (sym next_here) (begins_element i (element.While e d) own.0 p1.0 w site.words small is p1.2.0 carried facts)),
+          (q, mark.4 ∙ ap (λ z. Some z) (sym at_mark), at_once c t q false false (Element i x k) (element_carried q i (site, refl, (element_within x.elements i (element.While e d) is).0, (let z : i ≤ length x.elements + 1 = omega (arith, below) in z)))),
         )
 
     -- the test of the limit, and the step before it
-    module _ (a b d : Expr) (made : StepMade (code c t) (marks c t) (scope c t) who answer x.item x.scale a b d i site.body (site.place i) (site.place (i + 1)) (site.free i) (site.free (i + 1))) where
+    module _ (a b d : Expr) (made : StepMade (code c t) (marks c t) here_scope who answer x.item x.scale a b d i site.body (site.place i) (site.place (i + 1)) (site.free i) (site.free (i + 1))) where
       turning : TurnSite c.orders_for t.unit who (has_words c t) made.turn_start i x n
-      turning = (site, made.next_mark, made.end, made.end, made.turns, made.end_is, past made.end_marks (here made.end_next), below)
+      turning = (site, made.next_mark, made.end, made.end, made.turns, made.end_is, past made.end_marks (here made.end_next refl), below)
 
-      at_turn : At c t made.turn_start l false (Turn i x k)
-      at_turn = turn_carried made.turn_start i l turning same
+      at_turn : At c t made.turn_start false false (Turn i x k)
+      at_turn = turn_carried made.turn_start i turning
 
       bumping : BumpSite c.orders_for t.unit who (has_words c t) made.bump_start i x n
       bumping = (made.turn, made.bumps, made.turn_marks, subst (λ z. TurnSite c.orders_for t.unit who (has_words c t) z i x n) (sym made.turn_next) turning)
 
-      at_bump : At c t made.bump_start l false (Bump i x k)
-      at_bump = bump_carried made.bump_start i l bumping same
+      at_bump : At c t made.bump_start false false (Bump i x k)
+      at_bump = bump_carried made.bump_start i bumping
 
       abbrev keep_limit : Work
       keep_limit = KeepAt 2 x (Turn i x k)
@@ -366,31 +367,31 @@ module _ (c : Compiled) (at_sites : (g : ℕ) (u : Rattle.cw_unit.specs.declared
       abbrev keep_step : Work
       keep_step = KeepAt 1 x (Eval d x.scale x.line keep_limit)
 
-      at_limit : At c t made.first.n6 l false keep_limit
-      at_limit = (made.first.n6 + 1 + 1, site.words, two_of_four, (made.first.keeps2.0, (made.first.keeps2.1.0, refl)), same, (made.turn_start, leap made.first.keeps2.1.1.0 made.turn_is (let z : 64 ≡ suc 63 = refl in z) (past made.turn_marks (here made.turn_next)), at_turn))
+      at_limit : At c t made.first.n6 true false keep_limit
+      at_limit = (made.first.n6 + 1 + 1 + 1, site.words, two_of_four, (made.first.keeps2.0, (made.first.keeps2.1.0, (made.first.keeps2.1.1.0, refl))), refl, (made.turn_start, false, leap made.first.keeps2.1.1.1.0 made.turn_is (let z : 64 ≡ suc 63 = refl in z) (past made.turn_marks (here made.turn_next refl)), at_turn))
 
-      at_step : IsTrue (is_expression t.unit (has_words c t) d x.scale most_levels) → At c t made.first.n4 l false keep_step
-      at_step bd = (made.first.n5, site.words, one_of_four, made.first.keeps1, same, at_once c t made.first.n5 l false (Eval d x.scale x.line keep_limit) (value_at d x.line made.first.n5 made.first.n6 made.first.m5 made.first.m6 l keep_limit bd made.first.d_made same at_limit))
+      at_step : IsTrue (is_expression t.unit (has_words c t) d x.scale most_levels) → At c t made.first.n4 true false keep_step
+      at_step bd = (made.first.n5, site.words, one_of_four, made.first.keeps1, refl, at_once c t made.first.n5 false false (Eval d x.scale x.line keep_limit) (value_at d made.first.n5 made.first.n6 made.first.m5 made.first.m6 keep_limit bd made.first.d_made at_limit))
 
-      at_set : IsTrue (is_expression t.unit (has_words c t) b x.scale most_levels) → IsTrue (is_expression t.unit (has_words c t) d x.scale most_levels) → At c t made.first.n2 l false (SetVar x (Eval b x.scale x.line keep_step))
-      at_set bb bd = (made.first.n3, site.words, made.first.sets, same, at_once c t made.first.n3 l false (Eval b x.scale x.line keep_step) (value_at b x.line made.first.n3 made.first.n4 made.first.m3 made.first.m4 l keep_step bb made.first.b_made same (at_step bd)))
+      at_set : IsTrue (is_expression t.unit (has_words c t) b x.scale most_levels) → IsTrue (is_expression t.unit (has_words c t) d x.scale most_levels) → At c t made.first.n2 true false (SetVar x (Eval b x.scale x.line keep_step))
+      at_set bb bd = (made.first.n3, site.words, made.first.sets, refl, at_once c t made.first.n3 false false (Eval b x.scale x.line keep_step) (value_at b made.first.n3 made.first.n4 made.first.m3 made.first.m4 keep_step bb made.first.b_made (at_step bd)))
 
-      at_first : IsTrue (is_expression t.unit (has_words c t) a x.scale most_levels) → IsTrue (is_expression t.unit (has_words c t) b x.scale most_levels) → IsTrue (is_expression t.unit (has_words c t) d x.scale most_levels) → At c t made.first.n1 l false (element_work (element.Step a b d) i x k)
-      at_first ba bb bd = value_at a x.line made.first.n1 made.first.n2 made.first.m1 made.first.m2 l (SetVar x (Eval b x.scale x.line keep_step)) ba made.first.a_made same (at_set bb bd)
+      at_first : IsTrue (is_expression t.unit (has_words c t) a x.scale most_levels) → IsTrue (is_expression t.unit (has_words c t) b x.scale most_levels) → IsTrue (is_expression t.unit (has_words c t) d x.scale most_levels) → At c t made.first.n1 false false (element_work (element.Step a b d) i x k)
+      at_first ba bb bd = value_at a made.first.n1 made.first.n2 made.first.m1 made.first.m2 (SetVar x (Eval b x.scale x.line keep_step)) ba made.first.a_made (at_set bb bd)
 
-      step_way : Way site i (element.Step a b d) l
-      step_way = (made.bump, made.bump_is, (made.bump_start, past made.bump_marks (here made.bump_next), at_bump))
+      step_way : Way site i (element.Step a b d)
+      step_way = (made.bump, made.bump_is, (made.bump_start, false, past made.bump_marks (here made.bump_next refl), at_bump))
 
-    of_step : (a b d : Expr) → element_at x.elements i ≡ Some (element.Step a b d) → IsTrue (is_expression t.unit (has_words c t) a x.scale most_levels && (is_expression t.unit (has_words c t) b x.scale most_levels && is_expression t.unit (has_words c t) d x.scale most_levels)) → Begin site i (element.Step a b d) l × Way site i (element.Step a b d) l
+    of_step : (a b d : Expr) → element_at x.elements i ≡ Some (element.Step a b d) → IsTrue (is_expression t.unit (has_words c t) a x.scale most_levels && (is_expression t.unit (has_words c t) b x.scale most_levels && is_expression t.unit (has_words c t) d x.scale most_levels)) → Begin site i (element.Step a b d) × Way site i (element.Step a b d)
     of_step a b d is built =
         let b1 = both (is_expression t.unit (has_words c t) a x.scale most_levels) (is_expression t.unit (has_words c t) b x.scale most_levels && is_expression t.unit (has_words c t) d x.scale most_levels) built in
         let b2 = both (is_expression t.unit (has_words c t) b x.scale most_levels) (is_expression t.unit (has_words c t) d x.scale most_levels) b1.1 in
-        let made = step_made (code c t) (marks c t) (scope c t) who answer x.item x.scale a b d i site.set site.body (site.place i) (site.place (i + 1)) (site.free i) (site.free (i + 1)) (site.each i (element.Step a b d) is) in (
-          λ w facts. begins_element i (element.Step a b d) (site.place i) made.first.n1 l w site.words small is made.first.numbers same (at_first a b d made b1.0 b2.0 b2.1) facts,
+        let made = step_made (code c t) (marks c t) here_scope who answer x.item x.scale a b d i site.set site.body (site.place i) (site.place (i + 1)) (site.free i) (site.free (i + 1)) (site.each i (element.Step a b d) is) in (
+          λ w facts. begins_element i (element.Step a b d) (site.place i) made.first.n1 w site.words small is made.first.numbers (at_first a b d made b1.0 b2.0 b2.1) facts,
           step_way a b d made,
         )
 
-    of_element : (e : Felem) → element_at x.elements i ≡ Some e → IsTrue (is_element t.unit (has_words c t) who answer x.scale e) → Begin site i e l × Way site i e l
+    of_element : (e : Felem) → element_at x.elements i ≡ Some e → IsTrue (is_element t.unit (has_words c t) who answer x.scale e) → Begin site i e × Way site i e
     of_element (element.One e) is b = of_value e is b
     of_element (element.While e d) is b = of_while e d is b
     of_element (element.Step a e d) is b = of_step a e d is b
@@ -400,40 +401,40 @@ module _ (c : Compiled) (at_sites : (g : ℕ) (u : Rattle.cw_unit.specs.declared
 
   -- ---- the element begins, or the FOR ends
 
-  pub element_follows : (i q l : ℕ) (w : Words) → ElementSite c.orders_for t.unit who (has_words c t) q i x n → x.line ≡ l → Facts c t (Element i x k) w → Steps c t (Element i x k) q l w
-  element_follows i q l w (site, at_q, one, le) same facts = by_element (element_at x.elements i) refl
+  pub element_follows : (i q : ℕ) (w : Words) → ElementSite c.orders_for t.unit who (has_words c t) q i x n → Facts c t (Element i x k) w → Steps c t (Element i x k) q false w
+  element_follows i q w (site, at_q, one, le) facts = by_element (element_at x.elements i) refl
     where
-      by_element : (e : Option Felem) → element_at x.elements i ≡ e → Steps c t (Element i x k) q l w
+      by_element : (e : Option Felem) → element_at x.elements i ≡ e → Steps c t (Element i x k) q false w
       by_element (Some e) is =
-          subst (λ z. Steps c t (Element i x k) z l w) (sym at_q) ((of_element site i l same (element_within x.elements i e is).1 e is (built_element site i e is)).0 w facts)
+          subst (λ z. Steps c t (Element i x k) z false w) (sym at_q) ((of_element site i (element_within x.elements i e is).1 e is (built_element site i e is)).0 w facts)
       by_element None is =
           let last = element_past x.elements i one le is in
-          silent c t.segment t.acts t.calls_below t.unit t.unit_is t.calls (Element i x k) k q l false w (ap (λ o. element_step (source c) o t.segment i x k t.acts w) is) tt
-          (to_end site q l (subst (λ z. slice_get (code c t) z ≡ Some (order.Jump site.end)) (sym (at_q ∙ ap site.place last)) site.last))
+          silent c t.segment t.acts t.calls_below t.unit t.unit_is t.calls (Element i x k) k q false false w (ap (λ o. element_step (source c) o t.segment i x k t.acts w) is) tt
+          (to_end site q (subst (λ z. slice_get (code c t) z ≡ Some (order.Jump site.end)) (sym (at_q ∙ ap site.place last)) site.last))
           (let z : work_size c k < 1 + work_size c k = omega arith in z)
 
   -- the step is added
-  pub bump_follows : (i q l : ℕ) (w : Words) → BumpSite c.orders_for t.unit who (has_words c t) q i x n → x.line ≡ l → Facts c t (Bump i x k) w → Steps c t (Bump i x k) q l w
-  bump_follows i q l w (y, stands, marked, turning) same facts =
+  pub bump_follows : (i q : ℕ) (w : Words) → BumpSite c.orders_for t.unit who (has_words c t) q i x n → Facts c t (Bump i x k) w → Steps c t (Bump i x k) q false w
+  bump_follows i q w (y, stands, marked, turning) facts =
       let site = turning.0 in
-      done_by c t (Bump i x k) (Turn i x k) x.line q y l (bump_orders (layout c t) x.item) w false (perform c.limits.area (AddStep (address_at (source c) t.segment t.acts x.item)) w) same stands
-      (item_and (layout c t) x.item (order.AddStep ∷ []) refl (omega arith) (omega arith))
+      done_by c t (Bump i x k) (Turn i x k) x.line q y false false (bump_orders (layout c t) x.line x.item) w false (perform c.limits.area (AddStep (address_at (source c) t.segment t.acts x.item)) w) stands
+      (item_and (layout c t) x.line false x.item (order.AddStep x.line ∷ []) refl (omega arith) (omega arith) (refl, tt) refl)
       facts refl
-      (λ ok. bumps (target c) (here_in c t) t.calls_below (source c) t.segment t.acts (layout c t) (has_words c t) t.in_words t.stand x.item 4 w.operands w.memory w.input w.output site.words (let z : 1 < 4 = omega arith in z))
+      (λ ok. bumps (target c) (here_in c t) t.calls_below (source c) t.segment t.acts (layout c t) (has_words c t) t.in_words t.stand x.line x.item 4 w.operands w.memory w.input w.output site.words (let z : 1 < 4 = omega arith in z))
       (λ v h. tt)
-      (y + 1, past marked (here refl), turn_carried (y + 1) i l turning same)
+      (y + 1, false, past marked (here refl refl), turn_carried (y + 1) i turning)
 
   -- ---- some orders, and then one that chooses the way
 
   abbrev g : ℕ
   g = here_in c t
 
-  abbrev at_state : (q l : ℕ) → Words → OrderState
+  abbrev at_state : (q : ℕ) → (l : Bool) → Words → OrderState
   at_state q l w = state g q l t.calls_below w Running
 
-  run_on : (os : List Order) (q m l : ℕ) (w : Words) → Stands (code c t) q os m → IsTrue (all_silent os) → 2 * length os + stack_words w.operands t.calls_below ≤ c.room → Ran (target c) g t.calls_below q m l os w (run c t os w)
-  run_on os q m l w stands quiet roomy =
-      run_through (target c) g t.calls_below (code c t) (order_here c t.segment t.acts t.calls_below t.unit t.unit_is) os q m l w stands quiet (let z : total_growth os + stack_words w.operands t.calls_below ≤ c.room = omega (arith, roomy, growth_within os) in z)
+  run_on : (os : List Order) (q m : ℕ) (l l' : Bool) (w : Words) → Stands (code c t) q os m → IsTrue (all_silent os) → OnLine x.line os → loaded_through os l ≡ Some l' → 2 * length os + stack_words w.operands t.calls_below ≤ c.room → Ran (target c) g t.calls_below x.line q m l l' os w (run c t os w)
+  run_on os q m l l' w stands quiet at turns roomy =
+      run_through (target c) g t.calls_below (code c t) (order_here c t.segment t.acts t.calls_below t.unit t.unit_is) x.line os q m l l' w stands quiet at turns (let z : total_growth os + stack_words w.operands t.calls_below ≤ c.room = omega (arith, roomy, growth_within os) in z)
 
   abbrev loop_word : (n : ℕ) → Words → ℤ
   loop_word i w = word_at w.memory (address_at (source c) t.segment t.acts x.item + i)
@@ -445,8 +446,8 @@ module _ (c : Compiled) (at_sites : (g : ℕ) (u : Rattle.cw_unit.specs.declared
 
   -- ---- behind the body
 
-  pub on_follows : (q l : ℕ) (w : Words) → OnSite c.orders_for t.unit who (has_words c t) q x n → Facts c t (On x k) w → Steps c t (On x k) q l w
-  on_follows q l w (site, at_q) facts = subst (λ z. Steps c t (On x k) z l w) (sym at_q) (by_element (element_at x.elements i) refl)
+  pub on_follows : (q : ℕ) (w : Words) → OnSite c.orders_for t.unit who (has_words c t) q x n → Facts c t (On x k) w → Steps c t (On x k) q false w
+  on_follows q w (site, at_q) facts = subst (λ z. Steps c t (On x k) z false w) (sym at_q) (by_element (element_at x.elements i) refl)
     where
       z : ℤ
       z = loop_word 3 w
@@ -458,7 +459,7 @@ module _ (c : Compiled) (at_sites : (g : ℕ) (u : Rattle.cw_unit.specs.declared
       v = put z w
 
       p : ℕ
-      p = site.on + 1 + 1 + 1
+      p = site.on + 1 + 1
 
       read : run c t (item_order (layout c t) x.item 3 ∷ order.Load ∷ []) w ≡ Changed v
       read = behind_word (target c) (here_in c t) t.calls_below (source c) t.segment t.acts (layout c t) (has_words c t) t.in_words t.stand x.item 3 4 [] w.operands w.memory w.input w.output site.words three_of_four
@@ -466,41 +467,38 @@ module _ (c : Compiled) (at_sites : (g : ℕ) (u : Rattle.cw_unit.specs.declared
       weight : ℕ
       weight = weight_of (item_order (layout c t) x.item 3) + (4 + 0)
 
-      line_set : Path (Seen c t.segment t.acts t.calls_below t.unit t.unit_is w) (B c) 1 (at_state site.on l w) (at_state (site.on + 1) x.line w)
-      line_set = one_order c t (order.Line x.line) site.on l w (at_state (site.on + 1) x.line w) (λ h y. refl) site.goes_on.0 refl
+      read_on : Path (Seen c t.segment t.acts t.calls_below t.unit t.unit_is w) (B c) weight (at_state site.on false w) (at_state p true v)
+      read_on =
+          (subst (Ran (target c) g t.calls_below x.line site.on p false true (item_order (layout c t) x.item 3 ∷ order.Load ∷ []) w) read
+          (run_on (item_order (layout c t) x.item 3 ∷ order.Load ∷ []) site.on p false true w (site.goes_on.0, (site.goes_on.1.0, refl)) (silent_and (is_silent (item_order (layout c t) x.item 3)) true (item_silent (layout c t) x.item 3) refl) (item_tells x.line (layout c t) x.item 3, (tt, tt)) (ap (λ y. through_all y (order.Load ∷ [])) (item_loads (layout c t) x.item 3)) (let y : 2 * 2 + stack_words w.operands t.calls_below ≤ c.room = omega (arith, facts.room) in y))).0
 
-      loaded : Path (Seen c t.segment t.acts t.calls_below t.unit t.unit_is w) (B c) weight (at_state (site.on + 1) x.line w) (at_state p x.line v)
-      loaded = (subst (Ran (target c) g t.calls_below (site.on + 1) p x.line (item_order (layout c t) x.item 3 ∷ order.Load ∷ []) w) read (run_on (item_order (layout c t) x.item 3 ∷ order.Load ∷ []) (site.on + 1) p x.line w (site.goes_on.1.0, (site.goes_on.1.1.0, refl)) (silent_and (is_silent (item_order (layout c t) x.item 3)) true (item_silent (layout c t) x.item 3) refl) (let y : 2 * 2 + stack_words w.operands t.calls_below ≤ c.room = omega (arith, facts.room) in y))).0
-
-      goes : (y : ℕ) (k' : Work) → next_element (element_at x.elements i) i x k ≡ k' → act (target c) (action_of (target c) g t.calls_below (order.LoopWay site.ways)) g p x.line t.calls_below v ≡ at_state y x.line w → Leads_to c t y x.line false k' → Steps c t (On x k) site.on l w
+      goes : (y : ℕ) (k' : Work) → next_element (element_at x.elements i) i x k ≡ k' → act (target c) (action_of (target c) g t.calls_below (order.LoopWay site.ways)) g p false t.calls_below v ≡ at_state y false w → Leads_to c t y false false k' → Steps c t (On x k) site.on false w
       goes y k' e f carried =
           let seen = Seen c t.segment t.acts t.calls_below t.unit t.unit_is w in
-          let chosen = one_order c t (order.LoopWay site.ways) p x.line v (at_state y x.line w) (λ h z. refl) site.goes_on.1.1.1.0 f in
+          let chosen = one_order c t (order.LoopWay site.ways) p true false v (at_state y false w) (λ h z. refl) site.goes_on.1.1.0 refl f in
           let heavy = item_light (layout c t) x.item 3 in
-          let all = join seen (B c) 1 (weight + 12) (1 + (weight + 12)) (at_state site.on l w) (at_state (site.on + 1) x.line w) (at_state y x.line w) refl line_set
-          (join seen (B c) weight 12 (weight + 12) (at_state (site.on + 1) x.line w) (at_state p x.line v) (at_state y x.line w) refl loaded chosen) in
-          lands c t.segment t.acts t.calls_below t.unit t.unit_is t.calls (On x k) k' site.on y l x.line false w w (1 + (weight + 12)) (ap (λ m. configuration t.segment m t.acts w Running) e)
-          (weaken seen (Quiet (shown (config c t (On x k) w)) (shown (configuration t.segment k' t.acts w Running))) (B c) (1 + (weight + 12)) (at_state site.on l w) (at_state y x.line w) (λ o h. (inl h.0, h.1)) all)
-          (let y' : 1 + (weight + 12) ≤ 160 = omega (arith, heavy.1) in y') tt carried (inl (let y' : 0 < 1 + (weight + 12) = omega arith in y'))
+          let all = join seen (B c) weight 12 (weight + 12) (at_state site.on false w) (at_state p true v) (at_state y false w) refl read_on chosen in
+          lands c t.segment t.acts t.calls_below t.unit t.unit_is t.calls (On x k) k' site.on y false false false w w (weight + 12) (ap (λ m. configuration t.segment m t.acts w Running) e)
+          (weaken seen (Quiet (shown (config c t (On x k) w)) (shown (configuration t.segment k' t.acts w Running))) (B c) (weight + 12) (at_state site.on false w) (at_state y false w) (λ o h. (inl h.0, h.1)) all)
+          (let y' : weight + 12 ≤ 159 = omega (arith, heavy.1) in y') tt carried (inl (let y' : 0 < weight + 12 = omega arith in y'))
 
-      way : (o : Option ℕ) → mark_of_number site.ways (pos i) ≡ o → act (target c) (action_of (target c) g t.calls_below (order.LoopWay site.ways)) g p x.line t.calls_below v ≡ branch (target c) (to_mark_in o w) g p x.line t.calls_below v
-      way o e = ap (λ m. branch (target c) (to_mark_in m w) g p x.line t.calls_below v) (same_way site.ways z ∙ e)
+      way : (o : Option ℕ) → mark_of_number site.ways (pos i) ≡ o → act (target c) (action_of (target c) g t.calls_below (order.LoopWay site.ways)) g p false t.calls_below v ≡ branch (target c) (to_mark_in o w) g p false t.calls_below v
+      way o e = ap (λ m. branch (target c) (to_mark_in m w) g p false t.calls_below v) (same_way site.ways z ∙ e)
 
-      by_element : (e : Option Felem) → element_at x.elements i ≡ e → Steps c t (On x k) site.on l w
+      by_element : (e : Option Felem) → element_at x.elements i ≡ e → Steps c t (On x k) site.on false w
       by_element None is =
-          let u = after x.line in
           goes (p + 1) k (ap (λ o. next_element o i x k) is) (way None (site.no_way i is))
-          (u.0, wider (code c t) (marks c t) j most_levels (p + 1) u.0 (let y : j ≤ 64 = omega (arith, fits_in) in y) (subst (λ y. Leads (code c t) (marks c t) j y u.0) (sym site.goes_on.1.1.1.1) (past site.out_marks (subst (λ y. Leads (code c t) (marks c t) j y u.0) (sym site.next_is) u.1))), u.2)
+          (after.0, after.1, wider (code c t) (marks c t) j most_levels (p + 1) false after.0 after.1 (let y : j ≤ 64 = omega (arith, fits_in) in y) (subst (λ y. Leads (code c t) (marks c t) j y false after.0 after.1) (sym site.goes_on.1.1.1) (past site.out_marks (subst (λ y. Leads (code c t) (marks c t) j y false after.0 after.1) (sym site.next_is) after.2))), after.3)
       by_element (Some e) is =
-          let to = (of_element site i x.line refl (element_within x.elements i e is).1 e is (built_element site i e is)).1 in
+          let to = (of_element site i (element_within x.elements i e is).1 e is (built_element site i e is)).1 in
           goes to.0 (next_work e i x k) (ap (λ o. next_element o i x k) is)
-          (way (Some (way_mark e (site.free i))) (site.way i e is) ∙ ap (λ o. go_at o g p x.line t.calls_below v w) (mark_here c t.segment t.acts t.calls_below t.unit t.unit_is (way_mark e (site.free i)) to.0 to.1))
+          (way (Some (way_mark e (site.free i))) (site.way i e is) ∙ ap (λ o. go_at o g p false t.calls_below v w) (mark_here c t.segment t.acts t.calls_below t.unit t.unit_is (way_mark e (site.free i)) to.0 to.1))
           to.2
 
   -- ---- a turn
 
-  pub turn_follows : (i q l : ℕ) (w : Words) → TurnSite c.orders_for t.unit who (has_words c t) q i x n → x.line ≡ l → Facts c t (Turn i x k) w → Steps c t (Turn i x k) q l w
-  turn_follows i q l w (site, mark, xx, y, stands, mark_is, way, below) same facts = by_area (is_below z c.limits.area) refl
+  pub turn_follows : (i q : ℕ) (w : Words) → TurnSite c.orders_for t.unit who (has_words c t) q i x n → Facts c t (Turn i x k) w → Steps c t (Turn i x k) q false w
+  turn_follows i q w (site, mark, xx, y, stands, mark_is, way, below) facts = by_area (is_below z c.limits.area) refl
     where
       a : ℕ
       a = address_at (source c) t.segment t.acts x.item
@@ -509,18 +507,19 @@ module _ (c : Compiled) (at_sites : (g : ℕ) (u : Rattle.cw_unit.specs.declared
       z = word_at w.memory a
 
       os : List Order
-      os = item_order (layout c t) x.item 0 ∷ order.PutVariable ∷ []
+      os = item_order (layout c t) x.item 0 ∷ order.PutVariable x.line ∷ []
 
       p : ℕ
       p = q + 1 + 1
 
-      ran : Ran (target c) g t.calls_below q p l os w (run c t os w)
-      ran = run_on os q p l w (stands.0, (stands.1.0, refl))
+      ran : Ran (target c) g t.calls_below x.line q p false true os w (run c t os w)
+      ran = run_on os q p false true w (stands.0, (stands.1.0, refl))
           (silent_and (is_silent (item_order (layout c t) x.item 0)) true (item_silent (layout c t) x.item 0) refl)
+          (item_tells x.line (layout c t) x.item 0, (refl, tt)) (ap (λ y'. through_all y' (order.PutVariable x.line ∷ [])) (item_loads (layout c t) x.item 0))
           (let y' : 2 * 2 + stack_words w.operands t.calls_below ≤ c.room = omega (arith, facts.room) in y')
 
       read : run c t os w ≡ through (is_below z c.limits.area) (λ j' v. Changed (put (pos a) (put (word_at v.memory j') v))) z w
-      read = variable_put (target c) (here_in c t) t.calls_below (source c) t.segment t.acts (layout c t) (has_words c t) t.in_words t.stand x.item 4 w.operands w.memory w.input w.output site.words none_of_four
+      read = variable_put (target c) (here_in c t) t.calls_below (source c) t.segment t.acts (layout c t) (has_words c t) t.in_words t.stand x.line x.item 4 w.operands w.memory w.input w.output site.words none_of_four
 
       heavy : (0 < weight_of (item_order (layout c t) x.item 0)) × (weight_of (item_order (layout c t) x.item 0) ≤ 4)
       heavy = item_light (layout c t) x.item 0
@@ -543,44 +542,43 @@ module _ (c : Compiled) (at_sites : (g : ℕ) (u : Rattle.cw_unit.specs.declared
       cost : ℕ
       cost = total_weight os
 
-      light : cost + 20 ≤ 160
-      light = let v : weight_of (item_order (layout c t) x.item 0) + (22 + 0) + 20 ≤ 160 = omega (arith, heavy.1) in v
+      light : cost + 20 ≤ 159
+      light = let v : weight_of (item_order (layout c t) x.item 0) + (24 + 0) + 20 ≤ 159 = omega (arith, heavy.1) in v
 
-      to_way : is_below z c.limits.area ≡ true → Path (Seen c t.segment t.acts t.calls_below t.unit t.unit_is w) (B c) cost (at_state q l w) (at_state p l u)
+      to_way : is_below z c.limits.area ≡ true → Path (Seen c t.segment t.acts t.calls_below t.unit t.unit_is w) (B c) cost (at_state q false w) (at_state p true u)
       to_way is =
           let done : run c t os w ≡ Changed u = read ∙ ap (λ b. through b (λ j' v. Changed (put (pos a) (put (word_at v.memory j') v))) z w) is in
-          (subst (Ran (target c) g t.calls_below q p l os w) done ran).0
+          (subst (Ran (target c) g t.calls_below x.line q p false true os w) done ran).0
 
-      goes : (y' : ℕ) (k' : Work) → is_below z c.limits.area ≡ true → next c t (Turn i x k) w ≡ config c t k' w → act (target c) (action_of (target c) g t.calls_below (order.Exhausted mark)) g p l t.calls_below u ≡ at_state y' l w → Leads_to c t y' l false k' → Steps c t (Turn i x k) q l w
+      goes : (y' : ℕ) (k' : Work) → is_below z c.limits.area ≡ true → next c t (Turn i x k) w ≡ config c t k' w → act (target c) (action_of (target c) g t.calls_below (order.Exhausted mark)) g p false t.calls_below u ≡ at_state y' false w → Leads_to c t y' false false k' → Steps c t (Turn i x k) q false w
       goes y' k' is e f carried =
           let seen = Seen c t.segment t.acts t.calls_below t.unit t.unit_is w in
-          let chosen = one_order c t (order.Exhausted mark) p l u (at_state y' l w) (λ h z. refl) stands.1.1.0 f in
-          let all = join seen (B c) cost 20 (cost + 20) (at_state q l w) (at_state p l u) (at_state y' l w) refl (to_way is) chosen in
-          lands c t.segment t.acts t.calls_below t.unit t.unit_is t.calls (Turn i x k) k' q y' l l false w w (cost + 20) e
-          (weaken seen (Quiet (shown (config c t (Turn i x k) w)) (shown (configuration t.segment k' t.acts w Running))) (B c) (cost + 20) (at_state q l w) (at_state y' l w) (λ o h. (inl h.0, h.1)) all)
+          let chosen = one_order c t (order.Exhausted mark) p true false u (at_state y' false w) (λ h z. refl) stands.1.1.0 refl f in
+          let all = join seen (B c) cost 20 (cost + 20) (at_state q false w) (at_state p true u) (at_state y' false w) refl (to_way is) chosen in
+          lands c t.segment t.acts t.calls_below t.unit t.unit_is t.calls (Turn i x k) k' q y' false false false w w (cost + 20) e
+          (weaken seen (Quiet (shown (config c t (Turn i x k) w)) (shown (configuration t.segment k' t.acts w Running))) (B c) (cost + 20) (at_state q false w) (at_state y' false w) (λ o h. (inl h.0, h.1)) all)
           light tt carried (inl (let v : 0 < cost + 20 = omega arith in v))
 
       past_is : Bool
       past_is = is_past (word_at w.memory (a + 1)) value (word_at w.memory (a + 2))
 
-      chooses : (b : Bool) → is_past (word_at w.memory (a + 1)) value (word_at w.memory (a + 2)) ≡ b → act (target c) (action_of (target c) g t.calls_below (order.Exhausted mark)) g p l t.calls_below u ≡ branch (target c) (to_mark_if b mark w) g p l t.calls_below u
-      chooses b e = ap (λ d. branch (target c) (way_past_limit d mark value a w) g p l t.calls_below u) in_area ∙ ap (λ d. branch (target c) (to_mark_if d mark w) g p l t.calls_below u) e
+      chooses : (b : Bool) → is_past (word_at w.memory (a + 1)) value (word_at w.memory (a + 2)) ≡ b → act (target c) (action_of (target c) g t.calls_below (order.Exhausted mark)) g p false t.calls_below u ≡ branch (target c) (to_mark_if b mark w) g p false t.calls_below u
+      chooses b e = ap (λ d. branch (target c) (way_past_limit d mark value a w) g p false t.calls_below u) in_area ∙ ap (λ d. branch (target c) (to_mark_if d mark w) g p false t.calls_below u) e
 
       picks : (b : Bool) → is_below z c.limits.area ≡ true → is_past (word_at w.memory (a + 1)) value (word_at w.memory (a + 2)) ≡ b → next c t (Turn i x k) w ≡ config c t (pick b next_on body_on) w
       picks b is e = ap (λ d. turn_step (source c) d t.segment a i x (Turn i x k) k t.acts w) is ∙ ap (λ d. config c t (pick d next_on body_on) w) e
 
-      by_past : (b : Bool) → is_below z c.limits.area ≡ true → is_past (word_at w.memory (a + 1)) value (word_at w.memory (a + 2)) ≡ b → Steps c t (Turn i x k) q l w
+      by_past : (b : Bool) → is_below z c.limits.area ≡ true → is_past (word_at w.memory (a + 1)) value (word_at w.memory (a + 2)) ≡ b → Steps c t (Turn i x k) q false w
       by_past true is e =
           goes y next_on is (picks true is e)
-          (chooses true e ∙ ap (λ o. go_at o g p l t.calls_below u w) (mark_here c t.segment t.acts t.calls_below t.unit t.unit_is mark y mark_is))
-          (site.place (i + 1), wider (code c t) (marks c t) 0 most_levels y (site.place (i + 1)) (let v : 0 ≤ 64 = omega arith in v) way, element_carried (site.place (i + 1)) (i + 1) l (next_element_site site i below) same)
-      by_past false is e = goes (p + 1) body_on is (picks false is e) (chooses false e) (to_body site (p + 1) l stands.1.1.1.0)
+          (chooses true e ∙ ap (λ o. go_at o g p false t.calls_below u w) (mark_here c t.segment t.acts t.calls_below t.unit t.unit_is mark y mark_is))
+          (site.place (i + 1), false, wider (code c t) (marks c t) 0 most_levels y false (site.place (i + 1)) false (let v : 0 ≤ 64 = omega arith in v) way, element_carried (site.place (i + 1)) (i + 1) (next_element_site site i below))
+      by_past false is e = goes (p + 1) body_on is (picks false is e) (chooses false e) (to_body site (p + 1) stands.1.1.1.0)
 
-      by_area : (b : Bool) → is_below z c.limits.area ≡ b → Steps c t (Turn i x k) q l w
+      by_area : (b : Bool) → is_below z c.limits.area ≡ b → Steps c t (Turn i x k) q false w
       by_area true is = by_past (is_past (word_at w.memory (a + 1)) value (word_at w.memory (a + 2))) is refl
       by_area false is =
           let done : run c t os w ≡ Refused AddressRange = read ∙ ap (λ b. through b (λ j' v. Changed (put (pos a) (put (word_at v.memory j') v))) z w) is in
-          let stop = subst (Ran (target c) g t.calls_below q p l os w) done ran in
-          stops c t.segment t.acts t.calls_below t.unit t.unit_is t.calls (Turn i x k) q stop.1 l w stop.2 AddressRange x.line stop.0 (ap (λ d. turn_step (source c) d t.segment a i x (Turn i x k) k t.acts w) is)
-          (subst (λ m. Path (Seen c t.segment t.acts t.calls_below t.unit t.unit_is w) (B c) stop.0 (at_state q l w) (state g stop.1 l t.calls_below stop.2 (Stopped AddressRange (g + 1) m))) (sym same) stop.5)
-          stop.6 (let v : stop.0 ≤ 224 = omega (arith, stop.4, light) in v) stop.3
+          let stop = subst (Ran (target c) g t.calls_below x.line q p false true os w) done ran in
+          stops c t.segment t.acts t.calls_below t.unit t.unit_is t.calls (Turn i x k) q stop.1 false stop.2 w stop.3 AddressRange x.line stop.0 (ap (λ d. turn_step (source c) d t.segment a i x (Turn i x k) k t.acts w) is)
+          stop.6 stop.7 (let v : stop.0 ≤ 224 = omega (arith, stop.5, light) in v) stop.4

@@ -13,7 +13,7 @@ use Rattle.cw_order.specs.declared.order.Order.TheVariants as order
 use Rattle.cw_order.specs.declared.order.Orders.{Orders}
 use Rattle.cw_order.specs.OrderChanges.{mark_of_number}
 use Rattle.cw_gen_expr.specs.Pieces.{plain, followed_by, with_end}
-use Rattle.cw_gen_expr.specs.ReferenceExpressions.{Scope, item_order}
+use Rattle.cw_gen_expr.specs.ReferenceExpressions.{at_line, Scope, item_order}
 use Rattle.cw_gen_expr.proofs.NoLabels.{value_unlabelled, condition_unlabelled}
 use Rattle.cw_carry.proofs.Expressions.Standing.{Stands, ends_at, Made, both_made, end_made}
 use Rattle.cw_gen_expr.specs.ReferenceEntries.{scope_of}
@@ -137,23 +137,23 @@ module _ (orders_for : SourceUnit → Orders) (u : SourceUnit) (who : Option ℕ
   abbrev answer : ℕ
   answer = answer_of u who
 
-  pub ring_whole : (line item : ℕ) (r : Ref) (es : List Felem) (b : Stmt) (q n free last : ℕ) → IsTrue (has_words item 4) → length es < 32767 → IsTrue (are_elements u has_words who answer (out-Ref r).f es) → IsTrue (is_statement u has_words who answer b 64) → Made code marks (ring_piece scope line item (out-Ref r).f es (statement_piece scope who answer b) q free) q n free last → (site : LoopSite orders_for u who has_words (loop_of line item r es b) n) × (q ≡ site.place 1) × ((ring_piece scope line item (out-Ref r).f es (statement_piece scope who answer b) q free).labels ≡ (statement_piece scope who answer b (site.head + 1) site.body_at.0).labels)
+  pub ring_whole : (line item : ℕ) (r : Ref) (es : List Felem) (b : Stmt) (q n free last : ℕ) → IsTrue (has_words item 4) → length es < 32767 → IsTrue (are_elements u has_words who answer (out-Ref r).f es) → IsTrue (is_statement u has_words who answer b 64) → Made code marks (ring_piece (at_line line scope) item (out-Ref r).f es (statement_piece scope who answer b) q free) q n free last → (site : LoopSite orders_for u who has_words (loop_of line item r es b) n) × (q ≡ site.place 1) × ((ring_piece (at_line line scope) item (out-Ref r).f es (statement_piece scope who answer b) q free).labels ≡ (statement_piece scope who answer b (site.head + 1) site.body_at.0).labels)
   ring_whole line item r es b q n free last words few built body_built made =
       let f = (out-Ref r).f in
       let stmt = statement_piece scope who answer b in
       let start = free + 1 in
       let set = free + 1 + 1 in
-      let ways = element_ways scope item f set start 1 es q (set + 1) in
-      let tail = λ (end start set : ℕ). followed_by (elements_piece scope item f set start 1 es) (plain (order.Jump end ∷ [])) in
-      let first = λ (end start : ℕ). followed_by (with_end (tail end start)) (plain (set_orders scope.layout item)) in
-      let second = λ (start : ℕ). followed_by stmt (plain (order.Line line ∷ item_order scope.layout item 3 ∷ order.Load ∷ order.LoopWay ways ∷ [])) in
+      let ways = element_ways (at_line line scope) item f set start 1 es q (set + 1) in
+      let tail = λ (end start set : ℕ). followed_by (elements_piece (at_line line scope) item f set start 1 es) (plain (order.Jump end ∷ [])) in
+      let first = λ (end start : ℕ). followed_by (with_end (tail end start)) (plain (set_orders scope.layout line item)) in
+      let second = λ (start : ℕ). followed_by stmt (plain (item_order scope.layout item 3 ∷ order.Load ∷ order.LoopWay ways ∷ [])) in
       let s1 = end_made code marks (λ end. with_middle (first end) second) q n free last made in
       let s2 = both_made code marks (with_end (first free)) (second start) q s1.0 start last s1.1 in
       let s3 = end_made code marks (first free) q s2.0 start s2.1 s2.2 in
-      let s4 = both_made code marks (with_end (tail free start)) (plain (set_orders scope.layout item)) q s3.0 set s2.1 s3.1 in
+      let s4 = both_made code marks (with_end (tail free start)) (plain (set_orders scope.layout line item)) q s3.0 set s2.1 s3.1 in
       let s5 = end_made code marks (tail free start) q s4.0 set s4.1 s4.2 in
-      let s6 = both_made code marks (elements_piece scope item f set start 1 es) (plain (order.Jump free ∷ [])) q s5.0 (set + 1) s4.1 s5.1 in
-      let s7 = both_made code marks stmt (plain (order.Line line ∷ item_order scope.layout item 3 ∷ order.Load ∷ order.LoopWay ways ∷ [])) s2.0 s1.0 s2.1 last s2.3 in
+      let s6 = both_made code marks (elements_piece (at_line line scope) item f set start 1 es) (plain (order.Jump free ∷ [])) q s5.0 (set + 1) s4.1 s5.1 in
+      let s7 = both_made code marks stmt (plain (item_order scope.layout item 3 ∷ order.Load ∷ order.LoopWay ways ∷ [])) s2.0 s1.0 s2.1 last s2.3 in
       let es_made = s6.2 in (
         record {
           words = words;
@@ -166,7 +166,7 @@ module _ (orders_for : SourceUnit → Orders) (u : SourceUnit) (who : Option ℕ
           tail_is = s5.4;
           tail_marks = s5.2;
           head = s3.0;
-          sets = subst (λ x. Stands code x (set_orders scope.layout item) s3.0) (sym s5.3) s4.3.0;
+          sets = subst (λ x. Stands code x (set_orders scope.layout line item) s3.0) (sym s5.3) s4.3.0;
           head_is = s3.4;
           head_marks = s3.2;
           on = s7.0;
@@ -177,18 +177,18 @@ module _ (orders_for : SourceUnit → Orders) (u : SourceUnit) (who : Option ℕ
           end_is = s1.4;
           out_marks = s1.2;
           next_is = s1.3;
-          place = place code marks scope who answer item f set start es q s6.0 (set + 1) s6.1 es_made;
-          free = free_of code marks scope who answer item f set start es q s6.0 (set + 1) s6.1 es_made;
-          each = each_one code marks scope who answer item f set start es q s6.0 (set + 1) s6.1 es_made;
-          way = way_one code marks scope who answer item f set start es q s6.0 (set + 1) s6.1 es_made;
-          no_way = no_way_one code marks scope who answer item f set start es q s6.0 (set + 1) s6.1 es_made;
-          last = ap (slice_get code) (last_one code marks scope who answer item f set start es q s6.0 (set + 1) s6.1 es_made) ∙ s6.3.0.0;
+          place = place code marks (at_line line scope) who answer item f set start es q s6.0 (set + 1) s6.1 es_made;
+          free = free_of code marks (at_line line scope) who answer item f set start es q s6.0 (set + 1) s6.1 es_made;
+          each = each_one code marks (at_line line scope) who answer item f set start es q s6.0 (set + 1) s6.1 es_made;
+          way = way_one code marks (at_line line scope) who answer item f set start es q s6.0 (set + 1) s6.1 es_made;
+          no_way = no_way_one code marks (at_line line scope) who answer item f set start es q s6.0 (set + 1) s6.1 es_made;
+          last = ap (slice_get code) (last_one code marks (at_line line scope) who answer item f set start es q s6.0 (set + 1) s6.1 es_made) ∙ s6.3.0.0;
         },
         refl,
-        s2.4 ∙ ap₂ (λ a b. a ++ b) (nothing (nothing (elements_unlabelled scope who answer item f set start 1 es _ _) refl) refl) (append-nil (stmt s2.0 s2.1).labels) ∙ ap (λ x. (stmt x s2.1).labels) (sym s3.3),
+        s2.4 ∙ ap₂ (λ a b. a ++ b) (nothing (nothing (elements_unlabelled (at_line line scope) who answer item f set start 1 es _ _) refl) refl) (append-nil (stmt s2.0 s2.1).labels) ∙ ap (λ x. (stmt x s2.1).labels) (sym s3.3),
       )
 
-  pub ring_site : (line item : ℕ) (r : Ref) (es : List Felem) (b : Stmt) (q n free last : ℕ) → IsTrue (has_words item 4) → length es < 32767 → IsTrue (are_elements u has_words who answer (out-Ref r).f es) → IsTrue (is_statement u has_words who answer b 64) → Made code marks (ring_piece scope line item (out-Ref r).f es (statement_piece scope who answer b) q free) q n free last → (site : LoopSite orders_for u who has_words (loop_of line item r es b) n) × (q ≡ site.place 1)
+  pub ring_site : (line item : ℕ) (r : Ref) (es : List Felem) (b : Stmt) (q n free last : ℕ) → IsTrue (has_words item 4) → length es < 32767 → IsTrue (are_elements u has_words who answer (out-Ref r).f es) → IsTrue (is_statement u has_words who answer b 64) → Made code marks (ring_piece (at_line line scope) item (out-Ref r).f es (statement_piece scope who answer b) q free) q n free last → (site : LoopSite orders_for u who has_words (loop_of line item r es b) n) × (q ≡ site.place 1)
   ring_site line item r es b q n free last words few built body_built made =
       let x = ring_whole line item r es b q n free last words few built body_built made in
       (x.0, x.1)

@@ -24,15 +24,15 @@ module _ (c : Compiled) (at_sites : (g : ℕ) (u : SourceUnit) (who : Option ℕ
   is_here : (t : Moment c) → c.places (here_in c t) t.unit (who_of t.acts) ≡ Here t
   is_here t = at_sites (here_in c t) t.unit (who_of t.acts)
 
-  pub rules : LabelsReach c → ((g : ℕ) (v : SourceUnit) (l : ℕ) → slice_get c.units g ≡ Some v → CarriedIn c.units c.addresses c.limits c.orders_for c.places c.has_words g v None (c.orders_for v).entry l false (Run v.body Nothing)) → ((h p : ℕ) (v : SourceUnit) (proc : Proc) → slice_get c.units h ≡ Some v → slice_get v.procs p ≡ Some proc → ProcedureAt c h v p proc) → Rules c
+  pub rules : LabelsReach c → ((g : ℕ) (v : SourceUnit) → slice_get c.units g ≡ Some v → CarriedIn c.units c.addresses c.limits c.orders_for c.places c.has_words g v None (c.orders_for v).entry false false (Run v.body Nothing)) → ((h p : ℕ) (v : SourceUnit) (proc : Proc) → slice_get c.units h ≡ Some v → slice_get v.procs p ≡ Some proc → ProcedureAt c h v p proc) → Rules c
   rules reach begins procedures = record {
-    statement = λ t s k q n levels j l w at le via facts.
-        statement_follows c at_sites sizes t (λ line item r es body q' n' free last words few built body_built made. ring_site c.orders_for t.unit (who_of t.acts) (has_words c t) line item r es body q' n' free last words few built body_built made) s k q n levels j l w (subst (λ p. p.StatementAt q s levels n) (is_here t) at) le via;
-    jump = λ t d line q l w at same facts sound. jump_follows c t reach line q l w same d (subst (λ p. p.JumpAt q d) (is_here t) at) facts sound;
-    element = λ t i x k q n j l w at le same via facts. element_follows c at_sites t x k n j le via i q l w (subst (λ p. p.ElementAt q i x n) (is_here t) at) same facts;
-    turn = λ t i x k q n j l w at le same via facts. turn_follows c at_sites t x k n j le via i q l w (subst (λ p. p.TurnAt q i x n) (is_here t) at) same facts;
-    bump = λ t i x k q n j l w at le same via facts. bump_follows c at_sites t x k n j le via i q l w (subst (λ p. p.BumpAt q i x n) (is_here t) at) same facts;
-    on = λ t x k q n j l w at le via facts. on_follows c at_sites t x k n j le via q l w (subst (λ p. p.OnAt q x n) (is_here t) at) facts;
+    statement = λ t s k q n levels j w at le via facts.
+        statement_follows c at_sites sizes t (λ line item r es body q' n' free last words few built body_built made. ring_site c.orders_for t.unit (who_of t.acts) (has_words c t) line item r es body q' n' free last words few built body_built made) s k q n levels j w (subst (λ p. p.StatementAt q s levels n) (is_here t) at) le via;
+    jump = λ t d line q w at facts sound. jump_follows c t reach line q w d (subst (λ p. p.JumpAt line q d) (is_here t) at) facts sound;
+    element = λ t i x k q n j w at le via facts. element_follows c at_sites t x k n j le via i q w (subst (λ p. p.ElementAt q i x n) (is_here t) at) facts;
+    turn = λ t i x k q n j w at le via facts. turn_follows c at_sites t x k n j le via i q w (subst (λ p. p.TurnAt q i x n) (is_here t) at) facts;
+    bump = λ t i x k q n j w at le via facts. bump_follows c at_sites t x k n j le via i q w (subst (λ p. p.BumpAt q i x n) (is_here t) at) facts;
+    on = λ t x k q n j w at le via facts. on_follows c at_sites t x k n j le via q w (subst (λ p. p.OnAt q x n) (is_here t) at) facts;
     begins = begins;
     procedures = procedures;
   }

@@ -1,5 +1,5 @@
 -- Where statements, jumps and the parts of loops stand.
-use Rattle.std.proofs.Common.{◌≡◌, ℕ, ◌+◌, ◌<◌, ◌≤◌, pos, List, [], ◌∷◌, length, Bool, Option, Some, None}
+use Rattle.std.proofs.Common.{◌≡◌, ℕ, ◌+◌, ◌<◌, ◌≤◌, pos, List, [], ◌∷◌, length, Bool, false, Option, Some, None}
 use Rattle.std.specs.Prelude.{slice_get, IsTrue}
 use Rattle.cw_unit.specs.declared.unit.Unit.{Unit as SourceUnit}
 use Rattle.cw_unit.specs.declared.unit.Stmt.{Stmt}
@@ -9,7 +9,7 @@ use Rattle.cw_order.specs.declared.order.Order.{Order}
 use Rattle.cw_order.specs.declared.order.Order.TheVariants as order
 use Rattle.cw_order.specs.declared.order.Orders.{Orders}
 use Rattle.cw_order.specs.OrderChanges.{mark_of_number}
-use Rattle.cw_gen_expr.specs.ReferenceExpressions.{Scope, item_order}
+use Rattle.cw_gen_expr.specs.ReferenceExpressions.{Scope, at_line, item_order}
 use Rattle.cw_carry.proofs.Expressions.Standing.{Stands, Made}
 use Rattle.cw_carry.proofs.Expressions.Carried.{Leads, Places}
 use Rattle.cw_gen_expr.specs.ReferenceEntries.{scope_of}
@@ -47,7 +47,7 @@ module _ (orders_for : SourceUnit → Orders) (u : SourceUnit) (who : Option ℕ
     pub tail_is : slice_get marks set ≡ Some tail
     pub tail_marks : slice_get code tail ≡ Some order.Mark
     pub head : ℕ
-    pub sets : Stands code (tail + 1) (set_orders scope.layout c.item) head
+    pub sets : Stands code (tail + 1) (set_orders scope.layout c.line c.item) head
     pub head_is : slice_get marks body ≡ Some head
     pub head_marks : slice_get code head ≡ Some order.Mark
     pub on : ℕ
@@ -55,14 +55,14 @@ module _ (orders_for : SourceUnit → Orders) (u : SourceUnit) (who : Option ℕ
     -- the way on
     pub ways : List ℕ
     pub out : ℕ
-    pub goes_on : Stands code on (order.Line c.line ∷ item_order scope.layout c.item 3 ∷ order.Load ∷ order.LoopWay ways ∷ []) out
+    pub goes_on : Stands code on (item_order scope.layout c.item 3 ∷ order.Load ∷ order.LoopWay ways ∷ []) out
     pub end_is : slice_get marks end ≡ Some out
     pub out_marks : slice_get code out ≡ Some order.Mark
     pub next_is : out + 1 ≡ next
     -- the elements, and what stands behind them
     pub place : ℕ → ℕ
     pub free : ℕ → ℕ
-    pub each : (i : ℕ) (e : Felem) → element_at c.elements i ≡ Some e → Made code marks (element_piece scope c.item c.scale set body i e (place i) (free i)) (place i) (place (i + 1)) (free i) (free (i + 1))
+    pub each : (i : ℕ) (e : Felem) → element_at c.elements i ≡ Some e → Made code marks (element_piece (at_line c.line scope) c.item c.scale set body i e (place i) (free i)) (place i) (place (i + 1)) (free i) (free (i + 1))
     pub way : (i : ℕ) (e : Felem) → element_at c.elements i ≡ Some e → mark_of_number ways (pos i) ≡ Some (way_mark e (free i))
     pub no_way : (i : ℕ) → element_at c.elements i ≡ None → mark_of_number ways (pos i) ≡ None
     pub last : slice_get code (place (length c.elements + 1)) ≡ Some (order.Jump end)
@@ -72,10 +72,10 @@ module _ (orders_for : SourceUnit → Orders) (u : SourceUnit) (who : Option ℕ
 
   abbrev pub TurnSite : (q number : ℕ) → Loop → (next : ℕ) → Type 0
   TurnSite q i c next =
-      (site : LoopSite c next) × (mark : ℕ) × (x : ℕ) × (y : ℕ) × Stands code q (item_order scope.layout c.item 0 ∷ order.PutVariable ∷ order.Exhausted mark ∷ order.Jump site.body ∷ []) x × (slice_get marks mark ≡ Some y) × Leads code marks 0 y (site.place (i + 1)) × (i ≤ length c.elements)
+      (site : LoopSite c next) × (mark : ℕ) × (x : ℕ) × (y : ℕ) × Stands code q (item_order scope.layout c.item 0 ∷ order.PutVariable c.line ∷ order.Exhausted mark ∷ order.Jump site.body ∷ []) x × (slice_get marks mark ≡ Some y) × Leads code marks 0 y false (site.place (i + 1)) false × (i ≤ length c.elements)
 
   abbrev pub BumpSite : (q number : ℕ) → Loop → (next : ℕ) → Type 0
-  BumpSite q i c next = (x : ℕ) × Stands code q (bump_orders scope.layout c.item) x × (slice_get code x ≡ Some order.Mark) × TurnSite (x + 1) i c next
+  BumpSite q i c next = (x : ℕ) × Stands code q (bump_orders scope.layout c.line c.item) x × (slice_get code x ≡ Some order.Mark) × TurnSite (x + 1) i c next
 
   abbrev pub OnSite : (q : ℕ) → Loop → (next : ℕ) → Type 0
   OnSite q c next = (site : LoopSite c next) × (q ≡ site.on)
@@ -83,7 +83,7 @@ module _ (orders_for : SourceUnit → Orders) (u : SourceUnit) (who : Option ℕ
   abbrev pub sites : Places
   sites = record {
     StatementAt = StatementSite;
-    JumpAt = λ q d. slice_get code q ≡ Some (jump_order scope who d);
+    JumpAt = λ line q d. slice_get code q ≡ Some (jump_order (at_line line scope) who d);
     ElementAt = ElementSite;
     TurnAt = TurnSite;
     BumpAt = BumpSite;

@@ -28,15 +28,15 @@ use Rattle.cw_order.specs.OrderCosts.{weight_at}
 use Rattle.cw_order.specs.OrderMachine.{carry_out}
 use Rattle.cw_order.specs.Starting.{started_by}
 use Rattle.cw_gen_expr.specs.Pieces.{Piece, plain, followed_by, sequence, with_labels}
-use Rattle.cw_gen_expr.specs.ReferenceExpressions.{argument_words, store_orders, item_order, choice_piece, call_order, expression_piece, condition_piece, argument_piece, reference_of}
+use Rattle.cw_gen_expr.specs.ReferenceExpressions.{at_line, saved, argument_words, store_orders, choice_piece, call_order, expression_piece, condition_piece, argument_piece, reference_of}
 use Rattle.cw_gen_expr.specs.BuiltExpressions.{most_levels, within, is_expression, is_condition, built_reference}
 use Rattle.cw_gen_expr.proofs.Layers.{total}
-use Rattle.cw_carry.proofs.Expressions.Standing.{Stands, Made, both_made, one_made, choice_made}
-use Rattle.cw_carry.proofs.Expressions.Carried.{Leads, here, past, over as leap, Via, wider, after_call, who_of, going}
+use Rattle.cw_carry.proofs.Expressions.Standing.{Stands, Made, both_made, saved_made, one_made, choice_made}
+use Rattle.cw_carry.proofs.Expressions.Carried.{Leads, here, past, over as leap, Via, wider, after_call, takes_number, who_of, going}
 use Rattle.cw_carry.proofs.Expressions.Stepping.{Compiled, source, target, Belong, quietly, work_size, order_here, silent}
-use Rattle.cw_carry.proofs.Expressions.Moments.{both, Moment, here_in, layout, scope, has_words, code, marks, At, Leads_to, StepsNoting, config, next}
+use Rattle.cw_carry.proofs.Expressions.Moments.{both, Moment, here_in, layout, scope, has_words, code, marks, At, Leads_to, at_close, past_save, StepsNoting, config, next}
 use Rattle.cw_carry.proofs.Expressions.Values.{given_at}
-use Rattle.cw_gen_unit.specs.ReferenceStatements.{begin_orders, after_statement_call, jump_order, jump_piece, ring_piece, statement_piece}
+use Rattle.cw_gen_unit.specs.ReferenceStatements.{begin_orders, keep_orders, after_statement_call, jump_order, jump_piece, ring_piece, statement_piece}
 use Rattle.cw_gen_unit.specs.BuiltStatements.{is_jump, all_within, is_statement, are_elements}
 use Rattle.cw_carry.proofs.Statements.Shapes.{statement_layer, statement-made, built_layer, statement-built, statement_size, statement_size_layer, statement-size}
 use Rattle.cw_carry.proofs.Statements.Sites.{StatementSite, LoopSite, sites}
@@ -52,12 +52,12 @@ module _ (c : Compiled) (at_sites : (g : ℕ) (u : SourceUnit) (who : Option ℕ
   abbrev Site : (q : ℕ) → Stmt → (levels n : ℕ) → Type 0
   Site = StatementSite c.orders_for t.unit who (has_words c t)
 
-  -- what follows a statement, whatever the line
+  -- what follows a statement
   abbrev After : (j n : ℕ) → Work → Type 0
-  After j n k = (l : ℕ) → Via (code c t) (marks c t) j n (λ x. At c t x l false k)
+  After j n k = Via (code c t) (marks c t) j n false (λ x m. At c t x m false k)
 
-  wide : (j n l : ℕ) (k : Work) → j ≤ most_levels → After j n k → Leads_to c t n l false k
-  wide j n l k le after = let v = after l in (v.0, wider (code c t) (marks c t) j most_levels n v.0 le v.1, v.2)
+  wide : (j n : ℕ) (k : Work) → j ≤ most_levels → After j n k → Leads_to c t n false false k
+  wide j n k le v = (v.0, v.1, wider (code c t) (marks c t) j most_levels n false v.0 v.1 le v.2, v.3)
 
   -- the scale of an answer
   answers_at : (acts : List Activation) (u : SourceUnit) → slice_get c.units (segment_of t.segment acts) ≡ Some u → answer_scale_of (source c) acts ≡ answer_of u (who_of acts)
@@ -74,29 +74,29 @@ module _ (c : Compiled) (at_sites : (g : ℕ) (u : SourceUnit) (who : Option ℕ
   notes_line : (s : Stmt) (x : Stmt-F Stmt) (k : Work) (w : Words) → out-Stmt s ≡ x → begins (config c t (Run s k) w) ≡ map (noting w) (line_of x)
   notes_line s x k w is = ap (λ y. map (noting w) (line_of y)) is
 
-  -- it starts, which sets its line
-  begun : (s : Stmt) (x : Stmt-F Stmt) (k : Work) (line q l : ℕ) (w : Words) → out-Stmt s ≡ x → line_of x ≡ line ∷ [] → slice_get (code c t) q ≡ Some (order.Start line) → At c t (q + 1) line false (statement_work answer x k) → StepsNoting c t (Run s k) q l w
-  begun s x k line q l w is line_is start carried =
+  -- it starts
+  begun : (s : Stmt) (x : Stmt-F Stmt) (k : Work) (line q : ℕ) (w : Words) → out-Stmt s ≡ x → line_of x ≡ line ∷ [] → slice_get (code c t) q ≡ Some (order.Start line) → At c t (q + 1) false false (statement_work answer x k) → StepsNoting c t (Run s k) q false w
+  begun s x k line q w is line_is start carried =
       let g = here_in c t in
       let at_q = order_here c t.segment t.acts t.calls_below t.unit t.unit_is q (order.Start line) start in
       let e = becomes_work s x k w is in
-      let u = state g (q + 1) line t.calls_below w Running in
+      let u = state g (q + 1) false t.calls_below w Running in
       record {
         spent = 1;
         reached = u;
         notes = same {rest = 0} (ap shown e)
             (ap (λ o. started_by o g w) at_q ∙ sym (notes_line s x k w is ∙ ap (map (noting w)) line_is))
             (let z : 1 ≡ weight_at (order_at (target c) g q) + 0 = omega (arith, ap weight_at at_q) in z)
-            (stay (ap (λ o. carry_out (target c) o g q l t.calls_below w) at_q) refl);
+            (stay (ap (λ o. carry_out (target c) o g q false t.calls_below w) at_q) refl);
         within = (let z : 1 ≤ 224 = omega arith in z);
         belongs = subst (λ d. Belong c d u) (sym e) (going t.unit t.unit_is false tt carried t.calls);
         progress = inl (let z : 0 < 1 = omega arith in z);
       }
 
   -- by no order, where no statement begins
-  passes : (s : Stmt) (x : Stmt-F Stmt) (k : Work) (q l : ℕ) (w : Words) → out-Stmt s ≡ x → line_of x ≡ [] → Leads_to c t q l false (statement_work answer x k) → work_size c (statement_work answer x k) < work_size c (Run s k) → StepsNoting c t (Run s k) q l w
-  passes s x k q l w is no_line carried less =
-      quietly c (silent c t.segment t.acts t.calls_below t.unit t.unit_is t.calls (Run s k) (statement_work answer x k) q l false w (becomes_work s x k w is) tt carried less)
+  passes : (s : Stmt) (x : Stmt-F Stmt) (k : Work) (q : ℕ) (w : Words) → out-Stmt s ≡ x → line_of x ≡ [] → Leads_to c t q false false (statement_work answer x k) → work_size c (statement_work answer x k) < work_size c (Run s k) → StepsNoting c t (Run s k) q false w
+  passes s x k q w is no_line carried less =
+      quietly c (silent c t.segment t.acts t.calls_below t.unit t.unit_is t.calls (Run s k) (statement_work answer x k) q false false w (becomes_work s x k w is) tt carried less)
       (notes_line s x k w is ∙ ap (map (noting w)) no_line)
 
   -- the start and the rest of a statement
@@ -105,16 +105,22 @@ module _ (c : Compiled) (at_sites : (g : ℕ) (u : SourceUnit) (who : Option ℕ
       let parts = both_made (code c t) (marks c t) (plain (begin_orders line)) p q n free last made in
       (parts.1, parts.2.0.0, subst (λ z. Made (code c t) (marks c t) (p z parts.1) z n parts.1 last) (sym parts.2.0.1) parts.3)
 
-  one_value : (e : Expr) (f line q n free last : ℕ) (p : Piece) (k : Work) → IsTrue (is_expression t.unit (has_words c t) e f most_levels) → Made (code c t) (marks c t) (followed_by (expression_piece (scope c t) e f) p q free) q n free last → ((x m : ℕ) → Made (code c t) (marks c t) (p x m) x n m last → At c t x line false k) → At c t q line false (Eval e f line k)
+  one_value : (e : Expr) (f line q n free last : ℕ) (p : Piece) (k : Work) → IsTrue (is_expression t.unit (has_words c t) e f most_levels) → Made (code c t) (marks c t) (followed_by (expression_piece (at_line line (scope c t)) e f) p q free) q n free last → ((x m : ℕ) → Made (code c t) (marks c t) (p x m) x n m last → At c t x true false k) → At c t q false false (Eval e f line k)
   one_value e f line q n free last p k b made carried =
-      let parts = both_made (code c t) (marks c t) (expression_piece (scope c t) e f) p q n free last made in
-      (parts.0, 64, 0, free, parts.1, b, parts.2, (let z : 0 + 64 ≤ 64 = omega arith in z), refl, (parts.0, here refl, carried parts.0 parts.1 parts.3))
+      let parts = both_made (code c t) (marks c t) (expression_piece (at_line line (scope c t)) e f) p q n free last made in
+      (parts.0, 64, 0, free, parts.1, b, parts.2, (let z : 0 + 64 ≤ 64 = omega arith in z), refl, at_close c t parts.0 true false k (carried parts.0 parts.1 parts.3))
+
+  -- a value that is saved
+  saved_value : (e : Expr) (f line q n free last : ℕ) (p : Piece) (k : Work) → IsTrue (is_expression t.unit (has_words c t) e f most_levels) → Made (code c t) (marks c t) (followed_by (expression_piece (at_line line (scope c t)) e f) (followed_by saved p) q free) q n free last → ((x m : ℕ) → Made (code c t) (marks c t) (p x m) x n m last → At c t x false false k) → At c t q false false (Eval e f line k)
+  saved_value e f line q n free last p k b made carried =
+      let parts = saved_made (code c t) (marks c t) (expression_piece (at_line line (scope c t)) e f) p q n free last made in
+      (parts.0, 64, 0, free, parts.1, b, parts.2, (let z : 0 + 64 ≤ 64 = omega arith in z), refl, past_save c t 0 parts.0 false k parts.3 (at_close c t (parts.0 + 1) false false k (carried (parts.0 + 1) parts.1 parts.4)))
 
   -- an address and a store
-  stored_at : (r : Ref) (line q n free last j : ℕ) (os : List Order) (k k' : Work) → IsTrue (built_reference t.unit (has_words c t) r).good → Made (code c t) (marks c t) (followed_by (reference_of (scope c t) r).address (plain os) q free) q n free last → ((x : ℕ) → Stands (code c t) x os n → At c t x line true k') → At c t q line false (Address r line k')
-  stored_at r line q n free last j os k k' b made carried =
-      let parts = one_made (code c t) (marks c t) (reference_of (scope c t) r).address os q n free last made in
-      (parts.0, free, parts.1, b, parts.2, refl, (parts.0, here refl, carried parts.0 parts.3))
+  stored_at : (r : Ref) (line q n free last : ℕ) (os : List Order) (k' : Work) → IsTrue (built_reference t.unit (has_words c t) r).good → Made (code c t) (marks c t) (followed_by (reference_of (at_line line (scope c t)) r).address (plain os) q free) q n free last → ((x : ℕ) → Stands (code c t) x os n → At c t x true true k') → At c t q false false (Address r line k')
+  stored_at r line q n free last os k' b made carried =
+      let parts = one_made (code c t) (marks c t) (reference_of (at_line line (scope c t)) r).address os q n free last made in
+      (parts.0, free, parts.1, b, parts.2, refl, (parts.0, true, here refl refl, carried parts.0 parts.3))
 
   a_level : (levels : ℕ) (p : ℕ → Bool) → IsTrue (within levels p) → (m : ℕ) × (levels ≡ suc m) × IsTrue (p m)
   a_level zero p h = absurd (false≢true h)
@@ -136,83 +142,83 @@ module _ (c : Compiled) (at_sites : (g : ℕ) (u : SourceUnit) (who : Option ℕ
   row_at (s ∷ ss) k q n free last levels j b made le after =
       let bs = both (is_statement t.unit (has_words c t) who answer s levels) (all_within t.unit (has_words c t) who answer levels (map (is_statement t.unit (has_words c t) who answer) ss)) b in
       let parts = both_made (code c t) (marks c t) (statement_piece (scope c t) who answer s) (sequence (map (statement_piece (scope c t) who answer) ss)) q n free last made in
-      λ l. (q, here refl, (parts.0, levels, j, site_is q s levels parts.0 (free, parts.1, bs.0, parts.2), le, row_at ss k parts.0 n parts.1 last levels j bs.1 parts.3 le after))
+      (q, false, here refl refl, (parts.0, levels, j, site_is q s levels parts.0 (free, parts.1, bs.0, parts.2), le, refl, row_at ss k parts.0 n parts.1 last levels j bs.1 parts.3 le after))
 
   row_size : (ss : List Stmt) (k : Work) → work_size c (run_all ss k) ≡ total (map statement_size ss) + work_size c k
   row_size [] k = omega arith
   row_size (s ∷ ss) k = omega (arith, row_size ss k, ap (λ f. f s) sizes)
 
-  jump_site : (q line : ℕ) (d : Dest) → slice_get (code c t) q ≡ Some (jump_order (scope c t) who d) → At c t q line false (Jump d line)
-  jump_site q line d h = (subst (λ p. p.JumpAt q d) (sym (at_sites (here_in c t) t.unit who)) h, refl)
+  jump_site : (q line : ℕ) (d : Dest) → slice_get (code c t) q ≡ Some (jump_order (at_line line (scope c t)) who d) → At c t q (takes_number d) false (Jump d line)
+  jump_site q line d h = (subst (λ p. p.JumpAt line q d) (sym (at_sites (here_in c t) t.unit who)) h, refl)
 
   -- a jump, after the index of a switch
-  gone : (s : Stmt) (k : Work) (line : ℕ) (d : Dest) (q n free last l : ℕ) (w : Words) → out-Stmt s ≡ statement.Go line d → IsTrue (is_jump t.unit (has_words c t) who answer d) → Made (code c t) (marks c t) (followed_by (plain (begin_orders line)) (jump_piece (scope c t) who d) q free) q n free last → StepsNoting c t (Run s k) q l w
-  gone s k line (dest.Goal g) q n free last l w is b made =
-      let at = started line (jump_piece (scope c t) who (dest.Goal g)) q n free last made in
-      begun s (statement.Go line (dest.Goal g)) k line q l w is refl at.1 (jump_site (q + 1) line (dest.Goal g) at.2.0.0)
-  gone s k line (dest.Special m) q n free last l w is b made =
-      let at = started line (jump_piece (scope c t) who (dest.Special m)) q n free last made in
-      begun s (statement.Go line (dest.Special m)) k line q l w is refl at.1 (jump_site (q + 1) line (dest.Special m) at.2.0.0)
-  gone s k line (dest.Switch m e) q n free last l w is b made =
+  gone : (s : Stmt) (k : Work) (line : ℕ) (d : Dest) (q n free last : ℕ) (w : Words) → out-Stmt s ≡ statement.Go line d → IsTrue (is_jump t.unit (has_words c t) who answer d) → Made (code c t) (marks c t) (followed_by (plain (begin_orders line)) (jump_piece (at_line line (scope c t)) who d) q free) q n free last → StepsNoting c t (Run s k) q false w
+  gone s k line (dest.Goal g) q n free last w is b made =
+      let at = started line (jump_piece (at_line line (scope c t)) who (dest.Goal g)) q n free last made in
+      begun s (statement.Go line (dest.Goal g)) k line q w is refl at.1 (jump_site (q + 1) line (dest.Goal g) at.2.0.0)
+  gone s k line (dest.Special m) q n free last w is b made =
+      let at = started line (jump_piece (at_line line (scope c t)) who (dest.Special m)) q n free last made in
+      begun s (statement.Go line (dest.Special m)) k line q w is refl at.1 (jump_site (q + 1) line (dest.Special m) at.2.0.0)
+  gone s k line (dest.Switch m e) q n free last w is b made =
       let d = dest.Switch m e in
-      let at = started line (jump_piece (scope c t) who d) q n free last made in
-      begun s (statement.Go line d) k line q l w is refl at.1
-      (one_value e 0 line (q + 1) n at.0 last (plain (jump_order (scope c t) who d ∷ [])) (Jump d line) b at.2 (λ x y m'. jump_site x line d m'.0.0))
-  gone s k line (dest.CommonSwitch m e) q n free last l w is b made =
+      let at = started line (jump_piece (at_line line (scope c t)) who d) q n free last made in
+      begun s (statement.Go line d) k line q w is refl at.1
+      (one_value e 0 line (q + 1) n at.0 last (plain (jump_order (at_line line (scope c t)) who d ∷ [])) (Jump d line) b at.2 (λ x y m'. jump_site x line d m'.0.0))
+  gone s k line (dest.CommonSwitch m e) q n free last w is b made =
       let d = dest.CommonSwitch m e in
-      let at = started line (jump_piece (scope c t) who d) q n free last made in
-      begun s (statement.Go line d) k line q l w is refl at.1
-      (one_value e 0 line (q + 1) n at.0 last (plain (jump_order (scope c t) who d ∷ [])) (Jump d line) b at.2 (λ x y m'. jump_site x line d m'.0.0))
-  gone s k line (dest.SpecialSwitch m e) q n free last l w is b made =
+      let at = started line (jump_piece (at_line line (scope c t)) who d) q n free last made in
+      begun s (statement.Go line d) k line q w is refl at.1
+      (one_value e 0 line (q + 1) n at.0 last (plain (jump_order (at_line line (scope c t)) who d ∷ [])) (Jump d line) b at.2 (λ x y m'. jump_site x line d m'.0.0))
+  gone s k line (dest.SpecialSwitch m e) q n free last w is b made =
       let d = dest.SpecialSwitch m e in
-      let at = started line (jump_piece (scope c t) who d) q n free last made in
-      begun s (statement.Go line d) k line q l w is refl at.1
-      (one_value e 0 line (q + 1) n at.0 last (plain (jump_order (scope c t) who d ∷ [])) (Jump d line) b at.2 (λ x y m'. jump_site x line d m'.0.0))
+      let at = started line (jump_piece (at_line line (scope c t)) who d) q n free last made in
+      begun s (statement.Go line d) k line q w is refl at.1
+      (one_value e 0 line (q + 1) n at.0 last (plain (jump_order (at_line line (scope c t)) who d ∷ [])) (Jump d line) b at.2 (λ x y m'. jump_site x line d m'.0.0))
 
   -- a FOR's elements stand where its ring does
   abbrev Rings : Type 0
-  Rings = (line item : ℕ) (r : Ref) (es : List Rattle.cw_unit.specs.declared.unit.Felem.Felem) (body : Stmt) (q n free last : ℕ) → IsTrue (has_words c t item 4) → length es < 32767 → IsTrue (are_elements t.unit (has_words c t) who answer (out-Ref r).f es) → IsTrue (is_statement t.unit (has_words c t) who answer body 64) → Made (code c t) (marks c t) (ring_piece (scope c t) line item (out-Ref r).f es (statement_piece (scope c t) who answer body) q free) q n free last → (site : LoopSite c.orders_for t.unit who (has_words c t) (loop_of line item r es body) n) × (q ≡ site.place 1)
+  Rings = (line item : ℕ) (r : Ref) (es : List Rattle.cw_unit.specs.declared.unit.Felem.Felem) (body : Stmt) (q n free last : ℕ) → IsTrue (has_words c t item 4) → length es < 32767 → IsTrue (are_elements t.unit (has_words c t) who answer (out-Ref r).f es) → IsTrue (is_statement t.unit (has_words c t) who answer body 64) → Made (code c t) (marks c t) (ring_piece (at_line line (scope c t)) item (out-Ref r).f es (statement_piece (scope c t) who answer body) q free) q n free last → (site : LoopSite c.orders_for t.unit who (has_words c t) (loop_of line item r es body) n) × (q ≡ site.place 1)
 
-  element_site : (line item : ℕ) (r : Ref) (es : List Rattle.cw_unit.specs.declared.unit.Felem.Felem) (body : Stmt) (q n j : ℕ) (k : Work) → (site : LoopSite c.orders_for t.unit who (has_words c t) (loop_of line item r es body) n) → q ≡ site.place 1 → suc j ≤ 64 → After j n k → At c t q line false (Element 1 (loop_of line item r es body) k)
+  element_site : (line item : ℕ) (r : Ref) (es : List Rattle.cw_unit.specs.declared.unit.Felem.Felem) (body : Stmt) (q n j : ℕ) (k : Work) → (site : LoopSite c.orders_for t.unit who (has_words c t) (loop_of line item r es body) n) → q ≡ site.place 1 → suc j ≤ 64 → After j n k → At c t q false false (Element 1 (loop_of line item r es body) k)
   element_site line item r es body q n j k site e le after =
       (n, j, subst (λ p. p.ElementAt q 1 (loop_of line item r es body) n) (sym (at_sites (here_in c t) t.unit who)) (site, e, (let z : 1 ≤ 1 = omega arith in z), (let z : 1 ≤ length es + 1 = omega arith in z)), le, refl, after)
 
   module _ (rings : Rings) where
-    runs : (s : Stmt) (x : Stmt-F Stmt) (k : Work) (q n free last levels j l : ℕ) (w : Words) → out-Stmt s ≡ x → IsTrue (built_layer t.unit (has_words c t) who answer x levels) → Made (code c t) (marks c t) (statement_layer (scope c t) who answer x q free) q n free last → j + levels ≤ 64 → After j n k → StepsNoting c t (Run s k) q l w
-    runs s (statement.Put line r e) k q n free last levels j l w is b made le after =
+    runs : (s : Stmt) (x : Stmt-F Stmt) (k : Work) (q n free last levels j : ℕ) (w : Words) → out-Stmt s ≡ x → IsTrue (built_layer t.unit (has_words c t) who answer x levels) → Made (code c t) (marks c t) (statement_layer (scope c t) who answer x q free) q n free last → j + levels ≤ 64 → After j n k → StepsNoting c t (Run s k) q false w
+    runs s (statement.Put line r e) k q n free last levels j w is b made le after =
         let f = (out-Ref r).f in
         let bs = both (built_reference t.unit (has_words c t) r).good (is_expression t.unit (has_words c t) e f most_levels) b in
-        let rest = followed_by (reference_of (scope c t) r).address (plain (store_orders (out-Ref r).field)) in
-        let at = started line (followed_by (expression_piece (scope c t) e f) rest) q n free last made in
+        let rest = followed_by (reference_of (at_line line (scope c t)) r).address (plain (store_orders (out-Ref r).field)) in
+        let at = started line (followed_by (expression_piece (at_line line (scope c t)) e f) (followed_by saved rest)) q n free last made in
         let k1 = Do (Store (out-Ref r).field) line k in
-        begun s (statement.Put line r e) k line q l w is refl at.1
-        (one_value e f line (q + 1) n at.0 last rest (Address r line k1) bs.1 at.2
-        (λ y m made'. stored_at r line y n m last j (store_orders (out-Ref r).field) k k1 bs.0 made' (λ z stands. (n, refl, stands, refl, wide j n line k (let v : j ≤ 64 = omega (arith, le) in v) after))))
-    runs s (statement.PutBits line d b' r e) k q n free last levels j l w is b made le after =
+        begun s (statement.Put line r e) k line q w is refl at.1
+        (saved_value e f line (q + 1) n at.0 last rest (Address r line k1) bs.1 at.2
+        (λ y m made'. stored_at r line y n m last (store_orders (out-Ref r).field) k1 bs.0 made' (λ z stands. (n, refl, stands, refl, wide j n k (let v : j ≤ 64 = omega (arith, le) in v) after))))
+    runs s (statement.PutBits line d b' r e) k q n free last levels j w is b made le after =
         let bs = both (built_reference t.unit (has_words c t) r).good (is_expression t.unit (has_words c t) e 0 most_levels) b in
-        let rest = followed_by (reference_of (scope c t) r).address (plain (order.StorePart d b' ∷ [])) in
-        let at = started line (followed_by (expression_piece (scope c t) e 0) rest) q n free last made in
+        let rest = followed_by (reference_of (at_line line (scope c t)) r).address (plain (order.StorePart d b' ∷ [])) in
+        let at = started line (followed_by (expression_piece (at_line line (scope c t)) e 0) (followed_by saved rest)) q n free last made in
         let k1 = Do (StoreBits d b') line k in
-        begun s (statement.PutBits line d b' r e) k line q l w is refl at.1
-        (one_value e 0 line (q + 1) n at.0 last rest (Address r line k1) bs.1 at.2
-        (λ y m made'. stored_at r line y n m last j (order.StorePart d b' ∷ []) k k1 bs.0 made' (λ z stands. (n, refl, stands, refl, wide j n line k (let v : j ≤ 64 = omega (arith, le) in v) after))))
-    runs s (statement.Go line d) k q n free last levels j l w is b made le after = gone s k line d q n free last l w is b made
-    runs s (statement.Call line tg args) k q n free last levels j l w is b made le after =
-        let os = call_order (scope c t) tg ∷ after_statement_call tg in
-        let given = sequence (map (argument_piece (scope c t)) args) in
+        begun s (statement.PutBits line d b' r e) k line q w is refl at.1
+        (saved_value e 0 line (q + 1) n at.0 last rest (Address r line k1) bs.1 at.2
+        (λ y m made'. stored_at r line y n m last (order.StorePart d b' ∷ []) k1 bs.0 made' (λ z stands. (n, refl, stands, refl, wide j n k (let v : j ≤ 64 = omega (arith, le) in v) after))))
+    runs s (statement.Go line d) k q n free last levels j w is b made le after = gone s k line d q n free last w is b made
+    runs s (statement.Call line tg args) k q n free last levels j w is b made le after =
+        let os = call_order (at_line line (scope c t)) tg ∷ after_statement_call tg in
+        let given = sequence (map (argument_piece (at_line line (scope c t))) args) in
         let at = started line (followed_by given (plain os)) q n free last made in
         let parts = one_made (code c t) (marks c t) given os (q + 1) n at.0 last at.2 in
-        let stands = subst (λ xs. Stands (code c t) parts.0 (call_order (scope c t) tg ∷ xs) n) (after_is tg) parts.3 in
-        begun s (statement.Call line tg args) k line q l w is refl at.1
-        (given_at c t args line (q + 1) parts.0 at.0 parts.1 line (Enter tg line false k) false b parts.2 refl
-        (λ r. (n, stands, refl, wide j n line k (let v : j ≤ 64 = omega (arith, le) in v) after)))
-    runs s (statement.Answer line e) k q n free last levels j l w is b made le after =
+        let stands = subst (λ xs. Stands (code c t) parts.0 (call_order (at_line line (scope c t)) tg ∷ xs) n) (after_is tg) parts.3 in
+        begun s (statement.Call line tg args) k line q w is refl at.1
+        (given_at c t args line (q + 1) parts.0 at.0 parts.1 (Enter tg line false k) false b parts.2
+        (λ r. (n, stands, refl, refl, wide j n k (let v : j ≤ 64 = omega (arith, le) in v) after)))
+    runs s (statement.Answer line e) k q n free last levels j w is b made le after =
         let bs = both (is_some who) (is_expression t.unit (has_words c t) e answer most_levels) b in
         let rest = plain (order.Return (argument_words (scope c t).parameters) true ∷ []) in
-        let at = started line (followed_by (expression_piece (scope c t) e answer) rest) q n free last made in
-        begun s (statement.Answer line e) k line q l w is refl at.1
-        (one_value e answer line (q + 1) n at.0 last rest Return bs.1 at.2 (λ y m made'. made'.0.0))
-    runs s (statement.If line d a b) k q n free last levels j l w is built made le after =
+        let at = started line (followed_by (expression_piece (at_line line (scope c t)) e answer) rest) q n free last made in
+        begun s (statement.Answer line e) k line q w is refl at.1
+        (one_value e answer line (q + 1) n at.0 last rest Return bs.1 at.2 (λ y m made'. (made'.0.0, refl)))
+    runs s (statement.If line d a b) k q n free last levels j w is built made le after =
         let sa = is_statement t.unit (has_words c t) who answer a in
         let sb = is_statement t.unit (has_words c t) who answer b in
         let tests = both (is_condition t.unit (has_words c t) d) (within levels sa && sb levels) built in
@@ -220,12 +226,12 @@ module _ (c : Compiled) (at_sites : (g : ℕ) (u : SourceUnit) (who : Option ℕ
         let level = a_level levels sa branches.0 in
         let pa = statement_piece (scope c t) who answer a in
         let pb = statement_piece (scope c t) who answer b in
-        let at = started line (choice_piece (condition_piece (scope c t) d) pa pb) q n free last made in
+        let at = started line (choice_piece (condition_piece (at_line line (scope c t)) d) pa pb) q n free last made in
         let m = at.0 in
-        let ch = choice_made (code c t) (marks c t) (condition_piece (scope c t) d) pa pb (q + 1) n m last at.2 in
-        let end : After j ch.end k = λ l'. let v = after l' in (v.0, past ch.end_marks (subst (λ x. Leads (code c t) (marks c t) j x v.0) (sym ch.next_is) v.1), v.2) in
-        let behind_first : After (suc j) ch.jump k = λ l'. let v = end l' in (v.0, leap ch.jumps ch.end_is refl v.1, v.2) in
-        begun s (statement.If line d a b) k line q l w is refl at.1 (
+        let ch = choice_made (code c t) (marks c t) (condition_piece (at_line line (scope c t)) d) pa pb (q + 1) n m last at.2 in
+        let end : After j ch.end k = (after.0, after.1, past ch.end_marks (subst (λ x. Leads (code c t) (marks c t) j x false after.0 after.1) (sym ch.next_is) after.2), after.3) in
+        let behind_first : After (suc j) ch.jump k = (end.0, end.1, leap ch.jumps ch.end_is refl end.2, end.3) in
+        begun s (statement.If line d a b) k line q w is refl at.1 (
           false,
           m + 1,
           ch.other,
@@ -236,10 +242,10 @@ module _ (c : Compiled) (at_sites : (g : ℕ) (u : SourceUnit) (who : Option ℕ
           ch.condition_made,
           ch.other_is,
           refl,
-          (ch.first, here refl, (ch.jump, level.0, suc j, site_is ch.first a level.0 ch.jump (ch.first_free, ch.second_free, level.2, ch.first_made), (let v : suc j + level.0 ≤ 64 = omega (arith, le, level.1) in v), behind_first)),
-          (ch.second, past ch.other_marks (here ch.second_is), (ch.end, levels, j, site_is ch.second b levels ch.end (ch.second_free, last, branches.1, ch.second_made), le, end)),
+          (ch.first, false, here refl refl, (ch.jump, level.0, suc j, site_is ch.first a level.0 ch.jump (ch.first_free, ch.second_free, level.2, ch.first_made), (let v : suc j + level.0 ≤ 64 = omega (arith, le, level.1) in v), refl, behind_first)),
+          (ch.second, false, past ch.other_marks (here ch.second_is refl), (ch.end, levels, j, site_is ch.second b levels ch.end (ch.second_free, last, branches.1, ch.second_made), le, refl, end)),
         )
-    runs s (statement.For line item r es body) k q n free last levels j l w is b made le after =
+    runs s (statement.For line item r es body) k q n free last levels j w is b made le after =
         let f = (out-Ref r).f in
         let sb = is_statement t.unit (has_words c t) who answer body in
         let b1 = both (built_reference t.unit (has_words c t) r).good (has_words c t item 4 && (nat_lt (length es) 32767 && (are_elements t.unit (has_words c t) who answer f es && (within levels (λ m. true) && sb most_levels)))) b in
@@ -248,27 +254,27 @@ module _ (c : Compiled) (at_sites : (g : ℕ) (u : SourceUnit) (who : Option ℕ
         let b4 = both (are_elements t.unit (has_words c t) who answer f es) (within levels (λ m. true) && sb most_levels) b3.1 in
         let b5 = both (within levels (λ m. true)) (sb most_levels) b4.1 in
         let level = a_level levels (λ m. true) b5.0 in
-        let keep = item_order (layout c t) item 0 ∷ order.Store ∷ [] in
-        let ring = ring_piece (scope c t) line item f es (statement_piece (scope c t) who answer body) in
-        let at = started line (followed_by (reference_of (scope c t) r).address (followed_by (plain keep) ring)) q n free last made in
-        let address = both_made (code c t) (marks c t) (reference_of (scope c t) r).address (followed_by (plain keep) ring) (q + 1) n at.0 last at.2 in
+        let keep = keep_orders (layout c t) item 0 in
+        let ring = ring_piece (at_line line (scope c t)) item f es (statement_piece (scope c t) who answer body) in
+        let at = started line (followed_by (reference_of (at_line line (scope c t)) r).address (followed_by (plain keep) ring)) q n free last made in
+        let address = both_made (code c t) (marks c t) (reference_of (at_line line (scope c t)) r).address (followed_by (plain keep) ring) (q + 1) n at.0 last at.2 in
         let kept = both_made (code c t) (marks c t) (plain keep) ring address.0 n address.1 last address.3 in
         let site = rings line item r es body kept.0 n kept.1 last b2.0 (ltb-true (length es) 32767 b3.0) b4.0 b5.1 kept.3 in
         let x = loop_of line item r es body in
-        begun s (statement.For line item r es body) k line q l w is refl at.1
-        (address.0, at.0, address.1, b1.0, address.2, refl, (address.0, here refl, (kept.0, b2.0, (let v : 0 < 4 = omega arith in v), kept.2.0, refl, (kept.0, here refl, element_site line item r es body kept.0 n j k site.0 site.1 (let v : suc j ≤ 64 = omega (arith, le, level.1) in v) after))))
-    runs s (statement.Seq ss) k q n free last levels j l w is b made le after =
-        passes s (statement.Seq ss) k q l w is refl
-        (wide j q l (run_all ss k) (let v : j ≤ 64 = omega (arith, le) in v) (row_at ss k q n free last levels j b made le after))
+        begun s (statement.For line item r es body) k line q w is refl at.1
+        (address.0, at.0, address.1, b1.0, address.2, refl, (address.0, true, here refl refl, (kept.0, b2.0, (let v : 0 < 4 = omega arith in v), kept.2.0, refl, (kept.0, false, here refl refl, element_site line item r es body kept.0 n j k site.0 site.1 (let v : suc j ≤ 64 = omega (arith, le, level.1) in v) after))))
+    runs s (statement.Seq ss) k q n free last levels j w is b made le after =
+        passes s (statement.Seq ss) k q w is refl
+        (wide j q (run_all ss k) (let v : j ≤ 64 = omega (arith, le) in v) (row_at ss k q n free last levels j b made le after))
         (let less : work_size c (run_all ss k) < c.statement_size s + work_size c k = omega (arith, row_size ss k, ap (λ f. f s) sizes, statement-size s ∙ ap statement_size_layer is) in less)
-    runs s (statement.Mark ls u) k q n free last levels j l w is b made le after =
+    runs s (statement.Mark ls u) k q n free last levels j w is b made le after =
         let parts = both_made (code c t) (marks c t) (with_labels ls) (statement_piece (scope c t) who answer u) q n free last made in
-        passes s (statement.Mark ls u) k q l w is refl
-        (parts.0, past parts.2.0.0 (here parts.2.0.1), (n, levels, j, site_is parts.0 u levels n (parts.1, last, b, parts.3), le, after))
+        passes s (statement.Mark ls u) k q w is refl
+        (parts.0, false, past parts.2.0.0 (here parts.2.0.1 refl), (n, levels, j, site_is parts.0 u levels n (parts.1, last, b, parts.3), le, refl, after))
         (let less : c.statement_size u + work_size c k < c.statement_size s + work_size c k = omega (arith, ap (λ f. f s) sizes, ap (λ f. f u) sizes, statement-size s ∙ ap statement_size_layer is) in less)
 
-    pub statement_follows : (s : Stmt) (k : Work) (q n levels j l : ℕ) (w : Words) → Site q s levels n → j + levels ≤ 64 → After j n k → StepsNoting c t (Run s k) q l w
-    statement_follows s k q n levels j l w (free, last, b, made) le after =
-        runs s (out-Stmt s) k q n free last levels j l w refl (sym (ap (λ f. f levels) (statement-built t.unit (has_words c t) who answer s)) ∙ b)
+    pub statement_follows : (s : Stmt) (k : Work) (q n levels j : ℕ) (w : Words) → Site q s levels n → j + levels ≤ 64 → After j n k → StepsNoting c t (Run s k) q false w
+    statement_follows s k q n levels j w (free, last, b, made) le after =
+        runs s (out-Stmt s) k q n free last levels j w refl (sym (ap (λ f. f levels) (statement-built t.unit (has_words c t) who answer s)) ∙ b)
         (subst (λ p. Made (code c t) (marks c t) (p q free) q n free last) (statement-made (scope c t) who answer s) made)
         le after

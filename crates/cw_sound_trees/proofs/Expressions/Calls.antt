@@ -23,6 +23,7 @@ use Rattle.cw_unit.specs.declared.unit.Proc.{Proc}
 use Rattle.cw_unit.specs.declared.unit.Arg.{Arg}
 use Rattle.cw_unit.specs.declared.unit.Expr.{Expr}
 use Rattle.cw_unit.specs.declared.unit.Target.{Target}
+use Rattle.cw_unit.specs.declared.unit.Target.TheVariants as targets
 use Rattle.cw_unit.specs.declared.unit.Arg.TheOpen as layer
 use Rattle.cw_unit.specs.Program.{definition_of}
 use Rattle.cw_unit.specs.Scales.{answer_scale}
@@ -32,7 +33,7 @@ use Rattle.cw_safety.specs.Kinds.{Kind, WordKind, LabelKind, SwitchKind, Procedu
 use Rattle.cw_safety.specs.WellFormed as formed
 use Rattle.cw_safety.specs.WellFormed.{takes_arguments, parameter_takes, controls_of, procedure_of_place, is_call, kinds_of}
 use Rattle.cw_gen_expr.specs.NamedItems.{has_words}
-use Rattle.cw_gen_expr.specs.BuiltExpressions.{all_built, is_argument}
+use Rattle.cw_gen_expr.specs.BuiltExpressions.{all_built, answers, is_argument}
 use Rattle.cw_built.specs.Built.{alone, at_work}
 use Rattle.cw_sound_names.specs.Uses.Stands.{kind_of_plain, taken_by_plain, kind_specified, IsParameter, Takes, IsProcedure, IsReader, IsWriter, StandsAs}
 use Rattle.cw_sound_trees.proofs.Expressions.Truth.{no, both}
@@ -179,13 +180,23 @@ module _ (named : Named) (numbers : Numbers) (u : SourceUnit) (who : Option ℕ)
 
   -- ---- calls
 
+  -- what is called for a value answers
+  answering : (t : Target) (ks : Option (List Kind)) → IsTrue (is_call (alone u) 0 (at_work who) true t ks) → IsTrue (answers t)
+  answering (targets.Own q) ks h = refl
+  answering (targets.Common d) ks h = refl
+  answering (targets.Special k f) ks h = refl
+  answering targets.Read ks h = refl
+  answering targets.Write None h = no h
+  answering targets.Write (Some ks) h = no h
+
   pub called_result : (n : RawName) (args : List Arg) (c : Callable true n) → IsTrue (all_built (map (is_argument u (has_words u who)) args)) → kinds_of (map (formed.kind_of (alone u) 0 (at_work who)) args) ≡ Some (map kind_specified c.params)
       → Result u who (fraction_of_kind (kind_of named n)) (call (target named numbers n) args)
   called_result n args c h ks =
       let t : Target = target named numbers n in
       let e : Expr = call t args in
       subst (λ (f : ℕ). Result u who f e) c.scale
-      (result_of u who (answer_scale u t) e (λ f levels. all_built (map (is_argument u (has_words u who)) args)) (value_rolled u who (layer.Call t args)) (λ f levels. h)
+      (result_of u who (answer_scale u t) e (λ f levels. answers t && all_built (map (is_argument u (has_words u who)) args)) (value_rolled u who (layer.Call t args))
+      (λ f levels. both (answers t) (all_built (map (is_argument u (has_words u who)) args)) (answering t (Some (map kind_specified c.params)) c.call) h)
       (subst IsTrue (sym (formed_rolled u who (layer.Call t args))) (subst (λ (o : Option (List Kind)). IsTrue (is_call (alone u) 0 (at_work who) true t o)) (sym ks) c.call)))
 
   none_given : (s : Signature) (n : RawName) → NoFault (call_faults named (Some s) n []) → s.params ≡ []

@@ -11,7 +11,7 @@ use Rattle.cw_unit.specs.declared.unit.Arg.TheOpen as layer
 use Rattle.cw_unit.specs.declared.unit.Arg.TheOpen.{Arg-F, Cond-F, Spot-F, Ref-F}
 use Rattle.cw_unit.specs.Scales.{answer_scale}
 use Rattle.cw_gen_expr.specs.Pieces.{Piece, plain, followed_by, sequence, with_end}
-use Rattle.cw_gen_expr.specs.ReferenceExpressions.{Scope, ConditionPiece, control_place, item_order, table_orders, bounds_orders, load_orders, rescale_orders, logic_order, narrow, comparator_for, pick_mark, choice_piece, call_order, label_order, value_of, condition_piece, argument_piece, reference_of, expression_piece}
+use Rattle.cw_gen_expr.specs.ReferenceExpressions.{Scope, ConditionPiece, saved, two_values, control_place, item_order, table_orders, bounds_orders, load_orders, rescale_orders, logic_order, narrow, comparator_for, pick_mark, choice_piece, call_order, label_order, value_of, condition_piece, argument_piece, reference_of, expression_piece}
 use Rattle.cw_gen_expr.proofs.Layers.{value_layer, value-made, argument_layer, argument-made, spot_layer, spot-made, reference-made, condition_layer, condition-made, total, expression_size, expression-size, expression_size_layer, argument_size, argument-size, argument_size_layer, spot-size, spot_size_layer, reference_size, reference-size, condition_size, condition-size, condition_size_layer}
 use Rattle.cw_traced.proofs.Lines.Starting.{begun_in, Begins, Silent, plainly, both, before, ended}
 use Rattle.cw_traced.proofs.Lines.Silent.{none-both, none-first, item-first, table-silent, bounds-silent, load-silent, rescale-silent, logic-silent, call-silent, label-silent}
@@ -24,6 +24,10 @@ choice-begins c a b hc ha hb =
     (ended (λ other. followed_by (c false other) (followed_by a (plain (order.Jump end ∷ [])))) (λ other. both (hc false other) (before ha (plainly (order.Jump end ∷ []) refl))))
     hb)
 
+-- the top operand is saved
+pub saved-silent : Silent saved
+saved-silent = plainly (order.Save ∷ []) refl
+
 module _ (s : Scope) where
   record Below (n : ℕ) : Type 0 where
     values : (d : Expr) → expression_size d < n → (f : ℕ) → Silent (expression_piece s d f)
@@ -32,28 +36,28 @@ module _ (s : Scope) where
     references : (d : Ref) → reference_size d < n → Silent (reference_of s d).address
 
   module _ (n : ℕ) (b : Below n) where
-    bounded : (e : Expr) (l u : ℤ) → expression_size e < n → Silent (followed_by (expression_piece s e 0) (plain (bounds_orders s.unit.bounds l u)))
-    bounded e l u lt = both (b.values e lt 0) (plainly (bounds_orders s.unit.bounds l u) (bounds-silent s.unit.bounds l u))
+    bounded : (e : Expr) (l u : ℤ) → expression_size e < n → Silent (followed_by (expression_piece s e 0) (plain (bounds_orders s.unit.bounds s.line l u)))
+    bounded e l u lt = both (b.values e lt 0) (plainly (bounds_orders s.unit.bounds s.line l u) (bounds-silent s.unit.bounds s.line l u))
 
     spot-silent : (x : Spot-F Arg Cond Expr Spot Ref) → spot_size_layer x ≤ n → Silent (spot_layer s x)
     spot-silent (layer.Direct i) le = both (plainly [] refl) (plainly (item_order s.layout i 0 ∷ []) (item-first s.layout i 0 [] refl))
-    spot-silent (layer.Through i) le = both (plainly [] refl) (plainly (item_order s.layout i 0 ∷ order.Load ∷ order.InArea ∷ []) (item-first s.layout i 0 (order.Load ∷ order.InArea ∷ []) refl))
+    spot-silent (layer.Through i) le = both (plainly [] refl) (plainly (item_order s.layout i 0 ∷ order.Load ∷ order.InArea s.line ∷ []) (item-first s.layout i 0 (order.Load ∷ order.InArea s.line ∷ []) refl))
     spot-silent (layer.One i l u e) le =
         both (bounded e l u (let z : expression_size e < n = omega (arith, le) in z))
-        (plainly (order.IndexLess l ∷ item_order s.layout i 0 ∷ order.IndexAdd ∷ order.InArea ∷ []) (item-first s.layout i 0 (order.IndexAdd ∷ order.InArea ∷ []) refl))
+        (plainly (order.IndexLess l s.line ∷ order.Save ∷ item_order s.layout i 0 ∷ order.IndexAdd s.line ∷ order.InArea s.line ∷ []) (item-first s.layout i 0 (order.IndexAdd s.line ∷ order.InArea s.line ∷ []) refl))
     spot-silent (layer.Two i l1 u1 l2 u2 m e g) le =
-        both (both (bounded e l1 u1 (let z : expression_size e < n = omega (arith, le) in z)) (bounded g l2 u2 (let z : expression_size g < n = omega (arith, le) in z)))
-        (plainly (order.IndexLess l2 ∷ order.IndexRow l1 m ∷ item_order s.layout i 0 ∷ order.IndexAdd ∷ order.InArea ∷ []) (item-first s.layout i 0 (order.IndexAdd ∷ order.InArea ∷ []) refl))
+        both (both (bounded e l1 u1 (let z : expression_size e < n = omega (arith, le) in z)) (both saved-silent (bounded g l2 u2 (let z : expression_size g < n = omega (arith, le) in z))))
+        (plainly (order.IndexLess l2 s.line ∷ order.IndexRow l1 m s.line ∷ order.Save ∷ item_order s.layout i 0 ∷ order.IndexAdd s.line ∷ order.InArea s.line ∷ []) (item-first s.layout i 0 (order.IndexAdd s.line ∷ order.InArea s.line ∷ []) refl))
     spot-silent (layer.ParamArray i e) le =
         both (b.values e (let z : expression_size e < n = omega (arith, le) in z) 0)
-        (plainly (item_order s.layout i 0 ∷ order.Load ∷ order.IndexAdd ∷ order.InArea ∷ []) (item-first s.layout i 0 (order.Load ∷ order.IndexAdd ∷ order.InArea ∷ []) refl))
+        (plainly (order.Save ∷ item_order s.layout i 0 ∷ order.Load ∷ order.IndexAdd s.line ∷ order.InArea s.line ∷ []) (item-first s.layout i 0 (order.Load ∷ order.IndexAdd s.line ∷ order.InArea s.line ∷ []) refl))
     spot-silent (layer.Word i t m e) le =
         both (bounded e (pos 0) (pos m -ℤ pos 1) (let z : expression_size e < n = omega (arith, le) in z))
-        (plainly (table_orders s.layout t i ++ order.IndexAdd ∷ order.InArea ∷ []) (table-silent s.layout t i))
+        (plainly (order.Save ∷ (table_orders s.layout t i ++ order.IndexAdd s.line ∷ order.InArea s.line ∷ [])) (table-silent s.layout s.line t i))
     spot-silent (layer.Elem i t k m w e) le =
         both (bounded e (pos 0) (pos m -ℤ pos 1) (let z : expression_size e < n = omega (arith, le) in z))
-        (plainly (order.IndexTimes k ∷ order.IndexPlus w ∷ (table_orders s.layout t i ++ order.IndexAdd ∷ order.InArea ∷ [])) (table-silent s.layout t i))
-    spot-silent (layer.Bare e) le = both (b.values e (let z : expression_size e < n = omega (arith, le) in z) 0) (plainly (order.InArea ∷ []) refl)
+        (plainly (order.IndexTimes k s.line ∷ order.IndexPlus w s.line ∷ order.Save ∷ (table_orders s.layout t i ++ order.IndexAdd s.line ∷ order.InArea s.line ∷ [])) (table-silent s.layout s.line t i))
+    spot-silent (layer.Bare e) le = both (b.values e (let z : expression_size e < n = omega (arith, le) in z) 0) (plainly (order.InArea s.line ∷ []) refl)
 
     reference-silent : (r : Ref) → reference_size r ≤ n → Silent (reference_of s r).address
     reference-silent r le =
@@ -64,7 +68,7 @@ module _ (s : Scope) where
     condition-silent (layer.Cmp op a d) le when mark =
         let f = max (value_of s a).natural (value_of s d).natural in
         both (b.values a (let z : expression_size a < n = omega (arith, le) in z) f)
-        (both (b.values d (let z : expression_size d < n = omega (arith, le) in z) f) (plainly (order.JumpIf (comparator_for when op) mark ∷ []) refl))
+        (both saved-silent (both (b.values d (let z : expression_size d < n = omega (arith, le) in z) f) (plainly (order.JumpIf (comparator_for when op) mark ∷ []) refl)))
     condition-silent (layer.And a d) le when mark =
         ended (λ end. followed_by (condition_piece s a false (pick_mark when end mark)) (condition_piece s d when mark))
         (λ end. both (b.conditions a (let z : condition_size a < n = omega (arith, le) in z) false (pick_mark when end mark)) (b.conditions d (let z : condition_size d < n = omega (arith, le) in z) when mark))
@@ -73,11 +77,11 @@ module _ (s : Scope) where
         (λ end. both (b.conditions a (let z : condition_size a < n = omega (arith, le) in z) true (pick_mark when mark end)) (b.conditions d (let z : condition_size d < n = omega (arith, le) in z) when mark))
 
     argument-silent : (x : Arg-F Arg Cond Expr Spot Ref) → argument_size_layer x ≤ n → Silent (argument_layer s x)
-    argument-silent (layer.Value e f) le = b.values e (let z : expression_size e < n = omega (arith, le) in z) f
-    argument-silent (layer.Place r) le = b.references r (let z : reference_size r < n = omega (arith, le) in z)
-    argument-silent (layer.Array i l) le = plainly (item_order s.layout i 0 ∷ order.IndexLess l ∷ []) (item-first s.layout i 0 (order.IndexLess l ∷ []) refl)
-    argument-silent (layer.Same i) le = plainly (item_order s.layout i 0 ∷ order.Load ∷ []) (item-first s.layout i 0 (order.Load ∷ []) refl)
-    argument-silent (layer.Base i) le = plainly (item_order s.layout i 0 ∷ []) (item-first s.layout i 0 [] refl)
+    argument-silent (layer.Value e f) le = both (b.values e (let z : expression_size e < n = omega (arith, le) in z) f) saved-silent
+    argument-silent (layer.Place r) le = both (b.references r (let z : reference_size r < n = omega (arith, le) in z)) saved-silent
+    argument-silent (layer.Array i l) le = plainly (item_order s.layout i 0 ∷ order.IndexLess l s.line ∷ order.Save ∷ []) (item-first s.layout i 0 (order.IndexLess l s.line ∷ order.Save ∷ []) refl)
+    argument-silent (layer.Same i) le = plainly (item_order s.layout i 0 ∷ order.Load ∷ order.Save ∷ []) (item-first s.layout i 0 (order.Load ∷ order.Save ∷ []) refl)
+    argument-silent (layer.Base i) le = plainly (item_order s.layout i 0 ∷ order.Save ∷ []) (item-first s.layout i 0 (order.Save ∷ []) refl)
     argument-silent (layer.Goal g) le = plainly (label_order s g ∷ []) (none-first (label_order s g) [] (label-silent s g) refl)
     argument-silent (layer.Switch m) le = plainly (order.SwitchOut m ∷ []) refl
     argument-silent (layer.CommonSwitch d) le = plainly (order.SwitchCommon d ∷ []) refl
@@ -92,35 +96,35 @@ module _ (s : Scope) where
     unary : (a : Expr) (f : ℕ) (os : List Order) → expression_size a < n → begun_in os ≡ [] → Silent (followed_by (expression_piece s a f) (plain os))
     unary a f os lt h = both (b.values a lt f) (plainly os h)
 
-    binary : (a d : Expr) (f g : ℕ) (os : List Order) → expression_size a < n → expression_size d < n → begun_in os ≡ [] → Silent (followed_by (expression_piece s a f) (followed_by (expression_piece s d g) (plain os)))
-    binary a d f g os la ld h = both (b.values a la f) (both (b.values d ld g) (plainly os h))
+    binary : (a d : Expr) (f g : ℕ) (os : List Order) → expression_size a < n → expression_size d < n → begun_in os ≡ [] → Silent (two_values (expression_piece s a f) (expression_piece s d g) os)
+    binary a d f g os la ld h = both (b.values a la f) (both saved-silent (both (b.values d ld g) (plainly os h)))
 
     value-silent : (x : Expr-F Arg Cond Expr Spot Ref) → expression_size_layer x ≤ n → (f : ℕ) → Silent ((value_layer s x).at f)
     value-silent (layer.Num k) le f = plainly _ refl
-    value-silent (layer.Const z) le f = plainly _ (rescale-silent 0 f)
-    value-silent (layer.Text i) le f = plainly (item_order s.layout i 0 ∷ rescale_orders 0 f) (item-first s.layout i 0 (rescale_orders 0 f) (rescale-silent 0 f))
+    value-silent (layer.Const z) le f = plainly _ (rescale-silent s.line 0 f)
+    value-silent (layer.Text i) le f = plainly (item_order s.layout i 0 ∷ rescale_orders s.line 0 f) (item-first s.layout i 0 (rescale_orders s.line 0 f) (rescale-silent s.line 0 f))
     value-silent (layer.Read r) le f =
         let x = reference_of s r in
         both (b.references r (let z : reference_size r < n = omega (arith, le) in z))
-        (plainly (load_orders x.field ++ rescale_orders x.scale f) (none-both (load_orders x.field) (rescale_orders x.scale f) (load-silent x.field) (rescale-silent x.scale f)))
+        (plainly (load_orders x.field ++ rescale_orders s.line x.scale f) (none-both (load_orders x.field) (rescale_orders s.line x.scale f) (load-silent x.field) (rescale-silent s.line x.scale f)))
     value-silent (layer.Call t args) le f =
         let k = answer_scale s.unit t in
         both (all-silent args (let z : total (map argument_size args) < n = omega (arith, le) in z))
-        (plainly (call_order s t ∷ rescale_orders k f) (none-first (call_order s t) (rescale_orders k f) (call-silent s t) (rescale-silent k f)))
-    value-silent (layer.Force g e) le f = unary e g (rescale_orders g f) (let z : expression_size e < n = omega (arith, le) in z) (rescale-silent g f)
-    value-silent (layer.Locate r) le f = both (b.references r (let z : reference_size r < n = omega (arith, le) in z)) (plainly (rescale_orders 0 f) (rescale-silent 0 f))
-    value-silent (layer.Bits t d e) le f = unary e (value_of s e).operand (order.Take t d ∷ rescale_orders 0 f) (let z : expression_size e < n = omega (arith, le) in z) (rescale-silent 0 f)
+        (plainly (call_order s t ∷ rescale_orders s.line k f) (none-first (call_order s t) (rescale_orders s.line k f) (call-silent s t) (rescale-silent s.line k f)))
+    value-silent (layer.Force g e) le f = unary e g (rescale_orders s.line g f) (let z : expression_size e < n = omega (arith, le) in z) (rescale-silent s.line g f)
+    value-silent (layer.Locate r) le f = both (b.references r (let z : reference_size r < n = omega (arith, le) in z)) (plainly (rescale_orders s.line 0 f) (rescale-silent s.line 0 f))
+    value-silent (layer.Bits t d e) le f = unary e (value_of s e).operand (order.Take t d ∷ rescale_orders s.line 0 f) (let z : expression_size e < n = omega (arith, le) in z) (rescale-silent s.line 0 f)
     value-silent (layer.Logic op a d) le f =
-        binary a d (value_of s a).operand (value_of s d).operand (logic_order op ∷ rescale_orders 0 f) (let z : expression_size a < n = omega (arith, le) in z) (let z : expression_size d < n = omega (arith, le) in z)
-        (none-first (logic_order op) (rescale_orders 0 f) (logic-silent op) (rescale-silent 0 f))
-    value-silent (layer.Sum a d) le f = binary a d f f (order.Add ∷ []) (let z : expression_size a < n = omega (arith, le) in z) (let z : expression_size d < n = omega (arith, le) in z) refl
-    value-silent (layer.Less a d) le f = binary a d f f (order.Sub ∷ []) (let z : expression_size a < n = omega (arith, le) in z) (let z : expression_size d < n = omega (arith, le) in z) refl
-    value-silent (layer.Minus a) le f = unary a f (order.Neg ∷ []) (let z : expression_size a < n = omega (arith, le) in z) refl
+        binary a d (value_of s a).operand (value_of s d).operand (logic_order op ∷ rescale_orders s.line 0 f) (let z : expression_size a < n = omega (arith, le) in z) (let z : expression_size d < n = omega (arith, le) in z)
+        (none-first (logic_order op) (rescale_orders s.line 0 f) (logic-silent op) (rescale-silent s.line 0 f))
+    value-silent (layer.Sum a d) le f = binary a d f f (order.Add s.line ∷ []) (let z : expression_size a < n = omega (arith, le) in z) (let z : expression_size d < n = omega (arith, le) in z) refl
+    value-silent (layer.Less a d) le f = binary a d f f (order.Sub s.line ∷ []) (let z : expression_size a < n = omega (arith, le) in z) (let z : expression_size d < n = omega (arith, le) in z) refl
+    value-silent (layer.Minus a) le f = unary a f (order.Neg s.line ∷ []) (let z : expression_size a < n = omega (arith, le) in z) refl
     value-silent (layer.Times a d) le f =
-        binary a d (value_of s a).operand (value_of s d).operand (order.Mul (narrow (pos f -ℤ pos ((value_of s a).operand + (value_of s d).operand))) ∷ [])
+        binary a d (value_of s a).operand (value_of s d).operand (order.Mul (narrow (pos f -ℤ pos ((value_of s a).operand + (value_of s d).operand))) s.line ∷ [])
         (let z : expression_size a < n = omega (arith, le) in z) (let z : expression_size d < n = omega (arith, le) in z) refl
     value-silent (layer.Over a d) le f =
-        binary a d (value_of s a).operand (value_of s d).operand (order.Div (narrow (pos (f + (value_of s d).operand) -ℤ pos (value_of s a).operand)) ∷ [])
+        binary a d (value_of s a).operand (value_of s d).operand (order.Div (narrow (pos (f + (value_of s d).operand) -ℤ pos (value_of s a).operand)) s.line ∷ [])
         (let z : expression_size a < n = omega (arith, le) in z) (let z : expression_size d < n = omega (arith, le) in z) refl
     value-silent (layer.Choice c a d) le f =
         choice-begins (condition_piece s c) (expression_piece s a f) (expression_piece s d f) (λ when mark. b.conditions c (let z : condition_size c < n = omega (arith, le) in z) when mark)

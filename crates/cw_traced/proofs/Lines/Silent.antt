@@ -52,15 +52,15 @@ pub item-first : (y : Layout) (i n : ℕ) (os : List Order) → begun_in os ≡ 
 item-first y i n os h = nothing (item-silent y i n) h
 
 -- behind the index of a table
-pub table-silent : (y : Layout) (t : Bool) (i : ℕ) → begun_in (table_orders y t i ++ order.IndexAdd ∷ order.InArea ∷ []) ≡ []
-table-silent y true i = item-first y i 0 (order.Load ∷ order.IndexAdd ∷ order.InArea ∷ []) refl
-table-silent y false i = item-first y i 0 (order.IndexAdd ∷ order.InArea ∷ []) refl
+pub table-silent : (y : Layout) (line : ℕ) (t : Bool) (i : ℕ) → begun_in (table_orders y t i ++ order.IndexAdd line ∷ order.InArea line ∷ []) ≡ []
+table-silent y line true i = item-first y i 0 (order.Load ∷ order.IndexAdd line ∷ order.InArea line ∷ []) refl
+table-silent y line false i = item-first y i 0 (order.IndexAdd line ∷ order.InArea line ∷ []) refl
 
 -- ---- expressions
 
-pub bounds-silent : (compared : Bool) (l u : ℤ) → begun_in (bounds_orders compared l u) ≡ []
-bounds-silent true l u = refl
-bounds-silent false l u = refl
+pub bounds-silent : (compared : Bool) (line : ℕ) (l u : ℤ) → begun_in (bounds_orders compared line l u) ≡ []
+bounds-silent true line l u = refl
+bounds-silent false line l u = refl
 
 pub load-silent : (o : Option Field) → begun_in (load_orders o) ≡ []
 load-silent None = refl
@@ -70,10 +70,10 @@ pub store-silent : (o : Option Field) → begun_in (store_orders o) ≡ []
 store-silent None = refl
 store-silent (Some f) = refl
 
-pub rescale-silent : (from to : ℕ) → begun_in (rescale_orders from to) ≡ []
-rescale-silent from to = by (from == to)
+pub rescale-silent : (line from to : ℕ) → begun_in (rescale_orders line from to) ≡ []
+rescale-silent line from to = by (from == to)
   where
-    by : (b : Bool) → begun_in (if b then [] else (order.Rescale from to ∷ [])) ≡ []
+    by : (b : Bool) → begun_in (if b then [] else (order.Rescale from to line ∷ [])) ≡ []
     by true = refl
     by false = refl
 

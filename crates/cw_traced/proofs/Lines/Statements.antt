@@ -13,14 +13,14 @@ use Rattle.cw_unit.specs.declared.unit.Stmt.{Stmt, Stmt-F, out-Stmt, map-Stmt, f
 use Rattle.cw_unit.specs.declared.unit.Stmt.TheOpen as statement
 use Rattle.cw_unit.specs.Begun.{line_of}
 use Rattle.cw_gen_expr.specs.Pieces.{Piece, plain, followed_by, sequence, with_end}
-use Rattle.cw_gen_expr.specs.ReferenceExpressions.{Scope, argument_words, control_place, item_order, store_orders, call_order, condition_piece, expression_piece}
+use Rattle.cw_gen_expr.specs.ReferenceExpressions.{Scope, at_line, argument_words, control_place, item_order, store_orders, call_order, condition_piece, expression_piece}
 use Rattle.cw_gen_expr.proofs.Layers.{total}
 use Rattle.cw_gen_unit.specs.ReferenceStatements as made
-use Rattle.cw_gen_unit.specs.ReferenceStatements.{after_statement_call, goal_order, jump_piece, with_middle, number_orders, set_orders, bump_orders, turn_piece, while_values, step_values, element_piece, elements_piece, element_ways, ring_piece, statement_piece}
+use Rattle.cw_gen_unit.specs.ReferenceStatements.{after_statement_call, goal_order, jump_piece, with_middle, keep_orders, number_orders, set_orders, bump_orders, turn_piece, while_values, step_values, element_piece, elements_piece, element_ways, ring_piece, statement_piece}
 use Rattle.cw_traced.specs.Lines.Lines.{joined, lines_step, lines_in, parts_of}
 use Rattle.cw_traced.proofs.Lines.Starting.{Begins, Silent, as-lines, plainly, both, before, ended, labelled, begun}
 use Rattle.cw_traced.proofs.Lines.Silent.{none-first, item-first, store-silent, call-silent, after-silent, goal-silent}
-use Rattle.cw_traced.proofs.Lines.Expressions.{choice-begins, expression-begins, condition-begins, address-begins, arguments-begin}
+use Rattle.cw_traced.proofs.Lines.Expressions.{choice-begins, saved-silent, expression-begins, condition-begins, address-begins, arguments-begin}
 
 -- ---- layers
 
@@ -72,19 +72,22 @@ middle : {xs ys : List ℕ} (a b : ℕ → Piece) → ((mark : ℕ) → Begins (
 middle a b ha hb = record { at = λ place next. (both (ended a ha) (hb next)).at place next }
 
 module _ (s : Scope) (item : ℕ) where
+  kept : (word : ℕ) → Silent (plain (keep_orders s.layout item word))
+  kept word = plainly (keep_orders s.layout item word) (item-first s.layout item word (order.Store ∷ []) refl)
+
   numbered : (i : ℕ) → Silent (plain (number_orders s.layout item i))
   numbered i = plainly (number_orders s.layout item i) (item-first s.layout item 3 (order.Store ∷ []) refl)
 
-  variable-set : Silent (plain (set_orders s.layout item))
-  variable-set = plainly (set_orders s.layout item) (item-first s.layout item 0 (order.SetVariable ∷ []) refl)
+  variable-set : Silent (plain (set_orders s.layout s.line item))
+  variable-set = plainly (set_orders s.layout s.line item) (item-first s.layout item 0 (order.SetVariable s.line ∷ []) refl)
 
-  bumped : Silent (plain (bump_orders s.layout item))
-  bumped = plainly (bump_orders s.layout item) (item-first s.layout item 0 (order.AddStep ∷ []) refl)
+  bumped : Silent (plain (bump_orders s.layout s.line item))
+  bumped = plainly (bump_orders s.layout s.line item) (item-first s.layout item 0 (order.AddStep s.line ∷ []) refl)
 
-  turned : (body : ℕ) → Silent (turn_piece s.layout item body)
+  turned : (body : ℕ) → Silent (turn_piece s.layout s.line item body)
   turned body =
-      ended (λ next. plain (item_order s.layout item 0 ∷ order.PutVariable ∷ order.Exhausted next ∷ order.Jump body ∷ []))
-      (λ next. plainly (item_order s.layout item 0 ∷ order.PutVariable ∷ order.Exhausted next ∷ order.Jump body ∷ []) (item-first s.layout item 0 (order.PutVariable ∷ order.Exhausted next ∷ order.Jump body ∷ []) refl))
+      ended (λ next. plain (item_order s.layout item 0 ∷ order.PutVariable s.line ∷ order.Exhausted next ∷ order.Jump body ∷ []))
+      (λ next. plainly (item_order s.layout item 0 ∷ order.PutVariable s.line ∷ order.Exhausted next ∷ order.Jump body ∷ []) (item-first s.layout item 0 (order.PutVariable s.line ∷ order.Exhausted next ∷ order.Jump body ∷ []) refl))
 
   while-silent : (f body next i : ℕ) (e : Expr) (c : Cond) → Silent (while_values s item f body next i e c)
   while-silent f body next i e c =
@@ -96,8 +99,8 @@ module _ (s : Scope) (item : ℕ) where
       (both (expression-begins s a f)
       (both variable-set
       (both (expression-begins s b f)
-      (both (plainly (item_order s.layout item 1 ∷ order.Store ∷ []) (item-first s.layout item 1 (order.Store ∷ []) refl))
-      (both (expression-begins s d f) (plainly (item_order s.layout item 2 ∷ order.Store ∷ order.Jump turn ∷ []) (item-first s.layout item 2 (order.Store ∷ order.Jump turn ∷ []) refl)))))))
+      (both (kept 1)
+      (both (expression-begins s d f) (plainly (keep_orders s.layout item 2 ++ order.Jump turn ∷ []) (item-first s.layout item 2 (order.Store ∷ order.Jump turn ∷ []) refl)))))))
 
   element-silent : (f set body i : ℕ) (e : Felem) → Silent (element_piece s item f set body i e)
   element-silent f set body i (element.One e) =
@@ -107,7 +110,7 @@ module _ (s : Scope) (item : ℕ) where
       middle (λ own. plain []) (λ own. with_end (λ next. while_values s item f body next i e c)) (λ own. plainly [] refl)
       (λ own. ended (λ next. while_values s item f body next i e c) (λ next. while-silent f body next i e c))
   element-silent f set body i (element.Step a b d) =
-      middle (λ turn. followed_by (with_end (λ bump. step_values s item f turn i a b d)) (plain (bump_orders s.layout item))) (λ turn. turn_piece s.layout item body)
+      middle (λ turn. followed_by (with_end (λ bump. step_values s item f turn i a b d)) (plain (bump_orders s.layout s.line item))) (λ turn. turn_piece s.layout s.line item body)
       (λ turn. both (ended (λ bump. step_values s item f turn i a b d) (λ bump. step-silent f turn i a b d)) bumped)
       (λ turn. turned body)
 
@@ -116,15 +119,15 @@ module _ (s : Scope) (item : ℕ) where
   elements-silent f set body i (e ∷ es) = both (element-silent f set body i e) (elements-silent f set body (i + 1) es)
 
   -- the elements begin none, and the body those of its lines
-  ring-begins : (line f : ℕ) (es : List Felem) (body : Piece) (xs : List ℕ) → Begins body xs → Begins (ring_piece s line item f es body) xs
-  ring-begins line f es body xs h = record { at = λ place next. (laid (element_ways s item f (next + 1 + 1) (next + 1) 1 es place (next + 1 + 1 + 1))).at place next }
+  ring-begins : (f : ℕ) (es : List Felem) (body : Piece) (xs : List ℕ) → Begins body xs → Begins (ring_piece s item f es body) xs
+  ring-begins f es body xs h = record { at = λ place next. (laid (element_ways s item f (next + 1 + 1) (next + 1) 1 es place (next + 1 + 1 + 1))).at place next }
     where
-      laid : (ways : List ℕ) → Begins (with_end (λ end. with_middle (λ start. followed_by (with_end (λ set. followed_by (elements_piece s item f set start 1 es) (plain (order.Jump end ∷ [])))) (plain (set_orders s.layout item))) (λ start. followed_by body (plain (order.Line line ∷ item_order s.layout item 3 ∷ order.Load ∷ order.LoopWay ways ∷ []))))) xs
+      laid : (ways : List ℕ) → Begins (with_end (λ end. with_middle (λ start. followed_by (with_end (λ set. followed_by (elements_piece s item f set start 1 es) (plain (order.Jump end ∷ [])))) (plain (set_orders s.layout s.line item))) (λ start. followed_by body (plain (item_order s.layout item 3 ∷ order.Load ∷ order.LoopWay ways ∷ []))))) xs
       laid ways =
-          ended (λ end. with_middle (λ start. followed_by (with_end (λ set. followed_by (elements_piece s item f set start 1 es) (plain (order.Jump end ∷ [])))) (plain (set_orders s.layout item))) (λ start. followed_by body (plain (order.Line line ∷ item_order s.layout item 3 ∷ order.Load ∷ order.LoopWay ways ∷ []))))
-          (λ end. middle (λ start. followed_by (with_end (λ set. followed_by (elements_piece s item f set start 1 es) (plain (order.Jump end ∷ [])))) (plain (set_orders s.layout item))) (λ start. followed_by body (plain (order.Line line ∷ item_order s.layout item 3 ∷ order.Load ∷ order.LoopWay ways ∷ [])))
+          ended (λ end. with_middle (λ start. followed_by (with_end (λ set. followed_by (elements_piece s item f set start 1 es) (plain (order.Jump end ∷ [])))) (plain (set_orders s.layout s.line item))) (λ start. followed_by body (plain (item_order s.layout item 3 ∷ order.Load ∷ order.LoopWay ways ∷ []))))
+          (λ end. middle (λ start. followed_by (with_end (λ set. followed_by (elements_piece s item f set start 1 es) (plain (order.Jump end ∷ [])))) (plain (set_orders s.layout s.line item))) (λ start. followed_by body (plain (item_order s.layout item 3 ∷ order.Load ∷ order.LoopWay ways ∷ [])))
           (λ start. both (ended (λ set. followed_by (elements_piece s item f set start 1 es) (plain (order.Jump end ∷ []))) (λ set. both (elements-silent f set start 1 es) (plainly (order.Jump end ∷ []) refl))) variable-set)
-          (λ start. before h (plainly (order.Line line ∷ item_order s.layout item 3 ∷ order.Load ∷ order.LoopWay ways ∷ []) (item-first s.layout item 3 (order.Load ∷ order.LoopWay ways ∷ []) refl))))
+          (λ start. before h (plainly (item_order s.layout item 3 ∷ order.Load ∷ order.LoopWay ways ∷ []) (item-first s.layout item 3 (order.Load ∷ order.LoopWay ways ∷ []) refl))))
 
 -- ---- statements
 
@@ -135,12 +138,12 @@ module _ (s : Scope) (who : Option ℕ) (answer : ℕ) where
   statement-made : (x : Stmt) → statement_piece s who answer x ≡ piece_layer (out-Stmt x)
   statement-made = fold_out-Stmt Piece (made.statement_step s who answer)
 
-  jump-silent : (d : Dest) → Silent (jump_piece s who d)
-  jump-silent (dest.Goal g) = plainly (goal_order s.unit who g ∷ []) (none-first (goal_order s.unit who g) [] (goal-silent s.unit who g) refl)
-  jump-silent (dest.Special k) = plainly (order.GoSpecial (control_place s.parameters k) ∷ []) refl
-  jump-silent (dest.Switch n e) = both (expression-begins s e 0) (plainly (order.GoSwitch n ∷ []) refl)
-  jump-silent (dest.CommonSwitch d e) = both (expression-begins s e 0) (plainly (order.GoSwitchCommon d ∷ []) refl)
-  jump-silent (dest.SpecialSwitch k e) = both (expression-begins s e 0) (plainly (order.GoSwitchSpecial (control_place s.parameters k) ∷ []) refl)
+  jump-silent : (line : ℕ) (d : Dest) → Silent (jump_piece (at_line line s) who d)
+  jump-silent line (dest.Goal g) = plainly (goal_order s.unit who g ∷ []) (none-first (goal_order s.unit who g) [] (goal-silent s.unit who g) refl)
+  jump-silent line (dest.Special k) = plainly (order.GoSpecial (control_place s.parameters k) ∷ []) refl
+  jump-silent line (dest.Switch n e) = both (expression-begins (at_line line s) e 0) (plainly (order.GoSwitch n line ∷ []) refl)
+  jump-silent line (dest.CommonSwitch d e) = both (expression-begins (at_line line s) e 0) (plainly (order.GoSwitchCommon d line ∷ []) refl)
+  jump-silent line (dest.SpecialSwitch k e) = both (expression-begins (at_line line s) e 0) (plainly (order.GoSwitchSpecial (control_place s.parameters k) line ∷ []) refl)
 
   module _ (n : ℕ) (below : (t : Stmt) → statement_size t < n → Begins (statement_piece s who answer t) (lines_in t)) where
     all-begin : (ss : List Stmt) → total (map statement_size ss) < n → Begins (sequence (map (statement_piece s who answer) ss)) (joined (map lines_in ss))
@@ -149,22 +152,26 @@ module _ (s : Scope) (who : Option ℕ) (answer : ℕ) where
 
     layer-begins : (x : Stmt-F Stmt) → size_layer x ≤ n → Begins (piece_layer x) (lines_layer x)
     layer-begins (statement.Put line r e) le =
-        both (begun line) (both (expression-begins s e (out-Ref r).f) (both (address-begins s r) (plainly (store_orders (out-Ref r).field) (store-silent (out-Ref r).field))))
-    layer-begins (statement.PutBits line t b r e) le = both (begun line) (both (expression-begins s e 0) (both (address-begins s r) (plainly (order.StorePart t b ∷ []) refl)))
-    layer-begins (statement.Go line d) le = both (begun line) (jump-silent d)
+        both (begun line)
+        (both (expression-begins (at_line line s) e (out-Ref r).f)
+        (both saved-silent (both (address-begins (at_line line s) r) (plainly (store_orders (out-Ref r).field) (store-silent (out-Ref r).field)))))
+    layer-begins (statement.PutBits line t b r e) le =
+        both (begun line) (both (expression-begins (at_line line s) e 0) (both saved-silent (both (address-begins (at_line line s) r) (plainly (order.StorePart t b ∷ []) refl))))
+    layer-begins (statement.Go line d) le = both (begun line) (jump-silent line d)
     layer-begins (statement.Call line t args) le =
         both (begun line)
-        (both (arguments-begin s args) (plainly (call_order s t ∷ after_statement_call t) (none-first (call_order s t) (after_statement_call t) (call-silent s t) (after-silent t))))
-    layer-begins (statement.Answer line e) le = both (begun line) (both (expression-begins s e answer) (plainly (order.Return (argument_words s.parameters) true ∷ []) refl))
+        (both (arguments-begin (at_line line s) args)
+        (plainly (call_order (at_line line s) t ∷ after_statement_call t) (none-first (call_order (at_line line s) t) (after_statement_call t) (call-silent (at_line line s) t) (after-silent t))))
+    layer-begins (statement.Answer line e) le = both (begun line) (both (expression-begins (at_line line s) e answer) (plainly (order.Return (argument_words s.parameters) true ∷ []) refl))
     layer-begins (statement.If line c a b) le =
         both (begun line)
-        (choice-begins (condition_piece s c) (statement_piece s who answer a) (statement_piece s who answer b) (condition-begins s c)
+        (choice-begins (condition_piece (at_line line s) c) (statement_piece s who answer a) (statement_piece s who answer b) (condition-begins (at_line line s) c)
         (below a (let z : statement_size a < n = omega (arith, le) in z)) (below b (let z : statement_size b < n = omega (arith, le) in z)))
     layer-begins (statement.For line item r es t) le =
         both (begun line)
-        (both (address-begins s r)
-        (both (plainly (item_order s.layout item 0 ∷ order.Store ∷ []) (item-first s.layout item 0 (order.Store ∷ []) refl))
-        (ring-begins s item line (out-Ref r).f es (statement_piece s who answer t) (lines_in t) (below t (let z : statement_size t < n = omega (arith, le) in z)))))
+        (both (address-begins (at_line line s) r)
+        (both (kept (at_line line s) item 0)
+        (ring-begins (at_line line s) item (out-Ref r).f es (statement_piece s who answer t) (lines_in t) (below t (let z : statement_size t < n = omega (arith, le) in z)))))
     layer-begins (statement.Seq ss) le = all-begin ss (let z : total (map statement_size ss) < n = omega (arith, le) in z)
     layer-begins (statement.Mark ls t) le = both (labelled ls) (below t (let z : statement_size t < n = omega (arith, le) in z))
 

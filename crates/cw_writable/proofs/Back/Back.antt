@@ -33,7 +33,7 @@ module _ (u : SourceUnit) where
   body ready small need =
       let o = unit_orders u in
       let long = code-long o in
-      let entry : entry_size ≡ 15 = refl in
+      let entry : entry_size ≡ 11 = refl in
       let some : 0 < size = omega (arith, long, entry) in
       let fits : size < 4294967296 = omega (arith, small) in
       let tokens = ready.tokens in

@@ -15,12 +15,12 @@ is_place fs f o = is_some (slice_get fs f) && (nat_lt f 65536 && nat_lt o 65536)
 abbrev pub names_well : (descriptors : ℕ) → List Family → Order → Bool
 names_well n fs (order.Home f o) = is_place fs f o
 names_well n fs (order.Bind k f o) = is_place fs f o
-names_well n fs (order.CallCommon d) = nat_lt d n
+names_well n fs (order.CallCommon d line) = nat_lt d n
 names_well n fs (order.LabelCommon d) = nat_lt d n
 names_well n fs (order.SwitchCommon d) = nat_lt d n
 names_well n fs (order.ProcCommon d) = nat_lt d n
 names_well n fs (order.GoCommon d) = nat_lt d n
-names_well n fs (order.GoSwitchCommon d) = nat_lt d n
+names_well n fs (order.GoSwitchCommon d line) = nat_lt d n
 names_well n fs (order.Start line) = false
 names_well n fs _ = true
 

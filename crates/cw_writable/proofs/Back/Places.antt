@@ -1,5 +1,5 @@
 -- Places in the code of a unit: where statements begin, and where what is defined begins.
-use Rattle.std.proofs.Common.{◌≡◌, ℕ, zero, suc, ◌+◌, ◌*◌, ◌<◌, ◌≤◌, nat_eq, nat_le, nat_lt, List, [], ◌∷◌, ◌++◌, map, length, Bool, true, false, IsTrue, ◌&&◌, ◌||◌, if◌then◌else◌, Option, Some, None, slice_get, slice_index, refl, sym, ap, ◌∙◌, subst, arith, length-append}
+use Rattle.std.proofs.Common.{◌≡◌, ℕ, zero, suc, ◌+◌, ◌*◌, ◌<◌, ◌≤◌, nat_eq, nat_le, nat_lt, List, [], ◌∷◌, ◌++◌, map, length, Bool, true, false, IsTrue, ◌&&◌, ◌||◌, if◌then◌else◌, pos, Option, Some, None, slice_get, slice_index, refl, sym, ap, ◌∙◌, subst, arith, length-append}
 use Rattle.std.proofs.lemmas.Bool.{eqb-true}
 use Rattle.std.proofs.lemmas.Option.{slice_get_within}
 use Rattle.std.specs.List.{list_all}
@@ -16,7 +16,7 @@ use Rattle.cw_unit.specs.declared.layout.Family.{Family}
 use Rattle.cw_tmpl.specs.declared.blocks.Block.TheVariants as block
 use Rattle.cw_tmpl.specs.Pieces.{blanks}
 use Rattle.cw_tmpl.specs.Names.{mark_place, way_to_label, landing_start, switch_size}
-use Rattle.cw_tmpl.specs.Blocks.{use_of, with_number, with_variable, after_home, after_frame_home, block_at, orders_left}
+use Rattle.cw_tmpl.specs.Blocks.{use_of, with_number, is_plain_divisor, after_saved_const, with_variable, after_saved_home, after_saved_frame_home, after_save, after_home, after_frame_home, block_at, orders_left}
 use Rattle.cw_tmpl.specs.Templates.{block_size, entry_pieces}
 use Rattle.cw_tmpl.specs.ReferenceCode.{templates, landings, switches, entry_size, order_places, switch_places, switch_sizes, landings_place, switches_place, names_of, mark_starts, label_starts, statement_at, statements_from, orders_code}
 use Rattle.cw_tmpl.proofs.Growing.{blanks-append}
@@ -40,35 +40,57 @@ left_over zero os = true
 left_over (suc n) [] = false
 left_over (suc n) (o ∷ os) = ends_block o && left_over n os
 
-left-number : (w : ℕ) (os : List Order) → IsTrue (left_over (orders_left (with_number w (use_of (slice_get os 0)))) os)
+left-quotient : (b : Bool) (w line : ℕ) (os : List Order) → IsTrue (left_over (orders_left (if b then block.Divide w else block.Single)) (order.Const w ∷ order.Div (pos zero) line ∷ os))
+left-quotient true w line os = refl
+left-quotient false w line os = refl
+
+left-number : (w : ℕ) (os : List Order) → IsTrue (left_over (orders_left (after_saved_const w (slice_get os 0))) (order.Const w ∷ os))
 left-number w [] = refl
-left-number w (order.Add ∷ os) = refl
-left-number w (order.Sub ∷ os) = refl
+left-number w (order.Add line ∷ os) = refl
+left-number w (order.Sub line ∷ os) = refl
 left-number w (order.JumpIf c m ∷ os) = refl
+left-number w (order.Div (pos zero) line ∷ os) = left-quotient (is_plain_divisor w) w line os
 left-number w (x ∷ os) = refl
 
-left-variable : (f n : ℕ) (os : List Order) → IsTrue (left_over (orders_left (with_variable f n (use_of (slice_get os 0)))) (order.Load ∷ os))
+left-variable : (f n : ℕ) (os : List Order) → IsTrue (left_over (orders_left (with_variable f n (use_of (slice_get os 0)))) (order.Home f n ∷ order.Load ∷ os))
 left-variable f n [] = refl
-left-variable f n (order.Add ∷ os) = refl
-left-variable f n (order.Sub ∷ os) = refl
+left-variable f n (order.Add line ∷ os) = refl
+left-variable f n (order.Sub line ∷ os) = refl
 left-variable f n (order.JumpIf c m ∷ os) = refl
 left-variable f n (x ∷ os) = refl
 
-left-home : (f n : ℕ) (os : List Order) → IsTrue (left_over (orders_left (after_home f n (slice_get os 0) (slice_get os 1))) os)
+left-saved-home : (f n : ℕ) (os : List Order) → IsTrue (left_over (orders_left (after_saved_home f n (slice_get os 0) (slice_get os 1))) (order.Home f n ∷ os))
+left-saved-home f n [] = refl
+left-saved-home f n (order.Load ∷ os) = left-variable f n os
+left-saved-home f n (order.Store ∷ os) = refl
+left-saved-home f n (x ∷ os) = refl
+
+left-saved-frame : (n : ℕ) (os : List Order) → IsTrue (left_over (orders_left (after_saved_frame_home n (slice_get os 0))) (order.FrameHome n ∷ os))
+left-saved-frame n [] = refl
+left-saved-frame n (order.Store ∷ os) = refl
+left-saved-frame n (x ∷ os) = refl
+
+left-save : (os : List Order) → IsTrue (left_over (orders_left (after_save (slice_get os 0) (slice_get os 1) (slice_get os 2))) os)
+left-save [] = refl
+left-save (order.Const w ∷ os) = left-number w os
+left-save (order.Home f n ∷ os) = left-saved-home f n os
+left-save (order.FrameHome n ∷ os) = left-saved-frame n os
+left-save (order.WriteByte ∷ os) = refl
+left-save (x ∷ os) = refl
+
+left-home : (f n : ℕ) (os : List Order) → IsTrue (left_over (orders_left (after_home f n (slice_get os 0))) os)
 left-home f n [] = refl
-left-home f n (order.Load ∷ os) = left-variable f n os
-left-home f n (order.Store ∷ os) = refl
+left-home f n (order.Load ∷ os) = refl
 left-home f n (x ∷ os) = refl
 
 left-frame : (n : ℕ) (os : List Order) → IsTrue (left_over (orders_left (after_frame_home n (slice_get os 0))) os)
 left-frame n [] = refl
 left-frame n (order.Load ∷ os) = refl
-left-frame n (order.Store ∷ os) = refl
 left-frame n (x ∷ os) = refl
 
 left-next : (left : ℕ) (o : Order) (os : List Order) → IsTrue (left_over left (o ∷ os)) → IsTrue (left_over (orders_left (block_at left (o ∷ os))) os)
 left-next (suc n) o os h = (parts (ends_block o) (left_over n os) h).1
-left-next zero (order.Const w) os h = left-number w os
+left-next zero order.Save os h = left-save os
 left-next zero (order.Home f n) os h = left-home f n os
 left-next zero (order.FrameHome n) os h = left-frame n os
 left-next zero o os h = refl
@@ -77,8 +99,7 @@ left-next zero o os h = refl
 
 last-long : (left : ℕ) (o : Order) → IsTrue (is_last o) → IsTrue (left_over left (o ∷ [])) → 0 < block_size (block_at left (o ∷ [])) o
 last-long zero order.NextBody h l = omega arith
-last-long zero (order.Return n true) h l = omega arith
-last-long zero (order.Return n false) h l = omega arith
+last-long zero (order.Return n answers) h l = omega arith
 last-long (suc n) order.NextBody h l = no l
 last-long (suc n) (order.Return m answers) h l = no l
 last-long left o h l = no h
@@ -113,16 +134,16 @@ module _ (n : ℕ) (fs : List Family) (places : List ℕ) (size : ℕ) (small : 
       subst (λ xs. IsTrue (are_begun size low (xs ++ statements_from (k + 1) places os))) (sym (no-statement n fs (slice_index places k) o h)) rest
   begun-from _ (begun line os h r) (suc left) at low k l le end here c = no l
   begun-from _ (begun line os h r) zero at low k l le end here c =
-      let five : block_size block.Single (order.Start line) ≡ 5 = refl in
+      let one : block_size block.Single (order.Start line) ≡ 1 = refl in
       let p = slice_index places k in
       let e : k + 0 ≡ k = omega arith in
       let place : p ≡ at = ap (slice_index places) (sym e) ∙ here 0 (let z : 0 ≤ suc (length os) = omega arith in z) ∙ (let z : at + 0 ≡ at = omega arith in z) in
       let a = parts (has_code (order.Start line)) (list_all has_code os) c in
-      let inside : p < size = omega (arith, place, end, five) in
+      let inside : p < size = omega (arith, place, end, one) in
       let long : p < 4294967296 = omega (arith, inside, small) in
       let above : low ≤ p = omega (arith, place, le) in
-      let rest = begun-from os r 0 (at + 5) (p + 1) (k + 1) refl (let z : p + 1 ≤ at + 5 = omega (arith, place) in z) (let z : at + 5 + size_to 0 os (length os) ≤ size = omega (arith, end, five) in z)
-      (λ j lt. let f : k + 1 + j ≡ k + suc j = omega arith in let z : at + size_to 0 (order.Start line ∷ os) (suc j) ≡ at + 5 + size_to 0 os j = omega (arith, five) in ap (slice_index places) f ∙ here (suc j) (let y : suc j ≤ suc (length os) = omega (arith, lt) in y) ∙ z)
+      let rest = begun-from os r 0 (at + 1) (p + 1) (k + 1) refl (let z : p + 1 ≤ at + 1 = omega (arith, place) in z) (let z : at + 1 + size_to 0 os (length os) ≤ size = omega (arith, end, one) in z)
+      (λ j lt. let f : k + 1 + j ≡ k + suc j = omega arith in let z : at + size_to 0 (order.Start line ∷ os) (suc j) ≡ at + 1 + size_to 0 os j = omega (arith, one) in ap (slice_index places) f ∙ here (suc j) (let y : suc j ≤ suc (length os) = omega (arith, lt) in y) ∙ z)
       a.1 in
       both (is_begun size low (p, line)) (are_begun size (p + 1) (statements_from (k + 1) places os))
       (both (fits_statement (p, line)) (nat_le low p && nat_lt p size) (both (is_long p) (is_word line && nat_le 1 line) (lt_true p 4294967296 long) (both (is_word line) (nat_le 1 line) a.0 (le_true 1 line h)))
@@ -182,7 +203,7 @@ module _ (o : Orders) where
     mark-inside m = marked-inside (slice_index o.marks m) (index-mark o.marks marked m)
 
     some-code : 0 < Whole
-    some-code = let long = code-long in let entry : entry_size ≡ 15 = refl in omega (arith, long, entry)
+    some-code = let long = code-long in let entry : entry_size ≡ 11 = refl in omega (arith, long, entry)
 
     procedure-inside : (ms : List ℕ) (q : ℕ) → slice_index (map (mark_starts o) ms) q < Whole
     procedure-inside [] q = some-code

@@ -1,5 +1,5 @@
 -- The orders of the statements of a unit that is built name what there is, and begin each statement with its line.
-use Rattle.std.proofs.Common.{◌≡◌, ℕ, zero, suc, ◌+◌, ◌<◌, ◌≤◌, nat_lt, List, [], ◌∷◌, map, length, Bool, true, false, IsTrue, ◌&&◌, Option, Some, None, is_some, slice_get, refl, sym, subst, arith}
+use Rattle.std.proofs.Common.{◌≡◌, ℕ, zero, suc, ◌+◌, ◌<◌, ◌≤◌, nat_lt, List, [], ◌∷◌, ◌++◌, map, length, Bool, true, false, IsTrue, ◌&&◌, Option, Some, None, is_some, slice_get, refl, sym, subst, arith}
 use Rattle.std.proofs.lemmas.Bool.{leb-true}
 use Rattle.std.specs.List.{list_all}
 use Rattle.cw_order.specs.declared.order.Order.{Order}
@@ -30,12 +30,13 @@ use Rattle.cw_safety.proofs.Expanding.{formed-statement}
 use Rattle.cw_gen_expr.specs.Pieces.{Piece, plain, followed_by, sequence, with_end}
 use Rattle.cw_gen_expr.specs.BuiltExpressions as expressions
 use Rattle.cw_gen_expr.specs.BuiltExpressions.{most_levels, within, all_built, built_reference, is_argument}
-use Rattle.cw_gen_expr.specs.ReferenceExpressions.{Scope, argument_words, control_place, item_order, store_orders, call_order, condition_piece, reference_of, expression_piece}
+use Rattle.cw_gen_expr.specs.ReferenceExpressions.{Scope, at_line, saved, argument_words, control_place, item_order, store_orders, call_order, condition_piece, reference_of, expression_piece}
+use Rattle.cw_gen_expr.specs.ReferenceEntries.{scope_of}
 use Rattle.cw_gen_expr.specs.UnitTables.{label_mark}
 use Rattle.cw_gen_expr.proofs.Layers.{total}
 use Rattle.cw_gen_unit.specs.BuiltStatements as built
 use Rattle.cw_gen_unit.specs.ReferenceStatements as made
-use Rattle.cw_gen_unit.specs.ReferenceStatements.{begin_orders, after_statement_call, from_procedure, own_order, goal_order, jump_piece, with_middle, number_orders, set_orders, bump_orders, turn_piece, while_values, step_values, element_piece, elements_piece, element_ways, ring_piece, statement_piece}
+use Rattle.cw_gen_unit.specs.ReferenceStatements.{begin_orders, after_statement_call, from_procedure, own_order, goal_order, jump_piece, with_middle, keep_orders, number_orders, set_orders, bump_orders, turn_piece, while_values, step_values, element_piece, elements_piece, element_ways, ring_piece, statement_piece}
 use Rattle.cw_built.specs.Listed.{are_named}
 use Rattle.cw_built.specs.Built.{alone}
 use Rattle.cw_writable.proofs.Coded.Fine.{no, both, parts}
@@ -43,7 +44,7 @@ use Rattle.cw_writable.specs.Back.Ready.{all, is_line, lines_step, has_lines}
 use Rattle.cw_writable.proofs.Back.Fit.{plainly, both_good, ended_good, labels_good, begin_good}
 use Rattle.cw_writable.proofs.Back.Names.{listed}
 use Rattle.cw_writable.proofs.Back.Expressions as named
-use Rattle.cw_writable.proofs.Back.Expressions.{Names, Fine, Here, Words}
+use Rattle.cw_writable.proofs.Back.Expressions.{Names, Fine, Words}
 
 -- ---- sizes
 
@@ -75,7 +76,7 @@ module _ (u : SourceUnit) (stored : IsStorable u) (few : length u.items ≤ 6553
   Sound p = Fine u stored few is_named who o p
 
   abbrev At : Scope
-  At = Here u stored few is_named who o
+  At = scope_of u who
 
   abbrev Has : (item words : ℕ) → Bool
   Has = Words u stored few is_named who o
@@ -89,17 +90,20 @@ module _ (u : SourceUnit) (stored : IsStorable u) (few : length u.items ≤ 6553
   abbrev Passes : Stmt → ℕ → Bool
   Passes t n = built.is_statement u Has who answer t n
 
-  expression : (e : Expr) (f levels : ℕ) → IsTrue (expressions.is_expression u Has e f levels) → IsTrue (formed.is_expression (alone u) 0 o e) → (g : ℕ) → Sound (expression_piece At e g)
+  expression : (line : ℕ) (e : Expr) (f levels : ℕ) → IsTrue (expressions.is_expression u Has e f levels) → IsTrue (formed.is_expression (alone u) 0 o e) → (g : ℕ) → Sound (expression_piece (at_line line At) e g)
   expression = named.expression_good u stored few is_named who o
 
-  condition : (c : Cond) → IsTrue (expressions.is_condition u Has c) → IsTrue (formed.is_condition (alone u) 0 o c) → (when : Bool) (mark : ℕ) → Sound (condition_piece At c when mark)
+  condition : (line : ℕ) (c : Cond) → IsTrue (expressions.is_condition u Has c) → IsTrue (formed.is_condition (alone u) 0 o c) → (when : Bool) (mark : ℕ) → Sound (condition_piece (at_line line At) c when mark)
   condition = named.condition_formed_good u stored few is_named who o
 
-  address : (r : Ref) → IsTrue (built_reference u Has r).good → IsTrue (formed.is_reference (alone u) 0 o r) → Sound (reference_of At r).address
+  address : (line : ℕ) (r : Ref) → IsTrue (built_reference u Has r).good → IsTrue (formed.is_reference (alone u) 0 o r) → Sound (reference_of (at_line line At) r).address
   address = named.address_good u stored few is_named who o
 
   item-first : (i m word : ℕ) (os : List Order) → IsTrue (Has i m) → Well os → Well (item_order (layout_of u) i word ∷ os)
   item-first = named.item-first u stored few is_named who o
+
+  saved_good : Sound saved
+  saved_good = named.saved_good u stored few is_named who o
 
   -- ---- jumps
 
@@ -119,92 +123,98 @@ module _ (u : SourceUnit) (stored : IsStorable u) (few : length u.items ≤ 6553
       by_owner (Some q) x = from x
   goal-named (goal.Common d) h = both (nat_lt d (length u.descs)) true (listed u is_named d (λ x. reaches (alone u) o (label_of_def x)) refl h) refl
 
-  jump_good : (d : Dest) → IsTrue (built.is_jump u Has who answer d) → IsTrue (formed.is_goal (alone u) 0 o d) → Sound (jump_piece At who d)
-  jump_good (dest.Goal g) h k = plainly (goal_order u who g ∷ []) (goal-named g k)
-  jump_good (dest.Special m) h k = plainly (order.GoSpecial (control_place At.parameters m) ∷ []) refl
-  jump_good (dest.Switch n e) h k =
+  jump_good : (line : ℕ) (d : Dest) → IsTrue (built.is_jump u Has who answer d) → IsTrue (formed.is_goal (alone u) 0 o d) → Sound (jump_piece (at_line line At) who d)
+  jump_good line (dest.Goal g) h k = plainly (goal_order u who g ∷ []) (goal-named g k)
+  jump_good line (dest.Special m) h k = plainly (order.GoSpecial (control_place At.parameters m) ∷ []) refl
+  jump_good line (dest.Switch n e) h k =
       let p = parts (formed.is_expression (alone u) 0 o e) (reaches_switch (alone u) o (Some (0, n))) k in
-      both_good (expression e 0 most_levels h p.0 0) (plainly (order.GoSwitch n ∷ []) refl)
-  jump_good (dest.CommonSwitch d e) h k =
+      both_good (expression line e 0 most_levels h p.0 0) (plainly (order.GoSwitch n line ∷ []) refl)
+  jump_good line (dest.CommonSwitch d e) h k =
       let asked : Option (ℕ × Def) → Bool = λ x. reaches_switch (alone u) o (switch_of_def x) in
       let p = parts (formed.is_expression (alone u) 0 o e) (asked (definition_of (alone u) 0 d)) k in
-      both_good (expression e 0 most_levels h p.0 0) (plainly (order.GoSwitchCommon d ∷ []) (both (nat_lt d (length u.descs)) true (listed u is_named d (λ x. reaches_switch (alone u) o (switch_of_def x)) refl p.1) refl))
-  jump_good (dest.SpecialSwitch m e) h k =
+      both_good (expression line e 0 most_levels h p.0 0) (plainly (order.GoSwitchCommon d line ∷ []) (both (nat_lt d (length u.descs)) true (listed u is_named d (λ x. reaches_switch (alone u) o (switch_of_def x)) refl p.1) refl))
+  jump_good line (dest.SpecialSwitch m e) h k =
       let p = parts (formed.is_expression (alone u) 0 o e) (formed.is_switch (slice_get (formed.controls_of (alone u) o) m)) k in
-      both_good (expression e 0 most_levels h p.0 0) (plainly (order.GoSwitchSpecial (control_place At.parameters m) ∷ []) refl)
+      both_good (expression line e 0 most_levels h p.0 0) (plainly (order.GoSwitchSpecial (control_place At.parameters m) line ∷ []) refl)
 
   -- ---- FOR
 
   middle_good : (a b : ℕ → Piece) → ((mark : ℕ) → Sound (a mark)) → ((mark : ℕ) → Sound (b mark)) → Sound (with_middle a b)
   middle_good a b ha hb = record { at = λ place next. (both_good (ended_good a ha) (hb next)).at place next }
 
-  module _ (item : ℕ) (has : IsTrue (Has item 4)) where
+  module _ (line item : ℕ) (has : IsTrue (Has item 4)) where
+    abbrev Line : Scope
+    Line = at_line line At
+
+    kept_well : (word : ℕ) (os : List Order) → Well os → Well (keep_orders (layout_of u) item word ++ os)
+    kept_well word os h = item-first item 4 word (order.Store ∷ os) has h
+
     numbered_good : (i : ℕ) → Sound (plain (number_orders (layout_of u) item i))
-    numbered_good i = plainly (number_orders (layout_of u) item i) (item-first item 4 3 (order.Store ∷ []) has refl)
+    numbered_good i = plainly (number_orders (layout_of u) item i) (kept_well 3 [] refl)
 
-    set_good : Sound (plain (set_orders (layout_of u) item))
-    set_good = plainly (set_orders (layout_of u) item) (item-first item 4 0 (order.SetVariable ∷ []) has refl)
+    set_good : Sound (plain (set_orders (layout_of u) line item))
+    set_good = plainly (set_orders (layout_of u) line item) (item-first item 4 0 (order.SetVariable line ∷ []) has refl)
 
-    bump_good : Sound (plain (bump_orders (layout_of u) item))
-    bump_good = plainly (bump_orders (layout_of u) item) (item-first item 4 0 (order.AddStep ∷ []) has refl)
+    bump_good : Sound (plain (bump_orders (layout_of u) line item))
+    bump_good = plainly (bump_orders (layout_of u) line item) (item-first item 4 0 (order.AddStep line ∷ []) has refl)
 
-    turn_good : (body : ℕ) → Sound (turn_piece (layout_of u) item body)
+    turn_good : (body : ℕ) → Sound (turn_piece (layout_of u) line item body)
     turn_good body =
-        ended_good (λ next. plain (item_order (layout_of u) item 0 ∷ order.PutVariable ∷ order.Exhausted next ∷ order.Jump body ∷ []))
-        (λ next. plainly (item_order (layout_of u) item 0 ∷ order.PutVariable ∷ order.Exhausted next ∷ order.Jump body ∷ [])
-        (item-first item 4 0 (order.PutVariable ∷ order.Exhausted next ∷ order.Jump body ∷ []) has refl))
+        ended_good (λ next. plain (item_order (layout_of u) item 0 ∷ order.PutVariable line ∷ order.Exhausted next ∷ order.Jump body ∷ []))
+        (λ next. plainly (item_order (layout_of u) item 0 ∷ order.PutVariable line ∷ order.Exhausted next ∷ order.Jump body ∷ [])
+        (item-first item 4 0 (order.PutVariable line ∷ order.Exhausted next ∷ order.Jump body ∷ []) has refl))
 
-    kept_good : (word : ℕ) (os : List Order) → Well os → Sound (plain (item_order (layout_of u) item word ∷ order.Store ∷ os))
-    kept_good word os h = plainly (item_order (layout_of u) item word ∷ order.Store ∷ os) (item-first item 4 word (order.Store ∷ os) has h)
+    kept_good : (word : ℕ) (os : List Order) → Well os → Sound (plain (keep_orders (layout_of u) item word ++ os))
+    kept_good word os h = plainly (keep_orders (layout_of u) item word ++ os) (kept_well word os h)
 
-    while_good : (f body next i : ℕ) (e : Expr) (c : Cond) → IsTrue (built.is_element u Has who answer f (element.While e c)) → IsTrue (formed.is_element (alone u) 0 o (element.While e c)) → Sound (while_values At item f body next i e c)
+    while_good : (f body next i : ℕ) (e : Expr) (c : Cond) → IsTrue (built.is_element u Has who answer f (element.While e c)) → IsTrue (formed.is_element (alone u) 0 o (element.While e c)) → Sound (while_values Line item f body next i e c)
     while_good f body next i e c h k =
         let p = parts (expressions.is_expression u Has e f most_levels) (expressions.is_condition u Has c) h in
         let q = parts (formed.is_expression (alone u) 0 o e) (formed.is_condition (alone u) 0 o c) k in
         both_good (numbered_good i)
-        (both_good (expression e f most_levels p.0 q.0 f) (both_good set_good (both_good (condition c p.1 q.1 false next) (plainly (order.Jump body ∷ []) refl))))
+        (both_good (expression line e f most_levels p.0 q.0 f) (both_good set_good (both_good (condition line c p.1 q.1 false next) (plainly (order.Jump body ∷ []) refl))))
 
-    step_good : (f turn i : ℕ) (a b d : Expr) → IsTrue (built.is_element u Has who answer f (element.Step a b d)) → IsTrue (formed.is_element (alone u) 0 o (element.Step a b d)) → Sound (step_values At item f turn i a b d)
+    step_good : (f turn i : ℕ) (a b d : Expr) → IsTrue (built.is_element u Has who answer f (element.Step a b d)) → IsTrue (formed.is_element (alone u) 0 o (element.Step a b d)) → Sound (step_values Line item f turn i a b d)
     step_good f turn i a b d h k =
         let p = parts (expressions.is_expression u Has a f most_levels) (expressions.is_expression u Has b f most_levels && expressions.is_expression u Has d f most_levels) h in
         let q = parts (expressions.is_expression u Has b f most_levels) (expressions.is_expression u Has d f most_levels) p.1 in
         let r = parts (formed.is_expression (alone u) 0 o a) (formed.is_expression (alone u) 0 o b && formed.is_expression (alone u) 0 o d) k in
         let t = parts (formed.is_expression (alone u) 0 o b) (formed.is_expression (alone u) 0 o d) r.1 in
         both_good (numbered_good i)
-        (both_good (expression a f most_levels p.0 r.0 f)
+        (both_good (expression line a f most_levels p.0 r.0 f)
         (both_good set_good
-        (both_good (expression b f most_levels q.0 t.0 f)
+        (both_good (expression line b f most_levels q.0 t.0 f)
         (both_good (kept_good 1 [] refl)
-        (both_good (expression d f most_levels q.1 t.1 f) (kept_good 2 (order.Jump turn ∷ []) refl))))))
+        (both_good (expression line d f most_levels q.1 t.1 f) (kept_good 2 (order.Jump turn ∷ []) refl))))))
 
-    element_good : (f set body i : ℕ) (e : Felem) → IsTrue (built.is_element u Has who answer f e) → IsTrue (formed.is_element (alone u) 0 o e) → Sound (element_piece At item f set body i e)
+    element_good : (f set body i : ℕ) (e : Felem) → IsTrue (built.is_element u Has who answer f e) → IsTrue (formed.is_element (alone u) 0 o e) → Sound (element_piece Line item f set body i e)
     element_good f set body i (element.One e) h k =
-        ended_good (λ next. followed_by (plain (number_orders (layout_of u) item i)) (followed_by (expression_piece At e f) (plain (order.Jump set ∷ []))))
-        (λ next. both_good (numbered_good i) (both_good (expression e f 63 h k f) (plainly (order.Jump set ∷ []) refl)))
+        ended_good (λ next. followed_by (plain (number_orders (layout_of u) item i)) (followed_by (expression_piece Line e f) (plain (order.Jump set ∷ []))))
+        (λ next. both_good (numbered_good i) (both_good (expression line e f 63 h k f) (plainly (order.Jump set ∷ []) refl)))
     element_good f set body i (element.While e c) h k =
-        middle_good (λ own. plain []) (λ own. with_end (λ next. while_values At item f body next i e c)) (λ own. plainly [] refl)
-        (λ own. ended_good (λ next. while_values At item f body next i e c) (λ next. while_good f body next i e c h k))
+        middle_good (λ own. plain []) (λ own. with_end (λ next. while_values Line item f body next i e c)) (λ own. plainly [] refl)
+        (λ own. ended_good (λ next. while_values Line item f body next i e c) (λ next. while_good f body next i e c h k))
     element_good f set body i (element.Step a b d) h k =
-        middle_good (λ turn. followed_by (with_end (λ bump. step_values At item f turn i a b d)) (plain (bump_orders (layout_of u) item))) (λ turn. turn_piece (layout_of u) item body)
-        (λ turn. both_good (ended_good (λ bump. step_values At item f turn i a b d) (λ bump. step_good f turn i a b d h k)) bump_good)
+        middle_good (λ turn. followed_by (with_end (λ bump. step_values Line item f turn i a b d)) (plain (bump_orders (layout_of u) line item))) (λ turn. turn_piece (layout_of u) line item body)
+        (λ turn. both_good (ended_good (λ bump. step_values Line item f turn i a b d) (λ bump. step_good f turn i a b d h k)) bump_good)
         (λ turn. turn_good body)
 
-    elements_good : (f set body i : ℕ) (es : List Felem) → IsTrue (built.are_elements u Has who answer f es) → IsTrue (formed.are_elements (alone u) 0 o es) → Sound (elements_piece At item f set body i es)
+    elements_good : (f set body i : ℕ) (es : List Felem) → IsTrue (built.are_elements u Has who answer f es) → IsTrue (formed.are_elements (alone u) 0 o es) → Sound (elements_piece Line item f set body i es)
     elements_good f set body i [] h k = plainly [] refl
     elements_good f set body i (e ∷ es) h k =
         let p = parts (built.is_element u Has who answer f e) (built.are_elements u Has who answer f es) h in
         let q = parts (formed.is_element (alone u) 0 o e) (formed.are_elements (alone u) 0 o es) k in
         both_good (element_good f set body i e p.0 q.0) (elements_good f set body (i + 1) es p.1 q.1)
 
-    ring_good : (line f : ℕ) (es : List Felem) (body : Piece) → IsTrue (built.are_elements u Has who answer f es) → IsTrue (formed.are_elements (alone u) 0 o es) → Sound body → Sound (ring_piece At line item f es body)
-    ring_good line f es body h k hb = record { at = λ place next. (laid (element_ways At item f (next + 1 + 1) (next + 1) 1 es place (next + 1 + 1 + 1))).at place next }
+    ring_good : (f : ℕ) (es : List Felem) (body : Piece) → IsTrue (built.are_elements u Has who answer f es) → IsTrue (formed.are_elements (alone u) 0 o es) → Sound body → Sound (ring_piece Line item f es body)
+    ring_good f es body h k hb = record { at = λ place next. (laid (element_ways Line item f (next + 1 + 1) (next + 1) 1 es place (next + 1 + 1 + 1))).at place next }
       where
-        laid : (ways : List ℕ) → Sound (with_end (λ end. with_middle (λ start. followed_by (with_end (λ set. followed_by (elements_piece At item f set start 1 es) (plain (order.Jump end ∷ [])))) (plain (set_orders (layout_of u) item))) (λ start. followed_by body (plain (order.Line line ∷ item_order (layout_of u) item 3 ∷ order.Load ∷ order.LoopWay ways ∷ [])))))
+        laid : (ways : List ℕ) → Sound (with_end (λ end. with_middle (λ start. followed_by (with_end (λ set. followed_by (elements_piece Line item f set start 1 es) (plain (order.Jump end ∷ [])))) (plain (set_orders (layout_of u) line item))) (λ start. followed_by body (plain (item_order (layout_of u) item 3 ∷ order.Load ∷ order.LoopWay ways ∷ [])))))
         laid ways =
-            ended_good (λ end. with_middle (λ start. followed_by (with_end (λ set. followed_by (elements_piece At item f set start 1 es) (plain (order.Jump end ∷ [])))) (plain (set_orders (layout_of u) item))) (λ start. followed_by body (plain (order.Line line ∷ item_order (layout_of u) item 3 ∷ order.Load ∷ order.LoopWay ways ∷ []))))
-            (λ end. middle_good (λ start. followed_by (with_end (λ set. followed_by (elements_piece At item f set start 1 es) (plain (order.Jump end ∷ [])))) (plain (set_orders (layout_of u) item))) (λ start. followed_by body (plain (order.Line line ∷ item_order (layout_of u) item 3 ∷ order.Load ∷ order.LoopWay ways ∷ [])))
-            (λ start. both_good (ended_good (λ set. followed_by (elements_piece At item f set start 1 es) (plain (order.Jump end ∷ []))) (λ set. both_good (elements_good f set start 1 es h k) (plainly (order.Jump end ∷ []) refl))) set_good)
-            (λ start. both_good hb (plainly (order.Line line ∷ item_order (layout_of u) item 3 ∷ order.Load ∷ order.LoopWay ways ∷ []) (item-first item 4 3 (order.Load ∷ order.LoopWay ways ∷ []) has refl))))
+            ended_good (λ end. with_middle (λ start. followed_by (with_end (λ set. followed_by (elements_piece Line item f set start 1 es) (plain (order.Jump end ∷ [])))) (plain (set_orders (layout_of u) line item))) (λ start. followed_by body (plain (item_order (layout_of u) item 3 ∷ order.Load ∷ order.LoopWay ways ∷ []))))
+            (λ end. middle_good (λ start. followed_by (with_end (λ set. followed_by (elements_piece Line item f set start 1 es) (plain (order.Jump end ∷ [])))) (plain (set_orders (layout_of u) line item))) (λ start. followed_by body (plain (item_order (layout_of u) item 3 ∷ order.Load ∷ order.LoopWay ways ∷ [])))
+            (λ start. both_good (ended_good (λ set. followed_by (elements_piece Line item f set start 1 es) (plain (order.Jump end ∷ []))) (λ set. both_good (elements_good f set start 1 es h k) (plainly (order.Jump end ∷ []) refl))) set_good)
+            (λ start. both_good hb (plainly (item_order (layout_of u) item 3 ∷ order.Load ∷ order.LoopWay ways ∷ []) (item-first item 4 3 (order.Load ∷ order.LoopWay ways ∷ []) has refl))))
 
   -- ---- statements
 
@@ -253,22 +263,23 @@ module _ (u : SourceUnit) (stored : IsStorable u) (few : length u.items ≤ 6553
         let p = parts (built_reference u Has r).good (expressions.is_expression u Has e f most_levels) h in
         let q = parts (formed.is_reference (alone u) 0 o r) (formed.is_expression (alone u) 0 o e) k in
         both_good (begin line l)
-        (both_good (expression e f most_levels p.1 q.1 f) (both_good (address r p.0 q.0) (plainly (store_orders (out-Ref r).field) (named.store-named u stored few is_named who o (out-Ref r).field))))
+        (both_good (expression line e f most_levels p.1 q.1 f)
+        (both_good saved_good (both_good (address line r p.0 q.0) (plainly (store_orders (out-Ref r).field) (named.store-named u stored few is_named who o (out-Ref r).field)))))
     layer_good (statement.PutBits line t b r e) le levels h k l =
         let p = parts (built_reference u Has r).good (expressions.is_expression u Has e 0 most_levels) h in
         let q = parts (formed.is_reference (alone u) 0 o r) (formed.is_expression (alone u) 0 o e) k in
         both_good (begin line l)
-        (both_good (expression e 0 most_levels p.1 q.1 0) (both_good (address r p.0 q.0) (plainly (order.StorePart t b ∷ []) refl)))
-    layer_good (statement.Go line d) le levels h k l = both_good (begin line l) (jump_good d h k)
+        (both_good (expression line e 0 most_levels p.1 q.1 0) (both_good saved_good (both_good (address line r p.0 q.0) (plainly (order.StorePart t b ∷ []) refl))))
+    layer_good (statement.Go line d) le levels h k l = both_good (begin line l) (jump_good line d h k)
     layer_good (statement.Call line t args) le levels h k l =
         let ks = kinds_of (map (kind_of (alone u) 0 o) args) in
         both_good (begin line l)
-        (both_good (named.arguments_good u stored few is_named who o args h (named.call-kinds u stored few is_named who o false t ks k))
-        (plainly (call_order At t ∷ after_statement_call t) (both (Names u stored few is_named who o (call_order At t)) (list_all (Names u stored few is_named who o) (after_statement_call t)) (named.call-named u stored few is_named who o false t ks k) (after-named t))))
+        (both_good (named.arguments_good u stored few is_named who o line args h (named.call-kinds u stored few is_named who o line false t ks k))
+        (plainly (call_order (at_line line At) t ∷ after_statement_call t) (both (Names u stored few is_named who o (call_order (at_line line At) t)) (list_all (Names u stored few is_named who o) (after_statement_call t)) (named.call-named u stored few is_named who o line false t ks k) (after-named t))))
     layer_good (statement.Answer line e) le levels h k l =
         let p = parts (is_some who) (expressions.is_expression u Has e answer most_levels) h in
         let q = parts (is_some o) (formed.is_expression (alone u) 0 o e) k in
-        both_good (begin line l) (both_good (expression e answer most_levels p.1 q.1 answer) (plainly (order.Return (argument_words At.parameters) true ∷ []) refl))
+        both_good (begin line l) (both_good (expression line e answer most_levels p.1 q.1 answer) (plainly (order.Return (argument_words At.parameters) true ∷ []) refl))
     layer_good (statement.If line c a b) le levels h k l =
         let p = parts (expressions.is_condition u Has c) (within levels (built.is_statement u Has who answer a) && Passes b levels) h in
         let q = parts (within levels (built.is_statement u Has who answer a)) (Passes b levels) p.1 in
@@ -277,7 +288,7 @@ module _ (u : SourceUnit) (stored : IsStorable u) (few : length u.items ≤ 6553
         let v = parts (is_line line) (has_lines a && has_lines b) l in
         let w = parts (has_lines a) (has_lines b) v.1 in
         both_good (begin line v.0)
-        (named.choice_good u stored few is_named who o (condition_piece At c) (statement_piece At who answer a) (statement_piece At who answer b) (condition c p.0 r.0)
+        (named.choice_good u stored few is_named who o line (condition_piece (at_line line At) c) (statement_piece At who answer a) (statement_piece At who answer b) (condition line c p.0 r.0)
         (inner_good a (let z : statement_size a < n = omega (arith, le) in z) levels q.0 t.0 w.0) (below b (let z : statement_size b < n = omega (arith, le) in z) levels q.1 t.1 w.1))
     layer_good (statement.For line item r es t) le levels h k l =
         let f = (out-Ref r).f in
@@ -291,9 +302,9 @@ module _ (u : SourceUnit) (stored : IsStorable u) (few : length u.items ≤ 6553
         let w = parts (formed.are_elements (alone u) 0 o es) (Forms t) v.1 in
         let x = parts (is_line line) (has_lines t) l in
         both_good (begin line x.0)
-        (both_good (address r p.0 v.0)
-        (both_good (kept_good item q.0 0 [] refl)
-        (ring_good item q.0 line f es (statement_piece At who answer t) b.0 w.0 (below t (let z : statement_size t < n = omega (arith, le) in z) most_levels c.1 w.1 x.1))))
+        (both_good (address line r p.0 v.0)
+        (both_good (kept_good line item q.0 0 [] refl)
+        (ring_good line item q.0 f es (statement_piece At who answer t) b.0 w.0 (below t (let z : statement_size t < n = omega (arith, le) in z) most_levels c.1 w.1 x.1))))
     layer_good (statement.Seq ss) le levels h k l = all_good ss (let z : total (map statement_size ss) < n = omega (arith, le) in z) levels h k l
     layer_good (statement.Mark ls t) le levels h k l = both_good (labels_good ls) (below t (let z : statement_size t < n = omega (arith, le) in z) levels h k l)
 

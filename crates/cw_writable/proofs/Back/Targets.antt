@@ -1,5 +1,5 @@
 -- The words that the linker fills in the code of orders that name what there is.
-use Rattle.std.proofs.Common.{◌≡◌, ℕ, zero, suc, ◌+◌, ◌-◌, ◌%◌, ◌<◌, ◌≤◌, nat_le, nat_lt, List, [], ◌∷◌, ◌++◌, length, All, Bool, true, false, IsTrue, ◌&&◌, ◌==◌, ◌^◌, pos, negsuc, Option, Some, None, is_some, slice_get, slice_index, refl, sym, subst, arith}
+use Rattle.std.proofs.Common.{◌≡◌, ℕ, zero, suc, ◌+◌, ◌-◌, ◌%◌, ◌<◌, ◌≤◌, nat_le, nat_lt, List, [], ◌∷◌, ◌++◌, length, All, Bool, true, false, IsTrue, ◌&&◌, if◌then◌else◌, ◌==◌, ◌^◌, pos, negsuc, Option, Some, None, is_some, slice_get, slice_index, refl, sym, subst, arith}
 use Rattle.std.proofs.lemmas.Bool.{ltb-true}
 use Rattle.std.specs.List.{list_all}
 use Rattle.cw_order.specs.declared.order.Order.{Order}
@@ -19,7 +19,8 @@ use Rattle.cw_tmpl.specs.declared.blocks.Use.TheVariants as uses
 use Rattle.cw_tmpl.specs.Pieces.{size_of, target_of, relocation_of, relocation_before, relocations}
 use Rattle.cw_tmpl.specs.Names.{Names, mark_place, label_start, procedure_start, switch_start, landing_size, switch_size, own}
 use Rattle.cw_tmpl.specs.Library.{overflow_entry, address_entry}
-use Rattle.cw_tmpl.specs.Blocks.{use_of, with_number, with_variable, after_home, after_frame_home, block_at, orders_left}
+use Rattle.cw_tmpl.specs.declared.blocks.Block.TheVariants as block
+use Rattle.cw_tmpl.specs.Blocks.{use_of, with_number, is_plain_divisor, after_saved_const, with_variable, after_saved_home, after_saved_frame_home, after_save, after_home, after_frame_home, block_at, orders_left}
 use Rattle.cw_tmpl.specs.Templates.{template, mark_words, goal_words, landing_pieces, switch_pieces, times_if, times, rescale_if, product_start, product_down, row_start, row_end, block_pieces, block_size, entry_pieces}
 use Rattle.cw_tmpl.specs.ReferenceCode.{templates, landings, switches, entry_size, landings_place, switches_place, names_of, pieces_of}
 use Rattle.cw_tmpl.specs.Blanks.{FillsBlank, Rise}
@@ -84,37 +85,37 @@ module _ (n : ℕ) (fs : List Family) where
 
   -- ---- templates
 
-  times-sound : (b : Bool) (stop k : ℕ) → IsTrue (nat_lt stop 65536) → Sound (times_if b stop k)
-  times-sound true stop k h = only (nat_lt stop 65536) h
-  times-sound false stop k h = only (nat_lt stop 65536) h
+  times-sound : (b : Bool) (stop line k : ℕ) → IsTrue (nat_lt stop 65536) → Sound (times_if b stop line k)
+  times-sound true stop line k h = only (nat_lt stop 65536) h
+  times-sound false stop line k h = only (nat_lt stop 65536) h
 
-  rescale-sound : (up top : Bool) (from to : ℕ) → Sound (rescale_if up top from to)
-  rescale-sound true top from to = times-sound top overflow_entry (2 ^ (to - from)) refl
-  rescale-sound false top from to = refl
+  rescale-sound : (up top : Bool) (line from to : ℕ) → Sound (rescale_if up top line from to)
+  rescale-sound true top line from to = times-sound top overflow_entry line (2 ^ (to - from)) refl
+  rescale-sound false top line from to = refl
 
-  down-sound : (b : Bool) (k : ℕ) → Sound (product_down b k)
-  down-sound true k = refl
-  down-sound false k = refl
+  down-sound : (line : ℕ) (b : Bool) (k : ℕ) → Sound (product_down line b k)
+  down-sound line true k = refl
+  down-sound line false k = refl
 
   template-sound : (names : Names) (place : ℕ) (o : Order) → IsTrue (names_well n fs o) → Sound (template names place o)
   template-sound names place (order.Home f offset) h = only (is_place fs f offset) h
   template-sound names place (order.LoadPart t b true) h = refl
   template-sound names place (order.LoadPart t b false) h = refl
-  template-sound names place (order.Rescale from to) h = rescale-sound (nat_le from to) (2 ^ (to - from) == 32768) from to
-  template-sound names place (order.Mul (pos zero)) h = refl
-  template-sound names place (order.Mul (pos (suc k))) h = sound-both product_start (times overflow_entry (2 ^ suc k)) refl (times-sound (2 ^ suc k == 32768) overflow_entry (2 ^ suc k) refl)
-  template-sound names place (order.Mul (negsuc k)) h = down-sound (nat_lt k 15) k
-  template-sound names place (order.Div (pos k)) h = refl
-  template-sound names place (order.Div (negsuc k)) h = refl
-  template-sound names place (order.IndexTimes k) h = times-sound (k == 32768) address_entry k refl
-  template-sound names place (order.IndexRow lower k) h = sound-both (row_start lower) (times address_entry k ++ row_end) refl (sound-both (times address_entry k) row_end (times-sound (k == 32768) address_entry k refl) refl)
+  template-sound names place (order.Rescale from to line) h = rescale-sound (nat_le from to) (2 ^ (to - from) == 32768) line from to
+  template-sound names place (order.Mul (pos zero) line) h = refl
+  template-sound names place (order.Mul (pos (suc k)) line) h =
+      sound-both (product_start line) (times overflow_entry line (2 ^ suc k)) refl (times-sound (2 ^ suc k == 32768) overflow_entry line (2 ^ suc k) refl)
+  template-sound names place (order.Mul (negsuc k) line) h = down-sound line (nat_lt k 15) k
+  template-sound names place (order.Div (pos k) line) h = refl
+  template-sound names place (order.Div (negsuc k) line) h = refl
+  template-sound names place (order.IndexTimes k line) h = times-sound (k == 32768) address_entry line k refl
+  template-sound names place (order.IndexRow lower k line) h =
+      sound-both (row_start line lower) (times address_entry line k ++ row_end line) refl (sound-both (times address_entry line k) (row_end line) (times-sound (k == 32768) address_entry line k refl) refl)
   template-sound names place (order.JumpIf c mark) h = refl
-  template-sound names place (order.LoopWay marks) h = own-only (place + 21) (mark_words names marks) (marks-sound names marks)
-  template-sound names place (order.CallCommon d) h = only (nat_lt d n) h
-  template-sound names place (order.CallSpecial k) h = own-only (place + 11) [] refl
+  template-sound names place (order.LoopWay marks) h = own-only (place + 20) (mark_words names marks) (marks-sound names marks)
+  template-sound names place (order.CallCommon d line) h = only (nat_lt d n) h
+  template-sound names place (order.CallSpecial k line) h = own-only (place + 13) [] refl
   template-sound names place (order.Bind k f offset) h = only (is_place fs f offset) h
-  template-sound names place (order.Return k true) h = refl
-  template-sound names place (order.Return k false) h = refl
   template-sound names place (order.LabelOut l) h = own-only (label_start names l) [] refl
   template-sound names place (order.LabelCommon d) h = only (nat_lt d n) h
   template-sound names place (order.SwitchOut k) h = own-only (switch_start names k) [] refl
@@ -122,42 +123,83 @@ module _ (n : ℕ) (fs : List Family) where
   template-sound names place (order.ProcOut q) h = own-only (procedure_start names q) [] refl
   template-sound names place (order.ProcCommon d) h = only (nat_lt d n) h
   template-sound names place (order.GoCommon d) h = only (nat_lt d n) h
-  template-sound names place (order.GoSwitchCommon d) h = only (nat_lt d n) h
+  template-sound names place (order.GoSwitchCommon d line) h = only (nat_lt d n) h
   template-sound names place (order.Start line) h = no h
   template-sound names place _ h = refl
 
   -- ---- blocks
 
-  number-sound : (names : Names) (place w : ℕ) (x : Option Use) → Sound (block_pieces names place (with_number w x) (order.Const w))
+  -- what the first order of a list names, where it puts the address of a word
+  abbrev Placed : List Order → Type 0
+  Placed [] = Unit {0}
+  Placed (order.Home f k ∷ os) = IsTrue (is_place fs f k)
+  Placed (_ ∷ os) = Unit {0}
+
+  first-placed : (os : List Order) → Fit n fs os → Placed os
+  first-placed _ none = tt
+  first-placed _ (next o os h r) = by_order o h
+    where
+      by_order : (o : Order) → IsTrue (names_well n fs o) → Placed (o ∷ os)
+      by_order (order.Home f k) h = h
+      by_order _ h = tt
+  first-placed _ (begun line os h r) = tt
+
+  number-sound : (names : Names) (place w : ℕ) (x : Option Use) → Sound (block_pieces names place (with_number w x) order.Save)
   number-sound names place w None = refl
-  number-sound names place w (Some uses.Add) = refl
-  number-sound names place w (Some uses.Subtract) = refl
+  number-sound names place w (Some (uses.Add line)) = refl
+  number-sound names place w (Some (uses.Subtract line)) = refl
   number-sound names place w (Some (uses.Compare c m)) = refl
 
-  variable-sound : (names : Names) (place f k : ℕ) (x : Option Use) → IsTrue (is_place fs f k) → Sound (block_pieces names place (with_variable f k x) (order.Home f k))
-  variable-sound names place f k None h = only (is_place fs f k) h
-  variable-sound names place f k (Some uses.Add) h = only (is_place fs f k) h
-  variable-sound names place f k (Some uses.Subtract) h = only (is_place fs f k) h
+  quotient-sound : (b : Bool) (names : Names) (place w : ℕ) → Sound (block_pieces names place (if b then block.Divide w else block.Single) order.Save)
+  quotient-sound true names place w = refl
+  quotient-sound false names place w = refl
+
+  saved-const-sound : (names : Names) (place w : ℕ) (os : List Order) → Sound (block_pieces names place (after_saved_const w (slice_get os 0)) order.Save)
+  saved-const-sound names place w [] = refl
+  saved-const-sound names place w (order.Div (pos zero) line ∷ os) = quotient-sound (is_plain_divisor w) names place w
+  saved-const-sound names place w (x ∷ os) = number-sound names place w (use_of (Some x))
+
+  variable-sound : (names : Names) (place f k : ℕ) (x : Option Use) → IsTrue (is_place fs f k) → Sound (block_pieces names place (with_variable f k x) order.Save)
+  variable-sound names place f k None h = refl
+  variable-sound names place f k (Some (uses.Add line)) h = only (is_place fs f k) h
+  variable-sound names place f k (Some (uses.Subtract line)) h = only (is_place fs f k) h
   variable-sound names place f k (Some (uses.Compare c m)) h = only (is_place fs f k) h
 
-  home-sound : (names : Names) (place f k : ℕ) (os : List Order) → IsTrue (is_place fs f k) → Sound (block_pieces names place (after_home f k (slice_get os 0) (slice_get os 1)) (order.Home f k))
+  saved-home-sound : (names : Names) (place f k : ℕ) (os : List Order) → IsTrue (is_place fs f k) → Sound (block_pieces names place (after_saved_home f k (slice_get os 0) (slice_get os 1)) order.Save)
+  saved-home-sound names place f k [] h = refl
+  saved-home-sound names place f k (order.Load ∷ os) h = variable-sound names place f k (use_of (slice_get os 0)) h
+  saved-home-sound names place f k (order.Store ∷ os) h = only (is_place fs f k) h
+  saved-home-sound names place f k (x ∷ os) h = refl
+
+  saved-frame-sound : (names : Names) (place k : ℕ) (os : List Order) → Sound (block_pieces names place (after_saved_frame_home k (slice_get os 0)) order.Save)
+  saved-frame-sound names place k [] = refl
+  saved-frame-sound names place k (order.Store ∷ os) = refl
+  saved-frame-sound names place k (x ∷ os) = refl
+
+  save-sound : (names : Names) (place : ℕ) (os : List Order) → Placed os → Sound (block_pieces names place (after_save (slice_get os 0) (slice_get os 1) (slice_get os 2)) order.Save)
+  save-sound names place [] h = refl
+  save-sound names place (order.Const w ∷ os) h = saved-const-sound names place w os
+  save-sound names place (order.Home f k ∷ os) h = saved-home-sound names place f k os h
+  save-sound names place (order.FrameHome k ∷ os) h = saved-frame-sound names place k os
+  save-sound names place (order.WriteByte ∷ os) h = refl
+  save-sound names place (x ∷ os) h = refl
+
+  home-sound : (names : Names) (place f k : ℕ) (os : List Order) → IsTrue (is_place fs f k) → Sound (block_pieces names place (after_home f k (slice_get os 0)) (order.Home f k))
   home-sound names place f k [] h = only (is_place fs f k) h
-  home-sound names place f k (order.Load ∷ os) h = variable-sound names place f k (use_of (slice_get os 0)) h
-  home-sound names place f k (order.Store ∷ os) h = only (is_place fs f k) h
+  home-sound names place f k (order.Load ∷ os) h = only (is_place fs f k) h
   home-sound names place f k (x ∷ os) h = only (is_place fs f k) h
 
   frame-sound : (names : Names) (place k : ℕ) (os : List Order) → Sound (block_pieces names place (after_frame_home k (slice_get os 0)) (order.FrameHome k))
   frame-sound names place k [] = refl
   frame-sound names place k (order.Load ∷ os) = refl
-  frame-sound names place k (order.Store ∷ os) = refl
   frame-sound names place k (x ∷ os) = refl
 
-  block-sound : (names : Names) (place left : ℕ) (o : Order) (os : List Order) → IsTrue (names_well n fs o) → Sound (block_pieces names place (block_at left (o ∷ os)) o)
-  block-sound names place (suc left) o os h = refl
-  block-sound names place zero (order.Const w) os h = number-sound names place w (use_of (slice_get os 0))
-  block-sound names place zero (order.Home f k) os h = home-sound names place f k os h
-  block-sound names place zero (order.FrameHome k) os h = frame-sound names place k os
-  block-sound names place zero o os h = template-sound names place o h
+  block-sound : (names : Names) (place left : ℕ) (o : Order) (os : List Order) → IsTrue (names_well n fs o) → Fit n fs os → Sound (block_pieces names place (block_at left (o ∷ os)) o)
+  block-sound names place (suc left) o os h r = refl
+  block-sound names place zero order.Save os h r = save-sound names place os (first-placed os r)
+  block-sound names place zero (order.Home f k) os h r = home-sound names place f k os h
+  block-sound names place zero (order.FrameHome k) os h r = frame-sound names place k os
+  block-sound names place zero o os h r = template-sound names place o h
 
   start-sound : (names : Names) (place left line : ℕ) (os : List Order) → Sound (block_pieces names place (block_at left (order.Start line ∷ os)) (order.Start line))
   start-sound names place (suc left) line os = refl
@@ -167,7 +209,7 @@ module _ (n : ℕ) (fs : List Family) where
   templates-sound names place left _ none = refl
   templates-sound names place left _ (next o os h r) =
       let b = block_at left (o ∷ os) in
-      sound-both (block_pieces names place b o) (templates names (place + block_size b o) (orders_left b) os) (block-sound names place left o os h) (templates-sound names (place + block_size b o) (orders_left b) os r)
+      sound-both (block_pieces names place b o) (templates names (place + block_size b o) (orders_left b) os) (block-sound names place left o os h r) (templates-sound names (place + block_size b o) (orders_left b) os r)
   templates-sound names place left _ (begun line os h r) =
       let b = block_at left (order.Start line ∷ os) in
       sound-both (block_pieces names place b (order.Start line)) (templates names (place + block_size b (order.Start line)) (orders_left b) os) (start-sound names place left line os) (templates-sound names (place + block_size b (order.Start line)) (orders_left b) os r)

@@ -16,12 +16,13 @@ use Rattle.cw_unit.specs.declared.unit.Arg.TheOpen as layer
 use Rattle.cw_unit.specs.declared.unit.Arg.TheOpen.{Arg-F, Cond-F, Spot-F, Ref-F}
 use Rattle.cw_unit.specs.Scales.{answer_scale}
 use Rattle.cw_gen_expr.specs.Pieces.{Piece, plain, followed_by, sequence, with_end}
-use Rattle.cw_gen_expr.specs.ReferenceExpressions.{Scope, Value, ConditionPiece, argument_words, control_place, item_order, table_orders, bounds_orders, load_orders, rescale_orders, logic_order, narrow, number_order, comparator_for, pick_mark, choice_piece, call_order, label_order, value_of, condition_piece, argument_piece, reference_of, expression_piece}
+use Rattle.cw_gen_expr.specs.ReferenceExpressions.{Scope, saved, two_values, Value, ConditionPiece, argument_words, control_place, item_order, table_orders, bounds_orders, load_orders, rescale_orders, logic_order, narrow, number_order, comparator_for, pick_mark, choice_piece, call_order, label_order, value_of, condition_piece, argument_piece, reference_of, expression_piece}
 use Rattle.cw_gen_expr.proofs.Layers.{value_layer, value-made, argument_layer, argument-made, spot_layer, spot-made, reference-made, condition_layer, condition-made, total, expression_size, expression-size, expression_size_layer, argument_size, argument-size, argument_size_layer, spot-size, spot_size_layer, reference_size, reference-size, condition_size, condition-size, condition_size_layer}
 use Rattle.cw_built.specs.Coded.{is_part, has_code}
 use Rattle.cw_writable.specs.Coded.RangedExpressions.{RangedValue, all_ranged, is_field, are_bounds, in_range, can_divide, ranged_value, is_ranged_condition, is_ranged_argument, ranged_reference, is_ranged_spot, is_ranged_expression}
+use Rattle.cw_writable.specs.Coded.RangedUnits.{is_line}
 use Rattle.cw_writable.proofs.Coded.Fine.{both, parts, passed, Good, plainly, both_good, ended_good}
-use Rattle.cw_writable.proofs.Coded.Numbers.{first, item-first, table-coded, bounds-coded, load-coded, rescale-coded, logic-coded, product-coded, quotient-coded, index-fits, control-coded, call-coded, label-coded}
+use Rattle.cw_writable.proofs.Coded.Numbers.{first, first_by, area-coded, item-first, table-coded, bounds-coded, load-coded, rescale-coded, logic-coded, product-coded, quotient-coded, index-fits, control-coded, call-coded, label-coded}
 use Rattle.cw_writable.proofs.Coded.RangedLayers.{ranged_value_layer, value-ranged, ranged_argument_layer, argument-ranged, ranged_spot_layer, spot-ranged, reference-ranged, ranged_condition_layer, condition-ranged}
 
 pub choice_good : (c : ConditionPiece) (a b : Piece) → ((when : Bool) (mark : ℕ) → Good (c when mark)) → Good a → Good b → Good (choice_piece c a b)
@@ -74,7 +75,11 @@ module _ (s : Scope) where
 
 -- ---- trees
 
-module _ (s : Scope) (few : argument_words s.parameters < 256) where
+-- the top operand is saved for the next one
+pub saved_good : Good saved
+saved_good = plainly (order.Save ∷ []) refl
+
+module _ (s : Scope) (few : argument_words s.parameters < 256) (line : IsTrue (is_line s.line)) where
   record Below (n : ℕ) : Type 0 where
     values : (d : Expr) → expression_size d < n → (f : ℕ) → f ≤ 15 → IsTrue ((ranged_value s.unit d).at f) → Good (expression_piece s d f)
     conditions : (d : Cond) → condition_size d < n → IsTrue (is_ranged_condition s.unit d) → (when : Bool) (mark : ℕ) → Good (condition_piece s d when mark)
@@ -97,19 +102,31 @@ module _ (s : Scope) (few : argument_words s.parameters < 256) where
     at-zero : (d : Expr) → expression_size d < n → IsTrue ((ranged_value s.unit d).at 0) → Good (expression_piece s d 0)
     at-zero d lt h = b.values d lt 0 (let z : 0 ≤ 15 = omega arith in z) h
 
-    bounded_good : (e : Expr) (l u : ℤ) → expression_size e < n → IsTrue (are_bounds l u) → IsTrue ((ranged_value s.unit e).at 0) → Good (followed_by (expression_piece s e 0) (plain (bounds_orders s.unit.bounds l u)))
-    bounded_good e l u lt p h = both_good (at-zero e lt h) (plainly (bounds_orders s.unit.bounds l u) (bounds-coded s.unit.bounds l u p))
+    bounded_good : (e : Expr) (l u : ℤ) → expression_size e < n → IsTrue (are_bounds l u) → IsTrue ((ranged_value s.unit e).at 0) → Good (followed_by (expression_piece s e 0) (plain (bounds_orders s.unit.bounds s.line l u)))
+    bounded_good e l u lt p h = both_good (at-zero e lt h) (plainly (bounds_orders s.unit.bounds s.line l u) (bounds-coded s.unit.bounds s.line line l u p))
+
+    abbrev added-index : List Order
+    added-index = order.IndexAdd s.line ∷ order.InArea s.line ∷ []
+
+    in-area : IsTrue (list_all has_code (order.InArea s.line ∷ []))
+    in-area = first_by (order.InArea s.line) [] refl line refl
+
+    saved-item : (i : ℕ) → IsTrue (list_all has_code (order.Save ∷ item_order s.layout i 0 ∷ added-index))
+    saved-item i = first order.Save (item_order s.layout i 0 ∷ added-index) refl (item-first s.layout i 0 added-index (area-coded s.line line))
+
+    saved-table : (t : Bool) (i : ℕ) → IsTrue (list_all has_code (order.Save ∷ (table_orders s.layout t i ++ added-index)))
+    saved-table t i = first order.Save (table_orders s.layout t i ++ added-index) refl (passed (table_orders s.layout t i) added-index (table-coded s.layout t i) (area-coded s.line line))
 
     spot_good : (x : Spot-F Arg Cond Expr Spot Ref) → spot_size_layer x ≤ n → IsTrue (ranged_spot_layer s.unit x) → Good (spot_layer s x)
     spot_good (layer.Direct i) le h = both_good (plainly [] refl) (plainly (item_order s.layout i 0 ∷ []) (item-first s.layout i 0 [] refl))
     spot_good (layer.Through i) le h =
-        both_good (plainly [] refl) (plainly (item_order s.layout i 0 ∷ order.Load ∷ order.InArea ∷ []) (item-first s.layout i 0 (order.Load ∷ order.InArea ∷ []) refl))
+        both_good (plainly [] refl) (plainly (item_order s.layout i 0 ∷ order.Load ∷ order.InArea s.line ∷ []) (item-first s.layout i 0 (order.Load ∷ order.InArea s.line ∷ []) (first order.Load (order.InArea s.line ∷ []) refl in-area)))
     spot_good (layer.One i l u e) le h =
         let p = parts (are_bounds l u) ((ranged_value s.unit e).at 0) h in
         let q = parts (fits_word l) (fits_word u) p.0 in
-        let rest : List Order = item_order s.layout i 0 ∷ order.IndexAdd ∷ order.InArea ∷ [] in
+        let rest : List Order = order.Save ∷ item_order s.layout i 0 ∷ added-index in
         both_good (bounded_good e l u (let z : expression_size e < n = omega (arith, le) in z) p.0 p.1)
-        (plainly (order.IndexLess l ∷ rest) (first (order.IndexLess l) rest q.0 (item-first s.layout i 0 (order.IndexAdd ∷ order.InArea ∷ []) refl)))
+        (plainly (order.IndexLess l s.line ∷ rest) (first_by (order.IndexLess l s.line) rest q.0 line (saved-item i)))
     spot_good (layer.Two i l1 u1 l2 u2 m e g) le h =
         let p = parts (are_bounds l1 u1 && (are_bounds l2 u2 && nat_le m 32768)) ((ranged_value s.unit e).at 0 && (ranged_value s.unit g).at 0) h in
         let q = parts (are_bounds l1 u1) (are_bounds l2 u2 && nat_le m 32768) p.0 in
@@ -117,30 +134,30 @@ module _ (s : Scope) (few : argument_words s.parameters < 256) where
         let t = parts ((ranged_value s.unit e).at 0) ((ranged_value s.unit g).at 0) p.1 in
         let l1-fits = (parts (fits_word l1) (fits_word u1) q.0).0 in
         let l2-fits = (parts (fits_word l2) (fits_word u2) r.0).0 in
-        let rest : List Order = item_order s.layout i 0 ∷ order.IndexAdd ∷ order.InArea ∷ [] in
+        let rest : List Order = order.Save ∷ item_order s.layout i 0 ∷ added-index in
         both_good
-        (both_good (bounded_good e l1 u1 (let z : expression_size e < n = omega (arith, le) in z) q.0 t.0) (bounded_good g l2 u2 (let z : expression_size g < n = omega (arith, le) in z) r.0 t.1))
-        (plainly (order.IndexLess l2 ∷ order.IndexRow l1 m ∷ rest)
-        (first (order.IndexLess l2) (order.IndexRow l1 m ∷ rest) l2-fits
-        (first (order.IndexRow l1 m) rest (both (fits_word l1) (nat_le m 32768) l1-fits r.1) (item-first s.layout i 0 (order.IndexAdd ∷ order.InArea ∷ []) refl))))
+        (both_good (bounded_good e l1 u1 (let z : expression_size e < n = omega (arith, le) in z) q.0 t.0) (both_good saved_good (bounded_good g l2 u2 (let z : expression_size g < n = omega (arith, le) in z) r.0 t.1)))
+        (plainly (order.IndexLess l2 s.line ∷ order.IndexRow l1 m s.line ∷ rest)
+        (first_by (order.IndexLess l2 s.line) (order.IndexRow l1 m s.line ∷ rest) l2-fits line
+        (first_by (order.IndexRow l1 m s.line) rest (both (fits_word l1) (nat_le m 32768) l1-fits r.1) line (saved-item i))))
     spot_good (layer.ParamArray i e) le h =
-        let rest : List Order = order.Load ∷ order.IndexAdd ∷ order.InArea ∷ [] in
-        both_good (at-zero e (let z : expression_size e < n = omega (arith, le) in z) h) (plainly (item_order s.layout i 0 ∷ rest) (item-first s.layout i 0 rest refl))
+        let rest : List Order = order.Load ∷ added-index in
+        both_good (at-zero e (let z : expression_size e < n = omega (arith, le) in z) h)
+        (plainly (order.Save ∷ item_order s.layout i 0 ∷ rest) (first order.Save (item_order s.layout i 0 ∷ rest) refl (item-first s.layout i 0 rest (first order.Load added-index refl (area-coded s.line line)))))
     spot_good (layer.Word i t m e) le h =
         let p = parts (nat_le m 32768) ((ranged_value s.unit e).at 0) h in
-        let rest : List Order = order.IndexAdd ∷ order.InArea ∷ [] in
         both_good (bounded_good e (pos 0) (pos m -ℤ pos 1) (let z : expression_size e < n = omega (arith, le) in z) (index-fits m (leb-true m 32768 p.0)) p.1)
-        (plainly (table_orders s.layout t i ++ rest) (passed (table_orders s.layout t i) rest (table-coded s.layout t i) refl))
+        (plainly (order.Save ∷ (table_orders s.layout t i ++ added-index)) (saved-table t i))
     spot_good (layer.Elem i t k m w e) le h =
         let p = parts (nat_le k 32768 && (nat_le m 32768 && nat_lt w 32768)) ((ranged_value s.unit e).at 0) h in
         let q = parts (nat_le k 32768) (nat_le m 32768 && nat_lt w 32768) p.0 in
         let r = parts (nat_le m 32768) (nat_lt w 32768) q.1 in
-        let rest : List Order = order.IndexAdd ∷ order.InArea ∷ [] in
+        let rest : List Order = order.Save ∷ (table_orders s.layout t i ++ added-index) in
         both_good (bounded_good e (pos 0) (pos m -ℤ pos 1) (let z : expression_size e < n = omega (arith, le) in z) (index-fits m (leb-true m 32768 r.0)) p.1)
-        (plainly (order.IndexTimes k ∷ order.IndexPlus w ∷ (table_orders s.layout t i ++ rest))
-        (first (order.IndexTimes k) (order.IndexPlus w ∷ (table_orders s.layout t i ++ rest)) q.0
-        (first (order.IndexPlus w) (table_orders s.layout t i ++ rest) r.1 (passed (table_orders s.layout t i) rest (table-coded s.layout t i) refl))))
-    spot_good (layer.Bare e) le h = both_good (at-zero e (let z : expression_size e < n = omega (arith, le) in z) h) (plainly (order.InArea ∷ []) refl)
+        (plainly (order.IndexTimes k s.line ∷ order.IndexPlus w s.line ∷ rest)
+        (first_by (order.IndexTimes k s.line) (order.IndexPlus w s.line ∷ rest) q.0 line
+        (first_by (order.IndexPlus w s.line) rest r.1 line (saved-table t i))))
+    spot_good (layer.Bare e) le h = both_good (at-zero e (let z : expression_size e < n = omega (arith, le) in z) h) (plainly (order.InArea s.line ∷ []) in-area)
 
     reference_good : (r : Ref) → reference_size r ≤ n → IsTrue (ranged_reference s.unit r).good → Good (reference_of s r).address
     reference_good r le h =
@@ -157,7 +174,7 @@ module _ (s : Scope) (few : argument_words s.parameters < 256) where
         let e : f ≡ g = ap₂ max (same s a).0 (same s d).0 in
         let p = parts (in_range (ranged_value s.unit a) f) (in_range (ranged_value s.unit d) f) h in
         both_good (at-scale a (let z : expression_size a < n = omega (arith, le) in z) f g e p.0)
-        (both_good (at-scale d (let z : expression_size d < n = omega (arith, le) in z) f g e p.1) (plainly (order.JumpIf (comparator_for when op) mark ∷ []) refl))
+        (both_good saved_good (both_good (at-scale d (let z : expression_size d < n = omega (arith, le) in z) f g e p.1) (plainly (order.JumpIf (comparator_for when op) mark ∷ []) refl)))
     condition_good (layer.And a d) le h when mark =
         let p = parts (is_ranged_condition s.unit a) (is_ranged_condition s.unit d) h in
         ended_good (λ end. followed_by (condition_piece s a false (pick_mark when end mark)) (condition_piece s d when mark))
@@ -168,19 +185,19 @@ module _ (s : Scope) (few : argument_words s.parameters < 256) where
         (λ end. both_good (b.conditions a (let z : condition_size a < n = omega (arith, le) in z) p.0 true (pick_mark when mark end)) (b.conditions d (let z : condition_size d < n = omega (arith, le) in z) p.1 when mark))
 
     argument_good : (x : Arg-F Arg Cond Expr Spot Ref) → argument_size_layer x ≤ n → IsTrue (ranged_argument_layer s.unit x) → Good (argument_layer s x)
-    argument_good (layer.Value e f) le h = at-scale e (let z : expression_size e < n = omega (arith, le) in z) f f refl h
-    argument_good (layer.Place r) le h = b.references r (let z : reference_size r < n = omega (arith, le) in z) h
+    argument_good (layer.Value e f) le h = both_good (at-scale e (let z : expression_size e < n = omega (arith, le) in z) f f refl h) saved_good
+    argument_good (layer.Place r) le h = both_good (b.references r (let z : reference_size r < n = omega (arith, le) in z) h) saved_good
     argument_good (layer.Array i l) le h =
-        plainly (item_order s.layout i 0 ∷ order.IndexLess l ∷ []) (item-first s.layout i 0 (order.IndexLess l ∷ []) (first (order.IndexLess l) [] h refl))
-    argument_good (layer.Same i) le h = plainly (item_order s.layout i 0 ∷ order.Load ∷ []) (item-first s.layout i 0 (order.Load ∷ []) refl)
-    argument_good (layer.Base i) le h = plainly (item_order s.layout i 0 ∷ []) (item-first s.layout i 0 [] refl)
+        plainly (item_order s.layout i 0 ∷ order.IndexLess l s.line ∷ order.Save ∷ []) (item-first s.layout i 0 (order.IndexLess l s.line ∷ order.Save ∷ []) (first_by (order.IndexLess l s.line) (order.Save ∷ []) h line refl))
+    argument_good (layer.Same i) le h = plainly (item_order s.layout i 0 ∷ order.Load ∷ order.Save ∷ []) (item-first s.layout i 0 (order.Load ∷ order.Save ∷ []) refl)
+    argument_good (layer.Base i) le h = plainly (item_order s.layout i 0 ∷ order.Save ∷ []) (item-first s.layout i 0 (order.Save ∷ []) refl)
     argument_good (layer.Goal g) le h = plainly (label_order s g ∷ []) (first (label_order s g) [] (label-coded s g) refl)
     argument_good (layer.Switch k) le h = plainly (order.SwitchOut k ∷ []) refl
     argument_good (layer.CommonSwitch d) le h = plainly (order.SwitchCommon d ∷ []) refl
     argument_good (layer.Proc q) le h = plainly (order.ProcOut q ∷ []) refl
     argument_good (layer.CommonProc d) le h = plainly (order.ProcCommon d ∷ []) refl
     argument_good (layer.Special k) le h =
-        plainly (order.SpecialOut (control_place s.parameters k) ∷ []) (first (order.SpecialOut (control_place s.parameters k)) [] (control-coded s.parameters k few) refl)
+        plainly (order.SpecialOut (control_place s.parameters k) ∷ []) (first_by (order.SpecialOut (control_place s.parameters k)) [] (control-coded s.parameters k few) refl refl)
 
     all_good : (args : List Arg) → total (map argument_size args) < n → IsTrue (all_ranged (map (is_ranged_argument s.unit) args)) → Good (sequence (map (argument_piece s) args))
     all_good [] lt h = plainly [] refl
@@ -196,57 +213,57 @@ module _ (s : Scope) (few : argument_words s.parameters < 256) where
         (subst (λ y. IsTrue (is_field y.field)) (sym (reference-made s r)) (parts (is_field x.field) (is_ranged_spot s.unit x.at) p.1).0, subst (λ y. y.scale ≤ 15) (sym (reference-made s r)) (leb-true x.f 15 p.0))
 
     -- from scale 0
-    raised : (f : ℕ) → f ≤ 15 → IsTrue (list_all has_code (rescale_orders 0 f))
-    raised f h = rescale-coded 0 f (let z : 0 ≤ 15 = omega arith in z) h
+    raised : (f : ℕ) → f ≤ 15 → IsTrue (list_all has_code (rescale_orders s.line 0 f))
+    raised f h = rescale-coded s.line line 0 f (let z : 0 ≤ 15 = omega arith in z) h
 
     two_good : (a d : Expr) (os : List Order) → expression_size a < n → expression_size d < n
         → IsTrue (in_range (ranged_value s.unit a) (ranged_value s.unit a).operand) → IsTrue (in_range (ranged_value s.unit d) (ranged_value s.unit d).operand) → IsTrue (list_all has_code os)
-        → Good (followed_by (expression_piece s a (value_of s a).operand) (followed_by (expression_piece s d (value_of s d).operand) (plain os)))
-    two_good a d os la ld ha hd h = both_good (at-operand a la ha) (both_good (at-operand d ld hd) (plainly os h))
+        → Good (two_values (expression_piece s a (value_of s a).operand) (expression_piece s d (value_of s d).operand) os)
+    two_good a d os la ld ha hd h = both_good (at-operand a la ha) (both_good saved_good (both_good (at-operand d ld hd) (plainly os h)))
 
     value_good : (x : Expr-F Arg Cond Expr Spot Ref) → expression_size_layer x ≤ n → (f : ℕ) → f ≤ 15 → IsTrue ((ranged_value_layer s.unit x).at f) → Good ((value_layer s x).at f)
     value_good (layer.Num k) le f hf h = plainly (number_order (decimal_floor k.whole k.digits k.places f) ∷ []) refl
-    value_good (layer.Const z) le f hf h = plainly (number_order (unsigned z) ∷ rescale_orders 0 f) (first (number_order (unsigned z)) (rescale_orders 0 f) refl (raised f hf))
-    value_good (layer.Text i) le f hf h = plainly (item_order s.layout i 0 ∷ rescale_orders 0 f) (item-first s.layout i 0 (rescale_orders 0 f) (raised f hf))
+    value_good (layer.Const z) le f hf h = plainly (number_order (unsigned z) ∷ rescale_orders s.line 0 f) (first (number_order (unsigned z)) (rescale_orders s.line 0 f) refl (raised f hf))
+    value_good (layer.Text i) le f hf h = plainly (item_order s.layout i 0 ∷ rescale_orders s.line 0 f) (item-first s.layout i 0 (rescale_orders s.line 0 f) (raised f hf))
     value_good (layer.Read r) le f hf h =
         let x = reference_of s r in
         let p = field-ranged r h in
         both_good (b.references r (let z : reference_size r < n = omega (arith, le) in z) h)
-        (plainly (load_orders x.field ++ rescale_orders x.scale f) (passed (load_orders x.field) (rescale_orders x.scale f) (load-coded x.field p.0) (rescale-coded x.scale f p.1 hf)))
+        (plainly (load_orders x.field ++ rescale_orders s.line x.scale f) (passed (load_orders x.field) (rescale_orders s.line x.scale f) (load-coded x.field p.0) (rescale-coded s.line line x.scale f p.1 hf)))
     value_good (layer.Call t args) le f hf h =
         let k = answer_scale s.unit t in
         let p = parts (nat_le k 15) (all_ranged (map (is_ranged_argument s.unit) args)) h in
         both_good (all_good args (let z : total (map argument_size args) < n = omega (arith, le) in z) p.1)
-        (plainly (call_order s t ∷ rescale_orders k f) (first (call_order s t) (rescale_orders k f) (call-coded s t few) (rescale-coded k f (leb-true k 15 p.0) hf)))
+        (plainly (call_order s t ∷ rescale_orders s.line k f) (first (call_order s t) (rescale_orders s.line k f) (call-coded s t few line) (rescale-coded s.line line k f (leb-true k 15 p.0) hf)))
     value_good (layer.Force g e) le f hf h =
         let p = parts (nat_le g 15) ((ranged_value s.unit e).at g) h in
-        both_good (at-scale e (let z : expression_size e < n = omega (arith, le) in z) g g refl h) (plainly (rescale_orders g f) (rescale-coded g f (leb-true g 15 p.0) hf))
-    value_good (layer.Locate r) le f hf h = both_good (b.references r (let z : reference_size r < n = omega (arith, le) in z) h) (plainly (rescale_orders 0 f) (raised f hf))
+        both_good (at-scale e (let z : expression_size e < n = omega (arith, le) in z) g g refl h) (plainly (rescale_orders s.line g f) (rescale-coded s.line line g f (leb-true g 15 p.0) hf))
+    value_good (layer.Locate r) le f hf h = both_good (b.references r (let z : reference_size r < n = omega (arith, le) in z) h) (plainly (rescale_orders s.line 0 f) (raised f hf))
     value_good (layer.Bits t d e) le f hf h =
         let p = parts (is_part t d) (in_range (ranged_value s.unit e) (ranged_value s.unit e).operand) h in
-        both_good (at-operand e (let z : expression_size e < n = omega (arith, le) in z) p.1) (plainly (order.Take t d ∷ rescale_orders 0 f) (first (order.Take t d) (rescale_orders 0 f) p.0 (raised f hf)))
+        both_good (at-operand e (let z : expression_size e < n = omega (arith, le) in z) p.1) (plainly (order.Take t d ∷ rescale_orders s.line 0 f) (first_by (order.Take t d) (rescale_orders s.line 0 f) p.0 refl (raised f hf)))
     value_good (layer.Logic op a d) le f hf h =
         let p = parts (in_range (ranged_value s.unit a) (ranged_value s.unit a).operand) (in_range (ranged_value s.unit d) (ranged_value s.unit d).operand) h in
-        two_good a d (logic_order op ∷ rescale_orders 0 f) (let z : expression_size a < n = omega (arith, le) in z) (let z : expression_size d < n = omega (arith, le) in z) p.0 p.1 (first (logic_order op) (rescale_orders 0 f) (logic-coded op) (raised f hf))
+        two_good a d (logic_order op ∷ rescale_orders s.line 0 f) (let z : expression_size a < n = omega (arith, le) in z) (let z : expression_size d < n = omega (arith, le) in z) p.0 p.1 (first (logic_order op) (rescale_orders s.line 0 f) (logic-coded op) (raised f hf))
     value_good (layer.Sum a d) le f hf h =
         let p = parts ((ranged_value s.unit a).at f) ((ranged_value s.unit d).at f) h in
-        both_good (b.values a (let z : expression_size a < n = omega (arith, le) in z) f hf p.0) (both_good (b.values d (let z : expression_size d < n = omega (arith, le) in z) f hf p.1) (plainly (order.Add ∷ []) refl))
+        both_good (b.values a (let z : expression_size a < n = omega (arith, le) in z) f hf p.0) (both_good saved_good (both_good (b.values d (let z : expression_size d < n = omega (arith, le) in z) f hf p.1) (plainly (order.Add s.line ∷ []) (first_by (order.Add s.line) [] refl line refl))))
     value_good (layer.Less a d) le f hf h =
         let p = parts ((ranged_value s.unit a).at f) ((ranged_value s.unit d).at f) h in
-        both_good (b.values a (let z : expression_size a < n = omega (arith, le) in z) f hf p.0) (both_good (b.values d (let z : expression_size d < n = omega (arith, le) in z) f hf p.1) (plainly (order.Sub ∷ []) refl))
-    value_good (layer.Minus a) le f hf h = both_good (b.values a (let z : expression_size a < n = omega (arith, le) in z) f hf h) (plainly (order.Neg ∷ []) refl)
+        both_good (b.values a (let z : expression_size a < n = omega (arith, le) in z) f hf p.0) (both_good saved_good (both_good (b.values d (let z : expression_size d < n = omega (arith, le) in z) f hf p.1) (plainly (order.Sub s.line ∷ []) (first_by (order.Sub s.line) [] refl line refl))))
+    value_good (layer.Minus a) le f hf h = both_good (b.values a (let z : expression_size a < n = omega (arith, le) in z) f hf h) (plainly (order.Neg s.line ∷ []) (first_by (order.Neg s.line) [] refl line refl))
     value_good (layer.Times a d) le f hf h =
         let p = parts (in_range (ranged_value s.unit a) (ranged_value s.unit a).operand) (in_range (ranged_value s.unit d) (ranged_value s.unit d).operand) h in
-        let m = order.Mul (narrow (pos f -ℤ pos ((value_of s a).operand + (value_of s d).operand))) in
+        let m = order.Mul (narrow (pos f -ℤ pos ((value_of s a).operand + (value_of s d).operand))) s.line in
         two_good a d (m ∷ []) (let z : expression_size a < n = omega (arith, le) in z) (let z : expression_size d < n = omega (arith, le) in z) p.0 p.1
-        (first m [] (product-coded f (value_of s a).operand (value_of s d).operand hf (small-operand a p.0) (small-operand d p.1)) refl)
+        (first_by m [] (product-coded s.line f (value_of s a).operand (value_of s d).operand hf (small-operand a p.0) (small-operand d p.1)) line refl)
     value_good (layer.Over a d) le f hf h =
         let p = parts (can_divide f (ranged_value s.unit a).operand (ranged_value s.unit d).operand) (in_range (ranged_value s.unit a) (ranged_value s.unit a).operand && in_range (ranged_value s.unit d) (ranged_value s.unit d).operand) h in
         let q = parts (in_range (ranged_value s.unit a) (ranged_value s.unit a).operand) (in_range (ranged_value s.unit d) (ranged_value s.unit d).operand) p.1 in
-        let m = order.Div (narrow (pos (f + (value_of s d).operand) -ℤ pos (value_of s a).operand)) in
+        let m = order.Div (narrow (pos (f + (value_of s d).operand) -ℤ pos (value_of s a).operand)) s.line in
         let c : IsTrue (can_divide f (value_of s a).operand (value_of s d).operand) = subst IsTrue (ap₂ (can_divide f) (same s a).1 (same s d).1) p.0 in
         two_good a d (m ∷ []) (let z : expression_size a < n = omega (arith, le) in z) (let z : expression_size d < n = omega (arith, le) in z) q.0 q.1
-        (first m [] (quotient-coded f (value_of s a).operand (value_of s d).operand c) refl)
+        (first_by m [] (quotient-coded s.line f (value_of s a).operand (value_of s d).operand c) line refl)
     value_good (layer.Choice k a d) le f hf h =
         let p = parts (is_ranged_condition s.unit k) ((ranged_value s.unit a).at f && (ranged_value s.unit d).at f) h in
         let q = parts ((ranged_value s.unit a).at f) ((ranged_value s.unit d).at f) p.1 in

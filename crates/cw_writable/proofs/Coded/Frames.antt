@@ -14,13 +14,14 @@ use Rattle.cw_unit.specs.declared.unit.Param.TheVariants as param
 use Rattle.cw_unit.specs.Allocation.{Range, absolute_ranges, storage_of, storage_map}
 use Rattle.cw_unit.specs.Storage.{layout_of, positions_from, root_of, family_of, family_offset, frame_size}
 use Rattle.cw_unit.specs.ValidStorage.{IsStorable, FitsArea, ValidStorageMap, IsInFrame, sort_in, owner_in, sort_of_family, as_stored, frame_size_in}
+use Rattle.cw_order.specs.declared.order.Order.TheVariants as order
 use Rattle.cw_gen_expr.specs.NamedItems.{is_same_procedure, may_name, item_has, has_words}
 use Rattle.cw_gen_expr.specs.ReferenceExpressions.{argument_words}
 use Rattle.cw_gen_expr.specs.ReferenceEntries.{bound_by, bound_in, bound_order, parameter_orders, bind_orders}
 use Rattle.cw_gen_unit.specs.BuiltUnits.{item_fits, items_fit}
 use Rattle.cw_built.specs.Coded.{has_code}
 use Rattle.cw_writable.proofs.Coded.Fine.{no, both, parts, passed}
-use Rattle.cw_writable.proofs.Coded.Numbers.{lt_true, first}
+use Rattle.cw_writable.proofs.Coded.Numbers.{lt_true, lined, first}
 
 -- the law of storage maps
 abbrev pub MapsValid : Type 0
@@ -53,6 +54,10 @@ position-of u k x e = let at : 0 + k ≡ k = omega arith in position-from u 0 u.
 same-procedure : (p : ℕ) (owner : Option ℕ) → IsTrue (is_same_procedure (Some p) owner) → owner ≡ Some p
 same-procedure p None h = no h
 same-procedure p (Some q) h = ap Some (sym (eqb-true p q h))
+
+-- an argument that goes to a word of a family
+bind-word : (k f o : ℕ) → k < 256 → IsTrue (has_code (order.Bind k f (o % 65536)))
+bind-word k f o lt = lined (order.Bind k f (o % 65536)) (lt_true k 256 lt) refl
 
 module _ (maps : MapsValid) (u : SourceUnit) (storable : IsStorable u) where
   limits : Limits
@@ -96,13 +101,13 @@ module _ (maps : MapsValid) (u : SourceUnit) (storable : IsStorable u) where
             let o = family_offset u i in
             let below = near p i x found h small base e in
             let z : (base + o) % 65536 < 32768 = omega (arith, below) in
-            both (nat_lt k 256) (nat_lt ((base + o) % 65536) 32768) (lt_true k 256 lt) (lt_true ((base + o) % 65536) 32768 z)
-        by_sort x found h (sort.Common d) e = lt_true k 256 lt
-        by_sort x found h sort.Own e = lt_true k 256 lt
-        by_sort x found h (sort.Absolute a) e = lt_true k 256 lt
+            lined (order.BindFrame k ((base + o) % 65536)) (both (nat_lt k 256) (nat_lt ((base + o) % 65536) 32768) (lt_true k 256 lt) (lt_true ((base + o) % 65536) 32768 z)) refl
+        by_sort x found h (sort.Common d) e = bind-word k (family_of u i) (family_offset u i) lt
+        by_sort x found h sort.Own e = bind-word k (family_of u i) (family_offset u i) lt
+        by_sort x found h (sort.Absolute a) e = bind-word k (family_of u i) (family_offset u i) lt
 
         by_family : (x : Item) → slice_get u.items i ≡ Some x → IsTrue (item_has u (Some p) i (Some x) 1) → (f : Option Family) → slice_get (layout_of u).families (family_of u i) ≡ f → IsTrue (has_code (bound_in k f (family_of u i) (family_offset u i)))
-        by_family x found h None e = lt_true k 256 lt
+        by_family x found h None e = bind-word k (family_of u i) (family_offset u i) lt
         by_family x found h (Some f) e = by_sort x found h f.sort (ap sort_in e)
 
         by_item : (x : Option Item) → slice_get u.items i ≡ x → IsTrue (item_has u (Some p) i x 1) → IsTrue (has_code (bound_order (layout_of u) k i))

@@ -7,6 +7,7 @@ use Rattle.std.specs.List.{list_all}
 use Rattle.cw_word.specs.FixedPoint.{fits_word}
 use Rattle.cw_order.specs.declared.order.Order.{Order}
 use Rattle.cw_order.specs.declared.order.Order.TheVariants as order
+use Rattle.cw_order.specs.OrderLines.{line_of}
 use Rattle.cw_unit.specs.declared.layout.Layout.{Layout}
 use Rattle.cw_unit.specs.declared.layout.Family.{Family}
 use Rattle.cw_unit.specs.declared.layout.Sort.{Sort}
@@ -21,8 +22,9 @@ use Rattle.cw_unit.specs.declared.unit.Target.TheVariants as target
 use Rattle.cw_unit.specs.declared.unit.Goal.{Goal}
 use Rattle.cw_unit.specs.declared.unit.Goal.TheVariants as goal
 use Rattle.cw_gen_expr.specs.ReferenceExpressions.{Scope, argument_words, parameter_words, control_place, control_place_from, placed_by, placed_in, item_order, table_orders, bounds_orders, load_orders, store_orders, rescale_orders, logic_order, narrow, call_order, label_order}
-use Rattle.cw_built.specs.Coded.{has_code}
+use Rattle.cw_built.specs.Coded.{has_numbers, has_code}
 use Rattle.cw_writable.specs.Coded.RangedExpressions.{is_field, are_bounds, can_divide}
+use Rattle.cw_writable.specs.Coded.RangedUnits.{is_line}
 use Rattle.cw_writable.proofs.Coded.Fine.{both, parts}
 
 pub le_true : (a b : ℕ) → a ≤ b → IsTrue (nat_le a b)
@@ -30,6 +32,18 @@ le_true a b h = grind (arith, nat_tests)
 
 pub lt_true : (a b : ℕ) → a < b → IsTrue (nat_lt a b)
 lt_true a b h = grind (arith, nat_tests)
+
+-- ---- numbers and lines
+
+-- an order whose numbers are in range and whose line is a word
+pub lined : (o : Order) → IsTrue (has_numbers o) → IsTrue (is_line (line_of o)) → IsTrue (has_code o)
+lined o h k = both (has_numbers o) (is_line (line_of o)) h k
+
+pub first : (o : Order) (os : List Order) → IsTrue (has_code o) → IsTrue (list_all has_code os) → IsTrue (list_all has_code (o ∷ os))
+first o os h k = both (has_code o) (list_all has_code os) h k
+
+pub first_by : (o : Order) (os : List Order) → IsTrue (has_numbers o) → IsTrue (is_line (line_of o)) → IsTrue (list_all has_code os) → IsTrue (list_all has_code (o ∷ os))
+first_by o os h l k = first o os (lined o h l) k
 
 -- ---- items
 
@@ -40,7 +54,7 @@ pub item-coded : (y : Layout) (i n : ℕ) → IsTrue (has_code (item_order y i n
 item-coded y i n = at_family (slice_get y.families (slice_index_or y.homes i (0, 0)).0) (slice_index_or y.homes i (0, 0)).0 ((slice_index_or y.homes i (0, 0)).1 + n)
   where
     at_sort : (k : Sort) (f o : ℕ) → IsTrue (has_code (placed_by k f o))
-    at_sort (sort.Frame base) f o = word-small (base + o)
+    at_sort (sort.Frame base) f o = lined (order.FrameHome ((base + o) % 65536)) (word-small (base + o)) refl
     at_sort (sort.Common d) f o = refl
     at_sort sort.Own f o = refl
     at_sort (sort.Absolute a) f o = refl
@@ -49,9 +63,6 @@ item-coded y i n = at_family (slice_get y.families (slice_index_or y.homes i (0,
     at_family None f o = refl
     at_family (Some x) f o = at_sort x.sort f o
 
-pub first : (o : Order) (os : List Order) → IsTrue (has_code o) → IsTrue (list_all has_code os) → IsTrue (list_all has_code (o ∷ os))
-first o os h k = both (has_code o) (list_all has_code os) h k
-
 pub item-first : (y : Layout) (i n : ℕ) (os : List Order) → IsTrue (list_all has_code os) → IsTrue (list_all has_code (item_order y i n ∷ os))
 item-first y i n os h = first (item_order y i n) os (item-coded y i n) h
 
@@ -59,26 +70,30 @@ pub table-coded : (y : Layout) (t : Bool) (i : ℕ) → IsTrue (list_all has_cod
 table-coded y true i = item-first y i 0 (order.Load ∷ []) refl
 table-coded y false i = item-first y i 0 [] refl
 
+-- the sum of two indexes, which is in the area
+pub area-coded : (line : ℕ) → IsTrue (is_line line) → IsTrue (list_all has_code (order.IndexAdd line ∷ order.InArea line ∷ []))
+area-coded line l = first_by (order.IndexAdd line) (order.InArea line ∷ []) refl l (first_by (order.InArea line) [] refl l refl)
+
 -- ---- parts, bounds and scales
 
-pub bounds-coded : (c : Bool) (l h : ℤ) → IsTrue (are_bounds l h) → IsTrue (list_all has_code (bounds_orders c l h))
-bounds-coded true l h p = first (order.InBounds l h) [] p refl
-bounds-coded false l h p = refl
+pub bounds-coded : (c : Bool) (line : ℕ) → IsTrue (is_line line) → (l h : ℤ) → IsTrue (are_bounds l h) → IsTrue (list_all has_code (bounds_orders c line l h))
+bounds-coded true line k l h p = first_by (order.InBounds l h line) [] p k refl
+bounds-coded false line k l h p = refl
 
 pub load-coded : (o : Option Field) → IsTrue (is_field o) → IsTrue (list_all has_code (load_orders o))
 load-coded None h = refl
-load-coded (Some s) h = first (order.LoadPart s.t s.b (not s.unsigned)) [] h refl
+load-coded (Some s) h = first_by (order.LoadPart s.t s.b (not s.unsigned)) [] h refl refl
 
 pub store-coded : (o : Option Field) → IsTrue (is_field o) → IsTrue (list_all has_code (store_orders o))
 store-coded None h = refl
-store-coded (Some s) h = first (order.StorePart s.t s.b) [] h refl
+store-coded (Some s) h = first_by (order.StorePart s.t s.b) [] h refl refl
 
-pub rescale-coded : (from to : ℕ) → from ≤ 15 → to ≤ 15 → IsTrue (list_all has_code (rescale_orders from to))
-rescale-coded from to h k = picked (from == to)
+pub rescale-coded : (line : ℕ) → IsTrue (is_line line) → (from to : ℕ) → from ≤ 15 → to ≤ 15 → IsTrue (list_all has_code (rescale_orders line from to))
+rescale-coded line l from to h k = picked (from == to)
   where
-    picked : (b : Bool) → IsTrue (list_all has_code (if b then [] else (order.Rescale from to ∷ [])))
+    picked : (b : Bool) → IsTrue (list_all has_code (if b then [] else (order.Rescale from to line ∷ [])))
     picked true = refl
-    picked false = first (order.Rescale from to) [] (both (nat_le from 15) (nat_le to 15) (le_true from 15 h) (le_true to 15 k)) refl
+    picked false = first_by (order.Rescale from to line) [] (both (nat_le from 15) (nat_le to 15) (le_true from 15 h) (le_true to 15 k)) l refl
 
 pub logic-coded : (op : LogicOp) → IsTrue (has_code (logic_order op))
 logic-coded logic.Mask = refl
@@ -87,37 +102,38 @@ logic-coded logic.Differ = refl
 
 -- ---- products and quotients
 
-product-up : (b : Bool) (n : ℕ) → n ≤ 15 → IsTrue (has_code (order.Mul (if b then pos n else pos 0)))
-product-up true n h = le_true n 15 h
-product-up false n h = refl
+module _ (line : ℕ) where
+  product-up : (b : Bool) (n : ℕ) → n ≤ 15 → IsTrue (has_numbers (order.Mul (if b then pos n else pos 0) line))
+  product-up true n h = le_true n 15 h
+  product-up false n h = refl
 
-product-down : (b : Bool) (n : ℕ) → n < 30 → IsTrue (has_code (order.Mul (if b then negsuc n else pos 0)))
-product-down true n h = lt_true n 30 h
-product-down false n h = refl
+  product-down : (b : Bool) (n : ℕ) → n < 30 → IsTrue (has_numbers (order.Mul (if b then negsuc n else pos 0) line))
+  product-down true n h = lt_true n 30 h
+  product-down false n h = refl
 
-product-by : (z : ℤ) (f g : ℕ) → pos f -ℤ pos g ≡ z → f ≤ 15 → g ≤ 30 → IsTrue (has_code (order.Mul (narrow z)))
-product-by (pos n) f g e hf hg = product-up (nat_lt n 128) n (let z : n ≤ 15 = omega (arith, ints, e, hf, hg) in z)
-product-by (negsuc n) f g e hf hg = product-down (nat_lt n 128) n (let z : n < 30 = omega (arith, ints, e, hf, hg) in z)
+  product-by : (z : ℤ) (f g : ℕ) → pos f -ℤ pos g ≡ z → f ≤ 15 → g ≤ 30 → IsTrue (has_numbers (order.Mul (narrow z) line))
+  product-by (pos n) f g e hf hg = product-up (nat_lt n 128) n (let z : n ≤ 15 = omega (arith, ints, e, hf, hg) in z)
+  product-by (negsuc n) f g e hf hg = product-down (nat_lt n 128) n (let z : n < 30 = omega (arith, ints, e, hf, hg) in z)
 
-pub product-coded : (f a b : ℕ) → f ≤ 15 → a ≤ 15 → b ≤ 15 → IsTrue (has_code (order.Mul (narrow (pos f -ℤ pos (a + b)))))
-product-coded f a b hf ha hb = product-by (pos f -ℤ pos (a + b)) f (a + b) refl hf (let z : a + b ≤ 30 = omega (arith, ha, hb) in z)
+  pub product-coded : (f a b : ℕ) → f ≤ 15 → a ≤ 15 → b ≤ 15 → IsTrue (has_numbers (order.Mul (narrow (pos f -ℤ pos (a + b))) line))
+  product-coded f a b hf ha hb = product-by (pos f -ℤ pos (a + b)) f (a + b) refl hf (let z : a + b ≤ 30 = omega (arith, ha, hb) in z)
 
-quotient-up : (b : Bool) (n : ℕ) → n ≤ 16 → IsTrue (has_code (order.Div (if b then pos n else pos 0)))
-quotient-up true n h = le_true n 16 h
-quotient-up false n h = refl
+  quotient-up : (b : Bool) (n : ℕ) → n ≤ 16 → IsTrue (has_numbers (order.Div (if b then pos n else pos 0) line))
+  quotient-up true n h = le_true n 16 h
+  quotient-up false n h = refl
 
-quotient-down : (b : Bool) (n : ℕ) → n < 15 → IsTrue (has_code (order.Div (if b then negsuc n else pos 0)))
-quotient-down true n h = lt_true n 15 h
-quotient-down false n h = refl
+  quotient-down : (b : Bool) (n : ℕ) → n < 15 → IsTrue (has_numbers (order.Div (if b then negsuc n else pos 0) line))
+  quotient-down true n h = lt_true n 15 h
+  quotient-down false n h = refl
 
-quotient-by : (z : ℤ) (f g : ℕ) → pos f -ℤ pos g ≡ z → g ≤ f + 15 → f ≤ g + 16 → IsTrue (has_code (order.Div (narrow z)))
-quotient-by (pos n) f g e hf hg = quotient-up (nat_lt n 128) n (let z : n ≤ 16 = omega (arith, ints, e, hf, hg) in z)
-quotient-by (negsuc n) f g e hf hg = quotient-down (nat_lt n 128) n (let z : n < 15 = omega (arith, ints, e, hf, hg) in z)
+  quotient-by : (z : ℤ) (f g : ℕ) → pos f -ℤ pos g ≡ z → g ≤ f + 15 → f ≤ g + 16 → IsTrue (has_numbers (order.Div (narrow z) line))
+  quotient-by (pos n) f g e hf hg = quotient-up (nat_lt n 128) n (let z : n ≤ 16 = omega (arith, ints, e, hf, hg) in z)
+  quotient-by (negsuc n) f g e hf hg = quotient-down (nat_lt n 128) n (let z : n < 15 = omega (arith, ints, e, hf, hg) in z)
 
-pub quotient-coded : (f a b : ℕ) → IsTrue (can_divide f a b) → IsTrue (has_code (order.Div (narrow (pos (f + b) -ℤ pos a))))
-quotient-coded f a b h =
-    let p = parts (nat_le a (f + b + 15)) (nat_le (f + b) (a + 16)) h in
-    quotient-by (pos (f + b) -ℤ pos a) (f + b) a refl (leb-true a (f + b + 15) p.0) (leb-true (f + b) (a + 16) p.1)
+  pub quotient-coded : (f a b : ℕ) → IsTrue (can_divide f a b) → IsTrue (has_numbers (order.Div (narrow (pos (f + b) -ℤ pos a)) line))
+  quotient-coded f a b h =
+      let p = parts (nat_le a (f + b + 15)) (nat_le (f + b) (a + 16)) h in
+      quotient-by (pos (f + b) -ℤ pos a) (f + b) a refl (leb-true a (f + b + 15) p.0) (leb-true (f + b) (a + 16) p.1)
 
 pub index-fits : (m : ℕ) → m ≤ 32768 → IsTrue (are_bounds (pos 0) (pos m -ℤ pos 1))
 index-fits m h = by_case (pos m -ℤ pos 1) refl
@@ -165,12 +181,12 @@ words-within (q ∷ qs) = let a = two-words q in let b = words-within qs in let 
 pub few-words : (ps : List Param) → length ps ≤ 32 → argument_words ps < 256
 few-words ps h = let w = words-within ps in omega (arith, w, h)
 
-pub call-coded : (s : Scope) (t : Target) → argument_words s.parameters < 256 → IsTrue (has_code (call_order s t))
-call-coded s (target.Own q) h = refl
-call-coded s (target.Common d) h = refl
-call-coded s (target.Special k f) h = control-coded s.parameters k h
-call-coded s target.Read h = refl
-call-coded s target.Write h = refl
+pub call-coded : (s : Scope) (t : Target) → argument_words s.parameters < 256 → IsTrue (is_line s.line) → IsTrue (has_code (call_order s t))
+call-coded s (target.Own q) h l = lined (order.CallProc q s.line) refl l
+call-coded s (target.Common d) h l = lined (order.CallCommon d s.line) refl l
+call-coded s (target.Special k f) h l = lined (order.CallSpecial (control_place s.parameters k) s.line) (control-coded s.parameters k h) l
+call-coded s target.Read h l = refl
+call-coded s target.Write h l = refl
 
 pub label-coded : (s : Scope) (g : Goal) → IsTrue (has_code (label_order s g))
 label-coded s (goal.Own l) = refl

@@ -1,5 +1,5 @@
 -- The orders of statements whose numbers are in range have code, and their marks and labels stand at places of marks.
-use Rattle.std.proofs.Common.{◌≡◌, ℕ, zero, suc, ◌+◌, ◌<◌, ◌≤◌, nat_lt, List, [], ◌∷◌, map, length, Bool, true, false, IsTrue, ◌&&◌, Option, Some, None, slice_get, refl, sym, ap, subst, arith}
+use Rattle.std.proofs.Common.{◌≡◌, ℕ, zero, suc, ◌+◌, ◌<◌, ◌≤◌, nat_lt, List, [], ◌∷◌, ◌++◌, map, length, Bool, true, false, IsTrue, ◌&&◌, Option, Some, None, slice_get, refl, sym, ap, subst, arith}
 use Rattle.std.specs.List.{list_all}
 use Rattle.cw_order.specs.declared.order.Order.{Order}
 use Rattle.cw_order.specs.declared.order.Order.TheVariants as order
@@ -20,18 +20,18 @@ use Rattle.cw_unit.specs.declared.unit.Ref.{out-Ref}
 use Rattle.cw_unit.specs.declared.unit.Stmt.{Stmt, Stmt-F, out-Stmt, map-Stmt, fold-Stmt, fold_out-Stmt}
 use Rattle.cw_unit.specs.declared.unit.Stmt.TheOpen as statement
 use Rattle.cw_gen_expr.specs.Pieces.{Piece, plain, followed_by, sequence, with_end}
-use Rattle.cw_gen_expr.specs.ReferenceExpressions.{Scope, argument_words, control_place, item_order, store_orders, call_order, condition_piece, expression_piece}
+use Rattle.cw_gen_expr.specs.ReferenceExpressions.{Scope, at_line, argument_words, control_place, item_order, store_orders, call_order, condition_piece, expression_piece}
 use Rattle.cw_gen_expr.specs.UnitTables.{label_mark}
 use Rattle.cw_gen_expr.proofs.Layers.{total}
 use Rattle.cw_gen_unit.specs.ReferenceStatements as made
-use Rattle.cw_gen_unit.specs.ReferenceStatements.{begin_orders, after_statement_call, from_procedure, own_order, goal_order, jump_piece, with_middle, number_orders, set_orders, bump_orders, turn_piece, while_values, step_values, element_piece, elements_piece, element_ways, ring_piece, loop_piece, statement_piece}
+use Rattle.cw_gen_unit.specs.ReferenceStatements.{begin_orders, after_statement_call, from_procedure, own_order, goal_order, jump_piece, with_middle, keep_orders, number_orders, set_orders, bump_orders, turn_piece, while_values, step_values, element_piece, elements_piece, element_ways, ring_piece, loop_piece, statement_piece}
 use Rattle.cw_built.specs.Coded.{is_part, has_code}
 use Rattle.cw_writable.specs.Coded.RangedExpressions.{all_ranged, is_ranged_expression, is_ranged_condition, is_ranged_argument, ranged_reference}
 use Rattle.cw_writable.specs.Coded.RangedUnits as ranged
 use Rattle.cw_writable.specs.Coded.RangedUnits.{is_line, is_ranged_jump, is_ranged_element, are_ranged_elements, is_ranged_statement}
 use Rattle.cw_writable.proofs.Coded.Fine.{parts, Good, plainly, both_good, ended_good, labels_good}
-use Rattle.cw_writable.proofs.Coded.Numbers.{lt_true, first, item-first, store-coded, control-coded, call-coded}
-use Rattle.cw_writable.proofs.Coded.Expressions.{choice_good, expression_good, condition_ranged_good, address_good, arguments_good, reference-ranges}
+use Rattle.cw_writable.proofs.Coded.Numbers.{lt_true, first, first_by, item-first, store-coded, control-coded, call-coded}
+use Rattle.cw_writable.proofs.Coded.Expressions.{choice_good, saved_good, expression_good, condition_ranged_good, address_good, arguments_good, reference-ranges}
 
 -- ---- layers
 
@@ -66,7 +66,7 @@ statement-size = fold_out-Stmt ℕ size_step
 -- ---- lists of orders
 
 begin-coded : (line : ℕ) → IsTrue (is_line line) → IsTrue (list_all has_code (begin_orders line))
-begin-coded line h = first (order.Start line) [] h refl
+begin-coded line h = first_by (order.Start line) [] refl h refl
 
 begin_good : (line : ℕ) → IsTrue (is_line line) → Good (plain (begin_orders line))
 begin_good line h = plainly (begin_orders line) (begin-coded line h)
@@ -99,43 +99,48 @@ goal-coded u who (goal.Common d) = refl
 middle_good : (a b : ℕ → Piece) → ((mark : ℕ) → Good (a mark)) → ((mark : ℕ) → Good (b mark)) → Good (with_middle a b)
 middle_good a b ha hb = record { at = λ place next. (both_good (ended_good a ha) (hb next)).at place next }
 
+kept-coded : (y : Layout) (item word : ℕ) (os : List Order) → IsTrue (list_all has_code os) → IsTrue (list_all has_code (keep_orders y item word ++ os))
+kept-coded y item word os h = first order.Save (item_order y item word ∷ order.Store ∷ os) refl (item-first y item word (order.Store ∷ os) (first order.Store os refl h))
+
 numbered_good : (y : Layout) (item i : ℕ) → Good (plain (number_orders y item i))
-numbered_good y item i = plainly (number_orders y item i) (item-first y item 3 (order.Store ∷ []) refl)
+numbered_good y item i = plainly (number_orders y item i) (kept-coded y item 3 [] refl)
 
-set_good : (y : Layout) (item : ℕ) → Good (plain (set_orders y item))
-set_good y item = plainly (set_orders y item) (item-first y item 0 (order.SetVariable ∷ []) refl)
+set_good : (y : Layout) (line item : ℕ) → IsTrue (is_line line) → Good (plain (set_orders y line item))
+set_good y line item l =
+    let rest : List Order = order.SetVariable line ∷ [] in
+    plainly (set_orders y line item) (first order.Save (item_order y item 0 ∷ rest) refl (item-first y item 0 rest (first_by (order.SetVariable line) [] refl l refl)))
 
-bump_good : (y : Layout) (item : ℕ) → Good (plain (bump_orders y item))
-bump_good y item = plainly (bump_orders y item) (item-first y item 0 (order.AddStep ∷ []) refl)
+bump_good : (y : Layout) (line item : ℕ) → IsTrue (is_line line) → Good (plain (bump_orders y line item))
+bump_good y line item l = plainly (bump_orders y line item) (item-first y item 0 (order.AddStep line ∷ []) (first_by (order.AddStep line) [] refl l refl))
 
-turn_good : (y : Layout) (item body : ℕ) → Good (turn_piece y item body)
-turn_good y item body =
-    ended_good (λ next. plain (item_order y item 0 ∷ order.PutVariable ∷ order.Exhausted next ∷ order.Jump body ∷ []))
-    (λ next. plainly (item_order y item 0 ∷ order.PutVariable ∷ order.Exhausted next ∷ order.Jump body ∷ [])
-    (item-first y item 0 (order.PutVariable ∷ order.Exhausted next ∷ order.Jump body ∷ []) refl))
+turn_good : (y : Layout) (line item body : ℕ) → IsTrue (is_line line) → Good (turn_piece y line item body)
+turn_good y line item body l =
+    ended_good (λ next. plain (item_order y item 0 ∷ order.PutVariable line ∷ order.Exhausted next ∷ order.Jump body ∷ []))
+    (λ next. plainly (item_order y item 0 ∷ order.PutVariable line ∷ order.Exhausted next ∷ order.Jump body ∷ [])
+    (item-first y item 0 (order.PutVariable line ∷ order.Exhausted next ∷ order.Jump body ∷ []) (first_by (order.PutVariable line) (order.Exhausted next ∷ order.Jump body ∷ []) refl l refl)))
 
-kept_good : (y : Layout) (item word : ℕ) (os : List Order) → IsTrue (list_all has_code os) → Good (plain (item_order y item word ∷ order.Store ∷ os))
-kept_good y item word os h = plainly (item_order y item word ∷ order.Store ∷ os) (item-first y item word (order.Store ∷ os) h)
+kept_good : (y : Layout) (item word : ℕ) (os : List Order) → IsTrue (list_all has_code os) → Good (plain (keep_orders y item word ++ os))
+kept_good y item word os h = plainly (keep_orders y item word ++ os) (kept-coded y item word os h)
 
-module _ (s : Scope) (few : argument_words s.parameters < 256) where
+module _ (s : Scope) (few : argument_words s.parameters < 256) (line : IsTrue (is_line s.line)) where
   while_good : (item f body next i : ℕ) (e : Expr) (c : Cond) → IsTrue (is_ranged_expression s.unit e f) → IsTrue (is_ranged_condition s.unit c) → Good (while_values s item f body next i e c)
   while_good item f body next i e c he hc =
       both_good (numbered_good s.layout item i)
-      (both_good (expression_good s few e f he) (both_good (set_good s.layout item) (both_good (condition_ranged_good s few c hc false next) (plainly (order.Jump body ∷ []) refl))))
+      (both_good (expression_good s few line e f he) (both_good (set_good s.layout s.line item line) (both_good (condition_ranged_good s few line c hc false next) (plainly (order.Jump body ∷ []) refl))))
 
   step_good : (item f turn i : ℕ) (a b d : Expr) → IsTrue (is_ranged_expression s.unit a f) → IsTrue (is_ranged_expression s.unit b f) → IsTrue (is_ranged_expression s.unit d f) → Good (step_values s item f turn i a b d)
   step_good item f turn i a b d ha hb hd =
       both_good (numbered_good s.layout item i)
-      (both_good (expression_good s few a f ha)
-      (both_good (set_good s.layout item)
-      (both_good (expression_good s few b f hb)
+      (both_good (expression_good s few line a f ha)
+      (both_good (set_good s.layout s.line item line)
+      (both_good (expression_good s few line b f hb)
       (both_good (kept_good s.layout item 1 [] refl)
-      (both_good (expression_good s few d f hd) (kept_good s.layout item 2 (order.Jump turn ∷ []) refl))))))
+      (both_good (expression_good s few line d f hd) (kept_good s.layout item 2 (order.Jump turn ∷ []) refl))))))
 
   element_good : (item f set body i : ℕ) (e : Felem) → IsTrue (is_ranged_element s.unit f e) → Good (element_piece s item f set body i e)
   element_good item f set body i (element.One e) h =
       ended_good (λ next. followed_by (plain (number_orders s.layout item i)) (followed_by (expression_piece s e f) (plain (order.Jump set ∷ []))))
-      (λ next. both_good (numbered_good s.layout item i) (both_good (expression_good s few e f h) (plainly (order.Jump set ∷ []) refl)))
+      (λ next. both_good (numbered_good s.layout item i) (both_good (expression_good s few line e f h) (plainly (order.Jump set ∷ []) refl)))
   element_good item f set body i (element.While e c) h =
       let p = parts (is_ranged_expression s.unit e f) (is_ranged_condition s.unit c) h in
       middle_good (λ own. plain []) (λ own. with_end (λ next. while_values s item f body next i e c)) (λ own. plainly [] refl)
@@ -143,9 +148,9 @@ module _ (s : Scope) (few : argument_words s.parameters < 256) where
   element_good item f set body i (element.Step a b d) h =
       let p = parts (is_ranged_expression s.unit a f) (is_ranged_expression s.unit b f && is_ranged_expression s.unit d f) h in
       let q = parts (is_ranged_expression s.unit b f) (is_ranged_expression s.unit d f) p.1 in
-      middle_good (λ turn. followed_by (with_end (λ bump. step_values s item f turn i a b d)) (plain (bump_orders s.layout item))) (λ turn. turn_piece s.layout item body)
-      (λ turn. both_good (ended_good (λ bump. step_values s item f turn i a b d) (λ bump. step_good item f turn i a b d p.0 q.0 q.1)) (bump_good s.layout item))
-      (λ turn. turn_good s.layout item body)
+      middle_good (λ turn. followed_by (with_end (λ bump. step_values s item f turn i a b d)) (plain (bump_orders s.layout s.line item))) (λ turn. turn_piece s.layout s.line item body)
+      (λ turn. both_good (ended_good (λ bump. step_values s item f turn i a b d) (λ bump. step_good item f turn i a b d p.0 q.0 q.1)) (bump_good s.layout s.line item line))
+      (λ turn. turn_good s.layout s.line item body line)
 
   elements_good : (item f set body i : ℕ) (es : List Felem) → IsTrue (are_ranged_elements s.unit f es) → Good (elements_piece s item f set body i es)
   elements_good item f set body i [] h = plainly [] refl
@@ -159,31 +164,32 @@ module _ (s : Scope) (few : argument_words s.parameters < 256) where
       let x = element_piece s item f set body i e place next in
       ap suc (ways-long item f set body (i + 1) es (place + length x.orders) (next + length x.marks))
 
-  ring_good : (line item f : ℕ) (es : List Felem) (body : Piece) → IsTrue (is_line line) → IsTrue (nat_lt (length es) 32768) → IsTrue (are_ranged_elements s.unit f es) → Good body → Good (ring_piece s line item f es body)
-  ring_good line item f es body hl hn he hb = record { at = λ place next. (laid (element_ways s item f (next + 1 + 1) (next + 1) 1 es place (next + 1 + 1 + 1)) (ways-long item f (next + 1 + 1) (next + 1) 1 es place (next + 1 + 1 + 1))).at place next }
+  ring_good : (item f : ℕ) (es : List Felem) (body : Piece) → IsTrue (nat_lt (length es) 32768) → IsTrue (are_ranged_elements s.unit f es) → Good body → Good (ring_piece s item f es body)
+  ring_good item f es body hn he hb = record { at = λ place next. (laid (element_ways s item f (next + 1 + 1) (next + 1) 1 es place (next + 1 + 1 + 1)) (ways-long item f (next + 1 + 1) (next + 1) 1 es place (next + 1 + 1 + 1))).at place next }
     where
-      way_coded : (ways : List ℕ) → length ways ≡ length es → IsTrue (list_all has_code (order.Line line ∷ item_order s.layout item 3 ∷ order.Load ∷ order.LoopWay ways ∷ []))
+      way_coded : (ways : List ℕ) → length ways ≡ length es → IsTrue (list_all has_code (item_order s.layout item 3 ∷ order.Load ∷ order.LoopWay ways ∷ []))
       way_coded ways e =
-          first (order.Line line) (item_order s.layout item 3 ∷ order.Load ∷ order.LoopWay ways ∷ []) hl
-          (item-first s.layout item 3 (order.Load ∷ order.LoopWay ways ∷ []) (first (order.LoopWay ways) [] (subst (λ k. IsTrue (nat_lt k 32768)) (sym e) hn) refl))
+          item-first s.layout item 3 (order.Load ∷ order.LoopWay ways ∷ [])
+          (first order.Load (order.LoopWay ways ∷ []) refl (first_by (order.LoopWay ways) [] (subst (λ k. IsTrue (nat_lt k 32768)) (sym e) hn) refl refl))
 
-      laid : (ways : List ℕ) → length ways ≡ length es → Good (with_end (λ end. with_middle (λ start. followed_by (with_end (λ set. followed_by (elements_piece s item f set start 1 es) (plain (order.Jump end ∷ [])))) (plain (set_orders s.layout item))) (λ start. followed_by body (plain (order.Line line ∷ item_order s.layout item 3 ∷ order.Load ∷ order.LoopWay ways ∷ [])))))
+      laid : (ways : List ℕ) → length ways ≡ length es → Good (with_end (λ end. with_middle (λ start. followed_by (with_end (λ set. followed_by (elements_piece s item f set start 1 es) (plain (order.Jump end ∷ [])))) (plain (set_orders s.layout s.line item))) (λ start. followed_by body (plain (item_order s.layout item 3 ∷ order.Load ∷ order.LoopWay ways ∷ [])))))
       laid ways e =
-          ended_good (λ end. with_middle (λ start. followed_by (with_end (λ set. followed_by (elements_piece s item f set start 1 es) (plain (order.Jump end ∷ [])))) (plain (set_orders s.layout item))) (λ start. followed_by body (plain (order.Line line ∷ item_order s.layout item 3 ∷ order.Load ∷ order.LoopWay ways ∷ []))))
-          (λ end. middle_good (λ start. followed_by (with_end (λ set. followed_by (elements_piece s item f set start 1 es) (plain (order.Jump end ∷ [])))) (plain (set_orders s.layout item))) (λ start. followed_by body (plain (order.Line line ∷ item_order s.layout item 3 ∷ order.Load ∷ order.LoopWay ways ∷ [])))
-          (λ start. both_good (ended_good (λ set. followed_by (elements_piece s item f set start 1 es) (plain (order.Jump end ∷ []))) (λ set. both_good (elements_good item f set start 1 es he) (plainly (order.Jump end ∷ []) refl))) (set_good s.layout item))
-          (λ start. both_good hb (plainly (order.Line line ∷ item_order s.layout item 3 ∷ order.Load ∷ order.LoopWay ways ∷ []) (way_coded ways e))))
+          ended_good (λ end. with_middle (λ start. followed_by (with_end (λ set. followed_by (elements_piece s item f set start 1 es) (plain (order.Jump end ∷ [])))) (plain (set_orders s.layout s.line item))) (λ start. followed_by body (plain (item_order s.layout item 3 ∷ order.Load ∷ order.LoopWay ways ∷ []))))
+          (λ end. middle_good (λ start. followed_by (with_end (λ set. followed_by (elements_piece s item f set start 1 es) (plain (order.Jump end ∷ [])))) (plain (set_orders s.layout s.line item))) (λ start. followed_by body (plain (item_order s.layout item 3 ∷ order.Load ∷ order.LoopWay ways ∷ [])))
+          (λ start. both_good (ended_good (λ set. followed_by (elements_piece s item f set start 1 es) (plain (order.Jump end ∷ []))) (λ set. both_good (elements_good item f set start 1 es he) (plainly (order.Jump end ∷ []) refl))) (set_good s.layout s.line item line))
+          (λ start. both_good hb (plainly (item_order s.layout item 3 ∷ order.Load ∷ order.LoopWay ways ∷ []) (way_coded ways e))))
 
 -- ---- statements
 
 module _ (s : Scope) (few : argument_words s.parameters < 256) (who : Option ℕ) (answer : ℕ) where
-  jump_good : (d : Dest) → IsTrue (is_ranged_jump s.unit d) → Good (jump_piece s who d)
-  jump_good (dest.Goal g) h = plainly (goal_order s.unit who g ∷ []) (first (goal_order s.unit who g) [] (goal-coded s.unit who g) refl)
-  jump_good (dest.Special k) h = plainly (order.GoSpecial (control_place s.parameters k) ∷ []) (first (order.GoSpecial (control_place s.parameters k)) [] (control-coded s.parameters k few) refl)
-  jump_good (dest.Switch n e) h = both_good (expression_good s few e 0 h) (plainly (order.GoSwitch n ∷ []) refl)
-  jump_good (dest.CommonSwitch d e) h = both_good (expression_good s few e 0 h) (plainly (order.GoSwitchCommon d ∷ []) refl)
-  jump_good (dest.SpecialSwitch k e) h =
-      both_good (expression_good s few e 0 h) (plainly (order.GoSwitchSpecial (control_place s.parameters k) ∷ []) (first (order.GoSwitchSpecial (control_place s.parameters k)) [] (control-coded s.parameters k few) refl))
+  jump_good : (line : ℕ) → IsTrue (is_line line) → (d : Dest) → IsTrue (is_ranged_jump s.unit d) → Good (jump_piece (at_line line s) who d)
+  jump_good line l (dest.Goal g) h = plainly (goal_order s.unit who g ∷ []) (first (goal_order s.unit who g) [] (goal-coded s.unit who g) refl)
+  jump_good line l (dest.Special k) h = plainly (order.GoSpecial (control_place s.parameters k) ∷ []) (first_by (order.GoSpecial (control_place s.parameters k)) [] (control-coded s.parameters k few) refl refl)
+  jump_good line l (dest.Switch n e) h = both_good (expression_good (at_line line s) few l e 0 h) (plainly (order.GoSwitch n line ∷ []) (first_by (order.GoSwitch n line) [] refl l refl))
+  jump_good line l (dest.CommonSwitch d e) h = both_good (expression_good (at_line line s) few l e 0 h) (plainly (order.GoSwitchCommon d line ∷ []) (first_by (order.GoSwitchCommon d line) [] refl l refl))
+  jump_good line l (dest.SpecialSwitch k e) h =
+      let o = order.GoSwitchSpecial (control_place s.parameters k) line in
+      both_good (expression_good (at_line line s) few l e 0 h) (plainly (o ∷ []) (first_by o [] (control-coded s.parameters k few) l refl))
 
   module _ (n : ℕ) (below : (t : Stmt) → statement_size t < n → IsTrue (is_ranged_statement s.unit answer t) → Good (statement_piece s who answer t)) where
     all_good : (ss : List Stmt) → total (map statement_size ss) < n → IsTrue (all_ranged (map (is_ranged_statement s.unit answer) ss)) → Good (sequence (map (statement_piece s who answer) ss))
@@ -197,30 +203,34 @@ module _ (s : Scope) (few : argument_words s.parameters < 256) (who : Option ℕ
         let p = parts (is_line line) ((ranged_reference s.unit r).good && is_ranged_expression s.unit e (out-Ref r).f) h in
         let q = parts (ranged_reference s.unit r).good (is_ranged_expression s.unit e (out-Ref r).f) p.1 in
         both_good (begin_good line p.0)
-        (both_good (expression_good s few e (out-Ref r).f q.1) (both_good (address_good s few r q.0) (plainly (store_orders (out-Ref r).field) (store-coded (out-Ref r).field (reference-ranges s few r q.0).0))))
+        (both_good (expression_good (at_line line s) few p.0 e (out-Ref r).f q.1)
+        (both_good saved_good (both_good (address_good (at_line line s) few p.0 r q.0) (plainly (store_orders (out-Ref r).field) (store-coded (out-Ref r).field (reference-ranges (at_line line s) few p.0 r q.0).0)))))
     layer_good (statement.PutBits line t b r e) le h =
         let p = parts (is_line line) (is_part t b && ((ranged_reference s.unit r).good && is_ranged_expression s.unit e 0)) h in
         let q = parts (is_part t b) ((ranged_reference s.unit r).good && is_ranged_expression s.unit e 0) p.1 in
         let k = parts (ranged_reference s.unit r).good (is_ranged_expression s.unit e 0) q.1 in
         both_good (begin_good line p.0)
-        (both_good (expression_good s few e 0 k.1) (both_good (address_good s few r k.0) (plainly (order.StorePart t b ∷ []) (first (order.StorePart t b) [] q.0 refl))))
+        (both_good (expression_good (at_line line s) few p.0 e 0 k.1)
+        (both_good saved_good (both_good (address_good (at_line line s) few p.0 r k.0) (plainly (order.StorePart t b ∷ []) (first_by (order.StorePart t b) [] q.0 refl refl)))))
     layer_good (statement.Go line d) le h =
         let p = parts (is_line line) (is_ranged_jump s.unit d) h in
-        both_good (begin_good line p.0) (jump_good d p.1)
+        both_good (begin_good line p.0) (jump_good line p.0 d p.1)
     layer_good (statement.Call line t args) le h =
         let p = parts (is_line line) (all_ranged (map (is_ranged_argument s.unit) args)) h in
         both_good (begin_good line p.0)
-        (both_good (arguments_good s few args p.1) (plainly (call_order s t ∷ after_statement_call t) (first (call_order s t) (after_statement_call t) (call-coded s t few) (after-coded t))))
+        (both_good (arguments_good (at_line line s) few p.0 args p.1)
+        (plainly (call_order (at_line line s) t ∷ after_statement_call t) (first (call_order (at_line line s) t) (after_statement_call t) (call-coded (at_line line s) t few p.0) (after-coded t))))
     layer_good (statement.Answer line e) le h =
         let p = parts (is_line line) (is_ranged_expression s.unit e answer) h in
         both_good (begin_good line p.0)
-        (both_good (expression_good s few e answer p.1) (plainly (order.Return (argument_words s.parameters) true ∷ []) (first (order.Return (argument_words s.parameters) true) [] (lt_true (argument_words s.parameters) 256 few) refl)))
+        (both_good (expression_good (at_line line s) few p.0 e answer p.1)
+        (plainly (order.Return (argument_words s.parameters) true ∷ []) (first_by (order.Return (argument_words s.parameters) true) [] (lt_true (argument_words s.parameters) 256 few) refl refl)))
     layer_good (statement.If line c a b) le h =
         let p = parts (is_line line) (is_ranged_condition s.unit c && (is_ranged_statement s.unit answer a && is_ranged_statement s.unit answer b)) h in
         let q = parts (is_ranged_condition s.unit c) (is_ranged_statement s.unit answer a && is_ranged_statement s.unit answer b) p.1 in
         let k = parts (is_ranged_statement s.unit answer a) (is_ranged_statement s.unit answer b) q.1 in
         both_good (begin_good line p.0)
-        (choice_good (condition_piece s c) (statement_piece s who answer a) (statement_piece s who answer b) (condition_ranged_good s few c q.0)
+        (choice_good (condition_piece (at_line line s) c) (statement_piece s who answer a) (statement_piece s who answer b) (condition_ranged_good (at_line line s) few p.0 c q.0)
         (below a (let z : statement_size a < n = omega (arith, le) in z) k.0) (below b (let z : statement_size b < n = omega (arith, le) in z) k.1))
     layer_good (statement.For line item r es t) le h =
         let f = (out-Ref r).f in
@@ -229,9 +239,9 @@ module _ (s : Scope) (few : argument_words s.parameters < 256) (who : Option ℕ
         let k = parts (nat_lt (length es) 32768) (are_ranged_elements s.unit f es && is_ranged_statement s.unit answer t) q.1 in
         let m = parts (are_ranged_elements s.unit f es) (is_ranged_statement s.unit answer t) k.1 in
         both_good (begin_good line p.0)
-        (both_good (address_good s few r q.0)
+        (both_good (address_good (at_line line s) few p.0 r q.0)
         (both_good (kept_good s.layout item 0 [] refl)
-        (ring_good s few line item f es (statement_piece s who answer t) p.0 k.0 m.0 (below t (let z : statement_size t < n = omega (arith, le) in z) m.1))))
+        (ring_good (at_line line s) few p.0 item f es (statement_piece s who answer t) k.0 m.0 (below t (let z : statement_size t < n = omega (arith, le) in z) m.1))))
     layer_good (statement.Seq ss) le h = all_good ss (let z : total (map statement_size ss) < n = omega (arith, le) in z) h
     layer_good (statement.Mark ls t) le h = both_good (labels_good ls) (below t (let z : statement_size t < n = omega (arith, le) in z) h)
 

@@ -24,7 +24,7 @@ use Rattle.cw_built.specs.Coded.{has_code, is_enter, begins_block, is_mark, ente
 use Rattle.cw_writable.specs.Coded.RangedUnits.{is_ranged_statement, is_ranged_procedure, are_ranged_procedures, is_ranged}
 use Rattle.cw_built.proofs.Layouts.{storable}
 use Rattle.cw_writable.proofs.Coded.Fine.{no, both, parts, begins, Stands, AllStand, get-behind, all-before, all-behind, places, Good, plainly, both_good}
-use Rattle.cw_writable.proofs.Coded.Numbers.{lt_true, first, few-words}
+use Rattle.cw_writable.proofs.Coded.Numbers.{lt_true, first_by, few-words}
 use Rattle.cw_writable.proofs.Coded.Frames.{MapsValid, bind-coded}
 use Rattle.cw_writable.proofs.Coded.Statements.{statement_good}
 
@@ -70,9 +70,9 @@ module _ (u : SourceUnit) where
     procedure_good p q b h =
         let r = parts (is_ranged_statement u (answer_of u (Some p)) q.body) (nat_le (frame_size u p) 32768) h in
         let size = slice_index (layout_of u).frames p in
-        both_good (plainly (entry_orders u p q) (first (order.Enter size) (bind_orders (layout_of u) q.params) (lt_true size 65536 (frames-small 0 u.procs frames p)) (bind-coded maps u stored p (leb-true (frame_size u p) 32768 r.1) q.params (few-in p q b) (items-in p q b))))
+        both_good (plainly (entry_orders u p q) (first_by (order.Enter size) (bind_orders (layout_of u) q.params) (lt_true size 65536 (frames-small 0 u.procs frames p)) refl (bind-coded maps u stored p (leb-true (frame_size u p) 32768 r.1) q.params (few-in p q b) (items-in p q b))))
         (both_good (statement_good (scope_of u (Some p)) (few-at 0 u.procs built p) (Some p) (answer_of u (Some p)) q.body r.0)
-        (plainly (leave_orders q) (first (order.Return (argument_words q.params) true) [] (lt_true (argument_words q.params) 256 (few-in p q b)) refl)))
+        (plainly (leave_orders q) (first_by (order.Return (argument_words q.params) true) [] (lt_true (argument_words q.params) 256 (few-in p q b)) refl refl)))
 
     procedures_good : (p : ℕ) (qs : List Proc) → IsTrue (are_procedures u p qs) → IsTrue (are_ranged_procedures u p qs) → Good (procedures_piece u p qs)
     procedures_good p [] b h = plainly [] refl
@@ -121,11 +121,16 @@ or_right false b h = h
 
 begins-enter : (o : Order) → IsTrue (is_enter o) → IsTrue (begins o)
 begins-enter (order.Enter size) h = refl
+begins-enter (order.Const w) h = no h
+begins-enter (order.Home family offset) h = no h
+begins-enter (order.FrameHome n) h = no h
 begins-enter order.Load h = no h
 begins-enter order.Store h = no h
-begins-enter order.Add h = no h
-begins-enter order.Sub h = no h
+begins-enter (order.Add line) h = no h
+begins-enter (order.Sub line) h = no h
 begins-enter (order.JumpIf c m) h = no h
+begins-enter (order.Div s line) h = no h
+begins-enter order.WriteByte h = no h
 begins-enter _ h = refl
 
 entry-begins : (os : List Order) (start : ℕ) (ms : List ℕ) → AllStand is_enter os start ms → AllStand begins os start ms

@@ -8,6 +8,6 @@ use Rattle.cw_assemble.proofs.calling.put_call_special.Goals as goal
 pub returns : goal.returns
 returns c =
     on_ok_weaker c.put_back_jump.result
-    (special_added c.args.code.now c.put_all.new.self c.put_back_jump.new.code c.args.words c.load.result c.own-behind.result c.in_ok-put_all.ensures (c.load.ensures ∙ ap (load 0) (c.argument.ensures ∙ ap argument c.from.ensures))
-    (c.own-behind.ensures ∙ ap (λ bs. own (length bs + 11)) c.as_slice.ensures))
+    (special_added c.args.code.now c.put_all.new.self c.put_back_jump.new.code c.args.words c.args.line c.set_word.result c.load.result c.own-behind.result c.in_ok-put_all.ensures c.set_word.ensures (c.load.ensures ∙ ap (load 0) (c.argument.ensures ∙ ap argument c.from.ensures))
+    (c.own-behind.ensures ∙ ap (λ bs. own (length bs + 13)) c.as_slice.ensures))
     c.put_back_jump.ensures

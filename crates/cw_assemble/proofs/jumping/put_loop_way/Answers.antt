@@ -10,9 +10,9 @@ returns c =
     let old = length c.args.code.now.bytes in
     let l1 : length c.as_slice.result.now ≡ old = ap length c.as_slice.ensures in
     let l2 : length c.as_slice-2.result.now ≡ old = ap length c.as_slice-2.ensures in
-    let end : length c.as_slice-2.result.now + 14 ≡ old + 14 = omega arith in
-    let past : length c.as_slice.result.now + 21 + 2 * length c.args.marks.now ≡ old + 21 + 2 * length c.args.marks.now = omega arith in
+    let end : length c.as_slice-2.result.now + 13 ≡ old + 13 = omega arith in
+    let past : length c.as_slice.result.now + 20 + 2 * length c.args.marks.now ≡ old + 20 + 2 * length c.args.marks.now = omega arith in
     on_ok_weaker c.put_mark_words.result
     (λ d. loop_added c.args.code.now c.put_number_compared.new.code c.put_all.new.self c.put_mark_words.new.code c.in-Ok.number c.distance.result c.double.result c.jump_if_below.result c.own.result c.args.names.now c.args.marks.now
-    c.in_ok-put_number_compared-in-Ok.ensures c.in-Ok.ensures.1 (c.distance.ensures ∙ ap₂ distance end past) c.double.ensures c.jump_if_below.ensures (c.own.ensures ∙ ap (λ bs. own (length bs + 21)) c.as_slice.ensures) c.in_ok-put_all.ensures d)
+    c.in_ok-put_number_compared-in-Ok.ensures c.in-Ok.ensures.1 (c.distance.ensures ∙ ap₂ distance end past) c.double.ensures c.jump_if_below.ensures (c.own.ensures ∙ ap (λ bs. own (length bs + 20)) c.as_slice.ensures) c.in_ok-put_all.ensures d)
     c.put_mark_words.ensures

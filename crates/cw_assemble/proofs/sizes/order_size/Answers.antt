@@ -8,4 +8,4 @@ use Rattle.cw_assemble.proofs.sizes.order_size.Goals as goal
 pub returns-in-LoopWay : goal.returns-in-LoopWay
 returns-in-LoopWay c =
     let marks = c.in-LoopWay.marks in
-    IfOk-weaker c.table_size.result _ _ (λ n e. e ∙ ap (λ xs. 21 + 2 * length xs) c.as_slice.ensures ∙ sym (listed (order.LoopWay marks)) ∙ ap order_size (sym c.in-LoopWay.is)) c.table_size.ensures
+    IfOk-weaker c.table_size.result _ _ (λ n e. e ∙ ap (λ xs. 20 + 2 * length xs) c.as_slice.ensures ∙ sym (listed (order.LoopWay marks)) ∙ ap order_size (sym c.in-LoopWay.is)) c.table_size.ensures

@@ -1,4 +1,5 @@
 use Rattle.cw_follow.proofs.WordLaws.{WordLaws}
+use Rattle.cw_follow.proofs.RoutineLaws.{RoutineLaws}
 use Rattle.cw_follow.proofs.Rows.{Rows}
 use Rattle.cw_follow.proofs.Fields.{load_word, double_word}
 use Rattle.cw_follow.proofs.Placement.{all_stand}
@@ -24,40 +25,54 @@ returns c =
       high = c.products.ensures.high;
       low = c.products.ensures.low;
       halves = c.products.ensures.halves;
-      pair_fits = c.products.ensures.fits;
-      pair_value = c.products.ensures.value;
       quotient_up = c.quotients.ensures.up;
       quotient_down = c.quotients.ensures.down;
-      quotient_fits = c.quotients.ensures.fits;
-      quotient_value = c.quotients.ensures.value;
-      divides = c.quotients.ensures.divides;
       scaled_up = c.scaling.ensures.up;
       scaled_down = c.scaling.ensures.down;
       down = c.many_places.ensures.down;
       down_fits = c.many_places.ensures.down_fits;
-      pair_down = c.many_places.ensures.pair_down;
-      pair_up = c.many_places.ensures.pair_up;
       upper = c.many_places.ensures.upper;
       again = c.many_places.ensures.again;
       keeps = c.words.ensures;
       stands_keep = c.activations.ensures;
     } in
+    let routines : RoutineLaws = record {
+      start = c.bodies.ensures.start;
+      overflow = c.bodies.ensures.overflow;
+      zero_divisor = c.bodies.ensures.zero_divisor;
+      address = c.bodies.ensures.address;
+      bounds = c.bodies.ensures.bounds;
+      switch = c.bodies.ensures.switch;
+      enter = c.calls.ensures.enter;
+      leaving = c.calls.ensures.leaving;
+      read = c.calls.ensures.read;
+      product = c.numbers-2.ensures.product;
+      quotient_down = c.numbers-2.ensures.quotient_down;
+      quotient_up = c.numbers-2.ensures.quotient_up;
+      set_variable = c.loops.ensures.set_variable;
+      add_step = c.loops.ensures.add_step;
+      put_variable = c.loops.ensures.put_variable;
+      exhausted = c.loops.ensures.exhausted;
+      divisor = c.pieces.ensures.divisor;
+    } in
     let rows : Rows = record {
       words = words;
+      routines = routines;
       starts = c.starting.ensures;
       number = c.moves.ensures.number;
-      low_byte = c.moves.ensures.low_byte;
+      exchange = c.pieces.ensures.exchange;
+      extend = c.multiplying.ensures.extend;
+      quotient = c.pieces.ensures.quotient;
+      quotient_fits = c.pieces.ensures.quotient_fits;
+      nothing = c.pieces.ensures.nothing;
       move = c.moves.ensures.register;
-      high_byte = c.moves.ensures.high_byte;
       push = c.stacking.ensures.push;
       pop = c.stacking.ensures.pop;
       load = c.memory.ensures.load;
       store = c.memory.ensures.store;
       load_slot = c.memory.ensures.load_slot;
-      set_slot = c.memory.ensures.set_slot;
       load_argument = c.fields-2.ensures.load_argument;
       store_field = c.fields-2.ensures.store_field;
-      load_field = c.fields-2.ensures.load_field;
       store_slot = c.fields-2.ensures.store_slot;
       load_word = load_word c.fetching.ensures.finds;
       double_word = double_word c.fetching.ensures.finds;
@@ -72,14 +87,10 @@ returns c =
       shift_down = c.shifting.ensures.down;
       shift_down_signed = c.shifting.ensures.down_signed;
       multiply = c.multiplying.ensures.multiply;
-      divide = c.multiplying.ensures.divide;
-      extend = c.multiplying.ensures.extend;
       back = c.jumps.ensures.back;
       jumps_below = c.comparing_below.ensures.jumps;
       passes_above = c.comparing_below.ensures.passes;
-      take = c.ports.ensures.take;
       near = c.jumps.ensures.near;
-      short = c.jumps.ensures.short;
       jump_to = c.jumps.ensures.register;
       no_overflow = c.jumps.ensures.no_overflow;
       passes = c.jumps.ensures.passes;
@@ -94,7 +105,6 @@ returns c =
       compare = c.comparing.ensures.registers;
       compare_at = c.comparing.ensures.offset;
       compare_number = c.comparing.ensures.number;
-      compared_pop = c.comparing.ensures.pop;
       compared_jumps = c.comparing.ensures.jumps;
       compared_passes = c.comparing.ensures.passes;
       out = c.ports.ensures.out;
@@ -102,4 +112,4 @@ returns c =
       rests = c.ports.ensures.rests;
       runs = c.ports.ensures.runs;
     } in
-    λ p image words memory input s places is stand codable begins never start bytes. following rows p image words memory input s places (all_stand p image is codable) is stand codable begins never start bytes
+    λ p image words memory input s places is stand codable begins never start bytes. following rows p image words memory input s places (all_stand c.standing.ensures.library p image is codable) is stand codable begins never start bytes

@@ -2,7 +2,7 @@ use Rattle.std.proofs.Common.{ℕ, [], ◌∷◌, length, sym, ap, ◌∙◌, le
 use Rattle.cw_order.specs.declared.order.Order.TheVariants as order
 use Rattle.cw_gen_expr.specs.Pieces.{plain, followed_by, with_end}
 use Rattle.cw_gen_expr.specs.Output.{made, added}
-use Rattle.cw_gen_expr.specs.ReferenceExpressions.{scope_with, expression_piece}
+use Rattle.cw_gen_expr.specs.ReferenceExpressions.{scope_with, at_line, expression_piece}
 use Rattle.cw_gen_unit.specs.ReferenceStatements.{number_orders, bump_orders, turn_piece, while_values, step_values, way_mark, element_piece}
 use Rattle.cw_gen_unit.proofs.Chains.{one, and_then, ends, middle}
 use Rattle.cw_gen_expr.proofs.Making.{added-nothing}
@@ -14,7 +14,7 @@ returns-in_ok-set_mark-in-One-clause-way c =
 
 pub returns-in_ok-set_mark-in-One-clause-orders : goal.returns-in_ok-set_mark-in-One-clause-orders
 returns-in_ok-set_mark-in-One-clause-orders c =
-    let s = scope_with c.args.unit.now c.args.layout.now c.args.parameters.now in
+    let s = at_line c.args.line (scope_with c.args.unit.now c.args.layout.now c.args.parameters.now) in
     let y = c.args.layout.now in
     let i = c.args.looped in
     let f = c.args.scale in
@@ -40,7 +40,7 @@ returns-in_ok-set_mark-in-While-2-clause-way c =
 pub returns-in_ok-set_mark-in-While-2-clause-orders :
     goal.returns-in_ok-set_mark-in-While-2-clause-orders
 returns-in_ok-set_mark-in-While-2-clause-orders c =
-    let s = scope_with c.args.unit.now c.args.layout.now c.args.parameters.now in
+    let s = at_line c.args.line (scope_with c.args.unit.now c.args.layout.now c.args.parameters.now) in
     let y = c.args.layout.now in
     let i = c.args.looped in
     let f = c.args.scale in
@@ -69,7 +69,7 @@ returns-in_ok-emit_turn-in-Step-clause-way c =
 pub returns-in_ok-emit_turn-in-Step-clause-orders :
     goal.returns-in_ok-emit_turn-in-Step-clause-orders
 returns-in_ok-emit_turn-in-Step-clause-orders c =
-    let s = scope_with c.args.unit.now c.args.layout.now c.args.parameters.now in
+    let s = at_line c.args.line (scope_with c.args.unit.now c.args.layout.now c.args.parameters.now) in
     let y = c.args.layout.now in
     let i = c.args.looped in
     let f = c.args.scale in
@@ -86,11 +86,11 @@ returns-in_ok-emit_turn-in-Step-clause-orders c =
     let x6 = made c.set_mark-in-Step-2.new.self in
     let x7 = made c.emit_turn.new.out in
     let values = λ (k : ℕ). step_values s i f k n d.first d.step d.limit in
-    let first = λ (k : ℕ). followed_by (with_end (λ b. values k)) (plain (bump_orders y i)) in
-    (middle first (λ k. turn_piece y i c.args.body) turn x x6 x7 c.in_ok-turn-in-Step.ensures.mark
+    let first = λ (k : ℕ). followed_by (with_end (λ b. values k)) (plain (bump_orders y c.args.line i)) in
+    (middle first (λ k. turn_piece y c.args.line i c.args.body) turn x x6 x7 c.in_ok-turn-in-Step.ensures.mark
     (ends first turn x x1 x5 x6 c.in_ok-turn-in-Step.ensures.mark c.in_ok-turn-in-Step.ensures.reserved
     (and_then (ends (λ b. values turn) bump x1 x2 x3 x4 c.in_ok-bump-in-Step.ensures.mark c.in_ok-bump-in-Step.ensures.reserved (one (values turn) x2 x3 c.in_ok-emit_step-in-Step.ensures) c.in_ok-set_mark-in-Step.ensures)
-    (one (plain (bump_orders y i)) x4 x5 c.in_ok-emit_bump-in-Step.ensures))
+    (one (plain (bump_orders y c.args.line i)) x4 x5 c.in_ok-emit_bump-in-Step.ensures))
     c.in_ok-set_mark-in-Step-2.ensures)
-    (one (turn_piece y i c.args.body) x6 x7 c.in_ok-emit_turn-in-Step.ensures)).is
+    (one (turn_piece y c.args.line i c.args.body) x6 x7 c.in_ok-emit_turn-in-Step.ensures)).is
     ∙ ap (λ e. added (element_piece s i f c.args.set c.args.body n e) x) (sym d.is)

@@ -3,14 +3,14 @@ use Rattle.std.proofs.lemmas.Result.{on_ok_weaker}
 use Rattle.cw_order.specs.declared.order.Order.TheVariants as order
 use Rattle.cw_gen_expr.specs.Pieces.{plain}
 use Rattle.cw_gen_expr.specs.Output.{made}
-use Rattle.cw_gen_expr.specs.ReferenceExpressions.{scope_with, item_order, expression_piece}
-use Rattle.cw_gen_unit.specs.ReferenceStatements.{number_orders, set_orders}
+use Rattle.cw_gen_expr.specs.ReferenceExpressions.{scope_with, at_line, expression_piece}
+use Rattle.cw_gen_unit.specs.ReferenceStatements.{keep_orders, number_orders, set_orders}
 use Rattle.cw_gen_unit.proofs.Chains.{one, and_then, in_one}
 use Rattle.cw_gen_unit.proofs.elements.emit_step.Goals as goal
 
 pub returns : goal.returns
 returns c =
-    let s = scope_with c.args.unit.now c.args.layout.now c.args.parameters.now in
+    let s = at_line c.args.line (scope_with c.args.unit.now c.args.layout.now c.args.parameters.now) in
     let y = c.args.layout.now in
     let i = c.args.looped in
     let f = c.args.scale in
@@ -27,9 +27,9 @@ returns c =
     (λ h.
     (and_then (one (plain (number_orders y i c.args.number)) x x1 c.in_ok-emit_number.ensures)
     (and_then (one (expression_piece s c.args.first.now f) x1 x2 c.in_ok-emit_expression.ensures)
-    (and_then (one (plain (set_orders y i)) x2 x3 c.in_ok-emit_set.ensures)
+    (and_then (one (plain (set_orders y c.args.line i)) x2 x3 c.in_ok-emit_set.ensures)
     (and_then (one (expression_piece s c.args.step.now f) x3 x4 c.in_ok-emit_expression-2.ensures)
-    (and_then (one (plain (item_order y i 1 ∷ order.Store ∷ [])) x4 x5 c.in_ok-emit_keep.ensures)
+    (and_then (one (plain (keep_orders y i 1)) x4 x5 c.in_ok-emit_keep.ensures)
     (and_then (one (expression_piece s c.args.limit.now f) x5 x6 c.in_ok-emit_expression-3.ensures)
-    (in_one (item_order y i 2 ∷ order.Store ∷ []) (order.Jump c.args.turn ∷ []) x6 x7 x8 (one (plain (item_order y i 2 ∷ order.Store ∷ [])) x6 x7 c.in_ok-emit_keep-2.ensures) (one (plain (order.Jump c.args.turn ∷ [])) x7 x8 h)))))))).is)
+    (in_one (keep_orders y i 2) (order.Jump c.args.turn ∷ []) x6 x7 x8 (one (plain (keep_orders y i 2)) x6 x7 c.in_ok-emit_keep-2.ensures) (one (plain (order.Jump c.args.turn ∷ [])) x7 x8 h)))))))).is)
     c.push.ensures

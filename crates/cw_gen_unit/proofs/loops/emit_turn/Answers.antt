@@ -21,9 +21,9 @@ returns c =
     let first : x2 ≡ added (plain (item_order y i 0 ∷ [])) x1 = c.in_ok-push.ensures ∙ ap (λ o. added (plain (o ∷ [])) x1) c.item.ensures in
     on_ok_weaker c.set_mark.result
     (λ h.
-    (ends (λ k. plain (item_order y i 0 ∷ order.PutVariable ∷ order.Exhausted k ∷ order.Jump c.args.body ∷ [])) next x x1 x5 (made c.set_mark.new.self) c.in_ok-next.ensures.mark c.in_ok-next.ensures.reserved
-    (in_one (item_order y i 0 ∷ []) (order.PutVariable ∷ order.Exhausted next ∷ order.Jump c.args.body ∷ []) x1 x2 x5 (one (plain (item_order y i 0 ∷ [])) x1 x2 first)
-    (in_one (order.PutVariable ∷ []) (order.Exhausted next ∷ order.Jump c.args.body ∷ []) x2 x3 x5 (one (plain (order.PutVariable ∷ [])) x2 x3 c.in_ok-push-2.ensures)
+    (ends (λ k. plain (item_order y i 0 ∷ order.PutVariable c.args.line ∷ order.Exhausted k ∷ order.Jump c.args.body ∷ [])) next x x1 x5 (made c.set_mark.new.self) c.in_ok-next.ensures.mark c.in_ok-next.ensures.reserved
+    (in_one (item_order y i 0 ∷ []) (order.PutVariable c.args.line ∷ order.Exhausted next ∷ order.Jump c.args.body ∷ []) x1 x2 x5 (one (plain (item_order y i 0 ∷ [])) x1 x2 first)
+    (in_one (order.PutVariable c.args.line ∷ []) (order.Exhausted next ∷ order.Jump c.args.body ∷ []) x2 x3 x5 (one (plain (order.PutVariable c.args.line ∷ [])) x2 x3 c.in_ok-push-2.ensures)
     (in_one (order.Exhausted next ∷ []) (order.Jump c.args.body ∷ []) x3 x4 x5 (one (plain (order.Exhausted next ∷ [])) x3 x4 c.in_ok-push-3.ensures) (one (plain (order.Jump c.args.body ∷ [])) x4 x5 c.in_ok-push-4.ensures))))
     h).is)
     c.set_mark.ensures

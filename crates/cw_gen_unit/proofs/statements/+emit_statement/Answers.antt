@@ -1,12 +1,11 @@
-use Rattle.std.proofs.Common.{[], ◌∷◌, false, None, sym, ap, ◌∙◌, length}
+use Rattle.std.proofs.Common.{false, None, sym, ap, ◌∙◌, length}
 use Rattle.std.proofs.lemmas.Result.{on_ok_weaker}
-use Rattle.cw_order.specs.declared.order.Order.TheVariants as order
 use Rattle.cw_unit.specs.declared.unit.Stmt.TheOpen as statement
 use Rattle.cw_unit.specs.declared.unit.Stmt.TheVariants as stmt
 use Rattle.cw_gen_expr.specs.Pieces.{plain, with_labels}
 use Rattle.cw_gen_expr.specs.Output.{made, added}
-use Rattle.cw_gen_expr.specs.ReferenceExpressions.{scope_with, item_order, condition_piece}
-use Rattle.cw_gen_unit.specs.ReferenceStatements.{begin_orders, elements_piece, element_ways, statement_step, statement_piece}
+use Rattle.cw_gen_expr.specs.ReferenceExpressions.{scope_with, at_line, condition_piece}
+use Rattle.cw_gen_unit.specs.ReferenceStatements.{begin_orders, keep_orders, elements_piece, element_ways, statement_step, statement_piece}
 use Rattle.cw_gen_unit.proofs.Chains.{one, and_then, chosen, ringed, by_statement, inner, all_statements, address}
 use Rattle.cw_gen_unit.proofs.statements.+emit_statement.Goals as goal
 
@@ -102,8 +101,8 @@ returns-in_ok-emit_statement-in-If-2 t c =
     (λ h.
     by_statement s who answer c.args.statement.now (statement.If d.line d.condition d.holds d.fails) x x8 (d.is ∙ sym (stmt.rolls-If d.line d.condition d.holds d.fails))
     (and_then (one (plain (begin_orders d.line)) x x0 c.in_ok-emit_begin-in-If.ensures)
-    (chosen (condition_piece s d.condition) (statement_piece s who answer d.holds) (statement_piece s who answer d.fails) end other x0 x1 x2 x3 x4 x5 x6 x7 x8 c.in_ok-end-in-If.ensures.mark c.in_ok-end-in-If.ensures.reserved c.in_ok-other-in-If.ensures.mark c.in_ok-other-in-If.ensures.reserved
-    (one (condition_piece s d.condition false other) x2 x3 c.in_ok-emit_condition-in-If.ensures)
+    (chosen (condition_piece (at_line d.line s) d.condition) (statement_piece s who answer d.holds) (statement_piece s who answer d.fails) end other x0 x1 x2 x3 x4 x5 x6 x7 x8 c.in_ok-end-in-If.ensures.mark c.in_ok-end-in-If.ensures.reserved c.in_ok-other-in-If.ensures.mark c.in_ok-other-in-If.ensures.reserved
+    (one (condition_piece (at_line d.line s) d.condition false other) x2 x3 c.in_ok-emit_condition-in-If.ensures)
     (inner s who answer d.holds c.get.result.now x3 x4 c.get.ensures c.in_ok-emit_statement-in-If.ensures)
     c.in_ok-push-in-If.ensures c.in_ok-set_mark-in-If.ensures
     (inner s who answer d.fails c.get-in-If.result.now x6 x7 c.get-in-If.ensures c.in_ok-emit_statement-in-If-2.ensures)
@@ -122,6 +121,7 @@ returns-in_ok-emit_way-in-For t c =
     let set = c.in_ok-set-in-For.set in
     let ways = c.in_ok-ways-in-For.ways in
     let f = d.reference.f in
+    let h = at_line d.line s in
     let y1 = made c.emit_begin-in-For.new.out in
     let y2 = made c.emit_address.new.out in
     let x0 = made c.emit_keep.new.out in
@@ -137,18 +137,18 @@ returns-in_ok-emit_way-in-For t c =
     let x10 = made c.emit_way.new.out in
     let x11 = made c.set_mark-in-For-3.new.self in
     on_ok_weaker c.set_mark-in-For-3.result
-    (λ h.
+    (λ last.
     by_statement s who answer c.args.statement.now (statement.For d.line d.looped d.reference d.elements d.body) x x11 (d.is ∙ sym (stmt.rolls-For d.line d.looped d.reference d.elements d.body))
     (and_then (one (plain (begin_orders d.line)) x y1 c.in_ok-emit_begin-in-For.ensures)
-    (and_then (address s d.reference y1 y2 c.in_ok-emit_address-in-For.ensures)
-    (and_then (one (plain (item_order s.layout d.looped 0 ∷ order.Store ∷ [])) y2 x0 c.in_ok-emit_keep-in-For.ensures)
-    (ringed s d.line d.looped f d.elements (statement_piece s who answer d.body) end start set ways x0 x1 x2 x3 x4 x5 x6 x7 x8 x9 x10 x11
+    (and_then (address h d.reference y1 y2 c.in_ok-emit_address-in-For.ensures)
+    (and_then (one (plain (keep_orders s.layout d.looped 0)) y2 x0 c.in_ok-emit_keep-in-For.ensures)
+    (ringed h d.looped f d.elements (statement_piece s who answer d.body) end start set ways x0 x1 x2 x3 x4 x5 x6 x7 x8 x9 x10 x11
     c.in_ok-end-in-For.ensures.mark c.in_ok-end-in-For.ensures.reserved c.in_ok-start-in-For.ensures.mark c.in_ok-start-in-For.ensures.reserved c.in_ok-set-in-For.ensures.mark c.in_ok-set-in-For.ensures.reserved
-    (c.in_ok-ways-in-For.ensures.ways ∙ ap (λ l. element_ways s d.looped f set start 1 l (length x3.orders) (length x3.marks)) c.as_slice-in-For.ensures)
-    (c.in_ok-ways-in-For.ensures.orders ∙ ap (λ l. added (elements_piece s d.looped f set start 1 l) x3) c.as_slice-in-For.ensures)
+    (c.in_ok-ways-in-For.ensures.ways ∙ ap (λ l. element_ways h d.looped f set start 1 l (length x3.orders) (length x3.marks)) c.as_slice-in-For.ensures)
+    (c.in_ok-ways-in-For.ensures.orders ∙ ap (λ l. added (elements_piece h d.looped f set start 1 l) x3) c.as_slice-in-For.ensures)
     c.in_ok-push-in-For.ensures c.in_ok-set_mark-in-For.ensures c.in_ok-emit_set-in-For.ensures c.in_ok-set_mark-in-For-2.ensures
     (inner s who answer d.body c.get-in-For.result.now x8 x9 c.get-in-For.ensures c.in_ok-emit_statement-in-For.ensures)
-    c.in_ok-emit_way-in-For.ensures h)))))
+    c.in_ok-emit_way-in-For.ensures last)))))
     c.set_mark-in-For-3.ensures
 
 pub returns-after-loop-member : goal.returns-after-loop-member

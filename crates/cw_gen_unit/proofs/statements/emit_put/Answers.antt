@@ -2,23 +2,25 @@ use Rattle.std.proofs.lemmas.Result.{on_ok_weaker}
 use Rattle.cw_unit.specs.declared.unit.Ref.{out-Ref}
 use Rattle.cw_gen_expr.specs.Pieces.{plain}
 use Rattle.cw_gen_expr.specs.Output.{made}
-use Rattle.cw_gen_expr.specs.ReferenceExpressions.{scope_with, store_orders, expression_piece}
+use Rattle.cw_gen_expr.specs.ReferenceExpressions.{scope_with, at_line, saved, store_orders, expression_piece}
 use Rattle.cw_gen_unit.specs.ReferenceStatements.{begin_orders}
 use Rattle.cw_gen_unit.proofs.Chains.{one, and_then, address}
 use Rattle.cw_gen_unit.proofs.statements.emit_put.Goals as goal
 
 pub returns : goal.returns
 returns c =
-    let s = scope_with c.args.unit.now c.args.layout.now c.args.parameters.now in
+    let s = at_line c.args.line (scope_with c.args.unit.now c.args.layout.now c.args.parameters.now) in
     let r = c.args.reference.now in
     let x = made c.args.out.now in
     let x1 = made c.emit_begin.new.out in
     let x2 = made c.emit_expression.new.out in
-    let x3 = made c.emit_address.new.out in
-    let x4 = made c.emit_store.new.out in
+    let x3 = made c.push.new.self in
+    let x4 = made c.emit_address.new.out in
+    let x5 = made c.emit_store.new.out in
     on_ok_weaker c.emit_store.result
     (λ h.
     (and_then (one (plain (begin_orders c.args.line)) x x1 c.in_ok-emit_begin.ensures)
     (and_then (one (expression_piece s c.args.e.now (out-Ref r).f) x1 x2 c.in_ok-emit_expression.ensures)
-    (and_then (address s r x2 x3 c.in_ok-emit_address.ensures) (one (plain (store_orders (out-Ref r).field)) x3 x4 h)))).is)
+    (and_then (one saved x2 x3 c.in_ok-push.ensures)
+    (and_then (address s r x3 x4 c.in_ok-emit_address.ensures) (one (plain (store_orders (out-Ref r).field)) x4 x5 h))))).is)
     c.emit_store.ensures

@@ -8,5 +8,5 @@ use Rattle.cw_size.proofs.laws.short_expressions.Goals as goal
 pub returns : goal.returns
 returns c s e f place next =
     let h = (expression_short s e f).at place next in
-    let z : listed_sizes (expression_piece s e f place next).orders ≤ 32 * expression_tokens e + 3 = omega (arith, h) in
+    let z : listed_sizes (expression_piece s e f place next).orders ≤ 32 * expression_tokens e + 5 = omega (arith, h) in
     z

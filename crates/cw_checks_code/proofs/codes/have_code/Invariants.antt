@@ -1,7 +1,0 @@
-use Rattle.std.proofs.Common.{◌≡◌, take, true}
-use Rattle.std.specs.List.{list_all}
-use Rattle.cw_built.specs.Coded.{has_code}
-use Rattle.cw_checks_code.proofs.codes.have_code.Given as goal
-
-abbrev pub invariant-loop-order : goal.invariant-loop-order
-invariant-loop-order l = list_all has_code (take l.order-index l.orders) ≡ true

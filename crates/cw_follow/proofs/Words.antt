@@ -1,0 +1,245 @@
+-- The steps of orders on words, each of which is a block of its own.
+use Rattle.std.proofs.Common.{◌≡◌, ℕ, ◌+◌, ◌<◌, ◌≤◌, Bool, true, false, inl, ℤ, pos, ◌+ℤ◌, ◌-ℤ◌, List, [], ◌∷◌, Some, None, refl, sym, ap, ◌∙◌, subst, arith, lit<, lit≤}
+use Rattle.std.specs.Prelude.{slice_get, bit_and, bit_or, bit_xor}
+use Rattle.cw_i86.specs.declared.instr.Instr.TheVariants as i86
+use Rattle.cw_i86.specs.declared.instr.Imm.TheVariants as imm
+use Rattle.cw_run86.specs.Views.{Has}
+use Rattle.cw_word.specs.Word.{signed, unsigned, word_difference}
+use Rattle.cw_unit.specs.declared.unit.LogicOp.TheVariants as logic
+use Rattle.cw_unit.specs.Stop.{Running, Stuck, AddressRange}
+use Rattle.cw_unit.specs.Words.{Operand, Word, Held, Words, Outcome, Changed, Refused, Impossible, put, on_one, with_operands}
+use Rattle.cw_unit.specs.Operation.{Fetch, Store, StoreBits, Add, Subtract, Negate, Combine, Extract, Form, Taken, InBounds, WriteByte, ReadByte, perform}
+use Rattle.cw_order.specs.declared.order.Order.{Order}
+use Rattle.cw_order.specs.declared.order.Order.TheVariants as order
+use Rattle.cw_order.specs.OrderChanges.{difference, index, index_sum}
+use Rattle.cw_order.specs.OrderState.{OrderActivation, at}
+use Rattle.cw_order.specs.OrderActions.{home_word}
+use Rattle.cw_order.specs.OrderCosts.{weight_of}
+use Rattle.cw_order.specs.OrderMachine.{unrefused, after, carry_out, step}
+use Rattle.cw_tmpl.specs.Library.{overflow_entry, address_entry, bounds_entry, read_entry}
+use Rattle.cw_follow.proofs.Watched.{Watched}
+use Rattle.cw_follow.proofs.Chains.{seen, number}
+use Rattle.cw_follow.proofs.Orders.{Landed, Tells, puts, saves, adds, subtracts, negates, loads, stores, writes}
+use Rattle.cw_follow.proofs.States.{Given, Sound, went_on, never_on, not_stuck}
+use Rattle.cw_follow.proofs.Straight.{Both, Either, One}
+use Rattle.cw_follow.proofs.Operands.{words}
+use Rattle.cw_follow.proofs.Bits.{drops, combines, differs, ands, ors, xors, lesses, takes, loads_signed, loads_unsigned, stores_part}
+use Rattle.cw_follow.proofs.Addresses.{sums, indexes_less, indexes_plus, in_areas, bounds_kept}
+use Rattle.cw_follow.proofs.Inputs.{reads}
+use Rattle.cw_follow.proofs.Steps.{Follow, Alone, leads_to, onward, few_segments, order_is, step_is, sound_at, does, tells, by, calls, setting, cheap, has_code, line_fits, low_room, here, next, code, behind, begins_next, silent}
+
+module _ (known : Given) where
+  open known use {rows, p, image, all, coded, few, low}
+
+  -- ---- the accumulator free
+
+  module _ {q : Watched} {g place : ℕ} {acts : List OrderActivation} {w : Words} (s : Sound p image g place false acts w q) (a : Alone p image g place false acts w q s.orders.list) where
+    -- a word that one instruction puts
+    put_is : (o : Order) (x : ℕ) (z : ℤ) → slice_get s.orders.list place ≡ Some o → carry_out p (Some o) g place false acts w ≡ after p.room 0 (Changed (put z w)) g place true acts w → 1 ≤ weight_of o
+        → x ≡ unsigned z → here known s a + 3 ≡ next known s a → Has image (here known s a) (i86.MovImm 0 (imm.Word x)) → Follow known (at g place false acts w Running) q
+    put_is o x z e goes_so cheap_enough value there i =
+        does known s true 0 (Changed (put z w)) 1 (begins_next known s a o e) (step_is known s (Some o) e ∙ goes_so) (cheap known s o 1 cheap_enough e)
+        (puts rows p image g acts (next known s a) x z w value a.landed (λ q ax cx dx bx sp si di overflow stack t. seen there refl (number rows 0 x i t)))
+
+    pub const_follows : (n : ℕ) → slice_get s.orders.list place ≡ Some (order.Const n) → Follow known (at g place false acts w Running) q
+    const_follows n e =
+        let o = order.Const n in
+        let small : n < 65536 = coded.constants g place n (order_is known s (Some o) e) in
+        put_is o n (signed n) e refl (lit≤ tt) (sym (rows.words.forth n small)) (behind known s a o e) (code known s a o e).0
+
+    pub home_follows : (family offset : ℕ) → slice_get s.orders.list place ≡ Some (order.Home family offset) → Follow known (at g place false acts w Running) q
+    home_follows family offset e =
+        let o = order.Home family offset in
+        let st = all.stands g s.orders s.unit in
+        let word = home_word p.addresses g family offset in
+        let small : word < 65536 = omega arith in
+        put_is o (st.value 1 family offset (here known s a + 3)) (signed word) e refl (lit≤ tt) (st.fills.homes family offset (here known s a + 3) ∙ sym (rows.words.forth word small))
+        (behind known s a o e) (code known s a o e).0
+
+    pub read_follows : slice_get s.orders.list place ≡ Some order.ReadByte → Follow known (at g place false acts w Running) q
+    read_follows e =
+        let o = order.ReadByte in
+        let c = here known s a + 3 in
+        does known s true 0 (unrefused (perform p.limits.area ReadByte w)) 7 (begins_next known s a o e) (step_is known s (Some o) e) (cheap known s o 7 (lit≤ tt) e)
+        (reads (setting known s) w.memory w.output (next known s a) (by known s read_entry c) w.operands w.input (behind known s a o e) (calls known s read_entry c (lit< tt)) (low_room known s)
+        (code known s a o e).0 s.fits.input a.landed)
+
+    pub write_follows : slice_get s.orders.list place ≡ Some order.WriteByte → Follow known (at g place false acts w Running) q
+    write_follows e =
+        let o = order.WriteByte in
+        let n = next known s a in
+        tells known s false (unrefused (perform p.limits.area WriteByte w)) 2 (begins_next known s a o e) (step_is known s (Some o) e) (cheap known s o 2 (lit≤ tt) e)
+        (never_refused (perform p.limits.area WriteByte w) (writes rows p image g acts n w.operands w.memory w.input w.output (behind known s a o e) (code known s a o e) a.landed))
+      where
+        never_refused : (x : Outcome) → Tells p image 2 (next known s a) g false acts w.output q x → Tells p image 2 (next known s a) g false acts w.output q (unrefused x)
+        never_refused (Changed v) t = t
+        never_refused (Refused kind) t = absurd t
+        never_refused Impossible t = t
+
+  -- ---- the accumulator loaded
+
+  module _ {q : Watched} {g place : ℕ} {acts : List OrderActivation} {w : Words} (s : Sound p image g place true acts w q) (a : Alone p image g place true acts w q s.orders.list) where
+    pub save_follows : slice_get s.orders.list place ≡ Some order.Save → Follow known (at g place true acts w Running) q
+    save_follows e =
+        let o = order.Save in
+        let goes : step p (at g place true acts w Running) ≡ at g (place + 1) false acts w Running = step_is known s (Some o) e in
+        leads_to known g place true acts w (at g (place + 1) false acts w Running) 1 goes (cheap known s o 1 (lit≤ tt) e)
+        (onward known (λ r l. inl (sound_at known s (place + 1) false w r (begins_next known s a o e) s.room goes l))
+        (saves rows p image g acts (next known s a) w.operands w.memory w.input w.output (behind known s a o e) (low_room known s) (code known s a o e).0 a.landed))
+
+    pub drop_follows : slice_get s.orders.list place ≡ Some order.Drop → Follow known (at g place true acts w Running) q
+    drop_follows e = cases w.operands refl
+      where
+        goes : (operands : List Operand) → w.operands ≡ operands → step p (at g place true acts w Running) ≡ after p.room 0 (unrefused (on_one (λ x v. Changed v) operands w)) g place false acts w
+        goes operands is = step_is known s (Some order.Drop) e ∙ ap (λ xs. after p.room 0 (unrefused (on_one (λ x v. Changed v) xs w)) g place false acts w) is
+
+        stuck : step p (at g place true acts w Running) ≡ at g place false acts w Stuck → Follow known (at g place true acts w Running) q
+        stuck none = absurd (not_stuck p g place false acts w (never_on p (at g place true acts w Running) (at g place false acts w Stuck) none s.never))
+
+        cases : (operands : List Operand) → w.operands ≡ operands → Follow known (at g place true acts w Running) q
+        cases [] is = stuck (goes [] is)
+        cases (Held c ∷ rest) is = stuck (goes (Held c ∷ rest) is)
+        cases (Word z ∷ rest) is =
+            let v = with_operands w rest in
+            let on = went_on p g place true false 0 acts w v (goes (Word z ∷ rest) is) s.never in
+            let whole : w ≡ words (Word z ∷ rest) w.memory w.input w.output = ap (λ xs. words xs w.memory w.input w.output) is in
+            silent known s a order.Drop false v e on.goes on.room refl (λ at l. drops (setting known s) w.memory w.input w.output z rest at (subst (λ x. Landed p image at g true acts x q) whole l))
+
+    pub add_follows : (line : ℕ) → slice_get s.orders.list place ≡ Some (order.Add line) → Follow known (at g place true acts w Running) q
+    add_follows line e =
+        let o = order.Add line in
+        let c = here known s a + 1 + 2 + 2 + 3 in
+        does known s true line (perform p.limits.area Add w) 16 (begins_next known s a o e) (step_is known s (Some o) e) (cheap known s o 16 (lit≤ tt) e)
+        (adds rows p image g acts (next known s a) (by known s overflow_entry c) line w.operands w.memory w.input w.output all.library (few_segments known s) (line_fits known s o e) (behind known s a o e)
+        (calls known s overflow_entry c (lit< tt)) s.fits.operands (code known s a o e) a.landed)
+
+    pub subtract_follows : (line : ℕ) → slice_get s.orders.list place ≡ Some (order.Sub line) → Follow known (at g place true acts w Running) q
+    subtract_follows line e =
+        let o = order.Sub line in
+        let c = here known s a + 2 + 1 + 2 + 2 + 3 in
+        does known s true line (perform p.limits.area Subtract w) 17 (begins_next known s a o e) (step_is known s (Some o) e) (cheap known s o 17 (lit≤ tt) e)
+        (subtracts rows p image g acts (next known s a) (by known s overflow_entry c) line w.operands w.memory w.input w.output all.library (few_segments known s) (line_fits known s o e) (behind known s a o e)
+        (calls known s overflow_entry c (lit< tt)) s.fits.operands (code known s a o e) a.landed)
+
+    pub negate_follows : (line : ℕ) → slice_get s.orders.list place ≡ Some (order.Neg line) → Follow known (at g place true acts w Running) q
+    negate_follows line e =
+        let o = order.Neg line in
+        let c = here known s a + 2 + 2 + 3 in
+        does known s true line (perform p.limits.area Negate w) 15 (begins_next known s a o e) (step_is known s (Some o) e) (cheap known s o 15 (lit≤ tt) e)
+        (negates rows p image g acts (next known s a) (by known s overflow_entry c) line w.operands w.memory w.input w.output all.library (few_segments known s) (line_fits known s o e) (low_room known s)
+        (behind known s a o e) (calls known s overflow_entry c (lit< tt)) s.fits.operands (code known s a o e) a.landed)
+
+    pub load_follows : slice_get s.orders.list place ≡ Some order.Load → Follow known (at g place true acts w Running) q
+    load_follows e =
+        let o = order.Load in
+        does known s true 0 (unrefused (perform p.limits.area (Fetch None) w)) 3 (begins_next known s a o e) (step_is known s (Some o) e) (cheap known s o 3 (lit≤ tt) e)
+        (loads rows p image g acts (next known s a) 0 w.operands w.memory w.input w.output low (behind known s a o e) (code known s a o e) a.landed)
+
+    pub store_follows : slice_get s.orders.list place ≡ Some order.Store → Follow known (at g place true acts w Running) q
+    store_follows e =
+        let o = order.Store in
+        does known s false 0 (unrefused (perform p.limits.area (Store None) w)) 4 (begins_next known s a o e) (step_is known s (Some o) e) (cheap known s o 4 (lit≤ tt) e)
+        (stores rows p image g acts (next known s a) 0 w.operands w.memory w.input w.output low (behind known s a o e) (code known s a o e) a.landed)
+
+    -- ---- parts and logic
+
+    pub load_part_follows : (t b : ℕ) (is_signed : Bool) → slice_get s.orders.list place ≡ Some (order.LoadPart t b is_signed) → Follow known (at g place true acts w Running) q
+    load_part_follows t b true e =
+        let o = order.LoadPart t b true in
+        let h = has_code known s o e in
+        does known s true 0 (unrefused (perform p.limits.area (Fetch (Some (record { t = t; b = b; unsigned = false }))) w)) 7 (begins_next known s a o e) (step_is known s (Some o) e) (cheap known s o 7 (lit≤ tt) e)
+        (loads_signed (setting known s) w.memory w.input w.output s.fits.memory a.landed.kept.long (next known s a) t b w.operands (behind known s a o e) h.0 h.1 (low_room known s) s.fits.operands
+        (code known s a o e) a.landed)
+    load_part_follows t b false e =
+        let o = order.LoadPart t b false in
+        let h = has_code known s o e in
+        does known s true 0 (unrefused (perform p.limits.area (Fetch (Some (record { t = t; b = b; unsigned = true }))) w)) 7 (begins_next known s a o e) (step_is known s (Some o) e) (cheap known s o 7 (lit≤ tt) e)
+        (loads_unsigned (setting known s) w.memory w.input w.output s.fits.memory a.landed.kept.long (next known s a) t b w.operands (behind known s a o e) h.1 (low_room known s) s.fits.operands
+        (code known s a o e) a.landed)
+
+    pub store_part_follows : (t b : ℕ) → slice_get s.orders.list place ≡ Some (order.StorePart t b) → Follow known (at g place true acts w Running) q
+    store_part_follows t b e =
+        let o = order.StorePart t b in
+        let h = has_code known s o e in
+        does known s false 0 (unrefused (perform p.limits.area (StoreBits t b) w)) 12 (begins_next known s a o e) (step_is known s (Some o) e) (cheap known s o 12 (lit≤ tt) e)
+        (stores_part (setting known s) w.memory w.input w.output s.fits.memory a.landed.kept.long (next known s a) t b w.operands (behind known s a o e) h.1 (low_room known s) s.fits.operands
+        (code known s a o e) a.landed)
+
+    pub take_follows : (t b : ℕ) → slice_get s.orders.list place ≡ Some (order.Take t b) → Follow known (at g place true acts w Running) q
+    take_follows t b e =
+        let o = order.Take t b in
+        let h = has_code known s o e in
+        does known s true 0 (unrefused (perform p.limits.area (Extract t b) w)) 4 (begins_next known s a o e) (step_is known s (Some o) e) (cheap known s o 4 (lit≤ tt) e)
+        (takes (setting known s) w.memory w.input w.output (next known s a) t b w.operands (behind known s a o e) h.1 (low_room known s) s.fits.operands (code known s a o e) a.landed)
+
+    pub and_follows : slice_get s.orders.list place ≡ Some order.And → Follow known (at g place true acts w Running) q
+    and_follows e =
+        let o = order.And in
+        does known s true 0 (unrefused (perform p.limits.area (Combine logic.Mask) w)) 2 (begins_next known s a o e) (step_is known s (Some o) e) (cheap known s o 2 (lit≤ tt) e)
+        (combines (setting known s) w.memory w.input w.output (next known s a) (Both 0 3) bit_and (λ a b o. false) (λ x y. signed (bit_and (unsigned x) (unsigned y))) w.operands (behind known s a o e) refl
+        (λ a cx dx b sp bp si di o cells stack i t. refl) (λ v. tt) (ands (setting known s) w.memory w.input w.output) (low_room known s) s.fits.operands (code known s a o e) a.landed)
+
+    pub or_follows : slice_get s.orders.list place ≡ Some order.Or → Follow known (at g place true acts w Running) q
+    or_follows e =
+        let o = order.Or in
+        does known s true 0 (unrefused (perform p.limits.area (Combine logic.Union) w)) 2 (begins_next known s a o e) (step_is known s (Some o) e) (cheap known s o 2 (lit≤ tt) e)
+        (combines (setting known s) w.memory w.input w.output (next known s a) (Either 0 3) bit_or (λ a b o. false) (λ x y. signed (bit_or (unsigned x) (unsigned y))) w.operands (behind known s a o e) refl
+        (λ a cx dx b sp bp si di o cells stack i t. refl) (λ v. tt) (ors (setting known s) w.memory w.input w.output) (low_room known s) s.fits.operands (code known s a o e) a.landed)
+
+    pub xor_follows : slice_get s.orders.list place ≡ Some order.Xor → Follow known (at g place true acts w Running) q
+    xor_follows e =
+        let o = order.Xor in
+        does known s true 0 (unrefused (perform p.limits.area (Combine logic.Differ) w)) 2 (begins_next known s a o e) (step_is known s (Some o) e) (cheap known s o 2 (lit≤ tt) e)
+        (combines (setting known s) w.memory w.input w.output (next known s a) (One 0 3) bit_xor (λ a b o. false) (λ x y. signed (bit_xor (unsigned x) (unsigned y))) w.operands (behind known s a o e) refl
+        (λ a cx dx b sp bp si di o cells stack i t. refl) (λ v. tt) (xors (setting known s) w.memory w.input w.output) (low_room known s) s.fits.operands (code known s a o e) a.landed)
+
+    pub less_follows : slice_get s.orders.list place ≡ Some order.Less → Follow known (at g place true acts w Running) q
+    less_follows e =
+        let o = order.Less in
+        does known s true 0 (unrefused (difference w)) 3 (begins_next known s a o e) (step_is known s (Some o) e) (cheap known s o 3 (lit≤ tt) e)
+        (differs (setting known s) w.memory w.input w.output (next known s a) (λ x y. signed (word_difference (unsigned x) (unsigned y))) w.operands (behind known s a o e)
+        (lesses (setting known s) w.memory w.input w.output) (low_room known s) s.fits.operands (code known s a o e) a.landed)
+
+    -- ---- indexes and addresses
+
+    pub index_less_follows : (lower : ℤ) (line : ℕ) → slice_get s.orders.list place ≡ Some (order.IndexLess lower line) → Follow known (at g place true acts w Running) q
+    index_less_follows lower line e =
+        let o = order.IndexLess lower line in
+        let c = here known s a + 3 + 2 + 2 + 3 in
+        does known s true line (index (λ i. i -ℤ lower) w) 16 (begins_next known s a o e) (step_is known s (Some o) e) (cheap known s o 16 (lit≤ tt) e)
+        (indexes_less (setting known s) w.memory w.input w.output (next known s a) (by known s address_entry c) line lower w.operands (line_fits known s o e) (behind known s a o e)
+        (calls known s address_entry c (lit< tt)) (has_code known s o e) (low_room known s) s.fits.operands (code known s a o e) a.landed)
+
+    pub index_plus_follows : (n line : ℕ) → slice_get s.orders.list place ≡ Some (order.IndexPlus n line) → Follow known (at g place true acts w Running) q
+    index_plus_follows n line e =
+        let o = order.IndexPlus n line in
+        let c = here known s a + 3 + 2 + 2 + 3 in
+        does known s true line (index (λ i. i +ℤ pos n) w) 16 (begins_next known s a o e) (step_is known s (Some o) e) (cheap known s o 16 (lit≤ tt) e)
+        (indexes_plus (setting known s) w.memory w.input w.output (next known s a) (by known s address_entry c) line n w.operands (line_fits known s o e) (behind known s a o e)
+        (calls known s address_entry c (lit< tt)) (has_code known s o e) (low_room known s) s.fits.operands (code known s a o e) a.landed)
+
+    pub index_add_follows : (line : ℕ) → slice_get s.orders.list place ≡ Some (order.IndexAdd line) → Follow known (at g place true acts w Running) q
+    index_add_follows line e =
+        let o = order.IndexAdd line in
+        let c = here known s a + 1 + 2 + 2 + 3 in
+        does known s true line (index_sum w) 16 (begins_next known s a o e) (step_is known s (Some o) e) (cheap known s o 16 (lit≤ tt) e)
+        (sums (setting known s) w.memory w.input w.output AddressRange (next known s a) (by known s address_entry c) line w.operands tt (line_fits known s o e) (behind known s a o e)
+        (calls known s address_entry c (lit< tt)) (low_room known s) s.fits.operands (code known s a o e) a.landed)
+
+    pub in_area_follows : (line : ℕ) → slice_get s.orders.list place ≡ Some (order.InArea line) → Follow known (at g place true acts w Running) q
+    in_area_follows line e =
+        let o = order.InArea line in
+        let c = here known s a + 2 + 2 + 3 in
+        does known s true line (perform p.limits.area (Form Taken) w) 15 (begins_next known s a o e) (step_is known s (Some o) e) (cheap known s o 15 (lit≤ tt) e)
+        (in_areas (setting known s) w.memory w.input w.output (next known s a) (by known s address_entry c) line w.operands (line_fits known s o e) (behind known s a o e)
+        (calls known s address_entry c (lit< tt)) (low_room known s) s.fits.operands (code known s a o e) a.landed)
+
+    pub in_bounds_follows : (lower upper : ℤ) (line : ℕ) → slice_get s.orders.list place ≡ Some (order.InBounds lower upper line) → Follow known (at g place true acts w Running) q
+    in_bounds_follows lower upper line e =
+        let o = order.InBounds lower upper line in
+        let h = has_code known s o e in
+        let first = here known s a + 3 + 2 + 3 in
+        let second = first + 2 + 3 + 2 + 3 in
+        does known s true line (perform p.limits.area (InBounds lower upper) w) 17 (begins_next known s a o e) (step_is known s (Some o) e) (cheap known s o 17 (lit≤ tt) e)
+        (bounds_kept (setting known s) w.memory w.input w.output (next known s a) (by known s bounds_entry first) (by known s bounds_entry second) line lower upper w.operands (line_fits known s o e)
+        (behind known s a o e) (calls known s bounds_entry first (lit< tt)) (calls known s bounds_entry second (lit< tt)) h.0 h.1 (low_room known s) s.fits.operands (code known s a o e) a.landed)

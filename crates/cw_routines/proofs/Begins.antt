@@ -1,0 +1,452 @@
+-- The start of a body, the begin and the end of an activation, the next byte, and short pieces of the code of segments.
+use Rattle.std.proofs.Common.{◌≡◌, ℕ, zero, suc, ◌+◌, ◌-◌, ◌*◌, ◌/◌, ◌%◌, ◌<◌, ◌≤◌, Bool, true, false, not, List, [], ◌∷◌, length, drop, refl, sym, ap, ◌∙◌, subst, arith, lit<, lit≤}
+use Rattle.std.specs.Prelude.{nat_lt, nat_le, ◌==◌, if◌then◌else◌, bit_and, bit_or, slice_index, slice_set}
+use Rattle.std.specs.Int.Bits.{or_self}
+use Rattle.std.proofs.lemmas.Bool.{lt-ltb, le-ltb, ne_eqb, ltb-true, leb-true}
+use Rattle.std.proofs.lemmas.Bool.Decides.{nat_tests}
+use Rattle.cw_i86.specs.Sums.{difference_flags, logic_flags}
+use Rattle.std.proofs.lemmas.List.{set-get_or}
+use Rattle.cw_i86.specs.Effect.{holds as meets, exchanged}
+use Rattle.cw_i86.specs.State.{sign_extended, operand, with_operand, sized_register, with_sized_register}
+use Rattle.cw_i86.specs.declared.instr.Instr.TheVariants as i86
+use Rattle.cw_i86.specs.declared.flags.Flags.{Flags}
+use Rattle.cw_i86.specs.declared.instr.Place.TheVariants as places
+use Rattle.cw_run86.specs.Processor.{Processor, Told, processor_step}
+use Rattle.cw_run86.specs.Views.{View, Has, Goes, register, on, with_register, put_word, word_sum, word_difference}
+use Rattle.cw_run86.proofs.Tests.{Finds}
+use Rattle.cw_run86.proofs.Memory.{holds}
+use Rattle.cw_run86.proofs.Goes.{goes, sees}
+use Rattle.cw_unit.specs.Stop.{DepthReached, FramesFull}
+use Rattle.cw_routines.specs.Ways.{QuietAll, At, HasAll, HasWord, view, Leads, Within, Back}
+use Rattle.cw_routines.specs.Results.{Stands, Tells, RecordIs, Started, Entered, Begins, leave, divisor_test, next_word}
+use Rattle.cw_routines.proofs.Arrive.{jumps_if, passes_if}
+use Rattle.cw_routines.proofs.Sources.{Register, Slot, InCode}
+use Rattle.cw_routines.proofs.Acts as acts
+use Rattle.cw_routines.proofs.Chains.{Number, HighByte, Load, Sum, Difference, Either, Comparison, LessOne, SumShort, TestLow, Push, PushFrom, Pop, done, more, last, within, each_of, straight, both}
+use Rattle.cw_routines.proofs.Facts.{put_at, put_off, tested_zero, tested_not_zero, carry}
+use Rattle.cw_routines.proofs.Places.{to_place, start_stands, depth_stands, frames_stands, enter_stands, read_stands}
+use Rattle.cw_routines.proofs.Stops.{told_stops, run}
+
+-- the record tells the segment
+pub tells_of : {stack : ℕ → ℕ} {bp r segment calls base top : ℕ} → RecordIs stack bp r segment calls base top → Tells stack bp (r + 3) segment
+tells_of {bp = bp} {r = r} i =
+    let there = i.there in
+    let low = i.low in
+    record { there = (let e : (bp + 65534) % 65536 ≡ 2 * (r + 3) = omega arith in e); low = (let e : r + 3 < 32768 = omega arith in e); number = i.number; few = i.few }
+
+-- the slots of a record
+calls_there : {stack : ℕ → ℕ} {bp r segment calls base top : ℕ} → RecordIs stack bp r segment calls base top → (r + 2 < 32768) × ((bp + 65532) % 65536 ≡ 2 * (r + 2))
+calls_there i = let there = i.there in let low = i.low in (omega arith, omega arith)
+
+top_there : {stack : ℕ → ℕ} {bp r segment calls base top : ℕ} → RecordIs stack bp r segment calls base top → (r < 32768) × ((bp + 65528) % 65536 ≡ 2 * r)
+top_there i = let there = i.there in let low = i.low in (omega arith, omega arith)
+
+-- four words on the stack
+abbrev pub four : (ℕ → ℕ) → (n a b c d : ℕ) → ℕ → ℕ
+four stack n a b c d = put_word (put_word (put_word (put_word stack (n + 3) a) (n + 2) b) (n + 1) c) n d
+
+four_0 : (stack : ℕ → ℕ) (n a b c d : ℕ) → four stack n a b c d n ≡ d
+four_0 stack n a b c d = put_at (put_word (put_word (put_word stack (n + 3) a) (n + 2) b) (n + 1) c) n d
+
+four_1 : (stack : ℕ → ℕ) (n a b c d : ℕ) → four stack n a b c d (n + 1) ≡ c
+four_1 stack n a b c d =
+    put_off (put_word (put_word (put_word stack (n + 3) a) (n + 2) b) (n + 1) c) n d (n + 1) (λ e. omega arith) ∙ put_at (put_word (put_word stack (n + 3) a) (n + 2) b) (n + 1) c
+
+four_2 : (stack : ℕ → ℕ) (n a b c d : ℕ) → four stack n a b c d (n + 2) ≡ b
+four_2 stack n a b c d =
+    put_off (put_word (put_word (put_word stack (n + 3) a) (n + 2) b) (n + 1) c) n d (n + 2) (λ e. omega arith)
+    ∙ put_off (put_word (put_word stack (n + 3) a) (n + 2) b) (n + 1) c (n + 2) (λ e. omega arith) ∙ put_at (put_word stack (n + 3) a) (n + 2) b
+
+four_3 : (stack : ℕ → ℕ) (n a b c d : ℕ) → four stack n a b c d (n + 3) ≡ a
+four_3 stack n a b c d =
+    put_off (put_word (put_word (put_word stack (n + 3) a) (n + 2) b) (n + 1) c) n d (n + 3) (λ e. omega arith)
+    ∙ put_off (put_word (put_word stack (n + 3) a) (n + 2) b) (n + 1) c (n + 3) (λ e. omega arith)
+    ∙ put_off (put_word stack (n + 3) a) (n + 2) b (n + 3) (λ e. omega arith) ∙ put_at stack (n + 3) a
+
+four_above : (stack : ℕ → ℕ) (n a b c d k : ℕ) → n + 3 < k → four stack n a b c d k ≡ stack k
+four_above stack n a b c d k lt =
+    put_off (put_word (put_word (put_word stack (n + 3) a) (n + 2) b) (n + 1) c) n d k (λ e. omega arith)
+    ∙ put_off (put_word (put_word stack (n + 3) a) (n + 2) b) (n + 1) c k (λ e. omega arith)
+    ∙ put_off (put_word stack (n + 3) a) (n + 2) b k (λ e. omega arith) ∙ put_off stack (n + 3) a k (λ e. omega arith)
+
+-- a new record on top
+new_record : (stack : ℕ → ℕ) (n segment calls base top : ℕ) → n < 32765 → segment < 256
+    → RecordIs (four stack n segment calls base top) (2 * (n + 4) % 65536) n segment calls base top
+new_record stack n segment calls base top low few = record {
+  there = refl;
+  low = low;
+  number = four_3 stack n segment calls base top;
+  few = few;
+  left = four_2 stack n segment calls base top;
+  base_is = four_1 stack n segment calls base top;
+  top_is = four_0 stack n segment calls base top;
+}
+
+none_left : (n : ℕ) → nat_lt 0 n ≡ false → n ≡ 0
+none_left zero e = refl
+none_left (suc n) e = absurd (grind (arith, nat_tests))
+
+not_within : (a b : ℕ) → nat_le a b ≡ false → b < a
+not_within a b e = grind (arith, nat_tests)
+
+-- of AL and itself
+one_low : (ax : ℕ) → (ax / 256 * 256 + 1) % 256 ≡ 1
+one_low ax = omega arith
+
+none_low : (ax : ℕ) → (ax / 256 * 256 + 0) % 256 ≡ 0
+none_low ax = omega arith
+
+byte_low : (ax b : ℕ) → b < 256 → 0 * 256 + (ax / 256 * 256 + b) % 256 ≡ b
+byte_low ax b lt = omega arith
+
+tested_some : (w : ℕ) (f : Flags) → w % 256 ≡ 1 → meets (logic_flags 128 (bit_and (w % 256) (w % 256)) f) 5 ≡ true
+unfolding meets
+tested_some w f e = ap (λ n. not (bit_and n n == 0)) e
+
+tested_none : (w : ℕ) (f : Flags) → w % 256 ≡ 0 → meets (logic_flags 128 (bit_and (w % 256) (w % 256)) f) 5 ≡ false
+unfolding meets
+tested_none w f e = ap (λ n. not (bit_and n n == 0)) e
+
+module _ (finds : Finds) (Quiet : ℕ → Type 0) (code : List ℕ) (stands : Stands code) (library : (k : ℕ) → k < 334 → Quiet k) where
+  quiet : {at : ℕ} (to : ℕ) → to ≤ 334 → (k : ℕ) → at ≤ k → k < to → Quiet k
+  quiet {at} to le = run finds Quiet code stands library {at = at} to le
+
+  -- ---- the start of a body
+
+  word_within : (at by : ℕ) → at + by + 2 ≤ length code → length code ≤ 65536 → (at + by) % 65536 ≡ at + by
+  word_within at by le fits = omega arith
+
+  pub starts : (at n area frames calls segment : ℕ) {ax cx dx bx bp si di : ℕ} {f : Flags} {cells stack : ℕ → ℕ} {input : List ℕ} {told : Told} {p : Processor} → n < 32768
+      → stack n ≡ at → frames ≤ area → area ≤ 32768 → segment < 256
+      → HasWord code at area → HasWord code (at + 2) frames → HasWord code (at + 4) calls → HasWord code (at + 6) segment
+      → At code 5 (view ax cx dx bx (2 * n) bp si di cells stack input told) f p → Leads Quiet code told.output 12 p (Started code at area frames calls segment cells input told)
+  starts at n area frames calls segment {ax} {cx} {dx} {bx} {bp} {si} {di} {f} {cells} {stack} {input} {told} {p} lt is le low few d w2 w4 w6 s =
+      let h = start_stands code stands in
+      let fits = s.sees.fits in
+      let in0 = d.within in
+      let in2 = w2.within in
+      let in4 = w4.within in
+      let in6 = w6.within in
+      let top : 2 * n ≡ 2 * n % 65536 = omega arith in
+      let e2 = word_within at 2 in2 fits in
+      let e4 = word_within at 4 in4 fits in
+      let e6 = word_within at 6 in6 fits in
+      let half : word_difference area frames ≡ area - frames = omega arith in
+      let d0 = word_difference area frames in
+      straight Quiet code told.output finds
+      (Pop 6 n at (2 * suc n % 65536) ∷ Number 5 0 ∷ Load 4 (Register 5) ∷ Load 7 (InCode (places.Plain 4) at area)
+      ∷ PushFrom (InCode (places.Near 4 6) (at + 6) segment) 32767 ∷ PushFrom (InCode (places.Near 4 4) (at + 4) calls) 32766
+      ∷ Load 0 (Register 7) ∷ Difference 0 (InCode (places.Near 4 2) (at + 2) frames) ∷ Push 0 32765 ∷ Push 0 32764 ∷ SumShort 6 8 ∷ []) {n = 1} (quiet 33 (lit≤ tt)) refl (
+        h.0,
+        (
+          h.1.0,
+          (
+            h.1.1.0,
+            (
+              h.1.1.1.0,
+              (
+                h.1.1.1.1.0,
+                (h.1.1.1.1.1.0, (h.1.1.1.1.1.1.0, (h.1.1.1.1.1.1.1.0, (h.1.1.1.1.1.1.1.1.0, (h.1.1.1.1.1.1.1.1.1.0, (h.1.1.1.1.1.1.1.1.1.1.0, tt)))))),
+              ),
+            ),
+          ),
+        ),
+      ) (
+        (lit< tt, lit≤ tt),
+        (lt, top, is, refl),
+        (
+          (lit< tt, lit≤ tt),
+          tt,
+          (
+            (lit< tt, lit≤ tt),
+            tt,
+            (
+              (lit< tt, lit≤ tt),
+              (refl, d),
+              (
+                (lit< tt, lit≤ tt),
+                ((e6, w6), lit< tt, refl),
+                (
+                  (lit< tt, lit≤ tt),
+                  ((e4, w4), lit< tt, refl),
+                  (
+                    (lit< tt, lit≤ tt),
+                    tt,
+                    (
+                      (lit< tt, lit≤ tt),
+                      (e2, w2),
+                      ((lit< tt, lit≤ tt), (lit< tt, refl), ((lit< tt, lit≤ tt), (lit< tt, refl), ((lit< tt, lit≤ tt), tt, tt))),
+                    ),
+                  ),
+                ),
+              ),
+            ),
+          ),
+        ),
+      ) s (λ q u.
+      last Quiet code told.output finds u (library 33 (lit< tt)) refl (record {
+        ax = d0;
+        cx = cx;
+        dx = dx;
+        bx = bx;
+        si = (at + 8) % 65536;
+        flags = _;
+        stack = four stack 32764 segment calls d0 d0;
+        is = acts.jump_to finds u 6 (at + 8) h.1.1.1.1.1.1.1.1.1.1.1.0 refl;
+        record_is = subst (λ x. RecordIs (four stack 32764 segment calls d0 d0) 0 32764 segment calls x x) half (new_record stack 32764 segment calls d0 d0 (lit< tt) few);
+      }))
+
+  -- ---- the begin of an activation
+
+  pub enters : (m back line r segment calls base top number size : ℕ) {bx bp si area : ℕ} {f : Flags} {cells stack : ℕ → ℕ} {input : List ℕ} {told : Told} {p : Processor}
+      → m + 4 < 32767 → stack (m + 4) ≡ back → back < 65536 → line < 65536
+      → calls < 65536 → number < 256 → size < 65536 → top ≤ area → area ≤ 32768 → RecordIs stack bp r segment calls base top
+      → At code 91 (view size number line bx (2 * (m + 4)) bp si area cells stack input told) f p
+      → Within Quiet code told.output 19 p (Begins code told.output (nat_lt 0 calls) (nat_le size (area - top)) line segment
+      (Entered code back m bp number (calls - 1) top (top + size) area cells stack input told))
+  enters m back line r segment calls base top number size {bx} {bp} {si} {area} {f} {cells} {stack} {input} {told} {p} low there back_small small few byte size_small top_low area_low i s = cases (nat_lt 0 calls) refl
+    where
+      -- the calls that are left are tested
+      first : Leads Quiet code told.output 3 p
+          (λ q. At code 97 (view size number line (bit_or calls calls) (2 * suc (m + 4)) bp back area cells stack input told) (logic_flags 32768 (bit_or calls calls) f) q)
+      first =
+          let h = enter_stands code stands in
+          let c = calls_there i in
+          let lt : m + 4 < 32768 = omega arith in
+          let top : 2 * (m + 4) ≡ 2 * (m + 4) % 65536 = omega arith in
+          let up : 2 * suc (m + 4) % 65536 ≡ 2 * suc (m + 4) = omega arith in
+          straight Quiet code told.output finds (Pop 6 (m + 4) back (2 * suc (m + 4)) ∷ Load 3 (Slot (places.Near 6 0xFC) (r + 2) calls) ∷ Either 3 (Register 3) ∷ []) {n = 0}
+          (quiet 97 (lit≤ tt)) refl (h.0, (h.1.0, (h.1.1.0, tt)))
+          ((lit< tt, lit≤ tt), (lt, top, there, up), ((lit< tt, lit≤ tt), (refl, c.0, c.1, i.left), ((lit< tt, lit≤ tt), tt, tt))) s (λ q u. done Quiet code told.output u)
+
+      -- where one is, the words of the frame are compared with those that are left
+      compared : 0 < calls
+          → Leads Quiet code told.output 7 p (λ q. At code 106 (view size number line (word_difference area top) (2 * suc (m + 4)) bp back area cells stack input told)
+          (difference_flags 32768 (word_difference area top) size false) q)
+      compared some =
+          let h = enter_stands code stands in
+          let b = top_there i in
+          let not_none : (calls == 0) ≡ false = ne_eqb calls 0 (λ e. omega arith) in
+          both Quiet code told.output 3 4 first (λ q u.
+          more Quiet code told.output finds u (library 97 (lit< tt)) refl (passes_if finds 4 0xF0 h.1.1.1.0 (tested_zero calls f ∙ not_none) u) (λ q u.
+          straight Quiet code told.output finds (Load 3 (Register 7) ∷ Difference 3 (Slot (places.Near 6 0xF8) r top) ∷ Comparison 3 (Register 0) ∷ []) {n = 0}
+          (quiet 106 (lit≤ tt)) refl (h.1.1.1.1.0, (h.1.1.1.1.1.0, (h.1.1.1.1.1.1.0, tt)))
+          ((lit< tt, lit≤ tt), tt, ((lit< tt, lit≤ tt), (refl, b.0, b.1, i.top_is), ((lit< tt, lit≤ tt), tt, tt))) u (λ q u. done Quiet code told.output u)))
+
+      half : word_difference area top ≡ area - top
+      half = omega arith
+
+      by_frame : (b : Bool) → nat_le size (area - top) ≡ b → 0 < calls
+          → Within Quiet code told.output 19 p (Begins code told.output true b line segment
+          (Entered code back m bp number (calls - 1) top (top + size) area cells stack input told))
+      by_frame false is some =
+          let h = enter_stands code stands in
+          let gt : word_difference area top < size = subst (λ n. n < size) (sym half) (not_within size (area - top) is) in
+          within Quiet code told.output 18 19 (lit≤ tt)
+          (both Quiet code told.output 7 11 (compared some) (λ q u.
+          more Quiet code told.output finds u (library 106 (lit< tt)) refl
+          (to_place {to = 87} refl (jumps_if finds 2 0xEB h.1.1.1.1.1.1.1.0 (carry (word_difference area top) size ∙ lt-ltb (word_difference area top) size gt) u)) (λ q u.
+          told_stops finds Quiet code stands library FramesFull 87 0xDC (r + 3) segment (frames_stands code stands) (lit≤ tt) refl (tells_of i) small u)))
+      by_frame true is some =
+          let h = enter_stands code stands in
+          let g = h.1.1.1.1.1.1.1.1 in
+          let le : size ≤ area - top = leb-true size (area - top) is in
+          let under : size ≤ word_difference area top = subst (λ n. size ≤ n) (sym half) le in
+          let c = calls_there i in
+          let b = top_there i in
+          let one : word_difference calls 1 ≡ calls - 1 = omega arith in
+          let sum : word_sum size top ≡ top + size = omega arith in
+          let n4 : m + 4 < 32768 = omega arith in
+          let n3 : m + 3 < 32768 = omega arith in
+          let n2 : m + 2 < 32768 = omega arith in
+          let n1 : m + 1 < 32768 = omega arith in
+          let n0 : m < 32768 = omega arith in
+          let t4 : 2 * suc (m + 4) ≡ 2 * suc (m + 4) % 65536 = omega arith in
+          let t3 : 2 * (m + 4) ≡ 2 * suc (m + 3) % 65536 = omega arith in
+          let t2 : 2 * (m + 3) ≡ 2 * suc (m + 2) % 65536 = omega arith in
+          let t1 : 2 * (m + 2) ≡ 2 * suc (m + 1) % 65536 = omega arith in
+          let t0 : 2 * (m + 1) ≡ 2 * suc m % 65536 = omega arith in
+          let low' : m < 32765 = omega arith in
+          let bp_is : 2 * (m + 4) % 65536 ≡ 2 * (m + 4) = omega arith in
+          let whole : back ≡ back % 65536 = omega arith in
+          let st = four (put_word stack (m + 4) bp) m number (word_difference calls 1) top (word_sum size top) in
+          let e0 = new_record (put_word stack (m + 4) bp) m number (word_difference calls 1) top (word_sum size top) low' byte in
+          let e1 : RecordIs st (2 * (m + 4)) m number (word_difference calls 1) top
+          (word_sum size top) = subst (λ x. RecordIs st x m number (word_difference calls 1) top (word_sum size top)) bp_is e0 in
+          let e2 : RecordIs st (2 * (m + 4)) m number (calls - 1) top (word_sum size top) = subst (λ x. RecordIs st (2 * (m + 4)) m number x top (word_sum size top)) one e1 in
+          let e3 : RecordIs st (2 * (m + 4)) m number (calls - 1) top (top + size) = subst (λ x. RecordIs st (2 * (m + 4)) m number (calls - 1) top x) sum e2 in
+          within Quiet code told.output 19 19 (lit≤ tt)
+          (both Quiet code told.output 7 12 (compared some) (λ q u.
+          more Quiet code told.output finds u (library 106 (lit< tt)) refl
+          (passes_if finds 2 0xEB h.1.1.1.1.1.1.1.0 (carry (word_difference area top) size ∙ le-ltb (word_difference area top) size under) u) (λ q u.
+          straight Quiet code told.output finds
+          (Load 3 (Slot (places.Near 6 0xF8) r top) ∷ Sum 0 (Register 3) ∷ Load 2 (Slot (places.Near 6 0xFC) (r + 2) calls) ∷ LessOne 2
+          ∷ Push 5 (m + 4) ∷ Load 5 (Register 4) ∷ Push 1 (m + 3) ∷ Push 2 (m + 2) ∷ Push 3 (m + 1) ∷ Push 0 m ∷ []) {n = 1} (quiet 124 (lit≤ tt)) refl
+          (g.0, (g.1.0, (g.1.1.0, (g.1.1.1.0, (g.1.1.1.1.0, (g.1.1.1.1.1.0, (g.1.1.1.1.1.1.0, (g.1.1.1.1.1.1.1.0, (g.1.1.1.1.1.1.1.1.0, (g.1.1.1.1.1.1.1.1.1.0, tt)))))))))) (
+            (lit< tt, lit≤ tt),
+            (refl, b.0, b.1, i.top_is),
+            (
+              (lit< tt, lit≤ tt),
+              tt,
+              (
+                (lit< tt, lit≤ tt),
+                (refl, c.0, c.1, i.left),
+                (
+                  (lit< tt, lit≤ tt),
+                  tt,
+                  (
+                    (lit< tt, lit≤ tt),
+                    (n4, t4),
+                    (
+                      (lit< tt, lit≤ tt),
+                      tt,
+                      ((lit< tt, lit≤ tt), (n3, t3), ((lit< tt, lit≤ tt), (n2, t2), ((lit< tt, lit≤ tt), (n1, t1), ((lit< tt, lit≤ tt), (n0, t0), tt)))),
+                    ),
+                  ),
+                ),
+              ),
+            ),
+          ) u (λ q u.
+          last Quiet code told.output finds u (library 124 (lit< tt)) refl (record {
+            ax = word_sum size top;
+            cx = number;
+            dx = word_difference calls 1;
+            bx = top;
+            si = back;
+            flags = _;
+            stack = st;
+            is = acts.jump_to finds u 6 back g.1.1.1.1.1.1.1.1.1.1.0 whole;
+            record_is = e3;
+            caller = four_above (put_word stack (m + 4) bp) m number (word_difference calls 1) top (word_sum size top) (m + 4) (omega arith) ∙ put_at stack (m + 4) bp;
+            above = λ k lt. four_above (put_word stack (m + 4) bp) m number (word_difference calls 1) top (word_sum size top) k (omega arith)
+                ∙ put_off stack (m + 4) bp k (λ e. omega arith);
+          })))))
+
+      cases : (b : Bool) → nat_lt 0 calls ≡ b
+          → Within Quiet code told.output 19 p (Begins code told.output b (nat_le size (area - top)) line segment
+          (Entered code back m bp number (calls - 1) top (top + size) area cells stack input told))
+      cases true is = by_frame (nat_le size (area - top)) refl (ltb-true 0 calls is)
+      cases false is =
+          let h = enter_stands code stands in
+          let none : (calls == 0) ≡ true = ap (λ n. n == 0) (none_left calls is) in
+          within Quiet code told.output 14 19 (lit≤ tt)
+          (both Quiet code told.output 3 11 first (λ q u.
+          more Quiet code told.output finds u (library 97 (lit< tt)) refl (to_place {to = 83} refl (jumps_if finds 4 0xF0 h.1.1.1.0 (tested_zero calls f ∙ none) u)) (λ q u.
+          told_stops finds Quiet code stands library DepthReached 83 0xE0 (r + 3) segment (depth_stands code stands) (lit≤ tt) refl (tells_of i) small u)))
+
+  -- ---- input
+
+  pub reads_byte : (n back : ℕ) (rest_input : List ℕ) {ax cx dx bx bp si area : ℕ} {f : Flags} {cells stack : ℕ → ℕ} {told : Told} {p : Processor} → slice_index rest_input 0 < 256
+      → n < 32767 → stack n ≡ back → back < 65536
+      → At code 126 (view ax cx dx bx (2 * n) bp si area cells stack rest_input told) f p
+      → Within Quiet code told.output 6 p (Back code back (2 * suc n) bp area cells stack (drop 1 rest_input) told (λ ax f. ax ≡ next_word rest_input))
+  reads_byte n back [] {ax} {cx} {dx} {bx} {bp} {si} {area} {f} {cells} {stack} {told} {p} byte low there small s =
+      let h = read_stands code stands in
+      let whole : back ≡ back % 65536 = omega arith in
+      let top : 2 * n ≡ 2 * n % 65536 = omega arith in
+      let up : 2 * suc n % 65536 ≡ 2 * suc n = omega arith in
+      let lt : n < 32768 = omega arith in
+      within Quiet code told.output 5 6 (lit≤ tt)
+      (more Quiet code told.output finds s (library 126 (lit< tt)) refl (acts.take finds s 0x11 h.0) (λ q u.
+      straight Quiet code told.output finds (TestLow ∷ []) {n = 3} (quiet 130 (lit≤ tt)) refl (h.1.0, tt) ((lit< tt, lit≤ tt), tt, tt) u (λ q u.
+      more Quiet code told.output finds u (library 130 (lit< tt)) refl (jumps_if finds 5 5 h.1.1.0 (tested_some (ax / 256 * 256 + 1) f (one_low ax)) u) (λ q u.
+      straight Quiet code told.output finds (Number 0 65535 ∷ []) {n = 1} (quiet 140 (lit≤ tt)) refl (h.1.1.1.1.1.1.0, tt) ((lit< tt, lit≤ tt), tt, tt) u (λ q u.
+      last Quiet code told.output finds u (library 140 (lit< tt)) refl
+      (record { ax = 65535; cx = cx; dx = dx; bx = bx; si = si; flags = _; is = acts.return finds u n (2 * suc n) back h.1.1.1.1.1.1.1.0 lt top up (there ∙ whole); answers = refl }))))))
+  reads_byte n back (b ∷ rest) {ax} {cx} {dx} {bx} {bp} {si} {area} {f} {cells} {stack} {told} {p} byte low there small s =
+      let h = read_stands code stands in
+      let whole : back ≡ back % 65536 = omega arith in
+      let top : 2 * n ≡ 2 * n % 65536 = omega arith in
+      let up : 2 * suc n % 65536 ≡ 2 * suc n = omega arith in
+      let lt : n < 32768 = omega arith in
+      let some : (length (b ∷ rest) == 0) ≡ false = ne_eqb (length (b ∷ rest)) 0 (λ e. omega arith) in
+      within Quiet code told.output 6 6 (lit≤ tt)
+      (more Quiet code told.output finds s (library 126 (lit< tt)) refl
+      (subst (λ t. At code 128 (view (ax / 256 * 256 + (if t then 1 else 0)) cx dx bx (2 * n) bp si area cells stack (b ∷ rest) told) f (processor_step p)) some
+      (acts.take finds s 0x11 h.0)) (λ q u.
+      straight Quiet code told.output finds (TestLow ∷ []) {n = 4} (quiet 130 (lit≤ tt)) refl (h.1.0, tt) ((lit< tt, lit≤ tt), tt, tt) u (λ q u.
+      more Quiet code told.output finds u (library 130 (lit< tt)) refl (passes_if finds 5 5 h.1.1.0 (tested_none (ax / 256 * 256 + 0) f (none_low ax)) u) (λ q u.
+      more Quiet code told.output finds u (library 132 (lit< tt)) refl (acts.take finds u 0x10 h.1.1.1.0) (λ q u.
+      straight Quiet code told.output finds (HighByte 0 ∷ []) {n = 1} (quiet 136 (lit≤ tt)) refl (h.1.1.1.1.0, tt) ((lit< tt, lit≤ tt), tt, tt) u (λ q u.
+      last Quiet code told.output finds u (library 136 (lit< tt)) refl
+      (record { ax = _; cx = cx; dx = dx; bx = bx; si = si; flags = _; is = acts.return finds u n (2 * suc n) back h.1.1.1.1.1.0 lt top up (there ∙ whole); answers = byte_low (ax / 256 * 256 + 0) b byte })))))))
+
+-- ---- in the code of segments
+
+module _ (finds : Finds) (Quiet : ℕ → Type 0) (code : List ℕ) where
+  -- ---- the end of an activation
+
+  -- at a place of a segment's code
+  pub leaves_it : (at b words caller back : ℕ) {ax cx dx bx sp si di : ℕ} {f : Flags} {cells stack : ℕ → ℕ} {input : List ℕ} {told : Told} {p : Processor} → b + 1 < 32768
+      → stack b ≡ caller → stack (b + 1) ≡ back → back < 65536 → HasAll code at (leave words)
+      → QuietAll Quiet at (leave words) → At code at (view ax cx dx bx sp (2 * b) si di cells stack input told) f p
+      → Leads Quiet code told.output 3 p (At code back (view ax cx dx bx (2 * (b + 2 + words) % 65536) caller si di cells stack input told) f)
+  leaves_it at b words caller back {ax} {cx} {dx} {bx} {sp} {si} {di} {f} {cells} {stack} {input} {told} {p} low c r small h silent s =
+      let lt : b < 32768 = omega arith in
+      let top : 2 * b ≡ 2 * b % 65536 = omega arith in
+      let up : 2 * suc b % 65536 ≡ 2 * suc b = omega arith in
+      let next : suc b ≡ b + 1 = omega arith in
+      let lt' : suc b < 32768 = omega arith in
+      let top' : 2 * suc b ≡ 2 * suc b % 65536 = omega arith in
+      let after : (2 * suc (suc b) + 2 * words) % 65536 ≡ 2 * (b + 2 + words) % 65536 = omega arith in
+      let whole : back ≡ back % 65536 = omega arith in
+      let fits = s.sees.fits in
+      let within = h.1.1.0.within in
+      let here : (at + 2 + 1) % 65536 ≡ at + 2 + 1 = omega arith in
+      each_of Quiet code told.output finds (Load 4 (Register 5) ∷ Pop 5 b caller (2 * suc b) ∷ []) {n = 1} (silent.0, (silent.1.0, tt)) refl (h.0, (h.1.0, tt))
+      ((lit< tt, lit≤ tt), tt, ((lit< tt, lit≤ tt), (lt, top, c, up), tt)) s (λ q u.
+      last Quiet code told.output finds u (subst Quiet (sym here) silent.1.1.0) refl
+      (acts.return_past finds u (suc b) (2 * words) (2 * (b + 2 + words) % 65536) back h.1.1.0 lt' top' after (ap stack next ∙ r ∙ whole)))
+
+  -- ---- the test of a divisor
+
+  remade : (f : ℕ → Flags) {at to ax cx dx x y sp bp si di : ℕ} {cells stack : ℕ → ℕ} {input : List ℕ} {told : Told} {p : Processor} → at ≡ to → x ≡ y
+      → At code at (view ax cx dx x sp bp si di cells stack input told) (f x) p
+      → At code to (view ax cx dx y sp bp si di cells stack input told) (f y) p
+  remade f {at} {to} {ax} {cx} {dx} {x} {y} {sp} {bp} {si} {di} {cells} {stack} {input} {told} {p} e g s =
+      subst (λ n. At code n (view ax cx dx y sp bp si di cells stack input told) (f y) p) e
+      (subst (λ n. At code at (view ax cx dx n sp bp si di cells stack input told) (f n) p) g s)
+
+  short_way : (by : ℕ) → by < 128 → sign_extended by ≡ by
+  short_way by lt = ap (λ b. if b then by else by + 65280) (lt-ltb by 128 lt)
+
+  pub tests : (at by : ℕ) {ax cx dx bx sp bp si di : ℕ} {f : Flags} {cells stack : ℕ → ℕ} {input : List ℕ} {told : Told} {p : Processor}
+      → QuietAll Quiet at (divisor_test by) → HasAll code at (divisor_test by) → by < 128
+      → At code at (view ax cx dx bx sp bp si di cells stack input told) f p
+      → Leads Quiet code told.output 2 p (At code (if bx == 0 then at + 4 else at + 4 + by) (view ax cx dx bx sp bp si di cells stack input told) (logic_flags 32768 bx f))
+  tests at by {ax} {cx} {dx} {bx} {sp} {bp} {si} {di} {f} {cells} {stack} {input} {told} {p} silent h small s = cases (bx == 0) refl
+    where
+      here : (at + 2) % 65536 ≡ at + 2
+      here = let fits = s.sees.fits in let within = h.1.0.within in omega arith
+
+      first : Leads Quiet code told.output 1 p (At code (at + 2) (view ax cx dx (bit_or bx bx) sp bp si di cells stack input told) (logic_flags 32768 (bit_or bx bx) f))
+      first = each_of Quiet code told.output finds (Either 3 (Register 3) ∷ []) {n = 0} (silent.0, tt) refl (h.0, tt)
+          ((lit< tt, lit≤ tt), tt, tt) s (λ q u. done Quiet code told.output u)
+
+      cases : (b : Bool) → (bx == 0) ≡ b
+          → Leads Quiet code told.output 2 p (At code (if b then at + 4 else at + 4 + by) (view ax cx dx bx sp bp si di cells stack input told) (logic_flags 32768 bx f))
+      cases true is =
+          let there : at + 2 + 2 ≡ at + 4 = omega arith in
+          both Quiet code told.output 1 1 first (λ q u.
+          last Quiet code told.output finds u (subst Quiet (sym here) silent.1.0) refl
+          (remade (λ n. logic_flags 32768 n f) there (or_self bx) (passes_if finds 5 by h.1.0 (tested_not_zero bx f ∙ ap not is) u)))
+      cases false is =
+          let there : at + 2 + 2 + sign_extended by ≡ at + 4 + by = ap (λ b. at + 2 + 2 + b) (short_way by small) ∙ (let e : at + 2 + 2 + by ≡ at + 4 + by = omega arith in e) in
+          both Quiet code told.output 1 1 first (λ q u.
+          last Quiet code told.output finds u (subst Quiet (sym here) silent.1.0) refl
+          (remade (λ n. logic_flags 32768 n f) there (or_self bx) (jumps_if finds 5 by h.1.0 (tested_not_zero bx f ∙ ap not is) u)))
+
+-- ---- AX and a register are exchanged
+
+pub exchanges : Finds → (code : List ℕ) (v : View) (r : ℕ) → Has code v.place (i86.XchgAx r) → Goes code v (with_register 0 (register v r) (with_register r (register v 0) (on (i86.XchgAx r) v)))
+unfolding exchanged operand with_operand sized_register with_sized_register
+exchanges finds code v r has =
+    goes finds code v _ _ has (omega arith)
+    (λ p s. sees code v _ p _ s (holds code v p s) refl (ap (λ rs. slice_set (slice_set rs r (slice_index rs 0)) 0 (slice_index rs r)) s.registers) (ap (λ n. (n + 1) % 65536) s.place) s.overflow refl refl)
+
+-- an instruction that does nothing
+same_again : (rs : List ℕ) → slice_set (slice_set rs 0 (slice_index rs 0)) 0 (slice_index rs 0) ≡ rs
+same_again rs = ap (λ l. slice_set l 0 (slice_index rs 0)) (set-get_or rs 0 0) ∙ set-get_or rs 0 0
+
+pub does_nothing : Finds → (code : List ℕ) (v : View) → Has code v.place (i86.XchgAx 0) → Goes code v (on (i86.XchgAx 0) v)
+does_nothing finds code v has = subst (λ rs. Goes code v (on (i86.XchgAx 0) (record v { registers = rs }))) (same_again v.registers) (exchanges finds code v 0 has)

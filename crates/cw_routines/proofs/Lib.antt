@@ -1,0 +1,14 @@
+pub mod Arrive
+pub mod Sources
+pub mod Acts
+pub mod Chains
+pub mod Facts
+pub mod Places
+pub mod Stops
+pub mod Loops
+pub mod Begins
+pub mod Numbers
+pub mod Quotients
+pub mod Valid
+pub mod Retired
+pub mod ByNumbers

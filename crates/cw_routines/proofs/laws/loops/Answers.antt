@@ -1,0 +1,30 @@
+use Rattle.std.proofs.Common.{◌+◌, ◌<◌, ℕ, arith}
+use Rattle.cw_routines.specs.Results.{Quiet}
+use Rattle.cw_routines.proofs.Facts.{WordLaws}
+use Rattle.cw_routines.proofs.Loops.{sets, adds, puts, exhausts}
+use Rattle.cw_routines.proofs.laws.loops.Goals as goal
+
+first_inside : (a area : ℕ) → a + 1 < area → a < area
+first_inside a area lt = omega arith
+
+pub returns : goal.returns
+returns c =
+    let finds = c.fetching.ensures.finds in
+    let words : WordLaws = record {
+      signed_is = c.readings.ensures.signed_is;
+      unsigned_fits = c.readings.ensures.unsigned_fits;
+      back = c.readings.ensures.back;
+      forth = c.readings.ensures.forth;
+      sum = c.sums.ensures.sum;
+    } in
+    record {
+      set_variable = λ quiet code stands library area a line bp n r segment back cx bx si x flags cells stack input told w p fx small h line_small n_low way value back_small record_is s.
+          sets finds words (Quiet quiet) code stands library area a line bp n r segment back stack input told small line_small way back_small x fx n_low value record_is w h s;
+      add_step = λ quiet code stands library area a line bp n r segment back cx bx si flags cells stack input told w p small h line_small n_low way back_small record_is s.
+          adds finds words (Quiet quiet) code stands library area a line bp n r segment back stack input told
+          (first_inside a area small) line_small way back_small n_low record_is small w h s;
+      put_variable = λ quiet code stands library area a line bp n r segment back cx bx si flags cells stack input told memory p small h line_small n_low way back_small record_is s.
+          puts finds words (Quiet quiet) code stands library area a line bp n r segment back stack input told small line_small way back_small n_low record_is memory h s;
+      exhausted = λ quiet code stands library area a bp n back cx dx bx si x flags cells stack input told memory p fx small h n_low way value back_small s.
+          exhausts finds words (Quiet quiet) code stands library area a bp n back cells stack input told memory x fx small h n_low way value back_small s;
+    }
