@@ -1,5 +1,5 @@
 -- The orders of expressions, conditions, references and arguments.
-use Rattle.std.specs.Prelude.{ℕ, zero, suc, ◌+◌, ◌%◌, max, ◌==◌, nat_lt, if◌then◌else◌, ℤ, pos, negsuc, ◌-ℤ◌, List, [], ◌∷◌, ◌++◌, Bool, true, false, not, Option, Some, None, slice_get, slice_index_or}
+use Rattle.std.specs.Prelude.{ℕ, zero, suc, ◌+◌, ◌-◌, ◌%◌, max, ◌==◌, nat_lt, if◌then◌else◌, ℤ, pos, negsuc, ◌-ℤ◌, List, [], ◌∷◌, ◌++◌, Bool, true, false, not, Option, Some, None, slice_get, slice_index_or}
 use Rattle.cw_word.specs.Decimal.{decimal_floor}
 use Rattle.cw_word.specs.Word.{unsigned}
 use Rattle.cw_order.specs.declared.order.Order.{Order}
@@ -96,17 +96,32 @@ abbrev pub table_orders : Layout → Bool → (item : ℕ) → List Order
 table_orders y true i = item_order y i 0 ∷ order.Load ∷ []
 table_orders y false i = item_order y i 0 ∷ []
 
+-- How many words are known to be in the data area from an item on: those of its family, where that is not in a frame.
+abbrev pub span_by : Sort → (extent offset : ℕ) → ℕ
+span_by (sort.Frame base) e o = 0
+span_by _ e o = (e - o) % 65536
+
+abbrev pub span_in : Option Family → (offset : ℕ) → ℕ
+span_in None o = 0
+span_in (Some x) o = span_by x.sort x.extent o
+
+abbrev pub item_span : Layout → (item : ℕ) → ℕ
+item_span y i = let home = slice_index_or y.homes i (0, 0) in span_in (slice_get y.families home.0) home.1
+
+-- nothing is known of where a table parameter leads
+abbrev pub table_span : Layout → Bool → (item : ℕ) → ℕ
+table_span y true i = 0
+table_span y false i = item_span y i
+
 -- the address of a reference whose indexes stand on the operand stack
 abbrev pub form_orders : {A C E S R : Type 0} → Layout → (line : ℕ) → Spot-F A C E S R → List Order
 form_orders y line (layer.Direct i) = item_order y i 0 ∷ []
 form_orders y line (layer.Through i) = item_order y i 0 ∷ order.Load ∷ order.InArea line ∷ []
-form_orders y line (layer.One i l u e) = order.IndexLess l line ∷ order.Save ∷ item_order y i 0 ∷ order.IndexAdd line ∷ order.InArea line ∷ []
-form_orders y line (layer.Two i l1 u1 l2 u2 n e g) =
-    order.IndexLess l2 line ∷ order.IndexRow l1 n line ∷ order.Save ∷ item_order y i 0 ∷ order.IndexAdd line ∷ order.InArea line ∷ []
-form_orders y line (layer.ParamArray i e) = order.Save ∷ item_order y i 0 ∷ order.Load ∷ order.IndexAdd line ∷ order.InArea line ∷ []
-form_orders y line (layer.Word i t n e) = order.Save ∷ (table_orders y t i ++ order.IndexAdd line ∷ order.InArea line ∷ [])
-form_orders y line (layer.Elem i t n m w e) =
-    order.IndexTimes n line ∷ order.IndexPlus w line ∷ order.Save ∷ (table_orders y t i ++ order.IndexAdd line ∷ order.InArea line ∷ [])
+form_orders y line (layer.One i l u e) = order.Save ∷ item_order y i 0 ∷ order.Element l (item_span y i) line ∷ []
+form_orders y line (layer.Two i l1 u1 l2 u2 n e g) = order.Save ∷ item_order y i 0 ∷ order.ElementOfTwo l1 l2 n (item_span y i) line ∷ []
+form_orders y line (layer.ParamArray i e) = order.Save ∷ item_order y i 0 ∷ order.Load ∷ order.Element (pos 0) 0 line ∷ []
+form_orders y line (layer.Word i t n e) = order.Save ∷ (table_orders y t i ++ order.Element (pos 0) (table_span y t i) line ∷ [])
+form_orders y line (layer.Elem i t n m w e) = order.Save ∷ (table_orders y t i ++ order.Entry n w (table_span y t i) line ∷ [])
 form_orders y line (layer.Bare e) = order.InArea line ∷ []
 
 -- ---- operations

@@ -7,7 +7,7 @@ ghost use Rattle.cw_gen_expr.specs.Output.{made, added};
 ghost use Rattle.cw_gen_expr.specs.UnitTables.{first_mark};
 ghost use Rattle.cw_gen_expr.specs.ReferenceExpressions.{expression_piece, condition_piece, argument_piece, spot_piece, bounds_orders, comparator_for, pick_mark, rescale_orders, load_orders, table_orders, form_orders, logic_order, narrow, call_order, scope_with, at_line};
 
-use crate::orders::{item, number_word, place_of_control, scale_of_operand};
+use crate::orders::{item, number_word, place_of_control, scale_of_operand, span, span_of_table};
 use crate::output::Output;
 use cw_order::{Comparator, Order};
 use cw_unit::layout::Layout;
@@ -103,53 +103,53 @@ fn emit_form(out: &mut Output, layout: &Layout, line: u16, spot: &Spot) -> Resul
             out.push(Order::InArea(line))
         }
         Spot::One(i, lower, _, _) => {
-            out.push(Order::IndexLess {
+            out.push(Order::Save)?;
+            out.push(item(layout, *i, 0))?;
+            out.push(Order::Element {
                 lower: *lower,
+                span: span(layout, *i),
                 line,
-            })?;
-            out.push(Order::Save)?;
-            out.push(item(layout, *i, 0))?;
-            out.push(Order::IndexAdd(line))?;
-            out.push(Order::InArea(line))
+            })
         }
-        Spot::Two(i, first, _, second, _, length, _, _) => {
-            out.push(Order::IndexLess {
-                lower: *second,
-                line,
-            })?;
-            out.push(Order::IndexRow {
-                lower: *first,
-                length: *length,
-                line,
-            })?;
+        Spot::Two(i, lower, _, second, _, width, _, _) => {
             out.push(Order::Save)?;
             out.push(item(layout, *i, 0))?;
-            out.push(Order::IndexAdd(line))?;
-            out.push(Order::InArea(line))
+            out.push(Order::ElementOfTwo {
+                lower: *lower,
+                second: *second,
+                width: *width,
+                span: span(layout, *i),
+                line,
+            })
         }
         Spot::ParamArray(i, _) => {
             out.push(Order::Save)?;
             out.push(item(layout, *i, 0))?;
             out.push(Order::Load)?;
-            out.push(Order::IndexAdd(line))?;
-            out.push(Order::InArea(line))
+            out.push(Order::Element {
+                lower: 0,
+                span: 0,
+                line,
+            })
         }
         Spot::Word(i, parameter, _, _) => {
             out.push(Order::Save)?;
             emit_table(out, layout, *parameter, *i)?;
-            out.push(Order::IndexAdd(line))?;
-            out.push(Order::InArea(line))
-        }
-        Spot::Elem(i, parameter, width, _, place, _) => {
-            out.push(Order::IndexTimes {
-                length: *width,
+            out.push(Order::Element {
+                lower: 0,
+                span: span_of_table(layout, *parameter, *i),
                 line,
-            })?;
-            out.push(Order::IndexPlus { word: *place, line })?;
+            })
+        }
+        Spot::Elem(i, parameter, width, _, word, _) => {
             out.push(Order::Save)?;
             emit_table(out, layout, *parameter, *i)?;
-            out.push(Order::IndexAdd(line))?;
-            out.push(Order::InArea(line))
+            out.push(Order::Entry {
+                width: *width,
+                word: *word,
+                span: span_of_table(layout, *parameter, *i),
+                line,
+            })
         }
         Spot::Bare(_) => out.push(Order::InArea(line)),
     }

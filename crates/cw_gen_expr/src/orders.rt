@@ -1,7 +1,7 @@
 //! The orders of items, numbers and operations.
 ghost use Rattle.std.specs.Prelude.{◌≡◌, ◌%◌, slice_index_or, IfOk, IsTrue};
 ghost use Rattle.cw_word.specs.Decimal.{decimal_floor};
-ghost use Rattle.cw_gen_expr.specs.ReferenceExpressions.{item_order, parameter_words, argument_words, control_place};
+ghost use Rattle.cw_gen_expr.specs.ReferenceExpressions.{item_order, item_span, table_span, parameter_words, argument_words, control_place};
 ghost use Rattle.cw_unit.specs.Scales.{operand_scale};
 
 use cw_order::Order;
@@ -33,6 +33,27 @@ pub fn item(layout: &Layout, item: u32, word: u16) -> Order
         },
         None => Order::Home { family, offset },
     }
+}
+
+/// How many words are known to be in the data area from an item on: those of its family, where that is not in a frame.
+pub fn span(layout: &Layout, item: u32) -> u16
+    ensures { result ≡ item_span layout.now item }
+{
+    let (family, offset) = home(layout, item);
+    match layout.families.as_slice().get(family as usize) {
+        Some(found) => match found.sort {
+            Sort::Frame(_) => 0,
+            _ => (found.extent.saturating_sub(u32::from(offset)) % 65_536) as u16,
+        },
+        None => 0,
+    }
+}
+
+/// The same of a table, where nothing is known of a table parameter.
+pub fn span_of_table(layout: &Layout, parameter: bool, table: u32) -> u16
+    ensures { result ≡ table_span layout.now parameter table }
+{
+    if parameter { 0 } else { span(layout, table) }
 }
 
 /// The word of a number at a scale. NoMemory comes for numbers that no unit has.

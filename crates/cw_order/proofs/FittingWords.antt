@@ -1,9 +1,11 @@
 -- Each step keeps the words within a word.
-use Rattle.std.proofs.Common.{◌≡◌, ℕ, zero, suc, ◌+◌, ◌-◌, ◌^◌, ◌<◌, ◌≤◌, ℤ, pos, negsuc, ◌+ℤ◌, ◌-ℤ◌, ◌*ℤ◌, neg_ℤ, List, [], ◌∷◌, ◌++◌, length, set, Bool, true, false, not, Option, Some, None, refl, arith, pow_mono, pow_pos}
+use Rattle.std.proofs.Common.{◌≡◌, ℕ, zero, suc, ◌+◌, ◌-◌, ◌^◌, min, ◌<◌, ◌≤◌, ℤ, pos, negsuc, ◌+ℤ◌, ◌-ℤ◌, ◌*ℤ◌, neg_ℤ, List, [], ◌∷◌, ◌++◌, length, set, Bool, true, false, not, Option, Some, None, refl, arith, pow_mono, pow_pos}
 use Rattle.std.specs.Prelude.{nat_eq, nat_le, nat_lt, int_le, ◌&&◌, slice_get, if◌then◌else◌}
 use Rattle.std.specs.List.{All}
 use Rattle.std.proofs.lemmas.Bool.Decides.{nat_tests}
 use Rattle.std.proofs.lemmas.Int.{ints}
+use Rattle.std.proofs.Math.Nat.{min-le_right}
+use Rattle.std.proofs.lemmas.Bool.{ltb-true}
 use Rattle.std.proofs.lemmas.Nat.{mod_below}
 use Rattle.std.proofs.lemmas.List.Elements.{All-cons, All-drop, All-head, All-nil, All-set, All-tail, All-take}
 use Rattle.cw_word.specs.FixedPoint.{FitsWord, fits_word, rescaled, scaled_product, scaled_quotient}
@@ -13,14 +15,14 @@ use Rattle.cw_unit.specs.declared.unit.Field.{Field}
 use Rattle.cw_unit.specs.declared.unit.Goal.{Goal}
 use Rattle.cw_unit.specs.Stop.{StopKind, Overflow, AddressRange, Running, Ended, Stopped, Stuck, IndexRange}
 use Rattle.cw_unit.specs.Words.{Control, LabelControl, SwitchControl, ProcedureControl, Operand, Word, Held, Words, Outcome, Changed, Refused, Impossible, with_operands, with_memory, put, put_if, put_value, on_one, on_two, through, at_address, is_below, number_of, word_at, field_value, with_bits, byte_of, read_byte}
-use Rattle.cw_unit.specs.Operation.{Constant, Fetch, SetVariable, AddStep, store_with, store_sum, divide, address_of, perform, holds}
+use Rattle.cw_unit.specs.Operation.{Addressing, Known, Taken, Indexed, Indexed2, Scaled, Constant, Fetch, SetVariable, AddStep, fitting, form_address, store_with, store_sum, divide, address_of, perform, holds}
 use Rattle.cw_unit.specs.Step.{held, goal_at, with_label_owner}
 use Rattle.cw_order.specs.declared.order.Order.{Order}
 use Rattle.cw_order.specs.declared.order.Order.TheVariants as order
 use Rattle.cw_order.specs.declared.order.Orders.{Orders}
 use Rattle.cw_order.specs.OrderProgram.{LabelEntry, ProcedureEntry, OrderProgram, order_at, place_of, label_at, procedure_at, switch_at, label_of}
 use Rattle.cw_order.specs.OrderState.{OrderActivation, OrderState, at, operand_words, stack_words, argument_behind, argument_at, frame_word, frame_end, control_at}
-use Rattle.cw_order.specs.OrderChanges.{put_index, if_fits, put_address, bind, if_inside, Way, Onward, ToMark, Nowhere, way_of_one, way_of_two, to_mark_if, to_mark_in, way_past_limit, mark_of_number, comparison}
+use Rattle.cw_order.specs.OrderChanges.{put_index, from_base, put_address, bind, if_inside, Way, Onward, ToMark, Nowhere, way_of_one, way_of_two, to_mark_if, to_mark_in, way_past_limit, mark_of_number, comparison}
 use Rattle.cw_order.specs.Loading.{loaded_after}
 use Rattle.cw_order.specs.OrderActions.{Action, Perform, Access, Alter, AlterWithin, Pass, Branch, GoMain, GoLabel, GoSwitch, Call, Enter, Return, EndBody, home_word, common_label, common_switch, common_procedure, action_of}
 use Rattle.cw_order.specs.OrderMachine.{go_on, go_at, after, unrefused, leave_for, dropped_by, called, call_at, enter_with, return_with, next_body, branch, go_to_entry, go_to, go_to_goal, go_by_list, go_through, call_entry, call, enter, come_back, end_body, act, carry_with, carry_out, step}
@@ -165,9 +167,57 @@ read-fits (b ∷ rest) w all fits =
 index-fits : (f : ℤ → ℤ) → Keeps (λ w. on_one (λ i v. put_index (f i) v) w.operands w)
 index-fits f = on_top-fits (λ i v. put_index (f i) v) (λ i fi v fv. put_index-fits (f i) v fv)
 
-if_fits-fits : (b : Bool) (f : Words → Outcome) → Keeps f → Keeps (λ w. if_fits b (f w))
-if_fits-fits true f h w fits = h w fits
-if_fits-fits false f h w fits = tt
+fitting-fits : (b : Bool) (f : Words → Outcome) → Keeps f → Keeps (λ w. fitting b (f w))
+fitting-fits true f h w fits = h w fits
+fitting-fits false f h w fits = tt
+
+-- an address of an area of words fits a word
+below_fits : (area : ℕ) (z : ℤ) → area ≤ 32768 → is_below z area ≡ true → FitsWord z
+below_fits area (pos n) low is = let lt = ltb-true n area is in let f : FitsWord (pos n) = omega (arith, ints, low, lt) in f
+below_fits area (negsuc n) low is = absurd (cc)
+
+address-in-fits : (area : ℕ) (z : ℤ) → area ≤ 32768 → Keeps (address_of area z)
+address-in-fits area z low w fits = cases (is_below z area) refl
+  where
+    cases : (b : Bool) → is_below z area ≡ b → OutcomeFits (put_if b AddressRange z w)
+    cases true is = put-fits z (below_fits area z low is) w fits
+    cases false is = tt
+
+form-fits : (area : ℕ) (f : Addressing) → area ≤ 32768 → Keeps (form_address area f)
+form-fits area (Known z) low = address-in-fits area z low
+form-fits area Taken low = on_top-fits (address_of area) (λ z fz. address-in-fits area z low)
+form-fits area (Indexed base lower) low =
+    on_top-fits (λ i v. fitting (fits_word (i -ℤ lower)) (address_of area (base +ℤ (i -ℤ lower)) v))
+    (λ i fi. fitting-fits (fits_word (i -ℤ lower)) (address_of area (base +ℤ (i -ℤ lower))) (address-in-fits area (base +ℤ (i -ℤ lower)) low))
+form-fits area (Indexed2 base l1 l2 width) low =
+    on_two-fits
+    (λ i j v.
+    fitting (fits_word (i -ℤ l1))
+    (fitting (fits_word ((i -ℤ l1) *ℤ pos width))
+    (fitting (fits_word (j -ℤ l2))
+    (fitting (fits_word ((i -ℤ l1) *ℤ pos width +ℤ (j -ℤ l2))) (address_of area (base +ℤ ((i -ℤ l1) *ℤ pos width +ℤ (j -ℤ l2))) v)))))
+    (λ i j fi fj.
+    let row : ℤ = (i -ℤ l1) *ℤ pos width in
+    let place : ℤ = row +ℤ (j -ℤ l2) in
+    let last : Words → Outcome = address_of area (base +ℤ place) in
+    let fourth : Words → Outcome = λ v. fitting (fits_word place) (last v) in
+    let third : Words → Outcome = λ v. fitting (fits_word (j -ℤ l2)) (fourth v) in
+    fitting-fits (fits_word (i -ℤ l1)) (λ v. fitting (fits_word row) (third v))
+    (fitting-fits (fits_word row) third
+    (fitting-fits (fits_word (j -ℤ l2)) fourth
+    (fitting-fits (fits_word place) last (address-in-fits area (base +ℤ place) low)))))
+form-fits area (Scaled base width word) low =
+    on_top-fits
+    (λ i v.
+    fitting (fits_word (i *ℤ pos width)) (fitting (fits_word (i *ℤ pos width +ℤ pos word)) (address_of area (base +ℤ (i *ℤ pos width +ℤ pos word)) v)))
+    (λ i fi.
+    let place : ℤ = i *ℤ pos width +ℤ pos word in
+    let last : Words → Outcome = address_of area (base +ℤ place) in
+    let second : Words → Outcome = λ v. fitting (fits_word place) (last v) in
+    fitting-fits (fits_word (i *ℤ pos width)) second (fitting-fits (fits_word place) last (address-in-fits area (base +ℤ place) low)))
+
+from_base-fits : (area : ℕ) (f : ℤ → Addressing) → Keeps (from_base area f)
+from_base-fits area f = on_top-fits (λ base v. form_address (min area 32768) (f base) v) (λ base fb. form-fits (min area 32768) (f base) (min-le_right area 32768))
 
 if_inside-fits : (b : Bool) (f : Words → Outcome) → Keeps f → Keeps (λ w. if_inside b (f w))
 if_inside-fits true f h w fits = h w fits
@@ -311,15 +361,9 @@ action-fits p g acts order.ReadByte all = λ w fits. read-fits w.input w fits.in
 action-fits p g acts order.WriteByte all =
     on_top-fits (λ x v. Changed (record v { output = v.output ++ byte_of x ∷ [] })) (λ x fx v fv. record { operands = fv.operands; memory = fv.memory; input = fv.input })
 action-fits p g acts (order.IndexLess lower line) all = index-fits (λ i. i -ℤ lower)
-action-fits p g acts (order.IndexTimes n line) all = index-fits (λ i. i *ℤ pos n)
-action-fits p g acts (order.IndexPlus n line) all = index-fits (λ i. i +ℤ pos n)
-action-fits p g acts (order.IndexAdd line) all = on_two-fits (λ i j v. put_index (i +ℤ j) v) (λ i j fi fj v fv. put_index-fits (i +ℤ j) v fv)
-action-fits p g acts (order.IndexRow lower width line) all =
-    on_two-fits
-    (λ i j v. if_fits (fits_word (i -ℤ lower)) (if_fits (fits_word ((i -ℤ lower) *ℤ pos width)) (put_index ((i -ℤ lower) *ℤ pos width +ℤ j) v)))
-    (λ i j fi fj.
-    if_fits-fits (fits_word (i -ℤ lower)) (λ v. if_fits (fits_word ((i -ℤ lower) *ℤ pos width)) (put_index ((i -ℤ lower) *ℤ pos width +ℤ j) v))
-    (if_fits-fits (fits_word ((i -ℤ lower) *ℤ pos width)) (put_index ((i -ℤ lower) *ℤ pos width +ℤ j)) (put_index-fits ((i -ℤ lower) *ℤ pos width +ℤ j))))
+action-fits p g acts (order.Element lower span line) all = from_base-fits p.limits.area (λ base. Indexed base lower)
+action-fits p g acts (order.ElementOfTwo lower second width span line) all = from_base-fits p.limits.area (λ base. Indexed2 base lower second width)
+action-fits p g acts (order.Entry width word span line) all = from_base-fits p.limits.area (λ base. Scaled base width word)
 action-fits p g acts (order.InArea line) all = on_top-fits (address_of p.limits.area) (λ z fz. address-fits p.limits.area z fz)
 action-fits p g acts (order.InBounds lower upper line) all =
     on_top-fits (λ x v. put_if (int_le lower x && int_le x upper) IndexRange x v) (λ x fx v fv. bounded-fits (int_le lower x && int_le x upper) x fx v fv)

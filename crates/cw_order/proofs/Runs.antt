@@ -14,7 +14,7 @@ over p (at g place loaded acts w Ended) (suc k) h = over p (at g place loaded ac
 over p (at g place loaded acts w (Stopped kind s l)) (suc k) h = over p (at g place loaded acts w (Stopped kind s l)) k h
 over p (at g place loaded acts w Stuck) (suc k) h = over p (at g place loaded acts w Stuck) k h
 
-pub costs : cost (order_machine overflowing) 9 overflowing_start ≡ 29
+pub costs : cost (order_machine overflowing) 9 overflowing_start ≡ 36
 costs = refl
 
 pub stops : shown_after (order_machine overflowing) 9 overflowing_start ≡ overflowing_shows
@@ -23,5 +23,5 @@ stops = refl
 pub returns : shown_after (order_machine calling) 12 calling_start ≡ calling_shows
 returns = refl
 
-pub returning_costs : cost (order_machine calling) 12 calling_start ≡ 95
+pub returning_costs : cost (order_machine calling) 12 calling_start ≡ 99
 returning_costs = refl

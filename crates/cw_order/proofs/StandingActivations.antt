@@ -1,5 +1,5 @@
 -- Each step keeps the activations and the control arguments as the orders rely on them.
-use Rattle.std.proofs.Common.{◌≡◌, inl, inr, ⊎_elim, ℕ, zero, suc, ◌+◌, ◌-◌, ◌≤◌, ℤ, pos, negsuc, ◌+ℤ◌, ◌-ℤ◌, ◌*ℤ◌, neg_ℤ, List, [], ◌∷◌, ◌++◌, length, set, drop, Bool, true, false, not, Option, Some, None, refl, sym, ap, ◌∙◌, subst, arith}
+use Rattle.std.proofs.Common.{◌≡◌, inl, inr, ⊎_elim, ℕ, zero, suc, ◌+◌, ◌-◌, min, ◌≤◌, ℤ, pos, negsuc, ◌+ℤ◌, ◌-ℤ◌, ◌*ℤ◌, neg_ℤ, List, [], ◌∷◌, ◌++◌, length, set, drop, Bool, true, false, not, Option, Some, None, refl, sym, ap, ◌∙◌, subst, arith}
 use Rattle.std.specs.Prelude.{int_le, ◌&&◌, nat_eq, nat_le, nat_lt, slice_get, ◌&&◌}
 use Rattle.std.specs.List.{All}
 use Rattle.std.proofs.lemmas.Bool.{leb-true, true≢false, false≢true}
@@ -14,14 +14,14 @@ use Rattle.cw_unit.specs.declared.unit.Def.{Def}
 use Rattle.cw_unit.specs.declared.unit.Def.TheVariants as def
 use Rattle.cw_unit.specs.Stop.{StopKind, Overflow, AddressRange, IndexRange, Running, Ended, Stopped, Stuck}
 use Rattle.cw_unit.specs.Words.{Control, LabelControl, SwitchControl, ProcedureControl, Operand, Word, Held, Words, Outcome, Changed, Refused, Impossible, with_operands, with_memory, put, put_if, put_value, on_one, on_two, through, at_address, is_below, number_of, word_at, field_value, with_bits, byte_of, read_byte}
-use Rattle.cw_unit.specs.Operation.{Fetch, SetVariable, AddStep, store_with, store_sum, divide, address_of, perform, holds}
+use Rattle.cw_unit.specs.Operation.{Addressing, Known, Taken, Indexed, Indexed2, Scaled, Fetch, SetVariable, AddStep, fitting, form_address, store_with, store_sum, divide, address_of, perform, holds}
 use Rattle.cw_unit.specs.Step.{held, goal_at, label_of_def, switch_of_def, procedure_of_def, with_label_owner, with_switch_owner, as_procedure}
 use Rattle.cw_order.specs.declared.order.Order.{Order}
 use Rattle.cw_order.specs.declared.order.Order.TheVariants as order
 use Rattle.cw_order.specs.declared.order.Orders.{Orders}
 use Rattle.cw_order.specs.OrderProgram.{LabelEntry, ProcedureEntry, OrderProgram, order_at, place_of, label_at, procedure_at, switch_at, label_of, defined_at}
 use Rattle.cw_order.specs.OrderState.{OrderActivation, OrderState, at, operand_words, stack_words, argument_behind, argument_at, frame_word, frame_end, control_in, control_at}
-use Rattle.cw_order.specs.OrderChanges.{put_index, if_fits, put_address, bind, if_inside, Way, Onward, ToMark, Nowhere, way_of_one, way_of_two, to_mark_if, to_mark_in, way_past_limit, mark_of_number, comparison}
+use Rattle.cw_order.specs.OrderChanges.{put_index, from_base, put_address, bind, if_inside, Way, Onward, ToMark, Nowhere, way_of_one, way_of_two, to_mark_if, to_mark_in, way_past_limit, mark_of_number, comparison}
 use Rattle.cw_order.specs.Loading.{loaded_after}
 use Rattle.cw_order.specs.OrderActions.{Action, Perform, Access, Alter, AlterWithin, Pass, Branch, GoMain, GoLabel, GoSwitch, Call, Enter, Return, EndBody, home_word, common_label, common_switch, common_procedure, action_of}
 use Rattle.cw_order.specs.OrderMachine.{go_on, go_at, after, unrefused, leave_for, dropped_by, called, call_at, enter_with, return_with, next_body, branch, go_to_entry, go_to, go_to_goal, go_by_list, go_through, call_entry, call, enter, come_back, end_body, act, carry_with, carry_out, step}
@@ -111,9 +111,45 @@ module _ (P : Operand → Type 0) (plain : (z : ℤ) → P (Word z)) where
   index-stands : (f : ℤ → ℤ) → Keeps (λ w. on_one (λ i v. put_index (f i) v) w.operands w)
   index-stands f = top-stands (λ i v. put_index (f i) v) (λ i. put_if-stands AddressRange (f i) (fits_word (f i)))
 
-  if_fits-stands : (b : Bool) (f : Words → Outcome) → Keeps f → Keeps (λ w. if_fits b (f w))
-  if_fits-stands true f h w fits = h w fits
-  if_fits-stands false f h w fits = tt
+  fitting-stands : (b : Bool) (f : Words → Outcome) → Keeps f → Keeps (λ w. fitting b (f w))
+  fitting-stands true f h w fits = h w fits
+  fitting-stands false f h w fits = tt
+
+  form-stands : (area : ℕ) (f : Addressing) → Keeps (form_address area f)
+  form-stands area (Known z) = address-stands area z
+  form-stands area Taken = top-stands (address_of area) (λ z. address-stands area z)
+  form-stands area (Indexed base lower) =
+      top-stands (λ i v. fitting (fits_word (i -ℤ lower)) (address_of area (base +ℤ (i -ℤ lower)) v))
+      (λ i. fitting-stands (fits_word (i -ℤ lower)) (address_of area (base +ℤ (i -ℤ lower))) (address-stands area (base +ℤ (i -ℤ lower))))
+  form-stands area (Indexed2 base l1 l2 width) =
+      two-stands
+      (λ i j v.
+      fitting (fits_word (i -ℤ l1))
+      (fitting (fits_word ((i -ℤ l1) *ℤ pos width))
+      (fitting (fits_word (j -ℤ l2))
+      (fitting (fits_word ((i -ℤ l1) *ℤ pos width +ℤ (j -ℤ l2))) (address_of area (base +ℤ ((i -ℤ l1) *ℤ pos width +ℤ (j -ℤ l2))) v)))))
+      (λ i j.
+      let row : ℤ = (i -ℤ l1) *ℤ pos width in
+      let place : ℤ = row +ℤ (j -ℤ l2) in
+      let last : Words → Outcome = address_of area (base +ℤ place) in
+      let fourth : Words → Outcome = λ v. fitting (fits_word place) (last v) in
+      let third : Words → Outcome = λ v. fitting (fits_word (j -ℤ l2)) (fourth v) in
+      fitting-stands (fits_word (i -ℤ l1)) (λ v. fitting (fits_word row) (third v))
+      (fitting-stands (fits_word row) third
+      (fitting-stands (fits_word (j -ℤ l2)) fourth
+      (fitting-stands (fits_word place) last (address-stands area (base +ℤ place))))))
+  form-stands area (Scaled base width word) =
+      top-stands
+      (λ i v.
+      fitting (fits_word (i *ℤ pos width)) (fitting (fits_word (i *ℤ pos width +ℤ pos word)) (address_of area (base +ℤ (i *ℤ pos width +ℤ pos word)) v)))
+      (λ i.
+      let place : ℤ = i *ℤ pos width +ℤ pos word in
+      let last : Words → Outcome = address_of area (base +ℤ place) in
+      let second : Words → Outcome = λ v. fitting (fits_word place) (last v) in
+      fitting-stands (fits_word (i *ℤ pos width)) second (fitting-stands (fits_word place) last (address-stands area (base +ℤ place))))
+
+  base-stands : (area : ℕ) (f : ℤ → Addressing) → Keeps (from_base area f)
+  base-stands area f = top-stands (λ base v. form_address (min area 32768) (f base) v) (λ base. form-stands (min area 32768) (f base))
 
   if_inside-stands : (b : Bool) (f : Words → Outcome) → Keeps f → Keeps (λ w. if_inside b (f w))
   if_inside-stands true f h w fits = h w fits
@@ -321,15 +357,9 @@ module _ (p : OrderProgram) where
       action-stands order.WriteByte =
           top-stands P plain (λ x v. Changed (record v { output = v.output ++ byte_of x ∷ [] })) (λ x v fv. fv)
       action-stands (order.IndexLess lower line) = index-stands P plain (λ i. i -ℤ lower)
-      action-stands (order.IndexTimes n line) = index-stands P plain (λ i. i *ℤ pos n)
-      action-stands (order.IndexPlus n line) = index-stands P plain (λ i. i +ℤ pos n)
-      action-stands (order.IndexAdd line) = two-stands P plain (λ i j v. put_index (i +ℤ j) v) (λ i j. put_if-stands P plain AddressRange (i +ℤ j) (fits_word (i +ℤ j)))
-      action-stands (order.IndexRow lower width line) =
-          two-stands P plain
-          (λ i j v. if_fits (fits_word (i -ℤ lower)) (if_fits (fits_word ((i -ℤ lower) *ℤ pos width)) (put_index ((i -ℤ lower) *ℤ pos width +ℤ j) v)))
-          (λ i j.
-          if_fits-stands P plain (fits_word (i -ℤ lower)) (λ v. if_fits (fits_word ((i -ℤ lower) *ℤ pos width)) (put_index ((i -ℤ lower) *ℤ pos width +ℤ j) v))
-          (if_fits-stands P plain (fits_word ((i -ℤ lower) *ℤ pos width)) (put_index ((i -ℤ lower) *ℤ pos width +ℤ j)) (put_if-stands P plain AddressRange ((i -ℤ lower) *ℤ pos width +ℤ j) (fits_word ((i -ℤ lower) *ℤ pos width +ℤ j)))))
+      action-stands (order.Element lower span line) = base-stands P plain p.limits.area (λ base. Indexed base lower)
+      action-stands (order.ElementOfTwo lower second width span line) = base-stands P plain p.limits.area (λ base. Indexed2 base lower second width)
+      action-stands (order.Entry width word span line) = base-stands P plain p.limits.area (λ base. Scaled base width word)
       action-stands (order.InArea line) = top-stands P plain (address_of p.limits.area) (λ z. address-stands P plain p.limits.area z)
       action-stands (order.InBounds lower upper line) =
           top-stands P plain (λ x v. put_if (int_le lower x && int_le x upper) IndexRange x v) (λ x. put_if-stands P plain IndexRange x (int_le lower x && int_le x upper))

@@ -34,10 +34,9 @@ HasCode (order.LoadPart t b is_signed) = (1 ≤ t) × (t + b ≤ 16)
 HasCode (order.StorePart t b) = (1 ≤ t) × (t + b ≤ 16)
 -- a row or an entry has at most all words of the data area
 HasCode (order.IndexLess lower line) = FitsWord lower
-HasCode (order.IndexTimes n line) = n ≤ 32768
-HasCode (order.IndexPlus n line) = n < 32768
-HasCode (order.IndexAdd line) = Unit {0}
-HasCode (order.IndexRow lower n line) = FitsWord lower × (n ≤ 32768)
+HasCode (order.Element lower span line) = FitsWord lower
+HasCode (order.ElementOfTwo lower second width span line) = FitsWord lower × FitsWord second × (width ≤ 32768)
+HasCode (order.Entry width word span line) = (width ≤ 32768) × (word < 32768)
 HasCode (order.InArea line) = Unit {0}
 HasCode (order.InBounds lower upper line) = FitsWord lower × FitsWord upper
 HasCode order.Less = Unit {0}

@@ -12,3 +12,4 @@ pub mod Example
 pub mod FittingWords
 pub mod Activations
 pub mod NamesAgree
+pub mod Spans

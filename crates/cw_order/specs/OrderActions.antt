@@ -1,16 +1,16 @@
 -- What each order does.
-use Rattle.std.specs.Prelude.{ℕ, ◌+◌, ◌-◌, ◌%◌, pos, ◌+ℤ◌, ◌-ℤ◌, ◌*ℤ◌, List, [], length, Bool, not, Option, Some, None, slice_index, slice_index_or}
+use Rattle.std.specs.Prelude.{ℕ, ◌+◌, ◌-◌, ◌%◌, pos, ◌-ℤ◌, List, [], length, Bool, not, Option, Some, None, slice_index, slice_index_or}
 use Rattle.cw_word.specs.Word.{signed}
 use Rattle.cw_unit.specs.declared.unit.LogicOp.TheVariants as logic
 use Rattle.cw_unit.specs.declared.layout.Map.{Map}
 use Rattle.cw_unit.specs.Words.{Control, LabelControl, SwitchControl, ProcedureControl, Words, Outcome, is_below, number_of}
-use Rattle.cw_unit.specs.Operation.{Operation, Constant, Rescale, Fetch, Store, StoreBits, Add, Subtract, Negate, Multiply, Divide, Combine, Extract, Form, Taken, InBounds, ReadByte, WriteByte, holds}
+use Rattle.cw_unit.specs.Operation.{Operation, Constant, Rescale, Fetch, Store, StoreBits, Add, Subtract, Negate, Multiply, Divide, Combine, Extract, Form, Taken, Indexed, Indexed2, Scaled, InBounds, ReadByte, WriteByte, holds}
 use Rattle.cw_unit.specs.Step.{switch_of_def, procedure_of_def, label_of_def, with_label_owner, with_switch_owner, as_procedure, held}
 use Rattle.cw_order.specs.declared.order.Order.{Order}
 use Rattle.cw_order.specs.declared.order.Order.TheVariants as order
 use Rattle.cw_order.specs.OrderProgram.{OrderProgram, defined_at}
 use Rattle.cw_order.specs.OrderState.{OrderActivation, argument_at, control_at, frame_word}
-use Rattle.cw_order.specs.OrderChanges.{index, index_sum, index_row, difference, without_top, put_address, bind, Way, ToMark, way_of_one, way_of_two, to_mark_if, to_mark_in, comparison, set_variable, add_step, put_variable, way_past_limit, mark_of_number}
+use Rattle.cw_order.specs.OrderChanges.{index, from_base, difference, without_top, put_address, bind, Way, ToMark, way_of_one, way_of_two, to_mark_if, to_mark_in, comparison, set_variable, add_step, put_variable, way_past_limit, mark_of_number}
 
 -- Perform does an operation, which may stop at a line. Access does one that never stops, or not on an address that has been tested or is
 -- that of an item. Alter changes the words, and may stop; AlterWithin changes them and never stops. Branch goes on here or there. GoMain
@@ -71,10 +71,9 @@ module _ (p : OrderProgram) where
   action_of g acts order.WriteByte = Access WriteByte
   -- addresses
   action_of g acts (order.IndexLess lower line) = Alter line (index (λ i. i -ℤ lower))
-  action_of g acts (order.IndexTimes n line) = Alter line (index (λ i. i *ℤ pos n))
-  action_of g acts (order.IndexPlus n line) = Alter line (index (λ i. i +ℤ pos n))
-  action_of g acts (order.IndexAdd line) = Alter line index_sum
-  action_of g acts (order.IndexRow lower width line) = Alter line (index_row lower width)
+  action_of g acts (order.Element lower span line) = Alter line (from_base p.limits.area (λ base. Indexed base lower))
+  action_of g acts (order.ElementOfTwo lower second width span line) = Alter line (from_base p.limits.area (λ base. Indexed2 base lower second width))
+  action_of g acts (order.Entry width word span line) = Alter line (from_base p.limits.area (λ base. Scaled base width word))
   action_of g acts (order.InArea line) = Perform line (Form Taken)
   action_of g acts (order.InBounds lower upper line) = Perform line (InBounds lower upper)
   action_of g acts (order.SetVariable line) = Alter line (set_variable p.limits.area)

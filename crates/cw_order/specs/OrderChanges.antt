@@ -1,12 +1,12 @@
 -- What orders do to words beyond the operations of the source semantics, and how they choose the way on.
-use Rattle.std.specs.Prelude.{ℕ, zero, suc, ◌+◌, ◌-◌, ℤ, pos, negsuc, ◌+ℤ◌, ◌-ℤ◌, ◌*ℤ◌, List, ◌∷◌, set, Bool, true, false, Option, Some, None, slice_get}
+use Rattle.std.specs.Prelude.{ℕ, zero, suc, ◌+◌, ◌-◌, min, ℤ, pos, negsuc, List, ◌∷◌, set, Bool, true, false, Option, Some, None, slice_get}
 use Rattle.cw_word.specs.FixedPoint.{fits_word}
 use Rattle.cw_word.specs.Word.{signed, unsigned, word_difference}
 use Rattle.cw_unit.specs.declared.unit.CompareOp.{CompareOp}
 use Rattle.cw_unit.specs.declared.unit.CompareOp.TheVariants as compare
 use Rattle.cw_unit.specs.Stop.{AddressRange}
 use Rattle.cw_unit.specs.Words.{Operand, Word, Words, Outcome, Changed, Refused, Impossible, with_operands, with_memory, put, put_if, is_below, number_of, on_one, on_two, word_at, at_address}
-use Rattle.cw_unit.specs.Operation.{SetVariable, AddStep, perform, is_past}
+use Rattle.cw_unit.specs.Operation.{Addressing, form_address, SetVariable, AddStep, perform, is_past}
 use Rattle.cw_order.specs.declared.order.Comparator.{Comparator}
 use Rattle.cw_order.specs.declared.order.Comparator.TheVariants as comparator
 
@@ -19,22 +19,9 @@ put_index z w = put_if (fits_word z) AddressRange z w
 abbrev pub index : (ℤ → ℤ) → Words → Outcome
 index f w = on_one (λ i v. put_index (f i) v) w.operands w
 
-abbrev pub index_sum : Words → Outcome
-index_sum w = on_two (λ i j v. put_index (i +ℤ j) v) w.operands w
-
-abbrev pub if_fits : Bool → Outcome → Outcome
-if_fits true o = o
-if_fits false o = Refused AddressRange
-
--- a row less the lower bound, times the length of a row, plus the place in it
-abbrev pub index_row : (lower : ℤ) → (width : ℕ) → Words → Outcome
-index_row lower width w =
-    on_two
-    (λ i j v.
-    if_fits (fits_word (i -ℤ lower))
-    (if_fits (fits_word ((i -ℤ lower) *ℤ pos width)) (put_index ((i -ℤ lower) *ℤ pos width +ℤ j) v)))
-    w.operands
-    w
+-- An address is formed from a base, the operand on top, and what stands below it. No word is an address above 32,767.
+abbrev pub from_base : (area : ℕ) → (ℤ → Addressing) → Words → Outcome
+from_base area f w = on_one (λ base v. form_address (min area 32768) (f base) v) w.operands w
 
 -- a difference modulo 65,536
 abbrev pub difference : Words → Outcome

@@ -1,10 +1,9 @@
 -- How many instructions the code of an order takes at most, with those of a stop or an end (docs/CODE.md). A stop takes 13, the call of the
 -- library's among them. Some are bounds above what the code takes now: the orders of one step of the source may take 224 in all. The
 -- dearest steps, with items in frames: the entry of a procedure with 32 word parameters, 174 (CallSpecial 16, Enter 30, 32 of BindFrame 4);
--- a product or a quotient, 120; an element of an array of two dimensions, 93 (IndexLess 18, IndexRow 34, Save, FrameHome 4, IndexAdd 18,
--- InArea 18); that of a table, 85 (IndexTimes 20, IndexPlus 20, Save, FrameHome, Load, IndexAdd, InArea); a word at another scale, 64; an
--- element of an array of one dimension, 59; a jump through a switch, 50; the test of a FOR's variable, 48 (FrameHome, PutVariable 24,
--- Exhausted 20).
+-- a product or a quotient, 120; a word at another scale, 64; a jump through a switch, 50; the test of a FOR's variable, 48 (FrameHome,
+-- PutVariable 24, Exhausted 20); an element of an array of two dimensions, 45 (Save, FrameHome 4, ElementOfTwo 40); a word of an entry of a
+-- table, 41 (Save, FrameHome, Load, Entry 32).
 use Rattle.std.specs.Prelude.{ℕ, Option, Some, None}
 use Rattle.cw_order.specs.declared.order.Order.{Order}
 use Rattle.cw_order.specs.declared.order.Order.TheVariants as order
@@ -16,23 +15,24 @@ weight_of (order.Const w) = 2
 weight_of (order.Home family offset) = 2
 -- the base from the record, the offset
 weight_of (order.FrameHome n) = 4
-weight_of order.Load = 4
-weight_of order.Store = 5
+-- where the address is formed in the same piece of code, with a test of it
+weight_of order.Load = 8
+weight_of order.Store = 8
 -- two shifts, each with its count in CL
 weight_of (order.LoadPart t b is_signed) = 16
 -- the old word and the new one masked
 weight_of (order.StorePart t b) = 20
 -- a product with a power of two, tested, or a shift
 weight_of (order.Rescale from to line) = 64
-weight_of (order.Add line) = 17
-weight_of (order.Sub line) = 17
+weight_of (order.Add line) = 24
+weight_of (order.Sub line) = 24
 weight_of (order.Neg line) = 16
 -- a routine of the library shifts a pair of words, and its answer is tested
 weight_of (order.Mul s line) = 120
 weight_of (order.Div s line) = 120
-weight_of order.And = 4
-weight_of order.Or = 4
-weight_of order.Xor = 4
+weight_of order.And = 9
+weight_of order.Or = 9
+weight_of order.Xor = 9
 weight_of (order.Take t b) = 6
 weight_of order.Less = 4
 weight_of order.Drop = 1
@@ -41,18 +41,17 @@ weight_of order.ReadByte = 12
 weight_of order.WriteByte = 2
 -- addresses: as sums
 weight_of (order.IndexLess lower line) = 18
-weight_of (order.IndexTimes n line) = 20
-weight_of (order.IndexPlus n line) = 20
-weight_of (order.IndexAdd line) = 18
--- three tests
-weight_of (order.IndexRow lower width line) = 34
+-- up to three tests, five and four
+weight_of (order.Element lower span line) = 26
+weight_of (order.ElementOfTwo lower second width span line) = 40
+weight_of (order.Entry width word span line) = 32
 weight_of (order.InArea line) = 18
 -- two comparisons
 weight_of (order.InBounds lower upper line) = 20
 -- ways within a body
 weight_of (order.Jump m) = 1
--- a pop, a comparison, a short jump over a near one
-weight_of (order.JumpIf c m) = 7
+-- an operand, a comparison, a short jump over a near one
+weight_of (order.JumpIf c m) = 12
 -- the step's sign is tested, and then the limit
 weight_of (order.Exhausted m) = 20
 -- the address of the control variable is tested

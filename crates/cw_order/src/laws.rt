@@ -14,9 +14,9 @@ ghost use Rattle.cw_order.specs.Example.{overflowing, overflowing_start, overflo
 pub fn runs()
     ensures over { (p : OrderProgram) (s : OrderState) (k : ℕ) → (shown s).end ≢ Running → state_after (order_machine p) k s ≡ s }
     ensures stops { shown_after (order_machine overflowing) 9 overflowing_start ≡ overflowing_shows }
-    ensures costs { cost (order_machine overflowing) 9 overflowing_start ≡ 29 }
+    ensures costs { cost (order_machine overflowing) 9 overflowing_start ≡ 36 }
     ensures returns { shown_after (order_machine calling) 12 calling_start ≡ calling_shows }
-    ensures returning_costs { cost (order_machine calling) 12 calling_start ≡ 95 }
+    ensures returning_costs { cost (order_machine calling) 12 calling_start ≡ 99 }
 {}
 
 /// All operands, those of callers and arguments too, and all words of memory fit a word, in each state of a run that begins

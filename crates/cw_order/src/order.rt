@@ -91,23 +91,30 @@ pub enum Order {
         lower: i16,
         line: u16,
     },
-    /// Takes an index and puts it times the length of a row or an entry; stops with Address where that does not fit.
-    IndexTimes {
-        length: u16,
-        line: u16,
-    },
-    /// Takes an index and puts it with the number added; stops with Address where that does not fit.
-    IndexPlus {
-        word: u16,
-        line: u16,
-    },
-    /// Takes two indexes and puts their sum; stops with Address where that does not fit.
-    IndexAdd(u16),
-    /// Takes an index, then the index of a row below it, and puts the latter less the lower bound, times the length of a
-    /// row, plus the former; stops with Address where one of these does not fit.
-    IndexRow {
+    /// Takes the address of the first element of an array, then an index below it, and puts the address of that element;
+    /// stops with Address where the index less the lower bound does not fit, or the element is outside the data area.
+    /// From the first address on at least `span` words are in the data area.
+    Element {
         lower: i16,
-        length: u16,
+        span: u16,
+        line: u16,
+    },
+    /// The same of an array of two dimensions, whose index of a row is below the other one, and whose rows have `width`
+    /// words; stops with Address where the place of the row, or that of the element, does not fit too.
+    ElementOfTwo {
+        lower: i16,
+        second: i16,
+        width: u16,
+        span: u16,
+        line: u16,
+    },
+    /// Takes the address of the first word of a table, then the number of an entry below it, and puts the address of that
+    /// word of the entry; entries have `width` words. It stops with Address where the number times that, or this with the
+    /// word added, does not fit, or the word is outside the data area. `span` is as in `Element`.
+    Entry {
+        width: u16,
+        word: u16,
+        span: u16,
         line: u16,
     },
     /// Stops with Address where the top operand is no address of the data area.

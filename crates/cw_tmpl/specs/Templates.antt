@@ -134,20 +134,51 @@ abbrev pub quotient : (line : ℕ) → ℤ → List Coded
 quotient line (pos n) = divisor_tested line ++ by_routine line quotient_up_entry n
 quotient line (negsuc n) = divisor_tested line ++ by_routine line quotient_down_entry (n + 1)
 
-abbrev pub row_start : (line : ℕ) → (lower : ℤ) → List Coded
-row_start line lower =
-    coded.Whole (move cx ax) ∷ coded.Whole (i86.Pop ax) ∷ coded.Whole (set_word bx (unsigned lower)) ∷ coded.Whole (subtract ax bx)
-    ∷ unless_overflow address_entry line
-
-abbrev pub row_end : (line : ℕ) → List Coded
-row_end line = coded.Whole (add ax cx) ∷ unless_overflow address_entry line
-
-abbrev pub index_row : (line : ℕ) → (lower : ℤ) → (n : ℕ) → List Coded
-index_row line lower n = row_start line lower ++ (times address_entry line n ++ row_end line)
-
 -- the address in AX is tested
 abbrev pub in_area : (line : ℕ) → List Coded
 in_area line = coded.Whole (compare ax di) ∷ coded.Whole (jump_if_below 5) ∷ call_stop address_entry line
+
+-- an operation on AX and a number, on the way to an address
+abbrev pub index_by : (op line w : ℕ) → List Coded
+index_by op line w = coded.Whole (with_number op w) ∷ unless_overflow address_entry line
+
+-- an index less the lower bound
+abbrev pub less_bound : (line : ℕ) → (lower : ℤ) → List Coded
+less_bound line (pos zero) = []
+less_bound line lower = index_by 5 line (unsigned lower)
+
+-- the place of a word in its entry is added
+abbrev pub plus_word : (line word : ℕ) → List Coded
+plus_word line zero = []
+plus_word line (suc n) = index_by 0 line (suc n)
+
+-- the number of an entry times its words
+abbrev pub times_width : (line width : ℕ) → List Coded
+times_width line width = if width == 1 then [] else times address_entry line width
+
+-- the base goes from AX to SI, and what was below it comes to AX
+abbrev pub base_kept : List Coded
+base_kept = coded.Whole (move si ax) ∷ coded.Whole (i86.Pop ax) ∷ []
+
+-- and is added
+abbrev pub based : (line : ℕ) → List Coded
+based line = coded.Whole (add ax si) ∷ (unless_overflow address_entry line ++ in_area line)
+
+abbrev pub element : (line : ℕ) → (lower : ℤ) → List Coded
+element line lower = base_kept ++ (less_bound line lower ++ based line)
+
+-- the place in the row, in CX, is added
+abbrev pub in_row : (line : ℕ) → List Coded
+in_row line = coded.Whole (add ax cx) ∷ unless_overflow address_entry line
+
+abbrev pub element_of_two : (line : ℕ) → (lower second : ℤ) → (width : ℕ) → List Coded
+element_of_two line lower second width =
+    base_kept
+    ++ (less_bound line second
+    ++ (coded.Whole (move cx ax) ∷ coded.Whole (i86.Pop ax) ∷ (less_bound line lower ++ (times address_entry line width ++ (in_row line ++ based line)))))
+
+abbrev pub entry : (line width word : ℕ) → List Coded
+entry line width word = base_kept ++ (times_width line width ++ (plus_word line word ++ based line))
 
 -- the top operand is compared with both bounds
 abbrev pub in_bounds : (line : ℕ) → (lower upper : ℤ) → List Coded
@@ -280,10 +311,9 @@ template names place order.Xor = on_both (one_of ax bx)
 template names place (order.Take t b) = taken t b
 template names place order.Less = take_two ++ (coded.Whole (subtract ax bx) ∷ [])
 template names place (order.IndexLess lower line) = with_word address_entry line (unsigned lower) (subtract ax bx)
-template names place (order.IndexTimes n line) = times address_entry line n
-template names place (order.IndexPlus n line) = with_word address_entry line n (add ax bx)
-template names place (order.IndexAdd line) = coded.Whole (i86.Pop bx) ∷ coded.Whole (add ax bx) ∷ unless_overflow address_entry line
-template names place (order.IndexRow lower n line) = index_row line lower n
+template names place (order.Element lower span line) = element line lower
+template names place (order.ElementOfTwo lower second width span line) = element_of_two line lower second width
+template names place (order.Entry width word span line) = entry line width word
 template names place (order.InArea line) = in_area line
 template names place (order.InBounds lower upper line) = in_bounds line lower upper
 template names place order.ReadByte = call_library read_entry ∷ []
@@ -376,6 +406,18 @@ order_size o = block_size block.Single o
 abbrev pub times_size : ℕ → ℕ
 times_size n = if n == 32768 then 14 else 12
 
+abbrev pub width_size : ℕ → ℕ
+width_size width = if width == 1 then 0 else times_size width
+
+-- an index less a lower bound, and with a number added
+abbrev pub bound_size : ℤ → ℕ
+bound_size (pos zero) = 0
+bound_size lower = 10
+
+abbrev pub word_size : ℕ → ℕ
+word_size zero = 0
+word_size (suc n) = 10
+
 -- the same, order by order
 abbrev pub listed_size : Order → ℕ
 listed_size order.Save = 1
@@ -400,10 +442,9 @@ listed_size (order.Take t b) = 10
 listed_size order.Less = 5
 listed_size order.Drop = 0
 listed_size (order.IndexLess lower line) = 12
-listed_size (order.IndexTimes n line) = times_size n
-listed_size (order.IndexPlus n line) = 12
-listed_size (order.IndexAdd line) = 10
-listed_size (order.IndexRow lower n line) = times_size n + 24
+listed_size (order.Element lower span line) = bound_size lower + 21
+listed_size (order.ElementOfTwo lower second width span line) = bound_size second + bound_size lower + times_size width + 33
+listed_size (order.Entry width word span line) = width_size width + word_size word + 21
 listed_size (order.InArea line) = 9
 listed_size (order.InBounds lower upper line) = 20
 listed_size order.ReadByte = 3
