@@ -1,4 +1,5 @@
 pub mod Growing
 pub mod Filling
 pub mod Blank
+pub mod Shapes
 pub mod Sizes

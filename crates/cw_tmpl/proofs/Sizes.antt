@@ -5,7 +5,14 @@ use Rattle.cw_order.specs.declared.order.Order.{Order}
 use Rattle.cw_order.specs.declared.order.Order.TheVariants as order
 use Rattle.cw_order.specs.declared.order.Orders.{Orders}
 use Rattle.cw_tmpl.specs.declared.pieces.Coded.{Coded}
+use Rattle.cw_i86.specs.declared.instr.Instr.TheVariants as i86
+use Rattle.cw_tmpl.specs.declared.pieces.Coded.TheVariants as coded
+use Rattle.cw_tmpl.specs.Mnemonics.{ax, cx, move}
+use Rattle.cw_tmpl.specs.declared.blocks.Place.{Place}
+use Rattle.cw_tmpl.specs.declared.blocks.Place.TheVariants as cell
+use Rattle.cw_tmpl.specs.declared.blocks.Simple.{Simple}
 use Rattle.cw_tmpl.specs.declared.blocks.Simple.TheVariants as simple
+use Rattle.cw_tmpl.specs.declared.blocks.Use.{Use}
 use Rattle.cw_tmpl.specs.declared.blocks.Use.TheVariants as uses
 use Rattle.cw_tmpl.specs.declared.blocks.Block.{Block}
 use Rattle.cw_tmpl.specs.declared.blocks.Block.TheVariants as block
@@ -14,9 +21,10 @@ use Rattle.cw_unit.specs.declared.unit.Goal.TheVariants as goal
 use Rattle.cw_order.specs.declared.order.LabelMark.{LabelMark}
 use Rattle.cw_tmpl.specs.Pieces.{blanks}
 use Rattle.cw_tmpl.specs.Names.{Names, no_names, switch_size}
-use Rattle.cw_tmpl.specs.Blocks.{use_of, is_plain_divisor, after_saved_const, with_variable, after_saved_home, after_saved_frame_home, after_save, after_home, after_frame_home, block_at, orders_left, left_at}
+use Rattle.cw_tmpl.specs.Blocks.{address_orders, operand_orders, order_of, block_of, block_at, orders_left, left_at}
+use Rattle.cw_tmpl.proofs.Shapes.{IsBlock, shape}
 use Rattle.cw_tmpl.specs.Library.{overflow_entry, address_entry}
-use Rattle.cw_tmpl.specs.Templates.{template, mark_words, goal_words, landing_pieces, switch_pieces, times_if, rescale_if, product_start, product_down, row_start, row_end, block_pieces, block_size, order_size, listed_size, size_behind, sizes_behind, listed_sizes, distance, entry_pieces}
+use Rattle.cw_tmpl.specs.Templates.{template, mark_words, goal_words, landing_pieces, switch_pieces, times_if, rescale_if, product_start, product_down, times, less_bound, plus_word, times_width, based, element, in_row, element_of_two, entry, address_pieces, load_place, store_place, pieces_size, operated, block_pieces, block_size, order_size, times_size, width_size, bound_size, word_size, listed_size, size_behind, sizes_behind, listed_sizes, distance, entry_pieces}
 use Rattle.cw_tmpl.specs.ReferenceCode.{templates, landings, switches, places_from, entry_size, order_places, landings_place, switches_place, names_of, mark_starts, pieces_of, switch_sizes, StandsAt}
 use Rattle.cw_tmpl.proofs.Growing.{blanks-append}
 
@@ -39,18 +47,14 @@ size_everywhere names place (block.Within n) o = refl
 size_everywhere names place block.Single (order.JumpIf c mark) = refl
 size_everywhere names place block.Single (order.LoopWay marks) = loop_way_long names place marks ∙ sym (loop_way_long no_names 0 marks)
 size_everywhere names place block.Single _ = refl
-size_everywhere names place (block.Fetch f n) o = refl
-size_everywhere names place (block.Assign f n) o = refl
-size_everywhere names place (block.FetchFrame n) o = refl
-size_everywhere names place (block.AssignFrame n) o = refl
+size_everywhere names place (block.Fetch x) o = refl
+size_everywhere names place (block.Assign x) o = refl
 size_everywhere names place block.Write o = refl
-size_everywhere names place (block.Divide w) o = refl
-size_everywhere names place (block.Operate (simple.Number w) (uses.Add line)) o = refl
-size_everywhere names place (block.Operate (simple.Number w) (uses.Subtract line)) o = refl
+size_everywhere names place (block.Divide w line) o = refl
 size_everywhere names place (block.Operate (simple.Number w) (uses.Compare c m)) o = refl
-size_everywhere names place (block.Operate (simple.Variable f n) (uses.Add line)) o = refl
-size_everywhere names place (block.Operate (simple.Variable f n) (uses.Subtract line)) o = refl
-size_everywhere names place (block.Operate (simple.Variable f n) (uses.Compare c m)) o = refl
+size_everywhere names place (block.Operate (simple.Contents (cell.Word f n)) (uses.Compare c m)) o = refl
+size_everywhere names place (block.Operate (simple.Contents (cell.Frame n)) (uses.Compare c m)) o = refl
+size_everywhere names place (block.Operate s u) o = refl
 
 -- ---- the code before a place of the list
 
@@ -179,57 +183,23 @@ behind_save : (x : Order) → ((y : Order) → size_behind (Some order.Save) (So
 behind_save x same [] = refl
 behind_save x same (y ∷ ys) = ap (λ n. n + sizes_behind (Some x) (Some y) ys) (same y)
 
--- a block, and the orders behind it
-abbrev from_block : (b : Block) (o : Order) → List Order → ℕ
-from_block b o os = block_size b o + listed_sizes (drop (orders_left b) os)
-
-quotient_fits : (plain : Bool) (w line : ℕ) (os : List Order) → from_block (if plain then block.Divide w else block.Single) order.Save (order.Const w ∷ order.Div (pos zero) line ∷ os) ≤ listed_sizes (order.Save ∷ order.Const w ∷ order.Div (pos zero) line ∷ os)
-quotient_fits true w line os = omega (arith, behind_other (Some (order.Const w)) (order.Div (pos zero) line) tt (λ x. refl) os)
-quotient_fits false w line os = omega arith
-
-number_fits : (w : ℕ) (os : List Order) → from_block (after_saved_const w (slice_get os 0)) order.Save (order.Const w ∷ os) ≤ listed_sizes (order.Save ∷ order.Const w ∷ os)
-number_fits w [] = omega arith
-number_fits w (order.Add line ∷ os) = omega (arith, behind_other (Some (order.Const w)) (order.Add line) tt (λ x. refl) os)
-number_fits w (order.Sub line ∷ os) = omega (arith, behind_other (Some (order.Const w)) (order.Sub line) tt (λ x. refl) os)
-number_fits w (order.JumpIf c m ∷ os) = omega (arith, behind_other (Some (order.Const w)) (order.JumpIf c m) tt (λ x. refl) os)
-number_fits w (order.Div (pos zero) line ∷ os) = quotient_fits (is_plain_divisor w) w line os
-number_fits w (x ∷ os) = omega arith
-
-variable_fits : (f n : ℕ) (os : List Order) → from_block (with_variable f n (use_of (slice_get os 0))) order.Save (order.Home f n ∷ order.Load ∷ os) ≤ listed_sizes (order.Save ∷ order.Home f n ∷ order.Load ∷ os)
-variable_fits f n [] = omega arith
-variable_fits f n (order.Add line ∷ os) = omega (arith, behind_other (Some order.Load) (order.Add line) tt (λ x. refl) os)
-variable_fits f n (order.Sub line ∷ os) = omega (arith, behind_other (Some order.Load) (order.Sub line) tt (λ x. refl) os)
-variable_fits f n (order.JumpIf c m ∷ os) = omega (arith, behind_other (Some order.Load) (order.JumpIf c m) tt (λ x. refl) os)
-variable_fits f n (x ∷ os) = omega arith
-
-saved_home_fits : (f n : ℕ) (os : List Order) → from_block (after_saved_home f n (slice_get os 0) (slice_get os 1)) order.Save (order.Home f n ∷ os) ≤ listed_sizes (order.Save ∷ order.Home f n ∷ os)
-saved_home_fits f n [] = omega arith
-saved_home_fits f n (order.Load ∷ os) = variable_fits f n os
-saved_home_fits f n (order.Store ∷ os) = omega (arith, behind_other (Some (order.Home f n)) order.Store tt (λ x. refl) os)
-saved_home_fits f n (x ∷ os) = omega arith
-
-saved_frame_fits : (n : ℕ) (os : List Order) → from_block (after_saved_frame_home n (slice_get os 0)) order.Save (order.FrameHome n ∷ os) ≤ listed_sizes (order.Save ∷ order.FrameHome n ∷ os)
-saved_frame_fits n [] = omega arith
-saved_frame_fits n (order.Store ∷ os) = omega (arith, behind_other (Some (order.FrameHome n)) order.Store tt (λ x. refl) os)
-saved_frame_fits n (x ∷ os) = omega arith
-
-save_fits : (os : List Order) → from_block (after_save (slice_get os 0) (slice_get os 1) (slice_get os 2)) order.Save os ≤ listed_sizes (order.Save ∷ os)
-save_fits [] = omega arith
-save_fits (order.Const w ∷ os) = number_fits w os
-save_fits (order.Home f n ∷ os) = saved_home_fits f n os
-save_fits (order.FrameHome n ∷ os) = saved_frame_fits n os
-save_fits (order.WriteByte ∷ os) = omega (arith, behind_other (Some order.Save) order.WriteByte tt (λ x. refl) os)
-save_fits (x ∷ os) = omega (arith, behind_save x (λ y. refl) os)
-
-home_fits : (f n : ℕ) (os : List Order) → from_block (after_home f n (slice_get os 0)) (order.Home f n) os ≤ listed_sizes (order.Home f n ∷ os)
-home_fits f n [] = omega arith
-home_fits f n (order.Load ∷ os) = omega (arith, behind_other (Some (order.Home f n)) order.Load tt (λ x. refl) os)
-home_fits f n (x ∷ os) = omega (arith, behind_unsaved (order.Home f n) tt x os)
-
-frame_fits : (n : ℕ) (os : List Order) → from_block (after_frame_home n (slice_get os 0)) (order.FrameHome n) os ≤ listed_sizes (order.FrameHome n ∷ os)
-frame_fits n [] = omega arith
-frame_fits n (order.Load ∷ os) = omega (arith, behind_other (Some (order.FrameHome n)) order.Load tt (λ x. refl) os)
-frame_fits n (x ∷ os) = omega (arith, behind_unsaved (order.FrameHome n) tt x os)
+-- an order alone, and the orders behind it
+single_fits : (o : Order) (os : List Order) → block_of (o ∷ os) ≡ block.Single → listed_size o + listed_sizes os ≤ listed_sizes (o ∷ os)
+single_fits order.Save [] is = omega arith
+single_fits order.Save (order.Home f n ∷ []) is = omega arith
+single_fits order.Save (order.Home f n ∷ order.Store ∷ os) is = absurd (cc)
+single_fits order.Save (order.Home f n ∷ o ∷ os) is = omega arith
+single_fits order.Save (order.FrameHome n ∷ []) is = omega arith
+single_fits order.Save (order.FrameHome n ∷ order.Store ∷ os) is = absurd (cc)
+single_fits order.Save (order.FrameHome n ∷ o ∷ os) is = omega arith
+single_fits order.Save (x ∷ os) is = omega (arith, behind_save x (λ y. refl) os)
+single_fits (order.Home f n) [] is = omega arith
+single_fits (order.Home f n) (order.Load ∷ os) is = absurd (cc)
+single_fits (order.Home f n) (x ∷ os) is = omega (arith, behind_unsaved (order.Home f n) tt x os)
+single_fits (order.FrameHome n) [] is = omega arith
+single_fits (order.FrameHome n) (order.Load ∷ os) is = absurd (cc)
+single_fits (order.FrameHome n) (x ∷ os) is = omega (arith, behind_unsaved (order.FrameHome n) tt x os)
+single_fits o os is = omega (arith, behind_other None o tt (λ x. refl) os)
 
 -- a multiplication by a number, and codes that hang on one
 times_long : (b : Bool) (stop line n : ℕ) → length (blanks (times_if b stop line n)) ≡ (if b then 14 else 12)
@@ -248,9 +218,38 @@ product_down_long : (b : Bool) (line n : ℕ) → length (blanks (product_down l
 product_down_long true line n = refl
 product_down_long false line n = refl
 
-row_long : (b : Bool) (line : ℕ) (lower : ℤ) (n : ℕ) → length (blanks (row_start line lower ++ (times_if b address_entry line n ++ row_end line))) ≡ (if b then 14 else 12) + 24
-row_long true line lower n = refl
-row_long false line lower n = refl
+appended_long : (a b : List Coded) → length (blanks (a ++ b)) ≡ length (blanks a) + length (blanks b)
+appended_long a b = ap length (blanks-append a b) ∙ length-append (blanks a) (blanks b)
+
+bound_long : (line : ℕ) (lower : ℤ) → length (blanks (less_bound line lower)) ≡ bound_size lower
+bound_long line (pos zero) = refl
+bound_long line (pos (suc n)) = refl
+bound_long line (negsuc n) = refl
+
+word_long : (line word : ℕ) → length (blanks (plus_word line word)) ≡ word_size word
+word_long line zero = refl
+word_long line (suc n) = refl
+
+width_long : (one top : Bool) (line n : ℕ)
+    → length (blanks (if one then [] else times_if top address_entry line n)) ≡ (if one then 0 else if top then 14 else 12)
+width_long true top line n = refl
+width_long false top line n = times_long top address_entry line n
+
+element_long : (line : ℕ) (lower : ℤ) → length (blanks (element line lower)) ≡ bound_size lower + 21
+element_long line lower = omega (arith, appended_long (less_bound line lower) (based line), bound_long line lower)
+
+element_of_two_long : (line : ℕ) (lower second : ℤ) (n : ℕ)
+    → length (blanks (element_of_two line lower second n)) ≡ bound_size second + bound_size lower + times_size n + 33
+element_of_two_long line lower second n =
+    let T : List Coded = times address_entry line n in
+    let last : List Coded = in_row line ++ based line in
+    let row : List Coded = less_bound line lower ++ (T ++ last) in
+    omega (arith, appended_long (less_bound line second) (coded.Whole (move cx ax) ∷ coded.Whole (i86.Pop ax) ∷ row), appended_long (less_bound line lower) (T ++ last), appended_long T last, bound_long line second, bound_long line lower, times_long (n == 32768) address_entry line n)
+
+entry_long : (line width word : ℕ) → length (blanks (entry line width word)) ≡ width_size width + word_size word + 21
+entry_long line width word =
+    let rest : List Coded = plus_word line word ++ based line in
+    omega (arith, appended_long (times_width line width) rest, appended_long (plus_word line word) (based line), width_long (width == 1) (width == 32768) line width, word_long line word)
 
 pub listed : (o : Order) → order_size o ≡ listed_size o
 listed (order.JumpIf c m) = refl
@@ -263,15 +262,82 @@ listed (order.Mul (negsuc n) line) = product_down_long (nat_lt n 15) line n
 listed (order.Div (pos n) line) = refl
 listed (order.Div (negsuc n) line) = refl
 listed (order.LoopWay marks) = loop_way_long no_names 0 marks
-listed (order.IndexTimes n line) = times_long (n == 32768) address_entry line n
-listed (order.IndexRow lower n line) = row_long (n == 32768) line lower n
+listed (order.Element lower span line) = element_long line lower
+listed (order.ElementOfTwo lower second width span line) = element_of_two_long line lower second width
+listed (order.Entry width word span line) = entry_long line width word
 listed _ = refl
 
-block_fits : (o : Order) (os : List Order) → from_block (block_at 0 (o ∷ os)) o os ≤ listed_sizes (o ∷ os)
-block_fits order.Save os = save_fits os
-block_fits (order.Home f n) os = home_fits f n os
-block_fits (order.FrameHome n) os = frame_fits n os
-block_fits o os = omega (arith, listed o, behind_other None o tt (λ x. refl) os)
+-- the orders of a block, and those behind it
+fetch_fits : (x : Place) (rest : List Order) → pieces_size (address_pieces x ++ load_place x ∷ []) + listed_sizes rest ≤ listed_sizes (address_orders x ++ order.Load ∷ rest)
+fetch_fits (cell.Word f n) rest = omega (arith, behind_other (Some (order.Home f n)) order.Load tt (λ x. refl) rest)
+fetch_fits (cell.Frame n) rest = omega (arith, behind_other (Some (order.FrameHome n)) order.Load tt (λ x. refl) rest)
+
+assign_fits : (x : Place) (rest : List Order) → pieces_size (address_pieces x ++ store_place x ∷ []) + listed_sizes rest ≤ listed_sizes (order.Save ∷ (address_orders x ++ order.Store ∷ rest))
+assign_fits (cell.Word f n) rest = omega (arith, behind_other (Some (order.Home f n)) order.Store tt (λ x. refl) rest)
+assign_fits (cell.Frame n) rest = omega (arith, behind_other (Some (order.FrameHome n)) order.Store tt (λ x. refl) rest)
+
+-- behind an order that takes a simple operand
+used_last : (before : Order) (u : Use) (rest : List Order) → sizes_behind (Some before) (Some (order_of u)) rest ≡ listed_sizes rest
+used_last before (uses.Add line) rest = behind_other (Some before) (order.Add line) tt (λ x. refl) rest
+used_last before (uses.Subtract line) rest = behind_other (Some before) (order.Sub line) tt (λ x. refl) rest
+used_last before (uses.Multiply line) rest = behind_other (Some before) (order.Mul (pos 0) line) tt (λ x. refl) rest
+used_last before uses.Mask rest = behind_other (Some before) order.And tt (λ x. refl) rest
+used_last before uses.Union rest = behind_other (Some before) order.Or tt (λ x. refl) rest
+used_last before uses.Differ rest = behind_other (Some before) order.Xor tt (λ x. refl) rest
+used_last before (uses.Compare c m) rest = behind_other (Some before) (order.JumpIf c m) tt (λ x. refl) rest
+
+operate_fits : (s : Simple) (u : Use) (rest : List Order) → pieces_size (operated no_names 0 s u) + listed_sizes rest ≤ listed_sizes (order.Save ∷ (operand_orders s ++ order_of u ∷ rest))
+operate_fits (simple.Number w) u rest = number u (used_last (order.Const w) u rest)
+  where
+    number : (u : Use) → sizes_behind (Some (order.Const w)) (Some (order_of u)) rest ≡ listed_sizes rest → pieces_size (operated no_names 0 (simple.Number w) u) + listed_sizes rest ≤ listed_sizes (order.Save ∷ order.Const w ∷ order_of u ∷ rest)
+    number (uses.Add line) e = omega (arith, e)
+    number (uses.Subtract line) e = omega (arith, e)
+    number (uses.Multiply line) e = omega (arith, e)
+    number uses.Mask e = omega (arith, e)
+    number uses.Union e = omega (arith, e)
+    number uses.Differ e = omega (arith, e)
+    number (uses.Compare c m) e = omega (arith, e)
+operate_fits (simple.Contents (cell.Word f n)) u rest = word u (used_last order.Load u rest)
+  where
+    word : (u : Use) → sizes_behind (Some order.Load) (Some (order_of u)) rest ≡ listed_sizes rest
+        → pieces_size (operated no_names 0 (simple.Contents (cell.Word f n)) u) + listed_sizes rest ≤ listed_sizes (order.Save ∷ order.Home f n ∷ order.Load ∷ order_of u ∷ rest)
+    word (uses.Add line) e = omega (arith, e)
+    word (uses.Subtract line) e = omega (arith, e)
+    word (uses.Multiply line) e = omega (arith, e)
+    word uses.Mask e = omega (arith, e)
+    word uses.Union e = omega (arith, e)
+    word uses.Differ e = omega (arith, e)
+    word (uses.Compare c m) e = omega (arith, e)
+operate_fits (simple.Contents (cell.Frame n)) u rest = word u (used_last order.Load u rest)
+  where
+    word : (u : Use) → sizes_behind (Some order.Load) (Some (order_of u)) rest ≡ listed_sizes rest
+        → pieces_size (operated no_names 0 (simple.Contents (cell.Frame n)) u) + listed_sizes rest ≤ listed_sizes (order.Save ∷ order.FrameHome n ∷ order.Load ∷ order_of u ∷ rest)
+    word (uses.Add line) e = omega (arith, e)
+    word (uses.Subtract line) e = omega (arith, e)
+    word (uses.Multiply line) e = omega (arith, e)
+    word uses.Mask e = omega (arith, e)
+    word uses.Union e = omega (arith, e)
+    word uses.Differ e = omega (arith, e)
+    word (uses.Compare c m) e = omega (arith, e)
+
+-- a block, and the orders behind it
+abbrev FromBlock : Block → Order → List Order → Type 0
+FromBlock b o os = block_size b o + listed_sizes (drop (orders_left b) os) ≤ listed_sizes (o ∷ os)
+
+block_fits : (o : Order) (os : List Order) → FromBlock (block_of (o ∷ os)) o os
+block_fits o os = cases (block_of (o ∷ os)) refl (shape (o ∷ os))
+  where
+    all : List Order
+    all = o ∷ os
+
+    cases : (b : Block) → block_of (o ∷ os) ≡ b → IsBlock b (o ∷ os) → FromBlock b o os
+    cases (block.Within n) is sh = absurd sh
+    cases block.Single is sh = omega (arith, listed o, single_fits o os is)
+    cases (block.Fetch x) is sh = omega (arith, fetch_fits x (drop (length (address_orders x)) os), ap listed_sizes sh)
+    cases (block.Assign x) is sh = omega (arith, assign_fits x (drop (suc (length (address_orders x))) os), ap listed_sizes sh)
+    cases block.Write is sh = omega (arith, ap listed_sizes sh, behind_other (Some order.Save) order.WriteByte tt (λ x. refl) (drop 1 os))
+    cases (block.Divide w line) is sh = omega (arith, ap listed_sizes sh.0, behind_other (Some (order.Const w)) (order.Div (pos 0) line) tt (λ x. refl) (drop 2 os))
+    cases (block.Operate s u) is sh = omega (arith, operate_fits s u (drop (suc (length (operand_orders s))) os), ap listed_sizes sh)
 
 whole_within : (names : Names) (place left : ℕ) (os : List Order) → length (blanks (templates names place left os)) ≤ listed_sizes (drop left os)
 whole_within names place zero [] = omega arith

@@ -22,6 +22,8 @@ use Rattle.cw_tmpl.specs.declared.pieces.Target.{Target}
 use Rattle.cw_tmpl.specs.declared.pieces.Target.TheVariants as target
 use Rattle.cw_tmpl.specs.declared.pieces.Coded.{Coded}
 use Rattle.cw_tmpl.specs.declared.pieces.Coded.TheVariants as coded
+use Rattle.cw_tmpl.specs.declared.blocks.Place.{Place}
+use Rattle.cw_tmpl.specs.declared.blocks.Place.TheVariants as cell
 use Rattle.cw_tmpl.specs.declared.blocks.Simple.{Simple}
 use Rattle.cw_tmpl.specs.declared.blocks.Simple.TheVariants as simple
 use Rattle.cw_tmpl.specs.declared.blocks.Use.{Use}
@@ -361,30 +363,65 @@ template names place (order.GoSwitchSpecial k line) =
 template names place order.Drop = []
 template names place order.Mark = []
 
--- ---- blocks
+-- ---- places and simple operands
 
--- an operation of the arithmetic unit on AX and a simple operand
+-- what is needed before an instruction names a place
+abbrev pub address_pieces : Place → List Coded
+address_pieces (cell.Word family offset) = []
+address_pieces (cell.Frame n) = coded.Whole (load bx (slot base_slot)) ∷ coded.Whole (double bx) ∷ []
+
+-- AX from a place, and to it
+abbrev pub load_place : Place → Coded
+load_place (cell.Word family offset) = coded.Load (target.Bytes family offset)
+load_place (cell.Frame n) = coded.Whole (load ax (field (2 * n % 65536)))
+
+abbrev pub store_place : Place → Coded
+store_place (cell.Word family offset) = coded.Store (target.Bytes family offset)
+store_place (cell.Frame n) = coded.Whole (store (field (2 * n % 65536)) ax)
+
+-- an operation of the arithmetic unit on AX and the word there
+abbrev pub operate_place : ℕ → Place → Coded
+operate_place op (cell.Word family offset) = coded.Operate op ax (target.Bytes family offset)
+operate_place op (cell.Frame n) = coded.Whole (i86.AluRm op true true ax (field (2 * n % 65536)))
+
+-- the same with a simple operand
+abbrev pub operand_pieces : Simple → List Coded
+operand_pieces (simple.Number w) = []
+operand_pieces (simple.Contents x) = address_pieces x
+
 abbrev pub operation : ℕ → Simple → Coded
 operation op (simple.Number w) = coded.Whole (with_number op w)
-operation op (simple.Variable family offset) = coded.Operate op ax (target.Bytes family offset)
+operation op (simple.Contents x) = operate_place op x
+
+-- AX times it
+abbrev pub product_with : Simple → List Coded
+product_with (simple.Number w) = coded.Whole (set_word bx w) ∷ coded.Whole (multiply bx) ∷ []
+product_with (simple.Contents x) = coded.Whole (move cx ax) ∷ (address_pieces x ++ load_place x ∷ coded.Whole (multiply cx) ∷ [])
+
+-- ---- blocks
+
+-- the bytes of pieces
+abbrev pub pieces_size : List Coded → ℕ
+pieces_size ps = length (blanks ps)
 
 abbrev pub operated : Names → (place : ℕ) → Simple → Use → List Coded
-operated names place s (uses.Add line) = operation 0 s ∷ checked line
-operated names place s (uses.Subtract line) = operation 5 s ∷ checked line
-operated names place s (uses.Compare c mark) = operation 7 s ∷ branch c (place + size_of (operation 7 s) + 5) (mark_place names mark)
+operated names place s (uses.Add line) = operand_pieces s ++ operation 0 s ∷ checked line
+operated names place s (uses.Subtract line) = operand_pieces s ++ operation 5 s ∷ checked line
+operated names place s (uses.Multiply line) = product_with s ++ checked line
+operated names place s uses.Mask = operand_pieces s ++ operation 4 s ∷ []
+operated names place s uses.Union = operand_pieces s ++ operation 1 s ∷ []
+operated names place s uses.Differ = operand_pieces s ++ operation 6 s ∷ []
+operated names place s (uses.Compare c mark) =
+    operand_pieces s ++ operation 7 s ∷ branch c (place + pieces_size (operand_pieces s ++ operation 7 s ∷ []) + 5) (mark_place names mark)
 
 -- the code of a block, which begins with an order
 abbrev pub block_pieces : Names → (place : ℕ) → Block → Order → List Coded
 block_pieces names place (block.Within n) o = []
 block_pieces names place block.Single o = template names place o
-block_pieces names place (block.Fetch family offset) o = coded.Load (target.Bytes family offset) ∷ []
-block_pieces names place (block.Assign family offset) o = coded.Store (target.Bytes family offset) ∷ []
-block_pieces names place (block.FetchFrame n) o =
-    coded.Whole (load bx (slot base_slot)) ∷ coded.Whole (double bx) ∷ coded.Whole (load ax (field (2 * n % 65536))) ∷ []
-block_pieces names place (block.AssignFrame n) o =
-    coded.Whole (load bx (slot base_slot)) ∷ coded.Whole (double bx) ∷ coded.Whole (store (field (2 * n % 65536)) ax) ∷ []
+block_pieces names place (block.Fetch x) o = address_pieces x ++ load_place x ∷ []
+block_pieces names place (block.Assign x) o = address_pieces x ++ store_place x ∷ []
 block_pieces names place block.Write o = coded.Whole (i86.Out 0x12) ∷ []
-block_pieces names place (block.Divide w) o = coded.Whole (set_word bx w) ∷ coded.Whole i86.Cwd ∷ coded.Whole (divide_signed bx) ∷ []
+block_pieces names place (block.Divide w line) o = coded.Whole (set_word bx w) ∷ coded.Whole i86.Cwd ∷ coded.Whole (divide_signed bx) ∷ []
 block_pieces names place (block.Operate s u) o = operated names place s u
 
 -- what the code of a segment begins with: the base record is made
