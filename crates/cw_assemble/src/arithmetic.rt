@@ -4,7 +4,6 @@ ghost use Rattle.cw_i86.specs.Encoding.{IsInstr};
 ghost use Rattle.cw_order.specs.HasCode.{HasCode};
 ghost use Rattle.cw_order.specs.declared.order.Order.TheVariants as order;
 ghost use Rattle.cw_tmpl.specs.Assembling.{Adds};
-ghost use Rattle.cw_tmpl.specs.declared.blocks.Block.TheVariants as block;
 ghost use Rattle.cw_tmpl.specs.Names.{no_names};
 ghost use Rattle.cw_tmpl.specs.Templates.{template, checked, unless_overflow, on_both, with_word, times_if, times, rescale_if, rescale, by_routine, product_start, product_up, product_down, product, divisor_tested, quotient, block_pieces};
 
@@ -265,15 +264,4 @@ pub(crate) fn put_quotient(code: &mut Assembly, line: u16, scale: i8) -> Result<
     } else {
         put_routine(code, line, QUOTIENT_DOWN, scale.unsigned_abs())
     }
-}
-
-/// Adds the code of a quotient by a number in the processor's own division.
-pub(crate) fn put_divided_by(code: &mut Assembly, number: u16) -> Result<(), NoMemory>
-    ensures { OnOk result (Adds code.old (block_pieces no_names 0 (block.Divide number) order.Save) code.new) }
-{
-    code.put_all(&[
-        Coded::Whole(set_word(BX, number)),
-        Coded::Whole(Instr::Cwd),
-        Coded::Whole(divide_signed(BX)),
-    ])
 }

@@ -2,10 +2,9 @@
 ghost use Rattle.std.specs.Prelude.{◌≡◌, ◌*◌, ◌%◌, ◌<◌, length, OnOk};
 ghost use Rattle.cw_order.specs.declared.order.Order.TheVariants as order;
 ghost use Rattle.cw_tmpl.specs.Assembling.{Adds};
-ghost use Rattle.cw_tmpl.specs.declared.blocks.Block.TheVariants as block;
 ghost use Rattle.cw_tmpl.specs.Mnemonics.{field};
 ghost use Rattle.cw_tmpl.specs.Names.{no_names};
-ghost use Rattle.cw_tmpl.specs.Templates.{template, block_pieces, call_near, back_jump, control_out, return_with};
+ghost use Rattle.cw_tmpl.specs.Templates.{template, call_near, back_jump, control_out, return_with};
 
 use crate::jumping::distance;
 use cw_i86::{Instr, Rm};
@@ -98,7 +97,7 @@ pub(crate) fn put_bind(
 }
 
 /// A word of the frame, where BX has the bytes of its base.
-fn frame_field(offset: u16) -> Rm
+pub(crate) fn frame_field(offset: u16) -> Rm
     ensures { result ≡ field (2 * offset % 65536) }
 {
     let by = (2 * u32::from(offset) % 65_536) as u16;
@@ -114,28 +113,6 @@ pub(crate) fn put_bind_frame(code: &mut Assembly, words: u8, offset: u16) -> Res
         Coded::Whole(load(BX, BASE)),
         Coded::Whole(double(BX)),
         Coded::Whole(store(frame_field(offset), CX)),
-    ])
-}
-
-/// Adds what puts a word of the frame.
-pub(crate) fn put_fetch_frame(code: &mut Assembly, offset: u16) -> Result<(), NoMemory>
-    ensures { OnOk result (Adds code.old (block_pieces no_names 0 (block.FetchFrame offset) order.Load) code.new) }
-{
-    code.put_all(&[
-        Coded::Whole(load(BX, BASE)),
-        Coded::Whole(double(BX)),
-        Coded::Whole(load(AX, frame_field(offset))),
-    ])
-}
-
-/// Adds what stores the top operand in a word of the frame.
-pub(crate) fn put_assign_frame(code: &mut Assembly, offset: u16) -> Result<(), NoMemory>
-    ensures { OnOk result (Adds code.old (block_pieces no_names 0 (block.AssignFrame offset) order.Store) code.new) }
-{
-    code.put_all(&[
-        Coded::Whole(load(BX, BASE)),
-        Coded::Whole(double(BX)),
-        Coded::Whole(store(frame_field(offset), AX)),
     ])
 }
 

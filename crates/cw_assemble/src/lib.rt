@@ -3,6 +3,7 @@
 
 mod arithmetic;
 mod assembling;
+mod blocks;
 mod calling;
 mod indexes;
 mod jumping;

@@ -1,26 +1,25 @@
-//! Code of orders and of their blocks.
+//! Code of orders.
 ghost use Rattle.std.specs.Prelude.{◌≡◌, ◌+◌, ◌<◌, ◌++◌, ◌∷◌, [], length, OnOk};
 ghost use Rattle.cw_order.specs.HasCode.{HasCode};
 ghost use Rattle.cw_order.specs.declared.order.Order.TheVariants as order;
 ghost use Rattle.cw_tmpl.specs.Assembling.{Adds};
 ghost use Rattle.cw_tmpl.specs.Names.{no_names};
-ghost use Rattle.cw_tmpl.specs.Pieces.{size_of, IsCoded};
-ghost use Rattle.cw_tmpl.specs.Templates.{template, operation, operated, block_pieces};
+ghost use Rattle.cw_tmpl.specs.Templates.{template};
 
 use crate::arithmetic::{
-    put_checked, put_divided_by, put_less, put_on_both, put_product, put_quotient, put_rescale,
+    put_checked, put_less, put_on_both, put_product, put_quotient, put_rescale,
     put_with_word,
 };
 use crate::calling::{
-    put_assign_frame, put_bind, put_bind_frame, put_call, put_call_common, put_call_special,
-    put_control, put_enter, put_fetch_frame, put_frame_home, put_read_byte, put_return,
+    put_bind, put_bind_frame, put_call, put_call_common, put_call_special,
+    put_control, put_enter, put_frame_home, put_read_byte, put_return,
     put_special_out,
 };
 use crate::indexes::{
     put_call_at_line, put_element, put_element_of_two, put_entry, put_in_area, put_in_bounds,
 };
 use crate::jumping::{
-    distance, opposite, put_base_jump, put_go_special, put_go_switch, put_go_switch_common,
+    put_base_jump, put_go_special, put_go_switch, put_go_switch_common,
     put_go_switch_special, put_jump, put_jump_if, put_loop_way, put_past_limit,
 };
 use crate::parts::{put_load_part, put_store_part, put_take};
@@ -31,7 +30,7 @@ use cw_tmpl::instructions::{
     one_of, set_word, store, subtract, with_number,
 };
 use cw_tmpl::library::{ADD_STEP, ADDRESS, PUT_VARIABLE, SET_VARIABLE};
-use cw_tmpl::{Assembly, Block, Coded, Names, Simple, Target, Use, own};
+use cw_tmpl::{Assembly, Coded, Names, Target, own};
 use cw_word::NoMemory;
 
 fn put_const(code: &mut Assembly, word: u16) -> Result<(), NoMemory>
@@ -116,7 +115,7 @@ fn put_go_common(code: &mut Assembly, descriptor: u16) -> Result<(), NoMemory>
 }
 
 /// Adds the code of an order alone.
-fn put_order(code: &mut Assembly, order: &Order, names: &Names) -> Result<(), NoMemory>
+pub(crate) fn put_order(code: &mut Assembly, order: &Order, names: &Names) -> Result<(), NoMemory>
     requires { HasCode order.now }
     ensures { OnOk result (Adds code.old (template names.now (length code.old.bytes) order.now) code.new) }
 {
@@ -209,91 +208,5 @@ fn put_order(code: &mut Assembly, order: &Order, names: &Names) -> Result<(), No
         Order::Start(_) => code.put_all(&[Coded::Whole(nothing())]),
         Order::NextBody => put_next_body(code),
         Order::Drop | Order::Mark => Ok(()),
-    }
-}
-
-/// Adds the code of a simple operand and an order that uses it.
-fn put_operated(
-    code: &mut Assembly,
-    operand: Simple,
-    with: Use,
-    names: &Names,
-) -> Result<(), NoMemory>
-    ensures { OnOk result (Adds code.old (operated names.now (length code.old.bytes) operand with) code.new) }
-{
-    match with {
-        Use::Add(line) => {
-            code.put_all(&[operation(0, operand)])?;
-            put_checked(code, line)
-        }
-        Use::Subtract(line) => {
-            code.put_all(&[operation(5, operand)])?;
-            put_checked(code, line)
-        }
-        Use::Compare { comparator, mark } => {
-            let end = code.bytes.as_slice().len() + operation_size(operand) + 5;
-            let to = u64::from(names.mark(mark));
-            code.put_all(&[
-                operation(7, operand),
-                Coded::Whole(Instr::JumpIf {
-                    cond: opposite(comparator),
-                    by: 3,
-                }),
-                Coded::Whole(Instr::Jump(distance(end, to))),
-            ])
-        }
-    }
-}
-
-/// Adds the code of a block that begins with an order.
-pub(crate) fn put_block(
-    code: &mut Assembly,
-    block: Block,
-    order: &Order,
-    names: &Names,
-) -> Result<(), NoMemory>
-    requires { HasCode order.now }
-    ensures { OnOk result (Adds code.old (block_pieces names.now (length code.old.bytes) block order.now) code.new) }
-{
-    match block {
-        Block::Within(_) => code.put_all(&[]),
-        Block::Single => put_order(code, order, names),
-        Block::Fetch { family, offset } => {
-            code.put_all(&[Coded::Load(Target::Bytes { family, offset })])
-        }
-        Block::Assign { family, offset } => {
-            code.put_all(&[Coded::Store(Target::Bytes { family, offset })])
-        }
-        Block::FetchFrame { offset } => put_fetch_frame(code, offset),
-        Block::AssignFrame { offset } => put_assign_frame(code, offset),
-        Block::Write => code.put_all(&[Coded::Whole(Instr::Out(0x12))]),
-        Block::Divide { by } => put_divided_by(code, by),
-        Block::Operate { operand, with } => put_operated(code, operand, with, names),
-    }
-}
-
-/// An operation of the arithmetic unit on AX and a simple operand.
-fn operation(number: u8, operand: Simple) -> Coded
-    requires { number < 8 }
-    ensures value { result ≡ operation number operand }
-    ensures coded { IsCoded result }
-{
-    match operand {
-        Simple::Number(word) => Coded::Whole(with_number(number, word)),
-        Simple::Variable { family, offset } => Coded::Operate {
-            operation: number,
-            reg: AX,
-            target: Target::Bytes { family, offset },
-        },
-    }
-}
-
-/// Its size.
-fn operation_size(operand: Simple) -> usize
-    ensures { result ≡ size_of (operation 7 operand) }
-{
-    match operand {
-        Simple::Number(_) => 3,
-        Simple::Variable { .. } => 4,
     }
 }

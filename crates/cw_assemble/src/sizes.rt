@@ -2,11 +2,12 @@
 ghost use Rattle.std.specs.Prelude.{◌≡◌, ◌≤◌, ◌+◌, ◌*◌, IfOk};
 ghost use Rattle.cw_order.specs.HasCode.{HasCode};
 ghost use Rattle.cw_order.specs.declared.order.Order.TheVariants as order;
+ghost use Rattle.cw_tmpl.specs.declared.blocks.Block.TheVariants as block;
 ghost use Rattle.cw_tmpl.specs.Templates.{times_size, width_size, bound_size, word_size, listed_size, order_size, block_size};
 
 use crate::words::power;
 use cw_order::Order;
-use cw_tmpl::{Block, Simple, Use};
+use cw_tmpl::{Block, Place, Simple, Use};
 use cw_word::NoMemory;
 
 /// How many bytes a multiplication by a number has.
@@ -131,6 +132,26 @@ fn order_size(order: &Order) -> Result<u32, NoMemory>
     Ok(size)
 }
 
+/// How many bytes the code of a simple operand and an order that uses it has.
+fn operated_size(operand: Simple, with: Use) -> u32
+    ensures { result ≡ block_size (block.Operate operand with) order.Save }
+{
+    match (operand, with) {
+        (Simple::Number(_), Use::Add(_) | Use::Subtract(_)) => 10,
+        (Simple::Number(_), Use::Multiply(_)) => 12,
+        (Simple::Number(_), Use::Mask | Use::Union | Use::Differ) => 3,
+        (Simple::Number(_), Use::Compare { .. }) => 8,
+        (Simple::Contents(Place::Word { .. }), Use::Add(_) | Use::Subtract(_)) => 11,
+        (Simple::Contents(Place::Word { .. }), Use::Multiply(_)) => 14,
+        (Simple::Contents(Place::Word { .. }), Use::Mask | Use::Union | Use::Differ) => 4,
+        (Simple::Contents(Place::Word { .. }), Use::Compare { .. }) => 9,
+        (Simple::Contents(Place::Frame(_)), Use::Add(_) | Use::Subtract(_)) => 16,
+        (Simple::Contents(Place::Frame(_)), Use::Multiply(_)) => 20,
+        (Simple::Contents(Place::Frame(_)), Use::Mask | Use::Union | Use::Differ) => 9,
+        (Simple::Contents(Place::Frame(_)), Use::Compare { .. }) => 14,
+    }
+}
+
 /// How many bytes the code of a block has that begins with an order.
 pub(crate) fn block_size(block: Block, order: &Order) -> Result<u32, NoMemory>
     requires { HasCode order.now }
@@ -139,16 +160,11 @@ pub(crate) fn block_size(block: Block, order: &Order) -> Result<u32, NoMemory>
     let size = match block {
         Block::Within(_) => 0,
         Block::Single => return order_size(order),
+        Block::Fetch(Place::Word { .. }) | Block::Assign(Place::Word { .. }) => 3,
+        Block::Fetch(Place::Frame(_)) | Block::Assign(Place::Frame(_)) => 9,
         Block::Write => 2,
-        Block::Fetch { .. } | Block::Assign { .. } => 3,
         Block::Divide { .. } => 6,
-        Block::FetchFrame { .. } | Block::AssignFrame { .. } => 9,
-        Block::Operate { operand, with } => match (operand, with) {
-            (Simple::Number(_), Use::Add(_) | Use::Subtract(_)) => 10,
-            (Simple::Variable { .. }, Use::Add(_) | Use::Subtract(_)) => 11,
-            (Simple::Number(_), Use::Compare { .. }) => 8,
-            (Simple::Variable { .. }, Use::Compare { .. }) => 9,
-        },
+        Block::Operate { operand, with } => operated_size(operand, with),
     };
     Ok(size)
 }

@@ -88,7 +88,7 @@ flags_of_more op n a flags old e =
     ap (λ b. (if b then flags else shifted_flags op 32768 a (suc n) flags (repeated op 32768 (suc n) (a, flags.cf))).of) (not_zero n) ∙ e
     ∙ ap (λ b. if b then old else overflow_of op 32768 a (suc n) (repeated op 32768 (suc n) (a, false)) old) (sym (not_zero n))
 
-overflow_is : (op : ShiftOp) → 3 < shift_number op → (n a : ℕ) (flags : Flags) (old : Bool) → flags.of ≡ old → (shift_flags op 32768 a n flags).of ≡ shift_overflow (shift_number op) a n old
+pub overflow_is : (op : ShiftOp) → 3 < shift_number op → (n a : ℕ) (flags : Flags) (old : Bool) → flags.of ≡ old → (shift_flags op 32768 a n flags).of ≡ shift_overflow (shift_number op) a n old
 overflow_is op h zero a flags old e = e
 overflow_is Shl h (suc n) a flags old e = flags_of_more Shl n a flags old (ap₂ (λ s o. overflow_of Shl 32768 a (suc n) s o) (same_state Shl h n a flags.cf false) e)
 overflow_is Shr h (suc n) a flags old e = flags_of_more Shr n a flags old (ap₂ (λ s o. overflow_of Shr 32768 a (suc n) s o) (same_state Shr h n a flags.cf false) e)

@@ -404,15 +404,18 @@ product_with (simple.Contents x) = coded.Whole (move cx ax) ∷ (address_pieces 
 abbrev pub pieces_size : List Coded → ℕ
 pieces_size ps = length (blanks ps)
 
+-- an operation on AX and a simple operand
+abbrev pub with_operand : (op : ℕ) → Simple → List Coded
+with_operand op s = operand_pieces s ++ operation op s ∷ []
+
 abbrev pub operated : Names → (place : ℕ) → Simple → Use → List Coded
-operated names place s (uses.Add line) = operand_pieces s ++ operation 0 s ∷ checked line
-operated names place s (uses.Subtract line) = operand_pieces s ++ operation 5 s ∷ checked line
+operated names place s (uses.Add line) = with_operand 0 s ++ checked line
+operated names place s (uses.Subtract line) = with_operand 5 s ++ checked line
 operated names place s (uses.Multiply line) = product_with s ++ checked line
-operated names place s uses.Mask = operand_pieces s ++ operation 4 s ∷ []
-operated names place s uses.Union = operand_pieces s ++ operation 1 s ∷ []
-operated names place s uses.Differ = operand_pieces s ++ operation 6 s ∷ []
-operated names place s (uses.Compare c mark) =
-    operand_pieces s ++ operation 7 s ∷ branch c (place + pieces_size (operand_pieces s ++ operation 7 s ∷ []) + 5) (mark_place names mark)
+operated names place s uses.Mask = with_operand 4 s
+operated names place s uses.Union = with_operand 1 s
+operated names place s uses.Differ = with_operand 6 s
+operated names place s (uses.Compare c mark) = with_operand 7 s ++ branch c (place + pieces_size (with_operand 7 s) + 5) (mark_place names mark)
 
 -- the code of a block, which begins with an order
 abbrev pub block_pieces : Names → (place : ℕ) → Block → Order → List Coded

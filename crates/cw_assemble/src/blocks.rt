@@ -1,0 +1,238 @@
+//! Code of blocks of several orders.
+ghost use Rattle.std.specs.Prelude.{◌≡◌, ◌+◌, ◌<◌, ◌++◌, ◌∷◌, [], length, OnOk};
+ghost use Rattle.cw_order.specs.HasCode.{HasCode};
+ghost use Rattle.cw_order.specs.declared.order.Order.TheVariants as order;
+ghost use Rattle.cw_tmpl.specs.Assembling.{Adds};
+ghost use Rattle.cw_tmpl.specs.Names.{no_names};
+ghost use Rattle.cw_tmpl.specs.Pieces.{IsCoded};
+ghost use Rattle.cw_tmpl.specs.declared.blocks.Block.TheVariants as block;
+ghost use Rattle.cw_tmpl.specs.declared.blocks.Simple.TheVariants as simple;
+ghost use Rattle.cw_tmpl.specs.Templates.{address_pieces, load_place, store_place, operate_place, operation, with_operand, product_with, pieces_size, checked, branch, operated, block_pieces};
+
+use crate::arithmetic::put_checked;
+use crate::calling::frame_field;
+use crate::jumping::{distance, opposite};
+use crate::orders::put_order;
+use cw_i86::Instr;
+use cw_order::{Comparator, Order};
+use cw_tmpl::instructions::{
+    AX, BASE, BX, CX, copy, divide_signed, double, load, multiply, set_word, store, with_number,
+};
+use cw_tmpl::{Assembly, Block, Coded, Names, Place, Simple, Target, Use};
+use cw_word::NoMemory;
+
+/// Adds what is needed before an instruction names a place.
+fn put_address(code: &mut Assembly, place: Place) -> Result<(), NoMemory>
+    ensures { OnOk result (Adds code.old (address_pieces place) code.new) }
+{
+    match place {
+        Place::Word { .. } => code.put_all(&[]),
+        Place::Frame(_) => code.put_all(&[
+            Coded::Whole(load(BX, BASE)),
+            Coded::Whole(double(BX)),
+        ]),
+    }
+}
+
+/// AX from a place.
+fn load_place(place: Place) -> Coded
+    ensures value { result ≡ load_place place }
+    ensures coded { IsCoded result }
+{
+    match place {
+        Place::Word { family, offset } => Coded::Load(Target::Bytes { family, offset }),
+        Place::Frame(offset) => Coded::Whole(load(AX, frame_field(offset))),
+    }
+}
+
+/// AX to a place.
+fn store_place(place: Place) -> Coded
+    ensures value { result ≡ store_place place }
+    ensures coded { IsCoded result }
+{
+    match place {
+        Place::Word { family, offset } => Coded::Store(Target::Bytes { family, offset }),
+        Place::Frame(offset) => Coded::Whole(store(frame_field(offset), AX)),
+    }
+}
+
+/// An operation of the arithmetic unit on AX and the word at a place.
+fn operate_place(number: u8, place: Place) -> Coded
+    requires { number < 8 }
+    ensures value { result ≡ operate_place number place }
+    ensures coded { IsCoded result }
+{
+    match place {
+        Place::Word { family, offset } => Coded::Operate {
+            operation: number,
+            reg: AX,
+            target: Target::Bytes { family, offset },
+        },
+        Place::Frame(offset) => Coded::Whole(Instr::AluRm {
+            op: number,
+            wide: true,
+            to_reg: true,
+            reg: AX,
+            rm: frame_field(offset),
+        }),
+    }
+}
+
+fn put_fetch(code: &mut Assembly, place: Place) -> Result<(), NoMemory>
+    ensures { OnOk result (Adds code.old (address_pieces place ++ load_place place ∷ []) code.new) }
+{
+    put_address(code, place)?;
+    code.put_all(&[load_place(place)])
+}
+
+fn put_assign(code: &mut Assembly, place: Place) -> Result<(), NoMemory>
+    ensures { OnOk result (Adds code.old (address_pieces place ++ store_place place ∷ []) code.new) }
+{
+    put_address(code, place)?;
+    code.put_all(&[store_place(place)])
+}
+
+fn put_operation_at(code: &mut Assembly, number: u8, place: Place) -> Result<(), NoMemory>
+    requires { number < 8 }
+    ensures { OnOk result (Adds code.old (address_pieces place ++ operate_place number place ∷ []) code.new) }
+{
+    put_address(code, place)?;
+    code.put_all(&[operate_place(number, place)])
+}
+
+/// Adds an operation on AX and a simple operand.
+fn put_with_operand(code: &mut Assembly, number: u8, operand: Simple) -> Result<(), NoMemory>
+    requires { number < 8 }
+    ensures { OnOk result (Adds code.old (with_operand number operand) code.new) }
+{
+    match operand {
+        Simple::Number(word) => code.put_all(&[Coded::Whole(with_number(number, word))]),
+        Simple::Contents(place) => put_operation_at(code, number, place),
+    }
+}
+
+/// Its size.
+fn with_operand_size(operand: Simple) -> usize
+    ensures { result ≡ pieces_size (with_operand 7 operand) }
+{
+    match operand {
+        Simple::Number(_) => 3,
+        Simple::Contents(Place::Word { .. }) => 4,
+        Simple::Contents(Place::Frame(_)) => 9,
+    }
+}
+
+fn put_product_at(code: &mut Assembly, place: Place) -> Result<(), NoMemory>
+    ensures { OnOk result (Adds code.old (product_with (simple.Contents place)) code.new) }
+{
+    code.put_all(&[Coded::Whole(copy(CX, AX))])?;
+    put_address(code, place)?;
+    code.put_all(&[load_place(place), Coded::Whole(multiply(CX))])
+}
+
+/// Adds a product of AX and a simple operand.
+fn put_product_with(code: &mut Assembly, operand: Simple) -> Result<(), NoMemory>
+    ensures { OnOk result (Adds code.old (product_with operand) code.new) }
+{
+    match operand {
+        Simple::Number(word) => code.put_all(&[
+            Coded::Whole(set_word(BX, word)),
+            Coded::Whole(multiply(BX)),
+        ]),
+        Simple::Contents(place) => put_product_at(code, place),
+    }
+}
+
+fn put_sum(
+    code: &mut Assembly,
+    number: u8,
+    operand: Simple,
+    line: u16,
+) -> Result<(), NoMemory>
+    requires { number < 8 }
+    ensures { OnOk result (Adds code.old (with_operand number operand ++ checked line) code.new) }
+{
+    put_with_operand(code, number, operand)?;
+    put_checked(code, line)
+}
+
+fn put_product(code: &mut Assembly, operand: Simple, line: u16) -> Result<(), NoMemory>
+    ensures { OnOk result (Adds code.old (product_with operand ++ checked line) code.new) }
+{
+    put_product_with(code, operand)?;
+    put_checked(code, line)
+}
+
+/// Adds a jump where a comparison of AX with a simple operand holds.
+fn put_comparison(
+    code: &mut Assembly,
+    operand: Simple,
+    comparator: Comparator,
+    to: u64,
+) -> Result<(), NoMemory>
+    ensures { OnOk result (Adds code.old (with_operand 7 operand ++ branch comparator (length code.old.bytes + pieces_size (with_operand 7 operand) + 5) to) code.new) }
+{
+    let end = code.bytes.as_slice().len() + with_operand_size(operand) + 5;
+    put_with_operand(code, 7, operand)?;
+    code.put_all(&[
+        Coded::Whole(Instr::JumpIf {
+            cond: opposite(comparator),
+            by: 3,
+        }),
+        Coded::Whole(Instr::Jump(distance(end, to))),
+    ])
+}
+
+/// Adds the code of a simple operand and an order that uses it.
+fn put_operated(
+    code: &mut Assembly,
+    operand: Simple,
+    with: Use,
+    names: &Names,
+) -> Result<(), NoMemory>
+    ensures { OnOk result (Adds code.old (operated names.now (length code.old.bytes) operand with) code.new) }
+{
+    match with {
+        Use::Add(line) => put_sum(code, 0, operand, line),
+        Use::Subtract(line) => put_sum(code, 5, operand, line),
+        Use::Multiply(line) => put_product(code, operand, line),
+        Use::Mask => put_with_operand(code, 4, operand),
+        Use::Union => put_with_operand(code, 1, operand),
+        Use::Differ => put_with_operand(code, 6, operand),
+        Use::Compare { comparator, mark } => {
+            put_comparison(code, operand, comparator, u64::from(names.mark(mark)))
+        }
+    }
+}
+
+/// Adds the code of a quotient by a number in the processor's own division.
+fn put_divided_by(code: &mut Assembly, number: u16) -> Result<(), NoMemory>
+    ensures { OnOk result (Adds code.old (block_pieces no_names 0 (block.Divide number 0) order.Save) code.new) }
+{
+    code.put_all(&[
+        Coded::Whole(set_word(BX, number)),
+        Coded::Whole(Instr::Cwd),
+        Coded::Whole(divide_signed(BX)),
+    ])
+}
+
+/// Adds the code of a block that begins with an order.
+pub(crate) fn put_block(
+    code: &mut Assembly,
+    block: Block,
+    order: &Order,
+    names: &Names,
+) -> Result<(), NoMemory>
+    requires { HasCode order.now }
+    ensures { OnOk result (Adds code.old (block_pieces names.now (length code.old.bytes) block order.now) code.new) }
+{
+    match block {
+        Block::Within(_) => code.put_all(&[]),
+        Block::Single => put_order(code, order, names),
+        Block::Fetch(place) => put_fetch(code, place),
+        Block::Assign(place) => put_assign(code, place),
+        Block::Write => code.put_all(&[Coded::Whole(Instr::Out(0x12))]),
+        Block::Divide { by, .. } => put_divided_by(code, by),
+        Block::Operate { operand, with } => put_operated(code, operand, with, names),
+    }
+}

@@ -1,0 +1,15 @@
+pub mod Fitting
+pub mod Stepping
+pub mod Moving
+pub mod Operating
+pub mod Multiplying
+pub mod Shifts
+pub mod Stacking
+pub mod Jumping
+pub mod Conditions
+pub mod Denoting
+pub mod Bytes
+pub mod Doubling
+pub mod Stopping
+pub mod Acting
+pub mod AddressTests

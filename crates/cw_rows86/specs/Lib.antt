@@ -1,0 +1,5 @@
+pub mod Locations
+pub mod Operations
+pub mod Views
+pub mod Acts
+pub mod AddressCode
