@@ -22,7 +22,7 @@ use Rattle.cw_follow.specs.Placing.{base_of}
 use Rattle.cw_tmpl.proofs.Sizes.{own_place, left_next}
 use Rattle.cw_follow.proofs.Watched.{Watched}
 use Rattle.cw_follow.proofs.Standing.{HasPieces, order_place}
-use Rattle.cw_follow.proofs.InBlocks.{front_is}
+use Rattle.cw_tmpl.proofs.Shapes.{front_is}
 use Rattle.cw_follow.proofs.Orders.{Landed, Leading}
 use Rattle.cw_follow.proofs.States.{Given, Starting, never_on, not_stuck}
 use Rattle.cw_follow.proofs.Calls.{EntersTo, begins}

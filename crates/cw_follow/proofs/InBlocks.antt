@@ -1,5 +1,5 @@
 -- Orders in their blocks.
-use Rattle.std.proofs.Common.{◌≡◌, ℕ, zero, suc, ◌+◌, List, [], ◌∷◌, drop, Option, Some, None, refl, sym, ap, ◌∙◌, subst, arith, Bool, true, false}
+use Rattle.std.proofs.Common.{◌≡◌, ℕ, zero, suc, ◌+◌, List, [], ◌∷◌, ◌++◌, length, drop, Option, Some, None, ◌≤◌, refl, sym, ap, ◌∙◌, subst, arith, Bool, true, false}
 use Rattle.std.specs.Prelude.{slice_get, if◌then◌else◌, pos}
 use Rattle.cw_unit.specs.Words.{Words, Outcome, Changed, Refused, Impossible, Word, Held, Operand, put, through, is_below, word_at, number_of, with_operands}
 use Rattle.cw_unit.specs.Operation.{Fetch, perform}
@@ -13,21 +13,20 @@ use Rattle.cw_order.specs.OrderChanges.{put_address}
 use Rattle.cw_order.specs.OrderActions.{home_word}
 use Rattle.cw_order.specs.Loading.{loaded_after}
 use Rattle.cw_order.specs.OrderMachine.{unrefused}
+use Rattle.cw_tmpl.specs.declared.blocks.Place.{Place}
+use Rattle.cw_tmpl.specs.declared.blocks.Place.TheVariants as cell
+use Rattle.cw_tmpl.specs.declared.blocks.Simple.{Simple}
 use Rattle.cw_tmpl.specs.declared.blocks.Simple.TheVariants as simple
 use Rattle.cw_tmpl.specs.declared.blocks.Use.{Use}
 use Rattle.cw_tmpl.specs.declared.blocks.Use.TheVariants as uses
 use Rattle.cw_tmpl.specs.declared.blocks.Block.{Block}
 use Rattle.cw_tmpl.specs.declared.blocks.Block.TheVariants as block
 use Rattle.cw_follow.specs.Placing.{StandsBehind}
-use Rattle.cw_tmpl.specs.Blocks.{use_of, is_plain_divisor, after_saved_const, with_variable, after_saved_home, after_saved_frame_home, after_save, after_home, after_frame_home, block_at, orders_left, left_at}
+use Rattle.cw_tmpl.specs.Blocks.{address_orders, operand_orders, order_of, block_at, orders_left, left_at}
+use Rattle.cw_tmpl.proofs.Shapes.{front_is, IsBlock, shape}
 use Rattle.cw_tmpl.proofs.Sizes.{size_to}
 
 -- ---- lists
-
-pub front_is : (list : List Order) (k : ℕ) (o : Order) → slice_get list k ≡ Some o → drop k list ≡ o ∷ drop (suc k) list
-front_is [] k o e = absurd (cc)
-front_is (x ∷ xs) zero o e = let same : x ≡ o = cc in ap (λ y. y ∷ xs) same
-front_is (x ∷ xs) (suc k) o e = front_is xs k o e
 
 pub slice_drop : (list : List Order) (k n : ℕ) → slice_get (drop k list) n ≡ slice_get list (k + n)
 slice_drop list zero n = ap (slice_get list) (let e : n ≡ 0 + n = omega arith in e)
@@ -57,59 +56,62 @@ AllEnd zero os = Unit {0}
 AllEnd (suc n) [] = Unit {0}
 AllEnd (suc n) (o ∷ os) = StandsBehind o × AllEnd n os
 
-quotient_ends : (b : Bool) (w line : ℕ) (os : List Order) → AllEnd (orders_left (if b then block.Divide w else block.Single)) (order.Const w ∷ order.Div (pos zero) line ∷ os)
-quotient_ends true w line os = (tt, (tt, tt))
-quotient_ends false w line os = tt
+-- all orders of a list are so
+abbrev pub Each : (Order → Type 0) → List Order → Type 0
+Each P [] = Unit {0}
+Each P (o ∷ os) = P o × Each P os
 
-number_ends : (w : ℕ) (os : List Order) → AllEnd (orders_left (after_saved_const w (slice_get os 0))) (order.Const w ∷ os)
-number_ends w [] = tt
-number_ends w (order.Add line ∷ os) = (tt, (tt, tt))
-number_ends w (order.Sub line ∷ os) = (tt, (tt, tt))
-number_ends w (order.JumpIf c m ∷ os) = (tt, (tt, tt))
-number_ends w (order.Div (pos zero) line ∷ os) = quotient_ends (is_plain_divisor w) w line os
-number_ends w (x ∷ os) = tt
+pub each_of_both : (P : Order → Type 0) (xs ys : List Order) → Each P xs → Each P ys → Each P (xs ++ ys)
+each_of_both P [] ys f g = g
+each_of_both P (o ∷ os) ys f g = (f.0, each_of_both P os ys f.1 g)
 
-variable_ends : (f n : ℕ) (os : List Order) → AllEnd (orders_left (with_variable f n (use_of (slice_get os 0)))) (order.Home f n ∷ order.Load ∷ os)
-variable_ends f n [] = tt
-variable_ends f n (order.Add line ∷ os) = (tt, (tt, (tt, tt)))
-variable_ends f n (order.Sub line ∷ os) = (tt, (tt, (tt, tt)))
-variable_ends f n (order.JumpIf c m ∷ os) = (tt, (tt, (tt, tt)))
-variable_ends f n (x ∷ os) = tt
+-- and so is each of theirs, and one behind them
+pub one_of_these : (P : Order → Type 0) (before : List Order) (last o : Order) (rest : List Order) (k : ℕ) → Each P before → P last → k ≤ length before → slice_get (before ++ last ∷ rest) k ≡ Some o → P o
+one_of_these P [] last o rest zero f h le e = let same : last ≡ o = cc in subst P same h
+one_of_these P [] last o rest (suc k) f h le e = absurd (omega arith)
+one_of_these P (x ∷ xs) last o rest zero f h le e = let same : x ≡ o = cc in subst P same f.0
+one_of_these P (x ∷ xs) last o rest (suc k) f h le e = one_of_these P xs last o rest k f.1 h (omega arith) e
 
-saved_home_ends : (f n : ℕ) (os : List Order) → AllEnd (orders_left (after_saved_home f n (slice_get os 0) (slice_get os 1))) (order.Home f n ∷ os)
-saved_home_ends f n [] = tt
-saved_home_ends f n (order.Load ∷ os) = variable_ends f n os
-saved_home_ends f n (order.Store ∷ os) = (tt, (tt, tt))
-saved_home_ends f n (x ∷ os) = tt
+place_stands : (x : Place) → Each StandsBehind (address_orders x)
+place_stands (cell.Word f n) = (tt, tt)
+place_stands (cell.Frame n) = (tt, tt)
 
-saved_frame_ends : (n : ℕ) (os : List Order) → AllEnd (orders_left (after_saved_frame_home n (slice_get os 0))) (order.FrameHome n ∷ os)
-saved_frame_ends n [] = tt
-saved_frame_ends n (order.Store ∷ os) = (tt, (tt, tt))
-saved_frame_ends n (x ∷ os) = tt
+operand_stands : (s : Simple) → Each StandsBehind (operand_orders s)
+operand_stands (simple.Number w) = (tt, tt)
+operand_stands (simple.Contents x) = each_of_both StandsBehind (address_orders x) (order.Load ∷ []) (place_stands x) (tt, tt)
 
-save_ends : (os : List Order) → AllEnd (orders_left (after_save (slice_get os 0) (slice_get os 1) (slice_get os 2))) os
-save_ends [] = tt
-save_ends (order.Const w ∷ os) = number_ends w os
-save_ends (order.Home f n ∷ os) = saved_home_ends f n os
-save_ends (order.FrameHome n ∷ os) = saved_frame_ends n os
-save_ends (order.WriteByte ∷ os) = (tt, tt)
-save_ends (x ∷ os) = tt
+use_stands : (u : Use) → StandsBehind (order_of u)
+use_stands (uses.Add line) = tt
+use_stands (uses.Subtract line) = tt
+use_stands (uses.Multiply line) = tt
+use_stands uses.Mask = tt
+use_stands uses.Union = tt
+use_stands uses.Differ = tt
+use_stands (uses.Compare c m) = tt
 
-home_ends : (f n : ℕ) (os : List Order) → AllEnd (orders_left (after_home f n (slice_get os 0))) os
-home_ends f n [] = tt
-home_ends f n (order.Load ∷ os) = (tt, tt)
-home_ends f n (x ∷ os) = tt
+ends_with : (xs : List Order) (last : Order) (rest : List Order) → Each StandsBehind xs → StandsBehind last → AllEnd (suc (length xs)) (xs ++ last ∷ rest)
+ends_with [] last rest f h = (h, tt)
+ends_with (o ∷ os) last rest f h = (f.0, ends_with os last rest f.1 h)
 
-frame_ends : (n : ℕ) (os : List Order) → AllEnd (orders_left (after_frame_home n (slice_get os 0))) os
-frame_ends n [] = tt
-frame_ends n (order.Load ∷ os) = (tt, tt)
-frame_ends n (x ∷ os) = tt
+fetch_ends : (x : Place) (rest : List Order) → AllEnd (length (address_orders x)) (drop 1 (address_orders x ++ order.Load ∷ rest))
+fetch_ends (cell.Word f n) rest = (tt, tt)
+fetch_ends (cell.Frame n) rest = (tt, tt)
 
+-- the orders behind the first one of a list end within its block
 first_ends : (o : Order) (os : List Order) → AllEnd (orders_left (block_at 0 (o ∷ os))) os
-first_ends order.Save os = save_ends os
-first_ends (order.Home f n) os = home_ends f n os
-first_ends (order.FrameHome n) os = frame_ends n os
-first_ends _ os = tt
+first_ends o os = cases (block_at 0 (o ∷ os)) (shape (o ∷ os))
+  where
+    ends_so : (n : ℕ) (all : List Order) → o ∷ os ≡ all → AllEnd n (drop 1 all) → AllEnd n os
+    ends_so n all e h = subst (λ l. AllEnd n (drop 1 l)) (sym e) h
+
+    cases : (b : Block) → IsBlock b (o ∷ os) → AllEnd (orders_left b) os
+    cases (block.Within n) sh = absurd sh
+    cases block.Single sh = tt
+    cases (block.Fetch x) sh = ends_so (length (address_orders x)) _ sh (fetch_ends x (drop (length (address_orders x)) os))
+    cases (block.Assign x) sh = ends_so (suc (length (address_orders x))) _ sh (ends_with (address_orders x) order.Store (drop (suc (length (address_orders x))) os) (place_stands x) tt)
+    cases block.Write sh = ends_so 1 _ sh (tt, tt)
+    cases (block.Divide w line) sh = ends_so 2 _ sh.0 (tt, (tt, tt))
+    cases (block.Operate s u) sh = ends_so (suc (length (operand_orders s))) _ sh (ends_with (operand_orders s) (order_of u) (drop (suc (length (operand_orders s))) os) (operand_stands s) (use_stands u))
 
 next_ends : (left : ℕ) (o : Order) (os : List Order) → AllEnd left (o ∷ os) → AllEnd (orders_left (block_at left (o ∷ os))) os
 next_ends zero o os h = first_ends o os
@@ -133,80 +135,6 @@ begins_at list k o e never = cases (left_at 0 list k) refl
     cases (suc n) is =
         let h : AllEnd (suc n) (o ∷ drop (suc k) list) = subst (λ l. AllEnd (suc n) l) (front_is list k o e) (subst (λ m. AllEnd m (drop k list)) is (all_end 0 list k tt)) in
         absurd (never h.0)
-
--- ---- the orders of a block
-
-abbrev pub order_of : Use → Order
-order_of (uses.Add line) = order.Add line
-order_of (uses.Subtract line) = order.Sub line
-order_of (uses.Compare c m) = order.JumpIf c m
-
-abbrev pub Shape : Block → List Order → Type 0
-Shape (block.Within n) list = ⊥
-Shape block.Single list = Unit {0}
-Shape (block.Fetch f n) list = (more : List Order) × (list ≡ order.Home f n ∷ order.Load ∷ more)
-Shape (block.Assign f n) list = (more : List Order) × (list ≡ order.Save ∷ order.Home f n ∷ order.Store ∷ more)
-Shape (block.FetchFrame n) list = (more : List Order) × (list ≡ order.FrameHome n ∷ order.Load ∷ more)
-Shape (block.AssignFrame n) list = (more : List Order) × (list ≡ order.Save ∷ order.FrameHome n ∷ order.Store ∷ more)
-Shape block.Write list = (more : List Order) × (list ≡ order.Save ∷ order.WriteByte ∷ more)
-Shape (block.Divide w) list = (line : ℕ) × (more : List Order) × (is_plain_divisor w ≡ true) × (list ≡ order.Save ∷ order.Const w ∷ order.Div (pos zero) line ∷ more)
-Shape (block.Operate (simple.Number w) u) list = (more : List Order) × (list ≡ order.Save ∷ order.Const w ∷ order_of u ∷ more)
-Shape (block.Operate (simple.Variable f n) u) list = (more : List Order) × (list ≡ order.Save ∷ order.Home f n ∷ order.Load ∷ order_of u ∷ more)
-
-quotient_shape : (b : Bool) (w line : ℕ) (os : List Order) → is_plain_divisor w ≡ b → Shape (if b then block.Divide w else block.Single) (order.Save ∷ order.Const w ∷ order.Div (pos zero) line ∷ os)
-quotient_shape true w line os is = (line, os, is, refl)
-quotient_shape false w line os is = tt
-
-number_shape : (w : ℕ) (os : List Order) → Shape (after_saved_const w (slice_get os 0)) (order.Save ∷ order.Const w ∷ os)
-number_shape w [] = tt
-number_shape w (order.Add line ∷ os) = (os, refl)
-number_shape w (order.Sub line ∷ os) = (os, refl)
-number_shape w (order.JumpIf c m ∷ os) = (os, refl)
-number_shape w (order.Div (pos zero) line ∷ os) = quotient_shape (is_plain_divisor w) w line os refl
-number_shape w (x ∷ os) = tt
-
-variable_shape : (f n : ℕ) (os : List Order) → Shape (with_variable f n (use_of (slice_get os 0))) (order.Save ∷ order.Home f n ∷ order.Load ∷ os)
-variable_shape f n [] = tt
-variable_shape f n (order.Add line ∷ os) = (os, refl)
-variable_shape f n (order.Sub line ∷ os) = (os, refl)
-variable_shape f n (order.JumpIf c m ∷ os) = (os, refl)
-variable_shape f n (x ∷ os) = tt
-
-saved_home_shape : (f n : ℕ) (os : List Order) → Shape (after_saved_home f n (slice_get os 0) (slice_get os 1)) (order.Save ∷ order.Home f n ∷ os)
-saved_home_shape f n [] = tt
-saved_home_shape f n (order.Load ∷ os) = variable_shape f n os
-saved_home_shape f n (order.Store ∷ os) = (os, refl)
-saved_home_shape f n (x ∷ os) = tt
-
-saved_frame_shape : (n : ℕ) (os : List Order) → Shape (after_saved_frame_home n (slice_get os 0)) (order.Save ∷ order.FrameHome n ∷ os)
-saved_frame_shape n [] = tt
-saved_frame_shape n (order.Store ∷ os) = (os, refl)
-saved_frame_shape n (x ∷ os) = tt
-
-save_shape : (os : List Order) → Shape (after_save (slice_get os 0) (slice_get os 1) (slice_get os 2)) (order.Save ∷ os)
-save_shape [] = tt
-save_shape (order.Const w ∷ os) = number_shape w os
-save_shape (order.Home f n ∷ os) = saved_home_shape f n os
-save_shape (order.FrameHome n ∷ os) = saved_frame_shape n os
-save_shape (order.WriteByte ∷ os) = (os, refl)
-save_shape (x ∷ os) = tt
-
-home_shape : (f n : ℕ) (os : List Order) → Shape (after_home f n (slice_get os 0)) (order.Home f n ∷ os)
-home_shape f n [] = tt
-home_shape f n (order.Load ∷ os) = (os, refl)
-home_shape f n (x ∷ os) = tt
-
-frame_shape : (n : ℕ) (os : List Order) → Shape (after_frame_home n (slice_get os 0)) (order.FrameHome n ∷ os)
-frame_shape n [] = tt
-frame_shape n (order.Load ∷ os) = (os, refl)
-frame_shape n (x ∷ os) = tt
-
-pub shape : (list : List Order) → Shape (block_at 0 list) list
-shape [] = tt
-shape (order.Save ∷ os) = save_shape os
-shape (order.Home f n ∷ os) = home_shape f n os
-shape (order.FrameHome n ∷ os) = frame_shape n os
-shape (x ∷ os) = tt
 
 -- ---- what the orders before the last one of a block do
 

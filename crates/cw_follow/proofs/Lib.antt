@@ -7,6 +7,7 @@ pub mod RoutineLaws
 pub mod Rows
 pub mod Watched
 pub mod Chains
+pub mod Acting
 pub mod Routines
 pub mod Numbers
 pub mod Facts
@@ -27,6 +28,7 @@ pub mod States
 pub mod Steps
 pub mod WordOrders
 pub mod Words
+pub mod Operating
 pub mod BlockOrders
 pub mod FrameBlocks
 pub mod Bodies

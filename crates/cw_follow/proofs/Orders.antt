@@ -351,48 +351,6 @@ module _ (rows : Rows) (prog : OrderProgram) (image : List ℕ) (g : ℕ) (acts 
 
   -- ---- sums, differences and negatives
 
-  -- AX with the sum or the difference of what it had and a number, the operands below unchanged
-  abbrev Operated : {at : ℕ} {w : Words} {p : Watched} → (l : Landed prog image at g true acts w p) → (at' a : ℕ) → Bool → Watched → Type 0
-  Operated l at' a o q = Is image at' (view a l.stacked.cx l.stacked.dx l.stacked.bx (2 * l.top) (record_of acts) l.stacked.si prog.limits.area o l.cells l.stack l.input l.told) q
-
-  pub adds_simple : {p : Watched} {at : ℕ} (size to by line n : ℕ) (y : ℤ) (operands : List Operand) (memory : List ℤ) (input output : List ℕ) → n ≡ unsigned y → FitsWord y → Stands image → g < 255 → line < 65536 → operand_words operands < level acts
-      → at + size + 2 + 3 + 2 ≡ to → (at + size + 2 + 3 + by) % 65536 ≡ stop_place Overflow % 65536 → All OperandFits operands → Check image (at + size) by line
-      → (l : Landed prog image at g true acts (record { operands = operands; memory = memory; input = input; output = output }) p)
-      → Operated l (at + size) (word_sum l.stacked.ax n) (sum_overflows l.stacked.ax n) (watched_step p)
-      → Does prog image 15 to g true line acts output p (perform prog.limits.area Add (put y (record { operands = operands; memory = memory; input = input; output = output })))
-  adds_simple size to by line n y [] memory input output value fy library few small room e arrives fits i l made = tt
-  adds_simple size to by line n y (Held c ∷ rest) memory input output value fy library few small room e arrives fits i l made = tt
-  adds_simple {p} {at} size to by line n y (Word x ∷ rest) memory input output value fy library few small room e arrives fits i l made =
-      let s = l.stacked in
-      let h = l.operands in
-      let t = top_is prog acts l.stack l.top rest h.1 in
-      let some : 0 < l.top = omega arith in
-      let fx : FitsWord x = All-head OperandFits (Word x) rest fits in
-      let o : sum_overflows s.ax n ≡ not (fits_word (x +ℤ y)) = ap₂ sum_overflows h.0 value ∙ sum_overflows_is rows.words x y fx fy in
-      let v : FitsWord (x +ℤ y) → word_sum s.ax n ≡ unsigned (x +ℤ y) = λ f. ap₂ word_sum h.0 value ∙ sum_is rows.words x y fx fy f in
-      later prog image 14 to g true line acts {T = Operated l (at + size) (word_sum s.ax n) (sum_overflows s.ax n)} 1 15 (put_value (x +ℤ y) (record { operands = rest; memory = memory; input = input; output = output })) (lit≤ tt)
-      (last rows s.is l.kept.wrote made)
-      (λ q t. checks Overflow to l.top by line (x +ℤ y) rest memory input output tt library few some small e arrives o v h.1 l.kept i t)
-
-  pub subtracts_simple : {p : Watched} {at : ℕ} (size to by line n : ℕ) (y : ℤ) (operands : List Operand) (memory : List ℤ) (input output : List ℕ) → n ≡ unsigned y → FitsWord y → Stands image → g < 255 → line < 65536 → operand_words operands < level acts
-      → at + size + 2 + 3 + 2 ≡ to → (at + size + 2 + 3 + by) % 65536 ≡ stop_place Overflow % 65536 → All OperandFits operands → Check image (at + size) by line
-      → (l : Landed prog image at g true acts (record { operands = operands; memory = memory; input = input; output = output }) p)
-      → Operated l (at + size) (word_difference l.stacked.ax n) (difference_overflows l.stacked.ax n) (watched_step p)
-      → Does prog image 15 to g true line acts output p (perform prog.limits.area Subtract (put y (record { operands = operands; memory = memory; input = input; output = output })))
-  subtracts_simple size to by line n y [] memory input output value fy library few small room e arrives fits i l made = tt
-  subtracts_simple size to by line n y (Held c ∷ rest) memory input output value fy library few small room e arrives fits i l made = tt
-  subtracts_simple {p} {at} size to by line n y (Word x ∷ rest) memory input output value fy library few small room e arrives fits i l made =
-      let s = l.stacked in
-      let h = l.operands in
-      let t = top_is prog acts l.stack l.top rest h.1 in
-      let some : 0 < l.top = omega arith in
-      let fx : FitsWord x = All-head OperandFits (Word x) rest fits in
-      let o : difference_overflows s.ax n ≡ not (fits_word (x -ℤ y)) = ap₂ difference_overflows h.0 value ∙ difference_overflows_is rows.words x y fx fy in
-      let v : FitsWord (x -ℤ y) → word_difference s.ax n ≡ unsigned (x -ℤ y) = λ f. ap₂ word_difference h.0 value ∙ difference_is rows.words x y fx fy f in
-      later prog image 14 to g true line acts {T = Operated l (at + size) (word_difference s.ax n) (difference_overflows s.ax n)} 1 15 (put_value (x -ℤ y) (record { operands = rest; memory = memory; input = input; output = output })) (lit≤ tt)
-      (last rows s.is l.kept.wrote made)
-      (λ q t. checks Overflow to l.top by line (x -ℤ y) rest memory input output tt library few some small e arrives o v h.1 l.kept i t)
-
   pub adds : {p : Watched} {at : ℕ} (to by line : ℕ) (operands : List Operand) (memory : List ℤ) (input output : List ℕ) → Stands image → g < 255 → line < 65536 → at + 10 ≡ to → (at + 1 + 2 + 2 + 3 + by) % 65536 ≡ stop_place Overflow % 65536
       → All OperandFits operands → Has image at (i86.Pop 3) × (Has image (at + 1) (i86.AluRm 0 true true 0 (rms.Reg 3)) × Check image (at + 1 + 2) by line)
       → Landed prog image at g true acts (record { operands = operands; memory = memory; input = input; output = output }) p
@@ -636,7 +594,7 @@ module _ (rows : Rows) (prog : OrderProgram) (image : List ℕ) (g : ℕ) (acts 
       further 1 (lit≤ tt) (lit< tt) (last rows s.is l.kept.wrote (landed loaded to l.top w.operands w.memory w.input w.output refl l.operands l.kept (to_place arrives (near rows by i s.is))))
 
   -- behind a comparison
-  branches : {p : Watched} {at ax cx dx bx si a b : ℕ} {overflow : Bool} {cells stack : ℕ → ℕ} {left : List ℕ} {told : Told} (to top by : ℕ) (start : ℕ → ℕ) (c : Comparator) (m : ℕ) (x y : ℤ) (operands : List Operand) (memory : List ℤ) (input output : List ℕ)
+  pub branches : {p : Watched} {at ax cx dx bx si a b : ℕ} {overflow : Bool} {cells stack : ℕ → ℕ} {left : List ℕ} {told : Told} (to top by : ℕ) (start : ℕ → ℕ) (c : Comparator) (m : ℕ) (x y : ℤ) (operands : List Operand) (memory : List ℤ) (input output : List ℕ)
       → at + 2 + 3 ≡ to → (at + 2 + 3 + by) % 65536 ≡ start m % 65536 → FitsWord x → FitsWord y → a ≡ unsigned x → b ≡ unsigned y
       → StackIs prog acts stack top operands → Kept prog g acts memory input output cells stack left told → HasAll image at (i86.JumpIf (condition_of (opposite_of c)) 3 ∷ i86.Jump by ∷ [])
       → IsCompared image at (view ax cx dx bx (2 * top) (record_of acts) si prog.limits.area overflow cells stack left told) a b p
@@ -686,23 +644,3 @@ module _ (rows : Rows) (prog : OrderProgram) (image : List ℕ) (g : ℕ) (acts 
       (more rows {to = at + 1} {w = view s.ax s.cx s.dx n (2 * suc l.top) (record_of acts) s.si prog.limits.area s.overflow l.cells l.stack l.input l.told} s.is k.wrote (pop_bx l.top lt i.0 s.is) (λ q u.
       compared_more rows {Between = Between} u k.wrote (compare rows 3 0 i.1.0 u) (λ q u. done u)))
       (λ q u. branches to (suc l.top) by start c m x y rest memory input output e' a' fx fy h.1.0 h.0 h.1.1 k i.1.1 u)
-
-  -- a comparison with a simple operand
-  pub chooses_simple : {p : Watched} {at : ℕ} (size to by n : ℕ) (y : ℤ) (start : ℕ → ℕ) (c : Comparator) (m : ℕ) (operands : List Operand) (memory : List ℤ) (input output : List ℕ) → n ≡ unsigned y → FitsWord y
-      → at + size + 5 ≡ to → (at + size + 5 + by) % 65536 ≡ start m % 65536 → All OperandFits operands → HasAll image (at + size) (i86.JumpIf (condition_of (opposite_of c)) 3 ∷ i86.Jump by ∷ [])
-      → (l : Landed prog image at g true acts (record { operands = operands; memory = memory; input = input; output = output }) p)
-      → IsCompared image (at + size) (view l.stacked.ax l.stacked.cx l.stacked.dx l.stacked.bx (2 * l.top) (record_of acts) l.stacked.si prog.limits.area (difference_overflows l.stacked.ax n) l.cells l.stack l.input l.told) l.stacked.ax n (watched_step p)
-      → Chooses prog image 3 to start g false acts output p (way_of_two (λ x y v. to_mark_if (holds (comparison c) x y) m v) (put y (record { operands = operands; memory = memory; input = input; output = output })))
-  chooses_simple size to by n y start c m [] memory input output value fy e arrives fits i l made = tt
-  chooses_simple size to by n y start c m (Held d ∷ rest) memory input output value fy e arrives fits i l made = tt
-  chooses_simple {p} {at} size to by n y start c m (Word x ∷ rest) memory input output value fy e arrives fits i l made =
-      let s = l.stacked in
-      let k = l.kept in
-      let h = l.operands in
-      let fx : FitsWord x = All-head OperandFits (Word x) rest fits in
-      let e' : at + size + 2 + 3 ≡ to = omega arith in
-      let a' : (at + size + 2 + 3 + by) % 65536 ≡ start m % 65536 = omega arith in
-      let Between : Watched → Type 0 = IsCompared image (at + size) (view s.ax s.cx s.dx s.bx (2 * l.top) (record_of acts) s.si prog.limits.area (difference_overflows s.ax n) l.cells l.stack l.input l.told) s.ax n in
-      sooner prog image 2 to start g false acts {T = Between} 1 3 (to_mark_if (holds (comparison c) x y) m (record { operands = rest; memory = memory; input = input; output = output })) (lit≤ tt)
-      (last rows s.is k.wrote made)
-      (λ q u. branches to l.top by start c m x y rest memory input output e' a' fx fy h.0 value h.1 k i u)

@@ -11,6 +11,10 @@ use Rattle.cw_run86.specs.Processor.{Processor, processor_step, processor_start,
 use Rattle.cw_run86.specs.Views.{View, Sees, Has, Goes, IsTop, starting_view, register, on, with_place, with_register, with_result, with_cell, with_stack, with_told, sum_overflows, difference_overflows, word_sum, word_difference, with_other, with_memory, with_number, Compared, Compares, Comparison, condition_of, words_compare, word_up, word_down, word_down_signed, shift_overflow, product_low, product_high, product_overflows, with_pair, double_overflows, with_overflow, sign_of}
 use Rattle.cw_word.specs.FixedPoint.{FitsWord, scaled_quotient}
 use Rattle.cw_word.specs.Word.{unsigned}
+use Rattle.cw_i86.specs.Encoding.{bytes_of}
+use Rattle.cw_i86.specs.declared.flags.Flags.{Flags}
+use Rattle.cw_rows86.specs.Operations.{Compare, flags_after}
+use Rattle.cw_rows86.specs.Acts.{Act, instruction, Needs, after, flags_of}
 use Rattle.cw_follow.proofs.WordLaws.{WordLaws}
 use Rattle.cw_follow.proofs.RoutineLaws.{RoutineLaws}
 
@@ -77,6 +81,10 @@ pub record Rows : Type 0 where
   pub compared_passes : (code : List ℕ) (v : View) (c : Comparison) (by a b : ℕ) (p : Processor) → Has code v.place (i86.JumpIf (condition_of c) by) → a < 65536 → b < 65536 → words_compare c a b ≡ false → Sees code v p → Compared a b p → Sees code (on (i86.JumpIf (condition_of c) by) v) (processor_step p)
   pub jumps_below : (code : List ℕ) (v : View) (by a b : ℕ) (p : Processor) → Has code v.place (i86.JumpIf 2 by) → a < b → Sees code v p → Compared a b p → Sees code (with_place ((v.place + 2 + sign_extended by) % 65536) v) (processor_step p)
   pub passes_above : (code : List ℕ) (v : View) (by a b : ℕ) (p : Processor) → Has code v.place (i86.JumpIf 2 by) → b ≤ a → Sees code v p → Compared a b p → Sees code (on (i86.JumpIf 2 by) v) (processor_step p)
+  pub as_compared : (a b : ℕ) (flags : Flags) (p : Processor) → p.state.flags ≡ flags_after Compare a b flags → Compared a b p
+  -- acts: any operation over any operand
+  pub acts : (code : List ℕ) (a : Act) (n : ℕ) (v : View) (p : Processor) → Has code n (instruction a) → Needs code a v → Sees code (with_place n v) p
+      → Sees code (with_place ((n + length (bytes_of (instruction a))) % 65536) (after a v)) (processor_step p) × ((processor_step p).state.flags ≡ flags_of a v p.state.flags)
   -- ports
   pub out : (code : List ℕ) (v : View) (port : ℕ) → Has code v.place (i86.Out port) → Goes code v (with_told (with_given port (register v 0 % 256) v.told) (on (i86.Out port) v))
   pub halts : (code : List ℕ) (v : View) (p : Processor) → Has code v.place i86.Hlt → Sees code v p → observed (processor_step p) ≡ record { output = v.told.output; end = end_told v.told.kind v.told.segment (v.told.line_low + 256 * v.told.line_high) }

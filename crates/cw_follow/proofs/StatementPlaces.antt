@@ -23,7 +23,8 @@ use Rattle.cw_follow.specs.Passing.{moved_places, places_from, statement_places,
 use Rattle.cw_tmpl.proofs.Growing.{blanks-append}
 use Rattle.cw_tmpl.proofs.Sizes.{size_to, size_next, places_are, own_place, size_of_templates}
 use Rattle.cw_follow.proofs.Standing.{HasPieces, order_place, AllStand}
-use Rattle.cw_follow.proofs.InBlocks.{front_is, size_split, begins_at}
+use Rattle.cw_tmpl.proofs.Shapes.{front_is}
+use Rattle.cw_follow.proofs.InBlocks.{size_split, begins_at}
 
 -- ---- lists of places
 

@@ -102,7 +102,11 @@ StandsBehind order.Store = Unit {0}
 StandsBehind (order.Add line) = Unit {0}
 StandsBehind (order.Sub line) = Unit {0}
 StandsBehind (order.JumpIf c m) = Unit {0}
+StandsBehind (order.Mul s line) = Unit {0}
 StandsBehind (order.Div s line) = Unit {0}
+StandsBehind order.And = Unit {0}
+StandsBehind order.Or = Unit {0}
+StandsBehind order.Xor = Unit {0}
 StandsBehind order.WriteByte = Unit {0}
 StandsBehind _ = ⊥
 
