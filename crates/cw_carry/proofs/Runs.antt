@@ -4,3 +4,6 @@ pub mod Programs
 pub mod Testing
 pub mod ConstantWords
 pub mod ConstantOrders
+pub mod Generated
+pub mod GeneratedUnits
+pub mod Spans

@@ -15,6 +15,7 @@ use Rattle.cw_order.specs.OrderMachine.{order_machine, order_start}
 use Rattle.cw_order.specs.NamesAgree.{NamesAgree}
 use Rattle.cw_order.specs.HasCode.{HasCode}
 use Rattle.cw_order.specs.FittingWords.{ConstantsFit, LinesFit}
+use Rattle.cw_order.specs.Spans.{SpansInside}
 use Rattle.cw_order.specs.Activations.{Callable}
 use Rattle.cw_tmpl.specs.Names.{label_start, switch_start, procedure_start}
 use Rattle.cw_tmpl.specs.Pieces.{Filling, blanks, filled}
@@ -110,12 +111,14 @@ StandsBehind order.Xor = Unit {0}
 StandsBehind order.WriteByte = Unit {0}
 StandsBehind _ = ⊥
 
--- What templates need of the orders: their numbers are words, the unit's lists tell what the tables tell, and an index of a switch is a word
--- with a sign. Calls and control arguments are in order. Each body begins with the first order of its list, a mark stands there or at an order
--- that begins a block wherever it stands, the frame area lies in the data area, and operands and records leave room on the control stack.
+-- What templates need of the orders: their numbers are words, what those of references count on is in the data area, the unit's lists tell
+-- what the tables tell, and an index of a switch is a word with a sign. Calls and control arguments are in order. Each body begins with the
+-- first order of its list, a mark stands there or at an order that begins a block wherever it stands, the frame area lies in the data area,
+-- and operands and records leave room on the control stack.
 pub record Codable (p : OrderProgram) : Type 0 where
   pub codes : (g place : ℕ) (o : Order) → order_at p g place ≡ Some o → HasCode o
   pub constants : ConstantsFit p
+  pub spans : SpansInside p
   pub lines : LinesFit p
   pub tables : (g : ℕ) (t : Tables) (o : Orders) → slice_get p.tables g ≡ Some t → slice_get p.units g ≡ Some o → NamesAgree t o
   pub paired : (g : ℕ) (t : Tables) → slice_get p.tables g ≡ Some t → (o : Orders) × (slice_get p.units g ≡ Some o)

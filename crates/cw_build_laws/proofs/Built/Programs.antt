@@ -7,6 +7,7 @@ use Rattle.cw_order.specs.declared.order.Order.{Order}
 use Rattle.cw_order.specs.declared.order.Order.TheVariants as order
 use Rattle.cw_order.specs.FittingWords.{ConstantsFit}
 use Rattle.cw_order.specs.OrderProgram.{order_at}
+use Rattle.cw_order.specs.Spans.{SpansInside}
 use Rattle.cw_gen_unit.specs.ReferenceUnits.{unit_orders, orders_program}
 use Rattle.cw_follow.specs.Placing.{StandsBehind, Codable}
 use Rattle.cw_built.specs.Built.{is_built}
@@ -32,10 +33,11 @@ module _ (us : List SourceUnit) (m : Map) (limits : Limits) (room : ℕ) (h : Al
   marked g mark place (inl e) = inl e
   marked g mark place (inr b) = inr (b.0, b.1, begins-block b.0 b.2)
 
-  pub codable : All (λ u. IsTrue (is_built u)) us → ConstantsFit (orders_program us m limits room) → limits.frames ≤ limits.area → limits.depth < 65536 → room ≤ 32000 → Codable (orders_program us m limits room)
-  codable passed constants frames depth few = record {
+  pub codable : All (λ u. IsTrue (is_built u)) us → ConstantsFit (orders_program us m limits room) → SpansInside (orders_program us m limits room) → limits.frames ≤ limits.area → limits.depth < 65536 → room ≤ 32000 → Codable (orders_program us m limits room)
+  codable passed constants spans frames depth few = record {
     codes = codes us m limits room h;
     constants = constants;
+    spans = spans;
     lines = lines us m limits room h;
     tables = tables us m limits room;
     paired = paired us m limits room;

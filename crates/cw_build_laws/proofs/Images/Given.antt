@@ -12,7 +12,7 @@ use Rattle.cw_unit.specs.Allocation.{storage_of, storage_map}
 use Rattle.cw_unit.specs.ValidStorage.{IsStorable, ValidStorageMap}
 use Rattle.cw_unit.specs.Program.{program_at}
 use Rattle.cw_safety.specs.WellFormed.{WellFormed}
-use Rattle.cw_gen_unit.specs.BuiltUnits.{AllBuilt}
+use Rattle.cw_gen_unit.specs.BuiltUnits.{AllBuilt, Suits}
 use Rattle.cw_gen_unit.specs.ReferenceUnits.{unit_orders, orders_program}
 use Rattle.cw_tmpl.specs.declared.assembling.Code.{Code}
 use Rattle.cw_tmpl.specs.declared.pieces.Coded.{Coded}
@@ -38,7 +38,7 @@ pub record Given : Type 0 where
   pub built : (us : List SourceUnit) → All (λ u. IsTrue (is_built u)) us → AllBuilt us
   pub layout : (u : SourceUnit) → IsTrue (is_built u) → HasLayout u
   pub defined : (u : SourceUnit) (k d : ℕ) (def : Def) → IsTrue (is_built u) → slice_get u.defined k ≡ Some (d, def) → Defines u d def
-  pub codable : (us : List SourceUnit) (m : Map) (limits : Limits) (room : ℕ) → All (λ u. IsTrue (is_built u)) us → All (λ u. IsTrue (have_code (unit_orders u))) us → Agree (faces_of us) → limits.frames ≤ limits.area → limits.depth < 65536 → room ≤ 32000 → Codable (orders_program us m limits room)
+  pub codable : (us : List SourceUnit) (m : Map) (limits : Limits) (room : ℕ) → All (λ u. IsTrue (is_built u)) us → All (λ u. IsTrue (have_code (unit_orders u))) us → Agree (faces_of us) → Suits us m limits room → limits.frames ≤ limits.area → limits.depth < 65536 → room ≤ 32000 → Codable (orders_program us m limits room)
   pub writable : (u : SourceUnit) (l : Layout) (c : Code) (need : ℕ) → IsTrue (is_writable u l c need) → IsWritable u l c need c.statements
   pub valid : (agreed : Agreed) (spaces : List Space) (us : List SourceUnit) (limits : Limits) (m : Map) → segment_storage agreed spaces ≡ map storage_of us → All IsStorable us → AnswersPlace (segment_storage agreed spaces) spaces limits (Ok m) → ValidStorageMap us limits m
   pub names : (faces : List Face) (g : ℕ) (f : Face) → slice_get faces g ≡ Some f → names_of (agreed_of faces) g ≡ map (λ (d : Desc). d.name) f.descs

@@ -150,7 +150,7 @@ module _ (given : Given) (us : List SourceUnit) (limits : Limits) (input : List 
     well_formed = given.well_formed us m limits some built agree;
     built = given.built us built;
     suits = suits;
-    codable = given.codable us m limits 32000 built coded agree in_limits.0 (calls-by us limits some suits.has_room) (let l : 32000 ≤ 32000 = omega arith in l);
+    codable = given.codable us m limits 32000 built coded agree suits in_limits.0 (calls-by us limits some suits.has_room) (let l : 32000 ≤ 32000 = omega arith in l);
     image = (image_of us limits).code;
     words = (image_of us limits).words;
     is_image = is_image;

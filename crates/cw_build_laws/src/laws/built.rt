@@ -9,7 +9,7 @@ ghost use Rattle.cw_unit.specs.Program.{program_at};
 ghost use Rattle.cw_safety.specs.WellFormed.{WellFormed};
 ghost use Rattle.cw_order.specs.declared.order.Orders.{Orders};
 ghost use Rattle.cw_order.specs.HasCode.{HasCode};
-ghost use Rattle.cw_gen_unit.specs.BuiltUnits.{AllBuilt};
+ghost use Rattle.cw_gen_unit.specs.BuiltUnits.{AllBuilt, Suits};
 ghost use Rattle.cw_gen_unit.specs.ReferenceUnits.{unit_orders, orders_program};
 ghost use Rattle.cw_follow.specs.Placing.{Codable};
 ghost use Rattle.cw_comm.specs.Clashes.{Agree};
@@ -17,7 +17,7 @@ ghost use Rattle.cw_built.specs.Shared.{faces_of, Defines};
 ghost use Rattle.cw_built.specs.Built.{is_built};
 ghost use Rattle.cw_built.specs.Coded.{have_code};
 
-use cw_carry::laws::runs::{order_words, tested};
+use cw_carry::laws::runs::{order_spans, order_words, tested};
 
 /// Units that are built and agree are well formed together at every storage map and limits, and have orders that do what they mean. Each of them
 /// has a layout, and what it defines in common with others is there.
@@ -37,10 +37,11 @@ pub fn coded()
     cw_built::laws::coded();
 }
 
-/// The program of the orders of such units, where these have code, is one that code can carry out, at every storage map and at limits
-/// and room as a run has them.
+/// The program of the orders of such units, where these have code, is one that code can carry out, at a storage map, limits and room
+/// that suit the units and are as a run has them.
 pub fn codable()
-    ensures { (us : List SourceUnit) (m : Map) (limits : Limits) (room : ℕ) → All (λ u. IsTrue (is_built u)) us → All (λ u. IsTrue (have_code (unit_orders u))) us → Agree (faces_of us) → limits.frames ≤ limits.area → limits.depth < 65536 → room ≤ 32000 → Codable (orders_program us m limits room) }
+    ensures { (us : List SourceUnit) (m : Map) (limits : Limits) (room : ℕ) → All (λ u. IsTrue (is_built u)) us → All (λ u. IsTrue (have_code (unit_orders u))) us → Agree (faces_of us) → Suits us m limits room → limits.frames ≤ limits.area → limits.depth < 65536 → room ≤ 32000 → Codable (orders_program us m limits room) }
 {
     order_words();
+    order_spans();
 }

@@ -11,6 +11,7 @@ ghost use Rattle.cw_unit.specs.Begun.{begins};
 ghost use Rattle.cw_order.specs.OrderMachine.{order_machine};
 ghost use Rattle.cw_order.specs.Starting.{starts};
 ghost use Rattle.cw_order.specs.FittingWords.{ConstantsFit};
+ghost use Rattle.cw_order.specs.Spans.{SpansInside};
 ghost use Rattle.cw_safety.specs.WellFormed.{WellFormed};
 ghost use Rattle.cw_gen_unit.specs.BuiltUnits.{AllBuilt, Suits, are_built};
 ghost use Rattle.cw_gen_unit.specs.ReferenceUnits.{meaning, orders_program, first_order};
@@ -43,4 +44,9 @@ pub fn tested()
 /// The constants in the orders of units are words.
 pub fn order_words()
     ensures { (us : List SourceUnit) (m : Map) (limits : Limits) (room : ℕ) → ConstantsFit (orders_program us m limits room) }
+{}
+
+/// What the orders of references count on is in the data area, where the storage map suits the units.
+pub fn order_spans()
+    ensures { (us : List SourceUnit) (m : Map) (limits : Limits) (room : ℕ) → Suits us m limits room → SpansInside (orders_program us m limits room) }
 {}

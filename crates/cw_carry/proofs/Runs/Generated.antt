@@ -1,0 +1,255 @@
+-- What holds of the orders of every expression, condition, reference and argument: a property of lists of orders that joined lists keep,
+-- and that plain orders, constants that are words and the orders of references have.
+use Rattle.std.proofs.Common.{ℕ, zero, suc, ◌+◌, ◌%◌, ◌<◌, ◌≤◌, ℤ, pos, ◌-ℤ◌, max, List, [], ◌∷◌, ◌++◌, map, length, Bool, true, false, Option, Some, None, sym, ap, ◌∙◌, subst, arith}
+use Rattle.std.specs.Prelude.{slice_get, slice_index_or, ◌==◌, if◌then◌else◌}
+use Rattle.cw_unit.specs.declared.layout.Layout.{Layout}
+use Rattle.cw_unit.specs.declared.layout.Family.{Family}
+use Rattle.cw_unit.specs.declared.layout.Sort.{Sort}
+use Rattle.cw_unit.specs.declared.layout.Sort.TheVariants as sort
+use Rattle.cw_unit.specs.declared.unit.Field.{Field}
+use Rattle.cw_unit.specs.declared.unit.LogicOp.{LogicOp}
+use Rattle.cw_unit.specs.declared.unit.LogicOp.TheVariants as logic
+use Rattle.cw_unit.specs.declared.unit.Target.{Target}
+use Rattle.cw_unit.specs.declared.unit.Target.TheVariants as target
+use Rattle.cw_unit.specs.declared.unit.Goal.{Goal}
+use Rattle.cw_unit.specs.declared.unit.Goal.TheVariants as goal
+use Rattle.cw_unit.specs.declared.unit.Arg.{Arg, out-Arg}
+use Rattle.cw_unit.specs.declared.unit.Cond.{Cond, out-Cond}
+use Rattle.cw_unit.specs.declared.unit.Spot.{Spot, out-Spot, map-Spot}
+use Rattle.cw_unit.specs.declared.unit.Ref.{Ref, out-Ref}
+use Rattle.cw_unit.specs.declared.unit.Expr.{Expr, Expr-F, out-Expr}
+use Rattle.cw_unit.specs.declared.unit.Arg.TheOpen as layer
+use Rattle.cw_unit.specs.declared.unit.Arg.TheOpen.{Arg-F, Cond-F, Spot-F, Ref-F}
+use Rattle.cw_word.specs.Decimal.{decimal_floor}
+use Rattle.cw_word.specs.Word.{unsigned}
+use Rattle.cw_unit.specs.Scales.{answer_scale}
+use Rattle.cw_order.specs.declared.order.Order.{Order}
+use Rattle.cw_order.specs.declared.order.Order.TheVariants as order
+use Rattle.cw_gen_expr.specs.Pieces.{Piece, plain, followed_by, sequence, with_end}
+use Rattle.cw_gen_expr.specs.ReferenceExpressions.{Scope, Value, Reference, ConditionPiece, choice_piece, saved, two_values, placed_by, placed_in, item_order, form_orders, bounds_orders, load_orders, rescale_orders, logic_order, number_order, narrow, comparator_for, call_order, label_order, pick_mark, index_piece, value_of, condition_piece, argument_piece, reference_of, spot_piece, expression_piece}
+use Rattle.cw_gen_expr.proofs.Layers.{value_layer, value-made, argument_layer, argument-made, spot_layer, spot-made, reference-made, condition_layer, condition-made, total, expression_size, expression-size, expression_size_layer, argument_size, argument-size, argument_size_layer, spot-size, spot_size_layer, reference_size, reference-size, condition_size, condition-size, condition_size_layer}
+
+-- ---- properties of lists
+
+-- an order that is no constant and counts on nothing before it
+abbrev pub IsPlain : Order → Type 0
+IsPlain (order.Const w) = ⊥
+IsPlain (order.Element lower span line) = ⊥
+IsPlain (order.ElementOfTwo lower second width span line) = ⊥
+IsPlain (order.Entry width word span line) = ⊥
+IsPlain _ = Unit {0}
+
+abbrev pub ArePlain : List Order → Type 0
+ArePlain [] = Unit {0}
+ArePlain (o ∷ os) = IsPlain o × ArePlain os
+
+pub record ListProperty (y : Layout) : Type 1 where
+  pub holds : List Order → Type 0
+  pub none : holds []
+  pub joined : (a b : List Order) → holds a → holds b → holds (a ++ b)
+  pub alone : (o : Order) → IsPlain o → holds (o ∷ [])
+  pub constant : (w : ℕ) → w < 65536 → holds (order.Const w ∷ [])
+  pub formed : (line : ℕ) (x : Spot-F Piece ConditionPiece Value Piece Reference) → holds (form_orders y line x)
+
+-- it holds of the orders of a piece
+pub record Holds {y : Layout} (c : ListProperty y) (p : Piece) : Type 0 where
+  pub at : (place next : ℕ) → c.holds (p place next).orders
+
+module _ {y : Layout} (c : ListProperty y) where
+  listed : (os : List Order) → ArePlain os → c.holds os
+  listed [] h = c.none
+  listed (o ∷ os) h = c.joined (o ∷ []) os (c.alone o h.0) (listed os h.1)
+
+  pub lists : (os : List Order) → ArePlain os → Holds c (plain os)
+  lists os h = record { at = λ place next. listed os h }
+
+  pub constant_first : (n : ℕ) (os : List Order) → ArePlain os → Holds c (plain (number_order n ∷ os))
+  constant_first n os h = let z : n % 65536 < 65536 = omega arith in record { at = λ place next. c.joined (number_order n ∷ []) os (c.constant (n % 65536) z) (listed os h) }
+
+  pub both : {p q : Piece} → Holds c p → Holds c q → Holds c (followed_by p q)
+  both {p} {q} a b = record {
+    at = λ place next. let x = p place next in c.joined x.orders (q (place + length x.orders) (next + length x.marks)).orders (a.at place next) (b.at (place + length x.orders) (next + length x.marks));
+  }
+
+  pub ended : (p : ℕ → Piece) → ((k : ℕ) → Holds c (p k)) → Holds c (with_end p)
+  ended p a = record { at = λ place next. c.joined (p next place (next + 1)).orders (order.Mark ∷ []) ((a next).at place (next + 1)) (c.alone order.Mark tt) }
+
+  pub saves : Holds c saved
+  saves = lists (order.Save ∷ []) (tt, tt)
+
+  -- one of two by a condition
+  pub chosen : (d : ConditionPiece) (p q : Piece) → ((mark : ℕ) → Holds c (d false mark)) → Holds c p → Holds c q → Holds c (choice_piece d p q)
+  chosen d p q x a b =
+      let first = λ (k m : ℕ). followed_by (d false m) (followed_by p (plain (order.Jump k ∷ []))) in
+      ended (λ k. followed_by (with_end (first k)) q) (λ k. both (ended (first k) (λ m. both (x m) (both a (lists (order.Jump k ∷ []) (tt, tt))))) b)
+
+-- ---- orders of items and operations
+
+pub item_plain : (y : Layout) (i n : ℕ) → IsPlain (item_order y i n)
+item_plain y i n = of_family (slice_get y.families (slice_index_or y.homes i (0, 0)).0) (slice_index_or y.homes i (0, 0)).0 ((slice_index_or y.homes i (0, 0)).1 + n)
+  where
+    of_sort : (x : Sort) (f o : ℕ) → IsPlain (placed_by x f o)
+    of_sort (sort.Common d) f o = tt
+    of_sort sort.Own f o = tt
+    of_sort (sort.Absolute a) f o = tt
+    of_sort (sort.Frame b) f o = tt
+
+    of_family : (x : Option Family) (f o : ℕ) → IsPlain (placed_in x f o)
+    of_family None f o = tt
+    of_family (Some x) f o = of_sort x.sort f o
+
+rescale_by : (b : Bool) (line from to : ℕ) → ArePlain (if b then [] else (order.Rescale from to line ∷ []))
+rescale_by true line from to = tt
+rescale_by false line from to = (tt, tt)
+
+rescale_plain : (line from to : ℕ) → ArePlain (rescale_orders line from to)
+rescale_plain line from to = rescale_by (from == to) line from to
+
+load_plain : (x : Option Field) (os : List Order) → ArePlain os → ArePlain (load_orders x ++ os)
+load_plain None os h = (tt, h)
+load_plain (Some x) os h = (tt, h)
+
+logic_plain : (op : LogicOp) → IsPlain (logic_order op)
+logic_plain logic.Mask = tt
+logic_plain logic.Union = tt
+logic_plain logic.Differ = tt
+
+bounds_plain : (b : Bool) (line : ℕ) (l u : ℤ) → ArePlain (bounds_orders b line l u)
+bounds_plain true line l u = (tt, tt)
+bounds_plain false line l u = tt
+
+module _ (s : Scope) where
+  pub call_plain : (t : Target) → IsPlain (call_order s t)
+  call_plain (target.Own q) = tt
+  call_plain (target.Common d) = tt
+  call_plain (target.Special k f) = tt
+  call_plain target.Read = tt
+  call_plain target.Write = tt
+
+  label_plain : (g : Goal) → IsPlain (label_order s g)
+  label_plain (goal.Own l) = tt
+  label_plain (goal.Common d) = tt
+
+-- ---- trees
+
+module _ (s : Scope) (c : ListProperty s.layout) where
+  record Below (n : ℕ) : Type 0 where
+    values : (d : Expr) → expression_size d < n → (f : ℕ) → Holds c (expression_piece s d f)
+    conditions : (d : Cond) → condition_size d < n → (when : Bool) (mark : ℕ) → Holds c (condition_piece s d when mark)
+    arguments : (d : Arg) → argument_size d < n → Holds c (argument_piece s d)
+    references : (d : Ref) → reference_size d < n → Holds c (reference_of s d).address
+
+  module _ (n : ℕ) (b : Below n) where
+    bounded : (e : Expr) (l u : ℤ) → expression_size e < n → Holds c (followed_by (expression_piece s e 0) (plain (bounds_orders s.unit.bounds s.line l u)))
+    bounded e l u lt = both c (b.values e lt 0) (lists c (bounds_orders s.unit.bounds s.line l u) (bounds_plain s.unit.bounds s.line l u))
+
+    abbrev pieces : Spot-F Arg Cond Expr Spot Ref → Spot-F Piece ConditionPiece Value Piece Reference
+    pieces x = map-Spot Arg Cond Expr Spot Ref Piece ConditionPiece Value Piece Reference (argument_piece s) (condition_piece s) (value_of s) (spot_piece s) (reference_of s) x
+
+    indexes : (x : Spot-F Arg Cond Expr Spot Ref) → spot_size_layer x ≤ n → Holds c (index_piece s (pieces x))
+    indexes (layer.Direct i) le = lists c [] tt
+    indexes (layer.Through i) le = lists c [] tt
+    indexes (layer.One i l u e) le = bounded e l u (let z : expression_size e < n = omega (arith, le) in z)
+    indexes (layer.Two i l1 u1 l2 u2 m e g) le =
+        both c (bounded e l1 u1 (let z : expression_size e < n = omega (arith, le) in z)) (both c (saves c) (bounded g l2 u2 (let z : expression_size g < n = omega (arith, le) in z)))
+    indexes (layer.ParamArray i e) le = b.values e (let z : expression_size e < n = omega (arith, le) in z) 0
+    indexes (layer.Word i t m e) le = bounded e (pos 0) (pos m -ℤ pos 1) (let z : expression_size e < n = omega (arith, le) in z)
+    indexes (layer.Elem i t k m q e) le = bounded e (pos 0) (pos m -ℤ pos 1) (let z : expression_size e < n = omega (arith, le) in z)
+    indexes (layer.Bare e) le = b.values e (let z : expression_size e < n = omega (arith, le) in z) 0
+
+    spot : (x : Spot-F Arg Cond Expr Spot Ref) → spot_size_layer x ≤ n → Holds c (spot_layer s x)
+    spot x le = both c {p = index_piece s (pieces x)} {q = plain (form_orders s.layout s.line (pieces x))} (indexes x le) (record { at = λ place next. c.formed s.line (pieces x) })
+
+    reference : (r : Ref) → reference_size r ≤ n → Holds c (reference_of s r).address
+    reference r le =
+        subst (Holds c) (sym (ap (λ x. x.address) (reference-made s r) ∙ spot-made s (out-Ref r).at)) (spot (out-Spot (out-Ref r).at) (let z : spot_size_layer (out-Spot (out-Ref r).at) ≤ n = omega (arith, le, reference-size r ∙ spot-size (out-Ref r).at) in z))
+
+    -- two values, and orders behind them
+    two : {p q : Piece} → Holds c p → Holds c q → (os : List Order) → ArePlain os → Holds c (two_values p q os)
+    two x z os h = both c x (both c (saves c) (both c z (lists c os h)))
+
+    condition : (x : Cond-F Arg Cond Expr Spot Ref) → condition_size_layer x ≤ n → (when : Bool) (mark : ℕ) → Holds c (condition_layer s x when mark)
+    condition (layer.Cmp op a d) le when mark =
+        let f = max (value_of s a).natural (value_of s d).natural in
+        two (b.values a (let z : expression_size a < n = omega (arith, le) in z) f) (b.values d (let z : expression_size d < n = omega (arith, le) in z) f) (order.JumpIf (comparator_for when op) mark ∷ []) (tt, tt)
+    condition (layer.And a d) le when mark =
+        ended c (λ end. followed_by (condition_piece s a false (pick_mark when end mark)) (condition_piece s d when mark))
+        (λ k. both c (b.conditions a (let z : condition_size a < n = omega (arith, le) in z) false (pick_mark when k mark)) (b.conditions d (let z : condition_size d < n = omega (arith, le) in z) when mark))
+    condition (layer.Or a d) le when mark =
+        ended c (λ end. followed_by (condition_piece s a true (pick_mark when mark end)) (condition_piece s d when mark))
+        (λ k. both c (b.conditions a (let z : condition_size a < n = omega (arith, le) in z) true (pick_mark when mark k)) (b.conditions d (let z : condition_size d < n = omega (arith, le) in z) when mark))
+
+    argument : (x : Arg-F Arg Cond Expr Spot Ref) → argument_size_layer x ≤ n → Holds c (argument_layer s x)
+    argument (layer.Value e f) le = both c (b.values e (let z : expression_size e < n = omega (arith, le) in z) f) (saves c)
+    argument (layer.Place r) le = both c (b.references r (let z : reference_size r < n = omega (arith, le) in z)) (saves c)
+    argument (layer.Array i l) le = lists c (item_order s.layout i 0 ∷ order.IndexLess l s.line ∷ order.Save ∷ []) (item_plain s.layout i 0, (tt, (tt, tt)))
+    argument (layer.Same i) le = lists c (item_order s.layout i 0 ∷ order.Load ∷ order.Save ∷ []) (item_plain s.layout i 0, (tt, (tt, tt)))
+    argument (layer.Base i) le = lists c (item_order s.layout i 0 ∷ order.Save ∷ []) (item_plain s.layout i 0, (tt, tt))
+    argument (layer.Goal g) le = lists c (label_order s g ∷ []) (label_plain s g, tt)
+    argument (layer.Switch k) le = lists c _ (tt, tt)
+    argument (layer.CommonSwitch d) le = lists c _ (tt, tt)
+    argument (layer.Proc q) le = lists c _ (tt, tt)
+    argument (layer.CommonProc d) le = lists c _ (tt, tt)
+    argument (layer.Special k) le = lists c _ (tt, tt)
+
+    arguments : (args : List Arg) → total (map argument_size args) < n → Holds c (sequence (map (argument_piece s) args))
+    arguments [] lt = lists c [] tt
+    arguments (a ∷ args) lt = both c (b.arguments a (let z : argument_size a < n = omega (arith, lt) in z)) (arguments args (let z : total (map argument_size args) < n = omega (arith, lt) in z))
+
+    value : (x : Expr-F Arg Cond Expr Spot Ref) → expression_size_layer x ≤ n → (f : ℕ) → Holds c ((value_layer s x).at f)
+    value (layer.Num k) le f = constant_first c (decimal_floor k.whole k.digits k.places f) [] tt
+    value (layer.Const z) le f = constant_first c (unsigned z) (rescale_orders s.line 0 f) (rescale_plain s.line 0 f)
+    value (layer.Text i) le f = lists c (item_order s.layout i 0 ∷ rescale_orders s.line 0 f) (item_plain s.layout i 0, rescale_plain s.line 0 f)
+    value (layer.Read r) le f =
+        let a = reference_of s r in
+        both c (b.references r (let z : reference_size r < n = omega (arith, le) in z)) (lists c (load_orders a.field ++ rescale_orders s.line a.scale f) (load_plain a.field (rescale_orders s.line a.scale f) (rescale_plain s.line a.scale f)))
+    value (layer.Call t args) le f =
+        both c (arguments args (let z : total (map argument_size args) < n = omega (arith, le) in z)) (lists c (call_order s t ∷ rescale_orders s.line (answer_scale s.unit t) f) (call_plain s t, rescale_plain s.line (answer_scale s.unit t) f))
+    value (layer.Force g e) le f = both c (b.values e (let z : expression_size e < n = omega (arith, le) in z) g) (lists c (rescale_orders s.line g f) (rescale_plain s.line g f))
+    value (layer.Locate r) le f = both c (b.references r (let z : reference_size r < n = omega (arith, le) in z)) (lists c (rescale_orders s.line 0 f) (rescale_plain s.line 0 f))
+    value (layer.Bits t d e) le f =
+        both c (b.values e (let z : expression_size e < n = omega (arith, le) in z) (value_of s e).operand) (lists c (order.Take t d ∷ rescale_orders s.line 0 f) (tt, rescale_plain s.line 0 f))
+    value (layer.Logic op a d) le f =
+        two (b.values a (let z : expression_size a < n = omega (arith, le) in z) (value_of s a).operand) (b.values d (let z : expression_size d < n = omega (arith, le) in z) (value_of s d).operand) (logic_order op ∷ rescale_orders s.line 0 f) (logic_plain op, rescale_plain s.line 0 f)
+    value (layer.Sum a d) le f = two (b.values a (let z : expression_size a < n = omega (arith, le) in z) f) (b.values d (let z : expression_size d < n = omega (arith, le) in z) f) (order.Add s.line ∷ []) (tt, tt)
+    value (layer.Less a d) le f = two (b.values a (let z : expression_size a < n = omega (arith, le) in z) f) (b.values d (let z : expression_size d < n = omega (arith, le) in z) f) (order.Sub s.line ∷ []) (tt, tt)
+    value (layer.Minus a) le f = both c (b.values a (let z : expression_size a < n = omega (arith, le) in z) f) (lists c (order.Neg s.line ∷ []) (tt, tt))
+    value (layer.Times a d) le f =
+        let g = (value_of s a).operand in
+        let h = (value_of s d).operand in
+        two (b.values a (let z : expression_size a < n = omega (arith, le) in z) g) (b.values d (let z : expression_size d < n = omega (arith, le) in z) h) (order.Mul (narrow (pos f -ℤ pos (g + h))) s.line ∷ []) (tt, tt)
+    value (layer.Over a d) le f =
+        let g = (value_of s a).operand in
+        let h = (value_of s d).operand in
+        two (b.values a (let z : expression_size a < n = omega (arith, le) in z) g) (b.values d (let z : expression_size d < n = omega (arith, le) in z) h) (order.Div (narrow (pos (f + h) -ℤ pos g)) s.line ∷ []) (tt, tt)
+    value (layer.Choice k a d) le f =
+        chosen c (condition_piece s k) (expression_piece s a f) (expression_piece s d f) (λ m. b.conditions k (let z : condition_size k < n = omega (arith, le) in z) false m) (b.values a (let z : expression_size a < n = omega (arith, le) in z) f) (b.values d (let z : expression_size d < n = omega (arith, le) in z) f)
+
+    next_below : Below (suc n)
+    next_below = record {
+      values = λ d lt f. subst (λ v. Holds c (v.at f)) (sym (value-made s d)) (value (out-Expr d) (let z : expression_size_layer (out-Expr d) ≤ n = omega (arith, lt, expression-size d) in z) f);
+      conditions = λ d lt when mark. subst (λ p. Holds c (p when mark)) (sym (condition-made s d)) (condition (out-Cond d) (let z : condition_size_layer (out-Cond d) ≤ n = omega (arith, lt, condition-size d) in z) when mark);
+      arguments = λ d lt. subst (Holds c) (sym (argument-made s d)) (argument (out-Arg d) (let z : argument_size_layer (out-Arg d) ≤ n = omega (arith, lt, argument-size d) in z));
+      references = λ d lt. reference d (let z : reference_size d ≤ n = omega (arith, lt) in z);
+    }
+
+  below : (n : ℕ) → Below n
+  below zero = record {
+    values = λ d lt f. absurd (omega (arith, lt));
+    conditions = λ d lt when mark. absurd (omega (arith, lt));
+    arguments = λ d lt. absurd (omega (arith, lt));
+    references = λ d lt. absurd (omega (arith, lt));
+  }
+  below (suc n) = next_below n (below n)
+
+  pub value_holds : (e : Expr) (f : ℕ) → Holds c (expression_piece s e f)
+  value_holds e f = (below (suc (expression_size e))).values e (let z : expression_size e < suc (expression_size e) = omega arith in z) f
+
+  pub condition_holds : (d : Cond) (when : Bool) (mark : ℕ) → Holds c (condition_piece s d when mark)
+  condition_holds d when mark = (below (suc (condition_size d))).conditions d (let z : condition_size d < suc (condition_size d) = omega arith in z) when mark
+
+  pub reference_holds : (r : Ref) → Holds c (reference_of s r).address
+  reference_holds r = (below (suc (reference_size r))).references r (let z : reference_size r < suc (reference_size r) = omega arith in z)
+
+  pub arguments_hold : (args : List Arg) → Holds c (sequence (map (argument_piece s) args))
+  arguments_hold args = arguments (suc (total (map argument_size args))) (below (suc (total (map argument_size args)))) args (let z : total (map argument_size args) < suc (total (map argument_size args)) = omega arith in z)
