@@ -1,5 +1,6 @@
 -- Blocks of several orders.
-use Rattle.std.proofs.Common.{◌≡◌, ℕ, zero, suc, ◌+◌, ◌%◌, ◌<◌, ◌≤◌, Bool, true, false, not, pos, List, [], ◌∷◌, drop, Option, Some, None, refl, sym, ap, ◌∙◌, subst, arith, lit<, lit≤}
+use Rattle.std.proofs.Common.{◌≡◌, inl, inr, ℕ, zero, suc, ◌+◌, ◌%◌, ◌<◌, ◌≤◌, Bool, true, false, not, pos, List, [], ◌∷◌, ◌++◌, length, drop, Option, Some, None, refl, sym, ap, ◌∙◌, subst, arith, lit<, lit≤}
+use Rattle.std.proofs.lemmas.Bool.{cases_lt}
 use Rattle.std.proofs.lemmas.Bool.Decides.{nat_tests}
 use Rattle.std.specs.Prelude.{slice_get}
 use Rattle.std.proofs.lemmas.Bool.{le-leb}
@@ -8,34 +9,31 @@ use Rattle.cw_word.specs.FixedPoint.{FitsWord}
 use Rattle.cw_word.specs.Word.{signed}
 use Rattle.cw_unit.specs.Stop.{Running}
 use Rattle.cw_unit.specs.Words.{Operand, Word, Held, Words, Outcome, with_operands, Changed, put, word_at, through, is_below, number_of}
-use Rattle.cw_unit.specs.Operation.{Fetch, Store, Add, Subtract, Divide, WriteByte, perform, holds}
+use Rattle.cw_unit.specs.Operation.{Fetch, Store, Divide, WriteByte, perform}
 use Rattle.cw_order.specs.declared.order.Order.{Order}
 use Rattle.cw_order.specs.declared.order.Order.TheVariants as order
 use Rattle.cw_order.specs.OrderProgram.{order_in}
-use Rattle.cw_order.specs.OrderChanges.{put_address, Way, way_of_two, to_mark_if, comparison}
+use Rattle.cw_order.specs.OrderChanges.{put_address}
 use Rattle.cw_order.specs.OrderState.{OrderActivation, at, operand_words, stack_words, frame_word}
 use Rattle.cw_order.specs.Loading.{loaded_after}
 use Rattle.cw_order.specs.OrderActions.{home_word, action_of}
 use Rattle.cw_order.specs.OrderMachine.{unrefused, go_on, after, act, carry_with, step, weight}
+use Rattle.cw_tmpl.specs.declared.blocks.Place.{Place}
+use Rattle.cw_tmpl.specs.declared.blocks.Place.TheVariants as cell
+use Rattle.cw_tmpl.specs.declared.blocks.Simple.{Simple}
 use Rattle.cw_tmpl.specs.declared.blocks.Simple.TheVariants as simple
-use Rattle.cw_tmpl.specs.declared.blocks.Use.{Use}
-use Rattle.cw_tmpl.specs.declared.blocks.Use.TheVariants as uses
 use Rattle.cw_tmpl.specs.declared.blocks.Block.{Block}
 use Rattle.cw_tmpl.specs.declared.blocks.Block.TheVariants as block
-use Rattle.cw_tmpl.specs.Blocks.{is_plain_divisor, block_at, orders_left}
-use Rattle.cw_tmpl.specs.Library.{overflow_entry}
-use Rattle.cw_tmpl.specs.Templates.{distance}
-use Rattle.cw_tmpl.specs.ReferenceCode.{mark_starts}
+use Rattle.cw_tmpl.specs.Blocks.{address_orders, operand_orders, orders_before, is_plain_divisor, block_at, orders_left}
 use Rattle.cw_follow.specs.Placing.{base_of}
-use Rattle.cw_tmpl.proofs.Sizes.{own_place}
 use Rattle.cw_follow.proofs.Standing.{order_place}
-use Rattle.cw_follow.proofs.Chains.{add_at, subtract_at, compare_at, add_number, subtract_number, compare_number}
 use Rattle.cw_follow.proofs.Stacks.{level, words_split}
-use Rattle.cw_follow.proofs.Orders.{Landed, Does, Chooses, fetches, assigns, adds_simple, subtracts_simple, chooses_simple, writes_top, below_area}
+use Rattle.cw_follow.proofs.Orders.{Landed, Does, fetches, assigns, writes_top}
 use Rattle.cw_follow.proofs.States.{Given, Sound}
-use Rattle.cw_follow.proofs.InBlocks.{slice_drop, order_of, puts_word, chain, loaded_then, loaded_silently}
+use Rattle.cw_follow.proofs.InBlocks.{slice_drop, Each, each_of_both, one_before, none_before, puts_word, loaded_then, loaded_silently}
+use Rattle.cw_follow.proofs.FrameBlocks.{fetches_word, assigns_word}
 use Rattle.cw_follow.proofs.Divisions.{divides_by_number}
-use Rattle.cw_follow.proofs.Steps.{Follow, setting, few_segments, step_is, stuck_here, weight_is, line_fits, block_code, block_ends, start_place, order_here, silent_in, moded_as, last_does, last_tells, by, calls, start, last_chooses, arrives_at, two_roomy, way_after}
+use Rattle.cw_follow.proofs.Steps.{Follow, setting, step_is, stuck_here, weight_is, block_code, block_ends, start_place, order_here, silent_in, moded_as, last_does, last_tells}
 
 -- the orders that can stand in a block before its last one
 abbrev pub Puts : Order → Type 0
@@ -74,7 +72,7 @@ module _ (known : Given) where
   open known use {rows, p, image, all, coded, few, low}
 
   module _ {q : Watched} {g place : ℕ} {loaded : Bool} {acts : List OrderActivation} {w : Words} (s : Sound p image g place loaded acts w q) where
-    room_in : operand_words s.before.operands < level acts
+    pub room_in : operand_words s.before.operands < level acts
     room_in = let room = s.room_before in let most = coded.room in let split = words_split s.before.operands acts in omega arith
 
     pub within_block : (b : Block) (n : ℕ) → block_at 0 (drop s.from s.orders.list) ≡ b → orders_left b ≡ n → s.done ≤ n
@@ -134,16 +132,50 @@ module _ (known : Given) where
     pub step_in : (m : Bool) (o : Order) → loaded ≡ m → slice_get s.orders.list place ≡ Some o → step p (at g place loaded acts w Running) ≡ carry_with p (loaded_after o m) o g place loaded acts w
     step_in m o now here = step_is known s (Some o) here ∙ ap (λ x. carry_with p (loaded_after o x) o g place loaded acts w) now
 
-    -- ---- words of the data area
+    -- ---- all of a block
 
-    -- the two orders of a word that is put
-    pub fetch_follows : (f n done : ℕ) (more : List Order) → s.done ≡ done → done ≤ 1 → drop s.from s.orders.list ≡ order.Home f n ∷ order.Load ∷ more
-        → block_at 0 (drop s.from s.orders.list) ≡ block.Fetch f n → Follow known (at g place loaded acts w Running) q
-    fetch_follows f n zero more is_done le e is = inner_follows 0 (order.Home f n) (block.Fetch f n) _ is_done e refl tt is (lit≤ tt)
-    fetch_follows f n (suc zero) more is_done le e is =
+    place_puts : (x : Place) → Each Puts (address_orders x)
+    place_puts (cell.Word f n) = (tt, tt)
+    place_puts (cell.Frame n) = (tt, tt)
+
+    operand_puts : (o : Simple) → Each Puts (operand_orders o)
+    operand_puts (simple.Number x) = (tt, tt)
+    operand_puts (simple.Contents x) = each_of_both Puts (address_orders x) (order.Load ∷ []) (place_puts x) (tt, tt)
+
+    block_puts : (b : Block) → Each Puts (orders_before b)
+    block_puts (block.Within n) = tt
+    block_puts block.Single = tt
+    block_puts (block.Fetch x) = place_puts x
+    block_puts (block.Assign x) = (tt, place_puts x)
+    block_puts block.Write = (tt, tt)
+    block_puts (block.Divide x line) = (tt, (tt, tt))
+    block_puts (block.Operate o u) = (tt, operand_puts o)
+
+    -- the orders of a block, where its last one is followed
+    pub block_follows : (b : Block) (last : Order) (rest : List Order) → drop s.from s.orders.list ≡ orders_before b ++ last ∷ rest → block_at 0 (drop s.from s.orders.list) ≡ b → orders_left b ≡ length (orders_before b)
+        → (s.done ≡ length (orders_before b) → Follow known (at g place loaded acts w Running) q) → Follow known (at g place loaded acts w Running) q
+    block_follows b last rest e is many ends = elim (cases_lt s.done (length (orders_before b))) as (λ _. Follow known (at g place loaded acts w Running) q) [
+      | inl lt ↦ inner lt
+      | inr ge ↦ (let le = within_block b (length (orders_before b)) is many in ends (omega arith))
+    ]
+      where
+        inner : s.done < length (orders_before b) → Follow known (at g place loaded acts w Running) q
+        inner lt = cases (slice_get (orders_before b ++ last ∷ rest) s.done) refl
+          where
+            cases : (o : Option Order) → slice_get (orders_before b ++ last ∷ rest) s.done ≡ o → Follow known (at g place loaded acts w Running) q
+            cases None none = absurd (none_before (orders_before b) last rest s.done lt none)
+            cases (Some o) there =
+                let more : suc s.done ≤ orders_left b = omega arith in
+                inner_follows s.done o b (orders_before b ++ last ∷ rest) refl e there (one_before Puts (orders_before b) last o rest s.done (block_puts b) lt there) is more
+
+    -- ---- words that are put and stored
+
+    fetch_last : (x : Place) (rest : List Order) → s.done ≡ length (address_orders x) → drop s.from s.orders.list ≡ address_orders x ++ order.Load ∷ rest
+        → block_at 0 (drop s.from s.orders.list) ≡ block.Fetch x → Follow known (at g place loaded acts w Running) q
+    fetch_last (cell.Word f n) rest is_done e is =
         let here = order_here known s 1 order.Load _ is_done e refl in
-        let ends = block_ends known s (block.Fetch f n) (order.Home f n) (order.Load ∷ more) 1 is_done e is refl refl in
-        let before = modes false true true (order.Home f n) 0 (order.Load ∷ more) is_done e refl refl refl in
+        let ends = block_ends known s (block.Fetch (cell.Word f n)) (order.Home f n) (order.Load ∷ rest) 1 is_done e is refl refl in
+        let before = modes false true true (order.Home f n) 0 (order.Load ∷ rest) is_done e refl refl refl in
         let st = all.stands g s.orders s.unit in
         let here_at = start_place known s in
         let word = home_word p.addresses g f n in
@@ -151,18 +183,25 @@ module _ (known : Given) where
         let paid : 1 ≤ weight p (at g place loaded acts w Running) = let x = weight_is known s order.Load here in omega arith in
         last_does known s true 0 (λ v. unrefused (perform p.limits.area (Fetch None) v)) 1 1 _ is_done e ends.begins (step_in true order.Load before.now here) paid
         (fetches rows p image g acts code_end (st.value 2 f n (here_at + 3)) word 0 s.before low small (st.fills.bytes f n (here_at + 3)) ends.behind
-        (block_code known s (block.Fetch f n) (order.Home f n) (order.Load ∷ more) e is).0 before.landed)
-    fetch_follows f n (suc (suc k)) more is_done le e is = absurd (omega arith)
+        (block_code known s (block.Fetch (cell.Word f n)) (order.Home f n) (order.Load ∷ rest) e is).0 before.landed)
+    fetch_last (cell.Frame n) rest is_done e is =
+        let here = order_here known s 1 order.Load _ is_done e refl in
+        let ends = block_ends known s (block.Fetch (cell.Frame n)) (order.FrameHome n) (order.Load ∷ rest) 1 is_done e is refl refl in
+        let before = modes false true true (order.FrameHome n) 0 (order.Load ∷ rest) is_done e refl refl refl in
+        let paid : 3 ≤ weight p (at g place loaded acts w Running) = let x = weight_is known s order.Load here in omega arith in
+        last_does known s true 0 (λ v. unrefused (perform p.limits.area (Fetch None) v)) 3 1 _ is_done e ends.begins (step_in true order.Load before.now here) paid
+        (fetches_word rows p image g code_end n acts s.before low ends.behind (block_code known s (block.Fetch (cell.Frame n)) (order.FrameHome n) (order.Load ∷ rest) e is) before.landed)
 
-    -- the three orders of one that is stored
-    pub assign_follows : (f n done : ℕ) (more : List Order) → s.done ≡ done → done ≤ 2 → drop s.from s.orders.list ≡ order.Save ∷ order.Home f n ∷ order.Store ∷ more
-        → block_at 0 (drop s.from s.orders.list) ≡ block.Assign f n → Follow known (at g place loaded acts w Running) q
-    assign_follows f n zero more is_done le e is = inner_follows 0 order.Save (block.Assign f n) _ is_done e refl tt is (lit≤ tt)
-    assign_follows f n (suc zero) more is_done le e is = inner_follows 1 (order.Home f n) (block.Assign f n) _ is_done e refl tt is (lit≤ tt)
-    assign_follows f n (suc (suc zero)) more is_done le e is =
-        let os = order.Home f n ∷ order.Store ∷ more in
+    pub fetch_follows : (x : Place) (rest : List Order) → drop s.from s.orders.list ≡ address_orders x ++ order.Load ∷ rest → block_at 0 (drop s.from s.orders.list) ≡ block.Fetch x
+        → Follow known (at g place loaded acts w Running) q
+    fetch_follows x rest e is = block_follows (block.Fetch x) order.Load rest e is refl (λ is_done. fetch_last x rest is_done e is)
+
+    assign_last : (x : Place) (rest : List Order) → s.done ≡ suc (length (address_orders x)) → drop s.from s.orders.list ≡ order.Save ∷ (address_orders x ++ order.Store ∷ rest)
+        → block_at 0 (drop s.from s.orders.list) ≡ block.Assign x → Follow known (at g place loaded acts w Running) q
+    assign_last (cell.Word f n) rest is_done e is =
+        let os = order.Home f n ∷ order.Store ∷ rest in
         let here = order_here known s 2 order.Store _ is_done e refl in
-        let ends = block_ends known s (block.Assign f n) order.Save os 2 is_done e is refl refl in
+        let ends = block_ends known s (block.Assign (cell.Word f n)) order.Save os 2 is_done e is refl refl in
         let before = saved true 1 os is_done e refl in
         let st = all.stands g s.orders s.unit in
         let here_at = start_place known s in
@@ -172,103 +211,51 @@ module _ (known : Given) where
         let v = s.before in
         last_does known s false 0 (λ v. unrefused (perform p.limits.area (Store None) v)) 1 2 _ is_done e ends.begins (step_in true order.Store before.now here) paid
         (assigns rows p image g acts code_end (st.value 2 f n (here_at + 3)) word 0 v.operands v.memory v.input v.output low small (st.fills.bytes f n (here_at + 3)) ends.behind
-        (block_code known s (block.Assign f n) order.Save os e is).0 before.landed)
-    assign_follows f n (suc (suc (suc k))) more is_done le e is = absurd (omega arith)
+        (block_code known s (block.Assign (cell.Word f n)) order.Save os e is).0 before.landed)
+    assign_last (cell.Frame n) rest is_done e is =
+        let os = order.FrameHome n ∷ order.Store ∷ rest in
+        let here = order_here known s 2 order.Store _ is_done e refl in
+        let ends = block_ends known s (block.Assign (cell.Frame n)) order.Save os 2 is_done e is refl refl in
+        let before = saved true 1 os is_done e refl in
+        let paid : 3 ≤ weight p (at g place loaded acts w Running) = let x = weight_is known s order.Store here in omega arith in
+        last_does known s false 0 (λ v. unrefused (perform p.limits.area (Store None) v)) 3 2 _ is_done e ends.begins (step_in true order.Store before.now here) paid
+        (assigns_word rows p image g code_end n acts s.before low ends.behind (block_code known s (block.Assign (cell.Frame n)) order.Save os e is) before.landed)
+
+    pub assign_follows : (x : Place) (rest : List Order) → drop s.from s.orders.list ≡ order.Save ∷ (address_orders x ++ order.Store ∷ rest) → block_at 0 (drop s.from s.orders.list) ≡ block.Assign x
+        → Follow known (at g place loaded acts w Running) q
+    assign_follows x rest e is = block_follows (block.Assign x) order.Store rest e is refl (λ is_done. assign_last x rest is_done e is)
 
     -- ---- output
 
-    pub write_top_follows : (done : ℕ) (more : List Order) → s.done ≡ done → done ≤ 1 → drop s.from s.orders.list ≡ order.Save ∷ order.WriteByte ∷ more
-        → block_at 0 (drop s.from s.orders.list) ≡ block.Write → Follow known (at g place loaded acts w Running) q
-    write_top_follows zero more is_done le e is = inner_follows 0 order.Save block.Write _ is_done e refl tt is (lit≤ tt)
-    write_top_follows (suc zero) more is_done le e is =
+    write_last : (rest : List Order) → s.done ≡ 1 → drop s.from s.orders.list ≡ order.Save ∷ order.WriteByte ∷ rest → block_at 0 (drop s.from s.orders.list) ≡ block.Write → Follow known (at g place loaded acts w Running) q
+    write_last rest is_done e is =
         let here = order_here known s 1 order.WriteByte _ is_done e refl in
-        let ends = block_ends known s block.Write order.Save (order.WriteByte ∷ more) 1 is_done e is refl refl in
-        let before = saved false 0 (order.WriteByte ∷ more) is_done e refl in
+        let ends = block_ends known s block.Write order.Save (order.WriteByte ∷ rest) 1 is_done e is refl refl in
+        let before = saved false 0 (order.WriteByte ∷ rest) is_done e refl in
         let paid : 1 ≤ weight p (at g place loaded acts w Running) = let x = weight_is known s order.WriteByte here in omega arith in
         let v = s.before in
         last_tells known s false (perform p.limits.area WriteByte) 1 1 _ is_done e ends.begins
         (step_in false order.WriteByte before.now here ∙ ap (λ x. after p.room 0 x g place false acts w) (write_unrefused p.limits.area w.operands w)) paid
         (writes_top rows p image g acts code_end v.operands v.memory v.input v.output ends.behind
-        (block_code known s block.Write order.Save (order.WriteByte ∷ more) e is).0 before.landed)
-    write_top_follows (suc (suc k)) more is_done le e is = absurd (omega arith)
+        (block_code known s block.Write order.Save (order.WriteByte ∷ rest) e is).0 before.landed)
 
-    -- ---- a number and the order that uses it
+    pub write_top_follows : (rest : List Order) → drop s.from s.orders.list ≡ order.Save ∷ order.WriteByte ∷ rest → block_at 0 (drop s.from s.orders.list) ≡ block.Write → Follow known (at g place loaded acts w Running) q
+    write_top_follows rest e is = block_follows block.Write order.WriteByte rest e is refl (λ is_done. write_last rest is_done e is)
 
-    number_small : (x : ℕ) (os : List Order) → drop s.from s.orders.list ≡ order.Save ∷ order.Const x ∷ os → x < 65536
+    -- ---- a number that divides
+
+    pub number_small : (x : ℕ) (os : List Order) → drop s.from s.orders.list ≡ order.Save ∷ order.Const x ∷ os → x < 65536
     number_small x os e =
         let second : slice_get s.orders.list (s.from + 1) ≡ Some (order.Const x) = sym (slice_drop s.orders.list s.from 1) ∙ ap (λ l. slice_get l 1) e in
         coded.constants g (s.from + 1) x (ap (λ u. order_in u (s.from + 1)) s.unit ∙ second)
 
-    number_last : (x : ℕ) (u : Use) (more : List Order) → s.done ≡ 2 → drop s.from s.orders.list ≡ order.Save ∷ order.Const x ∷ order_of u ∷ more
-        → block_at 0 (drop s.from s.orders.list) ≡ block.Operate (simple.Number x) u → Follow known (at g place loaded acts w Running) q
-    number_last x (uses.Add line) more is_done e is =
-        let os = order.Const x ∷ order.Add line ∷ more in
-        let here = order_here known s 2 (order.Add line) _ is_done e refl in
-        let ends = block_ends known s (block.Operate (simple.Number x) (uses.Add line)) order.Save os 2 is_done e is refl refl in
-        let before = saved true 1 os is_done e refl in
-        let here_at = start_place known s in
-        let small = number_small x (order.Add line ∷ more) e in
-        let paid : 15 ≤ weight p (at g place loaded acts w Running) = let y = weight_is known s (order.Add line) here in omega arith in
-        let behind = ends.behind in
-        let v = s.before in
-        let l = before.landed in
-        let i = block_code known s (block.Operate (simple.Number x) (uses.Add line)) order.Save os e is in
-        last_does known s true line (perform p.limits.area Add) 15 2 _ is_done e ends.begins (step_in true (order.Add line) before.now here) paid
-        (adds_simple rows p image g acts 3 code_end (by known s overflow_entry (here_at + 3 + 2 + 3)) line x (signed x) v.operands v.memory v.input v.output (sym (rows.words.forth x small))
-        (rows.words.signed_fits x small) all.library (few_segments known s) (line_fits known s (order.Add line) here) room_in
-        (omega arith) (calls known s overflow_entry (here_at + 3 + 2 + 3) (lit< tt)) s.fits_before.operands i.1 l (add_number rows x i.0 l.stacked.is))
-    number_last x (uses.Subtract line) more is_done e is =
-        let os = order.Const x ∷ order.Sub line ∷ more in
-        let here = order_here known s 2 (order.Sub line) _ is_done e refl in
-        let ends = block_ends known s (block.Operate (simple.Number x) (uses.Subtract line)) order.Save os 2 is_done e is refl refl in
-        let before = saved true 1 os is_done e refl in
-        let here_at = start_place known s in
-        let small = number_small x (order.Sub line ∷ more) e in
-        let paid : 15 ≤ weight p (at g place loaded acts w Running) = let y = weight_is known s (order.Sub line) here in omega arith in
-        let behind = ends.behind in
-        let v = s.before in
-        let l = before.landed in
-        let i = block_code known s (block.Operate (simple.Number x) (uses.Subtract line)) order.Save os e is in
-        last_does known s true line (perform p.limits.area Subtract) 15 2 _ is_done e ends.begins (step_in true (order.Sub line) before.now here) paid
-        (subtracts_simple rows p image g acts 3 code_end (by known s overflow_entry (here_at + 3 + 2 + 3)) line x (signed x) v.operands v.memory v.input v.output (sym (rows.words.forth x small))
-        (rows.words.signed_fits x small) all.library (few_segments known s) (line_fits known s (order.Sub line) here) room_in
-        (omega arith) (calls known s overflow_entry (here_at + 3 + 2 + 3) (lit< tt)) s.fits_before.operands i.1 l (subtract_number rows x i.0 l.stacked.is))
-    number_last x (uses.Compare c m) more is_done e is =
-        let os = order.Const x ∷ order.JumpIf c m ∷ more in
-        let here = order_here known s 2 (order.JumpIf c m) _ is_done e refl in
-        let ends = block_ends known s (block.Operate (simple.Number x) (uses.Compare c m)) order.Save os 2 is_done e is refl refl in
-        let before = saved true 1 os is_done e refl in
-        let own = own_place s.orders.list s.from in
-        let small = number_small x (order.JumpIf c m ∷ more) e in
-        let paid : 3 ≤ weight p (at g place loaded acts w Running) = let y = weight_is known s (order.JumpIf c m) here in omega arith in
-        let behind = ends.behind in
-        let v = s.before in
-        let l = before.landed in
-        let by_mark = distance (own + 3 + 5) (mark_starts s.orders m) in
-        let arrives : (base_of p g + own + 3 + 5 + by_mark) % 65536 ≡ (base_of p g + mark_starts s.orders m) % 65536 = arrives_at (base_of p g) own 3 (mark_starts s.orders m) in
-        let i = block_code known s (block.Operate (simple.Number x) (uses.Compare c m)) order.Save os e is in
-        last_chooses known s false (λ v. way_of_two (λ x y v. to_mark_if (holds (comparison c) x y) m v) v) 3 2 _ is_done e ends.begins (two_roomy acts p.room m c w.operands w s.room)
-        (step_in true (order.JumpIf c m) before.now here) paid
-        (chooses_simple rows p image g acts 3 code_end by_mark x (signed x) (start known s) c m v.operands v.memory v.input v.output (sym (rows.words.forth x small)) (rows.words.signed_fits x small)
-        (omega arith) arrives s.fits_before.operands i.1 l (compare_number rows x i.0 l.stacked.is))
-
-    pub number_follows : (x : ℕ) (u : Use) (done : ℕ) (more : List Order) → s.done ≡ done → done ≤ 2 → drop s.from s.orders.list ≡ order.Save ∷ order.Const x ∷ order_of u ∷ more
-        → block_at 0 (drop s.from s.orders.list) ≡ block.Operate (simple.Number x) u → Follow known (at g place loaded acts w Running) q
-    number_follows x u zero more is_done le e is = inner_follows 0 order.Save (block.Operate (simple.Number x) u) _ is_done e refl tt is (lit≤ tt)
-    number_follows x u (suc zero) more is_done le e is = inner_follows 1 (order.Const x) (block.Operate (simple.Number x) u) _ is_done e refl tt is (lit≤ tt)
-    number_follows x u (suc (suc zero)) more is_done le e is = number_last x u more is_done e is
-    number_follows x u (suc (suc (suc k))) more is_done le e is = absurd (omega arith)
-
-    -- a number that divides
-    pub divide_number_follows : (x line done : ℕ) (more : List Order) → s.done ≡ done → done ≤ 2 → drop s.from s.orders.list ≡ order.Save ∷ order.Const x ∷ order.Div (pos zero) line ∷ more → is_plain_divisor x ≡ true
-        → block_at 0 (drop s.from s.orders.list) ≡ block.Divide x → Follow known (at g place loaded acts w Running) q
-    divide_number_follows x line zero more is_done le e plain is = inner_follows 0 order.Save (block.Divide x) _ is_done e refl tt is (lit≤ tt)
-    divide_number_follows x line (suc zero) more is_done le e plain is = inner_follows 1 (order.Const x) (block.Divide x) _ is_done e refl tt is (lit≤ tt)
-    divide_number_follows x line (suc (suc zero)) more is_done le e plain is =
+    divide_last : (x line : ℕ) (rest : List Order) → s.done ≡ 2 → drop s.from s.orders.list ≡ order.Save ∷ order.Const x ∷ order.Div (pos zero) line ∷ rest → is_plain_divisor x ≡ true
+        → block_at 0 (drop s.from s.orders.list) ≡ block.Divide x line → Follow known (at g place loaded acts w Running) q
+    divide_last x line rest is_done e plain is =
         let o = order.Div (pos zero) line in
-        let os = order.Const x ∷ o ∷ more in
+        let os = order.Const x ∷ o ∷ rest in
         let here = order_here known s 2 o _ is_done e refl in
-        let ends = block_ends known s (block.Divide x) order.Save os 2 is_done e is refl refl in
+        let ends = block_ends known s (block.Divide x line) order.Save os 2 is_done e is refl refl in
         let before = saved true 1 os is_done e refl in
         let paid : 3 ≤ weight p (at g place loaded acts w Running) = let y = weight_is known s o here in omega arith in
         let in_range = plain_divisor x plain in
@@ -276,106 +263,8 @@ module _ (known : Given) where
         last_does known s true line (perform p.limits.area (Divide (pos zero))) 3 2 _ is_done e ends.begins (step_in true o before.now here) paid
         (subst (λ y. Does p image 3 code_end g true line acts v.output q (perform p.limits.area (Divide (pos zero)) (put y v))) (sym (small_number x in_range.1))
         (divides_by_number (setting known s) v.memory v.input v.output code_end line x v.operands in_range.0 in_range.1 ends.behind room_in s.fits_before.operands
-        (block_code known s (block.Divide x) order.Save os e is) before.landed))
-    divide_number_follows x line (suc (suc (suc k))) more is_done le e plain is = absurd (omega arith)
+        (block_code known s (block.Divide x line) order.Save os e is) before.landed))
 
-    -- ---- a word of the data area and the order that uses it
-
-    fetched_does : (a limit line : ℕ) (f : Words → Outcome) → a < 65536
-        → ((k : ℕ) → k < p.limits.area → k ≡ a → Does p image limit code_end g true line acts s.before.output q (f (put (word_at s.before.memory k) s.before)))
-        → Does p image limit code_end g true line acts s.before.output q (chain (chain (unrefused (perform p.limits.area (Fetch None) (put (signed a) s.before))) Changed) f)
-    fetched_does a limit line f small each = cases (is_below (signed a) p.limits.area) refl
-      where
-        cases : (b : Bool) → is_below (signed a) p.limits.area ≡ b
-            → Does p image limit code_end g true line acts s.before.output q (chain (chain (unrefused (through b (λ i v. Changed (put (word_at v.memory i) v)) (signed a) s.before)) Changed) f)
-        cases false is = tt
-        cases true is = let b = below_area rows.words p.limits.area a low small is in each (number_of (signed a)) b.within b.same
-
-    fetched_chooses : (a limit : ℕ) (f : Words → Way) → a < 65536
-        → ((k : ℕ) → k < p.limits.area → k ≡ a → Chooses p image limit code_end (start known s) g false acts s.before.output q (f (put (word_at s.before.memory k) s.before)))
-        → Chooses p image limit code_end (start known s) g false acts s.before.output q (way_after (chain (unrefused (perform p.limits.area (Fetch None) (put (signed a) s.before))) Changed) f)
-    fetched_chooses a limit f small each = cases (is_below (signed a) p.limits.area) refl
-      where
-        cases : (b : Bool) → is_below (signed a) p.limits.area ≡ b
-            → Chooses p image limit code_end (start known s) g false acts s.before.output q (way_after (chain (unrefused (through b (λ i v. Changed (put (word_at v.memory i) v)) (signed a) s.before)) Changed) f)
-        cases false is = tt
-        cases true is = let b = below_area rows.words p.limits.area a low small is in each (number_of (signed a)) b.within b.same
-
-    memory_word : (k : ℕ) → k < p.limits.area → FitsWord (word_at s.before.memory k)
-    memory_word k lt = let long = s.landed.kept.long in s.fits_before.memory k (pos 0) (omega arith)
-
-    variable_last : (f n : ℕ) (u : Use) (more : List Order) → s.done ≡ 3 → drop s.from s.orders.list ≡ order.Save ∷ order.Home f n ∷ order.Load ∷ order_of u ∷ more
-        → block_at 0 (drop s.from s.orders.list) ≡ block.Operate (simple.Variable f n) u → Follow known (at g place loaded acts w Running) q
-    variable_last f n (uses.Add line) more is_done e is =
-        let os = order.Home f n ∷ order.Load ∷ order.Add line ∷ more in
-        let here = order_here known s 3 (order.Add line) _ is_done e refl in
-        let ends = block_ends known s (block.Operate (simple.Variable f n) (uses.Add line)) order.Save os 3 is_done e is refl refl in
-        let before = saved true 2 os is_done e refl in
-        let st = all.stands g s.orders s.unit in
-        let here_at = start_place known s in
-        let word = home_word p.addresses g f n in
-        let small : word < 65536 = omega arith in
-        let bytes = st.fills.bytes f n (here_at + 4) in
-        let paid : 15 ≤ weight p (at g place loaded acts w Running) = let y = weight_is known s (order.Add line) here in omega arith in
-        let behind = ends.behind in
-        let v = s.before in
-        let l = before.landed in
-        let i = block_code known s (block.Operate (simple.Variable f n) (uses.Add line)) order.Save os e is in
-        last_does known s true line (perform p.limits.area Add) 15 3 _ is_done e ends.begins (step_in true (order.Add line) before.now here) paid
-        (fetched_does word 15 line (perform p.limits.area Add) small (λ k lt same.
-        adds_simple rows p image g acts 4 code_end (by known s overflow_entry (here_at + 4 + 2 + 3)) line (l.cells k) (word_at s.before.memory k) v.operands v.memory v.input v.output
-        (l.kept.words k lt) (memory_word k lt) all.library (few_segments known s) (line_fits known s (order.Add line) here) room_in
-        (omega arith) (calls known s overflow_entry (here_at + 4 + 2 + 3) (lit< tt)) s.fits_before.operands i.1 l
-        (add_at rows 0 (st.value 2 f n (here_at + 4)) k (omega arith) (omega arith) i.0 l.stacked.is)))
-    variable_last f n (uses.Subtract line) more is_done e is =
-        let os = order.Home f n ∷ order.Load ∷ order.Sub line ∷ more in
-        let here = order_here known s 3 (order.Sub line) _ is_done e refl in
-        let ends = block_ends known s (block.Operate (simple.Variable f n) (uses.Subtract line)) order.Save os 3 is_done e is refl refl in
-        let before = saved true 2 os is_done e refl in
-        let st = all.stands g s.orders s.unit in
-        let here_at = start_place known s in
-        let word = home_word p.addresses g f n in
-        let small : word < 65536 = omega arith in
-        let bytes = st.fills.bytes f n (here_at + 4) in
-        let paid : 15 ≤ weight p (at g place loaded acts w Running) = let y = weight_is known s (order.Sub line) here in omega arith in
-        let behind = ends.behind in
-        let v = s.before in
-        let l = before.landed in
-        let i = block_code known s (block.Operate (simple.Variable f n) (uses.Subtract line)) order.Save os e is in
-        last_does known s true line (perform p.limits.area Subtract) 15 3 _ is_done e ends.begins (step_in true (order.Sub line) before.now here) paid
-        (fetched_does word 15 line (perform p.limits.area Subtract) small (λ k lt same.
-        subtracts_simple rows p image g acts 4 code_end (by known s overflow_entry (here_at + 4 + 2 + 3)) line (l.cells k) (word_at s.before.memory k) v.operands v.memory v.input v.output
-        (l.kept.words k lt) (memory_word k lt) all.library (few_segments known s) (line_fits known s (order.Sub line) here) room_in
-        (omega arith) (calls known s overflow_entry (here_at + 4 + 2 + 3) (lit< tt)) s.fits_before.operands i.1 l
-        (subtract_at rows 0 (st.value 2 f n (here_at + 4)) k (omega arith) (omega arith) i.0 l.stacked.is)))
-    variable_last f n (uses.Compare c m) more is_done e is =
-        let os = order.Home f n ∷ order.Load ∷ order.JumpIf c m ∷ more in
-        let here = order_here known s 3 (order.JumpIf c m) _ is_done e refl in
-        let ends = block_ends known s (block.Operate (simple.Variable f n) (uses.Compare c m)) order.Save os 3 is_done e is refl refl in
-        let before = saved true 2 os is_done e refl in
-        let st = all.stands g s.orders s.unit in
-        let here_at = start_place known s in
-        let own = own_place s.orders.list s.from in
-        let word = home_word p.addresses g f n in
-        let small : word < 65536 = omega arith in
-        let bytes = st.fills.bytes f n (here_at + 4) in
-        let paid : 3 ≤ weight p (at g place loaded acts w Running) = let y = weight_is known s (order.JumpIf c m) here in omega arith in
-        let behind = ends.behind in
-        let v = s.before in
-        let l = before.landed in
-        let by_mark = distance (own + 4 + 5) (mark_starts s.orders m) in
-        let way : Words → Way = λ v. way_of_two (λ x y v. to_mark_if (holds (comparison c) x y) m v) v in
-        let i = block_code known s (block.Operate (simple.Variable f n) (uses.Compare c m)) order.Save os e is in
-        last_chooses known s false way 3 3 _ is_done e ends.begins (two_roomy acts p.room m c w.operands w s.room) (step_in true (order.JumpIf c m) before.now here) paid
-        (fetched_chooses word 3 way small (λ k lt same.
-        chooses_simple rows p image g acts 4 code_end by_mark (l.cells k) (word_at s.before.memory k) (start known s) c m v.operands v.memory v.input v.output (l.kept.words k lt) (memory_word k lt)
-        (omega arith) (arrives_at (base_of p g) own 4 (mark_starts s.orders m)) s.fits_before.operands i.1 l
-        (compare_at rows 0 (st.value 2 f n (here_at + 4)) k (omega arith) (omega arith) i.0 l.stacked.is)))
-
-    pub variable_follows : (f n : ℕ) (u : Use) (done : ℕ) (more : List Order) → s.done ≡ done → done ≤ 3 → drop s.from s.orders.list ≡ order.Save ∷ order.Home f n ∷ order.Load ∷ order_of u ∷ more
-        → block_at 0 (drop s.from s.orders.list) ≡ block.Operate (simple.Variable f n) u → Follow known (at g place loaded acts w Running) q
-    variable_follows f n u zero more is_done le e is = inner_follows 0 order.Save (block.Operate (simple.Variable f n) u) _ is_done e refl tt is (lit≤ tt)
-    variable_follows f n u (suc zero) more is_done le e is = inner_follows 1 (order.Home f n) (block.Operate (simple.Variable f n) u) _ is_done e refl tt is (lit≤ tt)
-    variable_follows f n u (suc (suc zero)) more is_done le e is = inner_follows 2 order.Load (block.Operate (simple.Variable f n) u) _ is_done e refl tt is (lit≤ tt)
-    variable_follows f n u (suc (suc (suc zero))) more is_done le e is = variable_last f n u more is_done e is
-    variable_follows f n u (suc (suc (suc (suc k)))) more is_done le e is = absurd (omega arith)
+    pub divide_number_follows : (x line : ℕ) (rest : List Order) → drop s.from s.orders.list ≡ order.Save ∷ order.Const x ∷ order.Div (pos zero) line ∷ rest → is_plain_divisor x ≡ true
+        → block_at 0 (drop s.from s.orders.list) ≡ block.Divide x line → Follow known (at g place loaded acts w Running) q
+    divide_number_follows x line rest e plain is = block_follows (block.Divide x line) (order.Div (pos zero) line) rest e is refl (λ is_done. divide_last x line rest is_done e plain is)

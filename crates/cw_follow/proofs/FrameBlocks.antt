@@ -1,22 +1,15 @@
--- Blocks of a word of the frame at work.
+-- What the code does that fetches and stores a word of the frame at work.
 use Rattle.std.proofs.Common.{◌≡◌, ℕ, zero, suc, ◌+◌, ◌*◌, ◌%◌, ◌<◌, ◌≤◌, Bool, true, false, ℤ, List, [], ◌∷◌, drop, set, None, refl, arith, lit<, lit≤}
 use Rattle.cw_follow.proofs.Watched.{Watched}
 use Rattle.cw_word.specs.Word.{signed, unsigned}
-use Rattle.cw_unit.specs.Stop.{Running}
 use Rattle.cw_unit.specs.Words.{Operand, Word, Held, Words, Changed, with_memory, put, through, is_below, number_of, word_at}
 use Rattle.cw_unit.specs.Operation.{Fetch, Store, perform}
-use Rattle.cw_order.specs.declared.order.Order.{Order}
-use Rattle.cw_order.specs.declared.order.Order.TheVariants as order
 use Rattle.cw_order.specs.OrderProgram.{OrderProgram}
 use Rattle.cw_order.specs.OrderChanges.{put_address}
-use Rattle.cw_order.specs.OrderState.{OrderActivation, at, frame_word}
-use Rattle.cw_order.specs.OrderMachine.{unrefused, weight}
-use Rattle.cw_tmpl.specs.declared.blocks.Block.TheVariants as block
-use Rattle.cw_tmpl.specs.Blocks.{block_at}
+use Rattle.cw_order.specs.OrderState.{OrderActivation, frame_word}
+use Rattle.cw_order.specs.OrderMachine.{unrefused}
 use Rattle.cw_tmpl.specs.Mnemonics.{ax, bx, slot, base_slot, field, double, load, store}
-use Rattle.cw_follow.specs.Placing.{base_of}
 use Rattle.cw_routines.specs.Ways.{HasAll}
-use Rattle.cw_follow.proofs.Standing.{order_place}
 use Rattle.cw_follow.proofs.Rows.{Rows}
 use Rattle.cw_follow.proofs.Chains.{done}
 use Rattle.cw_follow.proofs.Straight.{LoadSlot, LoadWord, StoreField, DoubleWord, straight}
@@ -24,9 +17,6 @@ use Rattle.cw_follow.proofs.Routines.{with_ax}
 use Rattle.cw_follow.proofs.Stacks.{level, record_of}
 use Rattle.cw_follow.proofs.Orders.{kept_stored, Landed, landed, Does, below_area, further}
 use Rattle.cw_follow.proofs.InBlocks.{chain}
-use Rattle.cw_follow.proofs.States.{Given, Sound}
-use Rattle.cw_follow.proofs.Steps.{Follow, weight_is, block_code, block_ends, order_here, last_does}
-use Rattle.cw_follow.proofs.BlockOrders.{inner_follows, modes, saved, step_in}
 
 module _ (rows : Rows) (prog : OrderProgram) (image : List ℕ) where
   -- the word comes to AX
@@ -96,45 +86,14 @@ module _ (rows : Rows) (prog : OrderProgram) (image : List ℕ) where
           done (landed rows prog image g (a ∷ acts) false to l.top rest (set memory k z) input output end l.operands.1 (kept_stored k z within c) u)))
 
   -- a segment's body has no frame
-  fetches_word : {q : Watched} {at : ℕ} (g to n : ℕ) (acts : List OrderActivation) (w : Words) → prog.limits.area ≤ 32768 → at + 9 ≡ to
+  pub fetches_word : {q : Watched} {at : ℕ} (g to n : ℕ) (acts : List OrderActivation) (w : Words) → prog.limits.area ≤ 32768 → at + 9 ≡ to
       → HasAll image at (load bx (slot base_slot) ∷ double bx ∷ load ax (field (2 * n % 65536)) ∷ []) → Landed prog image at g false acts w q
       → Does prog image 3 to g true 0 acts w.output q (chain (chain (put_address (frame_word acts n) w) Changed) (λ v. unrefused (perform prog.limits.area (Fetch None) v)))
   fetches_word g to n [] w low e i l = tt
   fetches_word g to n (a ∷ acts) w low e i l = fetches_frame g to n a acts w low e i l
 
-  assigns_word : {q : Watched} {at : ℕ} (g to n : ℕ) (acts : List OrderActivation) (w : Words) → prog.limits.area ≤ 32768 → at + 9 ≡ to
+  pub assigns_word : {q : Watched} {at : ℕ} (g to n : ℕ) (acts : List OrderActivation) (w : Words) → prog.limits.area ≤ 32768 → at + 9 ≡ to
       → HasAll image at (load bx (slot base_slot) ∷ double bx ∷ store (field (2 * n % 65536)) ax ∷ []) → Landed prog image at g true acts w q
       → Does prog image 3 to g false 0 acts w.output q (chain (chain (put_address (frame_word acts n) w) Changed) (λ v. unrefused (perform prog.limits.area (Store None) v)))
   assigns_word g to n [] w low e i l = tt
   assigns_word g to n (a ∷ acts) w low e i l = assigns_frame g to n a acts w.operands w.memory w.input w.output low e i l
-
-module _ (known : Given) where
-  open known use {rows, p, image, all, coded, few, low}
-
-  module _ {q : Watched} {g place : ℕ} {loaded : Bool} {acts : List OrderActivation} {w : Words} (s : Sound p image g place loaded acts w q) where
-    pub fetch_frame_follows : (n done : ℕ) (more : List Order) → s.done ≡ done → done ≤ 1 → drop s.from s.orders.list ≡ order.FrameHome n ∷ order.Load ∷ more
-        → block_at 0 (drop s.from s.orders.list) ≡ block.FetchFrame n → Follow known (at g place loaded acts w Running) q
-    fetch_frame_follows n zero more is_done le e is = inner_follows known s 0 (order.FrameHome n) (block.FetchFrame n) _ is_done e refl tt is (lit≤ tt)
-    fetch_frame_follows n (suc zero) more is_done le e is =
-        let here = order_here known s 1 order.Load _ is_done e refl in
-        let ends = block_ends known s (block.FetchFrame n) (order.FrameHome n) (order.Load ∷ more) 1 is_done e is refl refl in
-        let before = modes known s false true true (order.FrameHome n) 0 (order.Load ∷ more) is_done e refl refl refl in
-        let paid : 3 ≤ weight p (at g place loaded acts w Running) = let x = weight_is known s order.Load here in omega arith in
-        last_does known s true 0 (λ v. unrefused (perform p.limits.area (Fetch None) v)) 3 1 _ is_done e ends.begins (step_in known s true order.Load before.now here) paid
-        (fetches_word rows p image g (order_place (base_of p g) s.orders.list (place + 1)) n acts s.before low ends.behind
-        (block_code known s (block.FetchFrame n) (order.FrameHome n) (order.Load ∷ more) e is) before.landed)
-    fetch_frame_follows n (suc (suc k)) more is_done le e is = absurd (omega arith)
-
-    pub assign_frame_follows : (n done : ℕ) (more : List Order) → s.done ≡ done → done ≤ 2 → drop s.from s.orders.list ≡ order.Save ∷ order.FrameHome n ∷ order.Store ∷ more
-        → block_at 0 (drop s.from s.orders.list) ≡ block.AssignFrame n → Follow known (at g place loaded acts w Running) q
-    assign_frame_follows n zero more is_done le e is = inner_follows known s 0 order.Save (block.AssignFrame n) _ is_done e refl tt is (lit≤ tt)
-    assign_frame_follows n (suc zero) more is_done le e is = inner_follows known s 1 (order.FrameHome n) (block.AssignFrame n) _ is_done e refl tt is (lit≤ tt)
-    assign_frame_follows n (suc (suc zero)) more is_done le e is =
-        let os = order.FrameHome n ∷ order.Store ∷ more in
-        let here = order_here known s 2 order.Store _ is_done e refl in
-        let ends = block_ends known s (block.AssignFrame n) order.Save os 2 is_done e is refl refl in
-        let before = saved known s true 1 os is_done e refl in
-        let paid : 3 ≤ weight p (at g place loaded acts w Running) = let x = weight_is known s order.Store here in omega arith in
-        last_does known s false 0 (λ v. unrefused (perform p.limits.area (Store None) v)) 3 2 _ is_done e ends.begins (step_in known s true order.Store before.now here) paid
-        (assigns_word rows p image g (order_place (base_of p g) s.orders.list (place + 1)) n acts s.before low ends.behind (block_code known s (block.AssignFrame n) order.Save os e is) before.landed)
-    assign_frame_follows n (suc (suc (suc k))) more is_done le e is = absurd (omega arith)

@@ -1,5 +1,5 @@
 -- Orders in their blocks.
-use Rattle.std.proofs.Common.{◌≡◌, ℕ, zero, suc, ◌+◌, List, [], ◌∷◌, ◌++◌, length, drop, Option, Some, None, ◌≤◌, refl, sym, ap, ◌∙◌, subst, arith, Bool, true, false}
+use Rattle.std.proofs.Common.{◌≡◌, ℕ, zero, suc, ◌+◌, List, [], ◌∷◌, ◌++◌, length, drop, Option, Some, None, ◌<◌, ◌≤◌, refl, sym, ap, ◌∙◌, subst, arith, Bool, true, false}
 use Rattle.std.specs.Prelude.{slice_get, if◌then◌else◌, pos}
 use Rattle.cw_unit.specs.Words.{Words, Outcome, Changed, Refused, Impossible, Word, Held, Operand, put, through, is_below, word_at, number_of, with_operands}
 use Rattle.cw_unit.specs.Operation.{Fetch, perform}
@@ -71,6 +71,16 @@ one_of_these P [] last o rest zero f h le e = let same : last ≡ o = cc in subs
 one_of_these P [] last o rest (suc k) f h le e = absurd (omega arith)
 one_of_these P (x ∷ xs) last o rest zero f h le e = let same : x ≡ o = cc in subst P same f.0
 one_of_these P (x ∷ xs) last o rest (suc k) f h le e = one_of_these P xs last o rest k f.1 h (omega arith) e
+
+pub one_before : (P : Order → Type 0) (before : List Order) (last o : Order) (rest : List Order) (k : ℕ) → Each P before → k < length before → slice_get (before ++ last ∷ rest) k ≡ Some o → P o
+one_before P [] last o rest k f lt e = absurd (omega arith)
+one_before P (x ∷ xs) last o rest zero f lt e = let same : x ≡ o = cc in subst P same f.0
+one_before P (x ∷ xs) last o rest (suc k) f lt e = one_before P xs last o rest k f.1 (omega arith) e
+
+pub none_before : (before : List Order) (last : Order) (rest : List Order) (k : ℕ) → k < length before → slice_get (before ++ last ∷ rest) k ≡ None → ⊥
+none_before [] last rest k lt e = omega arith
+none_before (x ∷ xs) last rest zero lt e = cc
+none_before (x ∷ xs) last rest (suc k) lt e = none_before xs last rest k (omega arith) e
 
 place_stands : (x : Place) → Each StandsBehind (address_orders x)
 place_stands (cell.Word f n) = (tt, tt)

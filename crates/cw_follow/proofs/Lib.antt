@@ -29,8 +29,9 @@ pub mod Steps
 pub mod WordOrders
 pub mod Words
 pub mod Operating
-pub mod BlockOrders
 pub mod FrameBlocks
+pub mod BlockOrders
+pub mod UseBlocks
 pub mod Bodies
 pub mod Dispatch
 pub mod Leaving

@@ -104,10 +104,10 @@ module _ (c : Setting) (memory : List ℤ) (input output : List ℕ) where
   other_way : (x y : ℤ) → y *ℤ x ≡ x *ℤ y
   other_way x y = *ℤ_comm y x
 
-  turned_overflows : (x y : ℤ) → FitsWord x → FitsWord y → product_overflows (unsigned y) (unsigned x) ≡ not (fits_word (x *ℤ y))
+  pub turned_overflows : (x y : ℤ) → FitsWord x → FitsWord y → product_overflows (unsigned y) (unsigned x) ≡ not (fits_word (x *ℤ y))
   turned_overflows x y fx fy = product_overflows_is c.rows y x fy fx ∙ ap (λ z. not (fits_word z)) (other_way x y)
 
-  turned_is : (x y : ℤ) → FitsWord x → FitsWord y → FitsWord (x *ℤ y) → product_low (unsigned y) (unsigned x) ≡ unsigned (x *ℤ y)
+  pub turned_is : (x y : ℤ) → FitsWord x → FitsWord y → FitsWord (x *ℤ y) → product_low (unsigned y) (unsigned x) ≡ unsigned (x *ℤ y)
   turned_is x y fx fy f = product_is c.rows y x fy fx (subst FitsWord (sym (other_way x y)) f) ∙ ap unsigned (other_way x y)
 
   pub products : {p : Watched} {at : ℕ} (to by line : ℕ) (operands : List Operand) → line < 65536 → at + 10 ≡ to → (at + 1 + 2 + 2 + 3 + by) % 65536 ≡ stop_place Overflow % 65536

@@ -1,0 +1,706 @@
+-- Blocks that save the top operand, put a simple one and use both.
+use Rattle.std.proofs.Common.{◌≡◌, ℕ, zero, suc, ◌+◌, ◌*◌, ◌%◌, ◌<◌, ◌≤◌, Bool, true, false, not, ℤ, pos, ◌+ℤ◌, ◌-ℤ◌, ◌*ℤ◌, List, [], ◌∷◌, ◌++◌, length, drop, None, Some, refl, sym, ap, ap₂, ◌∙◌, subst, arith, lit<, lit≤}
+use Rattle.std.specs.Prelude.{bit_and, bit_or, bit_xor}
+use Rattle.std.specs.List.{All}
+use Rattle.std.proofs.lemmas.List.Elements.{All-head}
+use Rattle.cw_i86.specs.declared.instr.Instr.{Instr}
+use Rattle.cw_i86.specs.declared.instr.Instr.TheVariants as i86
+use Rattle.cw_i86.specs.declared.instr.Imm.TheVariants as imm
+use Rattle.cw_i86.specs.declared.instr.Rm.TheVariants as rms
+use Rattle.cw_i86.specs.declared.instr.Place.TheVariants as places
+use Rattle.cw_run86.specs.Views.{Has, condition_of, with_number, with_memory, product_low, product_high, product_overflows, double_overflows}
+use Rattle.cw_rows86.specs.Locations.{InRegister, InData}
+use Rattle.cw_rows86.specs.Operations.{WordOperation, Add, Or, And, Subtract, Xor, Compare, number_of}
+use Rattle.cw_word.specs.FixedPoint.{FitsWord, fits_word, scaled_product}
+use Rattle.cw_word.specs.Word.{signed, unsigned}
+use Rattle.cw_unit.specs.declared.unit.LogicOp.TheVariants as logic
+use Rattle.cw_unit.specs.Stop.{Running, Overflow}
+use Rattle.cw_unit.specs.Words.{Operand, Word, Held, Words, Outcome, Changed, Impossible, put, put_value, word_at, through, is_below, number_of as number_in}
+use Rattle.cw_unit.specs.Operation.{Fetch, Combine, Multiply, perform, holds}
+use Rattle.cw_unit.specs.Operation as operation
+use Rattle.cw_order.specs.declared.order.Comparator.{Comparator}
+use Rattle.cw_order.specs.declared.order.Order.{Order}
+use Rattle.cw_order.specs.declared.order.Order.TheVariants as order
+use Rattle.cw_order.specs.FittingWords.{OperandFits}
+use Rattle.cw_order.specs.OrderChanges.{put_address, Way, way_of_two, to_mark_if, comparison}
+use Rattle.cw_order.specs.OrderLines.{line_of}
+use Rattle.cw_order.specs.OrderActions.{home_word}
+use Rattle.cw_order.specs.OrderState.{OrderActivation, at, operand_words, frame_word}
+use Rattle.cw_order.specs.OrderMachine.{unrefused, after, carry_with, step, weight}
+use Rattle.cw_order.specs.OrderCosts.{weight_of}
+use Rattle.cw_order.specs.Loading.{loaded_after}
+use Rattle.cw_tmpl.specs.declared.pieces.Coded.{Coded}
+use Rattle.cw_tmpl.specs.declared.blocks.Place.{Place}
+use Rattle.cw_tmpl.specs.declared.blocks.Place.TheVariants as cell
+use Rattle.cw_tmpl.specs.declared.blocks.Simple.{Simple}
+use Rattle.cw_tmpl.specs.declared.blocks.Simple.TheVariants as simple
+use Rattle.cw_tmpl.specs.declared.blocks.Use.{Use}
+use Rattle.cw_tmpl.specs.declared.blocks.Use.TheVariants as uses
+use Rattle.cw_tmpl.specs.declared.blocks.Block.TheVariants as block
+use Rattle.cw_tmpl.specs.Blocks.{address_orders, operand_orders, order_of, block_at}
+use Rattle.cw_tmpl.specs.Library.{overflow_entry, stop_place}
+use Rattle.cw_tmpl.specs.Mnemonics.{ax, bx, cx, slot, base_slot, field, double, load, move}
+use Rattle.cw_tmpl.specs.Pieces.{Filling}
+use Rattle.cw_tmpl.specs.Templates.{distance, opposite_of, with_operand, checked, branch, pieces_size, operated, block_size}
+use Rattle.cw_tmpl.specs.ReferenceCode.{names_of, mark_starts}
+use Rattle.cw_routines.specs.Ways.{HasAll}
+use Rattle.cw_follow.specs.Placing.{base_of}
+use Rattle.cw_tmpl.proofs.Sizes.{own_place, jump_arrives}
+use Rattle.cw_follow.proofs.Standing.{HasPieces, order_place}
+use Rattle.cw_follow.proofs.Watched.{Watched}
+use Rattle.cw_follow.proofs.Chains.{Is, Leads, view, done, more, load_at, move as moved_to}
+use Rattle.cw_follow.proofs.Straight.{Number, Move, Product, LoadSlot, LoadWord, DoubleWord, straight}
+use Rattle.cw_follow.proofs.Routines.{with_ax, leads_on}
+use Rattle.cw_follow.proofs.Stacks.{level, record_of, top_is, frame_from as frame_base_of}
+use Rattle.cw_follow.proofs.Orders.{Landed, Does, Chooses, Check, below_area, later, sooner}
+use Rattle.cw_follow.proofs.Operands.{Setting, words, DoesHere}
+use Rattle.cw_follow.proofs.Operating.{Named, number_named, word_named, sum_of, difference_of, mask_of, union_of, difference_in_bits, comparison_of, product_of}
+use Rattle.cw_follow.proofs.Addresses.{product_overflows_is, product_is}
+use Rattle.cw_follow.proofs.Scales.{turned_overflows, turned_is}
+use Rattle.cw_follow.proofs.States.{Given, Sound}
+use Rattle.cw_follow.proofs.InBlocks.{chain}
+use Rattle.cw_follow.proofs.Steps.{Follow, setting, few_segments, weight_is, line_fits, block_code, block_ends, start_place, order_here, last_does, by, calls, start, last_chooses, arrives_at, two_roomy, way_after}
+use Rattle.cw_follow.proofs.BlockOrders.{room_in, block_follows, saved, step_in, number_small}
+
+-- ---- the code of an operation on AX and a simple operand
+
+-- where the operation stands, and how many bytes it has
+abbrev named_at : Simple → ℕ → ℕ
+named_at (simple.Number x) at = at
+named_at (simple.Contents (cell.Word f n)) at = at
+named_at (simple.Contents (cell.Frame n)) at = at + 3 + 2
+
+abbrev named_size : Simple → ℕ
+named_size (simple.Number x) = 3
+named_size (simple.Contents x) = 4
+
+-- the instruction, where a word of a family stands at this offset
+abbrev naming : (offset : ℕ) → Simple → WordOperation → Instr
+naming w (simple.Number x) op = with_number (number_of op) x
+naming w (simple.Contents (cell.Word f n)) op = with_memory (number_of op) ax w
+naming w (simple.Contents (cell.Frame n)) op = i86.AluRm (number_of op) true true ax (field (2 * n % 65536))
+
+-- what comes before it
+abbrev Addressed : List ℕ → Simple → ℕ → Type 0
+Addressed image (simple.Contents (cell.Frame n)) at = HasAll image at (load bx (slot base_slot) ∷ double bx ∷ [])
+Addressed image s at = Unit {0}
+
+-- what an instruction at a place has filled in
+abbrev offset_at : Filling → Simple → ℕ → ℕ
+offset_at value (simple.Contents (cell.Word f n)) at = value 2 f n (at + 4)
+offset_at value s at = 0
+
+operand_code : {image : List ℕ} {value : Filling} {at : ℕ} (s : Simple) (op : WordOperation) (rest : List Coded) → HasPieces image value at (with_operand (number_of op) s ++ rest)
+    → Addressed image s at × Has image (named_at s at) (naming (offset_at value s at) s op) × HasPieces image value (named_at s at + named_size s) rest
+operand_code (simple.Number x) op rest h = (tt, h.0, h.1)
+operand_code (simple.Contents (cell.Word f n)) op rest h = (tt, h.0, h.1)
+operand_code (simple.Contents (cell.Frame n)) op rest h = ((h.0, (h.1.0, tt)), h.1.1.0, h.1.1.1)
+
+-- the same without more behind it
+alone_code : {image : List ℕ} {value : Filling} {at : ℕ} (s : Simple) (op : ℕ) → HasPieces image value at (with_operand op s) → HasPieces image value at (with_operand op s ++ [])
+alone_code (simple.Number x) op h = h
+alone_code (simple.Contents (cell.Word f n)) op h = h
+alone_code (simple.Contents (cell.Frame n)) op h = h
+
+-- ---- sizes
+
+abbrev operand_size : Simple → ℕ
+operand_size (simple.Number x) = 3
+operand_size (simple.Contents (cell.Word f n)) = 4
+operand_size (simple.Contents (cell.Frame n)) = 9
+
+named_end : (s : Simple) (at : ℕ) → named_at s at + named_size s ≡ at + operand_size s
+named_end (simple.Number x) at = refl
+named_end (simple.Contents (cell.Word f n)) at = refl
+named_end (simple.Contents (cell.Frame n)) at = omega arith
+
+-- the bytes of a test, or of the jumps, behind the operation
+abbrev rest_size : Use → ℕ
+rest_size (uses.Add line) = 7
+rest_size (uses.Subtract line) = 7
+rest_size (uses.Multiply line) = 0
+rest_size (uses.Compare c m) = 5
+rest_size u = 0
+
+abbrev OneOperation : Use → Type 0
+OneOperation (uses.Multiply line) = ⊥
+OneOperation u = Unit {0}
+
+tested_size : (s : Simple) (u : Use) → OneOperation u → block_size (block.Operate s u) order.Save ≡ operand_size s + rest_size u
+tested_size s (uses.Multiply line) h = absurd h
+tested_size (simple.Number x) u h = number u h
+  where
+    number : (u : Use) → OneOperation u → block_size (block.Operate (simple.Number x) u) order.Save ≡ 3 + rest_size u
+    number (uses.Multiply line) h = absurd h
+    number (uses.Add line) h = refl
+    number (uses.Subtract line) h = refl
+    number uses.Mask h = refl
+    number uses.Union h = refl
+    number uses.Differ h = refl
+    number (uses.Compare c m) h = refl
+tested_size (simple.Contents (cell.Word f n)) u h = word u h
+  where
+    word : (u : Use) → OneOperation u → block_size (block.Operate (simple.Contents (cell.Word f n)) u) order.Save ≡ 4 + rest_size u
+    word (uses.Multiply line) h = absurd h
+    word (uses.Add line) h = refl
+    word (uses.Subtract line) h = refl
+    word uses.Mask h = refl
+    word uses.Union h = refl
+    word uses.Differ h = refl
+    word (uses.Compare c m) h = refl
+tested_size (simple.Contents (cell.Frame n)) u h = word u h
+  where
+    word : (u : Use) → OneOperation u → block_size (block.Operate (simple.Contents (cell.Frame n)) u) order.Save ≡ 9 + rest_size u
+    word (uses.Multiply line) h = absurd h
+    word (uses.Add line) h = refl
+    word (uses.Subtract line) h = refl
+    word uses.Mask h = refl
+    word uses.Union h = refl
+    word uses.Differ h = refl
+    word (uses.Compare c m) h = refl
+
+compare_size : (s : Simple) → pieces_size (with_operand 7 s) ≡ operand_size s
+compare_size (simple.Number x) = refl
+compare_size (simple.Contents (cell.Word f n)) = refl
+compare_size (simple.Contents (cell.Frame n)) = refl
+
+-- ---- outcomes
+
+-- what an order does with the two operands, a comparison apart
+abbrev outcome : (area : ℕ) → Use → Words → Outcome
+outcome area (uses.Add line) v = perform area operation.Add v
+outcome area (uses.Subtract line) v = perform area operation.Subtract v
+outcome area (uses.Multiply line) v = perform area (Multiply (pos 0)) v
+outcome area uses.Mask v = unrefused (perform area (Combine logic.Mask) v)
+outcome area uses.Union v = unrefused (perform area (Combine logic.Union) v)
+outcome area uses.Differ v = unrefused (perform area (Combine logic.Differ) v)
+outcome area (uses.Compare c m) v = Impossible
+
+-- all but a comparison
+abbrev Computes : Use → Type 0
+Computes (uses.Compare c m) = ⊥
+Computes u = Unit {0}
+
+-- how many instructions come before the operation
+abbrev steps_to : Simple → ℕ
+steps_to (simple.Contents (cell.Frame n)) = 2
+steps_to s = 0
+
+few_steps : (s : Simple) → steps_to s ≤ 2
+few_steps (simple.Number x) = lit≤ tt
+few_steps (simple.Contents (cell.Word f n)) = lit≤ tt
+few_steps (simple.Contents (cell.Frame n)) = lit≤ tt
+
+-- ---- what is done with an operand that the code names
+
+module _ (c : Setting) (memory : List ℤ) (input output : List ℕ) where
+  -- with the top operand in AX the code comes to the instruction that names y
+  abbrev NamedFrom : (at offset : ℕ) → Simple → (y : ℤ) → List Operand → Watched → Type 0
+  NamedFrom at w s y operands p = (x : ℤ) (rest : List Operand) → operands ≡ Word x ∷ rest → Leads output (steps_to s) p (Named c memory input output (named_at s at) (named_size s) (naming w s) x y rest)
+
+  -- where the operation stands, and where its code ends
+  module _ {p : Watched} {at : ℕ} (s : Simple) (to w : ℕ) (y : ℤ) (operands : List Operand) (fy : FitsWord y) (fits : All OperandFits operands) (named : NamedFrom at w s y operands p) where
+    top_fits : (x : ℤ) (rest : List Operand) → operands ≡ Word x ∷ rest → FitsWord x
+    top_fits x rest e = All-head OperandFits (Word x) rest (subst (All OperandFits) e fits)
+
+    -- an operation and its test
+    module _ (by line : ℕ) (small : line < 65536) (e : named_at s at + named_size s + 7 ≡ to) (arrives : (named_at s at + named_size s + 2 + 3 + by) % 65536 ≡ stop_place Overflow % 65536)
+        (i : Check c.image (named_at s at + named_size s) by line) where
+      add_used : Has c.image (named_at s at) (naming w s Add) → DoesHere c memory input output 17 to true line p (perform c.program.limits.area operation.Add (put y (words operands memory input output)))
+      add_used h = cases operands refl
+        where
+          cases : (xs : List Operand) → operands ≡ xs → DoesHere c memory input output 17 to true line p (perform c.program.limits.area operation.Add (put y (words xs memory input output)))
+          cases [] is = tt
+          cases (Held d ∷ rest) is = tt
+          cases (Word x ∷ rest) is =
+              let few = few_steps s in
+              later c.program c.image 15 to c.g true line c.acts (steps_to s) 17 (put_value (x +ℤ y) (words rest memory input output)) (omega arith) (named x rest is)
+              (λ q r. sum_of c memory input output to by line x y rest (top_fits x rest is) fy small e arrives h i r)
+
+      subtract_used : Has c.image (named_at s at) (naming w s Subtract) → DoesHere c memory input output 17 to true line p (perform c.program.limits.area operation.Subtract (put y (words operands memory input output)))
+      subtract_used h = cases operands refl
+        where
+          cases : (xs : List Operand) → operands ≡ xs → DoesHere c memory input output 17 to true line p (perform c.program.limits.area operation.Subtract (put y (words xs memory input output)))
+          cases [] is = tt
+          cases (Held d ∷ rest) is = tt
+          cases (Word x ∷ rest) is =
+              let few = few_steps s in
+              later c.program c.image 15 to c.g true line c.acts (steps_to s) 17 (put_value (x -ℤ y) (words rest memory input output)) (omega arith) (named x rest is)
+              (λ q r. difference_of c memory input output to by line x y rest (top_fits x rest is) fy small e arrives h i r)
+
+    -- bits
+    module _ (e : named_at s at + named_size s ≡ to) where
+      mask_used : Has c.image (named_at s at) (naming w s And) → DoesHere c memory input output 3 to true 0 p (unrefused (perform c.program.limits.area (Combine logic.Mask) (put y (words operands memory input output))))
+      mask_used h = cases operands refl
+        where
+          cases : (xs : List Operand) → operands ≡ xs → DoesHere c memory input output 3 to true 0 p (unrefused (perform c.program.limits.area (Combine logic.Mask) (put y (words xs memory input output))))
+          cases [] is = tt
+          cases (Held d ∷ rest) is = tt
+          cases (Word x ∷ rest) is =
+              let few = few_steps s in
+              later c.program c.image 1 to c.g true 0 c.acts (steps_to s) 3 (Changed (put (signed (bit_and (unsigned x) (unsigned y))) (words rest memory input output))) (omega arith) (named x rest is)
+              (λ q r. mask_of c memory input output to x y rest (top_fits x rest is) fy e h r)
+
+      union_used : Has c.image (named_at s at) (naming w s Or) → DoesHere c memory input output 3 to true 0 p (unrefused (perform c.program.limits.area (Combine logic.Union) (put y (words operands memory input output))))
+      union_used h = cases operands refl
+        where
+          cases : (xs : List Operand) → operands ≡ xs → DoesHere c memory input output 3 to true 0 p (unrefused (perform c.program.limits.area (Combine logic.Union) (put y (words xs memory input output))))
+          cases [] is = tt
+          cases (Held d ∷ rest) is = tt
+          cases (Word x ∷ rest) is =
+              let few = few_steps s in
+              later c.program c.image 1 to c.g true 0 c.acts (steps_to s) 3 (Changed (put (signed (bit_or (unsigned x) (unsigned y))) (words rest memory input output))) (omega arith) (named x rest is)
+              (λ q r. union_of c memory input output to x y rest (top_fits x rest is) fy e h r)
+
+      differ_used : Has c.image (named_at s at) (naming w s Xor) → DoesHere c memory input output 3 to true 0 p (unrefused (perform c.program.limits.area (Combine logic.Differ) (put y (words operands memory input output))))
+      differ_used h = cases operands refl
+        where
+          cases : (xs : List Operand) → operands ≡ xs → DoesHere c memory input output 3 to true 0 p (unrefused (perform c.program.limits.area (Combine logic.Differ) (put y (words xs memory input output))))
+          cases [] is = tt
+          cases (Held d ∷ rest) is = tt
+          cases (Word x ∷ rest) is =
+              let few = few_steps s in
+              later c.program c.image 1 to c.g true 0 c.acts (steps_to s) 3 (Changed (put (signed (bit_xor (unsigned x) (unsigned y))) (words rest memory input output))) (omega arith) (named x rest is)
+              (λ q r. difference_in_bits c memory input output to x y rest (top_fits x rest is) fy e h r)
+
+    -- a comparison
+    compare_used : (by : ℕ) (start : ℕ → ℕ) (k : Comparator) (m : ℕ) → named_at s at + named_size s + 5 ≡ to → (named_at s at + named_size s + 5 + by) % 65536 ≡ start m % 65536 → Has c.image (named_at s at) (naming w s Compare)
+        → HasAll c.image (named_at s at + named_size s) (i86.JumpIf (condition_of (opposite_of k)) 3 ∷ i86.Jump by ∷ [])
+        → Chooses c.program c.image 5 to start c.g false c.acts output p (way_of_two (λ x y v. to_mark_if (holds (comparison k) x y) m v) (put y (words operands memory input output)))
+    compare_used by start k m e arrives h i = cases operands refl
+      where
+        cases : (xs : List Operand) → operands ≡ xs → Chooses c.program c.image 5 to start c.g false c.acts output p (way_of_two (λ x y v. to_mark_if (holds (comparison k) x y) m v) (put y (words xs memory input output)))
+        cases [] is = tt
+        cases (Held d ∷ rest) is = tt
+        cases (Word x ∷ rest) is =
+            let few = few_steps s in
+            sooner c.program c.image 3 to start c.g false c.acts (steps_to s) 5 (to_mark_if (holds (comparison k) x y) m (words rest memory input output)) (omega arith) (named x rest is)
+            (λ q r. comparison_of c memory input output to by start k m x y rest (top_fits x rest is) fy e arrives h i r)
+
+-- ---- what each operand is
+
+module _ (c : Setting) (memory : List ℤ) (input output : List ℕ) where
+  -- a word of an operand on top leaves room above it
+  some_room : {p : Watched} {at : ℕ} (x : ℤ) (rest : List Operand) → (l : Landed c.program c.image at c.g true c.acts (words (Word x ∷ rest) memory input output) p) → operand_words (Word x ∷ rest) < level c.acts → 0 < l.top
+  some_room x rest l room = let t = top_is c.program c.acts l.stack l.top rest l.operands.1 in omega arith
+
+  module _ {p : Watched} {at : ℕ} (operands : List Operand) (room : operand_words operands < level c.acts) (l : Landed c.program c.image at c.g true c.acts (words operands memory input output) p) where
+    number_from : (n : ℕ) → n < 65536 → NamedFrom c memory input output at 0 (simple.Number n) (signed n) operands p
+    number_from n small x rest is =
+        let l' = subst (λ xs. Landed c.program c.image at c.g true c.acts (words xs memory input output) p) is l in
+        done (number_named c memory input output n (signed n) x rest (sym (c.rows.words.forth n small)) l' (some_room x rest l' (subst (λ xs. operand_words xs < level c.acts) is room)))
+
+    word_from : (f n offset k : ℕ) → k < c.program.limits.area → offset ≡ 2 * k → NamedFrom c memory input output at offset (simple.Contents (cell.Word f n)) (word_at memory k) operands p
+    word_from f n offset k within e x rest is =
+        let l' = subst (λ xs. Landed c.program c.image at c.g true c.acts (words xs memory input output) p) is l in
+        let s = l'.stacked in
+        let low = c.low in
+        done
+        (word_named c memory input output 4 k (rms.Mem (record { cs = false; place = places.Direct offset })) (word_at memory k) x rest l'.operands.0 (l'.kept.words k within)
+        (refl, refl, (let z : k < 32768 = omega arith in z), e) (λ op. refl) (lit< tt) (some_room x rest l' (subst (λ xs. operand_words xs < level c.acts) is room)) l'.operands.1 l'.kept s.is)
+
+    -- of the frame of an activation
+    frame_from : (a : OrderActivation) (under : List OrderActivation) (n k : ℕ) → c.acts ≡ a ∷ under → k < c.program.limits.area → k ≡ (a.frame_base + n) % 65536 → HasAll c.image at (load bx (slot base_slot) ∷ double bx ∷ [])
+        → NamedFrom c memory input output at 0 (simple.Contents (cell.Frame n)) (word_at memory k) operands p
+    frame_from a under n k acts_are within same i x rest is =
+        let l' = subst (λ xs. Landed c.program c.image at c.g true c.acts (words xs memory input output) p) is l in
+        let s = l'.stacked in
+        let kept = l'.kept in
+        let low = c.low in
+        let r = level c.acts in
+        let bp = record_of c.acts in
+        let base : r + 1 < 32768 = omega arith in
+        let slot_base : (bp + 65530) % 65536 ≡ 2 * (r + 1) = omega arith in
+        let from_is : frame_base_of c.program c.acts ≡ a.frame_base = ap (frame_base_of c.program) acts_are in
+        let k_low : k < 32768 = omega arith in
+        let address : (2 * a.frame_base % 65536 + 2 * n % 65536) % 65536 ≡ 2 * k = omega arith in
+        straight c.rows (LoadSlot bx 0xFA (r + 1) a.frame_base ∷ DoubleWord bx ∷ []) {n = 0} kept.wrote i ((base, slot_base, kept.piled.0.base_is ∙ from_is), (tt, tt)) s.is
+        (λ q t.
+        done
+        (word_named c memory input output 4 k (field (2 * n % 65536)) (word_at memory k) x rest l'.operands.0 (kept.words k within) (refl, refl, k_low, address) (λ op. refl) (lit< tt)
+        (some_room x rest l' (subst (λ xs. operand_words xs < level c.acts) is room)) l'.operands.1 kept t))
+
+-- ---- products
+
+module _ (c : Setting) (memory : List ℤ) (input output : List ℕ) {p : Watched} {at : ℕ} (x : ℤ) (rest : List Operand) (fx : FitsWord x) (room : operand_words (Word x ∷ rest) < level c.acts)
+    (l : Landed c.program c.image at c.g true c.acts (words (Word x ∷ rest) memory input output) p) (to by line : ℕ) (small : line < 65536) where
+  abbrev Multiplied : (test : ℕ) → ℤ → Type 0
+  Multiplied test y =
+      test + 7 ≡ to → (test + 2 + 3 + by) % 65536 ≡ stop_place Overflow % 65536 → Check c.image test by line
+      → DoesHere c memory input output 19 to true line p (put_value (scaled_product x y (pos 0)) (words rest memory input output))
+
+  -- AX times a number
+  number_multiplies : (n : ℕ) → n < 65536 → HasAll c.image at (i86.MovImm bx (imm.Word n) ∷ i86.Unary 5 true (rms.Reg bx) ∷ []) → Multiplied (at + 3 + 2) (signed n)
+  number_multiplies n lt h e arrives i =
+      let s = l.stacked in
+      let y : ℤ = signed n in
+      let fy : FitsWord y = c.rows.words.signed_fits n lt in
+      let en : n ≡ unsigned y = sym (c.rows.words.forth n lt) in
+      let tests : product_overflows s.ax n ≡ not (fits_word (x *ℤ y)) = ap₂ product_overflows l.operands.0 en ∙ product_overflows_is c.rows x y fx fy in
+      let low : FitsWord (x *ℤ y) → product_low s.ax n ≡ unsigned (x *ℤ y) = λ f. ap₂ product_low l.operands.0 en ∙ product_is c.rows x y fx fy f in
+      later c.program c.image 14 to c.g true line c.acts 2 19 (put_value (scaled_product x y (pos 0)) (words rest memory input output)) (lit≤ tt)
+      (straight c.rows (Number bx n ∷ Product bx ∷ []) l.kept.wrote h (tt, (tt, tt)) s.is (λ q t. done t))
+      (λ q t. product_of c memory input output to by line s.ax n x y rest fx fy small e arrives (some_room c memory input output x rest l room) tests low i l.operands.1 l.kept t)
+
+  -- times a word of the data area that comes to AX, with what AX had in CX
+  other_multiplies : {q : Watched} {test dx' bx' si' : ℕ} {overflow' : Bool} (y : ℤ) → FitsWord y
+      → Is c.image test (view (unsigned y) (unsigned x) dx' bx' (2 * l.top) (record_of c.acts) si' c.program.limits.area overflow' l.cells l.stack l.input l.told) q
+      → Has c.image test (i86.Unary 5 true (rms.Reg cx)) → test + 2 + 7 ≡ to → (test + 2 + 2 + 3 + by) % 65536 ≡ stop_place Overflow % 65536 → Check c.image (test + 2) by line
+      → DoesHere c memory input output 15 to true line q (put_value (scaled_product x y (pos 0)) (words rest memory input output))
+  other_multiplies {q} {test} y fy t h e arrives i =
+      later c.program c.image 14 to c.g true line c.acts 1 15 (put_value (scaled_product x y (pos 0)) (words rest memory input output)) (lit≤ tt)
+      (straight c.rows (Product cx ∷ []) l.kept.wrote (h, tt) (tt, tt) t (λ q t. done t))
+      (λ q t. product_of c memory input output to by line (unsigned y) (unsigned x) x y rest fx fy small e arrives (some_room c memory input output x rest l room) (turned_overflows c memory input output x y fx fy) (turned_is c memory input output x y fx fy) i l.operands.1 l.kept t)
+
+  word_multiplies : (offset k : ℕ) → k < c.program.limits.area → offset ≡ 2 * k → FitsWord (word_at memory k) → HasAll c.image at (move cx ax ∷ i86.MovAcc false true false offset ∷ i86.Unary 5 true (rms.Reg cx) ∷ []) → Multiplied (at + 2 + 3 + 2) (word_at memory k)
+  word_multiplies offset k within eo fy h e arrives i =
+      let s = l.stacked in
+      let low = c.low in
+      let k_low : k < 32768 = omega arith in
+      later c.program c.image 15 to c.g true line c.acts 2 19 (put_value (scaled_product x (word_at memory k) (pos 0)) (words rest memory input output)) (lit≤ tt)
+      (more c.rows {to = at + 2} {w = view s.ax s.ax s.dx s.bx (2 * l.top) (record_of c.acts) s.si c.program.limits.area s.overflow l.cells l.stack l.input l.told} s.is l.kept.wrote (moved_to c.rows cx ax h.0 s.is) (λ q t.
+      more c.rows {to = at + 2 + 3} {w = view (l.cells k) s.ax s.dx s.bx (2 * l.top) (record_of c.acts) s.si c.program.limits.area s.overflow l.cells l.stack l.input l.told} t l.kept.wrote (load_at c.rows offset k k_low eo h.1.0 t) (λ q t. done t)))
+      (λ q t.
+      other_multiplies (word_at memory k) fy
+      (subst (λ n. Is c.image (at + 2 + 3) (view n (unsigned x) s.dx s.bx (2 * l.top) (record_of c.acts) s.si c.program.limits.area s.overflow l.cells l.stack l.input l.told) q) (l.kept.words k within)
+      (subst (λ n. Is c.image (at + 2 + 3) (view (l.cells k) n s.dx s.bx (2 * l.top) (record_of c.acts) s.si c.program.limits.area s.overflow l.cells l.stack l.input l.told) q) l.operands.0 t))
+      h.1.1.0 e arrives i)
+
+  frame_multiplies : (a : OrderActivation) (under : List OrderActivation) (n k : ℕ) → c.acts ≡ a ∷ under → k < c.program.limits.area → k ≡ (a.frame_base + n) % 65536 → FitsWord (word_at memory k)
+      → HasAll c.image at (move cx ax ∷ load bx (slot base_slot) ∷ double bx ∷ load ax (field (2 * n % 65536)) ∷ i86.Unary 5 true (rms.Reg cx) ∷ []) → Multiplied (at + 2 + 3 + 2 + 4 + 2) (word_at memory k)
+  frame_multiplies a under n k acts_are within same fy h e arrives i =
+      let s = l.stacked in
+      let kept = l.kept in
+      let low = c.low in
+      let r = level c.acts in
+      let bp = record_of c.acts in
+      let base : r + 1 < 32768 = omega arith in
+      let slot_base : (bp + 65530) % 65536 ≡ 2 * (r + 1) = omega arith in
+      let from_is : frame_base_of c.program c.acts ≡ a.frame_base = ap (frame_base_of c.program) acts_are in
+      let k_low : k < 32768 = omega arith in
+      let address : (2 * a.frame_base % 65536 + 2 * n % 65536) % 65536 ≡ 2 * k = omega arith in
+      later c.program c.image 15 to c.g true line c.acts 4 19 (put_value (scaled_product x (word_at memory k) (pos 0)) (words rest memory input output)) (lit≤ tt)
+      (straight c.rows (Move cx ax ∷ LoadSlot bx 0xFA (r + 1) a.frame_base ∷ DoubleWord bx ∷ LoadWord ax (2 * n % 65536) k (unsigned (word_at memory k)) ∷ []) {n = 0} kept.wrote (h.0, (h.1.0, (h.1.1.0, (h.1.1.1.0, tt))))
+      (tt, ((base, slot_base, kept.piled.0.base_is ∙ from_is), (tt, ((k_low, address, kept.words k within), tt)))) s.is (λ q t. done t))
+      (λ q t.
+      other_multiplies (word_at memory k) fy
+      (subst (λ m. Is c.image (at + 2 + 3 + 2 + 4) (view (unsigned (word_at memory k)) m s.dx (2 * a.frame_base % 65536) (2 * l.top) (record_of c.acts) s.si c.program.limits.area (double_overflows a.frame_base) l.cells l.stack l.input l.told) q) l.operands.0 t)
+      h.1.1.1.1.0 e arrives i)
+
+-- ---- the blocks
+
+module _ (known : Given) where
+  open known use {rows, p, image, all, coded, few, low}
+
+  module _ {q : Watched} {g place : ℕ} {loaded : Bool} {acts : List OrderActivation} {w : Words} (s : Sound p image g place loaded acts w q) where
+    -- where the code of the block ends, where its last order is at work
+    abbrev block_end : ℕ
+    block_end = order_place (base_of p g) s.orders.list (place + 1)
+
+    abbrev here_at : ℕ
+    here_at = start_place known s
+
+    memory_word : (k : ℕ) → k < p.limits.area → FitsWord (word_at s.before.memory k)
+    memory_word k lt = let long = s.landed.kept.long in s.fits_before.memory k (pos 0) (omega arith)
+
+    -- the word of an address, and what is done with it
+    fetched_does : (a limit line : ℕ) (f : Words → Outcome) → a < 65536
+        → ((k : ℕ) → k < p.limits.area → k ≡ a → Does p image limit block_end g true line acts s.before.output q (f (put (word_at s.before.memory k) s.before)))
+        → Does p image limit block_end g true line acts s.before.output q (chain (chain (unrefused (perform p.limits.area (Fetch None) (put (signed a) s.before))) Changed) f)
+    fetched_does a limit line f small each = cases (is_below (signed a) p.limits.area) refl
+      where
+        cases : (b : Bool) → is_below (signed a) p.limits.area ≡ b
+            → Does p image limit block_end g true line acts s.before.output q (chain (chain (unrefused (through b (λ i v. Changed (put (word_at v.memory i) v)) (signed a) s.before)) Changed) f)
+        cases false is = tt
+        cases true is = let b = below_area rows.words p.limits.area a low small is in each (number_in (signed a)) b.within b.same
+
+    fetched_chooses : (a limit : ℕ) (f : Words → Way) → a < 65536
+        → ((k : ℕ) → k < p.limits.area → k ≡ a → Chooses p image limit block_end (start known s) g false acts s.before.output q (f (put (word_at s.before.memory k) s.before)))
+        → Chooses p image limit block_end (start known s) g false acts s.before.output q (way_after (chain (unrefused (perform p.limits.area (Fetch None) (put (signed a) s.before))) Changed) f)
+    fetched_chooses a limit f small each = cases (is_below (signed a) p.limits.area) refl
+      where
+        cases : (b : Bool) → is_below (signed a) p.limits.area ≡ b
+            → Chooses p image limit block_end (start known s) g false acts s.before.output q (way_after (chain (unrefused (through b (λ i v. Changed (put (word_at v.memory i) v)) (signed a) s.before)) Changed) f)
+        cases false is = tt
+        cases true is = let b = below_area rows.words p.limits.area a low small is in each (number_in (signed a)) b.within b.same
+
+    -- ---- one order with two operands, the upper one from the code
+
+    -- how many instructions it takes at most
+    abbrev bound : Use → ℕ
+    bound (uses.Add line) = 17
+    bound (uses.Subtract line) = 17
+    bound (uses.Multiply line) = 19
+    bound u = 3
+
+    -- that of a block whose last order has such an outcome
+    abbrev Ended : Use → Outcome → Type 0
+    Ended u o = Does p image (bound u) block_end g true (line_of (order_of u)) acts s.before.output q o
+
+    step_goes : (u : Use) → Computes u → carry_with p (loaded_after (order_of u) true) (order_of u) g place loaded acts w ≡ after p.room (line_of (order_of u)) (outcome p.limits.area u w) g place true acts w
+    step_goes (uses.Add line) h = refl
+    step_goes (uses.Subtract line) h = refl
+    step_goes (uses.Multiply line) h = refl
+    step_goes uses.Mask h = refl
+    step_goes uses.Union h = refl
+    step_goes uses.Differ h = refl
+    step_goes (uses.Compare c m) h = absurd h
+
+    costs : (u : Use) → bound u ≤ weight_of (order_of u)
+    costs (uses.Add line) = lit≤ tt
+    costs (uses.Subtract line) = lit≤ tt
+    costs (uses.Multiply line) = lit≤ tt
+    costs uses.Mask = lit≤ tt
+    costs uses.Union = lit≤ tt
+    costs uses.Differ = lit≤ tt
+    costs (uses.Compare c m) = lit≤ tt
+
+    -- the code of a block from its operand on
+    abbrev Code : Simple → Use → Type 0
+    Code o u = HasPieces image (all.stands g s.orders s.unit).value here_at (operated (names_of s.orders) (own_place s.orders.list s.from) o u)
+
+    abbrev NamedHere : Simple → ℤ → Type 0
+    NamedHere o y = NamedFrom (setting known s) s.before.memory s.before.input s.before.output here_at (offset_at (all.stands g s.orders s.unit).value o here_at) o y s.before.operands q
+
+    -- the product with an operand
+    abbrev Multiplies : Simple → ℤ → Type 0
+    Multiplies o y =
+        (line : ℕ) → line < 65536 → Code o (uses.Multiply line) → here_at + block_size (block.Operate o (uses.Multiply line)) order.Save ≡ block_end
+        → Does p image 19 block_end g true line acts s.before.output q (perform p.limits.area (Multiply (pos 0)) (put y s.before))
+
+    call_of : ℕ → ℕ
+    call_of test = by known s overflow_entry (test + 2 + 3)
+
+    used_law : (o : Simple) (u : Use) (y : ℤ) → Computes u → FitsWord y → line_of (order_of u) < 65536 → here_at + block_size (block.Operate o u) order.Save ≡ block_end → Code o u → (OneOperation u → NamedHere o y) → Multiplies o y
+        → Ended u (outcome p.limits.area u (put y s.before))
+    used_law o (uses.Add line) y h fy small ends i named product =
+        let k = operand_code o Add (checked line) i in
+        let v = s.before in
+        let test = named_at o here_at + named_size o in
+        add_used (setting known s) v.memory v.input v.output o block_end _ y v.operands fy s.fits_before.operands (named tt) (call_of test) line small (omega (arith, ends, tested_size o (uses.Add line) tt, named_end o here_at))
+        (calls known s overflow_entry (test + 2 + 3) (lit< tt)) k.2 k.1
+    used_law o (uses.Subtract line) y h fy small ends i named product =
+        let k = operand_code o Subtract (checked line) i in
+        let v = s.before in
+        let test = named_at o here_at + named_size o in
+        subtract_used (setting known s) v.memory v.input v.output o block_end _ y v.operands fy s.fits_before.operands (named tt) (call_of test) line small (omega (arith, ends, tested_size o (uses.Subtract line) tt, named_end o here_at))
+        (calls known s overflow_entry (test + 2 + 3) (lit< tt)) k.2 k.1
+    used_law o (uses.Multiply line) y h fy small ends i named product = product line small i ends
+    used_law o uses.Mask y h fy small ends i named product =
+        let k = operand_code o And [] (alone_code o 4 i) in
+        let v = s.before in
+        mask_used (setting known s) v.memory v.input v.output o block_end _ y v.operands fy s.fits_before.operands (named tt) (omega (arith, ends, tested_size o uses.Mask tt, named_end o here_at)) k.1
+    used_law o uses.Union y h fy small ends i named product =
+        let k = operand_code o Or [] (alone_code o 1 i) in
+        let v = s.before in
+        union_used (setting known s) v.memory v.input v.output o block_end _ y v.operands fy s.fits_before.operands (named tt) (omega (arith, ends, tested_size o uses.Union tt, named_end o here_at)) k.1
+    used_law o uses.Differ y h fy small ends i named product =
+        let k = operand_code o Xor [] (alone_code o 6 i) in
+        let v = s.before in
+        differ_used (setting known s) v.memory v.input v.output o block_end _ y v.operands fy s.fits_before.operands (named tt) (omega (arith, ends, tested_size o uses.Differ tt, named_end o here_at)) k.1
+    used_law o (uses.Compare c m) y h fy small ends i named product = absurd h
+
+    -- ---- products
+
+    -- where there is no word below the operand, nothing is asked
+    on_word : (limit line : ℕ) (y : ℤ) → ((x : ℤ) (rest : List Operand) → FitsWord x → operand_words (Word x ∷ rest) < level acts → Landed p image here_at g true acts (words (Word x ∷ rest) s.before.memory s.before.input s.before.output) q
+        → Does p image limit block_end g true line acts s.before.output q (put_value (scaled_product x y (pos 0)) (words rest s.before.memory s.before.input s.before.output)))
+        → (operands : List Operand) → operand_words operands < level acts → All OperandFits operands → Landed p image here_at g true acts (words operands s.before.memory s.before.input s.before.output) q
+        → Does p image limit block_end g true line acts s.before.output q (perform p.limits.area (Multiply (pos 0)) (put y (words operands s.before.memory s.before.input s.before.output)))
+    on_word limit line y does [] room fits l = tt
+    on_word limit line y does (Held d ∷ rest) room fits l = tt
+    on_word limit line y does (Word x ∷ rest) room fits l = does x rest (All-head OperandFits (Word x) rest fits) room l
+
+    number_product : (n : ℕ) → n < 65536 → Landed p image here_at g true acts s.before q → Multiplies (simple.Number n) (signed n)
+    number_product n lt l line small i ends =
+        let v = s.before in
+        let test = here_at + 3 + 2 in
+        on_word 19 line (signed n)
+        (λ x rest fx room t. number_multiplies (setting known s) v.memory v.input v.output x rest fx room t block_end (call_of test) line small n lt (i.0, (i.1.0, tt)) (omega (arith, ends)) (calls known s overflow_entry (test + 2 + 3) (lit< tt)) i.1.1)
+        v.operands (room_in known s) s.fits_before.operands l
+
+    word_product : (f n k : ℕ) → k < p.limits.area → (all.stands g s.orders s.unit).value 2 f n (here_at + 2 + 3) ≡ 2 * k → Landed p image here_at g true acts s.before q
+        → Multiplies (simple.Contents (cell.Word f n)) (word_at s.before.memory k)
+    word_product f n k within e l line small i ends =
+        let v = s.before in
+        let offset = (all.stands g s.orders s.unit).value 2 f n (here_at + 2 + 3) in
+        let test = here_at + 2 + 3 + 2 in
+        on_word 19 line (word_at v.memory k)
+        (λ x rest fx room t.
+        word_multiplies (setting known s) v.memory v.input v.output x rest fx room t block_end (call_of test) line small offset k within e (memory_word k within) (i.0, (i.1.0, (i.1.1.0, tt))) (omega (arith, ends)) (calls known s overflow_entry (test + 2 + 3) (lit< tt)) i.1.1.1)
+        v.operands (room_in known s) s.fits_before.operands l
+
+    frame_product : (a : OrderActivation) (under : List OrderActivation) (n k : ℕ) → acts ≡ a ∷ under → k < p.limits.area → k ≡ (a.frame_base + n) % 65536 → Landed p image here_at g true acts s.before q
+        → Multiplies (simple.Contents (cell.Frame n)) (word_at s.before.memory k)
+    frame_product a under n k acts_are within same l line small i ends =
+        let v = s.before in
+        let test = here_at + 2 + 3 + 2 + 4 + 2 in
+        on_word 19 line (word_at v.memory k)
+        (λ x rest fx room t.
+        frame_multiplies (setting known s) v.memory v.input v.output x rest fx room t block_end (call_of test) line small a under n k acts_are within same (memory_word k within) (i.0, (i.1.0, (i.1.1.0, (i.1.1.1.0, (i.1.1.1.1.0, tt)))))
+        (omega (arith, ends)) (calls known s overflow_entry (test + 2 + 3) (lit< tt)) i.1.1.1.1.1)
+        v.operands (room_in known s) s.fits_before.operands l
+
+    -- ---- the last order
+
+    -- an operation with a number, with a word of the data area and with one of the frame
+    number_does : (n : ℕ) (u : Use) → Computes u → n < 65536 → line_of (order_of u) < 65536 → here_at + block_size (block.Operate (simple.Number n) u) order.Save ≡ block_end → Code (simple.Number n) u → Landed p image here_at g true acts s.before q
+        → Ended u (outcome p.limits.area u (put (signed n) s.before))
+    number_does n u h lt small ends i l =
+        let v = s.before in
+        used_law (simple.Number n) u (signed n) h (rows.words.signed_fits n lt) small ends i (λ one. number_from (setting known s) v.memory v.input v.output v.operands (room_in known s) l n lt) (number_product n lt l)
+
+    word_does : (f n : ℕ) (u : Use) → Computes u → line_of (order_of u) < 65536 → here_at + block_size (block.Operate (simple.Contents (cell.Word f n)) u) order.Save ≡ block_end → Code (simple.Contents (cell.Word f n)) u
+        → Landed p image here_at g true acts s.before q
+        → Ended u (chain (chain (unrefused (perform p.limits.area (Fetch None) (put (signed (home_word p.addresses g f n)) s.before))) Changed) (outcome p.limits.area u))
+    word_does f n u h small ends i l =
+        let v = s.before in
+        let st = all.stands g s.orders s.unit in
+        let word = home_word p.addresses g f n in
+        let first = st.fills.bytes f n (here_at + 4) in
+        let second = st.fills.bytes f n (here_at + 2 + 3) in
+        fetched_does word (bound u) (line_of (order_of u)) (outcome p.limits.area u) (omega arith)
+        (λ k within same.
+        used_law (simple.Contents (cell.Word f n)) u (word_at v.memory k) h (memory_word k within) small ends i
+        (λ one. word_from (setting known s) v.memory v.input v.output v.operands (room_in known s) l f n (st.value 2 f n (here_at + 4)) k within (omega arith))
+        (word_product f n k within (omega arith) l))
+
+    addressed : (n : ℕ) (u : Use) → OneOperation u → Code (simple.Contents (cell.Frame n)) u → HasAll image here_at (load bx (slot base_slot) ∷ double bx ∷ [])
+    addressed n (uses.Add line) h i = (i.0, (i.1.0, tt))
+    addressed n (uses.Subtract line) h i = (i.0, (i.1.0, tt))
+    addressed n (uses.Multiply line) h i = absurd h
+    addressed n uses.Mask h i = (i.0, (i.1.0, tt))
+    addressed n uses.Union h i = (i.0, (i.1.0, tt))
+    addressed n uses.Differ h i = (i.0, (i.1.0, tt))
+    addressed n (uses.Compare c m) h i = (i.0, (i.1.0, tt))
+
+    -- what the orders of a word of the frame do
+    abbrev fetched_frame : ℕ → Outcome
+    fetched_frame n = chain (put_address (frame_word acts n) s.before) (λ v. chain (unrefused (perform p.limits.area (Fetch None) v)) Changed)
+
+    frame_does : (n : ℕ) (u : Use) → Computes u → line_of (order_of u) < 65536 → here_at + block_size (block.Operate (simple.Contents (cell.Frame n)) u) order.Save ≡ block_end → Code (simple.Contents (cell.Frame n)) u
+        → Landed p image here_at g true acts s.before q → Ended u (chain (fetched_frame n) (outcome p.limits.area u))
+    frame_does n u h small ends i l = cases acts refl
+      where
+        cases : (xs : List OrderActivation) → acts ≡ xs → Ended u (chain (chain (put_address (frame_word xs n) s.before) (λ v. chain (unrefused (perform p.limits.area (Fetch None) v)) Changed)) (outcome p.limits.area u))
+        cases [] is = tt
+        cases (a ∷ under) is =
+            let v = s.before in
+            fetched_does ((a.frame_base + n) % 65536) (bound u) (line_of (order_of u)) (outcome p.limits.area u) (omega arith)
+            (λ k within same.
+            used_law (simple.Contents (cell.Frame n)) u (word_at v.memory k) h (memory_word k within) small ends i
+            (λ one. frame_from (setting known s) v.memory v.input v.output v.operands (room_in known s) l a under n k is within same (addressed n u one i))
+            (frame_product a under n k is within same l))
+
+    computes_last : (o : Simple) (u : Use) (rest : List Order) → Computes u → s.done ≡ suc (length (operand_orders o)) → drop s.from s.orders.list ≡ order.Save ∷ (operand_orders o ++ order_of u ∷ rest)
+        → block_at 0 (drop s.from s.orders.list) ≡ block.Operate o u → Follow known (at g place loaded acts w Running) q
+    computes_last (simple.Number n) u rest h is_done e is =
+        let os = order.Const n ∷ order_of u ∷ rest in
+        let here = order_here known s 2 (order_of u) _ is_done e refl in
+        let ends = block_ends known s (block.Operate (simple.Number n) u) order.Save os 2 is_done e is refl refl in
+        let before = saved known s true 1 os is_done e refl in
+        let cost = costs u in
+        let paid : bound u ≤ weight p (at g place loaded acts w Running) = let y = weight_is known s (order_of u) here in omega arith in
+        last_does known s true (line_of (order_of u)) (outcome p.limits.area u) (bound u) 2 _ is_done e ends.begins (step_in known s true (order_of u) before.now here ∙ step_goes u h) paid
+        (number_does n u h (number_small known s n (order_of u ∷ rest) e) (line_fits known s (order_of u) here) ends.behind (block_code known s (block.Operate (simple.Number n) u) order.Save os e is) before.landed)
+    computes_last (simple.Contents (cell.Word f n)) u rest h is_done e is =
+        let os = order.Home f n ∷ order.Load ∷ order_of u ∷ rest in
+        let here = order_here known s 3 (order_of u) _ is_done e refl in
+        let ends = block_ends known s (block.Operate (simple.Contents (cell.Word f n)) u) order.Save os 3 is_done e is refl refl in
+        let before = saved known s true 2 os is_done e refl in
+        let cost = costs u in
+        let paid : bound u ≤ weight p (at g place loaded acts w Running) = let y = weight_is known s (order_of u) here in omega arith in
+        last_does known s true (line_of (order_of u)) (outcome p.limits.area u) (bound u) 3 _ is_done e ends.begins (step_in known s true (order_of u) before.now here ∙ step_goes u h) paid
+        (word_does f n u h (line_fits known s (order_of u) here) ends.behind (block_code known s (block.Operate (simple.Contents (cell.Word f n)) u) order.Save os e is) before.landed)
+    computes_last (simple.Contents (cell.Frame n)) u rest h is_done e is =
+        let os = order.FrameHome n ∷ order.Load ∷ order_of u ∷ rest in
+        let here = order_here known s 3 (order_of u) _ is_done e refl in
+        let ends = block_ends known s (block.Operate (simple.Contents (cell.Frame n)) u) order.Save os 3 is_done e is refl refl in
+        let before = saved known s true 2 os is_done e refl in
+        let cost = costs u in
+        let paid : bound u ≤ weight p (at g place loaded acts w Running) = let y = weight_is known s (order_of u) here in omega arith in
+        last_does known s true (line_of (order_of u)) (outcome p.limits.area u) (bound u) 3 _ is_done e ends.begins (step_in known s true (order_of u) before.now here ∙ step_goes u h) paid
+        (frame_does n u h (line_fits known s (order_of u) here) ends.behind (block_code known s (block.Operate (simple.Contents (cell.Frame n)) u) order.Save os e is) before.landed)
+
+    -- ---- comparisons
+
+    abbrev Chosen : Way → Type 0
+    Chosen way = Chooses p image 5 block_end (start known s) g false acts s.before.output q way
+
+    abbrev way_of : Comparator → ℕ → Words → Way
+    way_of c m v = way_of_two (λ x y t. to_mark_if (holds (comparison c) x y) m t) v
+
+    compares_with : (o : Simple) (c : Comparator) (m : ℕ) (y : ℤ) → FitsWord y → here_at + block_size (block.Operate o (uses.Compare c m)) order.Save ≡ block_end → Code o (uses.Compare c m) → NamedHere o y → Chosen (way_of c m (put y s.before))
+    compares_with o c m y fy ends i named =
+        let v = s.before in
+        let own = own_place s.orders.list s.from in
+        let behind = own + pieces_size (with_operand 7 o) + 5 in
+        let k = operand_code o Compare (branch c behind (mark_starts s.orders m)) i in
+        let size = compare_size o in
+        let there : (base_of p g + behind + distance behind (mark_starts s.orders m)) % 65536 ≡ (base_of p g + mark_starts s.orders m) % 65536 = jump_arrives (base_of p g) behind 0 (mark_starts s.orders m) in
+        compare_used (setting known s) v.memory v.input v.output o block_end _ y v.operands fy s.fits_before.operands named (distance behind (mark_starts s.orders m)) (start known s) c m
+        (omega (arith, ends, tested_size o (uses.Compare c m) tt, named_end o here_at)) (omega (arith, named_end o here_at, size, there)) k.1 k.2
+
+    number_chooses : (n : ℕ) (c : Comparator) (m : ℕ) → n < 65536 → here_at + block_size (block.Operate (simple.Number n) (uses.Compare c m)) order.Save ≡ block_end → Code (simple.Number n) (uses.Compare c m) → Landed p image here_at g true acts s.before q
+        → Chosen (way_of c m (put (signed n) s.before))
+    number_chooses n c m lt ends i l =
+        let v = s.before in
+        compares_with (simple.Number n) c m (signed n) (rows.words.signed_fits n lt) ends i (number_from (setting known s) v.memory v.input v.output v.operands (room_in known s) l n lt)
+
+    frame_chooses : (n : ℕ) (c : Comparator) (m : ℕ) → here_at + block_size (block.Operate (simple.Contents (cell.Frame n)) (uses.Compare c m)) order.Save ≡ block_end → Code (simple.Contents (cell.Frame n)) (uses.Compare c m)
+        → Landed p image here_at g true acts s.before q → Chosen (way_after (fetched_frame n) (way_of c m))
+    frame_chooses n c m ends i l = cases acts refl
+      where
+        cases : (xs : List OrderActivation) → acts ≡ xs → Chosen (way_after (chain (put_address (frame_word xs n) s.before) (λ v. chain (unrefused (perform p.limits.area (Fetch None) v)) Changed)) (way_of c m))
+        cases [] is = tt
+        cases (a ∷ under) is =
+            let v = s.before in
+            fetched_chooses ((a.frame_base + n) % 65536) 5 (way_of c m) (omega arith)
+            (λ k within same.
+            compares_with (simple.Contents (cell.Frame n)) c m (word_at v.memory k) (memory_word k within) ends i
+            (frame_from (setting known s) v.memory v.input v.output v.operands (room_in known s) l a under n k is within same (addressed n (uses.Compare c m) tt i)))
+
+    compares_last : (o : Simple) (c : Comparator) (m : ℕ) (rest : List Order) → s.done ≡ suc (length (operand_orders o)) → drop s.from s.orders.list ≡ order.Save ∷ (operand_orders o ++ order.JumpIf c m ∷ rest)
+        → block_at 0 (drop s.from s.orders.list) ≡ block.Operate o (uses.Compare c m) → Follow known (at g place loaded acts w Running) q
+    compares_last (simple.Number n) c m rest is_done e is =
+        let os = order.Const n ∷ order.JumpIf c m ∷ rest in
+        let b = block.Operate (simple.Number n) (uses.Compare c m) in
+        let here = order_here known s 2 (order.JumpIf c m) _ is_done e refl in
+        let ends = block_ends known s b order.Save os 2 is_done e is refl refl in
+        let before = saved known s true 1 os is_done e refl in
+        let paid : 5 ≤ weight p (at g place loaded acts w Running) = let y = weight_is known s (order.JumpIf c m) here in omega arith in
+        last_chooses known s false (way_of c m) 5 2 _ is_done e ends.begins (two_roomy acts p.room m c w.operands w s.room) (step_in known s true (order.JumpIf c m) before.now here) paid
+        (number_chooses n c m (number_small known s n (order.JumpIf c m ∷ rest) e) ends.behind (block_code known s b order.Save os e is) before.landed)
+    compares_last (simple.Contents (cell.Word f n)) c m rest is_done e is =
+        let os = order.Home f n ∷ order.Load ∷ order.JumpIf c m ∷ rest in
+        let o = simple.Contents (cell.Word f n) in
+        let b = block.Operate o (uses.Compare c m) in
+        let here = order_here known s 3 (order.JumpIf c m) _ is_done e refl in
+        let ends = block_ends known s b order.Save os 3 is_done e is refl refl in
+        let before = saved known s true 2 os is_done e refl in
+        let v = s.before in
+        let st = all.stands g s.orders s.unit in
+        let word = home_word p.addresses g f n in
+        let offset = st.fills.bytes f n (here_at + 4) in
+        let paid : 5 ≤ weight p (at g place loaded acts w Running) = let y = weight_is known s (order.JumpIf c m) here in omega arith in
+        last_chooses known s false (way_of c m) 5 3 _ is_done e ends.begins (two_roomy acts p.room m c w.operands w s.room) (step_in known s true (order.JumpIf c m) before.now here) paid
+        (fetched_chooses word 5 (way_of c m) (omega arith)
+        (λ k within same.
+        compares_with o c m (word_at v.memory k) (memory_word k within) ends.behind (block_code known s b order.Save os e is)
+        (word_from (setting known s) v.memory v.input v.output v.operands (room_in known s) before.landed f n (st.value 2 f n (here_at + 4)) k within (omega arith))))
+    compares_last (simple.Contents (cell.Frame n)) c m rest is_done e is =
+        let os = order.FrameHome n ∷ order.Load ∷ order.JumpIf c m ∷ rest in
+        let o = simple.Contents (cell.Frame n) in
+        let b = block.Operate o (uses.Compare c m) in
+        let here = order_here known s 3 (order.JumpIf c m) _ is_done e refl in
+        let ends = block_ends known s b order.Save os 3 is_done e is refl refl in
+        let before = saved known s true 2 os is_done e refl in
+        let paid : 5 ≤ weight p (at g place loaded acts w Running) = let y = weight_is known s (order.JumpIf c m) here in omega arith in
+        last_chooses known s false (way_of c m) 5 3 _ is_done e ends.begins (two_roomy acts p.room m c w.operands w s.room) (step_in known s true (order.JumpIf c m) before.now here) paid
+        (frame_chooses n c m ends.behind (block_code known s b order.Save os e is) before.landed)
+
+    -- the orders of a block that uses a simple operand
+    pub operate_follows : (o : Simple) (u : Use) (rest : List Order) → drop s.from s.orders.list ≡ order.Save ∷ (operand_orders o ++ order_of u ∷ rest) → block_at 0 (drop s.from s.orders.list) ≡ block.Operate o u
+        → Follow known (at g place loaded acts w Running) q
+    operate_follows o (uses.Compare c m) rest e is = block_follows known s (block.Operate o (uses.Compare c m)) (order.JumpIf c m) rest e is refl (λ is_done. compares_last o c m rest is_done e is)
+    operate_follows o u rest e is = block_follows known s (block.Operate o u) (order_of u) rest e is refl (λ is_done. computes_last o u rest tt is_done e is)
