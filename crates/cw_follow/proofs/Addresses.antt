@@ -1,8 +1,7 @@
 -- What the code of indexes and addresses does, and that of multiplications by a number.
-use Rattle.std.proofs.Common.{◌≡◌, ℕ, suc, ◌+◌, ◌*◌, ◌%◌, ◌<◌, ◌≤◌, Bool, true, false, not, ℤ, pos, negsuc, ◌+ℤ◌, ◌-ℤ◌, ◌*ℤ◌, List, [], ◌∷◌, refl, sym, ap, ap₂, ◌∙◌, subst, arith, lit<, lit≤}
+use Rattle.std.proofs.Common.{◌≡◌, ℕ, suc, ◌+◌, ◌*◌, ◌%◌, ◌<◌, ◌≤◌, Bool, true, false, not, ℤ, pos, negsuc, ◌-ℤ◌, ◌*ℤ◌, List, [], ◌∷◌, refl, sym, ap, ap₂, ◌∙◌, subst, arith, lit<, lit≤}
 use borrow.Author.Tests.{ltb-true, eqb-true, eqb-false}
 use Rattle.std.proofs.lemmas.Bool.{lt-ltb, false≢true}
-use Rattle.std.proofs.lemmas.Int.{ints}
 use Rattle.std.specs.List.{All}
 use Rattle.std.specs.Prelude.{◌==◌, int_le, ◌&&◌}
 use Rattle.cw_i86.specs.declared.instr.Instr.{Instr}
@@ -12,26 +11,26 @@ use Rattle.cw_i86.specs.declared.instr.Rm.TheVariants as rms
 use Rattle.cw_i86.specs.Sums.{overflows}
 use Rattle.cw_run86.specs.Processor.{Told}
 use Rattle.cw_follow.proofs.Watched.{Watched}
-use Rattle.cw_run86.specs.Views.{Has, compare as compare_of, word_sum, word_difference, sum_overflows, difference_overflows, product_low, product_high, product_overflows, Comparison, NotLess, AtMost, words_compare, compares, condition_of, with_number}
+use Rattle.cw_run86.specs.Views.{Has, compare as compare_of, word_difference, difference_overflows, product_low, product_high, product_overflows, Comparison, NotLess, AtMost, words_compare, compares, condition_of, with_number}
 use Rattle.cw_word.specs.FixedPoint.{FitsWord, fits_word}
 use Rattle.cw_word.specs.Word.{unsigned, low_word}
 use Rattle.cw_unit.specs.Stop.{StopKind, AddressRange, IndexRange}
-use Rattle.cw_unit.specs.Words.{Operand, Words, Outcome, Changed, put, put_if, on_two, is_below, number_of}
+use Rattle.cw_unit.specs.Words.{Operand, Words, Outcome, Changed, put, put_if, is_below, number_of}
 use Rattle.cw_unit.specs.Operation.{Form, Taken, InBounds, perform}
 use Rattle.cw_order.specs.FittingWords.{OperandFits}
-use Rattle.cw_order.specs.OrderChanges.{put_index, index, if_fits, index_row}
+use Rattle.cw_order.specs.OrderChanges.{put_index, index}
 use Rattle.cw_tmpl.specs.Library.{stop_place}
 use Rattle.cw_routines.specs.Ways.{HasWord}
 use Rattle.cw_follow.proofs.Rows.{Rows}
 use Rattle.cw_follow.proofs.Chains.{Is, IsCompared, Leads, view, seen, compare_number, compared, compared_jumps, compared_passes, compared_more, jumps_below, passes_above, more, last, done}
-use Rattle.cw_follow.proofs.Straight.{Move, Pop, Number, Sum, Difference, Negative, Product, straight}
-use Rattle.cw_follow.proofs.Routines.{HasLine, with_ax, leads_on}
+use Rattle.cw_follow.proofs.Straight.{Number, Difference, Negative, Product, straight}
+use Rattle.cw_follow.proofs.Routines.{HasLine, leads_on}
 use Rattle.cw_follow.proofs.Stacks.{level, record_of}
 use Rattle.cw_follow.proofs.Orders.{Kept, Check, later, further, checks}
 use Rattle.cw_order.specs.OrderState.{operand_words}
-use Rattle.cw_follow.proofs.Operands.{Setting, words, allowed, One, Two, result, LandedWith, DoesHere, taking_one, taking_two, calls_stop, guards}
+use Rattle.cw_follow.proofs.Operands.{Setting, words, allowed, One, result, LandedWith, DoesHere, taking_one, calls_stop}
 use Rattle.cw_follow.proofs.Called.{Then, parts}
-use Rattle.cw_follow.proofs.Numbers.{left, right, overflows_same, sum_overflows_is, difference_overflows_is, sum_is, difference_is, fits_tested, unsigned_pos}
+use Rattle.cw_follow.proofs.Numbers.{left, right, overflows_same, difference_overflows_is, difference_is, fits_tested, unsigned_pos}
 use Rattle.cw_follow.proofs.Facts.{low_is, top_overflows, top_low, not_below}
 
 -- a test for an overflow, and something more behind it
@@ -108,33 +107,7 @@ module _ (c : Setting) (memory : List ℤ) (input output : List ℕ) where
       (λ a d f overflow q tests value t code.
       checks c.rows c.program c.image c.g c.acts kind to (suc l.top) by line z rest memory input output has c.library c.few some small e arrives tests value l.under l.kept code t)
 
-  -- ---- sums
-
-  pub sums : {p : Watched} {at : ℕ} (kind : StopKind) (to by line : ℕ) (operands : List Operand) → HasLine kind → line < 65536 → at + 10 ≡ to
-      → (at + 1 + 2 + 2 + 3 + by) % 65536 ≡ stop_place kind % 65536 → operand_words operands < level c.acts → All OperandFits operands
-      → Then c.image at (i86.Pop 3 ∷ i86.AluRm 0 true true 0 (rms.Reg 3) ∷ []) (λ k. Check c.image k by line) → LandedWith c memory input output at true operands p
-      → DoesHere c memory input output 16 to true line p (on_two (λ x y v. put_if (fits_word (x +ℤ y)) kind (x +ℤ y) v) operands (words operands memory input output))
-  sums {p} {at} kind to by line operands has small e arrives roomy fits i =
-      taking_two c memory input output 16 to true line (λ x y v. put_if (fits_word (x +ℤ y)) kind (x +ℤ y) v) does operands roomy fits
-    where
-      does : (x y : ℤ) (rest : List Operand) → FitsWord x → FitsWord y → Two c memory input output at x y rest p
-          → DoesHere c memory input output 16 to true line p (put_if (fits_word (x +ℤ y)) kind (x +ℤ y) (words rest memory input output))
-      does x y rest fx fy l =
-          let acts = Pop 3 (suc l.top) (unsigned x) ∷ Sum 0 3 ∷ [] in
-          let ps = parts c.image at acts (λ k. Check c.image k by line) i in
-          let e' : at + 1 + 2 + 2 + 3 + 2 ≡ to = omega arith in
-          let some : 0 < suc (suc l.top) = omega arith in
-          let turned : y +ℤ x ≡ x +ℤ y = omega (arith, ints) in
-          let tests : sum_overflows (unsigned y) (unsigned x) ≡ not (fits_word (x +ℤ y)) =
-          sum_overflows_is c.rows.words y x fy fx ∙ ap (λ z. not (fits_word z)) turned in
-          let value : FitsWord (x +ℤ y) → word_sum (unsigned y) (unsigned x) ≡ unsigned (x +ℤ y) =
-          λ f. sum_is c.rows.words y x fy fx (subst FitsWord (sym turned) f) ∙ ap unsigned turned in
-          later c.program c.image 14 to c.g true line c.acts 2 16 (put_if (fits_word (x +ℤ y)) kind (x +ℤ y) (words rest memory input output)) (lit≤ tt)
-          (straight c.rows acts l.kept.wrote ps.0 (l.next, (tt, tt)) l.is (λ q t. done t))
-          (λ q t.
-          checks c.rows c.program c.image c.g c.acts kind to (suc (suc l.top)) by line (x +ℤ y) rest memory input output has c.library c.few some small e' arrives tests value l.under l.kept ps.1 t)
-
-  -- ---- an index and a number
+  -- ---- an index less its lower bound
 
   pub indexes_less : {p : Watched} {at : ℕ} (to by line : ℕ) (lower : ℤ) (operands : List Operand) → line < 65536 → at + 12 ≡ to
       → (at + 3 + 2 + 2 + 3 + by) % 65536 ≡ stop_place AddressRange % 65536 → FitsWord lower → operand_words operands < level c.acts → All OperandFits operands
@@ -157,145 +130,46 @@ module _ (c : Setting) (memory : List ℤ) (input output : List ℕ) where
           checks c.rows c.program c.image c.g c.acts AddressRange to (suc l.top) by line (x -ℤ lower) rest memory input output tt c.library c.few some small e' arrives
           (difference_overflows_is c.rows.words x lower fx fl) (difference_is c.rows.words x lower fx fl) l.under l.kept ps.1 t)
 
-  pub indexes_plus : {p : Watched} {at : ℕ} (to by line n : ℕ) (operands : List Operand) → line < 65536 → at + 12 ≡ to
-      → (at + 3 + 2 + 2 + 3 + by) % 65536 ≡ stop_place AddressRange % 65536 → n < 32768 → operand_words operands < level c.acts → All OperandFits operands
-      → Then c.image at (i86.MovImm 3 (imm.Word n) ∷ i86.AluRm 0 true true 0 (rms.Reg 3) ∷ []) (λ k. Check c.image k by line)
-      → LandedWith c memory input output at true operands p
-      → DoesHere c memory input output 16 to true line p (index (λ i. i +ℤ pos n) (words operands memory input output))
-  indexes_plus {p} {at} to by line n operands small e arrives low roomy fits i =
-      taking_one c memory input output 16 to true line (λ x v. put_index (x +ℤ pos n) v) does operands roomy fits
-    where
-      does : (x : ℤ) (rest : List Operand) → FitsWord x → One c memory input output at x rest p
-          → DoesHere c memory input output 16 to true line p (put_index (x +ℤ pos n) (words rest memory input output))
-      does x rest fx l =
-          let fn : FitsWord (pos n) = fits_tested (pos n) (lt-ltb n 32768 low) in
-          let n_is : unsigned (pos n) ≡ n = unsigned_pos n (omega arith) in
-          let tests : sum_overflows (unsigned x) n ≡ not (fits_word (x +ℤ pos n)) =
-          ap (sum_overflows (unsigned x)) (sym n_is) ∙ sum_overflows_is c.rows.words x (pos n) fx fn in
-          let value : FitsWord (x +ℤ pos n) → word_sum (unsigned x) n ≡ unsigned (x +ℤ pos n) =
-          λ f. ap (word_sum (unsigned x)) (sym n_is) ∙ sum_is c.rows.words x (pos n) fx fn f in
-          let acts = Number 3 n ∷ Sum 0 3 ∷ [] in
-          let ps = parts c.image at acts (λ k. Check c.image k by line) i in
-          let some : 0 < suc l.top = omega arith in
-          let e' : at + 3 + 2 + 2 + 3 + 2 ≡ to = omega arith in
-          later c.program c.image 14 to c.g true line c.acts 2 16 (put_index (x +ℤ pos n) (words rest memory input output)) (lit≤ tt)
-          (straight c.rows acts l.kept.wrote ps.0 (tt, (tt, tt)) l.is (λ q t. done t))
-          (λ q t.
-          checks c.rows c.program c.image c.g c.acts AddressRange to (suc l.top) by line (x +ℤ pos n) rest memory input output tt c.library c.few some small e' arrives tests value l.under l.kept ps.1 t)
-
-  pub indexes_times : {p : Watched} {at : ℕ} (b : Bool) (to by line n : ℕ) (operands : List Operand) → line < 65536 → (n == 32768) ≡ b → n ≤ 32768 → test_place b at + 2 + 3 + 2 ≡ to
-      → (test_place b at + 2 + 3 + by) % 65536 ≡ stop_place AddressRange % 65536 → operand_words operands < level c.acts → All OperandFits operands
-      → Then c.image at (times_code b n) (λ k. Check c.image k by line) → LandedWith c memory input output at true operands p
-      → DoesHere c memory input output 17 to true line p (index (λ i. i *ℤ pos n) (words operands memory input output))
-  indexes_times {p} {at} b to by line n operands small is most e arrives roomy fits i =
-      taking_one c memory input output 17 to true line (λ x v. put_index (x *ℤ pos n) v)
-      (λ x rest fx l. multiplied b AddressRange to n by 17 line x rest tt small is most fx e arrives (lit≤ tt) i l) operands roomy fits
-
-  -- ---- a row
-
-  same_allowed : (b : Bool) (o : Outcome) → allowed b AddressRange o ≡ if_fits b o
-  same_allowed true o = refl
-  same_allowed false o = refl
-
-  -- the sum with the place in the row
-  abbrev LastCode : (by line : ℕ) → ℕ → Type 0
-  LastCode by line k = Then c.image k (i86.AluRm 0 true true 0 (rms.Reg 1) ∷ []) (λ k. Check c.image k by line)
-
-  abbrev pub RowCode : ℕ → Bool → (lower : ℤ) → (n by1 by2 by3 line : ℕ) → Type 0
-  RowCode at b lower n by1 by2 by3 line =
-      Then c.image at (i86.Mov true true 1 (rms.Reg 0) ∷ i86.Pop 0 ∷ i86.MovImm 3 (imm.Word (unsigned lower)) ∷ i86.AluRm 5 true true 0 (rms.Reg 3) ∷ []) (λ k.
-      CheckThen c.image k by1 line (λ k. Then c.image k (times_code b n) (λ k. CheckThen c.image k by2 line (LastCode by3 line))))
-
-  -- where the multiplication begins
-  abbrev row_times : ℕ → ℕ
-  row_times at = at + 2 + 1 + 3 + 2 + 2 + 3 + 2
-
-  pub indexes_row : {p : Watched} {at : ℕ} (b : Bool) (to by1 by2 by3 line : ℕ) (lower : ℤ) (n : ℕ) (operands : List Operand) → line < 65536 → (n == 32768) ≡ b → n ≤ 32768 → FitsWord lower
-      → test_place b (row_times at) + 2 + 3 + 2 + 2 + 2 + 3 + 2 ≡ to
-      → (at + 2 + 1 + 3 + 2 + 2 + 3 + by1) % 65536 ≡ stop_place AddressRange % 65536
-      → (test_place b (row_times at) + 2 + 3 + by2) % 65536 ≡ stop_place AddressRange % 65536
-      → (test_place b (row_times at) + 2 + 3 + 2 + 2 + 2 + 3 + by3) % 65536 ≡ stop_place AddressRange % 65536
-      → operand_words operands < level c.acts → All OperandFits operands → RowCode at b lower n by1 by2 by3 line → LandedWith c memory input output at true operands p
-      → DoesHere c memory input output 34 to true line p (index_row lower n (words operands memory input output))
-  indexes_row {p} {at} b to by1 by2 by3 line lower n operands small is most fl e arrives1 arrives2 arrives3 roomy fits i =
-      taking_two c memory input output 34 to true line
-      (λ x y v. if_fits (fits_word (x -ℤ lower)) (if_fits (fits_word ((x -ℤ lower) *ℤ pos n)) (put_index ((x -ℤ lower) *ℤ pos n +ℤ y) v))) does operands roomy fits
-    where
-      Behind : ℕ → Type 0
-      Behind k = CheckThen c.image k by2 line (LastCode by3 line)
-
-      does : (x y : ℤ) (rest : List Operand) → FitsWord x → FitsWord y → Two c memory input output at x y rest p
-          → DoesHere c memory input output 34 to true line p (if_fits (fits_word (x -ℤ lower)) (if_fits (fits_word ((x -ℤ lower) *ℤ pos n)) (put_index ((x -ℤ lower) *ℤ pos n +ℤ y) (words rest memory input output))))
-      does x y rest fx fy l =
-          let row = x -ℤ lower in
-          let begins = row *ℤ pos n in
-          let z = begins +ℤ y in
-          let w = words rest memory input output in
-          let acts = Move 1 0 ∷ Pop 0 (suc l.top) (unsigned x) ∷ Number 3 (unsigned lower) ∷ Difference 0 3 ∷ [] in
-          let ps = parts c.image at acts (λ k. CheckThen c.image k by1 line (λ k. Then c.image k (times_code b n) Behind)) i in
-          let some : 0 < suc (suc l.top) = omega arith in
-          let inner : Outcome = allowed (fits_word begins) AddressRange (put_index z w) in
-          subst (λ o. DoesHere c memory input output 34 to true line p o)
-          (same_allowed (fits_word row) inner ∙ ap (if_fits (fits_word row)) (same_allowed (fits_word begins) (put_index z w)))
-          (later c.program c.image 30 to c.g true line c.acts 4 34 (allowed (fits_word row) AddressRange inner) (lit≤ tt)
-          (straight c.rows acts l.kept.wrote ps.0 (tt, (l.next, (tt, (tt, tt)))) l.is (λ q t. done t))
-          (λ q t.
-          guards c memory input output AddressRange to true line (suc l.top) by1 29 30 (fits_word row) inner tt small l.low arrives1
-          (difference_overflows_is c.rows.words x lower fx fl) (lit≤ tt) (lit≤ tt) l.kept (check_of c.image (at + 2 + 1 + 3 + 2) by1 line (λ k. Then c.image k (times_code b n) Behind) ps.1) t
-          (λ fits1 r u.
-          let f1 = fits_tested row fits1 in
-          let there : at + 2 + 1 + 3 + 2 + 2 + 5 ≡ row_times at = omega arith in
-          times_tested b Behind to n (suc l.top) 26 29 line row inner is most f1 l.kept.wrote (lit≤ tt) ps.1.1.1.1 (seen there refl (with_ax (difference_is c.rows.words x lower fx fl f1) u))
-          (λ a d f overflow r tests value u code.
-          guards c memory input output AddressRange to true line (suc l.top) by2 15 26 (fits_word begins) (put_index z w) tt small l.low arrives2 tests (lit≤ tt) (lit≤ tt) l.kept
-          (check_of c.image (test_place b (row_times at)) by2 line (LastCode by3 line) code) u
-          (λ fits2 r u.
-          let f2 = fits_tested begins fits2 in
-          let end : test_place b (row_times at) + 2 + 5 ≡ test_place b (row_times at) + 2 + 3 + 2 = omega arith in
-          later c.program c.image 14 to c.g true line c.acts 1 15 (put_index z w) (lit≤ tt)
-          (straight c.rows (Sum 0 1 ∷ []) l.kept.wrote (code.1.1.1.0, tt) (tt, tt) (seen end refl (with_ax (value f2) u)) (λ q t. done t))
-          (λ q t.
-          checks c.rows c.program c.image c.g c.acts AddressRange to (suc (suc l.top)) by3 line z rest memory input output tt c.library c.few some small e arrives3
-          (sum_overflows_is c.rows.words begins y f2 fy) (sum_is c.rows.words begins y f2 fy) l.under l.kept code.1.1.1.1 t))))))
-
   -- ---- addresses of the data area
 
-  pub inside : (x : ℤ) → is_below x c.program.limits.area ≡ true → (number_of x < c.program.limits.area) × (unsigned x ≡ number_of x)
+  inside : (x : ℤ) → is_below x c.program.limits.area ≡ true → (number_of x < c.program.limits.area) × (unsigned x ≡ number_of x)
   inside (pos n) is = let low = c.low in let lt = ltb-true n c.program.limits.area is in (lt, unsigned_pos n (omega arith))
   inside (negsuc n) is = absurd (false≢true is)
 
-  pub outside : (x : ℤ) → FitsWord x → is_below x c.program.limits.area ≡ false → c.program.limits.area ≤ unsigned x
+  outside : (x : ℤ) → FitsWord x → is_below x c.program.limits.area ≡ false → c.program.limits.area ≤ unsigned x
   outside (pos n) fx is = let e = unsigned_pos n (omega (arith, fx.sfits)) in let ge = not_below n c.program.limits.area is in omega arith
   outside (negsuc n) fx is = let low = c.low in omega (arith, fx.sfits)
 
   -- the word in AX is compared with the words of the area, which DI has
+  abbrev AreaCode : (at by line : ℕ) → Type 0
+  AreaCode at by line = Has c.image at (compare_of 0 7) × (Has c.image (at + 2) (i86.JumpIf 2 5) × (Has c.image (at + 2 + 2) (i86.Call by) × (HasWord c.image (at + 2 + 2 + 3) line × Unit {0})))
+
+  pub in_area_tested : {p : Watched} {at : ℕ} (to by line : ℕ) → line < 65536 → at + 9 ≡ to → (at + 2 + 2 + 3 + by) % 65536 ≡ stop_place AddressRange % 65536 → AreaCode at by line
+      → (x : ℤ) (b : Bool) (rest : List Operand) → is_below x c.program.limits.area ≡ b → FitsWord x → One c memory input output at x rest p
+      → DoesHere c memory input output 15 to true line p (put_if b AddressRange x (words rest memory input output))
+  in_area_tested {p} {at} to by line small e arrives i x true rest is fx l =
+      let v = view (unsigned x) l.cx l.dx l.bx (2 * suc l.top) (record_of c.acts) l.si c.program.limits.area l.overflow l.cells l.stack l.left l.told in
+      let f = inside x is in
+      let within = f.0 in
+      let same = f.1 in
+      let lt : unsigned x < c.program.limits.area = omega arith in
+      let e' : at + 2 + 2 + 5 ≡ to = omega arith in
+      further 2 (lit≤ tt) (lit< tt)
+      (compared c.rows {v = v} 0 7 l.kept.wrote i.0 l.is
+      (done (result c memory input output to (suc l.top) x rest e' refl l.under l.kept (jumps_below c.rows {v = v} 0 7 5 lt i.0 i.1.0 l.is))))
+  in_area_tested {p} {at} to by line small e arrives i x false rest is fx l =
+      let v = view (unsigned x) l.cx l.dx l.bx (2 * suc l.top) (record_of c.acts) l.si c.program.limits.area l.overflow l.cells l.stack l.left l.told in
+      let low = l.low in
+      further 15 (lit≤ tt) (lit< tt)
+      (compared c.rows {v = v} 0 7 l.kept.wrote i.0 l.is
+      (calls_stop c memory input output AddressRange l.top by line tt small (omega arith) arrives l.kept i.1.1.0 i.1.1.1.0 (passes_above c.rows {v = v} 0 7 5 (outside x fx is) i.0 i.1.0 l.is)))
+
   pub in_areas : {p : Watched} {at : ℕ} (to by line : ℕ) (operands : List Operand) → line < 65536 → at + 9 ≡ to → (at + 2 + 2 + 3 + by) % 65536 ≡ stop_place AddressRange % 65536
-      → operand_words operands < level c.acts → All OperandFits operands
-      → Has c.image at (compare_of 0 7) × (Has c.image (at + 2) (i86.JumpIf 2 5) × (Has c.image (at + 2 + 2) (i86.Call by) × (HasWord c.image (at + 2 + 2 + 3) line × Unit {0})))
-      → LandedWith c memory input output at true operands p
+      → operand_words operands < level c.acts → All OperandFits operands → AreaCode at by line → LandedWith c memory input output at true operands p
       → DoesHere c memory input output 15 to true line p (perform c.program.limits.area (Form Taken) (words operands memory input output))
-  in_areas {p} {at} to by line operands small e arrives roomy fits i =
+  in_areas to by line operands small e arrives roomy fits i =
       taking_one c memory input output 15 to true line (λ x v. put_if (is_below x c.program.limits.area) AddressRange x v)
-      (λ x rest fx l. tested x (is_below x c.program.limits.area) rest refl fx l) operands roomy fits
-    where
-      tested : (x : ℤ) (b : Bool) (rest : List Operand) → is_below x c.program.limits.area ≡ b → FitsWord x → One c memory input output at x rest p
-          → DoesHere c memory input output 15 to true line p (put_if b AddressRange x (words rest memory input output))
-      tested x true rest is fx l =
-          let v = view (unsigned x) l.cx l.dx l.bx (2 * suc l.top) (record_of c.acts) l.si c.program.limits.area l.overflow l.cells l.stack l.left l.told in
-          let f = inside x is in
-          let within = f.0 in
-          let same = f.1 in
-          let lt : unsigned x < c.program.limits.area = omega arith in
-          let e' : at + 2 + 2 + 5 ≡ to = omega arith in
-          further 2 (lit≤ tt) (lit< tt)
-          (compared c.rows {v = v} 0 7 l.kept.wrote i.0 l.is
-          (done (result c memory input output to (suc l.top) x rest e' refl l.under l.kept (jumps_below c.rows {v = v} 0 7 5 lt i.0 i.1.0 l.is))))
-      tested x false rest is fx l =
-          let v = view (unsigned x) l.cx l.dx l.bx (2 * suc l.top) (record_of c.acts) l.si c.program.limits.area l.overflow l.cells l.stack l.left l.told in
-          let low = l.low in
-          further 15 (lit≤ tt) (lit< tt)
-          (compared c.rows {v = v} 0 7 l.kept.wrote i.0 l.is
-          (calls_stop c memory input output AddressRange l.top by line tt small (omega arith) arrives l.kept i.1.1.0 i.1.1.1.0 (passes_above c.rows {v = v} 0 7 5 (outside x fx is) i.0 i.1.0 l.is)))
+      (λ x rest fx l. in_area_tested to by line small e arrives i x (is_below x c.program.limits.area) rest refl fx l) operands roomy fits
 
   -- ---- declared bounds
 

@@ -51,8 +51,8 @@ use Rattle.cw_follow.proofs.Calling.{calls_own, calls_common, controls_own, owne
 use Rattle.cw_follow.proofs.Jumping.{goes_common}
 use Rattle.cw_follow.proofs.Switching.{switches_own, switches_by_descriptor}
 use Rattle.cw_follow.proofs.Within.{frame_home, bind_static, bind_frame, come_back, enter_again, hand_on, call_special, go_special, switch_special}
-use Rattle.cw_follow.proofs.WordOrders.{rescale_follows, multiply_follows, divide_follows, index_times_follows, index_row_follows}
-use Rattle.cw_follow.proofs.Words.{save_follows, const_follows, home_follows, load_follows, store_follows, load_part_follows, store_part_follows, add_follows, subtract_follows, negate_follows, and_follows, or_follows, xor_follows, take_follows, less_follows, drop_follows, index_less_follows, index_plus_follows, index_add_follows, in_area_follows, in_bounds_follows, read_follows, write_follows}
+use Rattle.cw_follow.proofs.WordOrders.{rescale_follows, multiply_follows, divide_follows, element_follows, element_of_two_follows, entry_follows}
+use Rattle.cw_follow.proofs.Words.{save_follows, const_follows, home_follows, load_follows, store_follows, load_part_follows, store_part_follows, add_follows, subtract_follows, negate_follows, and_follows, or_follows, xor_follows, take_follows, less_follows, drop_follows, index_less_follows, in_area_follows, in_bounds_follows, read_follows, write_follows}
 use Rattle.cw_follow.proofs.BlockOrders.{fetch_follows, assign_follows, number_follows, divide_number_follows, variable_follows, within_block, write_top_follows}
 use Rattle.cw_follow.proofs.FrameBlocks.{fetch_frame_follows, assign_frame_follows}
 
@@ -220,14 +220,12 @@ module _ (known : Given) where
     follow_order false s a order.Drop e = absurd (wrong_way known s order.Drop e refl)
     follow_order true s a (order.IndexLess lower line) e = index_less_follows known s a lower line e
     follow_order false s a (order.IndexLess lower line) e = absurd (wrong_way known s (order.IndexLess lower line) e refl)
-    follow_order true s a (order.IndexTimes n line) e = index_times_follows known s a n line e
-    follow_order false s a (order.IndexTimes n line) e = absurd (wrong_way known s (order.IndexTimes n line) e refl)
-    follow_order true s a (order.IndexPlus n line) e = index_plus_follows known s a n line e
-    follow_order false s a (order.IndexPlus n line) e = absurd (wrong_way known s (order.IndexPlus n line) e refl)
-    follow_order true s a (order.IndexAdd line) e = index_add_follows known s a line e
-    follow_order false s a (order.IndexAdd line) e = absurd (wrong_way known s (order.IndexAdd line) e refl)
-    follow_order true s a (order.IndexRow lower n line) e = index_row_follows known s a lower n line e
-    follow_order false s a (order.IndexRow lower n line) e = absurd (wrong_way known s (order.IndexRow lower n line) e refl)
+    follow_order true s a (order.Element lower span line) e = element_follows known s a lower span line e
+    follow_order false s a (order.Element lower span line) e = absurd (wrong_way known s (order.Element lower span line) e refl)
+    follow_order true s a (order.ElementOfTwo lower second width span line) e = element_of_two_follows known s a lower second width span line e
+    follow_order false s a (order.ElementOfTwo lower second width span line) e = absurd (wrong_way known s (order.ElementOfTwo lower second width span line) e refl)
+    follow_order true s a (order.Entry width word span line) e = entry_follows known s a width word span line e
+    follow_order false s a (order.Entry width word span line) e = absurd (wrong_way known s (order.Entry width word span line) e refl)
     follow_order true s a (order.InArea line) e = in_area_follows known s a line e
     follow_order false s a (order.InArea line) e = absurd (wrong_way known s (order.InArea line) e refl)
     follow_order true s a (order.InBounds lower upper line) e = in_bounds_follows known s a lower upper line e

@@ -23,7 +23,7 @@ use Rattle.cw_tmpl.specs.Pieces.{Filling, bytes_with, size_of, target_of, reloca
 use Rattle.cw_tmpl.specs.Mnemonics.{entry_of_table, argument, double, jump_to, jump_if_below, at_bx, load, store, set_word, subtract, both, either, one_of, move, add}
 use Rattle.cw_tmpl.specs.Library.{places_of_entries, entry_place, start_entry, overflow_entry, zero_divisor_entry, address_entry, bounds_entry, switch_entry, enter_entry, read_entry, product_entry, quotient_up_entry, quotient_down_entry, set_variable_entry, add_step_entry, put_variable_entry, exhausted_entry}
 use Rattle.cw_tmpl.specs.Names.{Names, mark_place, label_start, switch_start, procedure_start}
-use Rattle.cw_tmpl.specs.Templates.{template, call_library, call_stop, unless_overflow, checked, call_at_line, on_both, with_word, times, times_if, taken, taken_signed, load_top, store_part, rescale_if, by_routine, product_start, product_down, product, divisor_tested, quotient, row_start, row_end, index_row, in_bounds, branch, distance, jump_near, opposite_of, control_out, return_with, operands_dropped, base_jump, number_compared, mark_words, goal_words, loop_way, switch_pieces, operation, operated, block_pieces, entry_pieces}
+use Rattle.cw_tmpl.specs.Templates.{template, call_library, call_stop, unless_overflow, checked, call_at_line, on_both, with_word, times, times_if, taken, taken_signed, load_top, store_part, rescale_if, by_routine, product_start, product_down, product, divisor_tested, quotient, in_area, index_by, less_bound, plus_word, times_width, base_kept, based, element, in_row, element_of_two, entry, in_bounds, branch, distance, jump_near, opposite_of, control_out, return_with, operands_dropped, base_jump, number_compared, mark_words, goal_words, loop_way, switch_pieces, operation, operated, block_pieces, entry_pieces}
 use Rattle.cw_tmpl.specs.declared.blocks.Simple.{Simple}
 use Rattle.cw_tmpl.specs.declared.blocks.Simple.TheVariants as simple
 use Rattle.cw_tmpl.specs.declared.blocks.Use.{Use}
@@ -363,16 +363,52 @@ module _ (p : OrderProgram) (segment next : ℕ) (value : Filling) (fills : Fill
   unsigned_small (pos n) h = omega (arith, h.sfits)
   unsigned_small (negsuc n) h = omega (arith, h.sfits)
 
-  row_start_fine : (line : ℕ) → line < 65536 → (lower : ℤ) → FitsWord lower → AllFine value (row_start line lower)
-  row_start_fine line small lower fl = ((cx_register, is_ax), (ax_free, ((is_bx, unsigned_small lower fl), ((lit< tt, is_ax, is_bx), stop_fine address_entry line (lit< tt) small))))
+  -- ---- the way to an address
 
-  row_end_fine : (line : ℕ) → line < 65536 → AllFine value (row_end line)
-  row_end_fine line small = ((lit< tt, is_ax, cx_register), stop_fine address_entry line (lit< tt) small)
+  by_number_fine : (op line w : ℕ) → op < 8 → line < 65536 → w < 65536 → AllFine value (index_by op line w)
+  by_number_fine op line w lt small word = ((lt, word), stop_fine address_entry line (lit< tt) small)
 
-  row_fine : (line : ℕ) → line < 65536 → (lower : ℤ) (n : ℕ) → FitsWord lower → n ≤ 32768 → AllFine value (index_row line lower n)
-  row_fine line small lower n fl most =
-      all_fine-append value (row_start line lower) (times address_entry line n ++ row_end line) (row_start_fine line small lower fl)
-      (all_fine-append value (times address_entry line n) (row_end line) (times_fine (n == 32768) address_entry line n (lit< tt) small (omega arith)) (row_end_fine line small))
+  less_fine : (line : ℕ) → line < 65536 → (lower : ℤ) → FitsWord lower → AllFine value (less_bound line lower)
+  less_fine line small (pos zero) fl = tt
+  less_fine line small (pos (suc n)) fl = by_number_fine 5 line (unsigned (pos (suc n))) (lit< tt) small (unsigned_small (pos (suc n)) fl)
+  less_fine line small (negsuc n) fl = by_number_fine 5 line (unsigned (negsuc n)) (lit< tt) small (unsigned_small (negsuc n) fl)
+
+  plus_fine : (line : ℕ) → line < 65536 → (word : ℕ) → word < 32768 → AllFine value (plus_word line word)
+  plus_fine line small zero lt = tt
+  plus_fine line small (suc n) lt = by_number_fine 0 line (suc n) (lit< tt) small (let x : suc n < 65536 = omega arith in x)
+
+  width_fine : (one : Bool) (line width : ℕ) → line < 65536 → width ≤ 32768 → AllFine value (if one then [] else times address_entry line width)
+  width_fine true line width small most = tt
+  width_fine false line width small most = times_fine (width == 32768) address_entry line width (lit< tt) small (omega arith)
+
+  added_fine : (r line : ℕ) → r < 8 → line < 65536 → (qs : List Coded) → AllFine value qs → AllFine value (coded.Whole (add 0 r) ∷ (unless_overflow address_entry line ++ qs))
+  added_fine r line lt small qs fine = ((lit< tt, is_ax, lt), all_fine-append value (unless_overflow address_entry line) qs (stop_fine address_entry line (lit< tt) small) fine)
+
+  area_fine : (line : ℕ) → line < 65536 → AllFine value (in_area line)
+  area_fine line small = ((lit< tt, is_ax, lit< tt), ((lit< tt, lit< tt), call_stop_fine address_entry line (lit< tt) small))
+
+  based_fine : (line : ℕ) → line < 65536 → AllFine value (based line)
+  based_fine line small = added_fine 6 line (lit< tt) small (in_area line) (area_fine line small)
+
+  base_kept_fine : (qs : List Coded) → AllFine value qs → AllFine value (base_kept ++ qs)
+  base_kept_fine qs fine = ((lit< tt, is_ax), (ax_free, fine))
+
+  element_fine : (line : ℕ) → line < 65536 → (lower : ℤ) → FitsWord lower → AllFine value (element line lower)
+  element_fine line small lower fl = base_kept_fine _ (all_fine-append value (less_bound line lower) (based line) (less_fine line small lower fl) (based_fine line small))
+
+  element_of_two_fine : (line : ℕ) → line < 65536 → (lower second : ℤ) (width : ℕ) → FitsWord lower → FitsWord second → width ≤ 32768 → AllFine value (element_of_two line lower second width)
+  element_of_two_fine line small lower second width fl fs most =
+      let ends : List Coded = in_row line ++ based line in
+      let row : List Coded = less_bound line lower ++ (times address_entry line width ++ ends) in
+      let ends_fine : AllFine value ends = added_fine 1 line (lit< tt) small (based line) (based_fine line small) in
+      let row_fine : AllFine value row = all_fine-append value (less_bound line lower) (times address_entry line width ++ ends) (less_fine line small lower fl)
+      (all_fine-append value (times address_entry line width) ends (times_fine (width == 32768) address_entry line width (lit< tt) small (omega arith)) ends_fine) in
+      base_kept_fine _ (all_fine-append value (less_bound line second) (coded.Whole (move 1 0) ∷ coded.Whole (i86.Pop 0) ∷ row) (less_fine line small second fs) ((cx_register, is_ax), (ax_free, row_fine)))
+
+  entry_of_table_fine : (line : ℕ) → line < 65536 → (width word : ℕ) → width ≤ 32768 → word < 32768 → AllFine value (entry line width word)
+  entry_of_table_fine line small width word most lt =
+      base_kept_fine _ (all_fine-append value (times_width line width) (plus_word line word ++ based line) (width_fine (width == 1) line width small most)
+      (all_fine-append value (plus_word line word) (based line) (plus_fine line small word lt) (based_fine line small)))
 
   bounds_fine : (line : ℕ) → line < 65536 → (lower upper : ℤ) → FitsWord lower → FitsWord upper → AllFine value (in_bounds line lower upper)
   bounds_fine line small lower upper fl fu = (
@@ -485,11 +521,10 @@ module _ (p : OrderProgram) (segment next : ℕ) (value : Filling) (fills : Fill
   template_fine names place (order.Take t b) fits = taken_fine t b fits.1.1
   template_fine names place order.Less fits = ((is_bx, is_ax), (ax_free, ((lit< tt, is_ax, is_bx), tt)))
   template_fine names place (order.IndexLess lower line) fits = word_fine address_entry line (unsigned lower) (subtract 0 3) (lit< tt) fits.2 (unsigned_small lower fits.1) (lit< tt, is_ax, is_bx)
-  template_fine names place (order.IndexTimes n line) fits = times_fine (n == 32768) address_entry line n (lit< tt) fits.2 (let f = fits.1 in omega arith)
-  template_fine names place (order.IndexPlus n line) fits = word_fine address_entry line n (add 0 3) (lit< tt) fits.2 (let f = fits.1 in omega arith) (lit< tt, is_ax, is_bx)
-  template_fine names place (order.IndexAdd line) fits = (bx_free, ((lit< tt, is_ax, is_bx), stop_fine address_entry line (lit< tt) fits.2))
-  template_fine names place (order.IndexRow lower n line) fits = row_fine line fits.2 lower n fits.1.0 fits.1.1
-  template_fine names place (order.InArea line) fits = ((lit< tt, is_ax, lit< tt), ((lit< tt, lit< tt), call_stop_fine address_entry line (lit< tt) fits.2))
+  template_fine names place (order.Element lower span line) fits = element_fine line fits.2 lower fits.1
+  template_fine names place (order.ElementOfTwo lower second width span line) fits = element_of_two_fine line fits.2 lower second width fits.1.0 fits.1.1 fits.1.2
+  template_fine names place (order.Entry width word span line) fits = entry_of_table_fine line fits.2 width word fits.1.0 fits.1.1
+  template_fine names place (order.InArea line) fits = area_fine line fits.2
   template_fine names place (order.InBounds lower upper line) fits = bounds_fine line fits.2 lower upper fits.1.0 fits.1.1
   template_fine names place order.ReadByte fits = (library_filled read_entry (lit< tt), tt)
   template_fine names place order.WriteByte fits = (ax_free, (lit< tt, tt))

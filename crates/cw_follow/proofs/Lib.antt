@@ -18,6 +18,7 @@ pub mod Operands
 pub mod Called
 pub mod Bits
 pub mod Addresses
+pub mod Elements
 pub mod Scales
 pub mod Divisions
 pub mod Inputs

@@ -121,7 +121,7 @@ module _ (c : Setting) (memory : List ℤ) (input output : List ℕ) where
             kept = l.kept;
           }
 
-  two_there : {p : Watched} {at : ℕ} (x y : ℤ) (rest : List Operand) → operand_words (Word y ∷ Word x ∷ rest) < level c.acts → LandedWith at true (Word y ∷ Word x ∷ rest) p → Two at x y rest p
+  pub two_there : {p : Watched} {at : ℕ} (x y : ℤ) (rest : List Operand) → operand_words (Word y ∷ Word x ∷ rest) < level c.acts → LandedWith at true (Word y ∷ Word x ∷ rest) p → Two at x y rest p
   two_there {p} {at} x y rest room l = from l.top refl
     where
       from : (top : ℕ) → l.top ≡ top → Two at x y rest p

@@ -1,21 +1,19 @@
 -- The steps of orders on words whose code hangs on their numbers, each of which is a block of its own.
-use Rattle.std.proofs.Common.{◌≡◌, ℕ, zero, suc, ◌+◌, ◌-◌, ◌^◌, Bool, true, false, ℤ, pos, negsuc, ◌*ℤ◌, List, [], ◌∷◌, ◌++◌, length, Some, refl, subst, arith, lit<, lit≤}
+use Rattle.std.proofs.Common.{◌≡◌, ℕ, zero, suc, ◌+◌, ◌-◌, ◌^◌, Bool, true, false, ℤ, pos, negsuc, List, ◌++◌, length, Some, refl, subst, arith, lit<, lit≤}
 use borrow.Author.Tests.{ltb-true}
 use Rattle.std.proofs.lemmas.Bool.{leb-true}
 use Rattle.std.specs.Prelude.{slice_get, nat_le, nat_lt, ◌==◌}
-use Rattle.cw_i86.specs.declared.instr.Instr.TheVariants as i86
-use Rattle.cw_i86.specs.declared.instr.Rm.TheVariants as rms
 use Rattle.cw_unit.specs.Stop.{Running}
 use Rattle.cw_unit.specs.Words.{Words}
-use Rattle.cw_unit.specs.Operation.{perform, Rescale, Multiply, Divide}
+use Rattle.cw_unit.specs.Operation.{perform, Rescale, Multiply, Divide, Indexed, Indexed2, Scaled}
 use Rattle.cw_order.specs.declared.order.Order.{Order}
 use Rattle.cw_order.specs.declared.order.Order.TheVariants as order
-use Rattle.cw_order.specs.OrderChanges.{index, index_row}
+use Rattle.cw_order.specs.OrderChanges.{from_base}
 use Rattle.cw_order.specs.OrderState.{OrderActivation, at}
 use Rattle.cw_tmpl.specs.declared.pieces.Coded.{Coded}
 use Rattle.cw_tmpl.specs.Pieces.{Filling, blanks}
 use Rattle.cw_tmpl.specs.Library.{overflow_entry, zero_divisor_entry, address_entry, product_entry, quotient_down_entry, quotient_up_entry}
-use Rattle.cw_tmpl.specs.Templates.{template, order_size, times_if, row_start, row_end, product_start, rescale_if, product_down}
+use Rattle.cw_tmpl.specs.Templates.{template, order_size, times_if, product_start, rescale_if, product_down}
 use Rattle.cw_tmpl.specs.ReferenceCode.{names_of}
 use Rattle.cw_tmpl.proofs.Sizes.{own_place}
 use Rattle.cw_follow.proofs.Watched.{Watched}
@@ -24,7 +22,8 @@ use Rattle.cw_follow.proofs.States.{Given, Sound}
 use Rattle.cw_follow.proofs.Facts.{not_below}
 use Rattle.cw_follow.proofs.Orders.{Check}
 use Rattle.cw_follow.proofs.Called.{Then}
-use Rattle.cw_follow.proofs.Addresses.{CheckThen, times_code, test_place, indexes_times, indexes_row}
+use Rattle.cw_follow.proofs.Addresses.{times_code, test_place}
+use Rattle.cw_follow.proofs.Elements.{forms_element, forms_element_of_two, forms_entry}
 use Rattle.cw_follow.proofs.Scales.{rescales_up, rescales_down, products, products_up, products_down, products_far_down}
 use Rattle.cw_follow.proofs.Divisions.{divides_up, divides_down}
 use Rattle.cw_follow.proofs.Steps.{Follow, Alone, step_is, does, by, calls, setting, cheap, has_code, line_fits, low_room, here, next, code, behind, begins_next, above}
@@ -36,13 +35,6 @@ module _ (image : List ℕ) (value : Filling) (begin entry line n : ℕ) where
   times_check true h = h
   times_check false h = h
 
-  -- in a row, the sum with the place in it behind
-  times_row : (b : Bool) → HasPieces image value begin (times_if b entry line n ++ row_end line)
-      → Then image begin (times_code b n) (λ k. CheckThen image k (value 7 entry 0 (test_place b begin + 2 + 3)) line (λ k.
-      Then image k (i86.AluRm 0 true true 0 (rms.Reg 1) ∷ []) (λ k. Check image k (value 7 address_entry 0 (test_place b begin + 2 + 3 + 2 + 2 + 2 + 3)) line)))
-  times_row true h = h
-  times_row false h = h
-
 times_ends : (begin entry line n to : ℕ) (b : Bool) → begin + length (blanks (times_if b entry line n)) ≡ to → test_place b begin + 2 + 3 + 2 ≡ to
 times_ends begin entry line n to true e = omega arith
 times_ends begin entry line n to false e = omega arith
@@ -50,11 +42,6 @@ times_ends begin entry line n to false e = omega arith
 scaled_ends : (begin line n to : ℕ) (b : Bool) → begin + length (blanks (product_start line ++ times_if b overflow_entry line n)) ≡ to → test_place b (begin + 1 + 2 + 2 + 3 + 2) + 2 + 3 + 2 ≡ to
 scaled_ends begin line n to true e = omega arith
 scaled_ends begin line n to false e = omega arith
-
-row_ends : (begin line : ℕ) (lower : ℤ) (n to : ℕ) (b : Bool) → begin + length (blanks (row_start line lower ++ (times_if b address_entry line n ++ row_end line))) ≡ to
-    → test_place b (begin + 2 + 1 + 3 + 2 + 2 + 3 + 2) + 2 + 3 + 2 + 2 + 2 + 3 + 2 ≡ to
-row_ends begin line lower n to true e = omega arith
-row_ends begin line lower n to false e = omega arith
 
 module _ (known : Given) where
   open known use {rows, p, image, all, coded, few, low}
@@ -162,29 +149,27 @@ module _ (known : Given) where
         (behind known s a o e) (has_code known s o e) (calls known s zero_divisor_entry b (lit< tt)) (calls known s quotient_down_entry c (lit< tt)) (calls known s overflow_entry d (lit< tt)) (low_room known s) s.fits.operands
         (code known s a o e) a.landed)
 
-    -- ---- indexes
+    -- ---- elements and entries
 
-    pub index_times_follows : (n line : ℕ) → slice_get s.orders.list place ≡ Some (order.IndexTimes n line) → Follow known (at g place true acts w Running) q
-    index_times_follows n line e =
-        let o = order.IndexTimes n line in
-        let b = n == 32768 in
-        let c = test_place b (here known s a) + 2 + 3 in
-        does known s true line (index (λ i. i *ℤ pos n) w) 17 (begins_next known s a o e) (step_is known s (Some o) e) (cheap known s o 17 (lit≤ tt) e)
-        (indexes_times (setting known s) w.memory w.input w.output b (next known s a) (by known s address_entry c) line n w.operands (line_fits known s o e) refl (has_code known s o e)
-        (times_ends (here known s a) address_entry line n (next known s a) b (behind known s a o e)) (calls known s address_entry c (lit< tt)) (low_room known s) s.fits.operands
-        (times_check image words_of (here known s a) address_entry line n b (code known s a o e)) a.landed)
+    pub element_follows : (lower : ℤ) (span line : ℕ) → slice_get s.orders.list place ≡ Some (order.Element lower span line) → Follow known (at g place true acts w Running) q
+    element_follows lower span line e =
+        let o = order.Element lower span line in
+        does known s true line (from_base p.limits.area (λ base. Indexed base lower) w) 21 (begins_next known s a o e) (step_is known s (Some o) e) (cheap known s o 21 (lit≤ tt) e)
+        (forms_element (setting known s) w.memory w.input w.output words_of (next known s a) line (line_fits known s o e) (λ k. calls known s address_entry k (lit< tt)) lower w.operands
+        (has_code known s o e) (low_room known s) s.fits.operands (record { stands = code known s a o e; ends = behind known s a o e }) a.landed)
 
-    pub index_row_follows : (lower : ℤ) (n line : ℕ) → slice_get s.orders.list place ≡ Some (order.IndexRow lower n line) → Follow known (at g place true acts w Running) q
-    index_row_follows lower n line e =
-        let o = order.IndexRow lower n line in
-        let bounds = has_code known s o e in
-        let t = n == 32768 in
-        let b = here known s a + 2 + 1 + 3 + 2 + 2 + 3 in
-        let c = test_place t (b + 2) + 2 + 3 in
-        let d = c + 2 + 2 + 2 + 3 in
-        let h = code known s a o e in
-        does known s true line (index_row lower n w) 34 (begins_next known s a o e) (step_is known s (Some o) e) (cheap known s o 34 (lit≤ tt) e)
-        (indexes_row (setting known s) w.memory w.input w.output t (next known s a) (by known s address_entry b) (by known s address_entry c) (by known s address_entry d) line lower n w.operands
-        (line_fits known s o e) refl bounds.1 bounds.0 (row_ends (here known s a) line lower n (next known s a) t (behind known s a o e))
-        (calls known s address_entry b (lit< tt)) (calls known s address_entry c (lit< tt)) (calls known s address_entry d (lit< tt)) (low_room known s) s.fits.operands
-        (h.0, (h.1.0, (h.1.1.0, (h.1.1.1.0, (h.1.1.1.1.0, (h.1.1.1.1.1.0, (h.1.1.1.1.1.1.0, times_row image words_of (b + 2) address_entry line n t h.1.1.1.1.1.1.1))))))) a.landed)
+    pub element_of_two_follows : (lower second : ℤ) (width span line : ℕ) → slice_get s.orders.list place ≡ Some (order.ElementOfTwo lower second width span line) → Follow known (at g place true acts w Running) q
+    element_of_two_follows lower second width span line e =
+        let o = order.ElementOfTwo lower second width span line in
+        let h = has_code known s o e in
+        does known s true line (from_base p.limits.area (λ base. Indexed2 base lower second width) w) 31 (begins_next known s a o e) (step_is known s (Some o) e) (cheap known s o 31 (lit≤ tt) e)
+        (forms_element_of_two (setting known s) w.memory w.input w.output words_of (next known s a) line (line_fits known s o e) (λ k. calls known s address_entry k (lit< tt)) lower second width w.operands
+        h.0 h.1 h.2 (low_room known s) s.fits.operands (record { stands = code known s a o e; ends = behind known s a o e }) a.landed)
+
+    pub entry_follows : (width word span line : ℕ) → slice_get s.orders.list place ≡ Some (order.Entry width word span line) → Follow known (at g place true acts w Running) q
+    entry_follows width word span line e =
+        let o = order.Entry width word span line in
+        let h = has_code known s o e in
+        does known s true line (from_base p.limits.area (λ base. Scaled base width word) w) 25 (begins_next known s a o e) (step_is known s (Some o) e) (cheap known s o 25 (lit≤ tt) e)
+        (forms_entry (setting known s) w.memory w.input w.output words_of (next known s a) line (line_fits known s o e) (λ k. calls known s address_entry k (lit< tt)) width word w.operands
+        h.0 h.1 (low_room known s) s.fits.operands (record { stands = code known s a o e; ends = behind known s a o e }) a.landed)

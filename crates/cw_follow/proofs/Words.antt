@@ -1,17 +1,17 @@
 -- The steps of orders on words, each of which is a block of its own.
-use Rattle.std.proofs.Common.{◌≡◌, ℕ, ◌+◌, ◌<◌, ◌≤◌, Bool, true, false, inl, ℤ, pos, ◌+ℤ◌, ◌-ℤ◌, List, [], ◌∷◌, Some, None, refl, sym, ap, ◌∙◌, subst, arith, lit<, lit≤}
+use Rattle.std.proofs.Common.{◌≡◌, ℕ, ◌+◌, ◌<◌, ◌≤◌, Bool, true, false, inl, ℤ, ◌-ℤ◌, List, [], ◌∷◌, Some, None, refl, sym, ap, ◌∙◌, subst, arith, lit<, lit≤}
 use Rattle.std.specs.Prelude.{slice_get, bit_and, bit_or, bit_xor}
 use Rattle.cw_i86.specs.declared.instr.Instr.TheVariants as i86
 use Rattle.cw_i86.specs.declared.instr.Imm.TheVariants as imm
 use Rattle.cw_run86.specs.Views.{Has}
 use Rattle.cw_word.specs.Word.{signed, unsigned, word_difference}
 use Rattle.cw_unit.specs.declared.unit.LogicOp.TheVariants as logic
-use Rattle.cw_unit.specs.Stop.{Running, Stuck, AddressRange}
+use Rattle.cw_unit.specs.Stop.{Running, Stuck}
 use Rattle.cw_unit.specs.Words.{Operand, Word, Held, Words, Outcome, Changed, Refused, Impossible, put, on_one, with_operands}
 use Rattle.cw_unit.specs.Operation.{Fetch, Store, StoreBits, Add, Subtract, Negate, Combine, Extract, Form, Taken, InBounds, WriteByte, ReadByte, perform}
 use Rattle.cw_order.specs.declared.order.Order.{Order}
 use Rattle.cw_order.specs.declared.order.Order.TheVariants as order
-use Rattle.cw_order.specs.OrderChanges.{difference, index, index_sum}
+use Rattle.cw_order.specs.OrderChanges.{difference, index}
 use Rattle.cw_order.specs.OrderState.{OrderActivation, at}
 use Rattle.cw_order.specs.OrderActions.{home_word}
 use Rattle.cw_order.specs.OrderCosts.{weight_of}
@@ -24,7 +24,7 @@ use Rattle.cw_follow.proofs.States.{Given, Sound, went_on, never_on, not_stuck}
 use Rattle.cw_follow.proofs.Straight.{Both, Either, One}
 use Rattle.cw_follow.proofs.Operands.{words}
 use Rattle.cw_follow.proofs.Bits.{drops, combines, differs, ands, ors, xors, lesses, takes, loads_signed, loads_unsigned, stores_part}
-use Rattle.cw_follow.proofs.Addresses.{sums, indexes_less, indexes_plus, in_areas, bounds_kept}
+use Rattle.cw_follow.proofs.Addresses.{indexes_less, in_areas, bounds_kept}
 use Rattle.cw_follow.proofs.Inputs.{reads}
 use Rattle.cw_follow.proofs.Steps.{Follow, Alone, leads_to, onward, few_segments, order_is, step_is, sound_at, does, tells, by, calls, setting, cheap, has_code, line_fits, low_room, here, next, code, behind, begins_next, silent}
 
@@ -209,22 +209,6 @@ module _ (known : Given) where
         does known s true line (index (λ i. i -ℤ lower) w) 16 (begins_next known s a o e) (step_is known s (Some o) e) (cheap known s o 16 (lit≤ tt) e)
         (indexes_less (setting known s) w.memory w.input w.output (next known s a) (by known s address_entry c) line lower w.operands (line_fits known s o e) (behind known s a o e)
         (calls known s address_entry c (lit< tt)) (has_code known s o e) (low_room known s) s.fits.operands (code known s a o e) a.landed)
-
-    pub index_plus_follows : (n line : ℕ) → slice_get s.orders.list place ≡ Some (order.IndexPlus n line) → Follow known (at g place true acts w Running) q
-    index_plus_follows n line e =
-        let o = order.IndexPlus n line in
-        let c = here known s a + 3 + 2 + 2 + 3 in
-        does known s true line (index (λ i. i +ℤ pos n) w) 16 (begins_next known s a o e) (step_is known s (Some o) e) (cheap known s o 16 (lit≤ tt) e)
-        (indexes_plus (setting known s) w.memory w.input w.output (next known s a) (by known s address_entry c) line n w.operands (line_fits known s o e) (behind known s a o e)
-        (calls known s address_entry c (lit< tt)) (has_code known s o e) (low_room known s) s.fits.operands (code known s a o e) a.landed)
-
-    pub index_add_follows : (line : ℕ) → slice_get s.orders.list place ≡ Some (order.IndexAdd line) → Follow known (at g place true acts w Running) q
-    index_add_follows line e =
-        let o = order.IndexAdd line in
-        let c = here known s a + 1 + 2 + 2 + 3 in
-        does known s true line (index_sum w) 16 (begins_next known s a o e) (step_is known s (Some o) e) (cheap known s o 16 (lit≤ tt) e)
-        (sums (setting known s) w.memory w.input w.output AddressRange (next known s a) (by known s address_entry c) line w.operands tt (line_fits known s o e) (behind known s a o e)
-        (calls known s address_entry c (lit< tt)) (low_room known s) s.fits.operands (code known s a o e) a.landed)
 
     pub in_area_follows : (line : ℕ) → slice_get s.orders.list place ≡ Some (order.InArea line) → Follow known (at g place true acts w Running) q
     in_area_follows line e =
