@@ -1,5 +1,5 @@
 -- The processor follows the machine of the orders.
-use Rattle.std.proofs.Common.{◌≡◌, inl, inr, ℕ, zero, suc, ◌+◌, ◌≤◌, Bool, true, false, pos, List, [], ◌∷◌, length, drop, Option, Some, None, refl, sym, ap, ◌∙◌, subst, arith, lit<, lit≤}
+use Rattle.std.proofs.Common.{◌≡◌, inl, inr, ℕ, zero, suc, ◌+◌, ◌≤◌, Bool, true, false, pos, List, [], ◌∷◌, ◌++◌, length, drop, Option, Some, None, refl, sym, ap, ◌∙◌, subst, arith, lit<, lit≤}
 use Rattle.std.specs.Prelude.{slice_get, slice_index}
 use Rattle.std.proofs.lemmas.Bool.{true≢false, false≢true}
 use Rattle.cw_track.specs.Watching.{watched}
@@ -22,13 +22,16 @@ use Rattle.cw_order.specs.OrderState.{OrderActivation, OrderState, at}
 use Rattle.cw_order.specs.OrderMachine.{step, weight, shown, order_machine}
 use Rattle.cw_order.specs.OrderProgram.{defined_at}
 use Rattle.cw_order.specs.Starting.{starts, started_by}
+use Rattle.cw_tmpl.specs.declared.blocks.Place.{Place}
+use Rattle.cw_tmpl.specs.declared.blocks.Place.TheVariants as cell
+use Rattle.cw_tmpl.specs.declared.blocks.Simple.{Simple}
 use Rattle.cw_tmpl.specs.declared.blocks.Simple.TheVariants as simple
 use Rattle.cw_tmpl.specs.declared.blocks.Block.{Block}
 use Rattle.cw_tmpl.specs.declared.blocks.Block.TheVariants as block
 use Rattle.cw_tmpl.specs.declared.blocks.Use.{Use}
 use Rattle.cw_tmpl.specs.declared.blocks.Use.TheVariants as uses
 use Rattle.cw_tmpl.specs.Mnemonics.{nothing}
-use Rattle.cw_tmpl.specs.Blocks.{block_at, orders_left}
+use Rattle.cw_tmpl.specs.Blocks.{address_orders, operand_orders, order_of, block_at, orders_left}
 use Rattle.cw_tmpl.specs.Names.{label_start, procedure_start, switch_start}
 use Rattle.cw_tmpl.specs.Templates.{distance}
 use Rattle.cw_tmpl.specs.ReferenceCode.{mark_starts, names_of, order_places}
@@ -41,7 +44,8 @@ use Rattle.cw_follow.proofs.Passed.{listed_place, notes_one}
 use Rattle.cw_follow.proofs.Standing.{order_place}
 use Rattle.cw_follow.proofs.Chains.{Leads, at_work as works, below, shows}
 use Rattle.cw_follow.proofs.Orders.{idles, jumps, chooses}
-use Rattle.cw_follow.proofs.InBlocks.{Shape, shape, order_of, slice_drop}
+use Rattle.cw_tmpl.proofs.Shapes.{IsBlock, shape}
+use Rattle.cw_follow.proofs.InBlocks.{slice_drop, Each, each_of_both, one_of_these}
 use Rattle.cw_follow.proofs.States.{Given, Sound, Matches, left}
 use Rattle.cw_follow.proofs.Steps.{Follow, order_is, step_is, weight_is, stuck_here, wrong_way, sound_at, start, chosen, Alone, alone, code, behind, begins_next, silent, two_roomy}
 use Rattle.cw_follow.proofs.Bodies.{ends_or_not}
@@ -53,8 +57,8 @@ use Rattle.cw_follow.proofs.Switching.{switches_own, switches_by_descriptor}
 use Rattle.cw_follow.proofs.Within.{frame_home, bind_static, bind_frame, come_back, enter_again, hand_on, call_special, go_special, switch_special}
 use Rattle.cw_follow.proofs.WordOrders.{rescale_follows, multiply_follows, divide_follows, element_follows, element_of_two_follows, entry_follows}
 use Rattle.cw_follow.proofs.Words.{save_follows, const_follows, home_follows, load_follows, store_follows, load_part_follows, store_part_follows, add_follows, subtract_follows, negate_follows, and_follows, or_follows, xor_follows, take_follows, less_follows, drop_follows, index_less_follows, in_area_follows, in_bounds_follows, read_follows, write_follows}
-use Rattle.cw_follow.proofs.BlockOrders.{fetch_follows, assign_follows, number_follows, divide_number_follows, variable_follows, within_block, write_top_follows}
-use Rattle.cw_follow.proofs.FrameBlocks.{fetch_frame_follows, assign_frame_follows}
+use Rattle.cw_follow.proofs.BlockOrders.{fetch_follows, assign_follows, divide_number_follows, within_block, write_top_follows}
+use Rattle.cw_follow.proofs.UseBlocks.{operate_follows}
 
 -- ---- orders at which nothing is noted
 
@@ -62,22 +66,24 @@ abbrev plain : Order → Bool
 plain (order.Start n) = false
 plain _ = true
 
--- the orders of a list up to one are so
-abbrev PlainTo : ℕ → List Order → Type 0
-PlainTo n [] = Unit {0}
-PlainTo zero (o ∷ os) = plain o ≡ true
-PlainTo (suc n) (o ∷ os) = (plain o ≡ true) × PlainTo n os
+abbrev IsPlain : Order → Type 0
+IsPlain o = plain o ≡ true
 
-plain_at : (n k : ℕ) (os : List Order) (o : Order) → PlainTo n os → k ≤ n → slice_get os k ≡ Some o → plain o ≡ true
-plain_at n k [] o h le e = absurd (cc)
-plain_at zero zero (x ∷ xs) o h le e = let same : x ≡ o = cc in subst (λ y. plain y ≡ true) same h
-plain_at zero (suc k) (x ∷ xs) o h le e = absurd (omega arith)
-plain_at (suc n) zero (x ∷ xs) o h le e = let same : x ≡ o = cc in subst (λ y. plain y ≡ true) same h.0
-plain_at (suc n) (suc k) (x ∷ xs) o h le e = plain_at n k xs o h.1 (omega arith) e
+place_plain : (x : Place) → Each IsPlain (address_orders x)
+place_plain (cell.Word f n) = (refl, tt)
+place_plain (cell.Frame n) = (refl, tt)
 
-use_plain : (u : Use) → plain (order_of u) ≡ true
+operand_plain : (s : Simple) → Each IsPlain (operand_orders s)
+operand_plain (simple.Number w) = (refl, tt)
+operand_plain (simple.Contents x) = each_of_both IsPlain (address_orders x) (order.Load ∷ []) (place_plain x) (refl, tt)
+
+use_plain : (u : Use) → IsPlain (order_of u)
 use_plain (uses.Add line) = refl
 use_plain (uses.Subtract line) = refl
+use_plain (uses.Multiply line) = refl
+use_plain uses.Mask = refl
+use_plain uses.Union = refl
+use_plain uses.Differ = refl
 use_plain (uses.Compare c m) = refl
 
 quiet_parts : {O E : Type 0} (a b : O) (o : O × List E) → Quiet (a, []) (b, []) o → Unnoted (Quiet a b) o
@@ -144,8 +150,11 @@ module _ (known : Given) where
     noted_order (order.Start n) e f = f
     noted_order o e f = quietly (at g place loaded acts w Running) q (ap (λ x. started_by x g w) (order_is known s (Some o) e)) f
 
-    in_block : (n : ℕ) (os : List Order) (o : Order) → slice_get s.orders.list place ≡ Some o → drop s.from s.orders.list ≡ os → PlainTo n os → s.done ≤ n → plain o ≡ true
-    in_block n os o e is h le = plain_at n s.done os o h le (ap (λ l. slice_get l s.done) (sym is) ∙ slice_drop s.orders.list s.from s.done ∙ ap (slice_get s.orders.list) s.place_is ∙ e)
+    -- an order of a block, whose orders are all so
+    in_block : (b : Block) (before : List Order) (last : Order) (rest : List Order) (o : Order) → slice_get s.orders.list place ≡ Some o → drop s.from s.orders.list ≡ before ++ last ∷ rest → s.done ≤ length before
+        → Each IsPlain before → IsPlain last → plain o ≡ true
+    in_block b before last rest o e is le each ends =
+        one_of_these IsPlain before last o rest s.done each ends le (ap (λ l. slice_get l s.done) (sym is) ∙ slice_drop s.orders.list s.from s.done ∙ ap (slice_get s.orders.list) s.place_is ∙ e)
 
   module _ {q : Processor} {g place : ℕ} {acts : List OrderActivation} {w : Words} where
     -- an order, where the accumulator is as it wants it; where it is the other way the orders would be stuck
@@ -293,28 +302,21 @@ module _ (known : Given) where
     follow_order false s a (order.GoSwitchSpecial k line) e = absurd (wrong_way known s (order.GoSwitchSpecial k line) e refl)
 
   module _ {q : Processor} {g place : ℕ} {loaded : Bool} {acts : List OrderActivation} {w : Words} (s : Sound p image g place loaded acts w (watch q)) where
-    within : (b : Block) (n : ℕ) (os : List Order) (o : Order) → slice_get s.orders.list place ≡ Some o → block_at 0 (drop s.from s.orders.list) ≡ b → orders_left b ≡ n → drop s.from s.orders.list ≡ os → PlainTo n os → (s.done ≤ n → Follow known (at g place loaded acts w Running) (watch q)) → Carried (at g place loaded acts w Running) q o
-    within b n os o e is left shaped h f = let le = within_block known s b n is left in carried (at g place loaded acts w Running) q o (in_block s n os o e shaped h le) (f le)
+    several : (b : Block) (before : List Order) (last : Order) (rest : List Order) (o : Order) → slice_get s.orders.list place ≡ Some o → drop s.from s.orders.list ≡ before ++ last ∷ rest → block_at 0 (drop s.from s.orders.list) ≡ b
+        → orders_left b ≡ length before → Each IsPlain before → IsPlain last → Follow known (at g place loaded acts w Running) (watch q) → Carried (at g place loaded acts w Running) q o
+    several b before last rest o e is block_is many each ends f =
+        carried (at g place loaded acts w Running) q o (in_block s b before last rest o e is (within_block known s b (length before) block_is many) each ends) f
 
-    follow_block : (b : Block) (o : Order) → slice_get s.orders.list place ≡ Some o → block_at 0 (drop s.from s.orders.list) ≡ b → Shape b (drop s.from s.orders.list) → Carried (at g place loaded acts w Running) q o
+    follow_block : (b : Block) (o : Order) → slice_get s.orders.list place ≡ Some o → block_at 0 (drop s.from s.orders.list) ≡ b → IsBlock b (drop s.from s.orders.list) → Carried (at g place loaded acts w Running) q o
     follow_block (block.Within n) o e is sh = absurd sh
     follow_block block.Single o e is sh = follow_order loaded s (alone known s is) o e
-    follow_block (block.Fetch f n) o e is sh =
-        within (block.Fetch f n) 1 (order.Home f n ∷ order.Load ∷ sh.0) o e is refl sh.1 (refl, refl) (λ le. fetch_follows known s f n s.done sh.0 refl le sh.1 is)
-    follow_block (block.Assign f n) o e is sh =
-        within (block.Assign f n) 2 (order.Save ∷ order.Home f n ∷ order.Store ∷ sh.0) o e is refl sh.1 (refl, (refl, refl)) (λ le. assign_follows known s f n s.done sh.0 refl le sh.1 is)
-    follow_block (block.FetchFrame n) o e is sh =
-        within (block.FetchFrame n) 1 (order.FrameHome n ∷ order.Load ∷ sh.0) o e is refl sh.1 (refl, refl) (λ le. fetch_frame_follows known s n s.done sh.0 refl le sh.1 is)
-    follow_block (block.AssignFrame n) o e is sh =
-        within (block.AssignFrame n) 2 (order.Save ∷ order.FrameHome n ∷ order.Store ∷ sh.0) o e is refl sh.1 (refl, (refl, refl)) (λ le. assign_frame_follows known s n s.done sh.0 refl le sh.1 is)
-    follow_block block.Write o e is sh =
-        within block.Write 1 (order.Save ∷ order.WriteByte ∷ sh.0) o e is refl sh.1 (refl, refl) (λ le. write_top_follows known s s.done sh.0 refl le sh.1 is)
-    follow_block (block.Divide x) o e is sh =
-        within (block.Divide x) 2 (order.Save ∷ order.Const x ∷ order.Div (pos zero) sh.0 ∷ sh.1) o e is refl sh.3 (refl, (refl, refl)) (λ le. divide_number_follows known s x sh.0 s.done sh.1 refl le sh.3 sh.2 is)
-    follow_block (block.Operate (simple.Number x) u) o e is sh =
-        within (block.Operate (simple.Number x) u) 2 (order.Save ∷ order.Const x ∷ order_of u ∷ sh.0) o e is refl sh.1 (refl, (refl, use_plain u)) (λ le. number_follows known s x u s.done sh.0 refl le sh.1 is)
-    follow_block (block.Operate (simple.Variable f n) u) o e is sh =
-        within (block.Operate (simple.Variable f n) u) 3 (order.Save ∷ order.Home f n ∷ order.Load ∷ order_of u ∷ sh.0) o e is refl sh.1 (refl, (refl, (refl, use_plain u))) (λ le. variable_follows known s f n u s.done sh.0 refl le sh.1 is)
+    follow_block (block.Fetch x) o e is sh = several (block.Fetch x) (address_orders x) order.Load _ o e sh is refl (place_plain x) refl (fetch_follows known s x _ sh is)
+    follow_block (block.Assign x) o e is sh = several (block.Assign x) (order.Save ∷ address_orders x) order.Store _ o e sh is refl (refl, place_plain x) refl (assign_follows known s x _ sh is)
+    follow_block block.Write o e is sh = several block.Write (order.Save ∷ []) order.WriteByte _ o e sh is refl (refl, tt) refl (write_top_follows known s _ sh is)
+    follow_block (block.Divide x line) o e is sh =
+        several (block.Divide x line) (order.Save ∷ order.Const x ∷ []) (order.Div (pos zero) line) _ o e sh.0 is refl (refl, (refl, tt)) refl (divide_number_follows known s x line _ sh.0 sh.1 is)
+    follow_block (block.Operate x u) o e is sh =
+        several (block.Operate x u) (order.Save ∷ operand_orders x) (order_of u) _ o e sh is refl (refl, operand_plain x) (use_plain u) (operate_follows known s x u _ sh is)
 
     follow_place : (o : Option Order) → slice_get s.orders.list place ≡ o → Noting (at g place loaded acts w Running) q
     follow_place None e = absurd (stuck_here known s (step_is known s None e))

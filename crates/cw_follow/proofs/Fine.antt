@@ -20,17 +20,20 @@ use Rattle.cw_tmpl.specs.declared.pieces.Target.TheVariants as target
 use Rattle.cw_tmpl.specs.declared.pieces.Coded.{Coded}
 use Rattle.cw_tmpl.specs.declared.pieces.Coded.TheVariants as coded
 use Rattle.cw_tmpl.specs.Pieces.{Filling, bytes_with, size_of, target_of, relocation_of, word_of, word_before, filled}
-use Rattle.cw_tmpl.specs.Mnemonics.{entry_of_table, argument, double, jump_to, jump_if_below, at_bx, load, store, set_word, subtract, both, either, one_of, move, add}
+use Rattle.cw_tmpl.specs.Mnemonics.{entry_of_table, argument, double, jump_to, jump_if_below, at_bx, load, store, set_word, subtract, both, either, one_of, move, add, multiply}
 use Rattle.cw_tmpl.specs.Library.{places_of_entries, entry_place, start_entry, overflow_entry, zero_divisor_entry, address_entry, bounds_entry, switch_entry, enter_entry, read_entry, product_entry, quotient_up_entry, quotient_down_entry, set_variable_entry, add_step_entry, put_variable_entry, exhausted_entry}
 use Rattle.cw_tmpl.specs.Names.{Names, mark_place, label_start, switch_start, procedure_start}
-use Rattle.cw_tmpl.specs.Templates.{template, call_library, call_stop, unless_overflow, checked, call_at_line, on_both, with_word, times, times_if, taken, taken_signed, load_top, store_part, rescale_if, by_routine, product_start, product_down, product, divisor_tested, quotient, in_area, index_by, less_bound, plus_word, times_width, base_kept, based, element, in_row, element_of_two, entry, in_bounds, branch, distance, jump_near, opposite_of, control_out, return_with, operands_dropped, base_jump, number_compared, mark_words, goal_words, loop_way, switch_pieces, operation, operated, block_pieces, entry_pieces}
+use Rattle.cw_tmpl.specs.Templates.{template, call_library, call_stop, unless_overflow, checked, call_at_line, on_both, with_word, times, times_if, taken, taken_signed, load_top, store_part, rescale_if, by_routine, product_start, product_down, product, divisor_tested, quotient, in_area, index_by, less_bound, plus_word, times_width, base_kept, based, element, in_row, element_of_two, entry, in_bounds, branch, distance, jump_near, opposite_of, control_out, return_with, operands_dropped, base_jump, number_compared, mark_words, goal_words, loop_way, switch_pieces, address_pieces, load_place, store_place, operate_place, with_operand, product_with, pieces_size, operated, block_pieces, entry_pieces}
+use Rattle.cw_tmpl.specs.declared.blocks.Place.{Place}
+use Rattle.cw_tmpl.specs.declared.blocks.Place.TheVariants as cell
 use Rattle.cw_tmpl.specs.declared.blocks.Simple.{Simple}
 use Rattle.cw_tmpl.specs.declared.blocks.Simple.TheVariants as simple
 use Rattle.cw_tmpl.specs.declared.blocks.Use.{Use}
 use Rattle.cw_tmpl.specs.declared.blocks.Use.TheVariants as uses
 use Rattle.cw_tmpl.specs.declared.blocks.Block.{Block}
 use Rattle.cw_tmpl.specs.declared.blocks.Block.TheVariants as block
-use Rattle.cw_tmpl.specs.Blocks.{use_of, is_plain_divisor, after_saved_const, with_variable, after_saved_home, after_saved_frame_home, after_save, after_home, after_frame_home, block_at}
+use Rattle.cw_tmpl.specs.Blocks.{operand_orders, order_of, block_at}
+use Rattle.cw_tmpl.proofs.Shapes.{IsBlock, shape}
 use Rattle.cw_tmpl.specs.ReferenceCode.{names_of}
 use Rattle.cw_follow.specs.Placing.{Fills, base_of, definition_place}
 use Rattle.cw_follow.proofs.Stacks.{start_small}
@@ -130,81 +133,43 @@ OrderFits o = NumberFits o × HasCode o × (line_of o < 65536)
 -- and those in a block
 abbrev pub SimpleFits : Simple → Type 0
 SimpleFits (simple.Number w) = w < 65536
-SimpleFits (simple.Variable f n) = Unit {0}
-
-abbrev pub UseFits : Use → Type 0
-UseFits (uses.Add line) = line < 65536
-UseFits (uses.Subtract line) = line < 65536
-UseFits (uses.Compare c m) = Unit {0}
+SimpleFits (simple.Contents x) = Unit {0}
 
 abbrev pub BlockFits : Block → Order → Type 0
-BlockFits (block.Within n) o = Unit {0}
 BlockFits block.Single o = OrderFits o
-BlockFits (block.Fetch f n) o = Unit {0}
-BlockFits (block.Assign f n) o = Unit {0}
-BlockFits (block.FetchFrame n) o = Unit {0}
-BlockFits (block.AssignFrame n) o = Unit {0}
-BlockFits block.Write o = Unit {0}
-BlockFits (block.Divide w) o = w < 65536
-BlockFits (block.Operate s u) o = SimpleFits s × UseFits u
+BlockFits (block.Divide w line) o = w < 65536
+BlockFits (block.Operate s u) o = SimpleFits s × (line_of (order_of u) < 65536)
+BlockFits _ o = Unit {0}
 
 -- the numbers of all orders of a list
 abbrev pub AllFit : List Order → Type 0
 AllFit list = (k : ℕ) (o : Order) → slice_get list k ≡ Some o → OrderFits o
 
-quotient_fits : (b : Bool) (w : ℕ) (os : List Order) → AllFit (order.Save ∷ order.Const w ∷ os) → BlockFits (if b then block.Divide w else block.Single) order.Save
-quotient_fits true w os fits = (fits 1 (order.Const w) refl).0
-quotient_fits false w os fits = fits 0 order.Save refl
-
-use_fits : (w : ℕ) (os : List Order) → AllFit (order.Save ∷ order.Const w ∷ os) → BlockFits (after_saved_const w (slice_get os 0)) order.Save
-use_fits w [] fits = fits 0 order.Save refl
-use_fits w (order.Add line ∷ os) fits = ((fits 1 (order.Const w) refl).0, (fits 2 (order.Add line) refl).2)
-use_fits w (order.Sub line ∷ os) fits = ((fits 1 (order.Const w) refl).0, (fits 2 (order.Sub line) refl).2)
-use_fits w (order.JumpIf c m ∷ os) fits = ((fits 1 (order.Const w) refl).0, tt)
-use_fits w (order.Div (pos zero) line ∷ os) fits = quotient_fits (is_plain_divisor w) w (order.Div (pos zero) line ∷ os) fits
-use_fits w (x ∷ os) fits = fits 0 order.Save refl
-
-variable_fits : (f n : ℕ) (os : List Order) → AllFit (order.Save ∷ order.Home f n ∷ order.Load ∷ os) → BlockFits (with_variable f n (use_of (slice_get os 0))) order.Save
-variable_fits f n [] fits = fits 0 order.Save refl
-variable_fits f n (order.Add line ∷ os) fits = (tt, (fits 3 (order.Add line) refl).2)
-variable_fits f n (order.Sub line ∷ os) fits = (tt, (fits 3 (order.Sub line) refl).2)
-variable_fits f n (order.JumpIf c m ∷ os) fits = (tt, tt)
-variable_fits f n (x ∷ os) fits = fits 0 order.Save refl
-
-saved_home_fits : (f n : ℕ) (os : List Order) → AllFit (order.Save ∷ order.Home f n ∷ os) → BlockFits (after_saved_home f n (slice_get os 0) (slice_get os 1)) order.Save
-saved_home_fits f n [] fits = fits 0 order.Save refl
-saved_home_fits f n (order.Load ∷ os) fits = variable_fits f n os fits
-saved_home_fits f n (order.Store ∷ os) fits = tt
-saved_home_fits f n (x ∷ os) fits = fits 0 order.Save refl
-
-saved_frame_fits : (n : ℕ) (os : List Order) → AllFit (order.Save ∷ order.FrameHome n ∷ os) → BlockFits (after_saved_frame_home n (slice_get os 0)) order.Save
-saved_frame_fits n [] fits = fits 0 order.Save refl
-saved_frame_fits n (order.Store ∷ os) fits = tt
-saved_frame_fits n (x ∷ os) fits = fits 0 order.Save refl
-
-save_fits : (os : List Order) → AllFit (order.Save ∷ os) → BlockFits (after_save (slice_get os 0) (slice_get os 1) (slice_get os 2)) order.Save
-save_fits [] fits = fits 0 order.Save refl
-save_fits (order.Const w ∷ os) fits = use_fits w os fits
-save_fits (order.Home f n ∷ os) fits = saved_home_fits f n os fits
-save_fits (order.FrameHome n ∷ os) fits = saved_frame_fits n os fits
-save_fits (order.WriteByte ∷ os) fits = tt
-save_fits (x ∷ os) fits = fits 0 order.Save refl
-
-home_fits : (f n : ℕ) (os : List Order) → AllFit (order.Home f n ∷ os) → BlockFits (after_home f n (slice_get os 0)) (order.Home f n)
-home_fits f n [] fits = fits 0 (order.Home f n) refl
-home_fits f n (order.Load ∷ os) fits = tt
-home_fits f n (x ∷ os) fits = fits 0 (order.Home f n) refl
-
-frame_fits : (n : ℕ) (os : List Order) → AllFit (order.FrameHome n ∷ os) → BlockFits (after_frame_home n (slice_get os 0)) (order.FrameHome n)
-frame_fits n [] fits = fits 0 (order.FrameHome n) refl
-frame_fits n (order.Load ∷ os) fits = tt
-frame_fits n (x ∷ os) fits = fits 0 (order.FrameHome n) refl
+behind_these : (before : List Order) (o : Order) (rest : List Order) → slice_get (before ++ o ∷ rest) (length before) ≡ Some o
+behind_these [] o rest = refl
+behind_these (x ∷ xs) o rest = behind_these xs o rest
 
 fits_first : (o : Order) (os : List Order) → AllFit (o ∷ os) → BlockFits (block_at 0 (o ∷ os)) o
-fits_first order.Save os fits = save_fits os fits
-fits_first (order.Home f n) os fits = home_fits f n os fits
-fits_first (order.FrameHome n) os fits = frame_fits n os fits
-fits_first o os fits = fits 0 o refl
+fits_first o os fits = cases (block_at 0 (o ∷ os)) (shape (o ∷ os))
+  where
+    -- that of an order of the block
+    fits_as : (k : ℕ) (x : Order) (all : List Order) → o ∷ os ≡ all → slice_get all k ≡ Some x → OrderFits x
+    fits_as k x all e is = fits k x (ap (λ l. slice_get l k) e ∙ is)
+
+    simple_fits : (s : Simple) (u : Use) (rest : List Order) → o ∷ os ≡ order.Save ∷ (operand_orders s ++ order_of u ∷ rest) → SimpleFits s
+    simple_fits (simple.Number w) u rest e = (fits_as 1 (order.Const w) _ e refl).0
+    simple_fits (simple.Contents x) u rest e = tt
+
+    cases : (b : Block) → IsBlock b (o ∷ os) → BlockFits b o
+    cases (block.Within n) sh = tt
+    cases block.Single sh = fits 0 o refl
+    cases (block.Fetch x) sh = tt
+    cases (block.Assign x) sh = tt
+    cases block.Write sh = tt
+    cases (block.Divide w line) sh = (fits_as 1 (order.Const w) _ sh.0 refl).0
+    cases (block.Operate s u) sh =
+        let rest = drop (suc (length (operand_orders s))) os in
+        (simple_fits s u rest sh, (fits_as (suc (length (operand_orders s))) (order_of u) _ sh (behind_these (operand_orders s) (order_of u) rest)).2)
 
 fits_front : (left : ℕ) (o : Order) (os : List Order) → AllFit (o ∷ os) → BlockFits (block_at left (o ∷ os)) o
 fits_front zero o os fits = fits_first o os fits
@@ -566,26 +531,50 @@ module _ (p : OrderProgram) (segment next : ℕ) (value : Filling) (fills : Fill
   template_fine names place order.Mark fits = tt
   template_fine names place (order.Start n) fits = (lit< tt, tt)
 
-  operation_fine : (op : ℕ) (s : Simple) → op < 8 → SimpleFits s → IsFine value (operation op s)
-  operation_fine op (simple.Number w) lt fits = (lt, fits)
-  operation_fine op (simple.Variable family offset) lt fits = (lt, is_ax, bytes_filled family offset)
+  field_fine : (n : ℕ) → 2 * n % 65536 < 65536
+  field_fine n = omega arith
 
-  operated_fine : (names : Names) (place : ℕ) (s : Simple) (u : Use) → SimpleFits s → UseFits u → AllFine value (operated names place s u)
-  operated_fine names place s (uses.Add line) fits small = (operation_fine 0 s (lit< tt) fits, checked_fine line small)
-  operated_fine names place s (uses.Subtract line) fits small = (operation_fine 5 s (lit< tt) fits, checked_fine line small)
-  operated_fine names place s (uses.Compare c mark) fits small = (operation_fine 7 s (lit< tt) fits, branch_fine c (place + size_of (operation 7 s) + 5) (mark_place names mark))
+  address_fine : (x : Place) → AllFine value (address_pieces x)
+  address_fine (cell.Word f n) = tt
+  address_fine (cell.Frame n) = ((is_bx, (lit< tt, lit< tt)), ((lit< tt, λ e. omega arith, is_bx), tt))
+
+  load_place_fine : (x : Place) → IsFine value (load_place x)
+  load_place_fine (cell.Word f n) = bytes_filled f n
+  load_place_fine (cell.Frame n) = (is_ax, (lit< tt, field_fine n))
+
+  store_place_fine : (x : Place) → IsFine value (store_place x)
+  store_place_fine (cell.Word f n) = bytes_filled f n
+  store_place_fine (cell.Frame n) = (is_ax, (lit< tt, field_fine n))
+
+  operate_place_fine : (op : ℕ) (x : Place) → op < 8 → IsFine value (operate_place op x)
+  operate_place_fine op (cell.Word f n) lt = (lt, is_ax, bytes_filled f n)
+  operate_place_fine op (cell.Frame n) lt = (lt, is_ax, (lit< tt, field_fine n))
+
+  with_operand_fine : (op : ℕ) (s : Simple) → op < 8 → SimpleFits s → AllFine value (with_operand op s)
+  with_operand_fine op (simple.Number w) lt fits = ((lt, fits), tt)
+  with_operand_fine op (simple.Contents x) lt fits = all_fine-append value (address_pieces x) (operate_place op x ∷ []) (address_fine x) (operate_place_fine op x lt, tt)
+
+  product_with_fine : (s : Simple) → SimpleFits s → AllFine value (product_with s)
+  product_with_fine (simple.Number w) fits = ((is_bx, fits), ((lit< tt, lit< tt, is_bx), tt))
+  product_with_fine (simple.Contents x) fits =
+      ((cx_register, is_ax), all_fine-append value (address_pieces x) (load_place x ∷ coded.Whole (multiply 1) ∷ []) (address_fine x) (load_place_fine x, ((lit< tt, lit< tt, cx_register), tt)))
+
+  operated_fine : (names : Names) (place : ℕ) (s : Simple) (u : Use) → SimpleFits s → line_of (order_of u) < 65536 → AllFine value (operated names place s u)
+  operated_fine names place s (uses.Add line) fits small = all_fine-append value (with_operand 0 s) (checked line) (with_operand_fine 0 s (lit< tt) fits) (checked_fine line small)
+  operated_fine names place s (uses.Subtract line) fits small = all_fine-append value (with_operand 5 s) (checked line) (with_operand_fine 5 s (lit< tt) fits) (checked_fine line small)
+  operated_fine names place s (uses.Multiply line) fits small = all_fine-append value (product_with s) (checked line) (product_with_fine s fits) (checked_fine line small)
+  operated_fine names place s uses.Mask fits small = with_operand_fine 4 s (lit< tt) fits
+  operated_fine names place s uses.Union fits small = with_operand_fine 1 s (lit< tt) fits
+  operated_fine names place s uses.Differ fits small = with_operand_fine 6 s (lit< tt) fits
+  operated_fine names place s (uses.Compare c mark) fits small =
+      let end = place + pieces_size (with_operand 7 s) + 5 in
+      all_fine-append value (with_operand 7 s) (branch c end (mark_place names mark)) (with_operand_fine 7 s (lit< tt) fits) (branch_fine c end (mark_place names mark))
 
   pub block_fine : (names : Names) (place : ℕ) (b : Block) (o : Order) → BlockFits b o → AllFine value (block_pieces names place b o)
   block_fine names place (block.Within n) o fits = tt
   block_fine names place block.Single o fits = template_fine names place o fits
-  block_fine names place (block.Fetch family offset) o fits = (bytes_filled family offset, tt)
-  block_fine names place (block.Assign family offset) o fits = (bytes_filled family offset, tt)
-  block_fine names place (block.FetchFrame n) o fits =
-      let small : 2 * n % 65536 < 65536 = omega arith in
-      ((is_bx, (lit< tt, lit< tt)), ((lit< tt, λ e. omega arith, is_bx), ((is_ax, (lit< tt, small)), tt)))
-  block_fine names place (block.AssignFrame n) o fits =
-      let small : 2 * n % 65536 < 65536 = omega arith in
-      ((is_bx, (lit< tt, lit< tt)), ((lit< tt, λ e. omega arith, is_bx), ((is_ax, (lit< tt, small)), tt)))
+  block_fine names place (block.Fetch x) o fits = all_fine-append value (address_pieces x) (load_place x ∷ []) (address_fine x) (load_place_fine x, tt)
+  block_fine names place (block.Assign x) o fits = all_fine-append value (address_pieces x) (store_place x ∷ []) (address_fine x) (store_place_fine x, tt)
   block_fine names place block.Write o fits = (lit< tt, tt)
-  block_fine names place (block.Divide w) o fits = ((is_bx, fits), (tt, ((lit< tt, lit< tt, is_bx), tt)))
+  block_fine names place (block.Divide w line) o fits = ((is_bx, fits), (tt, ((lit< tt, lit< tt, is_bx), tt)))
   block_fine names place (block.Operate s u) o fits = operated_fine names place s u fits.0 fits.1

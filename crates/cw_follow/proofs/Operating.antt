@@ -131,7 +131,9 @@ module _ (c : Setting) (memory : List ℤ) (input output : List ℕ) where
       → DoesHere c memory input output 15 to true line p (put_value (x +ℤ y) (words rest memory input output))
   sum_of {p} {at} {size} to by line x y rest fx fy small e arrives h i r =
       let e' : at + size + 2 + 3 + 2 ≡ to = omega arith in
-      later c.program c.image 14 to c.g true line c.acts 1 15 (put_value (x +ℤ y) (words rest memory input output)) (lit≤ tt)
+      later c.program c.image 14 to c.g true line c.acts
+      {T = Is c.image (at + size) (view (word_sum (unsigned x) (unsigned y)) r.cx r.dx r.bx (2 * r.top) (record_of c.acts) r.si c.program.limits.area (sum_overflows (unsigned x) (unsigned y)) r.cells r.stack r.left r.told)}
+      1 15 (put_value (x +ℤ y) (words rest memory input output)) (lit≤ tt)
       (last c.rows r.is r.kept.wrote (r.step Add h).0)
       (λ q t.
       checks c.rows c.program c.image c.g c.acts Overflow to r.top by line (x +ℤ y) rest memory input output tt c.library c.few r.some small e' arrives (sum_overflows_is c.rows.words x y fx fy)
@@ -142,7 +144,9 @@ module _ (c : Setting) (memory : List ℤ) (input output : List ℕ) where
       → DoesHere c memory input output 15 to true line p (put_value (x -ℤ y) (words rest memory input output))
   difference_of {p} {at} {size} to by line x y rest fx fy small e arrives h i r =
       let e' : at + size + 2 + 3 + 2 ≡ to = omega arith in
-      later c.program c.image 14 to c.g true line c.acts 1 15 (put_value (x -ℤ y) (words rest memory input output)) (lit≤ tt)
+      later c.program c.image 14 to c.g true line c.acts
+      {T = Is c.image (at + size) (view (word_difference (unsigned x) (unsigned y)) r.cx r.dx r.bx (2 * r.top) (record_of c.acts) r.si c.program.limits.area (difference_overflows (unsigned x) (unsigned y)) r.cells r.stack r.left r.told)}
+      1 15 (put_value (x -ℤ y) (words rest memory input output)) (lit≤ tt)
       (last c.rows r.is r.kept.wrote (r.step Subtract h).0)
       (λ q t.
       checks c.rows c.program c.image c.g c.acts Overflow to r.top by line (x -ℤ y) rest memory input output tt c.library c.few r.some small e' arrives (difference_overflows_is c.rows.words x y fx fy)
@@ -189,7 +193,7 @@ module _ (c : Setting) (memory : List ℤ) (input output : List ℕ) where
   -- ---- products
 
   -- AX with a product of words, and the test behind it
-  pub product_of : {q : Watched} {at cx bx dx si top : ℕ} {overflow : Bool} {cells stack : ℕ → ℕ} {left : List ℕ} {told : Told} (to by line a b : ℕ) (x y : ℤ) (rest : List Operand) → FitsWord x → FitsWord y → line < 65536 → at + 7 ≡ to
+  pub product_of : {q : Watched} {at cx bx dx si top : ℕ} {cells stack : ℕ → ℕ} {left : List ℕ} {told : Told} (to by line a b : ℕ) (x y : ℤ) (rest : List Operand) → FitsWord x → FitsWord y → line < 65536 → at + 7 ≡ to
       → (at + 2 + 3 + by) % 65536 ≡ stop_place Overflow % 65536 → 0 < top
       → product_overflows a b ≡ not (fits_word (x *ℤ y)) → (FitsWord (x *ℤ y) → product_low a b ≡ unsigned (x *ℤ y))
       → Check c.image at by line → StackIs c.program c.acts stack top rest → Kept c.program c.g c.acts memory input output cells stack left told

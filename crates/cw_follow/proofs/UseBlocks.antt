@@ -45,7 +45,7 @@ use Rattle.cw_tmpl.specs.Templates.{distance, opposite_of, with_operand, checked
 use Rattle.cw_tmpl.specs.ReferenceCode.{names_of, mark_starts}
 use Rattle.cw_routines.specs.Ways.{HasAll}
 use Rattle.cw_follow.specs.Placing.{base_of}
-use Rattle.cw_tmpl.proofs.Sizes.{own_place, jump_arrives}
+use Rattle.cw_tmpl.proofs.Sizes.{own_place}
 use Rattle.cw_follow.proofs.Standing.{HasPieces, order_place}
 use Rattle.cw_follow.proofs.Watched.{Watched}
 use Rattle.cw_follow.proofs.Chains.{Is, Leads, view, done, more, load_at, move as moved_to}
@@ -66,9 +66,9 @@ use Rattle.cw_follow.proofs.BlockOrders.{room_in, block_follows, saved, step_in,
 
 -- where the operation stands, and how many bytes it has
 abbrev named_at : Simple → ℕ → ℕ
-named_at (simple.Number x) at = at
-named_at (simple.Contents (cell.Word f n)) at = at
-named_at (simple.Contents (cell.Frame n)) at = at + 3 + 2
+named_at (simple.Number x) from = from
+named_at (simple.Contents (cell.Word f n)) from = from
+named_at (simple.Contents (cell.Frame n)) from = from + 3 + 2
 
 abbrev named_size : Simple → ℕ
 named_size (simple.Number x) = 3
@@ -82,25 +82,25 @@ naming w (simple.Contents (cell.Frame n)) op = i86.AluRm (number_of op) true tru
 
 -- what comes before it
 abbrev Addressed : List ℕ → Simple → ℕ → Type 0
-Addressed image (simple.Contents (cell.Frame n)) at = HasAll image at (load bx (slot base_slot) ∷ double bx ∷ [])
-Addressed image s at = Unit {0}
+Addressed image (simple.Contents (cell.Frame n)) from = HasAll image from (load bx (slot base_slot) ∷ double bx ∷ [])
+Addressed image s from = Unit {0}
 
 -- what an instruction at a place has filled in
 abbrev offset_at : Filling → Simple → ℕ → ℕ
-offset_at value (simple.Contents (cell.Word f n)) at = value 2 f n (at + 4)
-offset_at value s at = 0
+offset_at value (simple.Contents (cell.Word f n)) from = value 2 f n (from + 4)
+offset_at value s from = 0
 
-operand_code : {image : List ℕ} {value : Filling} {at : ℕ} (s : Simple) (op : WordOperation) (rest : List Coded) → HasPieces image value at (with_operand (number_of op) s ++ rest)
-    → Addressed image s at × Has image (named_at s at) (naming (offset_at value s at) s op) × HasPieces image value (named_at s at + named_size s) rest
-operand_code (simple.Number x) op rest h = (tt, h.0, h.1)
-operand_code (simple.Contents (cell.Word f n)) op rest h = (tt, h.0, h.1)
-operand_code (simple.Contents (cell.Frame n)) op rest h = ((h.0, (h.1.0, tt)), h.1.1.0, h.1.1.1)
+operand_code : (image : List ℕ) (value : Filling) (from : ℕ) (s : Simple) (op : WordOperation) (rest : List Coded) → HasPieces image value from (with_operand (number_of op) s ++ rest)
+    → Addressed image s from × Has image (named_at s from) (naming (offset_at value s from) s op) × HasPieces image value (named_at s from + named_size s) rest
+operand_code image value from (simple.Number x) op rest h = (tt, h.0, h.1)
+operand_code image value from (simple.Contents (cell.Word f n)) op rest h = (tt, h.0, h.1)
+operand_code image value from (simple.Contents (cell.Frame n)) op rest h = ((h.0, (h.1.0, tt)), h.1.1.0, h.1.1.1)
 
 -- the same without more behind it
-alone_code : {image : List ℕ} {value : Filling} {at : ℕ} (s : Simple) (op : ℕ) → HasPieces image value at (with_operand op s) → HasPieces image value at (with_operand op s ++ [])
-alone_code (simple.Number x) op h = h
-alone_code (simple.Contents (cell.Word f n)) op h = h
-alone_code (simple.Contents (cell.Frame n)) op h = h
+alone_code : (image : List ℕ) (value : Filling) (from : ℕ) (s : Simple) (op : ℕ) → HasPieces image value from (with_operand op s) → HasPieces image value from (with_operand op s ++ [])
+alone_code image value from (simple.Number x) op h = h
+alone_code image value from (simple.Contents (cell.Word f n)) op h = h
+alone_code image value from (simple.Contents (cell.Frame n)) op h = h
 
 -- ---- sizes
 
@@ -109,10 +109,10 @@ operand_size (simple.Number x) = 3
 operand_size (simple.Contents (cell.Word f n)) = 4
 operand_size (simple.Contents (cell.Frame n)) = 9
 
-named_end : (s : Simple) (at : ℕ) → named_at s at + named_size s ≡ at + operand_size s
-named_end (simple.Number x) at = refl
-named_end (simple.Contents (cell.Word f n)) at = refl
-named_end (simple.Contents (cell.Frame n)) at = omega arith
+named_end : (s : Simple) (from : ℕ) → named_at s from + named_size s ≡ from + operand_size s
+named_end (simple.Number x) from = refl
+named_end (simple.Contents (cell.Word f n)) from = refl
+named_end (simple.Contents (cell.Frame n)) from = omega arith
 
 -- the bytes of a test, or of the jumps, behind the operation
 abbrev rest_size : Use → ℕ
@@ -191,18 +191,18 @@ few_steps (simple.Number x) = lit≤ tt
 few_steps (simple.Contents (cell.Word f n)) = lit≤ tt
 few_steps (simple.Contents (cell.Frame n)) = lit≤ tt
 
+top_fits : (operands : List Operand) → All OperandFits operands → (x : ℤ) (rest : List Operand) → operands ≡ Word x ∷ rest → FitsWord x
+top_fits operands fits x rest e = All-head OperandFits (Word x) rest (subst (All OperandFits) e fits)
+
 -- ---- what is done with an operand that the code names
 
 module _ (c : Setting) (memory : List ℤ) (input output : List ℕ) where
   -- with the top operand in AX the code comes to the instruction that names y
-  abbrev NamedFrom : (at offset : ℕ) → Simple → (y : ℤ) → List Operand → Watched → Type 0
-  NamedFrom at w s y operands p = (x : ℤ) (rest : List Operand) → operands ≡ Word x ∷ rest → Leads output (steps_to s) p (Named c memory input output (named_at s at) (named_size s) (naming w s) x y rest)
+  abbrev NamedFrom : (from offset : ℕ) → Simple → (y : ℤ) → List Operand → Watched → Type 0
+  NamedFrom from w s y operands p = (x : ℤ) (rest : List Operand) → operands ≡ Word x ∷ rest → Leads output (steps_to s) p (Named c memory input output (named_at s from) (named_size s) (naming w s) x y rest)
 
   -- where the operation stands, and where its code ends
-  module _ {p : Watched} {at : ℕ} (s : Simple) (to w : ℕ) (y : ℤ) (operands : List Operand) (fy : FitsWord y) (fits : All OperandFits operands) (named : NamedFrom at w s y operands p) where
-    top_fits : (x : ℤ) (rest : List Operand) → operands ≡ Word x ∷ rest → FitsWord x
-    top_fits x rest e = All-head OperandFits (Word x) rest (subst (All OperandFits) e fits)
-
+  module _ {p : Watched} (at : ℕ) (s : Simple) (to w : ℕ) (y : ℤ) (operands : List Operand) (fy : FitsWord y) (fits : All OperandFits operands) (named : NamedFrom at w s y operands p) where
     -- an operation and its test
     module _ (by line : ℕ) (small : line < 65536) (e : named_at s at + named_size s + 7 ≡ to) (arrives : (named_at s at + named_size s + 2 + 3 + by) % 65536 ≡ stop_place Overflow % 65536)
         (i : Check c.image (named_at s at + named_size s) by line) where
@@ -215,7 +215,7 @@ module _ (c : Setting) (memory : List ℤ) (input output : List ℕ) where
           cases (Word x ∷ rest) is =
               let few = few_steps s in
               later c.program c.image 15 to c.g true line c.acts (steps_to s) 17 (put_value (x +ℤ y) (words rest memory input output)) (omega arith) (named x rest is)
-              (λ q r. sum_of c memory input output to by line x y rest (top_fits x rest is) fy small e arrives h i r)
+              (λ q r. sum_of c memory input output to by line x y rest (top_fits operands fits x rest is) fy small e arrives h i r)
 
       subtract_used : Has c.image (named_at s at) (naming w s Subtract) → DoesHere c memory input output 17 to true line p (perform c.program.limits.area operation.Subtract (put y (words operands memory input output)))
       subtract_used h = cases operands refl
@@ -226,7 +226,7 @@ module _ (c : Setting) (memory : List ℤ) (input output : List ℕ) where
           cases (Word x ∷ rest) is =
               let few = few_steps s in
               later c.program c.image 15 to c.g true line c.acts (steps_to s) 17 (put_value (x -ℤ y) (words rest memory input output)) (omega arith) (named x rest is)
-              (λ q r. difference_of c memory input output to by line x y rest (top_fits x rest is) fy small e arrives h i r)
+              (λ q r. difference_of c memory input output to by line x y rest (top_fits operands fits x rest is) fy small e arrives h i r)
 
     -- bits
     module _ (e : named_at s at + named_size s ≡ to) where
@@ -239,7 +239,7 @@ module _ (c : Setting) (memory : List ℤ) (input output : List ℕ) where
           cases (Word x ∷ rest) is =
               let few = few_steps s in
               later c.program c.image 1 to c.g true 0 c.acts (steps_to s) 3 (Changed (put (signed (bit_and (unsigned x) (unsigned y))) (words rest memory input output))) (omega arith) (named x rest is)
-              (λ q r. mask_of c memory input output to x y rest (top_fits x rest is) fy e h r)
+              (λ q r. mask_of c memory input output to x y rest (top_fits operands fits x rest is) fy e h r)
 
       union_used : Has c.image (named_at s at) (naming w s Or) → DoesHere c memory input output 3 to true 0 p (unrefused (perform c.program.limits.area (Combine logic.Union) (put y (words operands memory input output))))
       union_used h = cases operands refl
@@ -250,7 +250,7 @@ module _ (c : Setting) (memory : List ℤ) (input output : List ℕ) where
           cases (Word x ∷ rest) is =
               let few = few_steps s in
               later c.program c.image 1 to c.g true 0 c.acts (steps_to s) 3 (Changed (put (signed (bit_or (unsigned x) (unsigned y))) (words rest memory input output))) (omega arith) (named x rest is)
-              (λ q r. union_of c memory input output to x y rest (top_fits x rest is) fy e h r)
+              (λ q r. union_of c memory input output to x y rest (top_fits operands fits x rest is) fy e h r)
 
       differ_used : Has c.image (named_at s at) (naming w s Xor) → DoesHere c memory input output 3 to true 0 p (unrefused (perform c.program.limits.area (Combine logic.Differ) (put y (words operands memory input output))))
       differ_used h = cases operands refl
@@ -261,7 +261,7 @@ module _ (c : Setting) (memory : List ℤ) (input output : List ℕ) where
           cases (Word x ∷ rest) is =
               let few = few_steps s in
               later c.program c.image 1 to c.g true 0 c.acts (steps_to s) 3 (Changed (put (signed (bit_xor (unsigned x) (unsigned y))) (words rest memory input output))) (omega arith) (named x rest is)
-              (λ q r. difference_in_bits c memory input output to x y rest (top_fits x rest is) fy e h r)
+              (λ q r. difference_in_bits c memory input output to x y rest (top_fits operands fits x rest is) fy e h r)
 
     -- a comparison
     compare_used : (by : ℕ) (start : ℕ → ℕ) (k : Comparator) (m : ℕ) → named_at s at + named_size s + 5 ≡ to → (named_at s at + named_size s + 5 + by) % 65536 ≡ start m % 65536 → Has c.image (named_at s at) (naming w s Compare)
@@ -275,7 +275,7 @@ module _ (c : Setting) (memory : List ℤ) (input output : List ℕ) where
         cases (Word x ∷ rest) is =
             let few = few_steps s in
             sooner c.program c.image 3 to start c.g false c.acts (steps_to s) 5 (to_mark_if (holds (comparison k) x y) m (words rest memory input output)) (omega arith) (named x rest is)
-            (λ q r. comparison_of c memory input output to by start k m x y rest (top_fits x rest is) fy e arrives h i r)
+            (λ q r. comparison_of c memory input output to by start k m x y rest (top_fits operands fits x rest is) fy e arrives h i r)
 
 -- ---- what each operand is
 
@@ -468,36 +468,36 @@ module _ (known : Given) where
         (line : ℕ) → line < 65536 → Code o (uses.Multiply line) → here_at + block_size (block.Operate o (uses.Multiply line)) order.Save ≡ block_end
         → Does p image 19 block_end g true line acts s.before.output q (perform p.limits.area (Multiply (pos 0)) (put y s.before))
 
-    call_of : ℕ → ℕ
+    abbrev call_of : ℕ → ℕ
     call_of test = by known s overflow_entry (test + 2 + 3)
 
     used_law : (o : Simple) (u : Use) (y : ℤ) → Computes u → FitsWord y → line_of (order_of u) < 65536 → here_at + block_size (block.Operate o u) order.Save ≡ block_end → Code o u → (OneOperation u → NamedHere o y) → Multiplies o y
         → Ended u (outcome p.limits.area u (put y s.before))
     used_law o (uses.Add line) y h fy small ends i named product =
-        let k = operand_code o Add (checked line) i in
+        let k = operand_code image (all.stands g s.orders s.unit).value here_at o Add (checked line) i in
         let v = s.before in
         let test = named_at o here_at + named_size o in
-        add_used (setting known s) v.memory v.input v.output o block_end _ y v.operands fy s.fits_before.operands (named tt) (call_of test) line small (omega (arith, ends, tested_size o (uses.Add line) tt, named_end o here_at))
+        add_used (setting known s) v.memory v.input v.output here_at o block_end _ y v.operands fy s.fits_before.operands (named tt) (call_of test) line small (omega (arith, ends, tested_size o (uses.Add line) tt, named_end o here_at))
         (calls known s overflow_entry (test + 2 + 3) (lit< tt)) k.2 k.1
     used_law o (uses.Subtract line) y h fy small ends i named product =
-        let k = operand_code o Subtract (checked line) i in
+        let k = operand_code image (all.stands g s.orders s.unit).value here_at o Subtract (checked line) i in
         let v = s.before in
         let test = named_at o here_at + named_size o in
-        subtract_used (setting known s) v.memory v.input v.output o block_end _ y v.operands fy s.fits_before.operands (named tt) (call_of test) line small (omega (arith, ends, tested_size o (uses.Subtract line) tt, named_end o here_at))
+        subtract_used (setting known s) v.memory v.input v.output here_at o block_end _ y v.operands fy s.fits_before.operands (named tt) (call_of test) line small (omega (arith, ends, tested_size o (uses.Subtract line) tt, named_end o here_at))
         (calls known s overflow_entry (test + 2 + 3) (lit< tt)) k.2 k.1
     used_law o (uses.Multiply line) y h fy small ends i named product = product line small i ends
     used_law o uses.Mask y h fy small ends i named product =
-        let k = operand_code o And [] (alone_code o 4 i) in
+        let k = operand_code image (all.stands g s.orders s.unit).value here_at o And [] (alone_code image (all.stands g s.orders s.unit).value here_at o 4 i) in
         let v = s.before in
-        mask_used (setting known s) v.memory v.input v.output o block_end _ y v.operands fy s.fits_before.operands (named tt) (omega (arith, ends, tested_size o uses.Mask tt, named_end o here_at)) k.1
+        mask_used (setting known s) v.memory v.input v.output here_at o block_end _ y v.operands fy s.fits_before.operands (named tt) (omega (arith, ends, tested_size o uses.Mask tt, named_end o here_at)) k.1
     used_law o uses.Union y h fy small ends i named product =
-        let k = operand_code o Or [] (alone_code o 1 i) in
+        let k = operand_code image (all.stands g s.orders s.unit).value here_at o Or [] (alone_code image (all.stands g s.orders s.unit).value here_at o 1 i) in
         let v = s.before in
-        union_used (setting known s) v.memory v.input v.output o block_end _ y v.operands fy s.fits_before.operands (named tt) (omega (arith, ends, tested_size o uses.Union tt, named_end o here_at)) k.1
+        union_used (setting known s) v.memory v.input v.output here_at o block_end _ y v.operands fy s.fits_before.operands (named tt) (omega (arith, ends, tested_size o uses.Union tt, named_end o here_at)) k.1
     used_law o uses.Differ y h fy small ends i named product =
-        let k = operand_code o Xor [] (alone_code o 6 i) in
+        let k = operand_code image (all.stands g s.orders s.unit).value here_at o Xor [] (alone_code image (all.stands g s.orders s.unit).value here_at o 6 i) in
         let v = s.before in
-        differ_used (setting known s) v.memory v.input v.output o block_end _ y v.operands fy s.fits_before.operands (named tt) (omega (arith, ends, tested_size o uses.Differ tt, named_end o here_at)) k.1
+        differ_used (setting known s) v.memory v.input v.output here_at o block_end _ y v.operands fy s.fits_before.operands (named tt) (omega (arith, ends, tested_size o uses.Differ tt, named_end o here_at)) k.1
     used_law o (uses.Compare c m) y h fy small ends i named product = absurd h
 
     -- ---- products
@@ -635,10 +635,10 @@ module _ (known : Given) where
         let v = s.before in
         let own = own_place s.orders.list s.from in
         let behind = own + pieces_size (with_operand 7 o) + 5 in
-        let k = operand_code o Compare (branch c behind (mark_starts s.orders m)) i in
+        let k = operand_code image (all.stands g s.orders s.unit).value here_at o Compare (branch c behind (mark_starts s.orders m)) i in
         let size = compare_size o in
-        let there : (base_of p g + behind + distance behind (mark_starts s.orders m)) % 65536 ≡ (base_of p g + mark_starts s.orders m) % 65536 = jump_arrives (base_of p g) behind 0 (mark_starts s.orders m) in
-        compare_used (setting known s) v.memory v.input v.output o block_end _ y v.operands fy s.fits_before.operands named (distance behind (mark_starts s.orders m)) (start known s) c m
+        let there = arrives_at (base_of p g) own (pieces_size (with_operand 7 o)) (mark_starts s.orders m) in
+        compare_used (setting known s) v.memory v.input v.output here_at o block_end _ y v.operands fy s.fits_before.operands named (distance behind (mark_starts s.orders m)) (start known s) c m
         (omega (arith, ends, tested_size o (uses.Compare c m) tt, named_end o here_at)) (omega (arith, named_end o here_at, size, there)) k.1 k.2
 
     number_chooses : (n : ℕ) (c : Comparator) (m : ℕ) → n < 65536 → here_at + block_size (block.Operate (simple.Number n) (uses.Compare c m)) order.Save ≡ block_end → Code (simple.Number n) (uses.Compare c m) → Landed p image here_at g true acts s.before q
