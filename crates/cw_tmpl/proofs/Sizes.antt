@@ -12,11 +12,14 @@ use Rattle.cw_tmpl.specs.declared.blocks.Block.TheVariants as block
 use Rattle.cw_unit.specs.declared.unit.Goal.{Goal}
 use Rattle.cw_unit.specs.declared.unit.Goal.TheVariants as goal
 use Rattle.cw_order.specs.declared.order.LabelMark.{LabelMark}
+use Rattle.cw_i86.specs.declared.instr.Instr.TheVariants as i86
+use Rattle.cw_tmpl.specs.declared.pieces.Coded.TheVariants as coded
+use Rattle.cw_tmpl.specs.Mnemonics.{ax, cx, move}
 use Rattle.cw_tmpl.specs.Pieces.{blanks}
 use Rattle.cw_tmpl.specs.Names.{Names, no_names, switch_size}
 use Rattle.cw_tmpl.specs.Blocks.{use_of, is_plain_divisor, after_saved_const, with_variable, after_saved_home, after_saved_frame_home, after_save, after_home, after_frame_home, block_at, orders_left, left_at}
 use Rattle.cw_tmpl.specs.Library.{overflow_entry, address_entry}
-use Rattle.cw_tmpl.specs.Templates.{template, mark_words, goal_words, landing_pieces, switch_pieces, times_if, rescale_if, product_start, product_down, row_start, row_end, block_pieces, block_size, order_size, listed_size, size_behind, sizes_behind, listed_sizes, distance, entry_pieces}
+use Rattle.cw_tmpl.specs.Templates.{template, mark_words, goal_words, landing_pieces, switch_pieces, times_if, rescale_if, product_start, product_down, times, less_bound, plus_word, times_width, based, element, in_row, element_of_two, entry, block_pieces, block_size, order_size, times_size, width_size, bound_size, word_size, listed_size, size_behind, sizes_behind, listed_sizes, distance, entry_pieces}
 use Rattle.cw_tmpl.specs.ReferenceCode.{templates, landings, switches, places_from, entry_size, order_places, landings_place, switches_place, names_of, mark_starts, pieces_of, switch_sizes, StandsAt}
 use Rattle.cw_tmpl.proofs.Growing.{blanks-append}
 
@@ -248,9 +251,38 @@ product_down_long : (b : Bool) (line n : ℕ) → length (blanks (product_down l
 product_down_long true line n = refl
 product_down_long false line n = refl
 
-row_long : (b : Bool) (line : ℕ) (lower : ℤ) (n : ℕ) → length (blanks (row_start line lower ++ (times_if b address_entry line n ++ row_end line))) ≡ (if b then 14 else 12) + 24
-row_long true line lower n = refl
-row_long false line lower n = refl
+appended_long : (a b : List Coded) → length (blanks (a ++ b)) ≡ length (blanks a) + length (blanks b)
+appended_long a b = ap length (blanks-append a b) ∙ length-append (blanks a) (blanks b)
+
+bound_long : (line : ℕ) (lower : ℤ) → length (blanks (less_bound line lower)) ≡ bound_size lower
+bound_long line (pos zero) = refl
+bound_long line (pos (suc n)) = refl
+bound_long line (negsuc n) = refl
+
+word_long : (line word : ℕ) → length (blanks (plus_word line word)) ≡ word_size word
+word_long line zero = refl
+word_long line (suc n) = refl
+
+width_long : (one top : Bool) (line n : ℕ)
+    → length (blanks (if one then [] else times_if top address_entry line n)) ≡ (if one then 0 else if top then 14 else 12)
+width_long true top line n = refl
+width_long false top line n = times_long top address_entry line n
+
+element_long : (line : ℕ) (lower : ℤ) → length (blanks (element line lower)) ≡ bound_size lower + 21
+element_long line lower = omega (arith, appended_long (less_bound line lower) (based line), bound_long line lower)
+
+element_of_two_long : (line : ℕ) (lower second : ℤ) (n : ℕ)
+    → length (blanks (element_of_two line lower second n)) ≡ bound_size second + bound_size lower + times_size n + 33
+element_of_two_long line lower second n =
+    let T : List Coded = times address_entry line n in
+    let last : List Coded = in_row line ++ based line in
+    let row : List Coded = less_bound line lower ++ (T ++ last) in
+    omega (arith, appended_long (less_bound line second) (coded.Whole (move cx ax) ∷ coded.Whole (i86.Pop ax) ∷ row), appended_long (less_bound line lower) (T ++ last), appended_long T last, bound_long line second, bound_long line lower, times_long (n == 32768) address_entry line n)
+
+entry_long : (line width word : ℕ) → length (blanks (entry line width word)) ≡ width_size width + word_size word + 21
+entry_long line width word =
+    let rest : List Coded = plus_word line word ++ based line in
+    omega (arith, appended_long (times_width line width) rest, appended_long (plus_word line word) (based line), width_long (width == 1) (width == 32768) line width, word_long line word)
 
 pub listed : (o : Order) → order_size o ≡ listed_size o
 listed (order.JumpIf c m) = refl
@@ -263,8 +295,9 @@ listed (order.Mul (negsuc n) line) = product_down_long (nat_lt n 15) line n
 listed (order.Div (pos n) line) = refl
 listed (order.Div (negsuc n) line) = refl
 listed (order.LoopWay marks) = loop_way_long no_names 0 marks
-listed (order.IndexTimes n line) = times_long (n == 32768) address_entry line n
-listed (order.IndexRow lower n line) = row_long (n == 32768) line lower n
+listed (order.Element lower span line) = element_long line lower
+listed (order.ElementOfTwo lower second width span line) = element_of_two_long line lower second width
+listed (order.Entry width word span line) = entry_long line width word
 listed _ = refl
 
 block_fits : (o : Order) (os : List Order) → from_block (block_at 0 (o ∷ os)) o os ≤ listed_sizes (o ∷ os)
