@@ -14,11 +14,6 @@ use Rattle.cw_tmpl.specs.Library.{overflow_entry, product_entry, quotient_up_ent
 use Rattle.cw_tmpl.specs.Templates.{times, product, product_up, product_down, product_start, by_routine, divisor_tested, quotient, listed_size, times_size}
 use Rattle.cw_tmpl.proofs.Growing.{adds_then}
 
--- a multiplication between others
-pub times_between : (a b m d : Assembly) (before behind : List Coded) (stop line k n : ℕ) → k ≡ n → Adds a before b → Adds b (times stop line k) m → Adds m behind d → Adds a (before ++ (times stop line n ++ behind)) d
-times_between a b m d before behind stop line k n e f t l =
-    adds_then a b d before (times stop line n ++ behind) f (subst (λ x. Adds b (times stop line x ++ behind) d) e (adds_then b m d (times stop line k) behind t l))
-
 -- a product that is scaled up by at least one place
 pub product_scaled : (line n : ℕ) → 0 < n → product_up line n ≡ product_start line ++ times overflow_entry line (2 ^ n)
 product_scaled line zero some = absurd (omega arith)

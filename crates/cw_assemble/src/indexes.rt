@@ -1,36 +1,102 @@
 //! Code of indexes and addresses.
-ghost use Rattle.std.specs.Prelude.{◌≡◌, OnOk};
-ghost use Rattle.cw_order.specs.declared.order.Order.TheVariants as order;
+ghost use Rattle.std.specs.Prelude.{◌<◌, ◌++◌, ◌∷◌, [], OnOk};
+ghost use Rattle.cw_i86.specs.declared.instr.Instr.TheVariants as i86;
+ghost use Rattle.cw_tmpl.specs.declared.pieces.Coded.TheVariants as coded;
 ghost use Rattle.cw_tmpl.specs.Assembling.{Adds};
-ghost use Rattle.cw_tmpl.specs.Names.{no_names};
-ghost use Rattle.cw_tmpl.specs.Templates.{template, row_start, row_end, index_row, in_area, call_at_line, in_bounds};
+ghost use Rattle.cw_tmpl.specs.Library.{address_entry};
+ghost use Rattle.cw_tmpl.specs.Mnemonics.{move};
+ghost use Rattle.cw_tmpl.specs.Templates.{index_by, less_bound, plus_word, times, times_width, base_kept, based, element, in_row, element_of_two, entry, in_area, call_at_line, in_bounds};
 
 use crate::arithmetic::put_times;
 use cw_i86::Instr;
 use cw_tmpl::instructions::{
-    AX, BX, CX, DI, DX, add, compare, copy, jump_if_at_most, jump_if_below, jump_if_no_overflow,
-    jump_if_not_less, set_word, subtract, with_number,
+    AX, CX, DI, DX, SI, add, compare, copy, jump_if_at_most, jump_if_below, jump_if_no_overflow,
+    jump_if_not_less, set_word, with_number,
 };
 use cw_tmpl::library::{ADDRESS, BOUNDS};
 use cw_tmpl::{Assembly, Coded, Target};
 use cw_word::NoMemory;
 
-pub(crate) fn put_row_start(code: &mut Assembly, line: u16, lower: i16) -> Result<(), NoMemory>
-    ensures { OnOk result (Adds code.old (row_start line lower) code.new) }
+/// Adds an operation of the arithmetic unit on AX and a number, on the way to an address.
+fn put_index_by(code: &mut Assembly, operation: u8, line: u16, word: u16) -> Result<(), NoMemory>
+    requires { operation < 8 }
+    ensures { OnOk result (Adds code.old (index_by operation line word) code.new) }
 {
     code.put_all(&[
-        Coded::Whole(copy(CX, AX)),
-        Coded::Whole(Instr::Pop(AX)),
-        Coded::Whole(set_word(BX, lower.cast_unsigned())),
-        Coded::Whole(subtract(AX, BX)),
+        Coded::Whole(with_number(operation, word)),
         Coded::Whole(jump_if_no_overflow(5)),
         Coded::Call(Target::LibraryAhead(ADDRESS)),
         Coded::Data(line),
     ])
 }
 
-pub(crate) fn put_row_end(code: &mut Assembly, line: u16) -> Result<(), NoMemory>
-    ensures { OnOk result (Adds code.old (row_end line) code.new) }
+/// Adds the code of an index less the lower bound.
+fn put_less_bound(code: &mut Assembly, line: u16, lower: i16) -> Result<(), NoMemory>
+    ensures { OnOk result (Adds code.old (less_bound line lower) code.new) }
+{
+    if lower == 0 {
+        Ok(())
+    } else {
+        put_index_by(code, 5, line, lower.cast_unsigned())
+    }
+}
+
+/// Adds the code that adds the place of a word in its entry.
+fn put_plus_word(code: &mut Assembly, line: u16, word: u16) -> Result<(), NoMemory>
+    ensures { OnOk result (Adds code.old (plus_word line word) code.new) }
+{
+    if word == 0 {
+        Ok(())
+    } else {
+        put_index_by(code, 0, line, word)
+    }
+}
+
+/// Adds the code of the number of an entry times its words.
+fn put_times_width(code: &mut Assembly, line: u16, width: u16) -> Result<(), NoMemory>
+    ensures { OnOk result (Adds code.old (times_width line width) code.new) }
+{
+    if width == 1 {
+        Ok(())
+    } else {
+        put_times(code, ADDRESS, line, width)
+    }
+}
+
+/// Adds the code that takes the base to SI.
+fn put_base_kept(code: &mut Assembly) -> Result<(), NoMemory>
+    ensures { OnOk result (Adds code.old base_kept code.new) }
+{
+    code.put_all(&[Coded::Whole(copy(SI, AX)), Coded::Whole(Instr::Pop(AX))])
+}
+
+/// Adds the code that adds the base, and tests the address.
+fn put_based(code: &mut Assembly, line: u16) -> Result<(), NoMemory>
+    ensures { OnOk result (Adds code.old (based line) code.new) }
+{
+    code.put_all(&[
+        Coded::Whole(add(AX, SI)),
+        Coded::Whole(jump_if_no_overflow(5)),
+        Coded::Call(Target::LibraryAhead(ADDRESS)),
+        Coded::Data(line),
+        Coded::Whole(compare(AX, DI)),
+        Coded::Whole(jump_if_below(5)),
+        Coded::Call(Target::LibraryAhead(ADDRESS)),
+        Coded::Data(line),
+    ])
+}
+
+pub(crate) fn put_element(code: &mut Assembly, line: u16, lower: i16) -> Result<(), NoMemory>
+    ensures { OnOk result (Adds code.old (element line lower) code.new) }
+{
+    put_base_kept(code)?;
+    put_less_bound(code, line, lower)?;
+    put_based(code, line)
+}
+
+/// Adds the code that adds the place in the row.
+fn put_in_row(code: &mut Assembly, line: u16) -> Result<(), NoMemory>
+    ensures { OnOk result (Adds code.old (in_row line) code.new) }
 {
     code.put_all(&[
         Coded::Whole(add(AX, CX)),
@@ -40,29 +106,50 @@ pub(crate) fn put_row_end(code: &mut Assembly, line: u16) -> Result<(), NoMemory
     ])
 }
 
-pub(crate) fn put_index_row(
+/// Adds the code from the index of the row on.
+fn put_row(code: &mut Assembly, line: u16, lower: i16, width: u16) -> Result<(), NoMemory>
+    ensures { OnOk result (Adds code.old (less_bound line lower ++ (times address_entry line width ++ (in_row line ++ based line))) code.new) }
+{
+    put_less_bound(code, line, lower)?;
+    put_times(code, ADDRESS, line, width)?;
+    put_in_row(code, line)?;
+    put_based(code, line)
+}
+
+/// Adds the code that takes the place in the row to CX.
+fn put_place_kept(code: &mut Assembly) -> Result<(), NoMemory>
+    ensures { OnOk result (Adds code.old (coded.Whole (move 1 0) ∷ coded.Whole (i86.Pop 0) ∷ []) code.new) }
+{
+    code.put_all(&[Coded::Whole(copy(CX, AX)), Coded::Whole(Instr::Pop(AX))])
+}
+
+pub(crate) fn put_element_of_two(
     code: &mut Assembly,
     line: u16,
     lower: i16,
-    length: u16,
+    second: i16,
+    width: u16,
 ) -> Result<(), NoMemory>
-    ensures { OnOk result (Adds code.old (index_row line lower length) code.new) }
+    ensures { OnOk result (Adds code.old (element_of_two line lower second width) code.new) }
 {
-    put_row_start(code, line, lower)?;
-    put_times(code, ADDRESS, line, length)?;
-    put_row_end(code, line)
+    put_base_kept(code)?;
+    put_less_bound(code, line, second)?;
+    put_place_kept(code)?;
+    put_row(code, line, lower, width)
 }
 
-pub(crate) fn put_index_add(code: &mut Assembly, line: u16) -> Result<(), NoMemory>
-    ensures { OnOk result (Adds code.old (template no_names 0 (order.IndexAdd line)) code.new) }
+pub(crate) fn put_entry(
+    code: &mut Assembly,
+    line: u16,
+    width: u16,
+    word: u16,
+) -> Result<(), NoMemory>
+    ensures { OnOk result (Adds code.old (entry line width word) code.new) }
 {
-    code.put_all(&[
-        Coded::Whole(Instr::Pop(BX)),
-        Coded::Whole(add(AX, BX)),
-        Coded::Whole(jump_if_no_overflow(5)),
-        Coded::Call(Target::LibraryAhead(ADDRESS)),
-        Coded::Data(line),
-    ])
+    put_base_kept(code)?;
+    put_times_width(code, line, width)?;
+    put_plus_word(code, line, word)?;
+    put_based(code, line)
 }
 
 /// Adds the test of an address.

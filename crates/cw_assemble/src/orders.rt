@@ -9,14 +9,16 @@ ghost use Rattle.cw_tmpl.specs.Templates.{template, operation, operated, block_p
 
 use crate::arithmetic::{
     put_checked, put_divided_by, put_less, put_on_both, put_product, put_quotient, put_rescale,
-    put_times, put_with_word,
+    put_with_word,
 };
 use crate::calling::{
     put_assign_frame, put_bind, put_bind_frame, put_call, put_call_common, put_call_special,
     put_control, put_enter, put_fetch_frame, put_frame_home, put_read_byte, put_return,
     put_special_out,
 };
-use crate::indexes::{put_call_at_line, put_in_area, put_in_bounds, put_index_add, put_index_row};
+use crate::indexes::{
+    put_call_at_line, put_element, put_element_of_two, put_entry, put_in_area, put_in_bounds,
+};
 use crate::jumping::{
     distance, opposite, put_base_jump, put_go_special, put_go_switch, put_go_switch_common,
     put_go_switch_special, put_jump, put_jump_if, put_loop_way, put_past_limit,
@@ -144,14 +146,20 @@ fn put_order(code: &mut Assembly, order: &Order, names: &Names) -> Result<(), No
             lower.cast_unsigned(),
             subtract(AX, BX),
         ),
-        Order::IndexTimes { length, line } => put_times(code, ADDRESS, *line, *length),
-        Order::IndexPlus { word, line } => put_with_word(code, ADDRESS, *line, *word, add(AX, BX)),
-        Order::IndexAdd(line) => put_index_add(code, *line),
-        Order::IndexRow {
+        Order::Element { lower, line, .. } => put_element(code, *line, *lower),
+        Order::ElementOfTwo {
             lower,
-            length,
+            second,
+            width,
             line,
-        } => put_index_row(code, *line, *lower, *length),
+            ..
+        } => put_element_of_two(code, *line, *lower, *second, *width),
+        Order::Entry {
+            width,
+            word,
+            line,
+            ..
+        } => put_entry(code, *line, *width, *word),
         Order::InArea(line) => put_in_area(code, *line),
         Order::InBounds { lower, upper, line } => put_in_bounds(code, *line, *lower, *upper),
         Order::Less => put_less(code),

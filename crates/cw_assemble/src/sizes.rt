@@ -2,7 +2,7 @@
 ghost use Rattle.std.specs.Prelude.{◌≡◌, ◌≤◌, ◌+◌, ◌*◌, IfOk};
 ghost use Rattle.cw_order.specs.HasCode.{HasCode};
 ghost use Rattle.cw_order.specs.declared.order.Order.TheVariants as order;
-ghost use Rattle.cw_tmpl.specs.Templates.{times_size, listed_size, order_size, block_size};
+ghost use Rattle.cw_tmpl.specs.Templates.{times_size, width_size, bound_size, word_size, listed_size, order_size, block_size};
 
 use crate::words::power;
 use cw_order::Order;
@@ -14,6 +14,30 @@ fn times_size(number: u16) -> u32
     ensures { result ≡ times_size number }
 {
     if number == 0x8000 { 14 } else { 12 }
+}
+
+/// The same of an entry's words.
+fn width_size(width: u16) -> u32
+    ensures is { result ≡ width_size width }
+    ensures small { result ≤ 14 }
+{
+    if width == 1 { 0 } else { times_size(width) }
+}
+
+/// How many bytes the code of an index less its lower bound has.
+fn bound_size(lower: i16) -> u32
+    ensures is { result ≡ bound_size lower }
+    ensures small { result ≤ 10 }
+{
+    if lower == 0 { 0 } else { 10 }
+}
+
+/// How many bytes the code has that adds the place of a word in its entry.
+fn word_size(word: u16) -> u32
+    ensures is { result ≡ word_size word }
+    ensures small { result ≤ 10 }
+{
+    if word == 0 { 0 } else { 10 }
 }
 
 fn rescale_size(from: u8, to: u8) -> u32
@@ -84,8 +108,8 @@ fn order_size(order: &Order) -> Result<u32, NoMemory>
         Order::Store | Order::Bind { .. } => 7,
         Order::JumpIf { .. } | Order::GoSwitch { .. } | Order::GoSwitchCommon { .. } => 8,
         Order::Neg(_) | Order::InArea(_) | Order::Enter(_) => 9,
-        Order::Add(_) | Order::IndexAdd(_) | Order::Take { .. } | Order::SpecialOut(_) => 10,
-        Order::Sub(_) | Order::IndexLess { .. } | Order::IndexPlus { .. } => 12,
+        Order::Add(_) | Order::Take { .. } | Order::SpecialOut(_) => 10,
+        Order::Sub(_) | Order::IndexLess { .. } => 12,
         Order::GoSwitchSpecial { .. } | Order::CallSpecial { .. } | Order::BindFrame { .. } => 13,
         Order::GoMain(_) | Order::LoadPart { .. } => 15,
         Order::GoSpecial(_) => 17,
@@ -94,8 +118,14 @@ fn order_size(order: &Order) -> Result<u32, NoMemory>
         Order::StorePart { .. } => 26,
         Order::Rescale { from, to, .. } => rescale_size(*from, *to),
         Order::Mul { power, .. } => product_size(*power),
-        Order::IndexTimes { length, .. } => times_size(*length),
-        Order::IndexRow { length, .. } => times_size(*length) + 24,
+        Order::Element { lower, .. } => bound_size(*lower) + 21,
+        Order::ElementOfTwo {
+            lower,
+            second,
+            width,
+            ..
+        } => bound_size(*second) + bound_size(*lower) + times_size(*width) + 33,
+        Order::Entry { width, word, .. } => width_size(*width) + word_size(*word) + 21,
         Order::LoopWay(marks) => return table_size(20, marks.as_slice().len()),
     };
     Ok(size)
