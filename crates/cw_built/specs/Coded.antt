@@ -55,7 +55,11 @@ ends_block order.Store = true
 ends_block (order.Add line) = true
 ends_block (order.Sub line) = true
 ends_block (order.JumpIf c m) = true
+ends_block (order.Mul s line) = true
 ends_block (order.Div s line) = true
+ends_block order.And = true
+ends_block order.Or = true
+ends_block order.Xor = true
 ends_block order.WriteByte = true
 ends_block _ = false
 

@@ -23,7 +23,11 @@ begins-block order.Store e t = absurd (cc)
 begins-block (order.Add line) e t = absurd (cc)
 begins-block (order.Sub line) e t = absurd (cc)
 begins-block (order.JumpIf c m) e t = absurd (cc)
+begins-block (order.Mul s line) e t = absurd (cc)
 begins-block (order.Div s line) e t = absurd (cc)
+begins-block order.And e t = absurd (cc)
+begins-block order.Or e t = absurd (cc)
+begins-block order.Xor e t = absurd (cc)
 begins-block order.WriteByte e t = absurd (cc)
 begins-block _ e t = t
 

@@ -1,5 +1,5 @@
 -- Places in the code of a unit: where statements begin, and where what is defined begins.
-use Rattle.std.proofs.Common.{◌≡◌, ℕ, zero, suc, ◌+◌, ◌*◌, ◌<◌, ◌≤◌, nat_eq, nat_le, nat_lt, List, [], ◌∷◌, ◌++◌, map, length, Bool, true, false, IsTrue, ◌&&◌, ◌||◌, if◌then◌else◌, pos, Option, Some, None, slice_get, slice_index, refl, sym, ap, ◌∙◌, subst, arith, length-append}
+use Rattle.std.proofs.Common.{◌≡◌, ℕ, zero, suc, ◌+◌, ◌*◌, ◌<◌, ◌≤◌, nat_eq, nat_le, nat_lt, List, [], ◌∷◌, ◌++◌, map, length, Bool, true, false, IsTrue, ◌&&◌, ◌||◌, if◌then◌else◌, pos, Option, Some, None, slice_get, slice_index, refl, sym, ap, ◌∙◌, subst, arith, length-append, drop}
 use Rattle.std.proofs.lemmas.Bool.{eqb-true}
 use Rattle.std.proofs.lemmas.Option.{slice_get_within}
 use Rattle.std.specs.List.{list_all}
@@ -13,10 +13,18 @@ use Rattle.cw_unit.specs.declared.unit.Def.{Def}
 use Rattle.cw_unit.specs.declared.unit.Def.TheVariants as def
 use Rattle.cw_unit.specs.declared.descriptor.Desc.{Desc}
 use Rattle.cw_unit.specs.declared.layout.Family.{Family}
+use Rattle.cw_tmpl.specs.declared.blocks.Place.{Place}
+use Rattle.cw_tmpl.specs.declared.blocks.Place.TheVariants as cell
+use Rattle.cw_tmpl.specs.declared.blocks.Simple.{Simple}
+use Rattle.cw_tmpl.specs.declared.blocks.Simple.TheVariants as simple
+use Rattle.cw_tmpl.specs.declared.blocks.Use.{Use}
+use Rattle.cw_tmpl.specs.declared.blocks.Use.TheVariants as uses
+use Rattle.cw_tmpl.specs.declared.blocks.Block.{Block}
 use Rattle.cw_tmpl.specs.declared.blocks.Block.TheVariants as block
 use Rattle.cw_tmpl.specs.Pieces.{blanks}
 use Rattle.cw_tmpl.specs.Names.{mark_place, way_to_label, landing_start, switch_size}
-use Rattle.cw_tmpl.specs.Blocks.{use_of, with_number, is_plain_divisor, after_saved_const, with_variable, after_saved_home, after_saved_frame_home, after_save, after_home, after_frame_home, block_at, orders_left}
+use Rattle.cw_tmpl.specs.Blocks.{address_orders, operand_orders, order_of, block_at, orders_left}
+use Rattle.cw_tmpl.proofs.Shapes.{IsBlock, shape}
 use Rattle.cw_tmpl.specs.Templates.{block_size, entry_pieces}
 use Rattle.cw_tmpl.specs.ReferenceCode.{templates, landings, switches, entry_size, order_places, switch_places, switch_sizes, landings_place, switches_place, names_of, mark_starts, label_starts, statement_at, statements_from, orders_code}
 use Rattle.cw_tmpl.proofs.Growing.{blanks-append}
@@ -40,60 +48,57 @@ left_over zero os = true
 left_over (suc n) [] = false
 left_over (suc n) (o ∷ os) = ends_block o && left_over n os
 
-left-quotient : (b : Bool) (w line : ℕ) (os : List Order) → IsTrue (left_over (orders_left (if b then block.Divide w else block.Single)) (order.Const w ∷ order.Div (pos zero) line ∷ os))
-left-quotient true w line os = refl
-left-quotient false w line os = refl
+-- all orders of a list end a block
+abbrev All-end : List Order → Type 0
+All-end os = IsTrue (list_all ends_block os)
 
-left-number : (w : ℕ) (os : List Order) → IsTrue (left_over (orders_left (after_saved_const w (slice_get os 0))) (order.Const w ∷ os))
-left-number w [] = refl
-left-number w (order.Add line ∷ os) = refl
-left-number w (order.Sub line ∷ os) = refl
-left-number w (order.JumpIf c m ∷ os) = refl
-left-number w (order.Div (pos zero) line ∷ os) = left-quotient (is_plain_divisor w) w line os
-left-number w (x ∷ os) = refl
+end-both : (xs ys : List Order) → All-end xs → All-end ys → All-end (xs ++ ys)
+end-both [] ys h k = k
+end-both (x ∷ xs) ys h k = let p = parts (ends_block x) (list_all ends_block xs) h in both (ends_block x) (list_all ends_block (xs ++ ys)) p.0 (end-both xs ys p.1 k)
 
-left-variable : (f n : ℕ) (os : List Order) → IsTrue (left_over (orders_left (with_variable f n (use_of (slice_get os 0)))) (order.Home f n ∷ order.Load ∷ os))
-left-variable f n [] = refl
-left-variable f n (order.Add line ∷ os) = refl
-left-variable f n (order.Sub line ∷ os) = refl
-left-variable f n (order.JumpIf c m ∷ os) = refl
-left-variable f n (x ∷ os) = refl
+place-ends : (x : Place) → All-end (address_orders x)
+place-ends (cell.Word f n) = refl
+place-ends (cell.Frame n) = refl
 
-left-saved-home : (f n : ℕ) (os : List Order) → IsTrue (left_over (orders_left (after_saved_home f n (slice_get os 0) (slice_get os 1))) (order.Home f n ∷ os))
-left-saved-home f n [] = refl
-left-saved-home f n (order.Load ∷ os) = left-variable f n os
-left-saved-home f n (order.Store ∷ os) = refl
-left-saved-home f n (x ∷ os) = refl
+operand-ends : (s : Simple) → All-end (operand_orders s)
+operand-ends (simple.Number w) = refl
+operand-ends (simple.Contents x) = end-both (address_orders x) (order.Load ∷ []) (place-ends x) refl
 
-left-saved-frame : (n : ℕ) (os : List Order) → IsTrue (left_over (orders_left (after_saved_frame_home n (slice_get os 0))) (order.FrameHome n ∷ os))
-left-saved-frame n [] = refl
-left-saved-frame n (order.Store ∷ os) = refl
-left-saved-frame n (x ∷ os) = refl
+use-ends : (u : Use) → IsTrue (ends_block (order_of u))
+use-ends (uses.Add line) = refl
+use-ends (uses.Subtract line) = refl
+use-ends (uses.Multiply line) = refl
+use-ends uses.Mask = refl
+use-ends uses.Union = refl
+use-ends uses.Differ = refl
+use-ends (uses.Compare c m) = refl
 
-left-save : (os : List Order) → IsTrue (left_over (orders_left (after_save (slice_get os 0) (slice_get os 1) (slice_get os 2))) os)
-left-save [] = refl
-left-save (order.Const w ∷ os) = left-number w os
-left-save (order.Home f n ∷ os) = left-saved-home f n os
-left-save (order.FrameHome n ∷ os) = left-saved-frame n os
-left-save (order.WriteByte ∷ os) = refl
-left-save (x ∷ os) = refl
+left-before : (xs : List Order) (last : Order) (rest : List Order) → All-end xs → IsTrue (ends_block last) → IsTrue (left_over (suc (length xs)) (xs ++ last ∷ rest))
+left-before [] last rest h k = both (ends_block last) true k refl
+left-before (x ∷ xs) last rest h k = let p = parts (ends_block x) (list_all ends_block xs) h in both (ends_block x) (left_over (suc (length xs)) (xs ++ last ∷ rest)) p.0 (left-before xs last rest p.1 k)
 
-left-home : (f n : ℕ) (os : List Order) → IsTrue (left_over (orders_left (after_home f n (slice_get os 0))) os)
-left-home f n [] = refl
-left-home f n (order.Load ∷ os) = refl
-left-home f n (x ∷ os) = refl
+left-fetch : (x : Place) (rest : List Order) → IsTrue (left_over (length (address_orders x)) (drop 1 (address_orders x ++ order.Load ∷ rest)))
+left-fetch (cell.Word f n) rest = refl
+left-fetch (cell.Frame n) rest = refl
 
-left-frame : (n : ℕ) (os : List Order) → IsTrue (left_over (orders_left (after_frame_home n (slice_get os 0))) os)
-left-frame n [] = refl
-left-frame n (order.Load ∷ os) = refl
-left-frame n (x ∷ os) = refl
+left-first : (o : Order) (os : List Order) → IsTrue (left_over (orders_left (block_at 0 (o ∷ os))) os)
+left-first o os = cases (block_at 0 (o ∷ os)) (shape (o ∷ os))
+  where
+    left-so : (n : ℕ) (all : List Order) → o ∷ os ≡ all → IsTrue (left_over n (drop 1 all)) → IsTrue (left_over n os)
+    left-so n all e h = subst (λ l. IsTrue (left_over n (drop 1 l))) (sym e) h
+
+    cases : (b : Block) → IsBlock b (o ∷ os) → IsTrue (left_over (orders_left b) os)
+    cases (block.Within n) sh = absurd sh
+    cases block.Single sh = refl
+    cases (block.Fetch x) sh = left-so (length (address_orders x)) _ sh (left-fetch x (drop (length (address_orders x)) os))
+    cases (block.Assign x) sh = left-so (suc (length (address_orders x))) _ sh (left-before (address_orders x) order.Store (drop (suc (length (address_orders x))) os) (place-ends x) refl)
+    cases block.Write sh = left-so 1 _ sh refl
+    cases (block.Divide w line) sh = left-so 2 _ sh.0 refl
+    cases (block.Operate s u) sh = left-so (suc (length (operand_orders s))) _ sh (left-before (operand_orders s) (order_of u) (drop (suc (length (operand_orders s))) os) (operand-ends s) (use-ends u))
 
 left-next : (left : ℕ) (o : Order) (os : List Order) → IsTrue (left_over left (o ∷ os)) → IsTrue (left_over (orders_left (block_at left (o ∷ os))) os)
 left-next (suc n) o os h = (parts (ends_block o) (left_over n os) h).1
-left-next zero order.Save os h = left-save os
-left-next zero (order.Home f n) os h = left-home f n os
-left-next zero (order.FrameHome n) os h = left-frame n os
-left-next zero o os h = refl
+left-next zero o os h = left-first o os
 
 -- ---- places of orders
 

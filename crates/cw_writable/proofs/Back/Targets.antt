@@ -1,5 +1,5 @@
 -- The words that the linker fills in the code of orders that name what there is.
-use Rattle.std.proofs.Common.{◌≡◌, ℕ, zero, suc, ◌+◌, ◌-◌, ◌%◌, ◌<◌, ◌≤◌, nat_le, nat_lt, List, [], ◌∷◌, ◌++◌, length, All, Bool, true, false, IsTrue, ◌&&◌, if◌then◌else◌, ◌==◌, ◌^◌, ℤ, pos, negsuc, Option, Some, None, is_some, slice_get, slice_index, refl, sym, subst, arith}
+use Rattle.std.proofs.Common.{◌≡◌, ℕ, zero, suc, ◌+◌, ◌-◌, ◌%◌, ◌<◌, ◌≤◌, nat_le, nat_lt, List, [], ◌∷◌, ◌++◌, length, All, Bool, true, false, IsTrue, ◌&&◌, if◌then◌else◌, ◌==◌, ◌^◌, ℤ, pos, negsuc, Option, Some, None, is_some, slice_get, slice_index, refl, sym, subst, arith, drop, ap, ◌∙◌, append_assoc}
 use Rattle.std.proofs.lemmas.Bool.{ltb-true}
 use Rattle.std.specs.List.{list_all}
 use Rattle.cw_order.specs.declared.order.Order.{Order}
@@ -19,9 +19,15 @@ use Rattle.cw_tmpl.specs.declared.blocks.Use.TheVariants as uses
 use Rattle.cw_tmpl.specs.Pieces.{size_of, target_of, relocation_of, relocation_before, relocations}
 use Rattle.cw_tmpl.specs.Names.{Names, mark_place, label_start, procedure_start, switch_start, landing_size, switch_size, own}
 use Rattle.cw_tmpl.specs.Library.{overflow_entry, address_entry}
+use Rattle.cw_tmpl.specs.declared.blocks.Place.{Place}
+use Rattle.cw_tmpl.specs.declared.blocks.Place.TheVariants as cell
+use Rattle.cw_tmpl.specs.declared.blocks.Simple.{Simple}
+use Rattle.cw_tmpl.specs.declared.blocks.Simple.TheVariants as simple
+use Rattle.cw_tmpl.specs.declared.blocks.Block.{Block}
 use Rattle.cw_tmpl.specs.declared.blocks.Block.TheVariants as block
-use Rattle.cw_tmpl.specs.Blocks.{use_of, with_number, is_plain_divisor, after_saved_const, with_variable, after_saved_home, after_saved_frame_home, after_save, after_home, after_frame_home, block_at, orders_left}
-use Rattle.cw_tmpl.specs.Templates.{template, mark_words, goal_words, landing_pieces, switch_pieces, times_if, times, rescale_if, product_start, product_down, less_bound, plus_word, times_width, based, in_row, element_of_two, block_pieces, block_size, entry_pieces}
+use Rattle.cw_tmpl.specs.Blocks.{address_orders, operand_orders, block_at, orders_left}
+use Rattle.cw_tmpl.proofs.Shapes.{IsBlock, shape}
+use Rattle.cw_tmpl.specs.Templates.{template, mark_words, goal_words, landing_pieces, switch_pieces, times_if, times, rescale_if, product_start, product_down, less_bound, plus_word, times_width, based, in_row, element_of_two, block_pieces, block_size, entry_pieces, checked, address_pieces, load_place, store_place, with_operand, product_with, operated}
 use Rattle.cw_tmpl.specs.ReferenceCode.{templates, landings, switches, entry_size, landings_place, switches_place, names_of, pieces_of}
 use Rattle.cw_tmpl.specs.Blanks.{FillsBlank, Rise}
 use Rattle.cw_view.specs.ObjectFormat.{is_blank, has_index}
@@ -161,71 +167,78 @@ module _ (n : ℕ) (fs : List Family) where
   Placed (order.Home f k ∷ os) = IsTrue (is_place fs f k)
   Placed (_ ∷ os) = Unit {0}
 
+  placed-first : (o : Order) (os : List Order) → IsTrue (names_well n fs o) → Placed (o ∷ os)
+  placed-first (order.Home f k) os h = h
+  placed-first _ os h = tt
+
   first-placed : (os : List Order) → Fit n fs os → Placed os
   first-placed _ none = tt
-  first-placed _ (next o os h r) = by_order o h
-    where
-      by_order : (o : Order) → IsTrue (names_well n fs o) → Placed (o ∷ os)
-      by_order (order.Home f k) h = h
-      by_order _ h = tt
+  first-placed _ (next o os h r) = placed-first o os h
   first-placed _ (begun line os h r) = tt
 
-  number-sound : (names : Names) (place w : ℕ) (x : Option Use) → Sound (block_pieces names place (with_number w x) order.Save)
-  number-sound names place w None = refl
-  number-sound names place w (Some (uses.Add line)) = refl
-  number-sound names place w (Some (uses.Subtract line)) = refl
-  number-sound names place w (Some (uses.Compare c m)) = refl
+  -- a place names a word of its family
+  abbrev Named : Place → Type 0
+  Named (cell.Word f k) = IsTrue (is_place fs f k)
+  Named (cell.Frame k) = Unit {0}
 
-  quotient-sound : (b : Bool) (names : Names) (place w : ℕ) → Sound (block_pieces names place (if b then block.Divide w else block.Single) order.Save)
-  quotient-sound true names place w = refl
-  quotient-sound false names place w = refl
+  named-first : (x : Place) (rest : List Order) → Placed (address_orders x ++ rest) → Named x
+  named-first (cell.Word f k) rest h = h
+  named-first (cell.Frame k) rest h = tt
 
-  saved-const-sound : (names : Names) (place w : ℕ) (os : List Order) → Sound (block_pieces names place (after_saved_const w (slice_get os 0)) order.Save)
-  saved-const-sound names place w [] = refl
-  saved-const-sound names place w (order.Div (pos zero) line ∷ os) = quotient-sound (is_plain_divisor w) names place w
-  saved-const-sound names place w (x ∷ os) = number-sound names place w (use_of (Some x))
+  fetch-sound : (x : Place) → Named x → Sound (address_pieces x ++ load_place x ∷ [])
+  fetch-sound (cell.Word f k) h = only (is_place fs f k) h
+  fetch-sound (cell.Frame k) h = refl
 
-  variable-sound : (names : Names) (place f k : ℕ) (x : Option Use) → IsTrue (is_place fs f k) → Sound (block_pieces names place (with_variable f k x) order.Save)
-  variable-sound names place f k None h = refl
-  variable-sound names place f k (Some (uses.Add line)) h = only (is_place fs f k) h
-  variable-sound names place f k (Some (uses.Subtract line)) h = only (is_place fs f k) h
-  variable-sound names place f k (Some (uses.Compare c m)) h = only (is_place fs f k) h
+  assign-sound : (x : Place) → Named x → Sound (address_pieces x ++ store_place x ∷ [])
+  assign-sound (cell.Word f k) h = only (is_place fs f k) h
+  assign-sound (cell.Frame k) h = refl
 
-  saved-home-sound : (names : Names) (place f k : ℕ) (os : List Order) → IsTrue (is_place fs f k) → Sound (block_pieces names place (after_saved_home f k (slice_get os 0) (slice_get os 1)) order.Save)
-  saved-home-sound names place f k [] h = refl
-  saved-home-sound names place f k (order.Load ∷ os) h = variable-sound names place f k (use_of (slice_get os 0)) h
-  saved-home-sound names place f k (order.Store ∷ os) h = only (is_place fs f k) h
-  saved-home-sound names place f k (x ∷ os) h = refl
+  abbrev SimpleNamed : Simple → Type 0
+  SimpleNamed (simple.Number w) = Unit {0}
+  SimpleNamed (simple.Contents x) = Named x
 
-  saved-frame-sound : (names : Names) (place k : ℕ) (os : List Order) → Sound (block_pieces names place (after_saved_frame_home k (slice_get os 0)) order.Save)
-  saved-frame-sound names place k [] = refl
-  saved-frame-sound names place k (order.Store ∷ os) = refl
-  saved-frame-sound names place k (x ∷ os) = refl
+  operand-sound : (op : ℕ) (s : Simple) → SimpleNamed s → Sound (with_operand op s)
+  operand-sound op (simple.Number w) h = refl
+  operand-sound op (simple.Contents (cell.Word f k)) h = only (is_place fs f k) h
+  operand-sound op (simple.Contents (cell.Frame k)) h = refl
 
-  save-sound : (names : Names) (place : ℕ) (os : List Order) → Placed os → Sound (block_pieces names place (after_save (slice_get os 0) (slice_get os 1) (slice_get os 2)) order.Save)
-  save-sound names place [] h = refl
-  save-sound names place (order.Const w ∷ os) h = saved-const-sound names place w os
-  save-sound names place (order.Home f k ∷ os) h = saved-home-sound names place f k os h
-  save-sound names place (order.FrameHome k ∷ os) h = saved-frame-sound names place k os
-  save-sound names place (order.WriteByte ∷ os) h = refl
-  save-sound names place (x ∷ os) h = refl
+  product-sound : (s : Simple) → SimpleNamed s → Sound (product_with s)
+  product-sound (simple.Number w) h = refl
+  product-sound (simple.Contents (cell.Word f k)) h = only (is_place fs f k) h
+  product-sound (simple.Contents (cell.Frame k)) h = refl
 
-  home-sound : (names : Names) (place f k : ℕ) (os : List Order) → IsTrue (is_place fs f k) → Sound (block_pieces names place (after_home f k (slice_get os 0)) (order.Home f k))
-  home-sound names place f k [] h = only (is_place fs f k) h
-  home-sound names place f k (order.Load ∷ os) h = only (is_place fs f k) h
-  home-sound names place f k (x ∷ os) h = only (is_place fs f k) h
+  operated-sound : (names : Names) (place : ℕ) (s : Simple) (u : Use) → SimpleNamed s → Sound (operated names place s u)
+  operated-sound names place s (uses.Add line) h = sound-both (with_operand 0 s) (checked line) (operand-sound 0 s h) refl
+  operated-sound names place s (uses.Subtract line) h = sound-both (with_operand 5 s) (checked line) (operand-sound 5 s h) refl
+  operated-sound names place s (uses.Multiply line) h = sound-both (product_with s) (checked line) (product-sound s h) refl
+  operated-sound names place s uses.Mask h = operand-sound 4 s h
+  operated-sound names place s uses.Union h = operand-sound 1 s h
+  operated-sound names place s uses.Differ h = operand-sound 6 s h
+  operated-sound names place s (uses.Compare c m) h = sound-both (with_operand 7 s) _ (operand-sound 7 s h) refl
 
-  frame-sound : (names : Names) (place k : ℕ) (os : List Order) → Sound (block_pieces names place (after_frame_home k (slice_get os 0)) (order.FrameHome k))
-  frame-sound names place k [] = refl
-  frame-sound names place k (order.Load ∷ os) = refl
-  frame-sound names place k (x ∷ os) = refl
+  first-sound : (names : Names) (place : ℕ) (o : Order) (os : List Order) → IsTrue (names_well n fs o) → Fit n fs os → Sound (block_pieces names place (block_at 0 (o ∷ os)) o)
+  first-sound names place o os h r = cases (block_at 0 (o ∷ os)) (shape (o ∷ os))
+    where
+      -- what the orders behind a Save name
+      behind : (x : Place) (rest : List Order) → o ∷ os ≡ order.Save ∷ (address_orders x ++ rest) → Named x
+      behind x rest e = named-first x rest (subst Placed (ap (drop 1) e) (first-placed os r))
+
+      simple-behind : (s : Simple) (rest : List Order) → o ∷ os ≡ order.Save ∷ (operand_orders s ++ rest) → SimpleNamed s
+      simple-behind (simple.Number w) rest e = tt
+      simple-behind (simple.Contents x) rest e = behind x (order.Load ∷ rest) (e ∙ ap (λ l. order.Save ∷ l) (append_assoc (address_orders x) (order.Load ∷ []) rest))
+
+      cases : (b : Block) → IsBlock b (o ∷ os) → Sound (block_pieces names place b o)
+      cases (block.Within k) sh = absurd sh
+      cases block.Single sh = template-sound names place o h
+      cases (block.Fetch x) sh = fetch-sound x (named-first x _ (subst Placed sh (placed-first o os h)))
+      cases (block.Assign x) sh = assign-sound x (behind x _ sh)
+      cases block.Write sh = refl
+      cases (block.Divide w line) sh = refl
+      cases (block.Operate s u) sh = operated-sound names place s u (simple-behind s _ sh)
 
   block-sound : (names : Names) (place left : ℕ) (o : Order) (os : List Order) → IsTrue (names_well n fs o) → Fit n fs os → Sound (block_pieces names place (block_at left (o ∷ os)) o)
   block-sound names place (suc left) o os h r = refl
-  block-sound names place zero order.Save os h r = save-sound names place os (first-placed os r)
-  block-sound names place zero (order.Home f k) os h r = home-sound names place f k os h
-  block-sound names place zero (order.FrameHome k) os h r = frame-sound names place k os
-  block-sound names place zero o os h r = template-sound names place o h
+  block-sound names place zero o os h r = first-sound names place o os h r
 
   start-sound : (names : Names) (place left line : ℕ) (os : List Order) → Sound (block_pieces names place (block_at left (order.Start line ∷ os)) (order.Start line))
   start-sound names place (suc left) line os = refl
