@@ -6,8 +6,8 @@ ghost use Rattle.cw_tmpl.specs.Pieces.{blanks, relocations};
 ghost use Rattle.cw_tmpl.specs.Templates.{entry_pieces};
 ghost use Rattle.cw_tmpl.specs.ReferenceCode.{templates, landings, switches, names_of, pieces_of, orders_code};
 
-use crate::jumping::{put_landing, put_switch};
 use crate::blocks::put_block;
+use crate::jumping::{put_landing, put_switch};
 use crate::places::{
     label_places, mark_places, order_places, place_at, procedure_places, statement_places,
     switch_places, switches_place,

@@ -27,10 +27,7 @@ fn put_address(code: &mut Assembly, place: Place) -> Result<(), NoMemory>
 {
     match place {
         Place::Word { .. } => code.put_all(&[]),
-        Place::Frame(_) => code.put_all(&[
-            Coded::Whole(load(BX, BASE)),
-            Coded::Whole(double(BX)),
-        ]),
+        Place::Frame(_) => code.put_all(&[Coded::Whole(load(BX, BASE)), Coded::Whole(double(BX))]),
     }
 }
 
@@ -143,12 +140,7 @@ fn put_product_with(code: &mut Assembly, operand: Simple) -> Result<(), NoMemory
     }
 }
 
-fn put_sum(
-    code: &mut Assembly,
-    number: u8,
-    operand: Simple,
-    line: u16,
-) -> Result<(), NoMemory>
+fn put_sum(code: &mut Assembly, number: u8, operand: Simple, line: u16) -> Result<(), NoMemory>
     requires { number < 8 }
     ensures { OnOk result (Adds code.old (with_operand number operand ++ checked line) code.new) }
 {

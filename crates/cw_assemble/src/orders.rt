@@ -7,20 +7,18 @@ ghost use Rattle.cw_tmpl.specs.Names.{no_names};
 ghost use Rattle.cw_tmpl.specs.Templates.{template};
 
 use crate::arithmetic::{
-    put_checked, put_less, put_on_both, put_product, put_quotient, put_rescale,
-    put_with_word,
+    put_checked, put_less, put_on_both, put_product, put_quotient, put_rescale, put_with_word,
 };
 use crate::calling::{
-    put_bind, put_bind_frame, put_call, put_call_common, put_call_special,
-    put_control, put_enter, put_frame_home, put_read_byte, put_return,
-    put_special_out,
+    put_bind, put_bind_frame, put_call, put_call_common, put_call_special, put_control, put_enter,
+    put_frame_home, put_read_byte, put_return, put_special_out,
 };
 use crate::indexes::{
     put_call_at_line, put_element, put_element_of_two, put_entry, put_in_area, put_in_bounds,
 };
 use crate::jumping::{
-    put_base_jump, put_go_special, put_go_switch, put_go_switch_common,
-    put_go_switch_special, put_jump, put_jump_if, put_loop_way, put_past_limit,
+    put_base_jump, put_go_special, put_go_switch, put_go_switch_common, put_go_switch_special,
+    put_jump, put_jump_if, put_loop_way, put_past_limit,
 };
 use crate::parts::{put_load_part, put_store_part, put_take};
 use cw_i86::Instr;

@@ -117,8 +117,7 @@ module _ (c : Setting) (memory : List ℤ) (input output : List ℕ) where
         step =
             λ op h.
             let bytes : 0 < length (bytes_of (i86.AluRm (number_of op) true true 0 rm)) = subst (λ n. 0 < n) (sym (long op)) lt in
-            let a = act c.rows (Operate op 0 rm (InData k) (unsigned y)) refl bytes h (named, ey) here in
-            (
+            let a = act c.rows (Operate op 0 rm (InData k) (unsigned y)) refl bytes h (named, ey) here in (
               subst (λ n. Is c.image (at + n) (operated_on op (InRegister 0) (unsigned x) (unsigned y) (V (unsigned x))) (watched_step p)) (long op) a.is,
               (p.processor.state.flags, a.flags),
             );
