@@ -23,7 +23,7 @@ use Rattle.cw_order.specs.declared.order.Order.TheVariants as order
 use Rattle.cw_order.specs.Loading.{loaded_after}
 use Rattle.cw_order.specs.OrderCosts.{weight_of}
 use Rattle.cw_gen_expr.specs.Pieces.{plain, followed_by}
-use Rattle.cw_gen_expr.specs.ReferenceExpressions.{at_line, saved, item_order, table_orders, form_orders, rescale_orders, narrow, bounds_orders, expression_piece, reference_of}
+use Rattle.cw_gen_expr.specs.ReferenceExpressions.{at_line, saved, item_order, item_span, table_orders, table_span, form_orders, rescale_orders, narrow, bounds_orders, expression_piece, reference_of}
 use Rattle.cw_gen_expr.specs.BuiltExpressions.{whole, built_value, built_reference, is_spot}
 use Rattle.cw_gen_expr.proofs.Layers.{spot_layer, spot-made, reference-made, built_spot_layer, spot-built, reference-built, reference_size, reference-size, spot-size, spot_size_layer, expression_size}
 use Rattle.cw_carry.proofs.Expressions.Standing.{Stands, Made, saved_made, one_made}
@@ -35,6 +35,17 @@ use Rattle.cw_carry.proofs.Expressions.Moments.{both, item_silent, item_light, i
 
 -- ---- operations
 
+-- an order of its own
+single : (line : ℕ) (l m : Bool) (o : Order) → IsTrue (is_silent o) → 0 < weight_of o → weight_of o ≤ 159 → TellsLine line o → loaded_after o l ≡ Some m → IsLight line l m (o ∷ [])
+single line l m o h some le tells turn = record {
+  quiet = silent_and (is_silent o) true h refl;
+  light = (let z : weight_of o + 0 ≤ 159 = omega (arith, le) in z);
+  some = (let z : 0 < weight_of o + 0 = omega (arith, some) in z);
+  short = (let z : 1 ≤ 12 = omega arith in z);
+  at = (tells, tt);
+  turns = ap (λ x. through_all x []) turn;
+}
+
 module _ (c : Compiled) (t : Moment c) where
   operated : (op : Operation) (os : List Order) (line : ℕ) (k : Work) (q n : ℕ) (r : Bool) (w : Words) → operation_orders line op ≡ os → IsLight line true (gives_word op) os → OperationFits op r → Stands (code c t) q (operation_orders line op) n → Ready c.limits.area r w.operands → Leads_to c t n (gives_word op) false k → Facts c t (Do op line k) w → Steps c t (Do op line k) q true w
   operated op os line k q n r w e light f stands ready carried facts =
@@ -42,17 +53,6 @@ module _ (c : Compiled) (t : Moment c) where
       (λ ok. subst (λ x. run c t x w ≡ perform c.limits.area op w) e (operation-runs (target c) (here_in c t) t.calls_below line op r w.operands w.memory w.input w.output f ready facts.fits ok))
       (λ v h. tt)
       carried
-
-  -- an order of its own
-  single : (line : ℕ) (l m : Bool) (o : Order) → IsTrue (is_silent o) → 0 < weight_of o → weight_of o ≤ 159 → TellsLine line o → loaded_after o l ≡ Some m → IsLight line l m (o ∷ [])
-  single line l m o h some le tells turn = record {
-    quiet = silent_and (is_silent o) true h refl;
-    light = (let z : weight_of o + 0 ≤ 159 = omega (arith, le) in z);
-    some = (let z : 0 < weight_of o + 0 = omega (arith, some) in z);
-    short = (let z : 1 ≤ 12 = omega arith in z);
-    at = (tells, tt);
-    turns = ap (λ x. through_all x []) turn;
-  }
 
   rescaled : (b : Bool) (from to line : ℕ) (k : Work) (q n : ℕ) (r : Bool) (w : Words) → (from == to) ≡ b → Stands (code c t) q (rescale_orders line from to) n → Ready c.limits.area r w.operands → Leads_to c t n true false k → Facts c t (Do (Rescale from to) line k) w → Steps c t (Do (Rescale from to) line k) q true w
   rescaled false from to line k q n r w is stands ready carried facts =
@@ -127,65 +127,48 @@ module _ (y : Layout) (line : ℕ) where
         turns = ap (λ x. through_all x os) (item_loads y i 0) ∙ turns;
       }
 
-  pub with_order : (l k m : Bool) (o : Order) (os : List Order) → IsTrue (is_silent o) → weight_of o ≤ 40 → IsLight line k m os → total_weight os ≤ 100 → length os ≤ 10 → TellsLine line o → loaded_after o l ≡ Some k → IsLight line l m (o ∷ os)
-  with_order l k m o os h small light le short tells turn = record {
-    quiet = silent_and (is_silent o) (all_silent os) h light.quiet;
-    light = (let z : weight_of o + total_weight os ≤ 159 = omega (arith, small, le) in z);
-    some = (let z : 0 < weight_of o + total_weight os = omega (arith, light.some) in z);
+  -- behind a Save
+  pub with_save : (m : Bool) (os : List Order) → IsLight line false m os → total_weight os ≤ 150 → length os ≤ 10 → IsLight line true m (order.Save ∷ os)
+  with_save m os light le short = record {
+    quiet = light.quiet;
+    light = (let z : 1 + total_weight os ≤ 159 = omega (arith, le) in z);
+    some = (let z : 0 < 1 + total_weight os = omega arith in z);
     short = (let z : suc (length os) ≤ 12 = omega (arith, short) in z);
-    at = (tells, light.at);
-    turns = ap (λ x. through_all x os) turn ∙ light.turns;
+    at = (tt, light.at);
+    turns = light.turns;
   }
 
-  -- behind a Save
-  pub with_save : (m : Bool) (os : List Order) → IsLight line false m os → total_weight os ≤ 100 → length os ≤ 10 → IsLight line true m (order.Save ∷ os)
-  with_save m os light le short = with_order true false m order.Save os refl (omega arith) light le short tt refl
-
-  -- the address of an item, with an index below it
-  abbrev based : (i : ℕ) → List Order
-  based i = item_order y i 0 ∷ order.IndexAdd line ∷ order.InArea line ∷ []
-
-  based_light : (i : ℕ) → IsLight line false true (based i)
-  based_light i = item_and true i (order.IndexAdd line ∷ order.InArea line ∷ []) refl (omega arith) (omega arith) (refl, (refl, tt)) refl
-
-  saved_light : (i : ℕ) → IsLight line true true (order.Save ∷ based i)
-  saved_light i =
+  -- an order behind the base of a table, or of an array, which is found as that of a table
+  based : (tb : Bool) (i : ℕ) (o : Order) → IsLight line true true (o ∷ []) → total_weight (o ∷ []) ≤ 40 → IsLight line true true (order.Save ∷ (table_orders y tb i ++ o ∷ []))
+  based true i o light le =
       let w = item_light y i 0 in
-      with_save true (based i) (based_light i) (let z : weight_of (item_order y i 0) + 36 ≤ 100 = omega (arith, w.1) in z) (omega arith)
-
-  abbrev tabled : (tb : Bool) (i : ℕ) → List Order
-  tabled tb i = table_orders y tb i ++ order.IndexAdd line ∷ order.InArea line ∷ []
-
-  table_light : (tb : Bool) (i : ℕ) → IsLight line false true (tabled tb i) × (total_weight (tabled tb i) ≤ 44) × (length (tabled tb i) ≤ 4)
-  table_light true i = let w = item_light y i 0 in (item_and true i (order.Load ∷ order.IndexAdd line ∷ order.InArea line ∷ []) refl (omega arith) (omega arith) (tt, (refl, (refl, tt))) refl, (let z : weight_of (item_order y i 0) + 40 ≤ 44 = omega (arith, w.1) in z), omega arith)
-  table_light false i = let w = item_light y i 0 in (based_light i, (let z : weight_of (item_order y i 0) + 36 ≤ 44 = omega (arith, w.1) in z), omega arith)
-
-  saved_table : (tb : Bool) (i : ℕ) → IsLight line true true (order.Save ∷ tabled tb i)
-  saved_table tb i =
-      let tl = table_light tb i in
-      with_save true (tabled tb i) tl.0 (let z : total_weight (tabled tb i) ≤ 100 = omega (arith, tl.1) in z) (let z : length (tabled tb i) ≤ 10 = omega (arith, tl.2) in z)
+      with_save true (item_order y i 0 ∷ order.Load ∷ o ∷ [])
+      (item_and true i (order.Load ∷ o ∷ []) light.quiet (let z : 8 + total_weight (o ∷ []) ≤ 150 = omega (arith, le) in z) (omega arith) (tt, light.at) light.turns)
+      (let z : weight_of (item_order y i 0) + (8 + total_weight (o ∷ [])) ≤ 150 = omega (arith, w.1, le) in z) (omega arith)
+  based false i o light le =
+      let w = item_light y i 0 in
+      with_save true (item_order y i 0 ∷ o ∷ [])
+      (item_and true i (o ∷ []) light.quiet (let z : total_weight (o ∷ []) ≤ 150 = omega (arith, le) in z) (omega arith) light.at light.turns)
+      (let z : weight_of (item_order y i 0) + total_weight (o ∷ []) ≤ 150 = omega (arith, w.1, le) in z) (omega arith)
 
   form_light : (x : Spot-F Arg Cond Expr Spot Ref) → IsLight line (takes_index x) true (form_orders y line x)
   form_light (layer.Direct i) = item_and true i [] refl (omega arith) (omega arith) tt refl
   form_light (layer.Through i) = item_and true i (order.Load ∷ order.InArea line ∷ []) refl (omega arith) (omega arith) (tt, (refl, tt)) refl
   form_light (layer.One i k h e) =
-      let w = item_light y i 0 in
-      with_order true true true (order.IndexLess k line) (order.Save ∷ based i) refl (omega arith) (saved_light i) (let z : 1 + (weight_of (item_order y i 0) + 36) ≤ 100 = omega (arith, w.1) in z) (omega arith) refl refl
+      let o = order.Element k (item_span y i) line in
+      based false i o (single line true true o refl (omega arith) (omega arith) refl refl) (omega arith)
   form_light (layer.Two i k1 h1 k2 h2 n e f) =
-      let w = item_light y i 0 in
-      with_order true true true (order.IndexLess k2 line) (order.IndexRow k1 n line ∷ order.Save ∷ based i) refl (omega arith)
-      (with_order true true true (order.IndexRow k1 n line) (order.Save ∷ based i) refl (omega arith) (saved_light i) (let z : 1 + (weight_of (item_order y i 0) + 36) ≤ 100 = omega (arith, w.1) in z) (omega arith) refl refl)
-      (let z : 34 + (1 + (weight_of (item_order y i 0) + 36)) ≤ 100 = omega (arith, w.1) in z)
-      (omega arith) refl refl
-  form_light (layer.ParamArray i e) = saved_table true i
-  form_light (layer.Word i tb m e) = saved_table tb i
+      let o = order.ElementOfTwo k1 k2 n (item_span y i) line in
+      based false i o (single line true true o refl (omega arith) (omega arith) refl refl) (omega arith)
+  form_light (layer.ParamArray i e) =
+      let o = order.Element (pos 0) 0 line in
+      based true i o (single line true true o refl (omega arith) (omega arith) refl refl) (omega arith)
+  form_light (layer.Word i tb m e) =
+      let o = order.Element (pos 0) (table_span y tb i) line in
+      based tb i o (single line true true o refl (omega arith) (omega arith) refl refl) (omega arith)
   form_light (layer.Elem i tb n m k e) =
-      let tl = table_light tb i in
-      let rest = order.Save ∷ tabled tb i in
-      with_order true true true (order.IndexTimes n line) (order.IndexPlus k line ∷ rest) refl (omega arith)
-      (with_order true true true (order.IndexPlus k line) rest refl (omega arith) (saved_table tb i) (let z : 1 + total_weight (tabled tb i) ≤ 100 = omega (arith, tl.1) in z) (let z : suc (length (tabled tb i)) ≤ 10 = omega (arith, tl.2) in z) refl refl)
-      (let z : 20 + (1 + total_weight (tabled tb i)) ≤ 100 = omega (arith, tl.1) in z)
-      (let z : suc (suc (length (tabled tb i))) ≤ 10 = omega (arith, tl.2) in z) refl refl
+      let o = order.Entry n k (table_span y tb i) line in
+      based tb i o (single line true true o refl (omega arith) (omega arith) refl refl) (omega arith)
   form_light (layer.Bare e) = record { quiet = refl; light = omega arith; some = omega arith; short = omega arith; at = (refl, tt); turns = refl }
 
 -- ---- an address that was formed is one of the area
@@ -264,7 +247,7 @@ module _ (c : Compiled) (t : Moment c) where
   address_formed spot line k q n w b stands carried facts =
       let f = addressing_of (source c) (out-Spot spot) t.segment t.acts w in
       done_by c t (FormAt spot line k) k line q n (takes_index (out-Spot spot)) true (form_orders (layout c t) line (out-Spot spot)) w true (form_address c.limits.area f w) stands (form_light (layout c t) line (out-Spot spot)) facts refl
-      (λ ok. form-runs (target c) (here_in c t) t.calls_below (source c) t.segment t.acts (layout c t) (has_words c t) t.in_words t.stand line t.unit (out-Spot spot) w.operands w.memory w.input w.output (sym (spot-built t.unit (has_words c t) spot) ∙ b) facts.fits ok)
+      (λ ok. form-runs (target c) (here_in c t) t.calls_below (source c) t.segment t.acts (layout c t) (has_words c t) t.in_words t.stand line t.unit (out-Spot spot) w.operands w.memory w.input w.output (sym (spot-built t.unit (has_words c t) spot) ∙ b))
       (λ v e. formed c.limits.area f w.operands w.memory w.input w.output v e)
       carried
 

@@ -171,8 +171,8 @@ module _ (c : Compiled) where
         done_by c t (KeepAt i x k) k x.line q n true false (keep_orders (layout c t) x.item i) w false (perform c.limits.area (Keep (address_at (source c) t.segment t.acts x.item + i)) w) stands
         (record {
           quiet = silent_and (is_silent o) true (item_silent (layout c t) x.item i) refl;
-          light = (let z : 1 + (weight_of o + (5 + 0)) ≤ 159 = omega (arith, light.1) in z);
-          some = (let z : 0 < 1 + (weight_of o + (5 + 0)) = omega (arith, light.0) in z);
+          light = (let z : 1 + (weight_of o + (8 + 0)) ≤ 159 = omega (arith, light.1) in z);
+          some = (let z : 0 < 1 + (weight_of o + (8 + 0)) = omega (arith, light.0) in z);
           short = (let z : 3 ≤ 12 = omega arith in z);
           at = (tt, (item_tells x.line (layout c t) x.item i, (tt, tt)));
           turns = ap (λ y. through_all y (order.Store ∷ [])) (item_loads (layout c t) x.item i);
@@ -185,7 +185,7 @@ module _ (c : Compiled) where
     variable_set x k q n w b stands carried facts =
         let light = item_light (layout c t) x.item 0 in
         done_by c t (SetVar x k) k x.line q n true false (set_orders (layout c t) x.line x.item) w false (perform c.limits.area (SetVariable (address_at (source c) t.segment t.acts x.item)) w) stands
-        (with_save (layout c t) x.line false (item_order (layout c t) x.item 0 ∷ order.SetVariable x.line ∷ []) (item_and (layout c t) x.line false x.item (order.SetVariable x.line ∷ []) refl (omega arith) (omega arith) (refl, tt) refl) (let z : weight_of (item_order (layout c t) x.item 0) + (24 + 0) ≤ 100 = omega (arith, light.1) in z) (omega arith))
+        (with_save (layout c t) x.line false (item_order (layout c t) x.item 0 ∷ order.SetVariable x.line ∷ []) (item_and (layout c t) x.line false x.item (order.SetVariable x.line ∷ []) refl (omega arith) (omega arith) (refl, tt) refl) (let z : weight_of (item_order (layout c t) x.item 0) + (24 + 0) ≤ 150 = omega (arith, light.1) in z) (omega arith))
         facts refl
         (λ ok. sets (target c) (here_in c t) t.calls_below (source c) t.segment t.acts (layout c t) (has_words c t) t.in_words t.stand x.line x.item 4 w.operands w.memory w.input w.output b (omega arith))
         (λ v h. tt) carried

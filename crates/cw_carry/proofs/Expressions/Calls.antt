@@ -164,9 +164,6 @@ module _ (c : Compiled) where
         }
 
     -- the body begins
-    start_words : Bound → Words
-    start_words b = words [] b.memory w.input w.output
-
     begins_body : frame_top (source c) t.acts + frame_size_of (source c) h p ≤ c.limits.area → (b : Bound) → bind_all (λ i. item_address (source c) h i (frame_top (source c) t.acts)) proc.params (first_operands (length proc.params) w.operands) (Some (record { memory = w.memory; controls = [] })) ≡ Some b → next c t now w ≡ configuration t.segment (Run proc.body Leave) (activation b ∷ t.acts) (words [] b.memory w.input w.output) Running → enter (target c) size h stands.entry false (begins ∷ bs) empty ≡ state h (stands.entry + 1) false (entered ∷ bs) empty Running → Steps c t now q false w
     begins_body fits b bound e f =
         let base = frames_agree t.segment t.acts bs t.calls in

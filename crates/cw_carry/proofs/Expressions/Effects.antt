@@ -1,5 +1,5 @@
 -- What orders do to words, one after another.
-use Rattle.std.proofs.Common.{◌≡◌, ℕ, zero, suc, ◌+◌, ◌-◌, ◌*◌, ◌<◌, ◌≤◌, ℤ, pos, negsuc, ◌+ℤ◌, ◌-ℤ◌, ◌*ℤ◌, neg_ℤ, List, [], ◌∷◌, set, length, Bool, true, false, Option, Some, None, refl, sym, ap, ◌∙◌, subst, arith}
+use Rattle.std.proofs.Common.{◌≡◌, ℕ, zero, suc, ◌+◌, ◌-◌, ◌*◌, min, ◌<◌, ◌≤◌, ℤ, pos, negsuc, ◌+ℤ◌, ◌-ℤ◌, ◌*ℤ◌, neg_ℤ, List, [], ◌∷◌, set, length, Bool, true, false, Option, Some, None, refl, sym, ap, ◌∙◌, subst, arith}
 use Rattle.std.specs.Prelude.{slice_get, int_le, not, IsTrue, ◌&&◌}
 use Rattle.std.proofs.lemmas.Bool.{false≢true, le-leb}
 use Rattle.std.proofs.lemmas.Option.{none-some, same_Some}
@@ -12,7 +12,7 @@ use Rattle.cw_word.specs.FixedPoint.{fits_word, rescaled, scaled_product}
 use Rattle.cw_word.specs.BitField.{unsigned_field}
 use Rattle.cw_word.specs.Word.{signed, unsigned, word_difference}
 use Rattle.cw_unit.specs.Words.{Control, LabelControl, SwitchControl, ProcedureControl, Operand, Word, Held, Words, Outcome, Changed, Refused, Impossible, with_operands, with_memory, is_below, number_of, put, put_if, put_value, on_one, on_two, word_at, through, at_address, field_value, with_bits, stored_value, logic_word, read_byte}
-use Rattle.cw_unit.specs.Operation.{Operation, Constant, Rescale, Fetch, Store, StoreBits, Add, Subtract, Negate, Multiply, Divide, Combine, Extract, InBounds, Form, Addressing, Known, Taken, Indexed, Indexed2, Scaled, Keep, SetVariable, AddStep, ReadByte, WriteByte, fitting, address_of, divide, store_sum, perform}
+use Rattle.cw_unit.specs.Operation.{Operation, Constant, Rescale, Fetch, Store, StoreBits, Add, Subtract, Negate, Multiply, Divide, Combine, Extract, InBounds, Form, Addressing, Known, Taken, Indexed, Indexed2, Scaled, Keep, SetVariable, AddStep, ReadByte, WriteByte, fitting, address_of, form_address, divide, store_sum, perform}
 use Rattle.cw_unit.specs.declared.unit.LogicOp.TheVariants as logic
 use Rattle.cw_unit.specs.Step.{held}
 use Rattle.cw_unit.specs.Behaviour.{Observation}
@@ -23,7 +23,7 @@ use Rattle.cw_order.specs.OrderProgram.{OrderProgram, order_at}
 use Rattle.cw_order.specs.OrderState.{OrderActivation, at as state, operand_words, stack_words, argument_at, frame_word}
 use Rattle.cw_order.specs.Loading.{loaded_after}
 use Rattle.cw_order.specs.OrderActions.{Action, Perform, Access, Alter, AlterWithin, Pass, home_word, action_of}
-use Rattle.cw_order.specs.OrderChanges.{bind, put_address, put_index, if_fits, if_inside}
+use Rattle.cw_order.specs.OrderChanges.{from_base, bind, put_address, put_index, if_inside}
 use Rattle.cw_order.specs.OrderCosts.{weight_of, weight_at}
 use Rattle.cw_order.specs.OrderMachine.{go_on, after, unrefused, act, carry_with, carry_out, order_machine}
 use Rattle.cw_order.specs.Starting.{started_by, starts}
@@ -79,10 +79,9 @@ TellsLine line (order.Neg n) = n ≡ line
 TellsLine line (order.Mul s n) = n ≡ line
 TellsLine line (order.Div s n) = n ≡ line
 TellsLine line (order.IndexLess lower n) = n ≡ line
-TellsLine line (order.IndexTimes k n) = n ≡ line
-TellsLine line (order.IndexPlus k n) = n ≡ line
-TellsLine line (order.IndexAdd n) = n ≡ line
-TellsLine line (order.IndexRow lower width n) = n ≡ line
+TellsLine line (order.Element lower span n) = n ≡ line
+TellsLine line (order.ElementOfTwo lower second width span n) = n ≡ line
+TellsLine line (order.Entry width word span n) = n ≡ line
 TellsLine line (order.InArea n) = n ≡ line
 TellsLine line (order.InBounds lower upper n) = n ≡ line
 TellsLine line (order.SetVariable n) = n ≡ line
@@ -107,10 +106,9 @@ told p g acts line (order.Neg n) h = h
 told p g acts line (order.Mul s n) h = h
 told p g acts line (order.Div s n) h = h
 told p g acts line (order.IndexLess lower n) h = h
-told p g acts line (order.IndexTimes k n) h = h
-told p g acts line (order.IndexPlus k n) h = h
-told p g acts line (order.IndexAdd n) h = h
-told p g acts line (order.IndexRow lower width n) h = h
+told p g acts line (order.Element lower span n) h = h
+told p g acts line (order.ElementOfTwo lower second width span n) h = h
+told p g acts line (order.Entry width word span n) h = h
 told p g acts line (order.InArea n) h = h
 told p g acts line (order.InBounds lower upper n) h = h
 told p g acts line (order.SetVariable n) h = h
@@ -167,65 +165,10 @@ both_true true b h = (refl, h)
 both_true false b h = absurd (false≢true h)
 
 pub costs_some : (o : Order) → IsTrue (is_silent o) → 0 < weight_of o
-costs_some order.Save h = (let z : 0 < 1 = omega arith in z)
-costs_some (order.Const w) h = (let z : 0 < 2 = omega arith in z)
-costs_some (order.Home family offset) h = (let z : 0 < 2 = omega arith in z)
-costs_some (order.FrameHome n) h = (let z : 0 < 4 = omega arith in z)
-costs_some order.Load h = (let z : 0 < 4 = omega arith in z)
-costs_some order.Store h = (let z : 0 < 5 = omega arith in z)
-costs_some (order.LoadPart t b is_signed) h = (let z : 0 < 16 = omega arith in z)
-costs_some (order.StorePart t b) h = (let z : 0 < 20 = omega arith in z)
-costs_some (order.Rescale from to line) h = (let z : 0 < 64 = omega arith in z)
-costs_some (order.Add line) h = (let z : 0 < 17 = omega arith in z)
-costs_some (order.Sub line) h = (let z : 0 < 17 = omega arith in z)
-costs_some (order.Neg line) h = (let z : 0 < 16 = omega arith in z)
-costs_some (order.Mul s line) h = (let z : 0 < 120 = omega arith in z)
-costs_some (order.Div s line) h = (let z : 0 < 120 = omega arith in z)
-costs_some order.And h = (let z : 0 < 4 = omega arith in z)
-costs_some order.Or h = (let z : 0 < 4 = omega arith in z)
-costs_some order.Xor h = (let z : 0 < 4 = omega arith in z)
-costs_some (order.Take t b) h = (let z : 0 < 6 = omega arith in z)
-costs_some order.Less h = (let z : 0 < 4 = omega arith in z)
-costs_some order.Drop h = (let z : 0 < 1 = omega arith in z)
-costs_some order.ReadByte h = (let z : 0 < 12 = omega arith in z)
 costs_some order.WriteByte h = absurd (false≢true h)
-costs_some (order.IndexLess lower line) h = (let z : 0 < 18 = omega arith in z)
-costs_some (order.IndexTimes n line) h = (let z : 0 < 20 = omega arith in z)
-costs_some (order.IndexPlus n line) h = (let z : 0 < 20 = omega arith in z)
-costs_some (order.IndexAdd line) h = (let z : 0 < 18 = omega arith in z)
-costs_some (order.IndexRow lower width line) h = (let z : 0 < 34 = omega arith in z)
-costs_some (order.InArea line) h = (let z : 0 < 18 = omega arith in z)
-costs_some (order.InBounds lower upper line) h = (let z : 0 < 20 = omega arith in z)
-costs_some (order.Jump m) h = (let z : 0 < 1 = omega arith in z)
-costs_some (order.JumpIf c m) h = (let z : 0 < 7 = omega arith in z)
-costs_some (order.Exhausted m) h = (let z : 0 < 20 = omega arith in z)
-costs_some (order.SetVariable line) h = (let z : 0 < 24 = omega arith in z)
-costs_some (order.AddStep line) h = (let z : 0 < 30 = omega arith in z)
-costs_some (order.PutVariable line) h = (let z : 0 < 24 = omega arith in z)
-costs_some (order.LoopWay marks) h = (let z : 0 < 12 = omega arith in z)
 costs_some order.Mark h = absurd (false≢true h)
 costs_some (order.Start n) h = absurd (false≢true h)
-costs_some order.NextBody h = (let z : 0 < 22 = omega arith in z)
-costs_some (order.LabelOut l) h = (let z : 0 < 6 = omega arith in z)
-costs_some (order.LabelCommon d) h = (let z : 0 < 6 = omega arith in z)
-costs_some (order.SwitchOut n) h = (let z : 0 < 6 = omega arith in z)
-costs_some (order.SwitchCommon d) h = (let z : 0 < 6 = omega arith in z)
-costs_some (order.ProcOut q) h = (let z : 0 < 6 = omega arith in z)
-costs_some (order.ProcCommon d) h = (let z : 0 < 6 = omega arith in z)
-costs_some (order.SpecialOut k) h = (let z : 0 < 6 = omega arith in z)
-costs_some (order.GoMain m) h = (let z : 0 < 16 = omega arith in z)
-costs_some (order.GoCommon d) h = (let z : 0 < 16 = omega arith in z)
-costs_some (order.GoSpecial k) h = (let z : 0 < 16 = omega arith in z)
-costs_some (order.GoSwitch n line) h = (let z : 0 < 50 = omega arith in z)
-costs_some (order.GoSwitchCommon d line) h = (let z : 0 < 50 = omega arith in z)
-costs_some (order.GoSwitchSpecial k line) h = (let z : 0 < 50 = omega arith in z)
-costs_some (order.CallProc q line) h = (let z : 0 < 12 = omega arith in z)
-costs_some (order.CallCommon d line) h = (let z : 0 < 12 = omega arith in z)
-costs_some (order.CallSpecial k line) h = (let z : 0 < 16 = omega arith in z)
-costs_some (order.Enter size) h = (let z : 0 < 30 = omega arith in z)
-costs_some (order.Bind k family offset) h = (let z : 0 < 3 = omega arith in z)
-costs_some (order.BindFrame k offset) h = (let z : 0 < 4 = omega arith in z)
-costs_some (order.Return n answers) h = (let z : 0 < 12 = omega arith in z)
+costs_some _ h = omega arith
 
 -- the operand stack grows by two words at most, and nothing is written
 abbrev Fine : (words : ℕ) → (output : List ℕ) → Outcome → Type 0
@@ -240,10 +183,6 @@ fine_put n out false kind z w le e = tt
 fine_if : (n : ℕ) (out : List ℕ) (b : Bool) (o : Outcome) → Fine n out o → Fine n out (fitting b o)
 fine_if n out true o h = h
 fine_if n out false o h = tt
-
-fine_fits : (n : ℕ) (out : List ℕ) (b : Bool) (o : Outcome) → Fine n out o → Fine n out (if_fits b o)
-fine_fits n out true o h = h
-fine_fits n out false o h = tt
 
 fine_inside : (n : ℕ) (out : List ℕ) (b : Bool) (o : Outcome) → Fine n out o → Fine n out (if_inside b o)
 fine_inside n out true o h = h
@@ -387,6 +326,12 @@ fine_behind : (area : ℕ) (op : Operation) (rest : List Operand) (w : Words) �
 fine_behind area op rest w s le =
     fine_more (operand_words rest) (operand_words w.operands) w.output (perform area op (with_operands w rest)) (let l : operand_words rest ≤ operand_words w.operands = omega (arith, le) in l) (fine_operation area (with_operands w rest) op s)
 
+-- from a base on top
+fine_base : (area : ℕ) (f : ℤ → Addressing) (w : Words) → Fine (operand_words w.operands) w.output (from_base area f w)
+fine_base area f w =
+    fine_one (operand_words w.operands) w.output (λ base v. form_address (min area 32768) (f base) v) w.operands w (same area w)
+    (λ base rest le. fine_behind (min area 32768) (Form (f base)) rest w refl le)
+
 change_of : Words → Outcome → Words
 change_of d (Changed x) = x
 change_of d (Refused kind) = d
@@ -431,14 +376,9 @@ module _ (p : OrderProgram) (g : ℕ) (acts : List OrderActivation) where
   fine_order order.ReadByte w s = fine_operation p.limits.area w ReadByte refl
   fine_order order.WriteByte w s = absurd (false≢true s)
   fine_order (order.IndexLess l line) w s = fine_one _ _ (λ i v. put_index (i -ℤ l) v) w.operands w (same p.limits.area w) (λ x rest le. fine_put _ _ _ _ _ (with_operands w rest) (fewer p.limits.area w rest le) refl)
-  fine_order (order.IndexTimes k line) w s = fine_one _ _ (λ i v. put_index (i *ℤ pos k) v) w.operands w (same p.limits.area w) (λ x rest le. fine_put _ _ _ _ _ (with_operands w rest) (fewer p.limits.area w rest le) refl)
-  fine_order (order.IndexPlus k line) w s = fine_one _ _ (λ i v. put_index (i +ℤ pos k) v) w.operands w (same p.limits.area w) (λ x rest le. fine_put _ _ _ _ _ (with_operands w rest) (fewer p.limits.area w rest le) refl)
-  fine_order (order.IndexAdd line) w s = fine_two _ _ (λ i j v. put_index (i +ℤ j) v) w.operands w (same p.limits.area w) (λ x y rest le. fine_put _ _ _ _ _ (with_operands w rest) (fewer p.limits.area w rest le) refl)
-  fine_order (order.IndexRow l k line) w s =
-      fine_two _ _ (λ i j v. if_fits (fits_word (i -ℤ l)) (if_fits (fits_word ((i -ℤ l) *ℤ pos k)) (put_index ((i -ℤ l) *ℤ pos k +ℤ j) v))) w.operands w (same p.limits.area w) (λ x y rest le.
-      let last = put_index ((x -ℤ l) *ℤ pos k +ℤ y) (with_operands w rest) in
-      let second = if_fits (fits_word ((x -ℤ l) *ℤ pos k)) last in
-      fine_fits (operand_words w.operands) w.output (fits_word (x -ℤ l)) second (fine_fits (operand_words w.operands) w.output (fits_word ((x -ℤ l) *ℤ pos k)) last (fine_put (operand_words w.operands) w.output (fits_word ((x -ℤ l) *ℤ pos k +ℤ y)) AddressRange ((x -ℤ l) *ℤ pos k +ℤ y) (with_operands w rest) (fewer p.limits.area w rest le) refl)))
+  fine_order (order.Element l k line) w s = fine_base p.limits.area (λ base. Indexed base l) w
+  fine_order (order.ElementOfTwo l1 l2 n k line) w s = fine_base p.limits.area (λ base. Indexed2 base l1 l2 n) w
+  fine_order (order.Entry n m k line) w s = fine_base p.limits.area (λ base. Scaled base n m) w
   fine_order (order.InArea line) w s = fine_operation p.limits.area w (Form Taken) refl
   fine_order (order.SetVariable line) w s =
       fine_one _ _ (λ a v. if_inside (is_below a p.limits.area) (perform p.limits.area (SetVariable (number_of a)) v)) w.operands w (same p.limits.area w)

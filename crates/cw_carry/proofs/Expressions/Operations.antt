@@ -1,11 +1,11 @@
 -- What the orders of an operation, and those of an address, do to words is what the source does.
-use Rattle.std.proofs.Common.{◌≡◌, ℕ, ◌+◌, ◌-◌, ◌<◌, ◌≤◌, ℤ, pos, negsuc, ◌+ℤ◌, ◌-ℤ◌, ◌*ℤ◌, List, [], ◌∷◌, ◌++◌, Bool, true, false, Option, Some, None, refl, sym, ap, ◌∙◌, subst, arith}
+use Rattle.std.proofs.Common.{◌≡◌, ℕ, ◌+◌, ◌-◌, ◌<◌, ◌≤◌, ℤ, pos, negsuc, ◌-ℤ◌, ◌*ℤ◌, List, [], ◌∷◌, ◌++◌, Bool, true, false, Option, Some, None, refl, sym, ap, ◌∙◌, subst, arith}
 use Rattle.std.specs.Prelude.{not, ◌==◌, IsTrue, ◌&&◌, if◌then◌else◌, set}
 use Rattle.std.proofs.lemmas.Bool.{false≢true, lt-ltb}
 use Rattle.std.proofs.lemmas.Bool.Decides.{nat_tests}
 use Rattle.std.proofs.lemmas.List.Elements.{All-head}
 use Rattle.std.proofs.lemmas.Int.{ints}
-use Rattle.std.proofs.Math.IntN.{+ℤ_comm}
+use Rattle.std.proofs.Math.Nat.{min-eq_left}
 use Rattle.cw_word.specs.FixedPoint.{FitsWord, fits_word, floor_div, floor_scaled, rescaled}
 use Rattle.cw_word.specs.BitField.{unsigned_field}
 use Rattle.cw_word.specs.Word.{signed, unsigned}
@@ -31,10 +31,10 @@ use Rattle.cw_order.specs.declared.order.Order.{Order}
 use Rattle.cw_order.specs.declared.order.Order.TheVariants as order
 use Rattle.cw_order.specs.OrderProgram.{OrderProgram}
 use Rattle.cw_order.specs.OrderState.{OrderActivation}
-use Rattle.cw_order.specs.OrderChanges.{if_inside}
+use Rattle.cw_order.specs.OrderChanges.{from_base, if_inside}
 use Rattle.cw_order.specs.OrderMachine.{unrefused}
 use Rattle.cw_order.specs.FittingWords.{OperandFits, WordsFit}
-use Rattle.cw_gen_expr.specs.ReferenceExpressions.{item_order, table_orders, form_orders, narrow}
+use Rattle.cw_gen_expr.specs.ReferenceExpressions.{item_order, item_span, table_orders, table_span, form_orders, narrow}
 use Rattle.cw_gen_expr.specs.BuiltExpressions.{whole, built_value}
 use Rattle.cw_gen_expr.proofs.Layers.{built_spot_layer}
 use Rattle.cw_carry.proofs.Expressions.Effects.{then_do, IsPossible, effect, run_orders}
@@ -59,15 +59,6 @@ pub rescaled-same : (x : ℤ) (f : ℕ) → rescaled x f f ≡ x
 rescaled-same x f =
     let none : pos f -ℤ pos f ≡ pos 0 = omega (arith, ints) in
     ap (floor_scaled x) none ∙ over_one (x *ℤ pos 1) ∙ times_one x
-
-less_none : (x : ℤ) → x -ℤ pos 0 ≡ x
-less_none (pos a) = omega (arith, ints)
-less_none (negsuc a) = omega (arith, ints)
-
--- what fits no word is no address
-outside : (z : ℤ) (area : ℕ) → area ≤ 32768 → fits_word z ≡ false → is_below z area ≡ false
-outside (pos n) area le h = grind (arith, ints, nat_tests)
-outside (negsuc n) area le h = refl
 
 -- ---- outcomes
 
@@ -212,14 +203,9 @@ module _ (p : OrderProgram) (g : ℕ) (bs : List OrderActivation) where
       pub area_tested : (line : ℕ) (w : Words) → run (order.InArea line ∷ []) w ≡ form_address area Taken w
       area_tested line w = one (order.InArea line) w
 
-      -- a base and an index
-      added_fits : (line : ℕ) (b : Bool) (x base : ℤ) (v : Words) → fits_word (x +ℤ base) ≡ b → then_do (put_if b AddressRange (x +ℤ base) v) (λ t. run (order.InArea line ∷ []) t) ≡ address_of area (x +ℤ base) v
-      added_fits line true x base v h = area_tested line (put (x +ℤ base) v)
-      added_fits line false x base v h = sym (ap (λ b. put_if b AddressRange (x +ℤ base) v) (outside (x +ℤ base) area in_words h))
-
-      pub added : (line : ℕ) (x base : ℤ) (hand : List Operand) (memory : List ℤ) (input output : List ℕ) → run (order.IndexAdd line ∷ order.InArea line ∷ []) (words (Word base ∷ Word x ∷ hand) memory input output) ≡ address_of area (base +ℤ x) (words hand memory input output)
-      added line x base hand memory input output =
-          added_fits line (fits_word (x +ℤ base)) x base (words hand memory input output) refl ∙ ap (λ z. address_of area z (words hand memory input output)) (+ℤ_comm x base)
+      -- an address is formed from a base
+      based : (f : ℤ → Addressing) (base : ℤ) (w : Words) → from_base area f (put base w) ≡ form_address area (f base) w
+      based f base w = ap (λ n. form_address n (f base) w) (min-eq_left in_words)
 
       -- the base of a table
       pub behind_table : (t : Bool) (i : ℕ) (os : List Order) (hand : List Operand) (memory : List ℤ) (input output : List ℕ) → IsTrue (has_words i 1) → run (table_orders y t i ++ os) (words hand memory input output) ≡ run os (put (table_base program t s acts (words hand memory input output) i) (words hand memory input output))
@@ -227,95 +213,41 @@ module _ (p : OrderProgram) (g : ℕ) (bs : List OrderActivation) where
           behind_item i 1 (order.Load ∷ os) (words hand memory input output) h some ∙ behind_load (address i) os hand memory input output (inside i 1 h some)
       behind_table false i os hand memory input output h = behind_item i 1 os (words hand memory input output) h some
 
-      one_index : (line : ℕ) (b : Bool) (x l base : ℤ) (i : ℕ) (rest : List Operand) (memory : List ℤ) (input output : List ℕ) → IsTrue (has_words i 1) → then_do (put_if b AddressRange (x -ℤ l) (words rest memory input output)) (λ v. run (order.Save ∷ item_order y i 0 ∷ order.IndexAdd line ∷ order.InArea line ∷ []) v) ≡ fitting b (address_of area (pos (address i) +ℤ (x -ℤ l)) (words rest memory input output))
-      one_index line true x l base i rest memory input output h =
-          behind_item i 1 (order.IndexAdd line ∷ order.InArea line ∷ []) (words (Word (x -ℤ l) ∷ rest) memory input output) h some ∙ added line (x -ℤ l) (pos (address i)) rest memory input output
-      one_index line false x l base i rest memory input output h = refl
-
-      row_index : (line : ℕ) (b1 b2 b4 : Bool) (row k : ℤ) (i : ℕ) (rest : List Operand) (memory : List ℤ) (input output : List ℕ) → IsTrue (has_words i 1) → then_do (Rattle.cw_order.specs.OrderChanges.if_fits b1 (Rattle.cw_order.specs.OrderChanges.if_fits b2 (put_if b4 AddressRange (row +ℤ k) (words rest memory input output)))) (λ v. run (order.Save ∷ item_order y i 0 ∷ order.IndexAdd line ∷ order.InArea line ∷ []) v) ≡ fitting b1 (fitting b2 (fitting true (fitting b4 (address_of area (pos (address i) +ℤ (row +ℤ k)) (words rest memory input output)))))
-      row_index line false b2 b4 row k i rest memory input output h = refl
-      row_index line true false b4 row k i rest memory input output h = refl
-      row_index line true true false row k i rest memory input output h = refl
-      row_index line true true true row k i rest memory input output h =
-          behind_item i 1 (order.IndexAdd line ∷ order.InArea line ∷ []) (words (Word (row +ℤ k) ∷ rest) memory input output) h some ∙ added line (row +ℤ k) (pos (address i)) rest memory input output
-
-      none_fits : (b1 b2 : Bool) (o : Outcome) → Refused AddressRange ≡ fitting b1 (fitting b2 (fitting false o))
-      none_fits false b2 o = refl
-      none_fits true false o = refl
-      none_fits true true o = refl
-
-      two_indexes : (line : ℕ) (b3 : Bool) (i : ℕ) (l1 l2 x z : ℤ) (n : ℕ) (rest : List Operand) (memory : List ℤ) (input output : List ℕ) → IsTrue (has_words i 1) → then_do (put_if b3 AddressRange (z -ℤ l2) (words (Word x ∷ rest) memory input output)) (λ v. run (order.IndexRow l1 n line ∷ order.Save ∷ item_order y i 0 ∷ order.IndexAdd line ∷ order.InArea line ∷ []) v) ≡ fitting (fits_word (x -ℤ l1)) (fitting (fits_word ((x -ℤ l1) *ℤ pos n)) (fitting b3 (fitting (fits_word ((x -ℤ l1) *ℤ pos n +ℤ (z -ℤ l2))) (address_of area (pos (address i) +ℤ ((x -ℤ l1) *ℤ pos n +ℤ (z -ℤ l2))) (words rest memory input output)))))
-      two_indexes line true i l1 l2 x z n rest memory input output h =
-          row_index line (fits_word (x -ℤ l1)) (fits_word ((x -ℤ l1) *ℤ pos n)) (fits_word ((x -ℤ l1) *ℤ pos n +ℤ (z -ℤ l2))) ((x -ℤ l1) *ℤ pos n) (z -ℤ l2) i rest memory input output h
-      two_indexes line false i l1 l2 x z n rest memory input output h =
-          none_fits (fits_word (x -ℤ l1)) (fits_word ((x -ℤ l1) *ℤ pos n)) (fitting (fits_word ((x -ℤ l1) *ℤ pos n +ℤ (z -ℤ l2))) (address_of area (pos (address i) +ℤ ((x -ℤ l1) *ℤ pos n +ℤ (z -ℤ l2))) (words rest memory input output)))
-
-      same_base : (t : Bool) (i : ℕ) (hand rest : List Operand) (memory : List ℤ) (input output : List ℕ) → table_base program t s acts (words hand memory input output) i ≡ table_base program t s acts (words rest memory input output) i
-      same_base true i hand rest memory input output = refl
-      same_base false i hand rest memory input output = refl
-
-      -- an index to the base of a table
-      to_table : (line : ℕ) (t : Bool) (i : ℕ) (k : ℤ) (rest : List Operand) (memory : List ℤ) (input output : List ℕ) → IsTrue (has_words i 1) → run (table_orders y t i ++ order.IndexAdd line ∷ order.InArea line ∷ []) (words (Word k ∷ rest) memory input output) ≡ address_of area (table_base program t s acts (words rest memory input output) i +ℤ k) (words rest memory input output)
-      to_table line t i k rest memory input output h =
-          behind_table t i (order.IndexAdd line ∷ order.InArea line ∷ []) (Word k ∷ rest) memory input output h
-          ∙ ap (λ z. run (order.IndexAdd line ∷ order.InArea line ∷ []) (put z (words (Word k ∷ rest) memory input output))) (same_base t i (Word k ∷ rest) rest memory input output)
-          ∙ added line k (table_base program t s acts (words rest memory input output) i) rest memory input output
-
-      element_plus : (line : ℕ) (b : Bool) (t : Bool) (i : ℕ) (k : ℤ) (rest : List Operand) (memory : List ℤ) (input output : List ℕ) → IsTrue (has_words i 1) → then_do (put_if b AddressRange k (words rest memory input output)) (λ v. run (order.Save ∷ (table_orders y t i ++ order.IndexAdd line ∷ order.InArea line ∷ [])) v) ≡ fitting b (address_of area (table_base program t s acts (words rest memory input output) i +ℤ k) (words rest memory input output))
-      element_plus line true t i k rest memory input output h = to_table line t i k rest memory input output h
-      element_plus line false t i k rest memory input output h = refl
-
-      element_times : (line : ℕ) (b : Bool) (t : Bool) (i place : ℕ) (row : ℤ) (rest : List Operand) (memory : List ℤ) (input output : List ℕ) → IsTrue (has_words i 1) → then_do (put_if b AddressRange row (words rest memory input output)) (λ v. run (order.IndexPlus place line ∷ order.Save ∷ (table_orders y t i ++ order.IndexAdd line ∷ order.InArea line ∷ [])) v) ≡ fitting b (fitting (fits_word (row +ℤ pos place)) (address_of area (table_base program t s acts (words rest memory input output) i +ℤ (row +ℤ pos place)) (words rest memory input output)))
-      element_times line true t i place row rest memory input output h = element_plus line (fits_word (row +ℤ pos place)) t i (row +ℤ pos place) rest memory input output h
-      element_times line false t i place row rest memory input output h = refl
-
-      -- an index without a lower bound
-      from_zero : (x base : ℤ) (v : Words) → FitsWord x → address_of area (base +ℤ x) v ≡ fitting (fits_word (x -ℤ pos 0)) (address_of area (base +ℤ (x -ℤ pos 0)) v)
-      from_zero x base v fits = sym (ap (λ z. fitting (fits_word z) (address_of area (base +ℤ z) v)) (less_none x) ∙ ap (λ b. fitting b (address_of area (base +ℤ x) v)) (tested x fits))
-
       both : (a b : Bool) → IsTrue (a && b) → IsTrue a × IsTrue b
       both true b h = (refl, h)
       both false b h = absurd (false≢true h)
 
-      pub form-runs : (line : ℕ) (u : SourceUnit) (x : Spot-F Arg Cond Expr Spot Ref) (hand : List Operand) (memory : List ℤ) (input output : List ℕ) → IsTrue (built_spot_layer u has_words x) → WordsFit (words hand memory input output) → IsPossible (form_address area (addressing_of program x s acts (words hand memory input output)) (words hand memory input output)) → run (form_orders y line x) (words hand memory input output) ≡ form_address area (addressing_of program x s acts (words hand memory input output)) (words hand memory input output)
-      form-runs line u (layer.Direct i) hand memory input output b fits ok =
+      pub form-runs : (line : ℕ) (u : SourceUnit) (x : Spot-F Arg Cond Expr Spot Ref) (hand : List Operand) (memory : List ℤ) (input output : List ℕ) → IsTrue (built_spot_layer u has_words x) → run (form_orders y line x) (words hand memory input output) ≡ form_address area (addressing_of program x s acts (words hand memory input output)) (words hand memory input output)
+      form-runs line u (layer.Direct i) hand memory input output b =
           let w = words hand memory input output in
           behind_item i 1 [] w b some ∙ sym (ap (λ t. put_if t AddressRange (pos (address i)) w) (lt-ltb (address i) area (inside i 1 b some)))
-      form-runs line u (layer.Through i) hand memory input output b fits ok =
+      form-runs line u (layer.Through i) hand memory input output b =
           let w = words hand memory input output in
           behind_item i 1 (order.Load ∷ order.InArea line ∷ []) w b some ∙ behind_load (address i) (order.InArea line ∷ []) hand memory input output (inside i 1 b some) ∙ area_tested line (put (word_at memory (address i)) w)
-      form-runs line u (layer.One i l h e) [] memory input output b fits ok = refl
-      form-runs line u (layer.One i l h e) (Held c ∷ rest) memory input output b fits ok = refl
-      form-runs line u (layer.One i l h e) (Word x ∷ rest) memory input output b fits ok =
-          one_index line (fits_word (x -ℤ l)) x l (pos (address i)) i rest memory input output (both (has_words i 1) (whole (built_value u has_words e) 0) b).0
-      form-runs line u (layer.Two i l1 h1 l2 h2 n e f) [] memory input output b fits ok = absurd ok
-      form-runs line u (layer.Two i l1 h1 l2 h2 n e f) (Held c ∷ rest) memory input output b fits ok = absurd ok
-      form-runs line u (layer.Two i l1 h1 l2 h2 n e f) (Word z ∷ []) memory input output b fits ok = absurd ok
-      form-runs line u (layer.Two i l1 h1 l2 h2 n e f) (Word z ∷ Held c ∷ rest) memory input output b fits ok = absurd ok
-      form-runs line u (layer.Two i l1 h1 l2 h2 n e f) (Word z ∷ Word x ∷ rest) memory input output b fits ok =
-          two_indexes line (fits_word (z -ℤ l2)) i l1 l2 x z n rest memory input output (both (has_words i 1) (whole (built_value u has_words e) 0 && whole (built_value u has_words f) 0) b).0
-      form-runs line u (layer.ParamArray i e) [] memory input output b fits ok = absurd ok
-      form-runs line u (layer.ParamArray i e) (Held c ∷ rest) memory input output b fits ok = absurd ok
-      form-runs line u (layer.ParamArray i e) (Word x ∷ rest) memory input output b fits ok =
+      form-runs line u (layer.One i l h e) hand memory input output b =
+          let w = words hand memory input output in
+          let o = order.Element l (item_span y i) line in
+          behind_item i 1 (o ∷ []) w (both (has_words i 1) (whole (built_value u has_words e) 0) b).0 some ∙ one o (put (pos (address i)) w) ∙ based (λ base. Indexed base l) (pos (address i)) w
+      form-runs line u (layer.Two i l1 h1 l2 h2 n e f) hand memory input output b =
+          let w = words hand memory input output in
+          let o = order.ElementOfTwo l1 l2 n (item_span y i) line in
+          behind_item i 1 (o ∷ []) w (both (has_words i 1) (whole (built_value u has_words e) 0 && whole (built_value u has_words f) 0) b).0 some ∙ one o (put (pos (address i)) w) ∙ based (λ base. Indexed2 base l1 l2 n) (pos (address i)) w
+      form-runs line u (layer.ParamArray i e) hand memory input output b =
+          let w = words hand memory input output in
+          let o = order.Element (pos 0) 0 line in
           let h = (both (has_words i 1) (whole (built_value u has_words e) 0) b).0 in
-          behind_item i 1 (order.Load ∷ order.IndexAdd line ∷ order.InArea line ∷ []) (words (Word x ∷ rest) memory input output) h some
-          ∙ behind_load (address i) (order.IndexAdd line ∷ order.InArea line ∷ []) (Word x ∷ rest) memory input output (inside i 1 h some)
-          ∙ added line x (word_at memory (address i)) rest memory input output
-          ∙ from_zero x (word_at memory (address i)) (words rest memory input output) (All-head OperandFits (Word x) rest fits.operands)
-      form-runs line u (layer.Word i t m e) [] memory input output b fits ok = absurd ok
-      form-runs line u (layer.Word i t m e) (Held c ∷ rest) memory input output b fits ok = absurd ok
-      form-runs line u (layer.Word i t m e) (Word x ∷ rest) memory input output b fits ok =
-          let h = (both (has_words i 1) (whole (built_value u has_words e) 0) b).0 in
-          to_table line t i x rest memory input output h
-          ∙ ap (λ z. address_of area (z +ℤ x) (words rest memory input output)) (same_base t i rest (Word x ∷ rest) memory input output)
-          ∙ from_zero x (table_base program t s acts (words (Word x ∷ rest) memory input output) i) (words rest memory input output) (All-head OperandFits (Word x) rest fits.operands)
-      form-runs line u (layer.Elem i t n m q e) [] memory input output b fits ok = refl
-      form-runs line u (layer.Elem i t n m q e) (Held c ∷ rest) memory input output b fits ok = refl
-      form-runs line u (layer.Elem i t n m q e) (Word x ∷ rest) memory input output b fits ok =
-          let h = (both (has_words i 1) (whole (built_value u has_words e) 0) b).0 in
-          element_times line (fits_word (x *ℤ pos n)) t i q (x *ℤ pos n) rest memory input output h
-          ∙ ap (λ z. fitting (fits_word (x *ℤ pos n)) (fitting (fits_word (x *ℤ pos n +ℤ pos q)) (address_of area (z +ℤ (x *ℤ pos n +ℤ pos q)) (words rest memory input output)))) (same_base t i rest (Word x ∷ rest) memory input output)
-      form-runs line u (layer.Bare e) hand memory input output b fits ok = area_tested line (words hand memory input output)
+          behind_item i 1 (order.Load ∷ o ∷ []) w h some ∙ behind_load (address i) (o ∷ []) hand memory input output (inside i 1 h some) ∙ one o (put (word_at memory (address i)) w) ∙ based (λ base. Indexed base (pos 0)) (word_at memory (address i)) w
+      form-runs line u (layer.Word i t m e) hand memory input output b =
+          let w = words hand memory input output in
+          let o = order.Element (pos 0) (table_span y t i) line in
+          let base = table_base program t s acts w i in
+          behind_table t i (o ∷ []) hand memory input output (both (has_words i 1) (whole (built_value u has_words e) 0) b).0 ∙ one o (put base w) ∙ based (λ z. Indexed z (pos 0)) base w
+      form-runs line u (layer.Elem i t n m q e) hand memory input output b =
+          let w = words hand memory input output in
+          let o = order.Entry n q (table_span y t i) line in
+          let base = table_base program t s acts w i in
+          behind_table t i (o ∷ []) hand memory input output (both (has_words i 1) (whole (built_value u has_words e) 0) b).0 ∙ one o (put base w) ∙ based (λ z. Scaled z n q) base w
+      form-runs line u (layer.Bare e) hand memory input output b = area_tested line (words hand memory input output)
 
       -- ---- loops
 

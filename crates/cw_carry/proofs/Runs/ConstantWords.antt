@@ -26,7 +26,7 @@ use Rattle.cw_unit.specs.Scales.{answer_scale}
 use Rattle.cw_order.specs.declared.order.Order.{Order}
 use Rattle.cw_order.specs.declared.order.Order.TheVariants as order
 use Rattle.cw_gen_expr.specs.Pieces.{Piece, plain, followed_by, sequence, with_end}
-use Rattle.cw_gen_expr.specs.ReferenceExpressions.{Scope, ConditionPiece, choice_piece, saved, two_values, placed_by, placed_in, item_order, table_orders, bounds_orders, load_orders, rescale_orders, logic_order, number_order, narrow, comparator_for, call_order, label_order, pick_mark, value_of, condition_piece, argument_piece, reference_of, expression_piece}
+use Rattle.cw_gen_expr.specs.ReferenceExpressions.{Scope, ConditionPiece, choice_piece, saved, two_values, placed_by, placed_in, item_order, item_span, table_orders, table_span, bounds_orders, load_orders, rescale_orders, logic_order, number_order, narrow, comparator_for, call_order, label_order, pick_mark, value_of, condition_piece, argument_piece, reference_of, expression_piece}
 use Rattle.cw_gen_expr.proofs.Layers.{value_layer, value-made, argument_layer, argument-made, spot_layer, spot-made, reference-made, condition_layer, condition-made, total, expression_size, expression-size, expression_size_layer, argument_size, argument-size, argument_size_layer, spot-size, spot_size_layer, reference_size, reference-size, condition_size, condition-size, condition_size_layer}
 
 -- ---- lists of orders, and pieces
@@ -108,9 +108,10 @@ bounds_fit : (b : Bool) (line : ℕ) (l u : ℤ) → Fit (bounds_orders b line l
 bounds_fit true line l u = (tt, tt)
 bounds_fit false line l u = tt
 
-table_fit : (y : Layout) (line : ℕ) (t : Bool) (i : ℕ) → Fit (table_orders y t i ++ order.IndexAdd line ∷ order.InArea line ∷ [])
-table_fit y line true i = (item_word y i 0, (tt, (tt, (tt, tt))))
-table_fit y line false i = (item_word y i 0, (tt, (tt, tt)))
+-- an order behind the base of a table
+table_fit : (y : Layout) (t : Bool) (i : ℕ) (o : Order) → IsWord o → Fit (table_orders y t i ++ o ∷ [])
+table_fit y true i o h = (item_word y i 0, (tt, (h, tt)))
+table_fit y false i o h = (item_word y i 0, (h, tt))
 
 pub save_fit : Fits saved
 save_fit place next = (tt, tt)
@@ -141,23 +142,25 @@ module _ (s : Scope) where
     spot_fit (layer.Direct i) le = λ place next. (item_word s.layout i 0, tt)
     spot_fit (layer.Through i) le = λ place next. (item_word s.layout i 0, (tt, (tt, tt)))
     spot_fit (layer.One i l u e) le =
-        both_fit (followed_by (expression_piece s e 0) (plain (bounds_orders s.unit.bounds s.line l u))) (plain (order.IndexLess l s.line ∷ order.Save ∷ item_order s.layout i 0 ∷ order.IndexAdd s.line ∷ order.InArea s.line ∷ []))
-        (bounded_fit e l u (let z : expression_size e < n = omega (arith, le) in z)) (λ place next. (tt, (tt, (item_word s.layout i 0, (tt, (tt, tt))))))
+        both_fit (followed_by (expression_piece s e 0) (plain (bounds_orders s.unit.bounds s.line l u))) (plain (order.Save ∷ item_order s.layout i 0 ∷ order.Element l (item_span s.layout i) s.line ∷ []))
+        (bounded_fit e l u (let z : expression_size e < n = omega (arith, le) in z)) (λ place next. (tt, (item_word s.layout i 0, (tt, tt))))
     spot_fit (layer.Two i l1 u1 l2 u2 m e g) le =
         let first = followed_by (expression_piece s e 0) (plain (bounds_orders s.unit.bounds s.line l1 u1)) in
         let second = followed_by (expression_piece s g 0) (plain (bounds_orders s.unit.bounds s.line l2 u2)) in
         both_fit (followed_by first (followed_by saved second))
-        (plain (order.IndexLess l2 s.line ∷ order.IndexRow l1 m s.line ∷ order.Save ∷ item_order s.layout i 0 ∷ order.IndexAdd s.line ∷ order.InArea s.line ∷ []))
+        (plain (order.Save ∷ item_order s.layout i 0 ∷ order.ElementOfTwo l1 l2 m (item_span s.layout i) s.line ∷ []))
         (both_fit first (followed_by saved second) (bounded_fit e l1 u1 (let z : expression_size e < n = omega (arith, le) in z)) (both_fit saved second save_fit (bounded_fit g l2 u2 (let z : expression_size g < n = omega (arith, le) in z))))
-        (λ place next. (tt, (tt, (tt, (item_word s.layout i 0, (tt, (tt, tt)))))))
+        (λ place next. (tt, (item_word s.layout i 0, (tt, tt))))
     spot_fit (layer.ParamArray i e) le =
-        both_fit (expression_piece s e 0) (plain (order.Save ∷ item_order s.layout i 0 ∷ order.Load ∷ order.IndexAdd s.line ∷ order.InArea s.line ∷ [])) (b.values e (let z : expression_size e < n = omega (arith, le) in z) 0) (λ place next. (tt, (item_word s.layout i 0, (tt, (tt, (tt, tt))))))
+        both_fit (expression_piece s e 0) (plain (order.Save ∷ item_order s.layout i 0 ∷ order.Load ∷ order.Element (pos 0) 0 s.line ∷ [])) (b.values e (let z : expression_size e < n = omega (arith, le) in z) 0) (λ place next. (tt, (item_word s.layout i 0, (tt, (tt, tt)))))
     spot_fit (layer.Word i t m e) le =
-        both_fit (followed_by (expression_piece s e 0) (plain (bounds_orders s.unit.bounds s.line (pos 0) (pos m -ℤ pos 1)))) (plain (order.Save ∷ (table_orders s.layout t i ++ order.IndexAdd s.line ∷ order.InArea s.line ∷ [])))
-        (bounded_fit e (pos 0) (pos m -ℤ pos 1) (let z : expression_size e < n = omega (arith, le) in z)) (λ place next. (tt, table_fit s.layout s.line t i))
+        let o = order.Element (pos 0) (table_span s.layout t i) s.line in
+        both_fit (followed_by (expression_piece s e 0) (plain (bounds_orders s.unit.bounds s.line (pos 0) (pos m -ℤ pos 1)))) (plain (order.Save ∷ (table_orders s.layout t i ++ o ∷ [])))
+        (bounded_fit e (pos 0) (pos m -ℤ pos 1) (let z : expression_size e < n = omega (arith, le) in z)) (λ place next. (tt, table_fit s.layout t i o tt))
     spot_fit (layer.Elem i t k m q e) le =
-        both_fit (followed_by (expression_piece s e 0) (plain (bounds_orders s.unit.bounds s.line (pos 0) (pos m -ℤ pos 1)))) (plain (order.IndexTimes k s.line ∷ order.IndexPlus q s.line ∷ order.Save ∷ (table_orders s.layout t i ++ order.IndexAdd s.line ∷ order.InArea s.line ∷ [])))
-        (bounded_fit e (pos 0) (pos m -ℤ pos 1) (let z : expression_size e < n = omega (arith, le) in z)) (λ place next. (tt, (tt, (tt, table_fit s.layout s.line t i))))
+        let o = order.Entry k q (table_span s.layout t i) s.line in
+        both_fit (followed_by (expression_piece s e 0) (plain (bounds_orders s.unit.bounds s.line (pos 0) (pos m -ℤ pos 1)))) (plain (order.Save ∷ (table_orders s.layout t i ++ o ∷ [])))
+        (bounded_fit e (pos 0) (pos m -ℤ pos 1) (let z : expression_size e < n = omega (arith, le) in z)) (λ place next. (tt, table_fit s.layout t i o tt))
     spot_fit (layer.Bare e) le = both_fit (expression_piece s e 0) (plain (order.InArea s.line ∷ [])) (b.values e (let z : expression_size e < n = omega (arith, le) in z) 0) (λ place next. (tt, tt))
 
     reference_fit : (r : Ref) → reference_size r ≤ n → Fits (reference_of s r).address

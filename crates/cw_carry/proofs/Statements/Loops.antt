@@ -250,8 +250,8 @@ module _ (c : Compiled) (at_sites : (g : ℕ) (u : Rattle.cw_unit.specs.declared
       let w = item_light (layout c t) x.item 3 in
       record {
         quiet = silent_and (is_silent (item_order (layout c t) x.item 3)) true (item_silent (layout c t) x.item 3) refl;
-        light = (let z : 2 + (1 + (weight_of (item_order (layout c t) x.item 3) + (5 + 0))) ≤ 159 = omega (arith, w.1) in z);
-        some = (let z : 0 < 2 + (1 + (weight_of (item_order (layout c t) x.item 3) + (5 + 0))) = omega arith in z);
+        light = (let z : 2 + (1 + (weight_of (item_order (layout c t) x.item 3) + (8 + 0))) ≤ 159 = omega (arith, w.1) in z);
+        some = (let z : 0 < 2 + (1 + (weight_of (item_order (layout c t) x.item 3) + (8 + 0))) = omega arith in z);
         short = (let z : 4 ≤ 12 = omega arith in z);
         at = (tt, (tt, (item_tells x.line (layout c t) x.item 3, (tt, tt))));
         turns = ap (λ y. through_all y (order.Store ∷ [])) (item_loads (layout c t) x.item 3);
@@ -465,7 +465,7 @@ module _ (c : Compiled) (at_sites : (g : ℕ) (u : Rattle.cw_unit.specs.declared
       read = behind_word (target c) (here_in c t) t.calls_below (source c) t.segment t.acts (layout c t) (has_words c t) t.in_words t.stand x.item 3 4 [] w.operands w.memory w.input w.output site.words three_of_four
 
       weight : ℕ
-      weight = weight_of (item_order (layout c t) x.item 3) + (4 + 0)
+      weight = weight_of (item_order (layout c t) x.item 3) + (8 + 0)
 
       read_on : Path (Seen c t.segment t.acts t.calls_below t.unit t.unit_is w) (B c) weight (at_state site.on false w) (at_state p true v)
       read_on =
@@ -558,9 +558,6 @@ module _ (c : Compiled) (at_sites : (g : ℕ) (u : Rattle.cw_unit.specs.declared
           lands c t.segment t.acts t.calls_below t.unit t.unit_is t.calls (Turn i x k) k' q y' false false false w w (cost + 20) e
           (weaken seen (Quiet (shown (config c t (Turn i x k) w)) (shown (configuration t.segment k' t.acts w Running))) (B c) (cost + 20) (at_state q false w) (at_state y' false w) (λ o h. (inl h.0, h.1)) all)
           light tt carried (inl (let v : 0 < cost + 20 = omega arith in v))
-
-      past_is : Bool
-      past_is = is_past (word_at w.memory (a + 1)) value (word_at w.memory (a + 2))
 
       chooses : (b : Bool) → is_past (word_at w.memory (a + 1)) value (word_at w.memory (a + 2)) ≡ b → act (target c) (action_of (target c) g t.calls_below (order.Exhausted mark)) g p false t.calls_below u ≡ branch (target c) (to_mark_if b mark w) g p false t.calls_below u
       chooses b e = ap (λ d. branch (target c) (way_past_limit d mark value a w) g p false t.calls_below u) in_area ∙ ap (λ d. branch (target c) (to_mark_if d mark w) g p false t.calls_below u) e
