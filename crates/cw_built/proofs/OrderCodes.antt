@@ -50,10 +50,12 @@ coded-order (order.Take t b) h = part t b h
 coded-order (order.LoadPart t b is_signed) h = part t b h
 coded-order (order.StorePart t b) h = part t b h
 coded-order (order.IndexLess lower line) h = word lower h
-coded-order (order.IndexTimes n line) h = leb-true n 32768 h
-coded-order (order.IndexPlus n line) h = ltb-true n 32768 h
-coded-order (order.IndexAdd line) h = tt
-coded-order (order.IndexRow lower n line) h = let p = both (fits_word lower) (nat_le n 32768) h in (word lower p.0, leb-true n 32768 p.1)
+coded-order (order.Element lower span line) h = word lower h
+coded-order (order.ElementOfTwo lower second width span line) h =
+    let p = both (fits_word lower) (fits_word second && nat_le width 32768) h in
+    let q = both (fits_word second) (nat_le width 32768) p.1 in
+    (word lower p.0, word second q.0, leb-true width 32768 q.1)
+coded-order (order.Entry width word span line) h = let p = both (nat_le width 32768) (nat_lt word 32768) h in (leb-true width 32768 p.0, ltb-true word 32768 p.1)
 coded-order (order.InArea line) h = tt
 coded-order (order.InBounds lower upper line) h = words lower upper h
 coded-order order.Less h = tt

@@ -47,9 +47,14 @@ fn has_numbers(order: &Order) -> bool
             is_part(*t, *b)
         }
         Order::IndexLess { lower, .. } => is_signed_word(*lower),
-        Order::IndexTimes { length, .. } => *length <= 32_768,
-        Order::IndexPlus { word, .. } => *word < 32_768,
-        Order::IndexRow { lower, length, .. } => is_signed_word(*lower) && *length <= 32_768,
+        Order::Element { lower, .. } => is_signed_word(*lower),
+        Order::ElementOfTwo {
+            lower,
+            second,
+            width,
+            ..
+        } => is_signed_word(*lower) && is_signed_word(*second) && *width <= 32_768,
+        Order::Entry { width, word, .. } => *width <= 32_768 && *word < 32_768,
         Order::InBounds { lower, upper, .. } => is_signed_word(*lower) && is_signed_word(*upper),
         Order::FrameHome(number) | Order::Enter(number) => is_word(*number),
         Order::BindFrame { argument, offset } => is_byte(*argument) && *offset < 32_768,

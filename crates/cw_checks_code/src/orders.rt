@@ -73,7 +73,7 @@ Line:1 Const:3 Save Const:3 JumpIf:>:0 Const:1 Save WriteByte Mark:0 Const:3 Sav
 Line:1 Const:7 Save Home:0:3 Store Const:6 Save Home:0:3 Load JumpIf:<:0 Const:1 Save WriteByte Mark:0 Const:32768 Save Const:32767 Save Home:0:4 Store Home:0:4 Load JumpIf:<:1 Const:2 Save WriteByte Mark:1 Const:1 Save Const:2 Save Const:3 Add JumpIf:>=:2 Const:3 Save WriteByte Mark:2 End||3|
 Line:1 Jump:0 Const:1 Save WriteByte Mark:0 Const:2 Save WriteByte End||2|
 Line:1 Const:3 Save Home:0:0 Store Mark:0 Home:0:0 Load Save WriteByte Home:0:0 Load Save Const:1 Sub Save Home:0:0 Store Home:0:0 Load Save Const:0 JumpIf:>:0 End||3 2 1|
-Line:1 Const:77 Save Home:0:4 Save Const:2 Add Store Home:0:6 Load Save WriteByte Const:6 Load Save WriteByte Home:0:5 IndexPlus:1 Load Save WriteByte End||77 77 77|
+Line:1 Const:77 Save Home:0:4 Save Const:2 Add Store Home:0:6 Load Save WriteByte Const:6 Load Save WriteByte Const:1 Save Home:0:5 Element:0:0 Load Save WriteByte End||77 77 77|
 Line:1 Const:511 Save Home:0:0 Store Const:5 Save Home:0:0 StorePart:3:4 Home:0:0 Load Save WriteByte Home:0:0 LoadPart:3:4:u Save WriteByte Home:0:0 LoadPart:3:4:s Save WriteByte End||223 5 253|
 Line:1 Const:3 Save Home:0:0 StorePart:2:14 Home:0:0 LoadPart:2:14:s Save WriteByte Home:0:0 LoadPart:2:14:u Save WriteByte Home:0:0 Load Save Const:0 JumpIf:<:0 Const:9 Save WriteByte Mark:0 End||255 3|
 Line:1 Const:40000 Save Home:0:1 StorePart:16:0 Home:0:1 LoadPart:16:0:u Save Const:0 JumpIf:<:0 Const:1 Save WriteByte Mark:0 Home:0:1 LoadPart:16:0:s Save Home:0:1 Load Sub Save WriteByte End||0|
@@ -94,12 +94,28 @@ Line:1 Const:1000 Take:5:3 Save WriteByte Const:65535 Take:1:15 Save WriteByte C
 Line:1 Const:32768 Save Const:1 Less Save Const:32767 Sub Save WriteByte Const:5 Save Const:7 Less Save WriteByte End||0 254|
 Line:1 Const:1 Save Const:2 Drop WriteByte Const:1 Save Const:2 Save Const:3 Drop Const:4 Save WriteByte WriteByte WriteByte End||1 4 2 1|
 Line:8 Const:5 IndexLess:-3 Save WriteByte Const:65533 IndexLess:-3 Save WriteByte Const:32767 IndexLess:-1 Save WriteByte End||8 0|4 1 8
-Line:8 Const:7 IndexTimes:5 Save WriteByte Const:65535 IndexTimes:32768 IndexPlus:32767 Save WriteByte Const:20000 IndexTimes:2 Save WriteByte End||35 255|4 1 8
-Line:8 Const:3 IndexPlus:4 Save WriteByte Const:32767 IndexPlus:1 Save WriteByte End||7|4 1 8
-Line:8 Const:3 Save Const:4 IndexAdd Save WriteByte Const:65533 Save Const:10 IndexAdd Save WriteByte Const:32768 Save Const:65535 IndexAdd Save WriteByte End||7 7|4 1 8
-Line:8 Const:3 Save Const:2 IndexRow:1:10 Save WriteByte Const:0 Save Const:32767 IndexRow:1:32768 Save WriteByte Const:32768 Save Const:0 IndexRow:1:1 Save WriteByte End||22 255|4 1 8
-Line:8 Const:20000 Save Const:0 IndexRow:0:2 Save WriteByte End|||4 1 8
-Line:8 Const:32767 Save Const:1 IndexRow:0:1 Save WriteByte End|||4 1 8
+Line:8 Const:3 Save Home:0:20 Element:3:5 Save WriteByte Const:7 Save Home:0:20 Element:3:5 Save WriteByte Const:2 Save Home:0:20 Element:3:5 Save WriteByte Const:5 Save Home:0:20 Element:-2:8 Save WriteByte Const:4 Save Home:0:20 Element:0:5 Save WriteByte End||20 24 19 27 24|
+Line:8 Const:982 Save Home:0:20 Element:3:5 Save WriteByte Const:983 Save Home:0:20 Element:3:5 Drop End||231|4 1 8
+Line:8 Const:2 Save Home:0:0 Element:3:5 Drop End|||4 1 8
+Line:8 Const:32767 Save Const:32768 Element:-1:0 Drop End|||4 1 8
+Line:8 Const:32768 Save Const:32776 Element:1:0 Drop End|||4 1 8
+Line:8 Const:32769 Save Const:32768 Element:0:0 Drop End|||4 1 8
+Line:1 Const:77 Save Const:4 Save Home:0:20 Element:3:5 Store Home:0:21 Load Save WriteByte Const:21 Save Home:1:0 Store Const:0 Save Home:1:0 Load Element:0:0 Load Save WriteByte End||77 77|
+Line:8 Const:1 Save Const:2 Save Home:0:20 ElementOfTwo:1:2:10:80 Save WriteByte Const:8 Save Const:11 Save Home:0:20 ElementOfTwo:1:2:10:80 Save WriteByte Const:3 Save Const:5 Save Home:0:20 ElementOfTwo:1:2:10:80 Save WriteByte Const:0 Save Const:32767 Save Home:0:5 ElementOfTwo:1:0:32768:0 Save WriteByte End||20 99 43 4|
+Line:8 Const:97 Save Const:9 Save Home:0:20 ElementOfTwo:0:0:10:80 Save WriteByte Const:98 Save Const:0 Save Home:0:20 ElementOfTwo:0:0:10:80 Drop End||231|4 1 8
+Line:8 Const:1 Save Const:1 Save Home:0:0 ElementOfTwo:1:2:10:80 Drop End|||4 1 8
+Line:8 Const:32767 Save Const:32768 Save Home:0:5 ElementOfTwo:-1:0:1:0 Drop End|||4 1 8
+Line:8 Const:20000 Save Const:32768 Save Const:58306 ElementOfTwo:0:0:2:0 Drop End|||4 1 8
+Line:8 Const:65535 Save Const:32767 Save Const:32769 ElementOfTwo:0:-1:1:0 Drop End|||4 1 8
+Line:8 Const:32767 Save Const:1 Save Const:32768 ElementOfTwo:0:0:1:0 Drop End|||4 1 8
+Line:8 Const:2 Save Const:32768 Save Home:0:5 ElementOfTwo:1:0:32768:0 Drop End|||4 1 8
+Line:8 Const:7 Save Home:0:20 Entry:5:3:50 Save WriteByte Const:0 Save Home:0:20 Entry:5:0:50 Save WriteByte Const:2 Save Home:0:20 Entry:1:4:50 Save WriteByte Const:2 Save Home:0:20 Entry:1:0:50 Save WriteByte Const:65535 Save Home:0:20 Entry:5:3:50 Save WriteByte Const:65535 Save Home:0:5 Entry:32768:32767:0 Save WriteByte End||58 20 26 22 18 4|
+Line:8 Const:195 Save Home:0:20 Entry:5:4:50 Save WriteByte Const:196 Save Home:0:20 Entry:5:0:50 Drop End||231|4 1 8
+Line:8 Const:65535 Save Home:0:0 Entry:5:3:50 Drop End|||4 1 8
+Line:8 Const:3300 Save Const:32768 Entry:10:0:0 Drop End|||4 1 8
+Line:8 Const:32767 Save Const:32768 Entry:1:1:0 Drop End|||4 1 8
+Line:8 Const:1 Save Const:32768 Entry:32768:0:0 Drop End|||4 1 8
+Line:1 Const:9 Save Const:2 Save Home:0:20 Entry:3:1:9 Store Home:0:27 Load Save WriteByte Const:20 Save Home:1:0 Store Const:2 Save Home:1:0 Load Entry:3:1:0 Load Save WriteByte End||9 9|
 Line:8 Const:999 InArea Drop Const:0 InArea Save WriteByte Const:1000 InArea Drop End||0|4 1 8
 Line:8 Const:65535 InArea Drop End|||4 1 8
 Line:2 Const:5 InBounds:-3:5 Save WriteByte Const:65533 InBounds:-3:5 Save WriteByte Const:6 InBounds:-3:5 Save WriteByte End||5 253|7 1 2
@@ -163,7 +179,7 @@ Line:1 ProcOut:1 CallProc:0 Save WriteByte End Proc:0:1 Enter:0 SpecialOut:0 Pro
 
 // The orders, by the names that the rows give them.
 const ORDERS: &str =
-    "Save Const Home FrameHome Load Store LoadPart StorePart Rescale Add Sub Neg Mul Div And Or Xor Take IndexLess IndexTimes IndexPlus IndexAdd IndexRow InArea InBounds Less Drop Jump JumpIf Exhausted SetVariable AddStep PutVariable LoopWay Mark LabelOut LabelCommon SwitchOut SwitchCommon ProcOut ProcCommon SpecialOut GoSpecial GoSwitch GoSwitchCommon GoSwitchSpecial GoMain GoCommon CallProc CallCommon CallSpecial Enter Bind BindFrame Return ReadByte WriteByte Start End";
+    "Save Const Home FrameHome Load Store LoadPart StorePart Rescale Add Sub Neg Mul Div And Or Xor Take IndexLess Element ElementOfTwo Entry InArea InBounds Less Drop Jump JumpIf Exhausted SetVariable AddStep PutVariable LoopWay Mark LabelOut LabelCommon SwitchOut SwitchCommon ProcOut ProcCommon SpecialOut GoSpecial GoSwitch GoSwitchCommon GoSwitchSpecial GoMain GoCommon CallProc CallCommon CallSpecial Enter Bind BindFrame Return ReadByte WriteByte Start End";
 
 // A row whose run comes from so many calls to a label of the segment's body, and writes a byte on either side of the jump. The control stack has
 // no room for more of such calls.
@@ -231,7 +247,7 @@ fn programs(rt: HostRuntime) -> Result<(), Fail> {
             count = count.wrapping_add(1);
         }
     }
-    assert_eq!(rt; count, 103);
+    assert_eq!(rt; count, 119);
     Ok(())
 }
 

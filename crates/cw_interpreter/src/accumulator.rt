@@ -58,10 +58,9 @@ pub(crate) fn line_of(order: &Order) -> u16 {
         | Order::Mul { line, .. }
         | Order::Div { line, .. }
         | Order::IndexLess { line, .. }
-        | Order::IndexTimes { line, .. }
-        | Order::IndexPlus { line, .. }
-        | Order::IndexAdd(line)
-        | Order::IndexRow { line, .. }
+        | Order::Element { line, .. }
+        | Order::ElementOfTwo { line, .. }
+        | Order::Entry { line, .. }
         | Order::InArea(line)
         | Order::InBounds { line, .. }
         | Order::SetVariable(line)

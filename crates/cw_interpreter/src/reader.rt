@@ -106,7 +106,6 @@ fn lined(name: &str, line: u16) -> Option<Order> {
         "Add" => Some(Order::Add(line)),
         "Sub" => Some(Order::Sub(line)),
         "Neg" => Some(Order::Neg(line)),
-        "IndexAdd" => Some(Order::IndexAdd(line)),
         "InArea" => Some(Order::InArea(line)),
         "SetVariable" => Some(Order::SetVariable(line)),
         "AddStep" => Some(Order::AddStep(line)),
@@ -118,8 +117,6 @@ fn lined(name: &str, line: u16) -> Option<Order> {
 // Orders with one number and a line.
 fn of_word_lined(name: &str, n: u16, line: u16) -> Option<Order> {
     match name {
-        "IndexTimes" => Some(Order::IndexTimes { length: n, line }),
-        "IndexPlus" => Some(Order::IndexPlus { word: n, line }),
         "GoSwitchCommon" => Some(Order::GoSwitchCommon {
             descriptor: n,
             line,
@@ -233,11 +230,6 @@ fn of_signs(word: Spelled<'_>, line: u16) -> Option<Order> {
             lower: word.signed(0)?,
             line,
         }),
-        "IndexRow" => Some(Order::IndexRow {
-            lower: word.signed(0)?,
-            length: word.word(1)?,
-            line,
-        }),
         "InBounds" => Some(Order::InBounds {
             lower: word.signed(0)?,
             upper: word.signed(1)?,
@@ -250,6 +242,31 @@ fn of_signs(word: Spelled<'_>, line: u16) -> Option<Order> {
         "Return" => Some(Order::Return {
             arguments: word.byte(0)?,
             answers: word.part(1) == "1",
+        }),
+        _ => of_elements(word, line),
+    }
+}
+
+// Orders of elements and entries.
+fn of_elements(word: Spelled<'_>, line: u16) -> Option<Order> {
+    match word.name {
+        "Element" => Some(Order::Element {
+            lower: word.signed(0)?,
+            span: word.word(1)?,
+            line,
+        }),
+        "ElementOfTwo" => Some(Order::ElementOfTwo {
+            lower: word.signed(0)?,
+            second: word.signed(1)?,
+            width: word.word(2)?,
+            span: word.word(3)?,
+            line,
+        }),
+        "Entry" => Some(Order::Entry {
+            width: word.word(0)?,
+            word: word.word(1)?,
+            span: word.word(2)?,
+            line,
         }),
         _ => None,
     }

@@ -135,39 +135,60 @@ impl<'a> Machine<'a> {
                 let i = self.take_number();
                 self.put_number(i.wrapping_sub(i64::from(*lower)), ADDRESS);
             }
-            Order::IndexTimes { length, .. } => {
-                let i = self.take_number();
-                self.put_number(i.wrapping_mul(i64::from(*length)), ADDRESS);
-            }
-            Order::IndexPlus { word, .. } => {
-                let i = self.take_number();
-                self.put_number(i.wrapping_add(i64::from(*word)), ADDRESS);
-            }
-            Order::IndexAdd(_) => {
-                let (i, j) = self.take_two();
-                self.put_number(i.wrapping_add(j), ADDRESS);
-            }
-            Order::IndexRow { lower, length, .. } => {
-                self.row(i64::from(*lower), i64::from(*length));
+            Order::Element { lower, .. } => self.element(i64::from(*lower)),
+            Order::ElementOfTwo {
+                lower,
+                second,
+                width,
+                ..
+            } => self.element_of_two(i64::from(*lower), i64::from(*second), i64::from(*width)),
+            Order::Entry { width, word, .. } => {
+                self.entry(i64::from(*width), i64::from(*word));
             }
             _ => self.test(order),
         }
     }
 
-    fn row(&mut self, lower: i64, length: i64) {
+    fn element(&mut self, lower: i64) {
+        let (index, base) = self.take_two();
+        let place = self.fitting(index.wrapping_sub(lower), ADDRESS);
+        self.put_address(base.wrapping_add(place));
+    }
+
+    fn element_of_two(&mut self, lower: i64, second: i64, width: i64) {
+        let base = self.take_number();
         let (i, j) = self.take_two();
         let row = self.fitting(i.wrapping_sub(lower), ADDRESS);
-        let start = self.fitting(row.wrapping_mul(length), ADDRESS);
-        self.put_number(start.wrapping_add(j), ADDRESS);
+        let start = self.fitting(row.wrapping_mul(width), ADDRESS);
+        let behind = self.fitting(j.wrapping_sub(second), ADDRESS);
+        let place = self.fitting(start.wrapping_add(behind), ADDRESS);
+        self.put_address(base.wrapping_add(place));
+    }
+
+    fn entry(&mut self, width: i64, word: i64) {
+        let (number, base) = self.take_two();
+        let start = self.fitting(number.wrapping_mul(width), ADDRESS);
+        let place = self.fitting(start.wrapping_add(word), ADDRESS);
+        self.put_address(base.wrapping_add(place));
+    }
+
+    // Puts an address, which must be a word and one of the data area.
+    fn put_address(&mut self, address: i64) {
+        match i16::try_from(address) {
+            Ok(word) => {
+                self.in_area(word);
+                self.put(word);
+            }
+            Err(_) => self.stop(ADDRESS),
+        }
     }
 
     // Tests, and bytes.
     fn test(&mut self, order: &Order) {
         match order {
             Order::InArea(_) => {
-                let address = self.take();
-                self.in_area(address);
-                self.put(address);
+                let address = self.take_number();
+                self.put_address(address);
             }
             Order::InBounds { lower, upper, .. } => {
                 let index = self.take();

@@ -14,13 +14,13 @@ use Rattle.cw_unit.specs.declared.unit.Arg.TheOpen as layer
 use Rattle.cw_unit.specs.declared.unit.Arg.TheOpen.{Arg-F, Cond-F, Spot-F, Ref-F}
 use Rattle.cw_unit.specs.Scales.{answer_scale}
 use Rattle.cw_gen_expr.specs.Pieces.{Piece, plain, followed_by, sequence, with_end}
-use Rattle.cw_gen_expr.specs.ReferenceExpressions.{Scope, ConditionPiece, Reference, saved, two_values, control_place, item_order, table_orders, bounds_orders, load_orders, rescale_orders, logic_order, narrow, number_order, comparator_for, pick_mark, choice_piece, call_order, label_order, value_of, condition_piece, argument_piece, reference_of, expression_piece}
+use Rattle.cw_gen_expr.specs.ReferenceExpressions.{Scope, ConditionPiece, Reference, saved, two_values, control_place, item_order, item_span, table_span, table_orders, bounds_orders, load_orders, rescale_orders, logic_order, narrow, number_order, comparator_for, pick_mark, choice_piece, call_order, label_order, value_of, condition_piece, argument_piece, reference_of, expression_piece}
 use Rattle.cw_gen_expr.proofs.Layers.{value_layer, value-made, spot-made, reference-made, condition-made, argument-made, total, expression_size, expression-size, expression_size_layer, argument_size, argument-size, argument_size_layer, spot-size, spot_size_layer, reference_size, reference-size, condition_size, condition-size, condition_size_layer}
 use Rattle.cw_gen_expr.proofs.Layers as made
 use Rattle.cw_tokens.specs.LeastTokens.{separated, part, expression_tokens, argument_tokens, condition_tokens, reference_tokens}
 use Rattle.cw_tmpl.specs.Templates.{listed_size, listed_sizes}
 use Rattle.cw_size.proofs.Short.{sizes-append, first_short, Short, plainly, both_short, ended_short, eased}
-use Rattle.cw_size.proofs.OrderSizes.{item-first, item-load, saved-first, table-short, bounds-short, rescale-short, rescale-whole, rescale-same, times-short, logic-short, product-short, call-short, label-short}
+use Rattle.cw_size.proofs.OrderSizes.{item-first, item-load, saved-item, saved-table, bounds-short, element-short, of-two-short, entry-short, rescale-short, rescale-whole, rescale-same, logic-short, product-short, call-short, label-short}
 use Rattle.cw_size.proofs.TokenLayers.{expression_layer, expression-tokens, argument_layer, argument-tokens, condition_layer, condition-tokens, spot_layer, spot-tokens, reference-tokens, separated-within}
 
 pub choice_short : {m k n : ℕ} {i j : ℕ} (c : ConditionPiece) (a b : Piece) → ((when : Bool) (mark : ℕ) → Short (c when mark) 0 m) → Short a i k → Short b j n → Short (choice_piece c a b) (i + j) (m + k + n + 3)
@@ -110,24 +110,6 @@ module _ (s : Scope) where
     direct : (left most : ℕ) (os : List Order) → listed_sizes os + left ≤ most → Short (followed_by (plain []) (plain os)) left most
     direct left most os h = record { at = λ place next. h }
 
-    -- the sum with the index that is saved
-    added : listed_sizes (order.IndexAdd s.line ∷ order.InArea s.line ∷ []) ≤ 19
-    added = let z : 10 + (9 + 0) ≤ 19 = omega arith in z
-
-    saved-item : (i : ℕ) → listed_sizes (order.Save ∷ item_order s.layout i 0 ∷ order.IndexAdd s.line ∷ order.InArea s.line ∷ []) ≤ 26
-    saved-item i =
-        saved-first (item_order s.layout i 0 ∷ order.IndexAdd s.line ∷ order.InArea s.line ∷ []) 25
-        (item-first s.layout i 0 (order.IndexAdd s.line ∷ order.InArea s.line ∷ []) 19 added)
-
-    -- behind the index of a table
-    based : (t : Bool) (i : ℕ) → listed_sizes (order.Save ∷ (table_orders s.layout t i ++ order.IndexAdd s.line ∷ order.InArea s.line ∷ [])) ≤ 29
-    based t i =
-        let rest : List Order = order.IndexAdd s.line ∷ order.InArea s.line ∷ [] in
-        let table = table-short s.layout t i in
-        let all = sizes-append (table_orders s.layout t i) rest in
-        let two : listed_sizes rest ≤ 19 = added in
-        saved-first (table_orders s.layout t i ++ rest) 28 (let z : listed_sizes (table_orders s.layout t i ++ rest) ≤ 28 = omega (arith, table, all, two) in z)
-
     spot_short : (x : Spot-F Arg Cond Expr Spot Ref) (field : Option Field) → spot_size_layer x ≤ n → Short (made.spot_layer s x) (spared field) (32 * spot_layer x field)
     spot_short (layer.Direct i) field le =
         let os : List Order = item_order s.layout i 0 ∷ [] in
@@ -140,38 +122,40 @@ module _ (s : Scope) where
         let left = through-spared field in
         direct (spared field) (32 * (1 + part field)) os (let z : listed_sizes os + spared field ≤ 32 * (1 + part field) = omega (arith, h, left) in z)
     spot_short (layer.One i l u e) field le =
-        let rest : List Order = order.Save ∷ item_order s.layout i 0 ∷ order.IndexAdd s.line ∷ order.InArea s.line ∷ [] in
+        let span = item_span s.layout i in
+        let o = order.Element l span s.line in
         let left = most-spared field in
-        indexed 9 (32 * expression_tokens e + 25) 38 (spared field) (32 * (3 + expression_tokens e)) (order.IndexLess l s.line ∷ rest) (bounded e l u (let z : expression_size e < n = omega (arith, le) in z))
-        (first_short (order.IndexLess l s.line) rest 12 26 (let z : 12 ≤ 12 = omega arith in z) (saved-item i))
+        indexed 9 (32 * expression_tokens e + 25) 38 (spared field) (32 * (3 + expression_tokens e)) (order.Save ∷ item_order s.layout i 0 ∷ o ∷ []) (bounded e l u (let z : expression_size e < n = omega (arith, le) in z))
+        (saved-item s.layout i o 31 (element-short l span s.line))
         (let z : 32 * expression_tokens e + 25 + 38 + spared field ≤ 32 * (3 + expression_tokens e) + 9 = omega (arith, left) in z)
     spot_short (layer.Two i l1 u1 l2 u2 m e g) field le =
-        let rest : List Order = order.Save ∷ item_order s.layout i 0 ∷ order.IndexAdd s.line ∷ order.InArea s.line ∷ [] in
-        let t = times-short m in
+        let span = item_span s.layout i in
+        let o = order.ElementOfTwo l1 l2 m span s.line in
         let left = two-spared field in
-        indexed (9 + (0 + 9)) (32 * expression_tokens e + 25 + (1 + (32 * expression_tokens g + 25))) 76 (spared field) (32 * (4 + (part field + (expression_tokens e + expression_tokens g)))) (order.IndexLess l2 s.line ∷ order.IndexRow l1 m s.line ∷ rest)
+        indexed (9 + (0 + 9)) (32 * expression_tokens e + 25 + (1 + (32 * expression_tokens g + 25))) 74 (spared field) (32 * (4 + (part field + (expression_tokens e + expression_tokens g)))) (order.Save ∷ item_order s.layout i 0 ∷ o ∷ [])
         (both_short (bounded e l1 u1 (let z : expression_size e < n = omega (arith, le) in z)) (both_short saved_short (bounded g l2 u2 (let z : expression_size g < n = omega (arith, le) in z))))
-        (first_short (order.IndexLess l2 s.line) (order.IndexRow l1 m s.line ∷ rest) 12 64 (let z : 12 ≤ 12 = omega arith in z)
-        (first_short (order.IndexRow l1 m s.line) rest 38 26 (let z : listed_size (order.IndexRow l1 m s.line) ≤ 38 = omega (arith, t) in z) (saved-item i)))
-        (let z : 32 * expression_tokens e + 25 + (1 + (32 * expression_tokens g + 25)) + 76 + spared field ≤ 32 * (4 + (part field + (expression_tokens e + expression_tokens g))) + (9 + (0 + 9)) = omega (arith, left) in z)
+        (saved-item s.layout i o 67 (of-two-short l1 l2 m span s.line))
+        (let z : 32 * expression_tokens e + 25 + (1 + (32 * expression_tokens g + 25)) + 74 + spared field ≤ 32 * (4 + (part field + (expression_tokens e + expression_tokens g))) + (9 + (0 + 9)) = omega (arith, left) in z)
     spot_short (layer.ParamArray i e) field le =
-        let rest : List Order = item_order s.layout i 0 ∷ order.Load ∷ order.IndexAdd s.line ∷ order.InArea s.line ∷ [] in
-        let h = saved-first rest 28 (item-load s.layout i 0 (order.IndexAdd s.line ∷ order.InArea s.line ∷ []) 19 added) in
+        let o = order.Element (pos 0) 0 s.line in
         let left = most-spared field in
-        indexed 9 (32 * expression_tokens e + 5) 29 (spared field) (32 * (3 + expression_tokens e)) (order.Save ∷ rest) (at-zero e (let z : expression_size e < n = omega (arith, le) in z)) h
-        (let z : 32 * expression_tokens e + 5 + 29 + spared field ≤ 32 * (3 + expression_tokens e) + 9 = omega (arith, left) in z)
+        indexed 9 (32 * expression_tokens e + 5) 31 (spared field) (32 * (3 + expression_tokens e)) (order.Save ∷ item_order s.layout i 0 ∷ order.Load ∷ o ∷ []) (at-zero e (let z : expression_size e < n = omega (arith, le) in z))
+        (saved-table s.layout true i o 21 (let z : 0 + 21 ≤ 21 = omega arith in z))
+        (let z : 32 * expression_tokens e + 5 + 31 + spared field ≤ 32 * (3 + expression_tokens e) + 9 = omega (arith, left) in z)
     spot_short (layer.Word i t m e) field le =
+        let o = order.Element (pos 0) (table_span s.layout t i) s.line in
         let left = most-spared field in
-        indexed 9 (32 * expression_tokens e + 25) 29 (spared field) (32 * (3 + expression_tokens e)) (order.Save ∷ (table_orders s.layout t i ++ order.IndexAdd s.line ∷ order.InArea s.line ∷ []))
+        indexed 9 (32 * expression_tokens e + 25) 31 (spared field) (32 * (3 + expression_tokens e)) (order.Save ∷ (table_orders s.layout t i ++ o ∷ []))
         (bounded e (pos 0) (pos m -ℤ pos 1) (let z : expression_size e < n = omega (arith, le) in z))
-        (based t i)
-        (let z : 32 * expression_tokens e + 25 + 29 + spared field ≤ 32 * (3 + expression_tokens e) + 9 = omega (arith, left) in z)
+        (saved-table s.layout t i o 21 (let z : 0 + 21 ≤ 21 = omega arith in z))
+        (let z : 32 * expression_tokens e + 25 + 31 + spared field ≤ 32 * (3 + expression_tokens e) + 9 = omega (arith, left) in z)
     spot_short (layer.Elem i t k m w e) field le =
-        let rest : List Order = order.Save ∷ (table_orders s.layout t i ++ order.IndexAdd s.line ∷ order.InArea s.line ∷ []) in
+        let span = table_span s.layout t i in
+        let o = order.Entry k w span s.line in
         let left = most-spared field in
-        indexed 9 (32 * expression_tokens e + 25) 55 (spared field) (32 * (3 + expression_tokens e)) (order.IndexTimes k s.line ∷ order.IndexPlus w s.line ∷ rest)
+        indexed 9 (32 * expression_tokens e + 25) 55 (spared field) (32 * (3 + expression_tokens e)) (order.Save ∷ (table_orders s.layout t i ++ o ∷ []))
         (bounded e (pos 0) (pos m -ℤ pos 1) (let z : expression_size e < n = omega (arith, le) in z))
-        (first_short (order.IndexTimes k s.line) (order.IndexPlus w s.line ∷ rest) 14 41 (times-short k) (first_short (order.IndexPlus w s.line) rest 12 29 (let z : 12 ≤ 12 = omega arith in z) (based t i)))
+        (saved-table s.layout t i o 45 (entry-short k w span s.line))
         (let z : 32 * expression_tokens e + 25 + 55 + spared field ≤ 32 * (3 + expression_tokens e) + 9 = omega (arith, left) in z)
     spot_short (layer.Bare e) field le =
         let left = most-spared field in

@@ -23,7 +23,7 @@ use Rattle.cw_gen_expr.specs.ReferenceExpressions.{Scope, argument_words, placed
 use Rattle.cw_gen_expr.specs.ReferenceEntries.{bound_by, bound_in, bound_order, parameter_orders, bind_orders}
 use Rattle.cw_gen_expr.specs.UnitTables.{label_mark}
 use Rattle.cw_gen_unit.specs.ReferenceStatements.{after_statement_call, from_procedure, own_order, goal_order, keep_orders, number_orders, set_orders, bump_orders}
-use Rattle.cw_tmpl.specs.Templates.{times_size, listed_size, sizes_behind, listed_sizes}
+use Rattle.cw_tmpl.specs.Templates.{times_size, width_size, bound_size, word_size, listed_size, sizes_behind, listed_sizes}
 use Rattle.cw_size.proofs.Short.{all-behind, sizes-append, first_short}
 
 -- ---- items
@@ -84,11 +84,27 @@ item-keep y i n os most h =
 pub saved-first : (os : List Order) (most : ℕ) → listed_sizes os ≤ most → listed_sizes (order.Save ∷ os) ≤ 1 + most
 saved-first os most = first_short order.Save os 1 most (let z : 1 ≤ 1 = omega arith in z)
 
-pub table-short : (y : Layout) (t : Bool) (i : ℕ) → listed_sizes (table_orders y t i) ≤ 9
+table-short : (y : Layout) (t : Bool) (i : ℕ) → listed_sizes (table_orders y t i) ≤ 9
 table-short y true i = item-load y i 0 [] 0 (let z : 0 ≤ 0 = omega arith in z)
 table-short y false i = item-first y i 0 [] 3 (let z : 0 ≤ 3 = omega arith in z)
 
--- ---- parts, bounds and scales
+-- one order behind a saved index and the address of an item, or a table
+pub saved-item : (y : Layout) (i : ℕ) (o : Order) (most : ℕ) → listed_size o ≤ most → listed_sizes (order.Save ∷ item_order y i 0 ∷ o ∷ []) ≤ 7 + most
+saved-item y i o most h =
+    let all = saved-first (item_order y i 0 ∷ o ∷ []) (6 + most) (item-first y i 0 (o ∷ []) most (let z : listed_size o + 0 ≤ most = omega (arith, h) in z)) in
+    let z : listed_sizes (order.Save ∷ item_order y i 0 ∷ o ∷ []) ≤ 7 + most = omega (arith, all) in
+    z
+
+pub saved-table : (y : Layout) (t : Bool) (i : ℕ) (o : Order) (most : ℕ) → listed_size o ≤ most → listed_sizes (order.Save ∷ (table_orders y t i ++ o ∷ [])) ≤ 10 + most
+saved-table y t i o most h =
+    let table = table-short y t i in
+    let both = sizes-append (table_orders y t i) (o ∷ []) in
+    let last : listed_sizes (o ∷ []) ≤ most = (let z : listed_size o + 0 ≤ most = omega (arith, h) in z) in
+    let all = saved-first (table_orders y t i ++ o ∷ []) (9 + most) (let z : listed_sizes (table_orders y t i ++ o ∷ []) ≤ 9 + most = omega (arith, table, both, last) in z) in
+    let z : listed_sizes (order.Save ∷ (table_orders y t i ++ o ∷ [])) ≤ 10 + most = omega (arith, all) in
+    z
+
+-- ---- parts, bounds and products
 
 pub bounds-short : (c : Bool) (line : ℕ) (l h : ℤ) → listed_sizes (bounds_orders c line l h) ≤ 20
 bounds-short true line l h = omega arith
@@ -98,12 +114,50 @@ pub store-short : (o : Option Field) → listed_sizes (store_orders o) ≤ 26
 store-short None = omega arith
 store-short (Some s) = omega arith
 
-pub times-short : (n : ℕ) → times_size n ≤ 14
+times-short : (n : ℕ) → times_size n ≤ 14
 times-short n = picked (n == 32768)
   where
     picked : (b : Bool) → (if b then 14 else 12) ≤ 14
     picked true = omega arith
     picked false = omega arith
+
+-- ---- elements and entries
+
+bound-short : (lower : ℤ) → bound_size lower ≤ 10
+bound-short (pos zero) = omega arith
+bound-short (pos (suc n)) = omega arith
+bound-short (negsuc n) = omega arith
+
+pub element-short : (lower : ℤ) (span line : ℕ) → listed_size (order.Element lower span line) ≤ 31
+element-short lower span line = let h = bound-short lower in let z : bound_size lower + 21 ≤ 31 = omega (arith, h) in z
+
+pub of-two-short : (lower second : ℤ) (width span line : ℕ) → listed_size (order.ElementOfTwo lower second width span line) ≤ 67
+of-two-short lower second width span line =
+    let h = bound-short lower in
+    let k = bound-short second in
+    let t = times-short width in
+    let z : bound_size second + bound_size lower + times_size width + 33 ≤ 67 = omega (arith, h, k, t) in
+    z
+
+width-short : (width : ℕ) → width_size width ≤ 14
+width-short width = picked (width == 1)
+  where
+    picked : (b : Bool) → (if b then 0 else times_size width) ≤ 14
+    picked true = omega arith
+    picked false = times-short width
+
+word-short : (word : ℕ) → word_size word ≤ 10
+word-short zero = omega arith
+word-short (suc n) = omega arith
+
+pub entry-short : (width word span line : ℕ) → listed_size (order.Entry width word span line) ≤ 45
+entry-short width word span line =
+    let h = width-short width in
+    let k = word-short word in
+    let z : width_size width + word_size word + 21 ≤ 45 = omega (arith, h, k) in
+    z
+
+-- ---- scales
 
 one-rescale : (line from to : ℕ) → listed_size (order.Rescale from to line) ≤ 14
 one-rescale line from to = picked (nat_le from to) (times_size (2 ^ (to - from))) (times-short (2 ^ (to - from)))

@@ -11,7 +11,7 @@ use Rattle.cw_unit.specs.declared.unit.Arg.TheOpen as layer
 use Rattle.cw_unit.specs.declared.unit.Arg.TheOpen.{Arg-F, Cond-F, Spot-F, Ref-F}
 use Rattle.cw_unit.specs.Scales.{answer_scale}
 use Rattle.cw_gen_expr.specs.Pieces.{Piece, plain, followed_by, sequence, with_end}
-use Rattle.cw_gen_expr.specs.ReferenceExpressions.{Scope, ConditionPiece, saved, two_values, control_place, item_order, table_orders, bounds_orders, load_orders, rescale_orders, logic_order, narrow, comparator_for, pick_mark, choice_piece, call_order, label_order, value_of, condition_piece, argument_piece, reference_of, expression_piece}
+use Rattle.cw_gen_expr.specs.ReferenceExpressions.{Scope, ConditionPiece, saved, two_values, control_place, item_order, item_span, table_span, table_orders, bounds_orders, load_orders, rescale_orders, logic_order, narrow, comparator_for, pick_mark, choice_piece, call_order, label_order, value_of, condition_piece, argument_piece, reference_of, expression_piece}
 use Rattle.cw_gen_expr.proofs.Layers.{value_layer, value-made, argument_layer, argument-made, spot_layer, spot-made, reference-made, condition_layer, condition-made, total, expression_size, expression-size, expression_size_layer, argument_size, argument-size, argument_size_layer, spot-size, spot_size_layer, reference_size, reference-size, condition_size, condition-size, condition_size_layer}
 use Rattle.cw_traced.proofs.Lines.Starting.{begun_in, Begins, Silent, plainly, both, before, ended}
 use Rattle.cw_traced.proofs.Lines.Silent.{none-both, none-first, item-first, table-silent, bounds-silent, load-silent, rescale-silent, logic-silent, call-silent, label-silent}
@@ -44,19 +44,19 @@ module _ (s : Scope) where
     spot-silent (layer.Through i) le = both (plainly [] refl) (plainly (item_order s.layout i 0 ∷ order.Load ∷ order.InArea s.line ∷ []) (item-first s.layout i 0 (order.Load ∷ order.InArea s.line ∷ []) refl))
     spot-silent (layer.One i l u e) le =
         both (bounded e l u (let z : expression_size e < n = omega (arith, le) in z))
-        (plainly (order.IndexLess l s.line ∷ order.Save ∷ item_order s.layout i 0 ∷ order.IndexAdd s.line ∷ order.InArea s.line ∷ []) (item-first s.layout i 0 (order.IndexAdd s.line ∷ order.InArea s.line ∷ []) refl))
+        (plainly (order.Save ∷ item_order s.layout i 0 ∷ order.Element l (item_span s.layout i) s.line ∷ []) (item-first s.layout i 0 (order.Element l (item_span s.layout i) s.line ∷ []) refl))
     spot-silent (layer.Two i l1 u1 l2 u2 m e g) le =
         both (both (bounded e l1 u1 (let z : expression_size e < n = omega (arith, le) in z)) (both saved-silent (bounded g l2 u2 (let z : expression_size g < n = omega (arith, le) in z))))
-        (plainly (order.IndexLess l2 s.line ∷ order.IndexRow l1 m s.line ∷ order.Save ∷ item_order s.layout i 0 ∷ order.IndexAdd s.line ∷ order.InArea s.line ∷ []) (item-first s.layout i 0 (order.IndexAdd s.line ∷ order.InArea s.line ∷ []) refl))
+        (plainly (order.Save ∷ item_order s.layout i 0 ∷ order.ElementOfTwo l1 l2 m (item_span s.layout i) s.line ∷ []) (item-first s.layout i 0 (order.ElementOfTwo l1 l2 m (item_span s.layout i) s.line ∷ []) refl))
     spot-silent (layer.ParamArray i e) le =
         both (b.values e (let z : expression_size e < n = omega (arith, le) in z) 0)
-        (plainly (order.Save ∷ item_order s.layout i 0 ∷ order.Load ∷ order.IndexAdd s.line ∷ order.InArea s.line ∷ []) (item-first s.layout i 0 (order.Load ∷ order.IndexAdd s.line ∷ order.InArea s.line ∷ []) refl))
+        (plainly (order.Save ∷ item_order s.layout i 0 ∷ order.Load ∷ order.Element (pos 0) 0 s.line ∷ []) (item-first s.layout i 0 (order.Load ∷ order.Element (pos 0) 0 s.line ∷ []) refl))
     spot-silent (layer.Word i t m e) le =
         both (bounded e (pos 0) (pos m -ℤ pos 1) (let z : expression_size e < n = omega (arith, le) in z))
-        (plainly (order.Save ∷ (table_orders s.layout t i ++ order.IndexAdd s.line ∷ order.InArea s.line ∷ [])) (table-silent s.layout s.line t i))
+        (plainly (order.Save ∷ (table_orders s.layout t i ++ order.Element (pos 0) (table_span s.layout t i) s.line ∷ [])) (table-silent s.layout t i (order.Element (pos 0) (table_span s.layout t i) s.line) refl))
     spot-silent (layer.Elem i t k m w e) le =
         both (bounded e (pos 0) (pos m -ℤ pos 1) (let z : expression_size e < n = omega (arith, le) in z))
-        (plainly (order.IndexTimes k s.line ∷ order.IndexPlus w s.line ∷ order.Save ∷ (table_orders s.layout t i ++ order.IndexAdd s.line ∷ order.InArea s.line ∷ [])) (table-silent s.layout s.line t i))
+        (plainly (order.Save ∷ (table_orders s.layout t i ++ order.Entry k w (table_span s.layout t i) s.line ∷ [])) (table-silent s.layout t i (order.Entry k w (table_span s.layout t i) s.line) refl))
     spot-silent (layer.Bare e) le = both (b.values e (let z : expression_size e < n = omega (arith, le) in z) 0) (plainly (order.InArea s.line ∷ []) refl)
 
     reference-silent : (r : Ref) → reference_size r ≤ n → Silent (reference_of s r).address

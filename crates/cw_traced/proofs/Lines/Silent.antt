@@ -51,10 +51,10 @@ item-silent y i n = at_family (slice_get y.families (slice_index_or y.homes i (0
 pub item-first : (y : Layout) (i n : ℕ) (os : List Order) → begun_in os ≡ [] → begun_in (item_order y i n ∷ os) ≡ []
 item-first y i n os h = nothing (item-silent y i n) h
 
--- behind the index of a table
-pub table-silent : (y : Layout) (line : ℕ) (t : Bool) (i : ℕ) → begun_in (table_orders y t i ++ order.IndexAdd line ∷ order.InArea line ∷ []) ≡ []
-table-silent y line true i = item-first y i 0 (order.Load ∷ order.IndexAdd line ∷ order.InArea line ∷ []) refl
-table-silent y line false i = item-first y i 0 (order.IndexAdd line ∷ order.InArea line ∷ []) refl
+-- one order behind the address of a table
+pub table-silent : (y : Layout) (t : Bool) (i : ℕ) (o : Order) → begun_by o ≡ [] → begun_in (table_orders y t i ++ o ∷ []) ≡ []
+table-silent y true i o h = item-first y i 0 (order.Load ∷ o ∷ []) (none-first o [] h refl)
+table-silent y false i o h = item-first y i 0 (o ∷ []) (none-first o [] h refl)
 
 -- ---- expressions
 

@@ -32,7 +32,7 @@ use Rattle.cw_gen_expr.specs.Pieces.{Piece, plain, followed_by, sequence, with_e
 use Rattle.cw_gen_expr.specs.NamedItems.{has_words}
 use Rattle.cw_gen_expr.specs.BuiltExpressions as built
 use Rattle.cw_gen_expr.specs.BuiltExpressions.{BuiltValue, most_levels, within, whole, all_built, built_value, built_reference, is_argument}
-use Rattle.cw_gen_expr.specs.ReferenceExpressions.{Scope, ConditionPiece, at_line, saved, two_values, control_place, item_order, table_orders, bounds_orders, load_orders, store_orders, rescale_orders, logic_order, number_order, comparator_for, pick_mark, choice_piece, narrow, call_order, label_order, value_of, condition_piece, argument_piece, reference_of, expression_piece}
+use Rattle.cw_gen_expr.specs.ReferenceExpressions.{Scope, ConditionPiece, at_line, saved, two_values, control_place, item_order, item_span, table_span, table_orders, bounds_orders, load_orders, store_orders, rescale_orders, logic_order, number_order, comparator_for, pick_mark, choice_piece, narrow, call_order, label_order, value_of, condition_piece, argument_piece, reference_of, expression_piece}
 use Rattle.cw_gen_expr.specs.ReferenceEntries.{scope_of}
 use Rattle.cw_gen_expr.proofs.Layers.{value_layer, value-made, argument_layer, argument-made, spot_layer, spot-made, reference-made, condition_layer, condition-made, built_value_layer, value-built, built_argument_layer, argument-built, built_spot_layer, spot-built, reference-built, built_condition_layer, condition-built, total, expression_size, expression-size, expression_size_layer, argument_size, argument-size, argument_size_layer, spot-size, spot_size_layer, reference_size, reference-size, condition_size, condition-size, condition_size_layer}
 use Rattle.cw_built.specs.Listed.{are_named}
@@ -146,28 +146,28 @@ module _ (u : SourceUnit) (stored : IsStorable u) (few : length u.items ≤ 6553
       spot_good (layer.One i l r e) le h k =
           let p = parts (Words i 1) (whole (built_value u Words e) 0) h in
           both_good (bounded_good e l r (let z : expression_size e < n = omega (arith, le) in z) p.1 k)
-          (plainly (order.IndexLess l line ∷ order.Save ∷ item_order (layout_of u) i 0 ∷ order.IndexAdd line ∷ order.InArea line ∷ []) (item-first i 1 0 (order.IndexAdd line ∷ order.InArea line ∷ []) p.0 refl))
+          (plainly (order.Save ∷ item_order (layout_of u) i 0 ∷ order.Element l (item_span (layout_of u) i) line ∷ []) (item-first i 1 0 (order.Element l (item_span (layout_of u) i) line ∷ []) p.0 refl))
       spot_good (layer.Two i l1 u1 l2 u2 m e g) le h k =
           let p = parts (Words i 1) (whole (built_value u Words e) 0 && whole (built_value u Words g) 0) h in
           let q = parts (whole (built_value u Words e) 0) (whole (built_value u Words g) 0) p.1 in
           let r = parts (is_expression (alone u) 0 o e) (is_expression (alone u) 0 o g) k in
           both_good
           (both_good (bounded_good e l1 u1 (let z : expression_size e < n = omega (arith, le) in z) q.0 r.0) (both_good saved_good (bounded_good g l2 u2 (let z : expression_size g < n = omega (arith, le) in z) q.1 r.1)))
-          (plainly (order.IndexLess l2 line ∷ order.IndexRow l1 m line ∷ order.Save ∷ item_order (layout_of u) i 0 ∷ order.IndexAdd line ∷ order.InArea line ∷ []) (item-first i 1 0 (order.IndexAdd line ∷ order.InArea line ∷ []) p.0 refl))
+          (plainly (order.Save ∷ item_order (layout_of u) i 0 ∷ order.ElementOfTwo l1 l2 m (item_span (layout_of u) i) line ∷ []) (item-first i 1 0 (order.ElementOfTwo l1 l2 m (item_span (layout_of u) i) line ∷ []) p.0 refl))
       spot_good (layer.ParamArray i e) le h k =
           let p = parts (Words i 1) (whole (built_value u Words e) 0) h in
           both_good (at-scale e (let z : expression_size e < n = omega (arith, le) in z) 0 p.1 k 0)
-          (plainly (order.Save ∷ item_order (layout_of u) i 0 ∷ order.Load ∷ order.IndexAdd line ∷ order.InArea line ∷ []) (item-first i 1 0 (order.Load ∷ order.IndexAdd line ∷ order.InArea line ∷ []) p.0 refl))
+          (plainly (order.Save ∷ item_order (layout_of u) i 0 ∷ order.Load ∷ order.Element (pos 0) 0 line ∷ []) (item-first i 1 0 (order.Load ∷ order.Element (pos 0) 0 line ∷ []) p.0 refl))
       spot_good (layer.Word i t m e) le h k =
           let p = parts (Words i 1) (whole (built_value u Words e) 0) h in
-          let rest : List Order = order.IndexAdd line ∷ order.InArea line ∷ [] in
+          let rest : List Order = order.Element (pos 0) (table_span (layout_of u) t i) line ∷ [] in
           both_good (bounded_good e (pos 0) (pos m -ℤ pos 1) (let z : expression_size e < n = omega (arith, le) in z) p.1 k)
           (plainly (order.Save ∷ (table_orders (layout_of u) t i ++ rest)) (passed (length u.descs) (layout_of u).families (table_orders (layout_of u) t i) rest (table-named u stored few who t i 1 p.0) refl))
       spot_good (layer.Elem i t c m w e) le h k =
           let p = parts (Words i 1) (whole (built_value u Words e) 0) h in
-          let rest : List Order = order.IndexAdd line ∷ order.InArea line ∷ [] in
+          let rest : List Order = order.Entry c w (table_span (layout_of u) t i) line ∷ [] in
           both_good (bounded_good e (pos 0) (pos m -ℤ pos 1) (let z : expression_size e < n = omega (arith, le) in z) p.1 k)
-          (plainly (order.IndexTimes c line ∷ order.IndexPlus w line ∷ order.Save ∷ (table_orders (layout_of u) t i ++ rest)) (passed (length u.descs) (layout_of u).families (table_orders (layout_of u) t i) rest (table-named u stored few who t i 1 p.0) refl))
+          (plainly (order.Save ∷ (table_orders (layout_of u) t i ++ rest)) (passed (length u.descs) (layout_of u).families (table_orders (layout_of u) t i) rest (table-named u stored few who t i 1 p.0) refl))
       spot_good (layer.Bare e) le h k = both_good (at-scale e (let z : expression_size e < n = omega (arith, le) in z) 0 h k 0) (plainly (order.InArea line ∷ []) refl)
 
       reference_good : (r : Ref) → reference_size r ≤ n → IsTrue (built_reference u Words r).good → IsTrue (is_reference (alone u) 0 o r) → Fine (reference_of Here r).address

@@ -1,5 +1,5 @@
 -- The words that the linker fills in the code of orders that name what there is.
-use Rattle.std.proofs.Common.{◌≡◌, ℕ, zero, suc, ◌+◌, ◌-◌, ◌%◌, ◌<◌, ◌≤◌, nat_le, nat_lt, List, [], ◌∷◌, ◌++◌, length, All, Bool, true, false, IsTrue, ◌&&◌, if◌then◌else◌, ◌==◌, ◌^◌, pos, negsuc, Option, Some, None, is_some, slice_get, slice_index, refl, sym, subst, arith}
+use Rattle.std.proofs.Common.{◌≡◌, ℕ, zero, suc, ◌+◌, ◌-◌, ◌%◌, ◌<◌, ◌≤◌, nat_le, nat_lt, List, [], ◌∷◌, ◌++◌, length, All, Bool, true, false, IsTrue, ◌&&◌, if◌then◌else◌, ◌==◌, ◌^◌, ℤ, pos, negsuc, Option, Some, None, is_some, slice_get, slice_index, refl, sym, subst, arith}
 use Rattle.std.proofs.lemmas.Bool.{ltb-true}
 use Rattle.std.specs.List.{list_all}
 use Rattle.cw_order.specs.declared.order.Order.{Order}
@@ -21,7 +21,7 @@ use Rattle.cw_tmpl.specs.Names.{Names, mark_place, label_start, procedure_start,
 use Rattle.cw_tmpl.specs.Library.{overflow_entry, address_entry}
 use Rattle.cw_tmpl.specs.declared.blocks.Block.TheVariants as block
 use Rattle.cw_tmpl.specs.Blocks.{use_of, with_number, is_plain_divisor, after_saved_const, with_variable, after_saved_home, after_saved_frame_home, after_save, after_home, after_frame_home, block_at, orders_left}
-use Rattle.cw_tmpl.specs.Templates.{template, mark_words, goal_words, landing_pieces, switch_pieces, times_if, times, rescale_if, product_start, product_down, row_start, row_end, block_pieces, block_size, entry_pieces}
+use Rattle.cw_tmpl.specs.Templates.{template, mark_words, goal_words, landing_pieces, switch_pieces, times_if, times, rescale_if, product_start, product_down, less_bound, plus_word, times_width, based, in_row, element_of_two, block_pieces, block_size, entry_pieces}
 use Rattle.cw_tmpl.specs.ReferenceCode.{templates, landings, switches, entry_size, landings_place, switches_place, names_of, pieces_of}
 use Rattle.cw_tmpl.specs.Blanks.{FillsBlank, Rise}
 use Rattle.cw_view.specs.ObjectFormat.{is_blank, has_index}
@@ -97,6 +97,30 @@ module _ (n : ℕ) (fs : List Family) where
   down-sound line true k = refl
   down-sound line false k = refl
 
+  bound-sound : (line : ℕ) (lower : ℤ) → Sound (less_bound line lower)
+  bound-sound line (pos zero) = refl
+  bound-sound line (pos (suc k)) = refl
+  bound-sound line (negsuc k) = refl
+
+  word-sound : (line word : ℕ) → Sound (plus_word line word)
+  word-sound line zero = refl
+  word-sound line (suc k) = refl
+
+  width-sound : (line width : ℕ) (b : Bool) → Sound (if b then [] else times address_entry line width)
+  width-sound line width true = refl
+  width-sound line width false = times-sound (width == 32768) address_entry line width refl
+
+  row-sound : (line : ℕ) (lower : ℤ) (width : ℕ) → Sound (less_bound line lower ++ (times address_entry line width ++ (in_row line ++ based line)))
+  row-sound line lower width =
+      let last : List Coded = in_row line ++ based line in
+      sound-both (less_bound line lower) (times address_entry line width ++ last) (bound-sound line lower)
+      (sound-both (times address_entry line width) last (times-sound (width == 32768) address_entry line width refl) refl)
+
+  of-two-sound : (line : ℕ) (lower second : ℤ) (width : ℕ) → Sound (element_of_two line lower second width)
+  of-two-sound line lower (pos zero) width = row-sound line lower width
+  of-two-sound line lower (pos (suc k)) width = row-sound line lower width
+  of-two-sound line lower (negsuc k) width = row-sound line lower width
+
   template-sound : (names : Names) (place : ℕ) (o : Order) → IsTrue (names_well n fs o) → Sound (template names place o)
   template-sound names place (order.Home f offset) h = only (is_place fs f offset) h
   template-sound names place (order.LoadPart t b true) h = refl
@@ -108,9 +132,11 @@ module _ (n : ℕ) (fs : List Family) where
   template-sound names place (order.Mul (negsuc k) line) h = down-sound line (nat_lt k 15) k
   template-sound names place (order.Div (pos k) line) h = refl
   template-sound names place (order.Div (negsuc k) line) h = refl
-  template-sound names place (order.IndexTimes k line) h = times-sound (k == 32768) address_entry line k refl
-  template-sound names place (order.IndexRow lower k line) h =
-      sound-both (row_start line lower) (times address_entry line k ++ row_end line) refl (sound-both (times address_entry line k) (row_end line) (times-sound (k == 32768) address_entry line k refl) refl)
+  template-sound names place (order.Element lower span line) h = sound-both (less_bound line lower) (based line) (bound-sound line lower) refl
+  template-sound names place (order.ElementOfTwo lower second width span line) h = of-two-sound line lower second width
+  template-sound names place (order.Entry width word span line) h =
+      let last : List Coded = plus_word line word ++ based line in
+      sound-both (times_width line width) last (width-sound line width (width == 1)) (sound-both (plus_word line word) (based line) (word-sound line word) refl)
   template-sound names place (order.JumpIf c mark) h = refl
   template-sound names place (order.LoopWay marks) h = own-only (place + 20) (mark_words names marks) (marks-sound names marks)
   template-sound names place (order.CallCommon d line) h = only (nat_lt d n) h

@@ -16,13 +16,13 @@ use Rattle.cw_unit.specs.declared.unit.Arg.TheOpen as layer
 use Rattle.cw_unit.specs.declared.unit.Arg.TheOpen.{Arg-F, Cond-F, Spot-F, Ref-F}
 use Rattle.cw_unit.specs.Scales.{answer_scale}
 use Rattle.cw_gen_expr.specs.Pieces.{Piece, plain, followed_by, sequence, with_end}
-use Rattle.cw_gen_expr.specs.ReferenceExpressions.{Scope, saved, two_values, Value, ConditionPiece, argument_words, control_place, item_order, table_orders, bounds_orders, load_orders, rescale_orders, logic_order, narrow, number_order, comparator_for, pick_mark, choice_piece, call_order, label_order, value_of, condition_piece, argument_piece, reference_of, expression_piece}
+use Rattle.cw_gen_expr.specs.ReferenceExpressions.{Scope, saved, two_values, Value, ConditionPiece, argument_words, control_place, item_order, item_span, table_span, table_orders, bounds_orders, load_orders, rescale_orders, logic_order, narrow, number_order, comparator_for, pick_mark, choice_piece, call_order, label_order, value_of, condition_piece, argument_piece, reference_of, expression_piece}
 use Rattle.cw_gen_expr.proofs.Layers.{value_layer, value-made, argument_layer, argument-made, spot_layer, spot-made, reference-made, condition_layer, condition-made, total, expression_size, expression-size, expression_size_layer, argument_size, argument-size, argument_size_layer, spot-size, spot_size_layer, reference_size, reference-size, condition_size, condition-size, condition_size_layer}
 use Rattle.cw_built.specs.Coded.{is_part, has_code}
 use Rattle.cw_writable.specs.Coded.RangedExpressions.{RangedValue, all_ranged, is_field, are_bounds, in_range, can_divide, ranged_value, is_ranged_condition, is_ranged_argument, ranged_reference, is_ranged_spot, is_ranged_expression}
 use Rattle.cw_writable.specs.Coded.RangedUnits.{is_line}
 use Rattle.cw_writable.proofs.Coded.Fine.{both, parts, passed, Good, plainly, both_good, ended_good}
-use Rattle.cw_writable.proofs.Coded.Numbers.{first, first_by, area-coded, item-first, table-coded, bounds-coded, load-coded, rescale-coded, logic-coded, product-coded, quotient-coded, index-fits, control-coded, call-coded, label-coded}
+use Rattle.cw_writable.proofs.Coded.Numbers.{lined, first, first_by, item-first, saved-item, saved-table, bounds-coded, load-coded, rescale-coded, logic-coded, product-coded, quotient-coded, index-fits, control-coded, call-coded, label-coded}
 use Rattle.cw_writable.proofs.Coded.RangedLayers.{ranged_value_layer, value-ranged, ranged_argument_layer, argument-ranged, ranged_spot_layer, spot-ranged, reference-ranged, ranged_condition_layer, condition-ranged}
 
 pub choice_good : (c : ConditionPiece) (a b : Piece) → ((when : Bool) (mark : ℕ) → Good (c when mark)) → Good a → Good b → Good (choice_piece c a b)
@@ -105,17 +105,8 @@ module _ (s : Scope) (few : argument_words s.parameters < 256) (line : IsTrue (i
     bounded_good : (e : Expr) (l u : ℤ) → expression_size e < n → IsTrue (are_bounds l u) → IsTrue ((ranged_value s.unit e).at 0) → Good (followed_by (expression_piece s e 0) (plain (bounds_orders s.unit.bounds s.line l u)))
     bounded_good e l u lt p h = both_good (at-zero e lt h) (plainly (bounds_orders s.unit.bounds s.line l u) (bounds-coded s.unit.bounds s.line line l u p))
 
-    abbrev added-index : List Order
-    added-index = order.IndexAdd s.line ∷ order.InArea s.line ∷ []
-
     in-area : IsTrue (list_all has_code (order.InArea s.line ∷ []))
     in-area = first_by (order.InArea s.line) [] refl line refl
-
-    saved-item : (i : ℕ) → IsTrue (list_all has_code (order.Save ∷ item_order s.layout i 0 ∷ added-index))
-    saved-item i = first order.Save (item_order s.layout i 0 ∷ added-index) refl (item-first s.layout i 0 added-index (area-coded s.line line))
-
-    saved-table : (t : Bool) (i : ℕ) → IsTrue (list_all has_code (order.Save ∷ (table_orders s.layout t i ++ added-index)))
-    saved-table t i = first order.Save (table_orders s.layout t i ++ added-index) refl (passed (table_orders s.layout t i) added-index (table-coded s.layout t i) (area-coded s.line line))
 
     spot_good : (x : Spot-F Arg Cond Expr Spot Ref) → spot_size_layer x ≤ n → IsTrue (ranged_spot_layer s.unit x) → Good (spot_layer s x)
     spot_good (layer.Direct i) le h = both_good (plainly [] refl) (plainly (item_order s.layout i 0 ∷ []) (item-first s.layout i 0 [] refl))
@@ -124,9 +115,9 @@ module _ (s : Scope) (few : argument_words s.parameters < 256) (line : IsTrue (i
     spot_good (layer.One i l u e) le h =
         let p = parts (are_bounds l u) ((ranged_value s.unit e).at 0) h in
         let q = parts (fits_word l) (fits_word u) p.0 in
-        let rest : List Order = order.Save ∷ item_order s.layout i 0 ∷ added-index in
+        let o = order.Element l (item_span s.layout i) s.line in
         both_good (bounded_good e l u (let z : expression_size e < n = omega (arith, le) in z) p.0 p.1)
-        (plainly (order.IndexLess l s.line ∷ rest) (first_by (order.IndexLess l s.line) rest q.0 line (saved-item i)))
+        (plainly (order.Save ∷ item_order s.layout i 0 ∷ o ∷ []) (saved-item s.layout i o (lined o q.0 line)))
     spot_good (layer.Two i l1 u1 l2 u2 m e g) le h =
         let p = parts (are_bounds l1 u1 && (are_bounds l2 u2 && nat_le m 32768)) ((ranged_value s.unit e).at 0 && (ranged_value s.unit g).at 0) h in
         let q = parts (are_bounds l1 u1) (are_bounds l2 u2 && nat_le m 32768) p.0 in
@@ -134,29 +125,27 @@ module _ (s : Scope) (few : argument_words s.parameters < 256) (line : IsTrue (i
         let t = parts ((ranged_value s.unit e).at 0) ((ranged_value s.unit g).at 0) p.1 in
         let l1-fits = (parts (fits_word l1) (fits_word u1) q.0).0 in
         let l2-fits = (parts (fits_word l2) (fits_word u2) r.0).0 in
-        let rest : List Order = order.Save ∷ item_order s.layout i 0 ∷ added-index in
+        let o = order.ElementOfTwo l1 l2 m (item_span s.layout i) s.line in
         both_good
         (both_good (bounded_good e l1 u1 (let z : expression_size e < n = omega (arith, le) in z) q.0 t.0) (both_good saved_good (bounded_good g l2 u2 (let z : expression_size g < n = omega (arith, le) in z) r.0 t.1)))
-        (plainly (order.IndexLess l2 s.line ∷ order.IndexRow l1 m s.line ∷ rest)
-        (first_by (order.IndexLess l2 s.line) (order.IndexRow l1 m s.line ∷ rest) l2-fits line
-        (first_by (order.IndexRow l1 m s.line) rest (both (fits_word l1) (nat_le m 32768) l1-fits r.1) line (saved-item i))))
+        (plainly (order.Save ∷ item_order s.layout i 0 ∷ o ∷ [])
+        (saved-item s.layout i o (lined o (both (fits_word l1) (fits_word l2 && nat_le m 32768) l1-fits (both (fits_word l2) (nat_le m 32768) l2-fits r.1)) line)))
     spot_good (layer.ParamArray i e) le h =
-        let rest : List Order = order.Load ∷ added-index in
+        let o = order.Element (pos 0) 0 s.line in
         both_good (at-zero e (let z : expression_size e < n = omega (arith, le) in z) h)
-        (plainly (order.Save ∷ item_order s.layout i 0 ∷ rest) (first order.Save (item_order s.layout i 0 ∷ rest) refl (item-first s.layout i 0 rest (first order.Load added-index refl (area-coded s.line line)))))
+        (plainly (order.Save ∷ item_order s.layout i 0 ∷ order.Load ∷ o ∷ []) (saved-table s.layout true i o (lined o refl line)))
     spot_good (layer.Word i t m e) le h =
         let p = parts (nat_le m 32768) ((ranged_value s.unit e).at 0) h in
+        let o = order.Element (pos 0) (table_span s.layout t i) s.line in
         both_good (bounded_good e (pos 0) (pos m -ℤ pos 1) (let z : expression_size e < n = omega (arith, le) in z) (index-fits m (leb-true m 32768 p.0)) p.1)
-        (plainly (order.Save ∷ (table_orders s.layout t i ++ added-index)) (saved-table t i))
+        (plainly (order.Save ∷ (table_orders s.layout t i ++ o ∷ [])) (saved-table s.layout t i o (lined o refl line)))
     spot_good (layer.Elem i t k m w e) le h =
         let p = parts (nat_le k 32768 && (nat_le m 32768 && nat_lt w 32768)) ((ranged_value s.unit e).at 0) h in
         let q = parts (nat_le k 32768) (nat_le m 32768 && nat_lt w 32768) p.0 in
         let r = parts (nat_le m 32768) (nat_lt w 32768) q.1 in
-        let rest : List Order = order.Save ∷ (table_orders s.layout t i ++ added-index) in
+        let o = order.Entry k w (table_span s.layout t i) s.line in
         both_good (bounded_good e (pos 0) (pos m -ℤ pos 1) (let z : expression_size e < n = omega (arith, le) in z) (index-fits m (leb-true m 32768 r.0)) p.1)
-        (plainly (order.IndexTimes k s.line ∷ order.IndexPlus w s.line ∷ rest)
-        (first_by (order.IndexTimes k s.line) (order.IndexPlus w s.line ∷ rest) q.0 line
-        (first_by (order.IndexPlus w s.line) rest r.1 line (saved-table t i))))
+        (plainly (order.Save ∷ (table_orders s.layout t i ++ o ∷ [])) (saved-table s.layout t i o (lined o (both (nat_le k 32768) (nat_lt w 32768) q.0 r.1) line)))
     spot_good (layer.Bare e) le h = both_good (at-zero e (let z : expression_size e < n = omega (arith, le) in z) h) (plainly (order.InArea s.line ∷ []) in-area)
 
     reference_good : (r : Ref) → reference_size r ≤ n → IsTrue (ranged_reference s.unit r).good → Good (reference_of s r).address

@@ -1,5 +1,5 @@
 -- The single orders of expressions have code.
-use Rattle.std.proofs.Common.{◌≡◌, ℕ, zero, suc, ◌+◌, ◌%◌, ◌<◌, ◌≤◌, ◌==◌, nat_le, nat_lt, if◌then◌else◌, ℤ, pos, negsuc, ◌-ℤ◌, List, [], ◌∷◌, length, Bool, true, false, IsTrue, not, Option, Some, None, slice_get, slice_index_or, refl, arith}
+use Rattle.std.proofs.Common.{◌≡◌, ℕ, zero, suc, ◌+◌, ◌%◌, ◌<◌, ◌≤◌, ◌==◌, nat_le, nat_lt, if◌then◌else◌, ℤ, pos, negsuc, ◌-ℤ◌, List, [], ◌∷◌, ◌++◌, length, Bool, true, false, IsTrue, not, Option, Some, None, slice_get, slice_index_or, refl, arith}
 use Rattle.std.proofs.lemmas.Bool.{leb-true}
 use Rattle.std.proofs.lemmas.Bool.Decides.{nat_tests}
 use Rattle.std.proofs.lemmas.Int.{ints}
@@ -25,7 +25,7 @@ use Rattle.cw_gen_expr.specs.ReferenceExpressions.{Scope, argument_words, parame
 use Rattle.cw_built.specs.Coded.{has_numbers, has_code}
 use Rattle.cw_writable.specs.Coded.RangedExpressions.{is_field, are_bounds, can_divide}
 use Rattle.cw_writable.specs.Coded.RangedUnits.{is_line}
-use Rattle.cw_writable.proofs.Coded.Fine.{both, parts}
+use Rattle.cw_writable.proofs.Coded.Fine.{both, parts, passed}
 
 pub le_true : (a b : ℕ) → a ≤ b → IsTrue (nat_le a b)
 le_true a b h = grind (arith, nat_tests)
@@ -66,13 +66,16 @@ item-coded y i n = at_family (slice_get y.families (slice_index_or y.homes i (0,
 pub item-first : (y : Layout) (i n : ℕ) (os : List Order) → IsTrue (list_all has_code os) → IsTrue (list_all has_code (item_order y i n ∷ os))
 item-first y i n os h = first (item_order y i n) os (item-coded y i n) h
 
-pub table-coded : (y : Layout) (t : Bool) (i : ℕ) → IsTrue (list_all has_code (table_orders y t i))
+table-coded : (y : Layout) (t : Bool) (i : ℕ) → IsTrue (list_all has_code (table_orders y t i))
 table-coded y true i = item-first y i 0 (order.Load ∷ []) refl
 table-coded y false i = item-first y i 0 [] refl
 
--- the sum of two indexes, which is in the area
-pub area-coded : (line : ℕ) → IsTrue (is_line line) → IsTrue (list_all has_code (order.IndexAdd line ∷ order.InArea line ∷ []))
-area-coded line l = first_by (order.IndexAdd line) (order.InArea line ∷ []) refl l (first_by (order.InArea line) [] refl l refl)
+-- one order behind a saved index and the address of an item, or a table
+pub saved-item : (y : Layout) (i : ℕ) (o : Order) → IsTrue (has_code o) → IsTrue (list_all has_code (order.Save ∷ item_order y i 0 ∷ o ∷ []))
+saved-item y i o h = first order.Save (item_order y i 0 ∷ o ∷ []) refl (item-first y i 0 (o ∷ []) (first o [] h refl))
+
+pub saved-table : (y : Layout) (t : Bool) (i : ℕ) (o : Order) → IsTrue (has_code o) → IsTrue (list_all has_code (order.Save ∷ (table_orders y t i ++ o ∷ [])))
+saved-table y t i o h = first order.Save (table_orders y t i ++ o ∷ []) refl (passed (table_orders y t i) (o ∷ []) (table-coded y t i) (first o [] h refl))
 
 -- ---- parts, bounds and scales
 
