@@ -123,18 +123,18 @@ times-short n = picked (n == 32768)
 
 -- ---- elements and entries
 
-bound-short : (lower : ℤ) → bound_size lower ≤ 10
-bound-short (pos zero) = omega arith
-bound-short (pos (suc n)) = omega arith
-bound-short (negsuc n) = omega arith
+lower-short : (lower : ℤ) → bound_size lower ≤ 10
+lower-short (pos zero) = omega arith
+lower-short (pos (suc n)) = omega arith
+lower-short (negsuc n) = omega arith
 
 pub element-short : (lower : ℤ) (span line : ℕ) → listed_size (order.Element lower span line) ≤ 31
-element-short lower span line = let h = bound-short lower in let z : bound_size lower + 21 ≤ 31 = omega (arith, h) in z
+element-short lower span line = let h = lower-short lower in let z : bound_size lower + 21 ≤ 31 = omega (arith, h) in z
 
 pub of-two-short : (lower second : ℤ) (width span line : ℕ) → listed_size (order.ElementOfTwo lower second width span line) ≤ 67
 of-two-short lower second width span line =
-    let h = bound-short lower in
-    let k = bound-short second in
+    let h = lower-short lower in
+    let k = lower-short second in
     let t = times-short width in
     let z : bound_size second + bound_size lower + times_size width + 33 ≤ 67 = omega (arith, h, k, t) in
     z
