@@ -81,7 +81,7 @@ item-keep y i n os most h =
     n
 
 -- behind a saved operand
-pub saved-first : (os : List Order) (most : ℕ) → listed_sizes os ≤ most → listed_sizes (order.Save ∷ os) ≤ 1 + most
+saved-first : (os : List Order) (most : ℕ) → listed_sizes os ≤ most → listed_sizes (order.Save ∷ os) ≤ 1 + most
 saved-first os most = first_short order.Save os 1 most (let z : 1 ≤ 1 = omega arith in z)
 
 table-short : (y : Layout) (t : Bool) (i : ℕ) → listed_sizes (table_orders y t i) ≤ 9
