@@ -2,8 +2,7 @@ pub mod ItemPlaces
 pub mod FirstWords
 pub mod Programs
 pub mod Testing
-pub mod ConstantWords
-pub mod ConstantOrders
+pub mod Constants
 pub mod Generated
 pub mod GeneratedUnits
 pub mod Spans

@@ -1,4 +1,4 @@
-use Rattle.cw_carry.proofs.Runs.ConstantOrders.{constants-fit}
+use Rattle.cw_carry.proofs.Runs.Constants.{constants-fit}
 use Rattle.cw_carry.proofs.laws.runs.order_words.Goals as goal
 
 pub returns : goal.returns
