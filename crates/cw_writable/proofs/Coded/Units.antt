@@ -129,7 +129,11 @@ begins-enter order.Store h = no h
 begins-enter (order.Add line) h = no h
 begins-enter (order.Sub line) h = no h
 begins-enter (order.JumpIf c m) h = no h
+begins-enter (order.Mul s line) h = no h
 begins-enter (order.Div s line) h = no h
+begins-enter order.And h = no h
+begins-enter order.Or h = no h
+begins-enter order.Xor h = no h
 begins-enter order.WriteByte h = no h
 begins-enter _ h = refl
 
