@@ -6,6 +6,8 @@ pub mod Stepping
 pub mod Moments
 pub mod Addresses
 pub mod Values
+pub mod Results
+pub mod Knowing
 pub mod Conditions
 pub mod Arguments
 pub mod Binding

@@ -356,7 +356,7 @@ module _ (known : Given) where
   follows (at g place loaded acts w Stuck) q m on = absurd m
 
   pub simulates : SimulationNoting is_running (order_machine p) (processor_machine shown_as) (starts p) (passes places p.limits.area) MatchesWatched (left p)
-  simulates = record { agrees = agrees; rests = rests; idle = idle; follows = follows }
+  simulates = record { agrees = agrees; rests = rests; idle = idle; follows = λ s q m on. inl (follows s q m on) }
 
   -- a way to a state that matches, on which nothing is noted, as one of the machine that is watched
   pub watched_way : {output : List ℕ} {n : ℕ} (q : Processor) (s : OrderState) → Leads output n (watch q) (Matches p image s)

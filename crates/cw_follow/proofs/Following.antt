@@ -6,7 +6,7 @@ use Rattle.std.proofs.lemmas.List.{get_or_default}
 use Rattle.std.proofs.lemmas.List.Elements.{All-head, All-nil, All-tail}
 use Rattle.cw_track.specs.Tracking.{TracksAfter}
 use Rattle.cw_track.specs.Watching.{watched}
-use Rattle.cw_track.proofs.Simulations.{tracks}
+use Rattle.cw_track.proofs.Simulations.{tracks_leaping}
 use Rattle.cw_track.proofs.Watching.{simulation_watched}
 use Rattle.cw_track.proofs.Budgets.{starts_up}
 use Rattle.cw_i86.specs.State.{State}
@@ -115,4 +115,4 @@ following rows p image words memory input s places all is stand coded begins nev
         let A = watched (order_machine p) (starts p) in
         let B = watched (processor_machine shown_as) (passes places p.limits.area) in
         starts_up (λ o. is_running o.0) A B (order_start p memory input, []) 0 14 14 (processor_start s input, []) (start.0, []) refl start.1
-        (tracks (λ o. is_running o.0) A B _ _ (simulation_watched is_running (order_machine p) (processor_machine shown_as) (starts p) (passes places p.limits.area) (MatchesWatched known) (left p) (simulates known)) (order_start p memory input, []) (start.0, []) (start.2, refl))
+        (tracks_leaping (λ o. is_running o.0) A B _ _ (simulation_watched is_running (order_machine p) (processor_machine shown_as) (starts p) (passes places p.limits.area) (MatchesWatched known) (left p) (simulates known)) (order_start p memory input, []) (start.0, []) (start.2, refl))

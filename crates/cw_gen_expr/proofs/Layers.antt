@@ -1,5 +1,7 @@
 -- What is known of a tree by its first layer: its orders, and whether it is built.
-use Rattle.std.proofs.Common.{◌≡◌, ℕ, ◌+◌, List, [], ◌∷◌, Bool}
+use Rattle.std.proofs.Common.{◌≡◌, ℕ, ◌+◌, ℤ, List, [], ◌∷◌, Bool, true, false, IsTrue, ◌&&◌, Option, Some, refl}
+use Rattle.std.proofs.lemmas.Bool.{false≢true}
+use Rattle.std.proofs.lemmas.Option.{none-some}
 use Rattle.cw_unit.specs.declared.unit.Unit.{Unit as SourceUnit}
 use Rattle.cw_unit.specs.declared.unit.Arg.{Arg, out-Arg, map-Arg, fold-Arg, fold_out-Arg}
 use Rattle.cw_unit.specs.declared.unit.Cond.{Cond, out-Cond, map-Cond, fold-Cond, fold_out-Cond}
@@ -10,19 +12,39 @@ use Rattle.cw_unit.specs.declared.unit.Arg.TheOpen as layer
 use Rattle.cw_unit.specs.declared.unit.Arg.TheOpen.{Arg-F, Cond-F, Spot-F, Ref-F}
 use Rattle.cw_gen_expr.specs.Pieces.{Piece}
 use Rattle.cw_gen_expr.specs.ReferenceExpressions as made
-use Rattle.cw_gen_expr.specs.ReferenceExpressions.{Scope, Value, Reference, ConditionPiece, value_of, condition_piece, argument_piece, reference_of, spot_piece}
+use Rattle.cw_gen_expr.specs.ReferenceExpressions.{Scope, Computed, Value, Reference, ConditionPiece, value_of, condition_piece, argument_piece, reference_of, spot_piece}
 use Rattle.cw_gen_expr.specs.BuiltExpressions as built
 use Rattle.cw_gen_expr.specs.BuiltExpressions.{BuiltValue, BuiltReference, built_value, is_condition, is_argument, built_reference, is_spot}
+
+IsTrue-left : (a b : Bool) → IsTrue (a && b) → IsTrue a
+IsTrue-left true b h = refl
+IsTrue-left false b h = absurd (false≢true h)
 
 module _ (s : Scope) where
   abbrev pub value_layer : Expr-F Arg Cond Expr Spot Ref → Value
   value_layer x = made.expression_step s (map-Expr Arg Cond Expr Spot Ref Piece ConditionPiece Value Piece Reference (argument_piece s) (condition_piece s) (value_of s) (spot_piece s) (reference_of s) x)
+
+  abbrev pub computed_layer : Expr-F Arg Cond Expr Spot Ref → Computed
+  computed_layer x = made.computed_step s (map-Expr Arg Cond Expr Spot Ref Piece ConditionPiece Value Piece Reference (argument_piece s) (condition_piece s) (value_of s) (spot_piece s) (reference_of s) x)
+
+  abbrev pub known_layer : Expr-F Arg Cond Expr Spot Ref → (scale : ℕ) → Option ℤ
+  known_layer x = made.known_value (map-Expr Arg Cond Expr Spot Ref Piece ConditionPiece Value Piece Reference (argument_piece s) (condition_piece s) (value_of s) (spot_piece s) (reference_of s) x)
 
   abbrev pub argument_layer : Arg-F Arg Cond Expr Spot Ref → Piece
   argument_layer x = made.argument_step s (map-Arg Arg Cond Expr Spot Ref Piece ConditionPiece Value Piece Reference (argument_piece s) (condition_piece s) (value_of s) (spot_piece s) (reference_of s) x)
 
   abbrev pub spot_layer : Spot-F Arg Cond Expr Spot Ref → Piece
   spot_layer x = made.spot_step s (map-Spot Arg Cond Expr Spot Ref Piece ConditionPiece Value Piece Reference (argument_piece s) (condition_piece s) (value_of s) (spot_piece s) (reference_of s) x)
+
+  -- with its indexes, and its word where that is known
+  abbrev pub indexed_layer : Spot-F Arg Cond Expr Spot Ref → Piece
+  indexed_layer x = made.indexed_piece s (map-Spot Arg Cond Expr Spot Ref Piece ConditionPiece Value Piece Reference (argument_piece s) (condition_piece s) (value_of s) (spot_piece s) (reference_of s) x)
+
+  abbrev pub word_item : Spot-F Arg Cond Expr Spot Ref → ℕ
+  word_item x = made.known_item s (map-Spot Arg Cond Expr Spot Ref Piece ConditionPiece Value Piece Reference (argument_piece s) (condition_piece s) (value_of s) (spot_piece s) (reference_of s) x)
+
+  abbrev pub word_layer : Spot-F Arg Cond Expr Spot Ref → Option ℕ
+  word_layer x = made.known_word s (map-Spot Arg Cond Expr Spot Ref Piece ConditionPiece Value Piece Reference (argument_piece s) (condition_piece s) (value_of s) (spot_piece s) (reference_of s) x)
 
   abbrev pub reference_layer : Ref-F Arg Cond Expr Spot Ref → Reference
   reference_layer x = made.reference_step s (map-Ref Arg Cond Expr Spot Ref Piece ConditionPiece Value Piece Reference (argument_piece s) (condition_piece s) (value_of s) (spot_piece s) (reference_of s) x)
@@ -75,6 +97,17 @@ module _ (u : SourceUnit) (has_words : (item words : ℕ) → Bool) where
 
   pub condition-built : (x : Cond) → is_condition u has_words x ≡ built_condition_layer (out-Cond x)
   condition-built = fold_out-Cond Bool Bool BuiltValue Bool BuiltReference (built.argument_step u has_words) (built.condition_step u has_words) (built.expression_step u has_words) (built.spot_step u has_words) (built.reference_step u has_words)
+
+-- a reference whose word is known names an item
+pub item-named : (s : Scope) (u : SourceUnit) (has_words : (item words : ℕ) → Bool) (x : Spot-F Arg Cond Expr Spot Ref) (n : ℕ) → IsTrue (built_spot_layer u has_words x) → word_layer s x ≡ Some n → IsTrue (has_words (word_item s x) 1)
+item-named s u has_words (layer.One i l h e) n b known = IsTrue-left (has_words i 1) _ b
+item-named s u has_words (layer.Two i l1 h1 l2 h2 m e g) n b known = IsTrue-left (has_words i 1) _ b
+item-named s u has_words (layer.Word i t m e) n b known = IsTrue-left (has_words i 1) _ b
+item-named s u has_words (layer.Elem i t m k w e) n b known = IsTrue-left (has_words i 1) _ b
+item-named s u has_words (layer.Direct i) n b known = absurd (none-some n known)
+item-named s u has_words (layer.Through i) n b known = absurd (none-some n known)
+item-named s u has_words (layer.ParamArray i e) n b known = absurd (none-some n known)
+item-named s u has_words (layer.Bare e) n b known = absurd (none-some n known)
 
 -- ---- its size: how many works it may become before an order is carried out
 

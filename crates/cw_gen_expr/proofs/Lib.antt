@@ -1,3 +1,4 @@
+pub mod Quotients
 pub mod Layers
 pub mod Scales
 pub mod NoLabels

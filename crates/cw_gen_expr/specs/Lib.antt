@@ -1,3 +1,4 @@
+pub mod KnownValues
 pub mod Pieces
 pub mod Output
 pub mod ReferenceExpressions

@@ -1,5 +1,6 @@
 -- Orders to which a piece is added.
-use Rattle.std.specs.Prelude.{◌++◌, length}
+use Rattle.std.specs.Prelude.{◌++◌, length, take}
+use Rattle.cw_gen_expr.specs.declared.output.Extent.{Extent}
 use Rattle.cw_gen_expr.specs.declared.output.Output.{Output}
 use Rattle.cw_gen_expr.specs.Pieces.{MarkedOrders, Piece}
 
@@ -11,3 +12,10 @@ abbrev pub added : Piece → MarkedOrders → MarkedOrders
 added p x =
     let y = p (length x.orders) (length x.marks) in
     record { orders = x.orders ++ y.orders; labels = x.labels ++ y.labels; marks = x.marks ++ y.marks }
+
+-- how much there is, and the first so much
+abbrev pub extent_of : MarkedOrders → Extent
+extent_of x = record { orders = length x.orders; labels = length x.labels; marks = length x.marks }
+
+abbrev pub shortened : Extent → MarkedOrders → MarkedOrders
+shortened e x = record { orders = take e.orders x.orders; labels = take e.labels x.labels; marks = take e.marks x.marks }

@@ -1,7 +1,7 @@
 -- The orders of expressions, conditions, references and arguments.
 use Rattle.std.specs.Prelude.{ℕ, zero, suc, ◌+◌, ◌-◌, ◌%◌, max, ◌==◌, nat_lt, if◌then◌else◌, ℤ, pos, negsuc, ◌-ℤ◌, List, [], ◌∷◌, ◌++◌, Bool, true, false, not, Option, Some, None, slice_get, slice_index_or}
 use Rattle.cw_word.specs.Decimal.{decimal_floor}
-use Rattle.cw_word.specs.Word.{unsigned}
+use Rattle.cw_word.specs.Word.{signed, unsigned}
 use Rattle.cw_order.specs.declared.order.Order.{Order}
 use Rattle.cw_order.specs.declared.order.Order.TheVariants as order
 use Rattle.cw_order.specs.declared.order.Comparator.{Comparator}
@@ -23,14 +23,15 @@ use Rattle.cw_unit.specs.declared.unit.Goal.TheVariants as goal
 use Rattle.cw_unit.specs.declared.unit.CompareOp.{CompareOp}
 use Rattle.cw_unit.specs.declared.unit.CompareOp.TheVariants as compare
 use Rattle.cw_unit.specs.declared.unit.Cond.{Cond, fold-Cond}
-use Rattle.cw_unit.specs.declared.unit.Expr.{Expr, Expr-F, fold-Expr}
+use Rattle.cw_unit.specs.declared.unit.Expr.{Expr, Expr-F, out-Expr, map-Expr, fold-Expr}
 use Rattle.cw_unit.specs.declared.unit.Arg.{Arg, fold-Arg}
 use Rattle.cw_unit.specs.declared.unit.Ref.{Ref, fold-Ref}
-use Rattle.cw_unit.specs.declared.unit.Spot.{Spot, fold-Spot}
+use Rattle.cw_unit.specs.declared.unit.Spot.{Spot, out-Spot, map-Spot, fold-Spot}
 use Rattle.cw_unit.specs.declared.unit.Arg.TheOpen as layer
 use Rattle.cw_unit.specs.declared.unit.Arg.TheOpen.{Arg-F, Cond-F, Spot-F, Ref-F}
 use Rattle.cw_unit.specs.Scales.{answer_scale, number_scale}
 use Rattle.cw_gen_expr.specs.Pieces.{Piece, plain, followed_by, sequence, with_end}
+use Rattle.cw_gen_expr.specs.KnownValues.{of_known, of_both, known_sum, known_difference, known_negative, known_rescaled, known_product, known_quotient, known_logic, known_bits, from_lower, element_word, element_of_two_word, entry_word}
 
 -- ---- the body at work
 
@@ -181,9 +182,16 @@ abbrev pub ConditionPiece : Type 0
 ConditionPiece = (when : Bool) → (mark : ℕ) → Piece
 
 -- an expression: its natural scale, its scale as an operand, and its orders at a context scale
+pub record Computed : Type 0 where
+  pub natural : ℕ
+  pub operand : ℕ
+  pub at : ℕ → Piece
+
+-- the same with its value at a scale, where that is known
 pub record Value : Type 0 where
   pub natural : ℕ
   pub operand : ℕ
+  pub known : ℕ → Option ℤ
   pub at : ℕ → Piece
 
 -- a reference: the orders that put its address, and how its word is read
@@ -206,11 +214,33 @@ abbrev pub two_values : Piece → Piece → List Order → Piece
 two_values a b os = followed_by a (followed_by saved (followed_by b (plain os)))
 
 -- of a value that has no scale of its own
-abbrev pub unscaled : (ℕ → Piece) → Value
+abbrev pub unscaled : (ℕ → Piece) → Computed
 unscaled p = record { natural = 0; operand = 0; at = p }
 
-abbrev pub scaled : ℕ → (ℕ → Piece) → Value
+abbrev pub scaled : ℕ → (ℕ → Piece) → Computed
 scaled f p = record { natural = f; operand = f; at = p }
+
+-- a value that is known is one constant, and a word that is known is named by one order
+abbrev pub known_or : Option ℤ → Piece → Piece
+known_or (Some z) p = plain (number_order (unsigned z) ∷ [])
+known_or None p = p
+
+abbrev pub named_or : Layout → (item : ℕ) → (word : Option ℕ) → Piece → Piece
+named_or y i (Some n) p = plain (item_order y i n ∷ [])
+named_or y i None p = p
+
+abbrev pub known_value : Expr-F Piece ConditionPiece Value Piece Reference → (scale : ℕ) → Option ℤ
+known_value (layer.Num n) f = Some (signed (decimal_floor n.whole n.digits n.places f % 65536))
+known_value (layer.Const z) f = known_rescaled 0 f z
+known_value (layer.Force g e) f = of_known (known_rescaled g f) (e.known g)
+known_value (layer.Bits t b e) f = of_known (known_rescaled 0 f) (of_known (known_bits t b) (e.known e.operand))
+known_value (layer.Logic op a b) f = of_known (known_rescaled 0 f) (of_both (known_logic op) (a.known a.operand) (b.known b.operand))
+known_value (layer.Sum a b) f = of_both known_sum (a.known f) (b.known f)
+known_value (layer.Less a b) f = of_both known_difference (a.known f) (b.known f)
+known_value (layer.Minus a) f = of_known known_negative (a.known f)
+known_value (layer.Times a b) f = of_both (known_product (narrow (pos f -ℤ pos (a.operand + b.operand)))) (a.known a.operand) (b.known b.operand)
+known_value (layer.Over a b) f = of_both (known_quotient (narrow (pos (f + b.operand) -ℤ pos a.operand))) (a.known a.operand) (b.known b.operand)
+known_value _ f = None
 
 module _ (s : Scope) where
   abbrev pub call_order : Target → Order
@@ -239,32 +269,57 @@ module _ (s : Scope) where
   index_piece (layer.Elem i t n m w e) = bounded_piece e (pos 0) (pos m -ℤ pos 1)
   index_piece (layer.Bare e) = e.at 0
 
+  -- the item of a reference with indexes, and its word, where that is known
+  abbrev pub known_item : Spot-F Piece ConditionPiece Value Piece Reference → ℕ
+  known_item (layer.One i l u e) = i
+  known_item (layer.Two i l1 u1 l2 u2 n e g) = i
+  known_item (layer.Word i t n e) = i
+  known_item (layer.Elem i t n m w e) = i
+  known_item _ = 0
+
+  abbrev pub known_word : Spot-F Piece ConditionPiece Value Piece Reference → Option ℕ
+  known_word (layer.One i l u e) = element_word (item_span s.layout i) (from_lower s.unit.bounds l u (e.known 0))
+  known_word (layer.Two i l1 u1 l2 u2 n e g) =
+      element_of_two_word (item_span s.layout i) n (from_lower s.unit.bounds l1 u1 (e.known 0)) (from_lower s.unit.bounds l2 u2 (g.known 0))
+  known_word (layer.Word i t n e) = element_word (table_span s.layout t i) (from_lower s.unit.bounds (pos 0) (pos n -ℤ pos 1) (e.known 0))
+  known_word (layer.Elem i t n m w e) = entry_word (table_span s.layout t i) n w (from_lower s.unit.bounds (pos 0) (pos m -ℤ pos 1) (e.known 0))
+  known_word _ = None
+
+  -- the address of a reference that its indexes make
+  abbrev pub indexed_piece : Spot-F Piece ConditionPiece Value Piece Reference → Piece
+  indexed_piece x = followed_by (index_piece x) (plain (form_orders s.layout s.line x))
+
   abbrev pub spot_step : Spot-F Piece ConditionPiece Value Piece Reference → Piece
-  spot_step x = followed_by (index_piece x) (plain (form_orders s.layout s.line x))
+  spot_step x = named_or s.layout (known_item x) (known_word x) (indexed_piece x)
 
   abbrev pub reference_step : Ref-F Piece ConditionPiece Value Piece Reference → Reference
   reference_step r = record { address = r.at; scale = r.f; field = r.field }
 
-  abbrev pub expression_step : Expr-F Piece ConditionPiece Value Piece Reference → Value
-  expression_step (layer.Num n) =
+  abbrev pub computed_step : Expr-F Piece ConditionPiece Value Piece Reference → Computed
+  computed_step (layer.Num n) =
       record { natural = 0; operand = number_scale (nat_lt 0 n.places) n; at = λ f. plain (number_order (decimal_floor n.whole n.digits n.places f) ∷ []) }
-  expression_step (layer.Const z) = unscaled (λ f. plain (number_order (unsigned z) ∷ rescale_orders s.line 0 f))
-  expression_step (layer.Text i) = unscaled (λ f. plain (item_order s.layout i 0 ∷ rescale_orders s.line 0 f))
-  expression_step (layer.Read r) = scaled r.scale (λ f. followed_by r.address (plain (load_orders r.field ++ rescale_orders s.line r.scale f)))
-  expression_step (layer.Call t args) =
+  computed_step (layer.Const z) = unscaled (λ f. plain (number_order (unsigned z) ∷ rescale_orders s.line 0 f))
+  computed_step (layer.Text i) = unscaled (λ f. plain (item_order s.layout i 0 ∷ rescale_orders s.line 0 f))
+  computed_step (layer.Read r) = scaled r.scale (λ f. followed_by r.address (plain (load_orders r.field ++ rescale_orders s.line r.scale f)))
+  computed_step (layer.Call t args) =
       scaled (answer_scale s.unit t) (λ f. followed_by (sequence args) (plain (call_order t ∷ rescale_orders s.line (answer_scale s.unit t) f)))
-  expression_step (layer.Force g e) = scaled g (λ f. followed_by (e.at g) (plain (rescale_orders s.line g f)))
-  expression_step (layer.Locate r) = unscaled (λ f. followed_by r.address (plain (rescale_orders s.line 0 f)))
-  expression_step (layer.Bits t b e) = unscaled (λ f. followed_by (e.at e.operand) (plain (order.Take t b ∷ rescale_orders s.line 0 f)))
-  expression_step (layer.Logic op a b) = unscaled (λ f. two_values (a.at a.operand) (b.at b.operand) (logic_order op ∷ rescale_orders s.line 0 f))
-  expression_step (layer.Sum a b) = scaled (max a.natural b.natural) (λ f. two_values (a.at f) (b.at f) (order.Add s.line ∷ []))
-  expression_step (layer.Less a b) = scaled (max a.natural b.natural) (λ f. two_values (a.at f) (b.at f) (order.Sub s.line ∷ []))
-  expression_step (layer.Minus a) = scaled a.natural (λ f. followed_by (a.at f) (plain (order.Neg s.line ∷ [])))
-  expression_step (layer.Times a b) =
+  computed_step (layer.Force g e) = scaled g (λ f. followed_by (e.at g) (plain (rescale_orders s.line g f)))
+  computed_step (layer.Locate r) = unscaled (λ f. followed_by r.address (plain (rescale_orders s.line 0 f)))
+  computed_step (layer.Bits t b e) = unscaled (λ f. followed_by (e.at e.operand) (plain (order.Take t b ∷ rescale_orders s.line 0 f)))
+  computed_step (layer.Logic op a b) = unscaled (λ f. two_values (a.at a.operand) (b.at b.operand) (logic_order op ∷ rescale_orders s.line 0 f))
+  computed_step (layer.Sum a b) = scaled (max a.natural b.natural) (λ f. two_values (a.at f) (b.at f) (order.Add s.line ∷ []))
+  computed_step (layer.Less a b) = scaled (max a.natural b.natural) (λ f. two_values (a.at f) (b.at f) (order.Sub s.line ∷ []))
+  computed_step (layer.Minus a) = scaled a.natural (λ f. followed_by (a.at f) (plain (order.Neg s.line ∷ [])))
+  computed_step (layer.Times a b) =
       scaled (max a.natural b.natural) (λ f. two_values (a.at a.operand) (b.at b.operand) (order.Mul (narrow (pos f -ℤ pos (a.operand + b.operand))) s.line ∷ []))
-  expression_step (layer.Over a b) =
+  computed_step (layer.Over a b) =
       scaled (max a.natural b.natural) (λ f. two_values (a.at a.operand) (b.at b.operand) (order.Div (narrow (pos (f + b.operand) -ℤ pos a.operand)) s.line ∷ []))
-  expression_step (layer.Choice c a b) = scaled (max a.natural b.natural) (λ f. choice_piece c (a.at f) (b.at f))
+  computed_step (layer.Choice c a b) = scaled (max a.natural b.natural) (λ f. choice_piece c (a.at f) (b.at f))
+
+  abbrev pub expression_step : Expr-F Piece ConditionPiece Value Piece Reference → Value
+  expression_step x =
+      let v = computed_step x in
+      record { natural = v.natural; operand = v.operand; known = known_value x; at = λ f. known_or (known_value x f) (v.at f) }
 
   -- an argument stands on the stack
   abbrev pub argument_step : Arg-F Piece ConditionPiece Value Piece Reference → Piece
@@ -305,3 +360,14 @@ module _ (s : Scope) where
 
   abbrev pub expression_piece : Expr → (scale : ℕ) → Piece
   expression_piece e = (value_of e).at
+
+  -- the orders of an expression whose value is not known, by its parts
+  abbrev pub computed_piece : Expr → (scale : ℕ) → Piece
+  computed_piece e = (computed_step (map-Expr Arg Cond Expr Spot Ref Piece ConditionPiece Value Piece Reference argument_piece condition_piece value_of spot_piece reference_of (out-Expr e))).at
+
+  -- the layer of a reference, and its indexes
+  abbrev pub pieces_of : Spot → Spot-F Piece ConditionPiece Value Piece Reference
+  pieces_of a = map-Spot Arg Cond Expr Spot Ref Piece ConditionPiece Value Piece Reference argument_piece condition_piece value_of spot_piece reference_of (out-Spot a)
+
+  abbrev pub indexes_of : Spot → Piece
+  indexes_of a = index_piece (pieces_of a)

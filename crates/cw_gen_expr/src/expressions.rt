@@ -5,8 +5,12 @@ ghost use Rattle.cw_order.specs.declared.order.Order.TheVariants as order;
 ghost use Rattle.cw_gen_expr.specs.Pieces.{plain, sequence};
 ghost use Rattle.cw_gen_expr.specs.Output.{made, added};
 ghost use Rattle.cw_gen_expr.specs.UnitTables.{first_mark};
-ghost use Rattle.cw_gen_expr.specs.ReferenceExpressions.{expression_piece, condition_piece, argument_piece, spot_piece, bounds_orders, comparator_for, pick_mark, rescale_orders, load_orders, table_orders, form_orders, logic_order, narrow, call_order, scope_with, at_line};
+ghost use Rattle.cw_gen_expr.specs.ReferenceExpressions.{Scope, expression_piece, condition_piece, argument_piece, spot_piece, bounds_orders, comparator_for, pick_mark, rescale_orders, load_orders, table_orders, form_orders, logic_order, narrow, call_order, scope_with, at_line, value_of, computed_piece, known_item, known_word, pieces_of, indexes_of};
 
+use crate::known::{
+    above, bits_of, combined, difference_of, negative_of, product_of, quotient_of, rescaled_to,
+    sum_of, word_of_element, word_of_entry, word_of_two,
+};
 use crate::orders::{item, number_word, place_of_control, scale_of_operand, span, span_of_table};
 use crate::output::Output;
 use cw_order::{Comparator, Order};
@@ -200,14 +204,28 @@ fn power(power: i32) -> i8
     }
 }
 
+/// The power of two of a product at scale `to`, whose operands have the scales `f` and `g`.
+fn power_of_product(to: u8, f: u8, g: u8) -> i8
+    ensures { result ≡ narrow (pos to -ℤ pos (f + g)) }
+{
+    power(i32::from(to) - i32::from(u16::from(f) + u16::from(g)))
+}
+
 /// Adds the order of a product at scale `to`, whose operands have the scales `f` and `g`.
 fn emit_product(out: &mut Output, line: u16, to: u8, f: u8, g: u8) -> Result<(), NoMemory>
     ensures { OnOk result (made out.new ≡ added (plain (order.Mul (narrow (pos to -ℤ pos (f + g))) line ∷ [])) (made out.old)) }
 {
     out.push(Order::Mul {
-        power: power(i32::from(to) - i32::from(u16::from(f) + u16::from(g))),
+        power: power_of_product(to, f, g),
         line,
     })
+}
+
+/// The power of two of a quotient at scale `to`, whose operands have the scales `f` and `g`.
+fn power_of_quotient(to: u8, f: u8, g: u8) -> i8
+    ensures { result ≡ narrow (pos (to + g) -ℤ pos f) }
+{
+    power(i32::from(u16::from(to) + u16::from(g)) - i32::from(f))
 }
 
 /// Adds the order of a quotient at scale `to`, whose operands have the scales `f` and `g`.
@@ -215,7 +233,7 @@ fn emit_quotient(out: &mut Output, line: u16, to: u8, f: u8, g: u8) -> Result<()
     ensures { OnOk result (made out.new ≡ added (plain (order.Div (narrow (pos (to + g) -ℤ pos f)) line ∷ [])) (made out.old)) }
 {
     out.push(Order::Div {
-        power: power(i32::from(u16::from(to) + u16::from(g)) - i32::from(f)),
+        power: power_of_quotient(to, f, g),
         line,
     })
 }
@@ -249,7 +267,7 @@ pub fn emit_call(
     }
 }
 
-/// Adds the orders that put the value of an expression at a scale.
+/// Adds the orders that put the value of an expression at a scale, one where the value is known, and tells it.
 #[cycle(tree)]
 pub fn emit_expression(
     out: &mut Output,
@@ -259,91 +277,129 @@ pub fn emit_expression(
     line: u16,
     e: &Expr,
     scale: u8,
-) -> Result<(), NoMemory>
-    ensures { OnOk result (made out.new ≡ added (expression_piece (at_line line (scope_with unit.now layout.now parameters.now)) e.now scale) (made out.old)) }
+) -> Result<Option<i16>, NoMemory>
+    ensures orders { OnOk result (made out.new ≡ added (expression_piece (at_line line (scope_with unit.now layout.now parameters.now)) e.now scale) (made out.old)) }
+    ensures known { IfOk result (λ k. k ≡ (value_of (at_line line (scope_with unit.now layout.now parameters.now)) e.now).known scale) }
+{
+    let extent = out.extent();
+    let known = emit_computed(out, unit, layout, parameters, line, e, scale)?;
+    if let Some(word) = known {
+        out.retract(extent);
+        out.push(Order::Const(word.cast_unsigned()))?;
+    }
+    Ok(known)
+}
+
+/// Adds the orders that compute an expression from its parts, and tells its value where it is known.
+#[cycle(tree)]
+fn emit_computed(
+    out: &mut Output,
+    unit: &Unit,
+    layout: &Layout,
+    parameters: &[Param],
+    line: u16,
+    e: &Expr,
+    scale: u8,
+) -> Result<Option<i16>, NoMemory>
+    ensures orders { OnOk result (made out.new ≡ added (computed_piece (at_line line (scope_with unit.now layout.now parameters.now)) e.now scale) (made out.old)) }
+    ensures known { IfOk result (λ k. k ≡ (value_of (at_line line (scope_with unit.now layout.now parameters.now)) e.now).known scale) }
 {
     match e {
         Expr::Num(number) => {
             let word = number_word(number, scale)?;
-            out.push(Order::Const(word))
+            out.push(Order::Const(word))?;
+            Ok(Some(word.cast_signed()))
         }
         Expr::Const(z) => {
             out.push(Order::Const(z.cast_unsigned()))?;
-            emit_rescale(out, line, 0, scale)
+            emit_rescale(out, line, 0, scale)?;
+            Ok(rescaled_to(Some(*z), 0, scale))
         }
         Expr::Text(i) => {
             out.push(item(layout, *i, 0))?;
-            emit_rescale(out, line, 0, scale)
+            emit_rescale(out, line, 0, scale)?;
+            Ok(None)
         }
         Expr::Read(reference) => {
             let reference = reference.get();
             emit_address(out, unit, layout, parameters, line, &reference.at)?;
             emit_load(out, &reference.field)?;
-            emit_rescale(out, line, reference.f, scale)
+            emit_rescale(out, line, reference.f, scale)?;
+            Ok(None)
         }
         Expr::Call(target, arguments) => {
             emit_arguments(out, unit, layout, parameters, line, arguments.as_slice())?;
             emit_call(out, unit, layout, parameters, line, target)?;
-            emit_rescale(out, line, answer_scale(unit, target), scale)
+            emit_rescale(out, line, answer_scale(unit, target), scale)?;
+            Ok(None)
         }
         Expr::Force(forced, a) => {
-            emit_expression(out, unit, layout, parameters, line, a.get(), *forced)?;
-            emit_rescale(out, line, *forced, scale)
+            let x = emit_expression(out, unit, layout, parameters, line, a.get(), *forced)?;
+            emit_rescale(out, line, *forced, scale)?;
+            Ok(rescaled_to(x, *forced, scale))
         }
         Expr::Locate(reference) => {
             emit_address(out, unit, layout, parameters, line, &reference.get().at)?;
-            emit_rescale(out, line, 0, scale)
+            emit_rescale(out, line, 0, scale)?;
+            Ok(None)
         }
         Expr::Bits(t, b, a) => {
             let a = a.get();
             let f = scale_of_operand(unit, a)?;
-            emit_expression(out, unit, layout, parameters, line, a, f)?;
+            let x = emit_expression(out, unit, layout, parameters, line, a, f)?;
             out.push(Order::Take { t: *t, b: *b })?;
-            emit_rescale(out, line, 0, scale)
+            emit_rescale(out, line, 0, scale)?;
+            Ok(rescaled_to(bits_of(x, *t, *b), 0, scale))
         }
         Expr::Logic(op, a, b) => {
             let (a, b) = (a.get(), b.get());
             let f = scale_of_operand(unit, a)?;
             let g = scale_of_operand(unit, b)?;
-            emit_expression(out, unit, layout, parameters, line, a, f)?;
+            let x = emit_expression(out, unit, layout, parameters, line, a, f)?;
             out.push(Order::Save)?;
-            emit_expression(out, unit, layout, parameters, line, b, g)?;
+            let y = emit_expression(out, unit, layout, parameters, line, b, g)?;
             out.push(logic(*op))?;
-            emit_rescale(out, line, 0, scale)
+            emit_rescale(out, line, 0, scale)?;
+            Ok(rescaled_to(combined(*op, x, y), 0, scale))
         }
         Expr::Sum(a, b) => {
-            emit_expression(out, unit, layout, parameters, line, a.get(), scale)?;
+            let x = emit_expression(out, unit, layout, parameters, line, a.get(), scale)?;
             out.push(Order::Save)?;
-            emit_expression(out, unit, layout, parameters, line, b.get(), scale)?;
-            out.push(Order::Add(line))
+            let y = emit_expression(out, unit, layout, parameters, line, b.get(), scale)?;
+            out.push(Order::Add(line))?;
+            Ok(sum_of(x, y))
         }
         Expr::Less(a, b) => {
-            emit_expression(out, unit, layout, parameters, line, a.get(), scale)?;
+            let x = emit_expression(out, unit, layout, parameters, line, a.get(), scale)?;
             out.push(Order::Save)?;
-            emit_expression(out, unit, layout, parameters, line, b.get(), scale)?;
-            out.push(Order::Sub(line))
+            let y = emit_expression(out, unit, layout, parameters, line, b.get(), scale)?;
+            out.push(Order::Sub(line))?;
+            Ok(difference_of(x, y))
         }
         Expr::Minus(a) => {
-            emit_expression(out, unit, layout, parameters, line, a.get(), scale)?;
-            out.push(Order::Neg(line))
+            let x = emit_expression(out, unit, layout, parameters, line, a.get(), scale)?;
+            out.push(Order::Neg(line))?;
+            Ok(negative_of(x))
         }
         Expr::Times(a, b) => {
             let (a, b) = (a.get(), b.get());
             let f = scale_of_operand(unit, a)?;
             let g = scale_of_operand(unit, b)?;
-            emit_expression(out, unit, layout, parameters, line, a, f)?;
+            let x = emit_expression(out, unit, layout, parameters, line, a, f)?;
             out.push(Order::Save)?;
-            emit_expression(out, unit, layout, parameters, line, b, g)?;
-            emit_product(out, line, scale, f, g)
+            let y = emit_expression(out, unit, layout, parameters, line, b, g)?;
+            emit_product(out, line, scale, f, g)?;
+            Ok(product_of(x, y, power_of_product(scale, f, g)))
         }
         Expr::Over(a, b) => {
             let (a, b) = (a.get(), b.get());
             let f = scale_of_operand(unit, a)?;
             let g = scale_of_operand(unit, b)?;
-            emit_expression(out, unit, layout, parameters, line, a, f)?;
+            let x = emit_expression(out, unit, layout, parameters, line, a, f)?;
             out.push(Order::Save)?;
-            emit_expression(out, unit, layout, parameters, line, b, g)?;
-            emit_quotient(out, line, scale, f, g)
+            let y = emit_expression(out, unit, layout, parameters, line, b, g)?;
+            emit_quotient(out, line, scale, f, g)?;
+            Ok(quotient_of(x, y, power_of_quotient(scale, f, g)))
         }
         Expr::Choice(condition, a, b) => {
             let end = out.new_mark()?;
@@ -362,7 +418,8 @@ pub fn emit_expression(
             out.push(Order::Jump(end))?;
             out.set_mark(other)?;
             emit_expression(out, unit, layout, parameters, line, b.get(), scale)?;
-            out.set_mark(end)
+            out.set_mark(end)?;
+            Ok(None)
         }
     }
 }
@@ -443,7 +500,17 @@ pub fn emit_condition(
     }
 }
 
-/// Adds the orders that put the address of a reference.
+/// The item of a reference with indexes; 0 for others.
+fn item_of(spot: &Spot) -> u32
+    ensures { (s : Scope) → result ≡ known_item s (pieces_of s spot.now) }
+{
+    match spot {
+        Spot::One(i, ..) | Spot::Two(i, ..) | Spot::Word(i, ..) | Spot::Elem(i, ..) => *i,
+        Spot::Direct(_) | Spot::Through(_) | Spot::ParamArray(..) | Spot::Bare(_) => 0,
+    }
+}
+
+/// Adds the orders that put the address of a reference, one where its word is known.
 #[cycle(tree)]
 pub fn emit_address(
     out: &mut Output,
@@ -455,38 +522,63 @@ pub fn emit_address(
 ) -> Result<(), NoMemory>
     ensures { OnOk result (made out.new ≡ added (spot_piece (at_line line (scope_with unit.now layout.now parameters.now)) spot.now) (made out.old)) }
 {
-    match spot {
-        Spot::Direct(_) | Spot::Through(_) => emit_form(out, layout, line, spot),
-        Spot::One(_, lower, upper, e) => {
-            emit_expression(out, unit, layout, parameters, line, e, 0)?;
-            emit_bounds(out, unit, line, *lower, *upper)?;
-            emit_form(out, layout, line, spot)
+    let extent = out.extent();
+    match emit_indexes(out, unit, layout, parameters, line, spot)? {
+        Some(word) => {
+            out.retract(extent);
+            out.push(item(layout, item_of(spot), word))
         }
-        Spot::Two(_, l1, u1, l2, u2, _, a, b) => {
-            emit_expression(out, unit, layout, parameters, line, a, 0)?;
+        None => emit_form(out, layout, line, spot),
+    }
+}
+
+/// Adds the orders that put the indexes of a reference, and tells the word of its item where that is known.
+#[cycle(tree)]
+fn emit_indexes(
+    out: &mut Output,
+    unit: &Unit,
+    layout: &Layout,
+    parameters: &[Param],
+    line: u16,
+    spot: &Spot,
+) -> Result<Option<u16>, NoMemory>
+    ensures orders { OnOk result (made out.new ≡ added (indexes_of (at_line line (scope_with unit.now layout.now parameters.now)) spot.now) (made out.old)) }
+    ensures known { IfOk result (λ k. k ≡ known_word (at_line line (scope_with unit.now layout.now parameters.now)) (pieces_of (at_line line (scope_with unit.now layout.now parameters.now)) spot.now)) }
+{
+    match spot {
+        Spot::Direct(_) | Spot::Through(_) => Ok(None),
+        Spot::One(i, lower, upper, e) => {
+            let k = emit_expression(out, unit, layout, parameters, line, e, 0)?;
+            emit_bounds(out, unit, line, *lower, *upper)?;
+            let index = above(unit.bounds, *lower, i64::from(*upper), k);
+            Ok(word_of_element(span(layout, *i), index))
+        }
+        Spot::Two(i, l1, u1, l2, u2, width, a, b) => {
+            let j = emit_expression(out, unit, layout, parameters, line, a, 0)?;
             emit_bounds(out, unit, line, *l1, *u1)?;
             out.push(Order::Save)?;
-            emit_expression(out, unit, layout, parameters, line, b, 0)?;
+            let k = emit_expression(out, unit, layout, parameters, line, b, 0)?;
             emit_bounds(out, unit, line, *l2, *u2)?;
-            emit_form(out, layout, line, spot)
+            let row = above(unit.bounds, *l1, i64::from(*u1), j);
+            let column = above(unit.bounds, *l2, i64::from(*u2), k);
+            Ok(word_of_two(span(layout, *i), *width, row, column))
         }
-        Spot::Word(_, _, words, e) => {
-            emit_expression(out, unit, layout, parameters, line, e, 0)?;
+        Spot::Word(i, parameter, words, e) => {
+            let k = emit_expression(out, unit, layout, parameters, line, e, 0)?;
             emit_count(out, unit, line, *words)?;
-            emit_form(out, layout, line, spot)
+            let index = above(unit.bounds, 0, i64::from(*words) - 1, k);
+            Ok(word_of_element(span_of_table(layout, *parameter, *i), index))
         }
-        Spot::Elem(_, _, _, entries, _, e) => {
-            emit_expression(out, unit, layout, parameters, line, e, 0)?;
+        Spot::Elem(i, parameter, width, entries, word, e) => {
+            let k = emit_expression(out, unit, layout, parameters, line, e, 0)?;
             emit_count(out, unit, line, u32::from(*entries))?;
-            emit_form(out, layout, line, spot)
+            let entry = above(unit.bounds, 0, i64::from(*entries) - 1, k);
+            let span = span_of_table(layout, *parameter, *i);
+            Ok(word_of_entry(span, *width, *word, entry))
         }
-        Spot::ParamArray(_, e) => {
+        Spot::ParamArray(_, e) | Spot::Bare(e) => {
             emit_expression(out, unit, layout, parameters, line, e, 0)?;
-            emit_form(out, layout, line, spot)
-        }
-        Spot::Bare(e) => {
-            emit_expression(out, unit, layout, parameters, line, e, 0)?;
-            emit_form(out, layout, line, spot)
+            Ok(None)
         }
     }
 }

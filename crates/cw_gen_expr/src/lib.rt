@@ -2,6 +2,7 @@
 #![tactic(auto)]
 
 pub mod expressions;
+pub mod known;
 pub mod laws;
 pub mod orders;
 pub mod output;

@@ -1,17 +1,27 @@
 //! Orders as they are made, with the places of their labels and marks.
-ghost use Rattle.std.specs.Prelude.{◌≡◌, [], ◌∷◌, ◌++◌, length, replicate, set, OnOk, IfOk};
+ghost use Rattle.std.specs.Prelude.{◌≡◌, [], ◌∷◌, ◌++◌, length, take, replicate, set, OnOk, IfOk};
 ghost use Rattle.cw_order.specs.declared.order.Order.TheVariants as order;
 ghost use Rattle.cw_gen_expr.specs.Pieces.{MarkedOrders, plain, with_labels};
-ghost use Rattle.cw_gen_expr.specs.Output.{made, added};
+ghost use Rattle.cw_gen_expr.specs.Output.{made, added, extent_of, shortened};
 
 use cw_order::Order;
 use cw_word::{List, NoMemory};
 use std::alloc::Global;
+use std::mem;
+
+/// How much there is of each list.
+#[derive(Clone, Copy)]
+pub struct Extent {
+    pub orders: usize,
+    pub labels: usize,
+    pub marks: usize,
+}
 
 /// The orders of a unit so far. A label has its place in `labels`, with its number. `marks` has a place for each mark: 0
 /// for one that is not placed yet, and for the marks of labels.
 #[derive(Drop)]
 pub struct Output {
+    alloc: Global,
     pub orders: List<Order>,
     pub labels: List<(u32, u32)>,
     pub marks: Vec<u32>,
@@ -27,12 +37,22 @@ pub fn number(n: usize) -> Result<u32, NoMemory>
     }
 }
 
+/// The first so many items.
+fn shorten<T: Drop>(alloc: Global, list: &mut List<T>, count: usize)
+    ensures { list.new ≡ take count list.old }
+{
+    let mut items = mem::replace(list, List::new(alloc)).into_vec();
+    items.truncate(count);
+    *list = List::of(items);
+}
+
 impl Output {
     /// No orders, where so many marks have numbers already.
     pub fn new(alloc: Global, marks: usize) -> Result<Self, NoMemory>
         ensures { IfOk result (λ out. made out ≡ record { orders = []; labels = []; marks = replicate marks 0 }) }
     {
         Ok(Output {
+            alloc,
             orders: List::new(alloc),
             labels: List::new(alloc),
             marks: vec![in alloc; 0; marks].map_err(|_| NoMemory)?,
@@ -43,6 +63,25 @@ impl Output {
         ensures { OnOk result (made self.new ≡ added (plain (order ∷ [])) (made self.old)) }
     {
         self.orders.push(order)
+    }
+
+    pub fn extent(&self) -> Extent
+        ensures { result ≡ extent_of (made self.now) }
+    {
+        Extent {
+            orders: self.orders.as_slice().len(),
+            labels: self.labels.as_slice().len(),
+            marks: self.marks.len(),
+        }
+    }
+
+    /// Takes back what came behind an extent.
+    pub fn retract(&mut self, extent: Extent)
+        ensures { made self.new ≡ shortened extent (made self.old) }
+    {
+        shorten(self.alloc, &mut self.orders, extent.orders);
+        shorten(self.alloc, &mut self.labels, extent.labels);
+        self.marks.truncate(extent.marks);
     }
 
     /// The place of the next order.

@@ -1,9 +1,11 @@
 -- The orders of expressions, conditions, references and arguments are short by the tokens of their trees.
-use Rattle.std.proofs.Common.{ℕ, zero, suc, ◌+◌, ◌*◌, ◌<◌, ◌≤◌, max, ℤ, pos, ◌-ℤ◌, List, [], ◌∷◌, ◌++◌, map, Bool, true, false, Option, Some, None, sym, ap, ◌∙◌, subst, arith}
+use Rattle.std.proofs.Common.{◌≡◌, ℕ, zero, suc, ◌+◌, ◌*◌, ◌<◌, ◌≤◌, max, ℤ, pos, ◌-ℤ◌, List, [], ◌∷◌, ◌++◌, map, Bool, true, false, Option, Some, None, refl, sym, ap, ◌∙◌, subst, arith}
+use Rattle.std.proofs.lemmas.Option.{none-some}
 use Rattle.cw_word.specs.Decimal.{decimal_floor}
 use Rattle.cw_word.specs.Word.{unsigned}
 use Rattle.cw_order.specs.declared.order.Order.{Order}
 use Rattle.cw_order.specs.declared.order.Order.TheVariants as order
+use Rattle.cw_unit.specs.declared.layout.Layout.{Layout}
 use Rattle.cw_unit.specs.declared.unit.Field.{Field}
 use Rattle.cw_unit.specs.declared.unit.Arg.{Arg, out-Arg}
 use Rattle.cw_unit.specs.declared.unit.Cond.{Cond, out-Cond}
@@ -14,7 +16,7 @@ use Rattle.cw_unit.specs.declared.unit.Arg.TheOpen as layer
 use Rattle.cw_unit.specs.declared.unit.Arg.TheOpen.{Arg-F, Cond-F, Spot-F, Ref-F}
 use Rattle.cw_unit.specs.Scales.{answer_scale}
 use Rattle.cw_gen_expr.specs.Pieces.{Piece, plain, followed_by, sequence, with_end}
-use Rattle.cw_gen_expr.specs.ReferenceExpressions.{Scope, ConditionPiece, Reference, saved, two_values, control_place, item_order, item_span, table_span, table_orders, bounds_orders, load_orders, rescale_orders, logic_order, narrow, number_order, comparator_for, pick_mark, choice_piece, call_order, label_order, value_of, condition_piece, argument_piece, reference_of, expression_piece}
+use Rattle.cw_gen_expr.specs.ReferenceExpressions.{Scope, ConditionPiece, Reference, saved, two_values, control_place, item_order, item_span, table_span, table_orders, bounds_orders, load_orders, rescale_orders, logic_order, narrow, number_order, known_or, named_or, comparator_for, pick_mark, choice_piece, call_order, label_order, value_of, condition_piece, argument_piece, reference_of, expression_piece}
 use Rattle.cw_gen_expr.proofs.Layers.{value_layer, value-made, spot-made, reference-made, condition-made, argument-made, total, expression_size, expression-size, expression_size_layer, argument_size, argument-size, argument_size_layer, spot-size, spot_size_layer, reference_size, reference-size, condition_size, condition-size, condition_size_layer}
 use Rattle.cw_gen_expr.proofs.Layers as made
 use Rattle.cw_tokens.specs.LeastTokens.{separated, part, expression_tokens, argument_tokens, condition_tokens, reference_tokens}
@@ -110,25 +112,25 @@ module _ (s : Scope) where
     direct : (left most : ℕ) (os : List Order) → listed_sizes os + left ≤ most → Short (followed_by (plain []) (plain os)) left most
     direct left most os h = record { at = λ place next. h }
 
-    spot_short : (x : Spot-F Arg Cond Expr Spot Ref) (field : Option Field) → spot_size_layer x ≤ n → Short (made.spot_layer s x) (spared field) (32 * spot_layer x field)
-    spot_short (layer.Direct i) field le =
+    indexed_short : (x : Spot-F Arg Cond Expr Spot Ref) (field : Option Field) → spot_size_layer x ≤ n → Short (made.indexed_layer s x) (spared field) (32 * spot_layer x field)
+    indexed_short (layer.Direct i) field le =
         let os : List Order = item_order s.layout i 0 ∷ [] in
         let h = item-first s.layout i 0 [] 0 (let z : 0 ≤ 0 = omega arith in z) in
         let left = most-spared field in
         direct (spared field) (32 * 1) os (let z : listed_sizes os + spared field ≤ 32 * 1 = omega (arith, h, left) in z)
-    spot_short (layer.Through i) field le =
+    indexed_short (layer.Through i) field le =
         let os : List Order = item_order s.layout i 0 ∷ order.Load ∷ order.InArea s.line ∷ [] in
         let h = item-load s.layout i 0 (order.InArea s.line ∷ []) 9 (let z : 9 + 0 ≤ 9 = omega arith in z) in
         let left = through-spared field in
         direct (spared field) (32 * (1 + part field)) os (let z : listed_sizes os + spared field ≤ 32 * (1 + part field) = omega (arith, h, left) in z)
-    spot_short (layer.One i l u e) field le =
+    indexed_short (layer.One i l u e) field le =
         let span = item_span s.layout i in
         let o = order.Element l span s.line in
         let left = most-spared field in
         indexed 9 (32 * expression_tokens e + 25) 38 (spared field) (32 * (3 + expression_tokens e)) (order.Save ∷ item_order s.layout i 0 ∷ o ∷ []) (bounded e l u (let z : expression_size e < n = omega (arith, le) in z))
         (saved-item s.layout i o 31 (element-short l span s.line))
         (let z : 32 * expression_tokens e + 25 + 38 + spared field ≤ 32 * (3 + expression_tokens e) + 9 = omega (arith, left) in z)
-    spot_short (layer.Two i l1 u1 l2 u2 m e g) field le =
+    indexed_short (layer.Two i l1 u1 l2 u2 m e g) field le =
         let span = item_span s.layout i in
         let o = order.ElementOfTwo l1 l2 m span s.line in
         let left = two-spared field in
@@ -136,20 +138,20 @@ module _ (s : Scope) where
         (both_short (bounded e l1 u1 (let z : expression_size e < n = omega (arith, le) in z)) (both_short saved_short (bounded g l2 u2 (let z : expression_size g < n = omega (arith, le) in z))))
         (saved-item s.layout i o 67 (of-two-short l1 l2 m span s.line))
         (let z : 32 * expression_tokens e + 25 + (1 + (32 * expression_tokens g + 25)) + 74 + spared field ≤ 32 * (4 + (part field + (expression_tokens e + expression_tokens g))) + (9 + (0 + 9)) = omega (arith, left) in z)
-    spot_short (layer.ParamArray i e) field le =
+    indexed_short (layer.ParamArray i e) field le =
         let o = order.Element (pos 0) 0 s.line in
         let left = most-spared field in
         indexed 9 (32 * expression_tokens e + 5) 31 (spared field) (32 * (3 + expression_tokens e)) (order.Save ∷ item_order s.layout i 0 ∷ order.Load ∷ o ∷ []) (at-zero e (let z : expression_size e < n = omega (arith, le) in z))
         (saved-table s.layout true i o 21 (let z : 0 + 21 ≤ 21 = omega arith in z))
         (let z : 32 * expression_tokens e + 5 + 31 + spared field ≤ 32 * (3 + expression_tokens e) + 9 = omega (arith, left) in z)
-    spot_short (layer.Word i t m e) field le =
+    indexed_short (layer.Word i t m e) field le =
         let o = order.Element (pos 0) (table_span s.layout t i) s.line in
         let left = most-spared field in
         indexed 9 (32 * expression_tokens e + 25) 31 (spared field) (32 * (3 + expression_tokens e)) (order.Save ∷ (table_orders s.layout t i ++ o ∷ []))
         (bounded e (pos 0) (pos m -ℤ pos 1) (let z : expression_size e < n = omega (arith, le) in z))
         (saved-table s.layout t i o 21 (let z : 0 + 21 ≤ 21 = omega arith in z))
         (let z : 32 * expression_tokens e + 25 + 31 + spared field ≤ 32 * (3 + expression_tokens e) + 9 = omega (arith, left) in z)
-    spot_short (layer.Elem i t k m w e) field le =
+    indexed_short (layer.Elem i t k m w e) field le =
         let span = table_span s.layout t i in
         let o = order.Entry k w span s.line in
         let left = most-spared field in
@@ -157,10 +159,32 @@ module _ (s : Scope) where
         (bounded e (pos 0) (pos m -ℤ pos 1) (let z : expression_size e < n = omega (arith, le) in z))
         (saved-table s.layout t i o 45 (entry-short k w span s.line))
         (let z : 32 * expression_tokens e + 25 + 55 + spared field ≤ 32 * (3 + expression_tokens e) + 9 = omega (arith, left) in z)
-    spot_short (layer.Bare e) field le =
+    indexed_short (layer.Bare e) field le =
         let left = most-spared field in
         indexed 9 (32 * expression_tokens e + 5) 9 (spared field) (32 * (2 + expression_tokens e)) (order.InArea s.line ∷ []) (at-zero e (let z : expression_size e < n = omega (arith, le) in z)) (let z : 9 + 0 ≤ 9 = omega arith in z)
         (let z : 32 * expression_tokens e + 5 + 9 + spared field ≤ 32 * (2 + expression_tokens e) + 9 = omega (arith, left) in z)
+
+    -- one order where the word is known
+    named_short : (y : Layout) (i : ℕ) (w : Option ℕ) (p : Piece) (field : Option Field) (tokens : ℕ) → ((m : ℕ) → w ≡ Some m → 1 ≤ tokens) → Short p (spared field) (32 * tokens) → Short (named_or y i w p) (spared field) (32 * tokens)
+    named_short y i (Some m) p field tokens some h =
+        let os : List Order = item_order y i m ∷ [] in
+        let one = item-first y i m [] 0 (let z : 0 ≤ 0 = omega arith in z) in
+        let left = most-spared field in
+        record { at = λ place next. (let z : listed_sizes os + spared field ≤ 32 * tokens = omega (arith, one, left, some m refl) in z) }
+    named_short y i None p field tokens some h = h
+
+    word_tokens : (x : Spot-F Arg Cond Expr Spot Ref) (field : Option Field) (m : ℕ) → made.word_layer s x ≡ Some m → 1 ≤ spot_layer x field
+    word_tokens (layer.One i l u e) field m known = omega arith
+    word_tokens (layer.Two i l1 u1 l2 u2 k e g) field m known = omega arith
+    word_tokens (layer.Word i t k e) field m known = omega arith
+    word_tokens (layer.Elem i t k l w e) field m known = omega arith
+    word_tokens (layer.Direct i) field m known = absurd (none-some m known)
+    word_tokens (layer.Through i) field m known = absurd (none-some m known)
+    word_tokens (layer.ParamArray i e) field m known = absurd (none-some m known)
+    word_tokens (layer.Bare e) field m known = absurd (none-some m known)
+
+    spot_short : (x : Spot-F Arg Cond Expr Spot Ref) (field : Option Field) → spot_size_layer x ≤ n → Short (made.spot_layer s x) (spared field) (32 * spot_layer x field)
+    spot_short x field le = named_short s.layout (made.word_item s x) (made.word_layer s x) (made.indexed_layer s x) field (spot_layer x field) (word_tokens x field) (indexed_short x field le)
 
     reference_short : (r : Ref) → reference_size r ≤ n → Short (reference_of s r).address (spared (reference_of s r).field) (32 * reference_tokens r)
     reference_short r le =
@@ -243,16 +267,16 @@ module _ (s : Scope) where
         eased (both_short (at-operand a la) (both_short saved_short (both_short (at-operand d ld) (plainly os (listed_sizes os) (let z : listed_sizes os ≤ listed_sizes os = omega arith in z)))))
         (let z : 32 * expression_tokens a + 5 + (1 + (32 * expression_tokens d + 5 + listed_sizes os)) + spare ≤ 32 * suc (expression_tokens a + expression_tokens d) + 5 + (14 + (0 + (14 + 0))) = omega (arith, h) in z)
 
-    value_short : (x : Expr-F Arg Cond Expr Spot Ref) → expression_size_layer x ≤ n → (f spare : ℕ) → Rescaled (value_layer s x).operand f spare → Short ((value_layer s x).at f) spare (32 * expression_layer x + 5)
-    value_short (layer.Num k) le f spare r =
+    computed_short : (x : Expr-F Arg Cond Expr Spot Ref) → expression_size_layer x ≤ n → (f spare : ℕ) → Rescaled (value_layer s x).operand f spare → Short ((made.computed_layer s x).at f) spare (32 * expression_layer x + 5)
+    computed_short (layer.Num k) le f spare r =
         single (number_order (decimal_floor k.whole k.digits k.places f) ∷ []) spare (let z : 3 + 0 + spare ≤ 37 = omega (arith, r) in z)
-    value_short (layer.Const z) le f spare r =
+    computed_short (layer.Const z) le f spare r =
         let h = first_short (number_order (unsigned z)) (rescale_orders s.line 0 f) 3 (listed_sizes (rescale_orders s.line 0 f)) (let y : 3 ≤ 3 = omega arith in y) (let y : listed_sizes (rescale_orders s.line 0 f) ≤ listed_sizes (rescale_orders s.line 0 f) = omega arith in y) in
         single (number_order (unsigned z) ∷ rescale_orders s.line 0 f) spare (let y : listed_sizes (number_order (unsigned z) ∷ rescale_orders s.line 0 f) + spare ≤ 37 = omega (arith, h, r) in y)
-    value_short (layer.Text i) le f spare r =
+    computed_short (layer.Text i) le f spare r =
         let h = item-first s.layout i 0 (rescale_orders s.line 0 f) (listed_sizes (rescale_orders s.line 0 f)) (let y : listed_sizes (rescale_orders s.line 0 f) ≤ listed_sizes (rescale_orders s.line 0 f) = omega arith in y) in
         single (item_order s.layout i 0 ∷ rescale_orders s.line 0 f) spare (let z : listed_sizes (item_order s.layout i 0 ∷ rescale_orders s.line 0 f) + spare ≤ 37 = omega (arith, h, r) in z)
-    value_short (layer.Read t) le f spare r =
+    computed_short (layer.Read t) le f spare r =
         let x = reference_of s t in
         let os : List Order = load_orders x.field ++ rescale_orders s.line x.scale f in
         let all = sizes-append (load_orders x.field) (rescale_orders s.line x.scale f) in
@@ -260,7 +284,7 @@ module _ (s : Scope) where
         eased
         (both_short (b.references t (let z : reference_size t < n = omega (arith, le) in z)) (plainly os (listed_sizes os) (let z : listed_sizes os ≤ listed_sizes os = omega arith in z)))
         (let z : 32 * reference_tokens t + listed_sizes os + spare ≤ 32 * reference_tokens t + 5 + (spared x.field + 0) = omega (arith, all, first, r) in z)
-    value_short (layer.Call t args) le f spare r =
+    computed_short (layer.Call t args) le f spare r =
         let k = answer_scale s.unit t in
         let ns = map argument_tokens args in
         let listed = separated-within ns in
@@ -269,38 +293,38 @@ module _ (s : Scope) where
         eased
         (both_short (all_short args (let z : total (map argument_size args) < n = omega (arith, le) in z)) (plainly (call_order s t ∷ rest) (13 + listed_sizes rest) h))
         (let z : 32 * separated ns + (13 + listed_sizes rest) + spare ≤ 32 * expression_layer (layer.Call t args) + 5 + (0 + 0) = omega (arith, listed, r) in z)
-    value_short (layer.Force g e) le f spare r =
+    computed_short (layer.Force g e) le f spare r =
         unary e g (rescale_orders s.line g f) 3 (listed_sizes (rescale_orders s.line g f)) spare (let z : expression_size e < n = omega (arith, le) in z) (let z : listed_sizes (rescale_orders s.line g f) ≤ listed_sizes (rescale_orders s.line g f) = omega arith in z)
         (let z : listed_sizes (rescale_orders s.line g f) + spare ≤ 32 * 3 = omega (arith, r) in z)
-    value_short (layer.Locate t) le f spare r =
+    computed_short (layer.Locate t) le f spare r =
         let os : List Order = rescale_orders s.line 0 f in
         eased (both_short (b.references t (let z : reference_size t < n = omega (arith, le) in z)) (plainly os (listed_sizes os) (let z : listed_sizes os ≤ listed_sizes os = omega arith in z)))
         (let z : 32 * reference_tokens t + listed_sizes os + spare ≤ 32 * (3 + reference_tokens t) + 5 + (spared (reference_of s t).field + 0) = omega (arith, r) in z)
-    value_short (layer.Bits t d e) le f spare r =
+    computed_short (layer.Bits t d e) le f spare r =
         let os : List Order = rescale_orders s.line 0 f in
         unary e (value_of s e).operand (order.Take t d ∷ os) 6 (10 + listed_sizes os) spare (let z : expression_size e < n = omega (arith, le) in z)
         (first_short (order.Take t d) os 10 (listed_sizes os) (let z : 10 ≤ 10 = omega arith in z) (let z : listed_sizes os ≤ listed_sizes os = omega arith in z)) (let z : 10 + listed_sizes os + spare ≤ 32 * 6 = omega (arith, r) in z)
-    value_short (layer.Logic op a d) le f spare r =
+    computed_short (layer.Logic op a d) le f spare r =
         let os : List Order = rescale_orders s.line 0 f in
         let h = first_short (logic_order op) os 3 (listed_sizes os) (logic-short op) (let z : listed_sizes os ≤ listed_sizes os = omega arith in z) in
         operands a d (logic_order op ∷ os) spare (let z : expression_size a < n = omega (arith, le) in z) (let z : expression_size d < n = omega (arith, le) in z)
         (let z : listed_sizes (logic_order op ∷ os) + spare ≤ 54 = omega (arith, h, r) in z)
-    value_short (layer.Sum a d) le f spare r =
+    computed_short (layer.Sum a d) le f spare r =
         binary a d f (order.Add s.line ∷ []) spare (let z : expression_size a < n = omega (arith, le) in z) (let z : expression_size d < n = omega (arith, le) in z) (let z : 10 + 0 + spare ≤ 26 = omega (arith, r) in z)
-    value_short (layer.Less a d) le f spare r =
+    computed_short (layer.Less a d) le f spare r =
         binary a d f (order.Sub s.line ∷ []) spare (let z : expression_size a < n = omega (arith, le) in z) (let z : expression_size d < n = omega (arith, le) in z) (let z : 12 + 0 + spare ≤ 26 = omega (arith, r) in z)
-    value_short (layer.Minus a) le f spare r =
+    computed_short (layer.Minus a) le f spare r =
         eased (both_short (at-scale a (let z : expression_size a < n = omega (arith, le) in z) f) (plainly (order.Neg s.line ∷ []) 9 (let z : 9 + 0 ≤ 9 = omega arith in z)))
         (let z : 32 * expression_tokens a + 5 + 9 + spare ≤ 32 * suc (expression_tokens a) + 5 + (0 + 0) = omega (arith, r) in z)
-    value_short (layer.Times a d) le f spare r =
+    computed_short (layer.Times a d) le f spare r =
         let power = narrow (pos f -ℤ pos ((value_of s a).operand + (value_of s d).operand)) in
         let h = product-short s.line power in
         operands a d (order.Mul power s.line ∷ []) spare (let z : expression_size a < n = omega (arith, le) in z) (let z : expression_size d < n = omega (arith, le) in z)
         (let z : listed_size (order.Mul power s.line) + 0 + spare ≤ 54 = omega (arith, h, r) in z)
-    value_short (layer.Over a d) le f spare r =
+    computed_short (layer.Over a d) le f spare r =
         let power = narrow (pos (f + (value_of s d).operand) -ℤ pos (value_of s a).operand) in
         operands a d (order.Div power s.line ∷ []) spare (let z : expression_size a < n = omega (arith, le) in z) (let z : expression_size d < n = omega (arith, le) in z) (let z : 25 + 0 + spare ≤ 54 = omega (arith, r) in z)
-    value_short (layer.Choice c a d) le f spare r =
+    computed_short (layer.Choice c a d) le f spare r =
         let i = 32 * condition_tokens c in
         let j = 32 * expression_tokens a + 5 in
         let k = 32 * expression_tokens d + 5 in
@@ -308,6 +332,32 @@ module _ (s : Scope) where
         (choice_short (condition_piece s c) (expression_piece s a f) (expression_piece s d f) (λ when mark. b.conditions c (let z : condition_size c < n = omega (arith, le) in z) when mark)
         (at-scale a (let z : expression_size a < n = omega (arith, le) in z) f) (at-scale d (let z : expression_size d < n = omega (arith, le) in z) f))
         (let z : i + j + k + 3 + spare ≤ 32 * (3 + (condition_tokens c + (expression_tokens a + expression_tokens d))) + 5 + (0 + 0) = omega (arith, r) in z)
+
+    -- one constant where the value is known
+    known_short : (k : Option ℤ) (p : Piece) (spare tokens : ℕ) → spare ≤ 14 → ((z : ℤ) → k ≡ Some z → 1 ≤ tokens) → Short p spare (32 * tokens + 5) → Short (known_or k p) spare (32 * tokens + 5)
+    known_short (Some z) p spare tokens few some h = record { at = λ place next. (let y : 3 + 0 + spare ≤ 32 * tokens + 5 = omega (arith, few, some z refl) in y) }
+    known_short None p spare tokens few some h = h
+
+    value_tokens : (x : Expr-F Arg Cond Expr Spot Ref) (f : ℕ) (z : ℤ) → made.known_layer s x f ≡ Some z → 1 ≤ expression_layer x
+    value_tokens (layer.Num k) f z known = omega arith
+    value_tokens (layer.Const y) f z known = omega arith
+    value_tokens (layer.Force g e) f z known = omega arith
+    value_tokens (layer.Bits t d e) f z known = omega arith
+    value_tokens (layer.Logic op a d) f z known = omega arith
+    value_tokens (layer.Sum a d) f z known = omega arith
+    value_tokens (layer.Less a d) f z known = omega arith
+    value_tokens (layer.Minus a) f z known = omega arith
+    value_tokens (layer.Times a d) f z known = omega arith
+    value_tokens (layer.Over a d) f z known = omega arith
+    value_tokens (layer.Text i) f z known = absurd (none-some z known)
+    value_tokens (layer.Read r) f z known = absurd (none-some z known)
+    value_tokens (layer.Call t args) f z known = absurd (none-some z known)
+    value_tokens (layer.Locate r) f z known = absurd (none-some z known)
+    value_tokens (layer.Choice c a d) f z known = absurd (none-some z known)
+
+    value_short : (x : Expr-F Arg Cond Expr Spot Ref) → expression_size_layer x ≤ n → (f spare : ℕ) → Rescaled (value_layer s x).operand f spare → Short ((value_layer s x).at f) spare (32 * expression_layer x + 5)
+    value_short x le f spare r =
+        known_short (made.known_layer s x f) ((made.computed_layer s x).at f) spare (expression_layer x) (let z : spare ≤ 14 = omega (arith, r) in z) (value_tokens x f) (computed_short x le f spare r)
 
     next_below : Below (suc n)
     next_below = record {

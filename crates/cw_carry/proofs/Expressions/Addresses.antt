@@ -25,7 +25,7 @@ use Rattle.cw_order.specs.OrderCosts.{weight_of}
 use Rattle.cw_gen_expr.specs.Pieces.{plain, followed_by}
 use Rattle.cw_gen_expr.specs.ReferenceExpressions.{at_line, saved, item_order, item_span, table_orders, table_span, form_orders, rescale_orders, narrow, bounds_orders, expression_piece, reference_of}
 use Rattle.cw_gen_expr.specs.BuiltExpressions.{whole, built_value, built_reference, is_spot}
-use Rattle.cw_gen_expr.proofs.Layers.{spot_layer, spot-made, reference-made, built_spot_layer, spot-built, reference-built, reference_size, reference-size, spot-size, spot_size_layer, expression_size}
+use Rattle.cw_gen_expr.proofs.Layers.{indexed_layer, built_spot_layer, spot-built, reference-built, reference_size, reference-size, spot-size, spot_size_layer, expression_size}
 use Rattle.cw_carry.proofs.Expressions.Standing.{Stands, Made, saved_made, one_made}
 use Rattle.cw_carry.proofs.Expressions.Effects.{IsPossible, is_silent, all_silent, total_weight, through_all, loaded_through, TellsLine, OnLine}
 use Rattle.cw_carry.proofs.Expressions.Carried.{Ready, OperationFits, operation_orders, gives_word, takes_index}
@@ -233,11 +233,11 @@ module _ (area : ℕ) where
 -- ---- addresses
 
 -- what stands between an index and what follows it
-abbrev compared_work : (compared : Bool) → (lower upper : ℤ) → (line : ℕ) → Work → Work
+abbrev pub compared_work : (compared : Bool) → (lower upper : ℤ) → (line : ℕ) → Work → Work
 compared_work true l u line k = Do (InBounds l u) line k
 compared_work false l u line k = k
 
-index_is : (compared : Bool) (e : Expr) (l u : ℤ) (line : ℕ) (k : Work) → Eval e 0 line (compared_work compared l u line k) ≡ index_work compared e l u line k
+pub index_is : (compared : Bool) (e : Expr) (l u : ℤ) (line : ℕ) (k : Work) → Eval e 0 line (compared_work compared l u line k) ≡ index_work compared e l u line k
 index_is true e l u line k = refl
 index_is false e l u line k = refl
 
@@ -284,12 +284,12 @@ module _ (c : Compiled) (t : Moment c) where
   index_size true e lower upper line k = refl
   index_size false e lower upper line k = refl
 
-  addresses : (a : Ref) (x : Spot-F Arg Cond Expr Spot Ref) (line : ℕ) (k : Work) (w : Words) → out-Spot (out-Ref a).at ≡ x → next c t (Address a line k) w ≡ address_step (source c) t.unit.bounds (out-Ref a).at x t.segment line k t.acts w
+  pub addresses : (a : Ref) (x : Spot-F Arg Cond Expr Spot Ref) (line : ℕ) (k : Work) (w : Words) → out-Spot (out-Ref a).at ≡ x → next c t (Address a line k) w ≡ address_step (source c) t.unit.bounds (out-Ref a).at x t.segment line k t.acts w
   addresses a x line k w is =
       ap (λ v. address_step (source c) (compares_in (source c) v) (out-Ref a).at (out-Spot (out-Ref a).at) t.segment line k t.acts w) t.unit_is
       ∙ ap (λ z. address_step (source c) t.unit.bounds (out-Ref a).at z t.segment line k t.acts w) is
 
-  pub addressed : (a : Ref) (x : Spot-F Arg Cond Expr Spot Ref) (line : ℕ) (k : Work) (q n free last : ℕ) (w : Words) → out-Spot (out-Ref a).at ≡ x → IsTrue (built_spot_layer t.unit (has_words c t) x) → Made (code c t) (marks c t) (spot_layer (at_line line (scope c t)) x q free) q n free last → Leads_to c t n true true k → Facts c t (Address a line k) w → Steps c t (Address a line k) q false w
+  pub addressed : (a : Ref) (x : Spot-F Arg Cond Expr Spot Ref) (line : ℕ) (k : Work) (q n free last : ℕ) (w : Words) → out-Spot (out-Ref a).at ≡ x → IsTrue (built_spot_layer t.unit (has_words c t) x) → Made (code c t) (marks c t) (indexed_layer (at_line line (scope c t)) x q free) q n free last → Leads_to c t n true true k → Facts c t (Address a line k) w → Steps c t (Address a line k) q false w
   addressed a (layer.Direct i) line k q n free last w is b made carried facts =
       let parts = one_made (code c t) (marks c t) (plain []) (item_order (layout c t) i 0 ∷ []) q n free last made in
       let stands = subst (λ z. Stands (code c t) z (item_order (layout c t) i 0 ∷ []) n) (sym parts.2.0) parts.3 in
@@ -350,10 +350,9 @@ module _ (c : Compiled) (t : Moment c) where
       (index_at a x line k w is b e q parts.0 free parts.1 (FormAt (out-Ref a).at line k) b parts.2 (at_close c t parts.0 true false (FormAt (out-Ref a).at line k) (form_at a x line k w is b parts.0 n parts.3 carried)))
       (let z : expression_size e < reference_size a = omega (arith, size_is a x line k w is b) in z)
 
-  -- as the relation has it
-  pub address_follows : (a : Ref) (line : ℕ) (k : Work) (q n free last : ℕ) (w : Words) → IsTrue (built_reference t.unit (has_words c t) a).good → Made (code c t) (marks c t) ((reference_of (at_line line (scope c t)) a).address q free) q n free last → Leads_to c t n true true k → Facts c t (Address a line k) w → Steps c t (Address a line k) q false w
-  address_follows a line k q n free last w b made carried facts =
-      addressed a (out-Spot (out-Ref a).at) line k q n free last w refl
-      (sym (ap (λ r. r.good) (reference-built t.unit (has_words c t) a) ∙ spot-built t.unit (has_words c t) (out-Ref a).at) ∙ b)
-      (subst (λ z. Made (code c t) (marks c t) (z q free) q n free last) (ap (λ r. r.address) (reference-made (at_line line (scope c t)) a) ∙ spot-made (at_line line (scope c t)) (out-Ref a).at) made)
-      carried facts
+  pub built_spot : (a : Ref) → IsTrue (built_reference t.unit (has_words c t) a).good → IsTrue (built_spot_layer t.unit (has_words c t) (out-Spot (out-Ref a).at))
+  built_spot a b = sym (ap (λ r. r.good) (reference-built t.unit (has_words c t) a) ∙ spot-built t.unit (has_words c t) (out-Ref a).at) ∙ b
+
+  -- as the relation has it, where the word is not known
+  pub address_follows : (a : Ref) (line : ℕ) (k : Work) (q n free last : ℕ) (w : Words) → IsTrue (built_reference t.unit (has_words c t) a).good → Made (code c t) (marks c t) (indexed_layer (at_line line (scope c t)) (out-Spot (out-Ref a).at) q free) q n free last → Leads_to c t n true true k → Facts c t (Address a line k) w → Steps c t (Address a line k) q false w
+  address_follows a line k q n free last w b made carried facts = addressed a (out-Spot (out-Ref a).at) line k q n free last w refl (built_spot a b) made carried facts

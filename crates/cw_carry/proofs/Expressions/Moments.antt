@@ -16,6 +16,8 @@ use Rattle.cw_unit.specs.Step.{after as source_after}
 use Rattle.cw_order.specs.declared.order.Order.{Order}
 use Rattle.cw_order.specs.declared.order.Order.TheVariants as order
 use Rattle.cw_track.proofs.Paths.{Path, stay, next as move, weaken}
+use Rattle.cw_track.proofs.Watching.{SilentWay}
+use Rattle.cw_unit.specs.Begun.{begins}
 use Rattle.cw_unit.specs.Behaviour.{shown}
 use Rattle.cw_order.specs.OrderProgram.{order_at}
 use Rattle.cw_order.specs.OrderState.{OrderActivation, OrderState, at as state, stack_words}
@@ -32,7 +34,7 @@ use Rattle.cw_carry.proofs.Expressions.Effects.{IsPossible, BeginsNone, is_silen
 use Rattle.cw_carry.proofs.Expressions.Carried.{here, saved, Via, wider, Ready, who_of}
 use Rattle.cw_gen_expr.specs.ReferenceEntries.{scope_of}
 use Rattle.cw_carry.proofs.Expressions.Operations.{ItemsStand}
-use Rattle.cw_carry.proofs.Expressions.Stepping.{Quiet, Compiled, source, target, A, B, AllCalls, work_size, Carried, Leading, From, FromNoting, IsSane, Seen, order_here, lands, silent, straight}
+use Rattle.cw_carry.proofs.Expressions.Stepping.{Quiet, Compiled, source, target, A, B, AllCalls, work_size, Carried, Leading, From, FromNoting, IsSane, Leaps, Seen, order_here, lands, silent, straight, leapt}
 
 pub both : (a b : Bool) → IsTrue (a && b) → IsTrue a × IsTrue b
 both true b h = (refl, h)
@@ -150,6 +152,9 @@ module _ (c : Compiled) where
     abbrev pub StepsNoting : Work → (q : ℕ) → (l : Bool) → Words → Type 0
     StepsNoting = FromNoting c t.segment t.acts t.calls_below t.unit t.unit_is
 
+    abbrev pub Leap : Work → (q : ℕ) → (l : Bool) → Words → Type 0
+    Leap k q l w = Leaps c (configuration t.segment k t.acts w Running) (state here_in q l t.calls_below w Running)
+
     abbrev pub config : Work → Words → Configuration
     config k w = configuration t.segment k t.acts w Running
 
@@ -191,6 +196,15 @@ module _ (c : Compiled) where
     pub done_by : (now k : Work) (line q n : ℕ) (l m : Bool) (os : List Order) (w : Words) (r : Bool) (out : Outcome) → Stands code q os n → IsLight line l m os → Facts now w → next now w ≡ source_after out t.segment line now k t.acts w → (IsPossible out → run os w ≡ out) → ((v : Words) → out ≡ Changed v → Ready c.limits.area r v.operands) → Leads_to n m r k → Steps now q l w
     done_by now k line q n l m os w r out stands light facts e runs ready carried =
         straight c t.segment t.acts t.calls_below t.unit t.unit_is t.calls now k line q n l m os w r stands light.quiet light.at light.turns light.light light.some (let z : 2 * length os + stack_words w.operands t.calls_below ≤ c.room = omega (arith, light.short, facts.room) in z) out e runs ready carried facts.sane
+
+    -- the source comes from one work to another, and shows nothing new
+    abbrev pub Comes : (now k : Work) → (w v : Words) → Type 0
+    Comes now k w v = SilentWay (A c) begins (config now w) (config k v)
+
+    -- by orders that make the words to which the source comes
+    pub leaps_by : (now k : Work) (line q n : ℕ) (l m : Bool) (os : List Order) (w v : Words) (r : Bool) → Stands code q os n → IsLight line l m os → Facts now w → Comes now k w v → run os w ≡ Changed v → Ready c.limits.area r v.operands → Leads_to n m r k → Leap now q l w
+    leaps_by now k line q n l m os w v r stands light facts comes runs ready carried =
+        leapt c t.segment t.acts t.calls_below t.unit t.unit_is t.calls now k line q n l m os w r stands light.quiet light.at light.turns light.light light.some (let z : 2 * length os + stack_words w.operands t.calls_below ≤ c.room = omega (arith, light.short, facts.room) in z) v comes runs ready carried
 
     -- one order, whatever it does, where no statement begins
     pub one_order : (o : Order) (q : ℕ) (l m : Bool) (w : Words) (u : OrderState) → BeginsNone o → slice_get code q ≡ Some o → loaded_after o l ≡ Some m → act (target c) (action_of (target c) here_in t.calls_below o) here_in q m t.calls_below w ≡ u → Path (Seen c t.segment t.acts t.calls_below t.unit t.unit_is w) (B c) (weight_of o) (state here_in q l t.calls_below w Running) u

@@ -182,6 +182,8 @@ module _ (p : OrderProgram) (g : ℕ) (bs : List OrderActivation) where
     pub record ItemsStand : Type 0 where
       pub puts : (i n k : ℕ) (w : Words) → IsTrue (has_words i k) → n < k → effect p g bs (item_order y i n) w ≡ Changed (put (pos (address i + n)) w)
       pub within : (i n k : ℕ) → IsTrue (has_words i k) → n < k → address i + n < area
+      -- also those behind an item that are known to be in the data area
+      pub reaches : (i n : ℕ) (w : Words) → IsTrue (has_words i 1) → n < item_span y i → (effect p g bs (item_order y i n) w ≡ Changed (put (pos (address i + n)) w)) × (address i + n < area)
 
     module _ (in_words : area ≤ 32768) (stand : ItemsStand) where
       some : 0 < 1

@@ -8,7 +8,7 @@ use Rattle.cw_track.specs.Tracking.{step_budget}
 use Rattle.cw_track.specs.Watching.{noted}
 use Rattle.cw_track.proofs.Paths.{Path, stay, next as move, join, weaken}
 use Rattle.cw_track.proofs.Simulations as simulation
-use Rattle.cw_track.proofs.Watching.{Unnoted, Notes, nothing}
+use Rattle.cw_track.proofs.Watching.{Unnoted, Notes, nothing, SilentWay}
 use Rattle.cw_unit.specs.declared.unit.Unit.{Unit as SourceUnit}
 use Rattle.cw_unit.specs.declared.unit.Stmt.{Stmt}
 use Rattle.cw_unit.specs.declared.layout.Limits.{Limits}
@@ -115,6 +115,17 @@ module _ (c : Compiled) where
     pub belongs : Belong (A.step x) reached
     pub progress : (0 < spent) ⊎ (rank (A.step x) < rank x)
 
+  -- how they go on while the source makes several steps, of which all but the last show nothing new
+  pub record Leaps (x : Configuration) (t : OrderState) : Type 0 where
+    pub to : Configuration
+    pub way : SilentWay A begins x to
+    pub spent : ℕ
+    pub reached : OrderState
+    pub path : Path (Quiet (A.shown x) (A.shown to)) B spent t reached
+    pub within : spent ≤ step_budget
+    pub belongs : Belong to reached
+    pub progress : (0 < spent) ⊎ (rank to < rank x)
+
   pub quietly : {x : Configuration} {t : OrderState} → Goes x t → begins x ≡ [] → GoesNoting x t
   quietly goes none = record {
     spent = goes.spent;
@@ -200,6 +211,27 @@ module _ (c : Compiled) where
             progress = Rattle.std.proofs.Common.⊎_elim (λ (h : 0 < spent). inl (let z : 0 < spent + on.0 = omega (arith, h) in z)) (λ (h : work_size k < work_size now). inr (let z : rank (A.step (configuration s now acts w Running)) < work_size now = omega (arith, ap rank e, h) in z)) progress;
           }
 
+      -- behind orders, while the source makes steps that show nothing new
+      pub leaps : (now k : Work) (q p : ℕ) (l l' r : Bool) (w v : Words) (spent : ℕ) → SilentWay A begins (configuration s now acts w Running) (configuration s k acts v Running) → Path (Seen w) B spent (state g q l bs w Running) (state g p l' bs v Running) → spent ≤ 159 → 0 < spent
+          → Ready c.limits.area r v.operands → Leading p l' r k → Leaps (configuration s now acts w Running) (state g q l bs w Running)
+      leaps now k q p l l' r w v spent way path le some ready (x, m, to, carried) =
+          let on = walk most_levels p l' x m v to in
+          let few = within_levels on.0 l' on.1 in
+          let before = shown (configuration s now acts w Running) in
+          let behind = shown (configuration s k acts v Running) in
+          record {
+            to = configuration s k acts v Running;
+            way = way;
+            spent = spent + on.0;
+            reached = state g x m bs v Running;
+            path = join (Quiet before behind) B spent on.0 (spent + on.0) (state g q l bs w Running) (state g p l' bs v Running) (state g x m bs v Running) refl
+                (weaken (Seen w) (Quiet before behind) B spent (state g q l bs w Running) (state g p l' bs v Running) (λ o h. (inl h.0, h.1)) path)
+                (weaken (Seen v) (Quiet before behind) B on.0 (state g p l' bs v Running) (state g x m bs v Running) (λ o h. (inr h.0, h.1)) on.2);
+            within = (let z : spent + on.0 ≤ 224 = omega (arith, few, le) in z);
+            belongs = going u unit_is r ready carried calls;
+            progress = inl (let z : 0 < spent + on.0 = omega (arith, some) in z);
+          }
+
       -- by no order
       pub silent : (now k : Work) (q : ℕ) (l r : Bool) (w : Words) → A.step (configuration s now acts w Running) ≡ configuration s k acts w Running → Ready c.limits.area r w.operands → Leading q l r k → work_size k < work_size now → From now q l w
       silent now k q l r w e ready carried less = lands now k q q l l r w w 0 e (stay refl refl) (let z : 0 ≤ 159 = omega arith in z) ready carried (inr less)
@@ -229,6 +261,11 @@ module _ (c : Compiled) where
 
         runs_on : Ran target g bs line q next l m os w (run_orders target g bs os w)
         runs_on = run_through target g bs code order_here line os q next l m w stands quiet at turns (let z : total_growth os + stack_words w.operands bs ≤ c.room = omega (arith, roomy, growth_within os) in z)
+
+        -- where the source comes to the same words in several steps
+        pub leapt : (v : Words) → SilentWay A begins (configuration s now acts w Running) (configuration s k acts v Running) → run_orders target g bs os w ≡ Changed v → Ready c.limits.area r v.operands → Leading next m r k
+            → Leaps (configuration s now acts w Running) (state g q l bs w Running)
+        leapt v way runs ready carried = leaps now k q next l m r w v (total_weight os) way (subst (Ran target g bs line q next l m os w) runs runs_on).0 light some ready carried
 
         -- by the orders of the operation
         pub straight : (out : Outcome) → A.step (configuration s now acts w Running) ≡ source_after out s line now k acts w → (IsPossible out → run_orders target g bs os w ≡ out) → ((v : Words) → out ≡ Changed v → Ready c.limits.area r v.operands) → Leading next m r k → IsSane (A.step (configuration s now acts w Running)) → From now q l w

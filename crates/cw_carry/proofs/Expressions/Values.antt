@@ -30,7 +30,7 @@ use Rattle.cw_order.specs.OrderCosts.{weight_of}
 use Rattle.cw_gen_expr.specs.Pieces.{plain, followed_by, sequence}
 use Rattle.cw_gen_expr.specs.ReferenceExpressions.{at_line, two_values, item_order, load_orders, rescale_orders, narrow, number_order, logic_order, call_order, value_of, expression_piece, condition_piece, argument_piece, reference_of}
 use Rattle.cw_gen_expr.specs.BuiltExpressions.{BuiltValue, whole, within, all_built, answers, built_value, is_condition, is_argument, is_expression, most_levels}
-use Rattle.cw_gen_expr.proofs.Layers.{value_layer, value-made, reference-made, built_value_layer, value-built, expression_size, expression-size, expression_size_layer, argument_size, reference_size, condition_size, total}
+use Rattle.cw_gen_expr.proofs.Layers.{computed_layer, reference-made, built_value_layer, value-built, expression_size, expression-size, expression_size_layer, argument_size, reference_size, condition_size, total}
 use Rattle.cw_gen_expr.proofs.Scales.{operand-is, built-operand-is}
 use Rattle.cw_carry.proofs.Expressions.Standing.{Stands, parted, Made, both_made, one_made, two_made, choice_made}
 use Rattle.cw_carry.proofs.Expressions.Effects.{IsPossible, total_weight, through_all, TellsLine}
@@ -42,14 +42,14 @@ use Rattle.cw_carry.proofs.Expressions.Addresses.{item_and}
 
 -- ---- numbers
 
-number-is : (n : ℕ) → IsTrue (nat_lt n 32768) → signed (n % 65536) ≡ pos n
+pub number-is : (n : ℕ) → IsTrue (nat_lt n 32768) → signed (n % 65536) ≡ pos n
 number-is n h = let lt : n < 32768 = ltb-true n 32768 h in let e : n % 65536 ≡ n = omega arith in ap signed e ∙ (let z : signed n ≡ pos n = omega (arith, ints) in z)
 
 untested : (z : ℤ) → fits_word z ≡ true → FitsWord z
 untested (pos n) h = grind (arith, ints, nat_tests)
 untested (negsuc n) h = grind (arith, ints, nat_tests)
 
-constant-is : (z : ℤ) → IsTrue (fits_word z) → signed (unsigned z % 65536) ≡ z
+pub constant-is : (z : ℤ) → IsTrue (fits_word z) → signed (unsigned z % 65536) ≡ z
 constant-is z h =
     let fits = untested z h in
     let lt = unsigned-lt z fits in
@@ -57,23 +57,23 @@ constant-is z h =
     ap signed e ∙ signed-unsigned z fits
 
 -- a power of two that an order can hold
-narrowed : (z : ℤ) (f n : ℕ) → z ≡ pos f -ℤ pos n → f ≤ 30 → n ≤ 30 → narrow z ≡ z
+pub narrowed : (z : ℤ) (f n : ℕ) → z ≡ pos f -ℤ pos n → f ≤ 30 → n ≤ 30 → narrow z ≡ z
 narrowed (pos k) f n e l m = let lt : k < 128 = omega (arith, ints, e, l, m) in ap (λ b. if b then pos k else pos 0) (lt-ltb k 128 lt)
 narrowed (negsuc k) f n e l m = let lt : k < 128 = omega (arith, ints, e, l, m) in ap (λ b. if b then negsuc k else pos 0) (lt-ltb k 128 lt)
 
-at_most : (f : ℕ) → IsTrue (nat_le f 15) → f ≤ 15
+pub at_most : (f : ℕ) → IsTrue (nat_le f 15) → f ≤ 15
 at_most f h = grind (arith, nat_tests)
 
 -- ---- expressions
 
 module _ (c : Compiled) (t : Moment c) where
-  abbrev built_of : Expr → BuiltValue
+  abbrev pub built_of : Expr → BuiltValue
   built_of e = built_value t.unit (has_words c t) e
 
-  wide : (j n : ℕ) (l r : Bool) (k : Work) → j ≤ most_levels → Via (code c t) (marks c t) j n l (λ y m. At c t y m r k) → Leads_to c t n l r k
+  pub wide : (j n : ℕ) (l r : Bool) (k : Work) → j ≤ most_levels → Via (code c t) (marks c t) j n l (λ y m. At c t y m r k) → Leads_to c t n l r k
   wide j n l r k le (y, m, way, carried) = (y, m, wider (code c t) (marks c t) j most_levels n l y m le way, carried)
 
-  evaluates : (e : Expr) (x : Expr-F Arg Cond Expr Spot Ref) (f line : ℕ) (k : Work) (w : Words) → out-Expr e ≡ x → next c t (Eval e f line k) w ≡ configuration t.segment (expression_work t.unit x f line k) t.acts (put_constant (source c) x t.segment f t.acts w) Running
+  pub evaluates : (e : Expr) (x : Expr-F Arg Cond Expr Spot Ref) (f line : ℕ) (k : Work) (w : Words) → out-Expr e ≡ x → next c t (Eval e f line k) w ≡ configuration t.segment (expression_work t.unit x f line k) t.acts (put_constant (source c) x t.segment f t.acts w) Running
   evaluates e x f line k w h =
       ap (λ v. in_unit (source c) v (λ u. configuration t.segment (expression_work u (out-Expr e) f line k) t.acts (put_constant (source c) (out-Expr e) t.segment f t.acts w) Running) (stuck (source c) t.segment (Eval e f line k) t.acts w)) t.unit_is
       ∙ ap (λ y. configuration t.segment (expression_work t.unit y f line k) t.acts (put_constant (source c) y t.segment f t.acts w) Running) h
@@ -124,7 +124,7 @@ module _ (c : Compiled) (t : Moment c) where
   small_and : (f levels : ℕ) (v : BuiltValue) → IsTrue (nat_le f 15) → IsTrue (v.at f levels) → IsTrue (nat_le f 15 && v.at f levels)
   small_and f levels v h g = silent_and (nat_le f 15) (v.at f levels) h g
 
-  light_order : (line : ℕ) (l m : Bool) (o : Order) → IsTrue (Rattle.cw_carry.proofs.Expressions.Effects.is_silent o) → 0 < weight_of o → weight_of o ≤ 150 → TellsLine line o → loaded_after o l ≡ Some m → IsLight line l m (o ∷ [])
+  pub light_order : (line : ℕ) (l m : Bool) (o : Order) → IsTrue (Rattle.cw_carry.proofs.Expressions.Effects.is_silent o) → 0 < weight_of o → weight_of o ≤ 150 → TellsLine line o → loaded_after o l ≡ Some m → IsLight line l m (o ∷ [])
   light_order line l m o h some le tells turn = record {
     quiet = silent_and (Rattle.cw_carry.proofs.Expressions.Effects.is_silent o) true h refl;
     light = (let z : weight_of o + 0 ≤ 159 = omega (arith, le) in z);
@@ -139,7 +139,7 @@ module _ (c : Compiled) (t : Moment c) where
   word_put now k line q n o z w h end light facts e runs carried =
       done_by c t now k line q n false true (o ∷ []) w false (Changed (put z w)) (h, end) light facts e (λ ok. runs) (λ v d. tt) carried
 
-  pub evaluated : (e : Expr) (x : Expr-F Arg Cond Expr Spot Ref) (f line : ℕ) (k : Work) (q n levels j free last : ℕ) (w : Words) → out-Expr e ≡ x → IsTrue (nat_le f 15) → IsTrue ((built_value_layer t.unit (has_words c t) x).at f levels) → Made (code c t) (marks c t) ((value_layer (at_line line (scope c t)) x).at f q free) q n free last → j + levels ≤ most_levels → Via (code c t) (marks c t) j n true (λ y m. At c t y m false k) → Facts c t (Eval e f line k) w → Steps c t (Eval e f line k) q false w
+  pub evaluated : (e : Expr) (x : Expr-F Arg Cond Expr Spot Ref) (f line : ℕ) (k : Work) (q n levels j free last : ℕ) (w : Words) → out-Expr e ≡ x → IsTrue (nat_le f 15) → IsTrue ((built_value_layer t.unit (has_words c t) x).at f levels) → Made (code c t) (marks c t) ((computed_layer (at_line line (scope c t)) x).at f q free) q n free last → j + levels ≤ most_levels → Via (code c t) (marks c t) j n true (λ y m. At c t y m false k) → Facts c t (Eval e f line k) w → Steps c t (Eval e f line k) q false w
   evaluated e (layer.Num m) f line k q n levels j free last w is small b made le via facts =
       let v = decimal_floor m.whole m.digits m.places f in
       word_put (Eval e f line k) k line q n (number_order v) (pos v) w made.0.0 made.0.1 (light_order line false true (number_order v) refl (omega arith) (omega arith) tt refl) facts
@@ -259,11 +259,8 @@ module _ (c : Compiled) (t : Moment c) where
       (false, free + 1, at.other, at.first, free + 1 + 1, at.first_free, tests.0, at.condition_made, at.other_is, refl, (at.first, false, here refl refl, holds), (at.second, false, past at.other_marks (here at.second_is refl), fails))
       (let z : condition_size d < expression_size e = omega (arith, expression-size e ∙ ap expression_size_layer is) in z)
 
-  -- as the relation has it
-  pub evaluation_follows : (e : Expr) (f line : ℕ) (k : Work) (q n levels j free last : ℕ) (w : Words) → IsTrue (is_expression t.unit (has_words c t) e f levels) → Made (code c t) (marks c t) (expression_piece (at_line line (scope c t)) e f q free) q n free last → j + levels ≤ most_levels → Via (code c t) (marks c t) j n true (λ y m. At c t y m false k) → Facts c t (Eval e f line k) w → Steps c t (Eval e f line k) q false w
+  -- as the relation has it, where the value is not known
+  pub evaluation_follows : (e : Expr) (f line : ℕ) (k : Work) (q n levels j free last : ℕ) (w : Words) → IsTrue (is_expression t.unit (has_words c t) e f levels) → Made (code c t) (marks c t) ((computed_layer (at_line line (scope c t)) (out-Expr e)).at f q free) q n free last → j + levels ≤ most_levels → Via (code c t) (marks c t) j n true (λ y m. At c t y m false k) → Facts c t (Eval e f line k) w → Steps c t (Eval e f line k) q false w
   evaluation_follows e f line k q n levels j free last w b made le via facts =
       let bs = both (nat_le f 15) ((built_of e).at f levels) b in
-      evaluated e (out-Expr e) f line k q n levels j free last w refl bs.0
-      (sym (ap (λ v. v.at f levels) (value-built t.unit (has_words c t) e)) ∙ bs.1)
-      (subst (λ v. Made (code c t) (marks c t) (v.at f q free) q n free last) (value-made (at_line line (scope c t)) e) made)
-      le via facts
+      evaluated e (out-Expr e) f line k q n levels j free last w refl bs.0 (sym (ap (λ v. v.at f levels) (value-built t.unit (has_words c t) e)) ∙ bs.1) made le via facts

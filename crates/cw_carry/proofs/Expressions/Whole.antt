@@ -1,14 +1,14 @@
 -- The orders follow the source through all works, where statements, jumps and the parts of loops follow it; and so the machine of the
 -- orders tracks the source.
-use Rattle.std.proofs.Common.{◌≡◌, inl, ℕ, suc, ◌+◌, ◌<◌, ◌≤◌, ℤ, List, [], ◌∷◌, length, set, Bool, true, false, Option, Some, None, refl, sym, ap, ap₂, ◌∙◌, subst, arith}
+use Rattle.std.proofs.Common.{◌≡◌, ◌⊎◌, inl, inr, ⊎_elim, ℕ, suc, ◌+◌, ◌<◌, ◌≤◌, ℤ, List, [], ◌∷◌, length, set, Bool, true, false, Option, Some, None, refl, sym, ap, ap₂, ◌∙◌, subst, arith}
 use Rattle.std.specs.Prelude.{slice_get, IsTrue, nat_lt, option_map}
 use Rattle.std.proofs.lemmas.Bool.{true≢false, false≢true}
 use Rattle.std.proofs.lemmas.Option.{slice_get-map}
 use Rattle.cw_track.specs.Tracking.{Tracks}
 use Rattle.cw_track.proofs.Paths.{Path, stay, next as move}
 use Rattle.cw_track.specs.Watching.{watched}
-use Rattle.cw_track.proofs.Simulations.{tracks}
-use Rattle.cw_track.proofs.Watching.{Notes, nothing as none_noted, same as same_noted, FollowedNoting, SimulationNoting, simulation_watched}
+use Rattle.cw_track.proofs.Simulations.{tracks_leaping}
+use Rattle.cw_track.proofs.Watching.{Notes, nothing as none_noted, same as same_noted, SilentWay, only_step, step_then, FollowedNoting, LeaptNoting, SimulationNoting, simulation_watched}
 use Rattle.cw_unit.specs.declared.unit.Unit.{Unit as SourceUnit}
 use Rattle.cw_unit.specs.declared.unit.Proc.{Proc}
 use Rattle.cw_unit.specs.declared.unit.Param.{Param}
@@ -41,10 +41,10 @@ use Rattle.cw_carry.proofs.Expressions.Effects.{BeginsNone, effect}
 use Rattle.cw_carry.proofs.Expressions.Carried.{Via, Ready, after_call, answered, takes_index, takes_number, who_of, CarriedIn, going, over}
 use Rattle.cw_gen_expr.specs.ReferenceEntries.{parameters_of}
 use Rattle.cw_carry.proofs.Expressions.Operations.{ItemsStand}
-use Rattle.cw_carry.proofs.Expressions.Stepping.{Compiled, source, target, orders, A, B, AllCalls, Belong, Goes, GoesNoting, quietly, IsSane, work_size, rank}
+use Rattle.cw_carry.proofs.Expressions.Stepping.{Compiled, source, target, orders, A, B, AllCalls, Belong, Goes, GoesNoting, Leaps, quietly, IsSane, work_size, rank}
 use Rattle.cw_carry.proofs.Expressions.Moments.{Moment, here_in, scope, code, marks, At, Leads_to, Steps, StepsNoting, next, Facts}
-use Rattle.cw_carry.proofs.Expressions.Addresses.{operation, address_formed, address_follows}
-use Rattle.cw_carry.proofs.Expressions.Values.{evaluation_follows}
+use Rattle.cw_carry.proofs.Expressions.Addresses.{operation, address_formed}
+use Rattle.cw_carry.proofs.Expressions.Knowing.{evaluation_goes, address_goes}
 use Rattle.cw_carry.proofs.Expressions.Conditions.{test_follows, choice_follows}
 use Rattle.cw_carry.proofs.Expressions.Arguments.{control_is, defined_is, argument_follows, word_kept, variable_set, byte_read, byte_written}
 use Rattle.cw_gen_expr.specs.ReferenceEntries.{bound_order}
@@ -299,7 +299,11 @@ module _ (c : Compiled) where
       Carried q l r k = CarriedIn c.units c.addresses c.limits c.orders_for c.places c.has_words (segment_of s acts) u (who_of acts) q l r k
 
       abbrev Noting : Work → (q : ℕ) → (l : Bool) → Type 0
-      Noting k q l = GoesNoting c (configuration s k acts w Running) (state (segment_of s acts) q l bs w Running)
+      Noting k q l = GoesNoting c (configuration s k acts w Running) (state (segment_of s acts) q l bs w Running) ⊎ Leaps c (configuration s k acts w Running) (state (segment_of s acts) q l bs w Running)
+
+      -- by single steps at which no statement begins
+      singly : {k : Work} {q : ℕ} {l : Bool} → Goes c (configuration s k acts w Running) (state (segment_of s acts) q l bs w Running) → begins (configuration s k acts w Running) ≡ [] → Noting k q l
+      singly goes none = inl (quietly c goes none)
 
       -- where the accumulator is as the work has it
       turned_to : (k : Work) (q : ℕ) (l m : Bool) → l ≡ m → Noting k q m → Noting k q l
@@ -307,35 +311,35 @@ module _ (c : Compiled) where
 
       goes_on : (k : Work) (q : ℕ) (l r : Bool) → Ready c.limits.area r w.operands → Carried q l r k → Sound s k acts w → Noting k q l
       unfolding moment
-      goes_on Nothing q l r ready (h, same) sound = let none = sound.ends refl in turned_to Nothing q l false same (quietly c (nothing_from s acts bs u w q unit_is calls h none.0 none.1) refl)
-      goes_on (Run st k) q l r ready (n, levels, j, at, le, same, via) sound = turned_to (Run st k) q l false same (rules.statement (moment (Run st k) sound) st k q n levels j w at le via (facts_of (Run st k) sound))
+      goes_on Nothing q l r ready (h, same) sound = let none = sound.ends refl in turned_to Nothing q l false same (singly (nothing_from s acts bs u w q unit_is calls h none.0 none.1) refl)
+      goes_on (Run st k) q l r ready (n, levels, j, at, le, same, via) sound = turned_to (Run st k) q l false same (inl (rules.statement (moment (Run st k) sound) st k q n levels j w at le via (facts_of (Run st k) sound)))
       goes_on (Eval e f line k) q l r ready (n, levels, j, free, last, b, made, le, same, via) sound =
-          turned_to (Eval e f line k) q l false same (quietly c (evaluation_follows c (moment (Eval e f line k) sound) e f line k q n levels j free last w b made le via (facts_of (Eval e f line k) sound)) refl)
+          turned_to (Eval e f line k) q l false same (⊎_elim (λ goes. singly goes refl) (λ leaps. inr leaps) (evaluation_goes c (moment (Eval e f line k) sound) line e f k q n levels j free last w b made le via (facts_of (Eval e f line k) sound)))
       goes_on (Address a line k) q l r ready (n, free, last, b, made, same, carried) sound =
-          turned_to (Address a line k) q l false same (quietly c (address_follows c (moment (Address a line k) sound) a line k q n free last w b made carried (facts_of (Address a line k) sound)) refl)
+          turned_to (Address a line k) q l false same (⊎_elim (λ goes. singly goes refl) (λ leaps. inr leaps) (address_goes c (moment (Address a line k) sound) line a k q n free last w b made carried (facts_of (Address a line k) sound)))
       goes_on (FormAt spot line k) q l r ready (n, b, stands, same, carried) sound =
-          turned_to (FormAt spot line k) q l (takes_index (out-Spot spot)) same (quietly c (address_formed c (moment (FormAt spot line k) sound) spot line k q n w b stands carried (facts_of (FormAt spot line k) sound)) refl)
+          turned_to (FormAt spot line k) q l (takes_index (out-Spot spot)) same (singly (address_formed c (moment (FormAt spot line k) sound) spot line k q n w b stands carried (facts_of (FormAt spot line k) sound)) refl)
       goes_on (Do op line k) q l r ready (n, f, stands, same, carried) sound =
-          turned_to (Do op line k) q l true same (quietly c (operation c (moment (Do op line k) sound) op line k q n r w f stands ready carried (facts_of (Do op line k) sound)) refl)
+          turned_to (Do op line k) q l true same (singly (operation c (moment (Do op line k) sound) op line k q n r w f stands ready carried (facts_of (Do op line k) sound)) refl)
       goes_on (Test d line pass fail) q l r ready (when, mark, to, n, free, last, b, made, to_is, same, on, at_mark) sound =
-          turned_to (Test d line pass fail) q l false same (quietly c (test_follows c (moment (Test d line pass fail) sound) d when line pass fail q mark to n free last w b made to_is on at_mark) refl)
+          turned_to (Test d line pass fail) q l false same (singly (test_follows c (moment (Test d line pass fail) sound) d when line pass fail q mark to n free last w b made to_is on at_mark) refl)
       goes_on (Choose op line pass fail) q l r ready (when, mark, to, h, to_is, same, on, at_mark) sound =
-          turned_to (Choose op line pass fail) q l true same (quietly c (choice_follows c (moment (Choose op line pass fail) sound) op when line pass fail q mark to w.operands w.memory w.input w.output h to_is on at_mark sound.sane) refl)
-      goes_on (Jump d line) q l r ready (at, same) sound = turned_to (Jump d line) q l (takes_number d) same (quietly c (rules.jump (moment (Jump d line) sound) d line q w at (facts_of (Jump d line) sound) (sound.jumps d line refl)) refl)
+          turned_to (Choose op line pass fail) q l true same (singly (choice_follows c (moment (Choose op line pass fail) sound) op when line pass fail q mark to w.operands w.memory w.input w.output h to_is on at_mark sound.sane) refl)
+      goes_on (Jump d line) q l r ready (at, same) sound = turned_to (Jump d line) q l (takes_number d) same (singly (rules.jump (moment (Jump d line) sound) d line q w at (facts_of (Jump d line) sound) (sound.jumps d line refl)) refl)
       goes_on (Give a line k) q l r ready (n, free, last, b, made, same, carried) sound =
-          turned_to (Give a line k) q l false same (quietly c (argument_follows c (moment (Give a line k) sound) a line k q n free last w b made carried (facts_of (Give a line k) sound)) refl)
+          turned_to (Give a line k) q l false same (singly (argument_follows c (moment (Give a line k) sound) a line k q n free last w b made carried (facts_of (Give a line k) sound)) refl)
       goes_on (Enter tg line wanted k) q l r ready (n, stands, answer, same, carried) sound =
-          turned_to (Enter tg line wanted k) q l false same (quietly c (enters (moment (Enter tg line wanted k) sound) tg line wanted k q n w stands answer carried (facts_of (Enter tg line wanted k) sound) sound) refl)
-      goes_on Return q l r ready (h, same) sound = turned_to Return q l true same (quietly c (return_from s acts bs u w q unit_is calls h (roomy s w.operands acts bs calls sound.room) sound.sane) refl)
-      goes_on Leave q l r ready (zero_at, h, same) sound = turned_to Leave q l false same (quietly c (leave_from s acts bs u w q unit_is calls zero_at h (roomy s w.operands acts bs calls sound.room) sound.sane) refl)
+          turned_to (Enter tg line wanted k) q l false same (singly (enters (moment (Enter tg line wanted k) sound) tg line wanted k q n w stands answer carried (facts_of (Enter tg line wanted k) sound) sound) refl)
+      goes_on Return q l r ready (h, same) sound = turned_to Return q l true same (singly (return_from s acts bs u w q unit_is calls h (roomy s w.operands acts bs calls sound.room) sound.sane) refl)
+      goes_on Leave q l r ready (zero_at, h, same) sound = turned_to Leave q l false same (singly (leave_from s acts bs u w q unit_is calls zero_at h (roomy s w.operands acts bs calls sound.room) sound.sane) refl)
       goes_on (KeepAt i x k) q l r ready (n, b, lt, stands, same, carried) sound =
-          turned_to (KeepAt i x k) q l true same (quietly c (word_kept c (moment (KeepAt i x k) sound) i x k q n w b lt stands carried (facts_of (KeepAt i x k) sound)) refl)
+          turned_to (KeepAt i x k) q l true same (singly (word_kept c (moment (KeepAt i x k) sound) i x k q n w b lt stands carried (facts_of (KeepAt i x k) sound)) refl)
       goes_on (SetVar x k) q l r ready (n, b, stands, same, carried) sound =
-          turned_to (SetVar x k) q l true same (quietly c (variable_set c (moment (SetVar x k) sound) x k q n w b stands carried (facts_of (SetVar x k) sound)) refl)
-      goes_on (Element i x k) q l r ready (n, j, at, le, same, via) sound = turned_to (Element i x k) q l false same (quietly c (rules.element (moment (Element i x k) sound) i x k q n j w at le via (facts_of (Element i x k) sound)) refl)
-      goes_on (Turn i x k) q l r ready (n, j, at, le, same, via) sound = turned_to (Turn i x k) q l false same (quietly c (rules.turn (moment (Turn i x k) sound) i x k q n j w at le via (facts_of (Turn i x k) sound)) refl)
-      goes_on (Bump i x k) q l r ready (n, j, at, le, same, via) sound = turned_to (Bump i x k) q l false same (quietly c (rules.bump (moment (Bump i x k) sound) i x k q n j w at le via (facts_of (Bump i x k) sound)) refl)
-      goes_on (On x k) q l r ready (n, j, at, le, same, via) sound = turned_to (On x k) q l false same (quietly c (rules.on (moment (On x k) sound) x k q n j w at le via (facts_of (On x k) sound)) refl)
+          turned_to (SetVar x k) q l true same (singly (variable_set c (moment (SetVar x k) sound) x k q n w b stands carried (facts_of (SetVar x k) sound)) refl)
+      goes_on (Element i x k) q l r ready (n, j, at, le, same, via) sound = turned_to (Element i x k) q l false same (singly (rules.element (moment (Element i x k) sound) i x k q n j w at le via (facts_of (Element i x k) sound)) refl)
+      goes_on (Turn i x k) q l r ready (n, j, at, le, same, via) sound = turned_to (Turn i x k) q l false same (singly (rules.turn (moment (Turn i x k) sound) i x k q n j w at le via (facts_of (Turn i x k) sound)) refl)
+      goes_on (Bump i x k) q l r ready (n, j, at, le, same, via) sound = turned_to (Bump i x k) q l false same (singly (rules.bump (moment (Bump i x k) sound) i x k q n j w at le via (facts_of (Bump i x k) sound)) refl)
+      goes_on (On x k) q l r ready (n, j, at, le, same, via) sound = turned_to (On x k) q l false same (singly (rules.on (moment (On x k) sound) x k q n j w at le via (facts_of (On x k) sound)) refl)
 
     -- ---- whole runs
 
@@ -357,7 +361,7 @@ module _ (c : Compiled) where
       notes-fit x n t v (none_noted none path) fits = path-fits _ n t v path fits
       notes-fit x n t v (same_noted {rest = rest} quiet notes weight path) fits = path-fits _ rest ((orders c).step t) v path (keeps t fits)
 
-      going_on : (x : Configuration) (t : OrderState) → Belong c x t → is_running ((A c).shown x) ≡ true → StateFits t → AllSound x → GoesNoting c x t
+      going_on : (x : Configuration) (t : OrderState) → Belong c x t → is_running ((A c).shown x) ≡ true → StateFits t → AllSound x → GoesNoting c x t ⊎ Leaps c x t
       going_on x t (going {s = s} {q = q} {l = l} {k = k} {acts = acts} {bs = bs} {w = w} u unit_is r ready carried calls) on fits sound =
           goes_on s acts bs u unit_is calls w fits.words k q l r ready carried (sound 0)
       going_on x t (over off same) on fits sound = absurd (true≢false (sym on ∙ off))
@@ -393,10 +397,16 @@ module _ (c : Compiled) where
       idle x t (going u unit_is r ready carried calls) off = absurd (true≢false off)
       idle x t (over {s = s} {g = g} {q = q} {l = l} {k = k} {acts = acts} {bs = bs} {v = v} {w = w} {e = e} h same) off = (none-begun s k acts w e h, none-started g q l bs v w e h)
 
-      follows : (x : Configuration) (t : OrderState) → Matches x t → is_running ((A c).shown x) ≡ true → FollowedNoting (A c) (orders c) begins (starts (target c)) Matches (rank c) x t
+      -- what is behind a sound configuration is sound
+      sound-behind : {x y : Configuration} → SilentWay (A c) begins x y → AllSound x → AllSound y
+      sound-behind (only_step e none) sound = λ n. subst (λ z. SoundAt (Rattle.cw_unit.specs.Step.steps (source c) n z)) e (sound (suc n))
+      sound-behind (step_then e none same way) sound = sound-behind way (λ n. subst (λ z. SoundAt (Rattle.cw_unit.specs.Step.steps (source c) n z)) e (sound (suc n)))
+
+      follows : (x : Configuration) (t : OrderState) → Matches x t → is_running ((A c).shown x) ≡ true → FollowedNoting (A c) (orders c) begins (starts (target c)) Matches (rank c) x t ⊎ LeaptNoting (A c) (orders c) begins (starts (target c)) Matches (rank c) x t
       follows x t match on =
-          let goes = going_on x t match.belongs on match.words_fit match.sound in
-          record {
+          ⊎_elim
+          (λ (goes : GoesNoting c x t).
+          inl (record {
             spent = goes.spent;
             reached = goes.reached;
             notes = goes.notes;
@@ -407,7 +417,23 @@ module _ (c : Compiled) where
               words_fit = notes-fit x goes.spent t goes.reached goes.notes match.words_fit;
             };
             progress = goes.progress;
-          }
+          }))
+          (λ (leaps : Leaps c x t).
+          inr (record {
+            to = leaps.to;
+            way = leaps.way;
+            spent = leaps.spent;
+            reached = leaps.reached;
+            path = leaps.path;
+            within = leaps.within;
+            matched = record {
+              belongs = leaps.belongs;
+              sound = sound-behind leaps.way match.sound;
+              words_fit = path-fits _ leaps.spent t leaps.reached leaps.path match.words_fit;
+            };
+            progress = leaps.progress;
+          }))
+          (going_on x t match.belongs on match.words_fit match.sound)
 
       simulation : SimulationNoting is_running (A c) (orders c) begins (starts (target c)) Matches (rank c)
       simulation = record {
@@ -421,4 +447,4 @@ module _ (c : Compiled) where
       pub tracked : (x : Configuration) (t : OrderState) → Matches x t → Tracks (λ o. is_running o.0) (watched (A c) begins) (x, []) (watched (orders c) (starts (target c))) (t, [])
       tracked x t match =
           let begun_by = starts (target c) in
-          tracks (λ o. is_running o.0) (watched (A c) begins) (watched (orders c) begun_by) (λ x t. Matches x.0 t.0 × (t.1 ≡ x.1)) (λ x. rank c x.0) (simulation_watched is_running (A c) (orders c) begins begun_by Matches (rank c) simulation) (x, []) (t, []) (match, refl)
+          tracks_leaping (λ o. is_running o.0) (watched (A c) begins) (watched (orders c) begun_by) (λ x t. Matches x.0 t.0 × (t.1 ≡ x.1)) (λ x. rank c x.0) (simulation_watched is_running (A c) (orders c) begins begun_by Matches (rank c) simulation) (x, []) (t, []) (match, refl)

@@ -26,8 +26,8 @@ use Rattle.cw_unit.specs.Scales.{answer_scale}
 use Rattle.cw_order.specs.declared.order.Order.{Order}
 use Rattle.cw_order.specs.declared.order.Order.TheVariants as order
 use Rattle.cw_gen_expr.specs.Pieces.{Piece, plain, followed_by, sequence, with_end}
-use Rattle.cw_gen_expr.specs.ReferenceExpressions.{Scope, Value, Reference, ConditionPiece, choice_piece, saved, two_values, placed_by, placed_in, item_order, form_orders, bounds_orders, load_orders, rescale_orders, logic_order, number_order, narrow, comparator_for, call_order, label_order, pick_mark, index_piece, value_of, condition_piece, argument_piece, reference_of, spot_piece, expression_piece}
-use Rattle.cw_gen_expr.proofs.Layers.{value_layer, value-made, argument_layer, argument-made, spot_layer, spot-made, reference-made, condition_layer, condition-made, total, expression_size, expression-size, expression_size_layer, argument_size, argument-size, argument_size_layer, spot-size, spot_size_layer, reference_size, reference-size, condition_size, condition-size, condition_size_layer}
+use Rattle.cw_gen_expr.specs.ReferenceExpressions.{Scope, Value, Reference, ConditionPiece, choice_piece, saved, two_values, placed_by, placed_in, item_order, form_orders, bounds_orders, load_orders, rescale_orders, logic_order, number_order, narrow, comparator_for, call_order, label_order, pick_mark, index_piece, indexed_piece, known_or, named_or, known_item, known_word, value_of, condition_piece, argument_piece, reference_of, spot_piece, expression_piece}
+use Rattle.cw_gen_expr.proofs.Layers.{value_layer, computed_layer, known_layer, value-made, argument_layer, argument-made, spot_layer, spot-made, reference-made, condition_layer, condition-made, total, expression_size, expression-size, expression_size_layer, argument_size, argument-size, argument_size_layer, spot-size, spot_size_layer, reference_size, reference-size, condition_size, condition-size, condition_size_layer}
 
 -- ---- properties of lists
 
@@ -74,6 +74,11 @@ module _ {y : Layout} (c : ListProperty y) where
   pub ended : (p : ℕ → Piece) → ((k : ℕ) → Holds c (p k)) → Holds c (with_end p)
   ended p a = record { at = λ place next. c.joined (p next place (next + 1)).orders (order.Mark ∷ []) ((a next).at place (next + 1)) (c.alone order.Mark tt) }
 
+  -- a constant, or the order of a word that is known, in place of a piece
+  pub known : (k : Option ℤ) {p : Piece} → Holds c p → Holds c (known_or k p)
+  known (Some z) h = constant_first (unsigned z) [] tt
+  known None h = h
+
   pub saves : Holds c saved
   saves = lists (order.Save ∷ []) (tt, tt)
 
@@ -97,6 +102,10 @@ item_plain y i n = of_family (slice_get y.families (slice_index_or y.homes i (0,
     of_family : (x : Option Family) (f o : ℕ) → IsPlain (placed_in x f o)
     of_family None f o = tt
     of_family (Some x) f o = of_sort x.sort f o
+
+pub named : {y : Layout} (c : ListProperty y) (i : ℕ) (w : Option ℕ) {p : Piece} → Holds c p → Holds c (named_or y i w p)
+named {y} c i (Some n) h = lists c (item_order y i n ∷ []) (item_plain y i n, tt)
+named c i None h = h
 
 rescale_by : (b : Bool) (line from to : ℕ) → ArePlain (if b then [] else (order.Rescale from to line ∷ []))
 rescale_by true line from to = tt
@@ -158,7 +167,9 @@ module _ (s : Scope) (c : ListProperty s.layout) where
     indexes (layer.Bare e) le = b.values e (let z : expression_size e < n = omega (arith, le) in z) 0
 
     spot : (x : Spot-F Arg Cond Expr Spot Ref) → spot_size_layer x ≤ n → Holds c (spot_layer s x)
-    spot x le = both c {p = index_piece s (pieces x)} {q = plain (form_orders s.layout s.line (pieces x))} (indexes x le) (record { at = λ place next. c.formed s.line (pieces x) })
+    spot x le =
+        named c (known_item s (pieces x)) (known_word s (pieces x)) {p = indexed_piece s (pieces x)}
+        (both c {p = index_piece s (pieces x)} {q = plain (form_orders s.layout s.line (pieces x))} (indexes x le) (record { at = λ place next. c.formed s.line (pieces x) }))
 
     reference : (r : Ref) → reference_size r ≤ n → Holds c (reference_of s r).address
     reference r le =
@@ -196,34 +207,37 @@ module _ (s : Scope) (c : ListProperty s.layout) where
     arguments [] lt = lists c [] tt
     arguments (a ∷ args) lt = both c (b.arguments a (let z : argument_size a < n = omega (arith, lt) in z)) (arguments args (let z : total (map argument_size args) < n = omega (arith, lt) in z))
 
-    value : (x : Expr-F Arg Cond Expr Spot Ref) → expression_size_layer x ≤ n → (f : ℕ) → Holds c ((value_layer s x).at f)
-    value (layer.Num k) le f = constant_first c (decimal_floor k.whole k.digits k.places f) [] tt
-    value (layer.Const z) le f = constant_first c (unsigned z) (rescale_orders s.line 0 f) (rescale_plain s.line 0 f)
-    value (layer.Text i) le f = lists c (item_order s.layout i 0 ∷ rescale_orders s.line 0 f) (item_plain s.layout i 0, rescale_plain s.line 0 f)
-    value (layer.Read r) le f =
+    computed : (x : Expr-F Arg Cond Expr Spot Ref) → expression_size_layer x ≤ n → (f : ℕ) → Holds c ((computed_layer s x).at f)
+    computed (layer.Num k) le f = constant_first c (decimal_floor k.whole k.digits k.places f) [] tt
+    computed (layer.Const z) le f = constant_first c (unsigned z) (rescale_orders s.line 0 f) (rescale_plain s.line 0 f)
+    computed (layer.Text i) le f = lists c (item_order s.layout i 0 ∷ rescale_orders s.line 0 f) (item_plain s.layout i 0, rescale_plain s.line 0 f)
+    computed (layer.Read r) le f =
         let a = reference_of s r in
         both c (b.references r (let z : reference_size r < n = omega (arith, le) in z)) (lists c (load_orders a.field ++ rescale_orders s.line a.scale f) (load_plain a.field (rescale_orders s.line a.scale f) (rescale_plain s.line a.scale f)))
-    value (layer.Call t args) le f =
+    computed (layer.Call t args) le f =
         both c (arguments args (let z : total (map argument_size args) < n = omega (arith, le) in z)) (lists c (call_order s t ∷ rescale_orders s.line (answer_scale s.unit t) f) (call_plain s t, rescale_plain s.line (answer_scale s.unit t) f))
-    value (layer.Force g e) le f = both c (b.values e (let z : expression_size e < n = omega (arith, le) in z) g) (lists c (rescale_orders s.line g f) (rescale_plain s.line g f))
-    value (layer.Locate r) le f = both c (b.references r (let z : reference_size r < n = omega (arith, le) in z)) (lists c (rescale_orders s.line 0 f) (rescale_plain s.line 0 f))
-    value (layer.Bits t d e) le f =
+    computed (layer.Force g e) le f = both c (b.values e (let z : expression_size e < n = omega (arith, le) in z) g) (lists c (rescale_orders s.line g f) (rescale_plain s.line g f))
+    computed (layer.Locate r) le f = both c (b.references r (let z : reference_size r < n = omega (arith, le) in z)) (lists c (rescale_orders s.line 0 f) (rescale_plain s.line 0 f))
+    computed (layer.Bits t d e) le f =
         both c (b.values e (let z : expression_size e < n = omega (arith, le) in z) (value_of s e).operand) (lists c (order.Take t d ∷ rescale_orders s.line 0 f) (tt, rescale_plain s.line 0 f))
-    value (layer.Logic op a d) le f =
+    computed (layer.Logic op a d) le f =
         two (b.values a (let z : expression_size a < n = omega (arith, le) in z) (value_of s a).operand) (b.values d (let z : expression_size d < n = omega (arith, le) in z) (value_of s d).operand) (logic_order op ∷ rescale_orders s.line 0 f) (logic_plain op, rescale_plain s.line 0 f)
-    value (layer.Sum a d) le f = two (b.values a (let z : expression_size a < n = omega (arith, le) in z) f) (b.values d (let z : expression_size d < n = omega (arith, le) in z) f) (order.Add s.line ∷ []) (tt, tt)
-    value (layer.Less a d) le f = two (b.values a (let z : expression_size a < n = omega (arith, le) in z) f) (b.values d (let z : expression_size d < n = omega (arith, le) in z) f) (order.Sub s.line ∷ []) (tt, tt)
-    value (layer.Minus a) le f = both c (b.values a (let z : expression_size a < n = omega (arith, le) in z) f) (lists c (order.Neg s.line ∷ []) (tt, tt))
-    value (layer.Times a d) le f =
+    computed (layer.Sum a d) le f = two (b.values a (let z : expression_size a < n = omega (arith, le) in z) f) (b.values d (let z : expression_size d < n = omega (arith, le) in z) f) (order.Add s.line ∷ []) (tt, tt)
+    computed (layer.Less a d) le f = two (b.values a (let z : expression_size a < n = omega (arith, le) in z) f) (b.values d (let z : expression_size d < n = omega (arith, le) in z) f) (order.Sub s.line ∷ []) (tt, tt)
+    computed (layer.Minus a) le f = both c (b.values a (let z : expression_size a < n = omega (arith, le) in z) f) (lists c (order.Neg s.line ∷ []) (tt, tt))
+    computed (layer.Times a d) le f =
         let g = (value_of s a).operand in
         let h = (value_of s d).operand in
         two (b.values a (let z : expression_size a < n = omega (arith, le) in z) g) (b.values d (let z : expression_size d < n = omega (arith, le) in z) h) (order.Mul (narrow (pos f -ℤ pos (g + h))) s.line ∷ []) (tt, tt)
-    value (layer.Over a d) le f =
+    computed (layer.Over a d) le f =
         let g = (value_of s a).operand in
         let h = (value_of s d).operand in
         two (b.values a (let z : expression_size a < n = omega (arith, le) in z) g) (b.values d (let z : expression_size d < n = omega (arith, le) in z) h) (order.Div (narrow (pos (f + h) -ℤ pos g)) s.line ∷ []) (tt, tt)
-    value (layer.Choice k a d) le f =
+    computed (layer.Choice k a d) le f =
         chosen c (condition_piece s k) (expression_piece s a f) (expression_piece s d f) (λ m. b.conditions k (let z : condition_size k < n = omega (arith, le) in z) false m) (b.values a (let z : expression_size a < n = omega (arith, le) in z) f) (b.values d (let z : expression_size d < n = omega (arith, le) in z) f)
+
+    value : (x : Expr-F Arg Cond Expr Spot Ref) → expression_size_layer x ≤ n → (f : ℕ) → Holds c ((value_layer s x).at f)
+    value x le f = known c (known_layer s x f) {p = (computed_layer s x).at f} (computed x le f)
 
     next_below : Below (suc n)
     next_below = record {

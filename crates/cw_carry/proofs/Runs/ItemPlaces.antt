@@ -20,15 +20,17 @@ use Rattle.cw_unit.specs.Words.{Operand, Word, Words, Changed, with_memory, put,
 use Rattle.cw_unit.specs.Configuration.{frame_size_of}
 use Rattle.cw_order.specs.declared.order.Order.TheVariants as order
 use Rattle.cw_order.specs.OrderState.{OrderActivation, argument_behind}
+use Rattle.cw_order.specs.OrderActions.{home_word}
 use Rattle.cw_order.specs.OrderChanges.{bind}
 use Rattle.cw_order.specs.OrderMachine.{unrefused}
-use Rattle.cw_gen_expr.specs.ReferenceExpressions.{placed_by, placed_in, item_order}
+use Rattle.cw_gen_expr.specs.ReferenceExpressions.{placed_by, placed_in, item_order, item_span}
 use Rattle.cw_gen_expr.specs.ReferenceEntries.{bound_by, bound_in, bound_order}
 use Rattle.cw_gen_expr.specs.NamedItems.{is_same_procedure, may_name, item_has, has_words}
 use Rattle.cw_safety.proofs.Truth.{no, both, nat_same}
 use Rattle.cw_carry.proofs.Expressions.Effects.{effect}
 use Rattle.cw_carry.proofs.Expressions.Stepping.{Compiled, source, target}
 use Rattle.cw_carry.proofs.Statements.Following.{compiled}
+use Rattle.cw_carry.proofs.Runs.Spans.{Covers}
 
 -- ---- words
 
@@ -233,6 +235,27 @@ module _ (us : List SourceUnit) (m : Map) (limits : Limits) (room : ℕ) where
               ap₂ (λ xs x. effect (target c) g xs x w) here.2 (orders n) ∙ ap (λ x. Changed (put (signed x) w)) word ∙ ap (λ z. Changed (put z w)) (signed-small (base + (d + (o + n))) small) ∙ ap (λ x. Changed (put (pos x) w)) same,
               (let z : item_address (source c) g i base + n < limits.area = omega (arith, address, ends, within, lt) in z),
             )
+
+    -- a word behind an item that is known to be in the area is found there
+    pub item-reached : (g : ℕ) (u : SourceUnit) (who : Option ℕ) (base : ℕ) (bs : List OrderActivation) (i n : ℕ) (w : Words) → slice_get us g ≡ Some u → IsTrue (has_words u who i 1)
+        → Covers (λ f o k. home_word m g f o + k < limits.area) (item_order (layout_of u) i 0) (item_span (layout_of u) i) → n < item_span (layout_of u) i
+        → (effect (target c) g bs (item_order (layout_of u) i n) w ≡ Changed (put (pos (item_address (source c) g i base + n)) w)) × (item_address (source c) g i base + n < limits.area)
+    item-reached g u who base bs i n w u-is h covers lt = of (placement g u who base i 1 u-is h)
+      where
+        of : Placed g u who base i 1 → (effect (target c) g bs (item_order (layout_of u) i n) w ≡ Changed (put (pos (item_address (source c) g i base + n)) w)) × (item_address (source c) g i base + n < limits.area)
+        of (at_home f o orders binds address within) =
+            let a : ℕ = family_start g f in
+            let reaches : home_word m g f ((o + 0) % 65536) + n < limits.area = (subst (λ x. Covers (λ f' o' k'. home_word m g f' o' + k' < limits.area) x (item_span (layout_of u) i)) (orders 0) covers) n lt in
+            let inside : a + (o + n) < limits.area = omega (arith, reaches, within, in_words) in
+            let word : (a + (o + n) % 65536) % 65536 ≡ a + (o + n) = omega (arith, inside, in_words) in
+            let small : a + (o + n) < 32768 = omega (arith, inside, in_words) in
+            let same : a + (o + n) ≡ item_address (source c) g i base + n = omega (arith, address) in (
+              ap (λ x. effect (target c) g bs x w) (orders n) ∙ ap (λ x. Changed (put (signed x) w)) word ∙ ap (λ z. Changed (put z w)) (signed-small (a + (o + n)) small) ∙ ap (λ x. Changed (put (pos x) w)) same,
+              (let z : item_address (source c) g i base + n < limits.area = omega (arith, same, inside) in z),
+            )
+        of (in_frame p d o who-is orders binds address within) =
+            let none : item_span (layout_of u) i ≡ 0 = subst (λ x. Covers (λ f' o' k'. home_word m g f' o' + k' < limits.area) x (item_span (layout_of u) i)) (orders 0) covers in
+            absurd (omega (arith, none, lt))
 
     -- a word argument is stored at an address in the area
     bound-at : (a z-at : ℕ) (z : ℤ) (x : Words) (argument : Option Operand) → argument ≡ Some (Word z) → a ≡ z-at → z-at < limits.area → unrefused (bind limits.area argument (Some a) x) ≡ Changed (with_memory x (set x.memory z-at z))

@@ -44,7 +44,8 @@ use Rattle.cw_gen_unit.specs.ReferenceUnits.{meaning, orders_program, first_orde
 use Rattle.cw_gen_unit.specs.BuiltUnits.{AllBuilt, Suits}
 use Rattle.cw_carry.proofs.Statements.Following.{orders_track}
 use Rattle.cw_carry.proofs.Runs.FirstWords.{memory-fits}
-use Rattle.cw_carry.proofs.Runs.ItemPlaces.{c, frame-size, FrameHere, item-put, item-bound}
+use Rattle.cw_carry.proofs.Runs.ItemPlaces.{c, frame-size, FrameHere, item-put, item-reached, item-bound}
+use Rattle.cw_carry.proofs.Runs.Spans.{items}
 
 -- ---- words that are held
 
@@ -146,6 +147,7 @@ module _ (us : List SourceUnit) (m : Map) (limits : Limits) (room : ℕ) (suits 
         record {
           puts = λ i n j x h lt. (put i n j x h lt).0;
           within = λ i n j h lt. (put i n j w h lt).1;
+          reaches = λ i n x h lt. item-reached us m limits room suits.valid suits.area (segment_of s acts) u (who_of acts) (base_of acts) bs i n x u-is h (items us m limits room suits (segment_of s acts) u u-is i) lt;
         };
     binds = λ bs h q v calls v-is proc proc-is fits b j i z x base-is has arg-is.
         item-bound us m limits room suits.valid suits.area h v (Some q) (frame_top p acts) b bs j i z x v-is (frame-next h q v proc (frame_top p acts) b bs v-is proc-is fits base-is) has arg-is;

@@ -55,7 +55,7 @@ family-root u n (i ∷ is) f x e = by_base (λ g h. family-root u (n + 1) is g x
 
 module _ (Inside : (family offset k : ℕ) → Type 0) where
   -- so many words from the address on that the order puts
-  abbrev Covers : Order → (span : ℕ) → Type 0
+  abbrev pub Covers : Order → (span : ℕ) → Type 0
   Covers (order.Home f n) s = (k : ℕ) → k < s → Inside f n k
   Covers _ s = s ≡ 0
 
@@ -163,7 +163,7 @@ module _ (us : List SourceUnit) (m : Map) (limits : Limits) (room : ℕ) (suits 
     by_family None f o h = λ k lt. absurd (omega (arith, lt))
     by_family (Some x) f o h = by_sort x.sort f x.extent o (family-inside f x h)
 
-    items : (i : ℕ) → Covers Inside (item_order (layout_of u) i 0) (item_span (layout_of u) i)
+    pub items : (i : ℕ) → Covers Inside (item_order (layout_of u) i 0) (item_span (layout_of u) i)
     items i = let home = slice_index_or (layout_of u).homes i (0, 0) in by_family (slice_get (layout_of u).families home.0) home.0 home.1 refl
 
     covered : Covered Inside order.Mark (unit_orders u).list

@@ -1,5 +1,5 @@
 -- The orders of the expressions, conditions, references and arguments of a unit that is built name what there is.
-use Rattle.std.proofs.Common.{ℕ, zero, suc, ◌+◌, ◌<◌, ◌≤◌, max, nat_le, nat_lt, ℤ, pos, ◌-ℤ◌, List, [], ◌∷◌, ◌++◌, map, length, Bool, true, false, IsTrue, ◌&&◌, if◌then◌else◌, ◌==◌, Option, Some, None, is_some, refl, sym, ap, ◌∙◌, subst, arith}
+use Rattle.std.proofs.Common.{◌≡◌, ℕ, zero, suc, ◌+◌, ◌<◌, ◌≤◌, max, nat_le, nat_lt, ℤ, pos, ◌-ℤ◌, List, [], ◌∷◌, ◌++◌, map, length, Bool, true, false, IsTrue, ◌&&◌, if◌then◌else◌, ◌==◌, Option, Some, None, is_some, refl, sym, ap, ◌∙◌, subst, arith}
 use Rattle.std.specs.List.{list_all}
 use Rattle.cw_word.specs.Decimal.{decimal_floor}
 use Rattle.cw_word.specs.Word.{unsigned}
@@ -32,9 +32,9 @@ use Rattle.cw_gen_expr.specs.Pieces.{Piece, plain, followed_by, sequence, with_e
 use Rattle.cw_gen_expr.specs.NamedItems.{has_words}
 use Rattle.cw_gen_expr.specs.BuiltExpressions as built
 use Rattle.cw_gen_expr.specs.BuiltExpressions.{BuiltValue, most_levels, within, whole, all_built, built_value, built_reference, is_argument}
-use Rattle.cw_gen_expr.specs.ReferenceExpressions.{Scope, ConditionPiece, at_line, saved, two_values, control_place, item_order, item_span, table_span, table_orders, bounds_orders, load_orders, store_orders, rescale_orders, logic_order, number_order, comparator_for, pick_mark, choice_piece, narrow, call_order, label_order, value_of, condition_piece, argument_piece, reference_of, expression_piece}
+use Rattle.cw_gen_expr.specs.ReferenceExpressions.{Scope, ConditionPiece, at_line, saved, two_values, control_place, item_order, item_span, table_span, table_orders, bounds_orders, load_orders, store_orders, rescale_orders, logic_order, number_order, known_or, named_or, comparator_for, pick_mark, choice_piece, narrow, call_order, label_order, value_of, condition_piece, argument_piece, reference_of, expression_piece}
 use Rattle.cw_gen_expr.specs.ReferenceEntries.{scope_of}
-use Rattle.cw_gen_expr.proofs.Layers.{value_layer, value-made, argument_layer, argument-made, spot_layer, spot-made, reference-made, condition_layer, condition-made, built_value_layer, value-built, built_argument_layer, argument-built, built_spot_layer, spot-built, reference-built, built_condition_layer, condition-built, total, expression_size, expression-size, expression_size_layer, argument_size, argument-size, argument_size_layer, spot-size, spot_size_layer, reference_size, reference-size, condition_size, condition-size, condition_size_layer}
+use Rattle.cw_gen_expr.proofs.Layers.{value_layer, computed_layer, known_layer, value-made, argument_layer, argument-made, spot_layer, indexed_layer, word_item, word_layer, item-named as item-has, spot-made, reference-made, condition_layer, condition-made, built_value_layer, value-built, built_argument_layer, argument-built, built_spot_layer, spot-built, reference-built, built_condition_layer, condition-built, total, expression_size, expression-size, expression_size_layer, argument_size, argument-size, argument_size_layer, spot-size, spot_size_layer, reference_size, reference-size, condition_size, condition-size, condition_size_layer}
 use Rattle.cw_built.specs.Listed.{are_named}
 use Rattle.cw_built.specs.Built.{alone}
 use Rattle.cw_writable.proofs.Coded.Fine.{no, both, parts}
@@ -126,6 +126,14 @@ module _ (u : SourceUnit) (stored : IsStorable u) (few : length u.items ≤ 6553
         (ended_good (λ other. followed_by (c false other) (followed_by a (plain (order.Jump end ∷ [])))) (λ other. both_good (hc false other) (both_good ha (plainly (order.Jump end ∷ []) refl))))
         hb)
 
+    known_good : (k : Option ℤ) (p : Piece) → Fine p → Fine (known_or k p)
+    known_good (Some z) p h = plainly (number_order (unsigned z) ∷ []) refl
+    known_good None p h = h
+
+    named_good : (i : ℕ) (w : Option ℕ) (p : Piece) → ((n : ℕ) → w ≡ Some n → IsTrue (Words i 1)) → Fine p → Fine (named_or (layout_of u) i w p)
+    named_good i (Some n) p has h = plainly (item_order (layout_of u) i n ∷ []) (item-first i 1 n [] (has n refl) refl)
+    named_good i None p has h = h
+
     record Below (n : ℕ) : Type 0 where
       values : (d : Expr) → expression_size d < n → (f levels : ℕ) → IsTrue ((built_value u Words d).at f levels) → IsTrue (is_expression (alone u) 0 o d) → (g : ℕ) → Fine (expression_piece Here d g)
       conditions : (d : Cond) → condition_size d < n → IsTrue (built.is_condition u Words d) → IsTrue (is_condition (alone u) 0 o d) → (when : Bool) (mark : ℕ) → Fine (condition_piece Here d when mark)
@@ -139,36 +147,39 @@ module _ (u : SourceUnit) (stored : IsStorable u) (few : length u.items ≤ 6553
       bounded_good : (e : Expr) (l r : ℤ) → expression_size e < n → IsTrue (whole (built_value u Words e) 0) → IsTrue (is_expression (alone u) 0 o e) → Fine (followed_by (expression_piece Here e 0) (plain (bounds_orders u.bounds line l r)))
       bounded_good e l r lt h k = both_good (at-scale e lt 0 h k 0) (plainly (bounds_orders u.bounds line l r) (bounds-named u.bounds line l r))
 
-      spot_good : (x : Spot-F Arg Cond Expr Spot Ref) → spot_size_layer x ≤ n → IsTrue (built_spot_layer u Words x) → IsTrue (formed.spot_step (spot_kinds (alone u) 0 o x)) → Fine (spot_layer Here x)
-      spot_good (layer.Direct i) le h k = both_good (plainly [] refl) (plainly (item_order (layout_of u) i 0 ∷ []) (item-first i 1 0 [] h refl))
-      spot_good (layer.Through i) le h k =
+      indexed_good : (x : Spot-F Arg Cond Expr Spot Ref) → spot_size_layer x ≤ n → IsTrue (built_spot_layer u Words x) → IsTrue (formed.spot_step (spot_kinds (alone u) 0 o x)) → Fine (indexed_layer Here x)
+      indexed_good (layer.Direct i) le h k = both_good (plainly [] refl) (plainly (item_order (layout_of u) i 0 ∷ []) (item-first i 1 0 [] h refl))
+      indexed_good (layer.Through i) le h k =
           both_good (plainly [] refl) (plainly (item_order (layout_of u) i 0 ∷ order.Load ∷ order.InArea line ∷ []) (item-first i 1 0 (order.Load ∷ order.InArea line ∷ []) h refl))
-      spot_good (layer.One i l r e) le h k =
+      indexed_good (layer.One i l r e) le h k =
           let p = parts (Words i 1) (whole (built_value u Words e) 0) h in
           both_good (bounded_good e l r (let z : expression_size e < n = omega (arith, le) in z) p.1 k)
           (plainly (order.Save ∷ item_order (layout_of u) i 0 ∷ order.Element l (item_span (layout_of u) i) line ∷ []) (item-first i 1 0 (order.Element l (item_span (layout_of u) i) line ∷ []) p.0 refl))
-      spot_good (layer.Two i l1 u1 l2 u2 m e g) le h k =
+      indexed_good (layer.Two i l1 u1 l2 u2 m e g) le h k =
           let p = parts (Words i 1) (whole (built_value u Words e) 0 && whole (built_value u Words g) 0) h in
           let q = parts (whole (built_value u Words e) 0) (whole (built_value u Words g) 0) p.1 in
           let r = parts (is_expression (alone u) 0 o e) (is_expression (alone u) 0 o g) k in
           both_good
           (both_good (bounded_good e l1 u1 (let z : expression_size e < n = omega (arith, le) in z) q.0 r.0) (both_good saved_good (bounded_good g l2 u2 (let z : expression_size g < n = omega (arith, le) in z) q.1 r.1)))
           (plainly (order.Save ∷ item_order (layout_of u) i 0 ∷ order.ElementOfTwo l1 l2 m (item_span (layout_of u) i) line ∷ []) (item-first i 1 0 (order.ElementOfTwo l1 l2 m (item_span (layout_of u) i) line ∷ []) p.0 refl))
-      spot_good (layer.ParamArray i e) le h k =
+      indexed_good (layer.ParamArray i e) le h k =
           let p = parts (Words i 1) (whole (built_value u Words e) 0) h in
           both_good (at-scale e (let z : expression_size e < n = omega (arith, le) in z) 0 p.1 k 0)
           (plainly (order.Save ∷ item_order (layout_of u) i 0 ∷ order.Load ∷ order.Element (pos 0) 0 line ∷ []) (item-first i 1 0 (order.Load ∷ order.Element (pos 0) 0 line ∷ []) p.0 refl))
-      spot_good (layer.Word i t m e) le h k =
+      indexed_good (layer.Word i t m e) le h k =
           let p = parts (Words i 1) (whole (built_value u Words e) 0) h in
           let rest : List Order = order.Element (pos 0) (table_span (layout_of u) t i) line ∷ [] in
           both_good (bounded_good e (pos 0) (pos m -ℤ pos 1) (let z : expression_size e < n = omega (arith, le) in z) p.1 k)
           (plainly (order.Save ∷ (table_orders (layout_of u) t i ++ rest)) (passed (length u.descs) (layout_of u).families (table_orders (layout_of u) t i) rest (table-named u stored few who t i 1 p.0) refl))
-      spot_good (layer.Elem i t c m w e) le h k =
+      indexed_good (layer.Elem i t c m w e) le h k =
           let p = parts (Words i 1) (whole (built_value u Words e) 0) h in
           let rest : List Order = order.Entry c w (table_span (layout_of u) t i) line ∷ [] in
           both_good (bounded_good e (pos 0) (pos m -ℤ pos 1) (let z : expression_size e < n = omega (arith, le) in z) p.1 k)
           (plainly (order.Save ∷ (table_orders (layout_of u) t i ++ rest)) (passed (length u.descs) (layout_of u).families (table_orders (layout_of u) t i) rest (table-named u stored few who t i 1 p.0) refl))
-      spot_good (layer.Bare e) le h k = both_good (at-scale e (let z : expression_size e < n = omega (arith, le) in z) 0 h k 0) (plainly (order.InArea line ∷ []) refl)
+      indexed_good (layer.Bare e) le h k = both_good (at-scale e (let z : expression_size e < n = omega (arith, le) in z) 0 h k 0) (plainly (order.InArea line ∷ []) refl)
+
+      spot_good : (x : Spot-F Arg Cond Expr Spot Ref) → spot_size_layer x ≤ n → IsTrue (built_spot_layer u Words x) → IsTrue (formed.spot_step (spot_kinds (alone u) 0 o x)) → Fine (spot_layer Here x)
+      spot_good x le h k = named_good (word_item Here x) (word_layer Here x) (indexed_layer Here x) (λ m known. item-has Here u Words x m h known) (indexed_good x le h k)
 
       reference_good : (r : Ref) → reference_size r ≤ n → IsTrue (built_reference u Words r).good → IsTrue (is_reference (alone u) 0 o r) → Fine (reference_of Here r).address
       reference_good r le h k =
@@ -232,46 +243,49 @@ module _ (u : SourceUnit) (stored : IsStorable u) (few : length u.items ≤ 6553
       inner_good d lt f zero h k g = no h
       inner_good d lt f (suc m) h k g = b.values d lt f m h k g
 
-      value_good : (x : Expr-F Arg Cond Expr Spot Ref) → expression_size_layer x ≤ n → (f levels : ℕ) → IsTrue ((built_value_layer u Words x).at f levels) → IsTrue (formed.expression_step (alone u) 0 o (kinds (alone u) 0 o x)) → (g : ℕ) → Fine ((value_layer Here x).at g)
-      value_good (layer.Num m) le f levels h k g = plainly (number_order (decimal_floor m.whole m.digits m.places g) ∷ []) refl
-      value_good (layer.Const z) le f levels h k g = plainly (number_order (unsigned z) ∷ rescale_orders line 0 g) (rescale-named line 0 g)
-      value_good (layer.Text i) le f levels h k g = plainly (item_order (layout_of u) i 0 ∷ rescale_orders line 0 g) (item-first i 1 0 (rescale_orders line 0 g) h (rescale-named line 0 g))
-      value_good (layer.Read r) le f levels h k g =
+      computed_good : (x : Expr-F Arg Cond Expr Spot Ref) → expression_size_layer x ≤ n → (f levels : ℕ) → IsTrue ((built_value_layer u Words x).at f levels) → IsTrue (formed.expression_step (alone u) 0 o (kinds (alone u) 0 o x)) → (g : ℕ) → Fine ((computed_layer Here x).at g)
+      computed_good (layer.Num m) le f levels h k g = plainly (number_order (decimal_floor m.whole m.digits m.places g) ∷ []) refl
+      computed_good (layer.Const z) le f levels h k g = plainly (number_order (unsigned z) ∷ rescale_orders line 0 g) (rescale-named line 0 g)
+      computed_good (layer.Text i) le f levels h k g = plainly (item_order (layout_of u) i 0 ∷ rescale_orders line 0 g) (item-first i 1 0 (rescale_orders line 0 g) h (rescale-named line 0 g))
+      computed_good (layer.Read r) le f levels h k g =
           let x = reference_of Here r in
           both_good (b.references r (let z : reference_size r < n = omega (arith, le) in z) h k)
           (plainly (load_orders x.field ++ rescale_orders line x.scale g) (passed (length u.descs) (layout_of u).families (load_orders x.field) (rescale_orders line x.scale g) (load-named x.field) (rescale-named line x.scale g)))
-      value_good (layer.Call t args) le f levels h k g =
+      computed_good (layer.Call t args) le f levels h k g =
           let ks = kinds_of (map (kind_of (alone u) 0 o) args) in
           both_good (all_good args (let z : total (map argument_size args) < n = omega (arith, le) in z) (parts (built.answers t) (all_built (map (is_argument u Words) args)) h).1 (call-kinds true t ks k))
           (plainly (call_order Here t ∷ rescale_orders line (answer_scale u t) g) (both (Names (call_order Here t)) (list_all Names (rescale_orders line (answer_scale u t) g)) (call-named true t ks k) (rescale-named line (answer_scale u t) g)))
-      value_good (layer.Force m e) le f levels h k g =
+      computed_good (layer.Force m e) le f levels h k g =
           both_good (at-scale e (let z : expression_size e < n = omega (arith, le) in z) m h k m) (plainly (rescale_orders line m g) (rescale-named line m g))
-      value_good (layer.Locate r) le f levels h k g =
+      computed_good (layer.Locate r) le f levels h k g =
           both_good (b.references r (let z : reference_size r < n = omega (arith, le) in z) h k) (plainly (rescale_orders line 0 g) (rescale-named line 0 g))
-      value_good (layer.Bits t d e) le f levels h k g =
+      computed_good (layer.Bits t d e) le f levels h k g =
           both_good (at-scale e (let z : expression_size e < n = omega (arith, le) in z) (built_value u Words e).operand h k (value_of Here e).operand) (plainly (order.Take t d ∷ rescale_orders line 0 g) (rescale-named line 0 g))
-      value_good (layer.Logic op a d) le f levels h k g =
+      computed_good (layer.Logic op a d) le f levels h k g =
           two_good a d (logic_order op ∷ rescale_orders line 0 g) (let z : expression_size a < n = omega (arith, le) in z) (let z : expression_size d < n = omega (arith, le) in z) (built_value u Words a).operand (built_value u Words d).operand h k (logic-first op (rescale_orders line 0 g) (rescale-named line 0 g)) (value_of Here a).operand (value_of Here d).operand
-      value_good (layer.Sum a d) le f levels h k g =
+      computed_good (layer.Sum a d) le f levels h k g =
           two_good a d (order.Add line ∷ []) (let z : expression_size a < n = omega (arith, le) in z) (let z : expression_size d < n = omega (arith, le) in z) f f h k refl g g
-      value_good (layer.Less a d) le f levels h k g =
+      computed_good (layer.Less a d) le f levels h k g =
           two_good a d (order.Sub line ∷ []) (let z : expression_size a < n = omega (arith, le) in z) (let z : expression_size d < n = omega (arith, le) in z) f f h k refl g g
-      value_good (layer.Minus a) le f levels h k g = both_good (at-scale a (let z : expression_size a < n = omega (arith, le) in z) f h k g) (plainly (order.Neg line ∷ []) refl)
-      value_good (layer.Times a d) le f levels h k g =
+      computed_good (layer.Minus a) le f levels h k g = both_good (at-scale a (let z : expression_size a < n = omega (arith, le) in z) f h k g) (plainly (order.Neg line ∷ []) refl)
+      computed_good (layer.Times a d) le f levels h k g =
           let fa = (value_of Here a).operand in
           let fd = (value_of Here d).operand in
           two_good a d (order.Mul (narrow (pos g -ℤ pos (fa + fd))) line ∷ []) (let z : expression_size a < n = omega (arith, le) in z) (let z : expression_size d < n = omega (arith, le) in z) (built_value u Words a).operand (built_value u Words d).operand h k refl fa fd
-      value_good (layer.Over a d) le f levels h k g =
+      computed_good (layer.Over a d) le f levels h k g =
           let fa = (value_of Here a).operand in
           let fd = (value_of Here d).operand in
           two_good a d (order.Div (narrow (pos (g + fd) -ℤ pos fa)) line ∷ []) (let z : expression_size a < n = omega (arith, le) in z) (let z : expression_size d < n = omega (arith, le) in z) (built_value u Words a).operand (built_value u Words d).operand h k refl fa fd
-      value_good (layer.Choice c a d) le f levels h k g =
+      computed_good (layer.Choice c a d) le f levels h k g =
           let p = parts (built.is_condition u Words c) (within levels ((built_value u Words a).at f) && (built_value u Words d).at f levels) h in
           let q = parts (within levels ((built_value u Words a).at f)) ((built_value u Words d).at f levels) p.1 in
           let r = parts (is_condition (alone u) 0 o c) (is_expression (alone u) 0 o a && is_expression (alone u) 0 o d) k in
           let t = parts (is_expression (alone u) 0 o a) (is_expression (alone u) 0 o d) r.1 in
           choice_good (condition_piece Here c) (expression_piece Here a g) (expression_piece Here d g)
           (b.conditions c (let z : condition_size c < n = omega (arith, le) in z) p.0 r.0) (inner_good a (let z : expression_size a < n = omega (arith, le) in z) f levels q.0 t.0 g) (b.values d (let z : expression_size d < n = omega (arith, le) in z) f levels q.1 t.1 g)
+
+      value_good : (x : Expr-F Arg Cond Expr Spot Ref) → expression_size_layer x ≤ n → (f levels : ℕ) → IsTrue ((built_value_layer u Words x).at f levels) → IsTrue (formed.expression_step (alone u) 0 o (kinds (alone u) 0 o x)) → (g : ℕ) → Fine ((value_layer Here x).at g)
+      value_good x le f levels h k g = known_good (known_layer Here x g) ((computed_layer Here x).at g) (computed_good x le f levels h k g)
 
       next_below : Below (suc n)
       next_below = record {

@@ -1,5 +1,5 @@
 -- The orders of expressions, conditions, references and arguments whose numbers are in range have code, and their marks stand at places of marks.
-use Rattle.std.proofs.Common.{◌≡◌, ℕ, zero, suc, ◌+◌, ◌<◌, ◌≤◌, max, nat_le, nat_lt, ℤ, pos, ◌-ℤ◌, List, [], ◌∷◌, ◌++◌, map, Bool, true, false, IsTrue, ◌&&◌, refl, sym, ap, ap₂, ◌∙◌, subst, arith}
+use Rattle.std.proofs.Common.{◌≡◌, ℕ, zero, suc, ◌+◌, ◌<◌, ◌≤◌, max, nat_le, nat_lt, ℤ, pos, ◌-ℤ◌, List, [], ◌∷◌, ◌++◌, map, Bool, true, false, IsTrue, ◌&&◌, Option, Some, None, refl, sym, ap, ap₂, ◌∙◌, subst, arith}
 use Rattle.std.proofs.lemmas.Bool.{leb-true}
 use Rattle.std.specs.List.{list_all}
 use Rattle.cw_word.specs.FixedPoint.{fits_word}
@@ -7,6 +7,7 @@ use Rattle.cw_word.specs.Decimal.{decimal_floor}
 use Rattle.cw_word.specs.Word.{unsigned}
 use Rattle.cw_order.specs.declared.order.Order.{Order}
 use Rattle.cw_order.specs.declared.order.Order.TheVariants as order
+use Rattle.cw_unit.specs.declared.layout.Layout.{Layout}
 use Rattle.cw_unit.specs.declared.unit.Arg.{Arg, out-Arg}
 use Rattle.cw_unit.specs.declared.unit.Cond.{Cond, out-Cond}
 use Rattle.cw_unit.specs.declared.unit.Spot.{Spot, out-Spot}
@@ -16,8 +17,8 @@ use Rattle.cw_unit.specs.declared.unit.Arg.TheOpen as layer
 use Rattle.cw_unit.specs.declared.unit.Arg.TheOpen.{Arg-F, Cond-F, Spot-F, Ref-F}
 use Rattle.cw_unit.specs.Scales.{answer_scale}
 use Rattle.cw_gen_expr.specs.Pieces.{Piece, plain, followed_by, sequence, with_end}
-use Rattle.cw_gen_expr.specs.ReferenceExpressions.{Scope, saved, two_values, Value, ConditionPiece, argument_words, control_place, item_order, item_span, table_span, table_orders, bounds_orders, load_orders, rescale_orders, logic_order, narrow, number_order, comparator_for, pick_mark, choice_piece, call_order, label_order, value_of, condition_piece, argument_piece, reference_of, expression_piece}
-use Rattle.cw_gen_expr.proofs.Layers.{value_layer, value-made, argument_layer, argument-made, spot_layer, spot-made, reference-made, condition_layer, condition-made, total, expression_size, expression-size, expression_size_layer, argument_size, argument-size, argument_size_layer, spot-size, spot_size_layer, reference_size, reference-size, condition_size, condition-size, condition_size_layer}
+use Rattle.cw_gen_expr.specs.ReferenceExpressions.{Scope, saved, two_values, Value, ConditionPiece, argument_words, control_place, item_order, item_span, table_span, table_orders, bounds_orders, load_orders, rescale_orders, logic_order, narrow, number_order, known_or, named_or, comparator_for, pick_mark, choice_piece, call_order, label_order, value_of, condition_piece, argument_piece, reference_of, expression_piece}
+use Rattle.cw_gen_expr.proofs.Layers.{value_layer, computed_layer, known_layer, value-made, argument_layer, argument-made, spot_layer, indexed_layer, word_item, word_layer, spot-made, reference-made, condition_layer, condition-made, total, expression_size, expression-size, expression_size_layer, argument_size, argument-size, argument_size_layer, spot-size, spot_size_layer, reference_size, reference-size, condition_size, condition-size, condition_size_layer}
 use Rattle.cw_built.specs.Coded.{is_part, has_code}
 use Rattle.cw_writable.specs.Coded.RangedExpressions.{RangedValue, all_ranged, is_field, are_bounds, in_range, can_divide, ranged_value, is_ranged_condition, is_ranged_argument, ranged_reference, is_ranged_spot, is_ranged_expression}
 use Rattle.cw_writable.specs.Coded.RangedUnits.{is_line}
@@ -79,6 +80,15 @@ module _ (s : Scope) where
 pub saved_good : Good saved
 saved_good = plainly (order.Save ∷ []) refl
 
+-- a constant has code, and so has the order of a word that is known
+known_good : (k : Option ℤ) (p : Piece) → Good p → Good (known_or k p)
+known_good (Some z) p h = plainly (number_order (unsigned z) ∷ []) refl
+known_good None p h = h
+
+named_good : (y : Layout) (i : ℕ) (w : Option ℕ) (p : Piece) → Good p → Good (named_or y i w p)
+named_good y i (Some n) p h = plainly (item_order y i n ∷ []) (item-first y i n [] refl)
+named_good y i None p h = h
+
 module _ (s : Scope) (few : argument_words s.parameters < 256) (line : IsTrue (is_line s.line)) where
   record Below (n : ℕ) : Type 0 where
     values : (d : Expr) → expression_size d < n → (f : ℕ) → f ≤ 15 → IsTrue ((ranged_value s.unit d).at f) → Good (expression_piece s d f)
@@ -108,17 +118,17 @@ module _ (s : Scope) (few : argument_words s.parameters < 256) (line : IsTrue (i
     in-area : IsTrue (list_all has_code (order.InArea s.line ∷ []))
     in-area = first_by (order.InArea s.line) [] refl line refl
 
-    spot_good : (x : Spot-F Arg Cond Expr Spot Ref) → spot_size_layer x ≤ n → IsTrue (ranged_spot_layer s.unit x) → Good (spot_layer s x)
-    spot_good (layer.Direct i) le h = both_good (plainly [] refl) (plainly (item_order s.layout i 0 ∷ []) (item-first s.layout i 0 [] refl))
-    spot_good (layer.Through i) le h =
+    indexed_good : (x : Spot-F Arg Cond Expr Spot Ref) → spot_size_layer x ≤ n → IsTrue (ranged_spot_layer s.unit x) → Good (indexed_layer s x)
+    indexed_good (layer.Direct i) le h = both_good (plainly [] refl) (plainly (item_order s.layout i 0 ∷ []) (item-first s.layout i 0 [] refl))
+    indexed_good (layer.Through i) le h =
         both_good (plainly [] refl) (plainly (item_order s.layout i 0 ∷ order.Load ∷ order.InArea s.line ∷ []) (item-first s.layout i 0 (order.Load ∷ order.InArea s.line ∷ []) (first order.Load (order.InArea s.line ∷ []) refl in-area)))
-    spot_good (layer.One i l u e) le h =
+    indexed_good (layer.One i l u e) le h =
         let p = parts (are_bounds l u) ((ranged_value s.unit e).at 0) h in
         let q = parts (fits_word l) (fits_word u) p.0 in
         let o = order.Element l (item_span s.layout i) s.line in
         both_good (bounded_good e l u (let z : expression_size e < n = omega (arith, le) in z) p.0 p.1)
         (plainly (order.Save ∷ item_order s.layout i 0 ∷ o ∷ []) (saved-item s.layout i o (lined o q.0 line)))
-    spot_good (layer.Two i l1 u1 l2 u2 m e g) le h =
+    indexed_good (layer.Two i l1 u1 l2 u2 m e g) le h =
         let p = parts (are_bounds l1 u1 && (are_bounds l2 u2 && nat_le m 32768)) ((ranged_value s.unit e).at 0 && (ranged_value s.unit g).at 0) h in
         let q = parts (are_bounds l1 u1) (are_bounds l2 u2 && nat_le m 32768) p.0 in
         let r = parts (are_bounds l2 u2) (nat_le m 32768) q.1 in
@@ -130,23 +140,26 @@ module _ (s : Scope) (few : argument_words s.parameters < 256) (line : IsTrue (i
         (both_good (bounded_good e l1 u1 (let z : expression_size e < n = omega (arith, le) in z) q.0 t.0) (both_good saved_good (bounded_good g l2 u2 (let z : expression_size g < n = omega (arith, le) in z) r.0 t.1)))
         (plainly (order.Save ∷ item_order s.layout i 0 ∷ o ∷ [])
         (saved-item s.layout i o (lined o (both (fits_word l1) (fits_word l2 && nat_le m 32768) l1-fits (both (fits_word l2) (nat_le m 32768) l2-fits r.1)) line)))
-    spot_good (layer.ParamArray i e) le h =
+    indexed_good (layer.ParamArray i e) le h =
         let o = order.Element (pos 0) 0 s.line in
         both_good (at-zero e (let z : expression_size e < n = omega (arith, le) in z) h)
         (plainly (order.Save ∷ item_order s.layout i 0 ∷ order.Load ∷ o ∷ []) (saved-table s.layout true i o (lined o refl line)))
-    spot_good (layer.Word i t m e) le h =
+    indexed_good (layer.Word i t m e) le h =
         let p = parts (nat_le m 32768) ((ranged_value s.unit e).at 0) h in
         let o = order.Element (pos 0) (table_span s.layout t i) s.line in
         both_good (bounded_good e (pos 0) (pos m -ℤ pos 1) (let z : expression_size e < n = omega (arith, le) in z) (index-fits m (leb-true m 32768 p.0)) p.1)
         (plainly (order.Save ∷ (table_orders s.layout t i ++ o ∷ [])) (saved-table s.layout t i o (lined o refl line)))
-    spot_good (layer.Elem i t k m w e) le h =
+    indexed_good (layer.Elem i t k m w e) le h =
         let p = parts (nat_le k 32768 && (nat_le m 32768 && nat_lt w 32768)) ((ranged_value s.unit e).at 0) h in
         let q = parts (nat_le k 32768) (nat_le m 32768 && nat_lt w 32768) p.0 in
         let r = parts (nat_le m 32768) (nat_lt w 32768) q.1 in
         let o = order.Entry k w (table_span s.layout t i) s.line in
         both_good (bounded_good e (pos 0) (pos m -ℤ pos 1) (let z : expression_size e < n = omega (arith, le) in z) (index-fits m (leb-true m 32768 r.0)) p.1)
         (plainly (order.Save ∷ (table_orders s.layout t i ++ o ∷ [])) (saved-table s.layout t i o (lined o (both (nat_le k 32768) (nat_lt w 32768) q.0 r.1) line)))
-    spot_good (layer.Bare e) le h = both_good (at-zero e (let z : expression_size e < n = omega (arith, le) in z) h) (plainly (order.InArea s.line ∷ []) in-area)
+    indexed_good (layer.Bare e) le h = both_good (at-zero e (let z : expression_size e < n = omega (arith, le) in z) h) (plainly (order.InArea s.line ∷ []) in-area)
+
+    spot_good : (x : Spot-F Arg Cond Expr Spot Ref) → spot_size_layer x ≤ n → IsTrue (ranged_spot_layer s.unit x) → Good (spot_layer s x)
+    spot_good x le h = named_good s.layout (word_item s x) (word_layer s x) (indexed_layer s x) (indexed_good x le h)
 
     reference_good : (r : Ref) → reference_size r ≤ n → IsTrue (ranged_reference s.unit r).good → Good (reference_of s r).address
     reference_good r le h =
@@ -210,54 +223,57 @@ module _ (s : Scope) (few : argument_words s.parameters < 256) (line : IsTrue (i
         → Good (two_values (expression_piece s a (value_of s a).operand) (expression_piece s d (value_of s d).operand) os)
     two_good a d os la ld ha hd h = both_good (at-operand a la ha) (both_good saved_good (both_good (at-operand d ld hd) (plainly os h)))
 
-    value_good : (x : Expr-F Arg Cond Expr Spot Ref) → expression_size_layer x ≤ n → (f : ℕ) → f ≤ 15 → IsTrue ((ranged_value_layer s.unit x).at f) → Good ((value_layer s x).at f)
-    value_good (layer.Num k) le f hf h = plainly (number_order (decimal_floor k.whole k.digits k.places f) ∷ []) refl
-    value_good (layer.Const z) le f hf h = plainly (number_order (unsigned z) ∷ rescale_orders s.line 0 f) (first (number_order (unsigned z)) (rescale_orders s.line 0 f) refl (raised f hf))
-    value_good (layer.Text i) le f hf h = plainly (item_order s.layout i 0 ∷ rescale_orders s.line 0 f) (item-first s.layout i 0 (rescale_orders s.line 0 f) (raised f hf))
-    value_good (layer.Read r) le f hf h =
+    computed_good : (x : Expr-F Arg Cond Expr Spot Ref) → expression_size_layer x ≤ n → (f : ℕ) → f ≤ 15 → IsTrue ((ranged_value_layer s.unit x).at f) → Good ((computed_layer s x).at f)
+    computed_good (layer.Num k) le f hf h = plainly (number_order (decimal_floor k.whole k.digits k.places f) ∷ []) refl
+    computed_good (layer.Const z) le f hf h = plainly (number_order (unsigned z) ∷ rescale_orders s.line 0 f) (first (number_order (unsigned z)) (rescale_orders s.line 0 f) refl (raised f hf))
+    computed_good (layer.Text i) le f hf h = plainly (item_order s.layout i 0 ∷ rescale_orders s.line 0 f) (item-first s.layout i 0 (rescale_orders s.line 0 f) (raised f hf))
+    computed_good (layer.Read r) le f hf h =
         let x = reference_of s r in
         let p = field-ranged r h in
         both_good (b.references r (let z : reference_size r < n = omega (arith, le) in z) h)
         (plainly (load_orders x.field ++ rescale_orders s.line x.scale f) (passed (load_orders x.field) (rescale_orders s.line x.scale f) (load-coded x.field p.0) (rescale-coded s.line line x.scale f p.1 hf)))
-    value_good (layer.Call t args) le f hf h =
+    computed_good (layer.Call t args) le f hf h =
         let k = answer_scale s.unit t in
         let p = parts (nat_le k 15) (all_ranged (map (is_ranged_argument s.unit) args)) h in
         both_good (all_good args (let z : total (map argument_size args) < n = omega (arith, le) in z) p.1)
         (plainly (call_order s t ∷ rescale_orders s.line k f) (first (call_order s t) (rescale_orders s.line k f) (call-coded s t few line) (rescale-coded s.line line k f (leb-true k 15 p.0) hf)))
-    value_good (layer.Force g e) le f hf h =
+    computed_good (layer.Force g e) le f hf h =
         let p = parts (nat_le g 15) ((ranged_value s.unit e).at g) h in
         both_good (at-scale e (let z : expression_size e < n = omega (arith, le) in z) g g refl h) (plainly (rescale_orders s.line g f) (rescale-coded s.line line g f (leb-true g 15 p.0) hf))
-    value_good (layer.Locate r) le f hf h = both_good (b.references r (let z : reference_size r < n = omega (arith, le) in z) h) (plainly (rescale_orders s.line 0 f) (raised f hf))
-    value_good (layer.Bits t d e) le f hf h =
+    computed_good (layer.Locate r) le f hf h = both_good (b.references r (let z : reference_size r < n = omega (arith, le) in z) h) (plainly (rescale_orders s.line 0 f) (raised f hf))
+    computed_good (layer.Bits t d e) le f hf h =
         let p = parts (is_part t d) (in_range (ranged_value s.unit e) (ranged_value s.unit e).operand) h in
         both_good (at-operand e (let z : expression_size e < n = omega (arith, le) in z) p.1) (plainly (order.Take t d ∷ rescale_orders s.line 0 f) (first_by (order.Take t d) (rescale_orders s.line 0 f) p.0 refl (raised f hf)))
-    value_good (layer.Logic op a d) le f hf h =
+    computed_good (layer.Logic op a d) le f hf h =
         let p = parts (in_range (ranged_value s.unit a) (ranged_value s.unit a).operand) (in_range (ranged_value s.unit d) (ranged_value s.unit d).operand) h in
         two_good a d (logic_order op ∷ rescale_orders s.line 0 f) (let z : expression_size a < n = omega (arith, le) in z) (let z : expression_size d < n = omega (arith, le) in z) p.0 p.1 (first (logic_order op) (rescale_orders s.line 0 f) (logic-coded op) (raised f hf))
-    value_good (layer.Sum a d) le f hf h =
+    computed_good (layer.Sum a d) le f hf h =
         let p = parts ((ranged_value s.unit a).at f) ((ranged_value s.unit d).at f) h in
         both_good (b.values a (let z : expression_size a < n = omega (arith, le) in z) f hf p.0) (both_good saved_good (both_good (b.values d (let z : expression_size d < n = omega (arith, le) in z) f hf p.1) (plainly (order.Add s.line ∷ []) (first_by (order.Add s.line) [] refl line refl))))
-    value_good (layer.Less a d) le f hf h =
+    computed_good (layer.Less a d) le f hf h =
         let p = parts ((ranged_value s.unit a).at f) ((ranged_value s.unit d).at f) h in
         both_good (b.values a (let z : expression_size a < n = omega (arith, le) in z) f hf p.0) (both_good saved_good (both_good (b.values d (let z : expression_size d < n = omega (arith, le) in z) f hf p.1) (plainly (order.Sub s.line ∷ []) (first_by (order.Sub s.line) [] refl line refl))))
-    value_good (layer.Minus a) le f hf h = both_good (b.values a (let z : expression_size a < n = omega (arith, le) in z) f hf h) (plainly (order.Neg s.line ∷ []) (first_by (order.Neg s.line) [] refl line refl))
-    value_good (layer.Times a d) le f hf h =
+    computed_good (layer.Minus a) le f hf h = both_good (b.values a (let z : expression_size a < n = omega (arith, le) in z) f hf h) (plainly (order.Neg s.line ∷ []) (first_by (order.Neg s.line) [] refl line refl))
+    computed_good (layer.Times a d) le f hf h =
         let p = parts (in_range (ranged_value s.unit a) (ranged_value s.unit a).operand) (in_range (ranged_value s.unit d) (ranged_value s.unit d).operand) h in
         let m = order.Mul (narrow (pos f -ℤ pos ((value_of s a).operand + (value_of s d).operand))) s.line in
         two_good a d (m ∷ []) (let z : expression_size a < n = omega (arith, le) in z) (let z : expression_size d < n = omega (arith, le) in z) p.0 p.1
         (first_by m [] (product-coded s.line f (value_of s a).operand (value_of s d).operand hf (small-operand a p.0) (small-operand d p.1)) line refl)
-    value_good (layer.Over a d) le f hf h =
+    computed_good (layer.Over a d) le f hf h =
         let p = parts (can_divide f (ranged_value s.unit a).operand (ranged_value s.unit d).operand) (in_range (ranged_value s.unit a) (ranged_value s.unit a).operand && in_range (ranged_value s.unit d) (ranged_value s.unit d).operand) h in
         let q = parts (in_range (ranged_value s.unit a) (ranged_value s.unit a).operand) (in_range (ranged_value s.unit d) (ranged_value s.unit d).operand) p.1 in
         let m = order.Div (narrow (pos (f + (value_of s d).operand) -ℤ pos (value_of s a).operand)) s.line in
         let c : IsTrue (can_divide f (value_of s a).operand (value_of s d).operand) = subst IsTrue (ap₂ (can_divide f) (same s a).1 (same s d).1) p.0 in
         two_good a d (m ∷ []) (let z : expression_size a < n = omega (arith, le) in z) (let z : expression_size d < n = omega (arith, le) in z) q.0 q.1
         (first_by m [] (quotient-coded s.line f (value_of s a).operand (value_of s d).operand c) line refl)
-    value_good (layer.Choice k a d) le f hf h =
+    computed_good (layer.Choice k a d) le f hf h =
         let p = parts (is_ranged_condition s.unit k) ((ranged_value s.unit a).at f && (ranged_value s.unit d).at f) h in
         let q = parts ((ranged_value s.unit a).at f) ((ranged_value s.unit d).at f) p.1 in
         choice_good (condition_piece s k) (expression_piece s a f) (expression_piece s d f)
         (b.conditions k (let z : condition_size k < n = omega (arith, le) in z) p.0) (b.values a (let z : expression_size a < n = omega (arith, le) in z) f hf q.0) (b.values d (let z : expression_size d < n = omega (arith, le) in z) f hf q.1)
+
+    value_good : (x : Expr-F Arg Cond Expr Spot Ref) → expression_size_layer x ≤ n → (f : ℕ) → f ≤ 15 → IsTrue ((ranged_value_layer s.unit x).at f) → Good ((value_layer s x).at f)
+    value_good x le f hf h = known_good (known_layer s x f) ((computed_layer s x).at f) (computed_good x le f hf h)
 
     next_below : Below (suc n)
     next_below = record {

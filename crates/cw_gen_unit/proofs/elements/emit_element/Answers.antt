@@ -28,7 +28,7 @@ returns-in_ok-set_mark-in-One-clause-orders c =
     let x5 = made c.set_mark.new.self in
     (ends (λ k. followed_by (plain (number_orders y i n)) (followed_by (expression_piece s c.in-One.e f) (plain (order.Jump c.args.set ∷ [])))) next x x1 x4 x5 c.in_ok-next-in-One.ensures.mark c.in_ok-next-in-One.ensures.reserved
     (and_then (one (plain (number_orders y i n)) x1 x2 c.in_ok-emit_number-in-One.ensures)
-    (and_then (one (expression_piece s c.in-One.e f) x2 x3 c.in_ok-emit_expression-in-One.ensures) (one (plain (order.Jump c.args.set ∷ [])) x3 x4 c.in_ok-push-in-One.ensures)))
+    (and_then (one (expression_piece s c.in-One.e f) x2 x3 c.in_ok-emit_expression-in-One.ensures.orders) (one (plain (order.Jump c.args.set ∷ [])) x3 x4 c.in_ok-push-in-One.ensures)))
     c.in_ok-set_mark-in-One.ensures).is
     ∙ ap (λ e. added (element_piece s i f c.args.set c.args.body n e) x) (sym c.in-One.is)
 

@@ -26,10 +26,10 @@ returns c =
     on_ok_weaker c.push.result
     (λ h.
     (and_then (one (plain (number_orders y i c.args.number)) x x1 c.in_ok-emit_number.ensures)
-    (and_then (one (expression_piece s c.args.first.now f) x1 x2 c.in_ok-emit_expression.ensures)
+    (and_then (one (expression_piece s c.args.first.now f) x1 x2 c.in_ok-emit_expression.ensures.orders)
     (and_then (one (plain (set_orders y c.args.line i)) x2 x3 c.in_ok-emit_set.ensures)
-    (and_then (one (expression_piece s c.args.step.now f) x3 x4 c.in_ok-emit_expression-2.ensures)
+    (and_then (one (expression_piece s c.args.step.now f) x3 x4 c.in_ok-emit_expression-2.ensures.orders)
     (and_then (one (plain (keep_orders y i 1)) x4 x5 c.in_ok-emit_keep.ensures)
-    (and_then (one (expression_piece s c.args.limit.now f) x5 x6 c.in_ok-emit_expression-3.ensures)
+    (and_then (one (expression_piece s c.args.limit.now f) x5 x6 c.in_ok-emit_expression-3.ensures.orders)
     (in_one (keep_orders y i 2) (order.Jump c.args.turn ∷ []) x6 x7 x8 (one (plain (keep_orders y i 2)) x6 x7 c.in_ok-emit_keep-2.ensures) (one (plain (order.Jump c.args.turn ∷ [])) x7 x8 h)))))))).is)
     c.push.ensures

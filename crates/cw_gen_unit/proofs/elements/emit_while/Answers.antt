@@ -22,7 +22,7 @@ returns c =
     on_ok_weaker c.push.result
     (λ h.
     (and_then (one (plain (number_orders y i c.args.number)) x x1 c.in_ok-emit_number.ensures)
-    (and_then (one (expression_piece s c.args.e.now c.args.scale) x1 x2 c.in_ok-emit_expression.ensures)
+    (and_then (one (expression_piece s c.args.e.now c.args.scale) x1 x2 c.in_ok-emit_expression.ensures.orders)
     (and_then (one (plain (set_orders y c.args.line i)) x2 x3 c.in_ok-emit_set.ensures)
     (and_then (one (condition_piece s c.args.condition.now false c.args.next) x3 x4 c.in_ok-emit_condition.ensures) (one (plain (order.Jump c.args.body ∷ [])) x4 x5 h))))).is)
     c.push.ensures

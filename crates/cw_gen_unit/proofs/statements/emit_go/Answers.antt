@@ -44,7 +44,7 @@ returns-in_ok-emit_expression-in-Switch c =
     on_ok_weaker c.push-in-Switch.result
     (λ h.
     jumped s c.args.who c.args.line (dest.Switch d.switch d.e) c.args.dest.now x x1 x3 d.is c.in_ok-emit_begin.ensures
-    (and_then (one (expression_piece (at_line c.args.line s) d.e 0) x1 x2 c.in_ok-emit_expression-in-Switch.ensures) (one (plain (order.GoSwitch d.switch c.args.line ∷ [])) x2 x3 h)))
+    (and_then (one (expression_piece (at_line c.args.line s) d.e 0) x1 x2 c.in_ok-emit_expression-in-Switch.ensures.orders) (one (plain (order.GoSwitch d.switch c.args.line ∷ [])) x2 x3 h)))
     c.push-in-Switch.ensures
 
 pub returns-in_ok-emit_expression-in-CommonSwitch : goal.returns-in_ok-emit_expression-in-CommonSwitch
@@ -58,7 +58,7 @@ returns-in_ok-emit_expression-in-CommonSwitch c =
     on_ok_weaker c.push-in-CommonSwitch.result
     (λ h.
     jumped s c.args.who c.args.line (dest.CommonSwitch d.descriptor d.e) c.args.dest.now x x1 x3 d.is c.in_ok-emit_begin.ensures
-    (and_then (one (expression_piece (at_line c.args.line s) d.e 0) x1 x2 c.in_ok-emit_expression-in-CommonSwitch.ensures) (one (plain (order.GoSwitchCommon d.descriptor c.args.line ∷ [])) x2 x3 h)))
+    (and_then (one (expression_piece (at_line c.args.line s) d.e 0) x1 x2 c.in_ok-emit_expression-in-CommonSwitch.ensures.orders) (one (plain (order.GoSwitchCommon d.descriptor c.args.line ∷ [])) x2 x3 h)))
     c.push-in-CommonSwitch.ensures
 
 pub returns-in_ok-emit_expression-in-SpecialSwitch : goal.returns-in_ok-emit_expression-in-SpecialSwitch
@@ -72,6 +72,6 @@ returns-in_ok-emit_expression-in-SpecialSwitch c =
     on_ok_weaker c.push-in-SpecialSwitch.result
     (λ h.
     jumped s c.args.who c.args.line (dest.SpecialSwitch d.control d.e) c.args.dest.now x x1 x3 d.is c.in_ok-emit_begin.ensures
-    (and_then (one (expression_piece (at_line c.args.line s) d.e 0) x1 x2 c.in_ok-emit_expression-in-SpecialSwitch.ensures)
+    (and_then (one (expression_piece (at_line c.args.line s) d.e 0) x1 x2 c.in_ok-emit_expression-in-SpecialSwitch.ensures.orders)
     (one (plain (order.GoSwitchSpecial (control_place s.parameters d.control) c.args.line ∷ [])) x2 x3 (h ∙ ap (λ k. added (plain (order.GoSwitchSpecial k c.args.line ∷ [])) x2) c.in_ok-place-in-SpecialSwitch.ensures))))
     c.push-in-SpecialSwitch.ensures

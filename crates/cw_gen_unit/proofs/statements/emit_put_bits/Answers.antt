@@ -20,7 +20,7 @@ returns c =
     on_ok_weaker c.push-2.result
     (λ h.
     (and_then (one (plain (begin_orders c.args.line)) x x1 c.in_ok-emit_begin.ensures)
-    (and_then (one (expression_piece s c.args.e.now 0) x1 x2 c.in_ok-emit_expression.ensures)
+    (and_then (one (expression_piece s c.args.e.now 0) x1 x2 c.in_ok-emit_expression.ensures.orders)
     (and_then (one saved x2 x3 c.in_ok-push.ensures)
     (and_then (address s c.args.reference.now x3 x4 c.in_ok-emit_address.ensures) (one (plain (order.StorePart c.args.t c.args.b ∷ [])) x4 x5 h))))).is)
     c.push-2.ensures
