@@ -1,24 +1,29 @@
 //! Code of blocks of several orders.
-ghost use Rattle.std.specs.Prelude.{◌≡◌, ◌+◌, ◌<◌, ◌++◌, ◌∷◌, [], length, OnOk};
+ghost use Rattle.std.specs.Prelude.{◌≡◌, ◌≤◌, ◌+◌, ◌<◌, ◌++◌, ◌∷◌, [], length, OnOk};
 ghost use Rattle.cw_order.specs.HasCode.{HasCode};
 ghost use Rattle.cw_order.specs.declared.order.Order.TheVariants as order;
 ghost use Rattle.cw_tmpl.specs.Assembling.{Adds};
+ghost use Rattle.cw_tmpl.specs.Blocks.{NamesParts};
 ghost use Rattle.cw_tmpl.specs.Names.{no_names};
 ghost use Rattle.cw_tmpl.specs.Pieces.{IsCoded};
 ghost use Rattle.cw_tmpl.specs.declared.blocks.Block.TheVariants as block;
 ghost use Rattle.cw_tmpl.specs.declared.blocks.Simple.TheVariants as simple;
-ghost use Rattle.cw_tmpl.specs.Templates.{address_pieces, load_place, store_place, operate_place, operation, with_operand, product_with, pieces_size, checked, branch, operated, block_pieces};
+ghost use Rattle.cw_tmpl.specs.Templates.{address_pieces, load_place, store_place, operate_place, change_place, index_added, element_address, operation, with_operand, product_with, pieces_size, checked, branch, operated, block_pieces};
 
 use crate::arithmetic::put_checked;
 use crate::calling::frame_field;
 use crate::jumping::{distance, opposite};
 use crate::orders::put_order;
+use crate::parts::{put_part_taken, put_shifted_down_signed, put_shifted_up};
+use crate::words::mask;
 use cw_i86::Instr;
 use cw_order::{Comparator, Order};
 use cw_tmpl::instructions::{
-    AX, BASE, BX, CX, copy, divide_signed, double, load, multiply, set_word, store, with_number,
+    AT_SI, AX, BASE, BX, CX, DI, SI, change, compare, copy, decrease, divide_signed, double,
+    increase, jump_if_below, load, multiply, operate, set_word, store, with_number,
 };
-use cw_tmpl::{Assembly, Block, Coded, Names, Place, Simple, Target, Use};
+use cw_tmpl::library::ADDRESS;
+use cw_tmpl::{Assembly, Block, Coded, Element, Names, Place, Simple, Target, Use};
 use cw_word::NoMemory;
 
 /// Adds what is needed before an instruction names a place.
@@ -65,14 +70,110 @@ fn operate_place(number: u8, place: Place) -> Coded
             reg: AX,
             target: Target::Bytes { family, offset },
         },
-        Place::Frame(offset) => Coded::Whole(Instr::AluRm {
-            op: number,
-            wide: true,
-            to_reg: true,
-            reg: AX,
-            rm: frame_field(offset),
-        }),
+        Place::Frame(offset) => Coded::Whole(operate(number, AX, frame_field(offset))),
     }
+}
+
+/// The same on the word at a place, which changes, and AX.
+fn change_place(number: u8, place: Place) -> Coded
+    requires { number < 8 }
+    ensures value { result ≡ change_place number place }
+    ensures coded { IsCoded result }
+{
+    match place {
+        Place::Word { family, offset } => Coded::Change {
+            operation: number,
+            reg: AX,
+            target: Target::Bytes { family, offset },
+        },
+        Place::Frame(offset) => Coded::Whole(change(number, frame_field(offset), AX)),
+    }
+}
+
+/// Adds SI with the address of a word of a family and the word at a place added.
+fn put_index(code: &mut Assembly, index: Place, family: u16, offset: u16) -> Result<(), NoMemory>
+    ensures { OnOk result (Adds code.old (index_added index family offset) code.new) }
+{
+    let base = Coded::Move {
+        reg: SI,
+        target: Target::Word { family, offset },
+    };
+    match index {
+        Place::Word { family, offset } => code.put_all(&[
+            base,
+            Coded::Operate {
+                operation: 0,
+                reg: SI,
+                target: Target::Bytes { family, offset },
+            },
+        ]),
+        Place::Frame(offset) => code.put_all(&[
+            Coded::Whole(load(BX, BASE)),
+            Coded::Whole(double(BX)),
+            base,
+            Coded::Whole(operate(0, SI, frame_field(offset))),
+        ]),
+    }
+}
+
+/// Adds the address of an element, tested and doubled, in SI.
+fn put_element_address(code: &mut Assembly, element: Element) -> Result<(), NoMemory>
+    ensures { OnOk result (Adds code.old (element_address element) code.new) }
+{
+    put_index(code, element.index, element.family, element.zero)?;
+    code.put_all(&[
+        Coded::Whole(compare(SI, DI)),
+        Coded::Whole(jump_if_below(5)),
+        Coded::Call(Target::LibraryAhead(ADDRESS)),
+        Coded::Data(element.line),
+        Coded::Whole(double(SI)),
+    ])
+}
+
+/// Adds the address of an element and an instruction behind it.
+fn put_at_element(code: &mut Assembly, element: Element, last: Coded) -> Result<(), NoMemory>
+    requires { IsCoded last }
+    ensures { OnOk result (Adds code.old (element_address element ++ last ∷ []) code.new) }
+{
+    put_element_address(code, element)?;
+    code.put_all(&[last])
+}
+
+fn put_fetch_part(
+    code: &mut Assembly,
+    place: Place,
+    t: u8,
+    b: u8,
+    signed: bool,
+) -> Result<(), NoMemory>
+    requires { t + b ≤ 16 }
+    ensures { OnOk result (Adds code.old (block_pieces no_names 0 (block.FetchPart place t b signed) order.Save) code.new) }
+{
+    put_address(code, place)?;
+    code.put_all(&[load_place(place)])?;
+    put_part_taken(code, t, b, signed)
+}
+
+fn put_assign_part(code: &mut Assembly, place: Place, t: u8, b: u8) -> Result<(), NoMemory>
+    requires some { 1 ≤ t }
+    requires within { t + b ≤ 16 }
+    ensures { OnOk result (Adds code.old (block_pieces no_names 0 (block.AssignPart place t b) order.Save) code.new) }
+{
+    put_shifted_up(code, b)?;
+    put_address(code, place)?;
+    code.put_all(&[
+        operate_place(6, place),
+        Coded::Whole(with_number(4, mask(t, b))),
+        change_place(6, place),
+    ])
+}
+
+/// Adds one more, or less, in AX.
+fn put_count(code: &mut Assembly, down: bool, line: u16) -> Result<(), NoMemory>
+    ensures { OnOk result (Adds code.old (block_pieces no_names 0 (block.Count down line) order.Save) code.new) }
+{
+    code.put_all(&[Coded::Whole(if down { decrease(AX) } else { increase(AX) })])?;
+    put_checked(code, line)
 }
 
 fn put_fetch(code: &mut Assembly, place: Place) -> Result<(), NoMemory>
@@ -105,17 +206,9 @@ fn put_with_operand(code: &mut Assembly, number: u8, operand: Simple) -> Result<
     match operand {
         Simple::Number(word) => code.put_all(&[Coded::Whole(with_number(number, word))]),
         Simple::Contents(place) => put_operation_at(code, number, place),
-    }
-}
-
-/// Its size.
-fn with_operand_size(operand: Simple) -> usize
-    ensures { result ≡ pieces_size (with_operand 7 operand) }
-{
-    match operand {
-        Simple::Number(_) => 3,
-        Simple::Contents(Place::Word { .. }) => 4,
-        Simple::Contents(Place::Frame(_)) => 9,
+        Simple::Element(element) => {
+            put_at_element(code, element, Coded::Whole(operate(number, AX, AT_SI)))
+        }
     }
 }
 
@@ -125,6 +218,14 @@ fn put_product_at(code: &mut Assembly, place: Place) -> Result<(), NoMemory>
     code.put_all(&[Coded::Whole(copy(CX, AX))])?;
     put_address(code, place)?;
     code.put_all(&[load_place(place), Coded::Whole(multiply(CX))])
+}
+
+fn put_product_of(code: &mut Assembly, element: Element) -> Result<(), NoMemory>
+    ensures { OnOk result (Adds code.old (product_with (simple.Element element)) code.new) }
+{
+    code.put_all(&[Coded::Whole(copy(CX, AX))])?;
+    put_element_address(code, element)?;
+    code.put_all(&[Coded::Whole(load(AX, AT_SI)), Coded::Whole(multiply(CX))])
 }
 
 /// Adds a product of AX and a simple operand.
@@ -137,6 +238,7 @@ fn put_product_with(code: &mut Assembly, operand: Simple) -> Result<(), NoMemory
             Coded::Whole(multiply(BX)),
         ]),
         Simple::Contents(place) => put_product_at(code, place),
+        Simple::Element(element) => put_product_of(code, element),
     }
 }
 
@@ -164,8 +266,8 @@ fn put_comparison(
 ) -> Result<(), NoMemory>
     ensures { OnOk result (Adds code.old (with_operand 7 operand ++ branch comparator (length code.old.bytes + pieces_size (with_operand 7 operand) + 5) to) code.new) }
 {
-    let end = code.bytes.as_slice().len() + with_operand_size(operand) + 5;
     put_with_operand(code, 7, operand)?;
+    let end = code.bytes.as_slice().len() + 5;
     code.put_all(&[
         Coded::Whole(Instr::JumpIf {
             cond: opposite(comparator),
@@ -215,7 +317,8 @@ pub(crate) fn put_block(
     order: &Order,
     names: &Names,
 ) -> Result<(), NoMemory>
-    requires { HasCode order.now }
+    requires code { HasCode order.now }
+    requires parts { NamesParts block }
     ensures { OnOk result (Adds code.old (block_pieces names.now (length code.old.bytes) block order.now) code.new) }
 {
     match block {
@@ -226,5 +329,20 @@ pub(crate) fn put_block(
         Block::Write => code.put_all(&[Coded::Whole(Instr::Out(0x12))]),
         Block::Divide { by, .. } => put_divided_by(code, by),
         Block::Operate { operand, with } => put_operated(code, operand, with, names),
+        Block::FetchPart {
+            place,
+            t,
+            b,
+            signed,
+        } => put_fetch_part(code, place, t, b, signed),
+        Block::AssignPart { place, t, b } => put_assign_part(code, place, t, b),
+        Block::FetchElement(element) => {
+            put_at_element(code, element, Coded::Whole(load(AX, AT_SI)))
+        }
+        Block::AssignElement(element) => {
+            put_at_element(code, element, Coded::Whole(store(AT_SI, AX)))
+        }
+        Block::Count { down, line } => put_count(code, down, line),
+        Block::Halve { places, .. } => put_shifted_down_signed(code, places),
     }
 }

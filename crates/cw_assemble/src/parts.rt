@@ -1,57 +1,76 @@
-//! Code of parts of words.
-ghost use Rattle.std.specs.Prelude.{◌≡◌, ◌≤◌, ◌+◌, true, false, OnOk};
+//! Code of shifts and of parts of words.
+ghost use Rattle.std.specs.Prelude.{◌≡◌, ◌≤◌, ◌+◌, ◌==◌, OnOk};
+ghost use Rattle.cw_i86.specs.Encoding.{IsInstr};
 ghost use Rattle.cw_tmpl.specs.Assembling.{Adds};
-ghost use Rattle.cw_tmpl.specs.Templates.{load_part, store_part, taken};
+ghost use Rattle.cw_tmpl.specs.Templates.{shifted, shifted_up, shifted_down, shifted_down_signed, lowest_if, taken, taken_signed, part_taken, load_part, store_part};
 
 use crate::words::{mask, ones};
 use cw_i86::Instr;
 use cw_tmpl::instructions::{
-    AT_BX, AX, BX, CX, DX, both, copy, double, either, exchange, load, set_word, shift_down,
-    shift_down_signed, shift_up, store,
+    AT_BX, AX, BX, CX, change, copy, double, exchange, load, operate, set_word, shift_down,
+    shift_down_once, shift_down_signed, shift_down_signed_once, shift_up, shift_up_once,
+    with_number,
 };
 use cw_tmpl::{Assembly, Coded};
 use cw_word::NoMemory;
 
-/// Adds the code that takes an address and puts a part of the word there.
-pub(crate) fn put_load_part(code: &mut Assembly, t: u8, b: u8, signed: bool) -> Result<(), NoMemory>
-    requires { t + b ≤ 16 }
-    ensures { OnOk result (Adds code.old (load_part t b signed) code.new) }
+/// Adds a shift of AX by a number of places, by one place or by as many as CL says; by none there is no code.
+fn put_shifted(
+    code: &mut Assembly,
+    once: Instr,
+    by_count: Instr,
+    places: u8,
+) -> Result<(), NoMemory>
+    requires once { IsInstr once }
+    requires by_count { IsInstr by_count }
+    ensures { OnOk result (Adds code.old (shifted once by_count places) code.new) }
 {
-    if signed {
-        put_load_signed(code, t, b)
-    } else {
-        put_load_unsigned(code, t, b)
+    match places {
+        0 => code.put_all(&[]),
+        1 => code.put_all(&[Coded::Whole(once)]),
+        _ => code.put_all(&[
+            Coded::Whole(set_word(CX, u16::from(places))),
+            Coded::Whole(by_count),
+        ]),
     }
 }
 
-pub(crate) fn put_load_signed(code: &mut Assembly, t: u8, b: u8) -> Result<(), NoMemory>
-    requires { t + b ≤ 16 }
-    ensures { OnOk result (Adds code.old (load_part t b true) code.new) }
+/// Adds a shift up.
+pub(crate) fn put_shifted_up(code: &mut Assembly, places: u8) -> Result<(), NoMemory>
+    ensures { OnOk result (Adds code.old (shifted_up places) code.new) }
 {
-    code.put_all(&[
-        Coded::Whole(exchange()),
-        Coded::Whole(double(BX)),
-        Coded::Whole(load(AX, AT_BX)),
-        Coded::Whole(set_word(CX, u16::from(16 - (t + b)))),
-        Coded::Whole(shift_up(AX)),
-        Coded::Whole(set_word(CX, u16::from(16 - t))),
-        Coded::Whole(shift_down_signed(AX)),
-    ])
+    put_shifted(code, shift_up_once(AX), shift_up(AX), places)
 }
 
-pub(crate) fn put_load_unsigned(code: &mut Assembly, t: u8, b: u8) -> Result<(), NoMemory>
-    requires { t + b ≤ 16 }
-    ensures { OnOk result (Adds code.old (load_part t b false) code.new) }
+/// Adds a shift down that brings zeros in.
+fn put_shifted_down(code: &mut Assembly, places: u8) -> Result<(), NoMemory>
+    ensures { OnOk result (Adds code.old (shifted_down places) code.new) }
 {
-    code.put_all(&[
-        Coded::Whole(exchange()),
-        Coded::Whole(double(BX)),
-        Coded::Whole(load(AX, AT_BX)),
-        Coded::Whole(set_word(CX, u16::from(b))),
-        Coded::Whole(shift_down(AX)),
-        Coded::Whole(set_word(BX, ones(t))),
-        Coded::Whole(both(AX, BX)),
-    ])
+    put_shifted(code, shift_down_once(AX), shift_down(AX), places)
+}
+
+/// Adds a shift down that keeps the sign.
+pub(crate) fn put_shifted_down_signed(code: &mut Assembly, places: u8) -> Result<(), NoMemory>
+    ensures { OnOk result (Adds code.old (shifted_down_signed places) code.new) }
+{
+    put_shifted(
+        code,
+        shift_down_signed_once(AX),
+        shift_down_signed(AX),
+        places,
+    )
+}
+
+/// Adds the code that leaves the lowest bits of AX, where it has others.
+fn put_lowest(code: &mut Assembly, t: u8, b: u8) -> Result<(), NoMemory>
+    requires { t + b ≤ 16 }
+    ensures { OnOk result (Adds code.old (lowest_if (t + b == 16) t) code.new) }
+{
+    if t + b == 16 {
+        code.put_all(&[])
+    } else {
+        code.put_all(&[Coded::Whole(with_number(4, ones(t)))])
+    }
 }
 
 /// Adds the code that takes an operand and puts a part of it.
@@ -59,32 +78,64 @@ pub(crate) fn put_take(code: &mut Assembly, t: u8, b: u8) -> Result<(), NoMemory
     requires { t + b ≤ 16 }
     ensures { OnOk result (Adds code.old (taken t b) code.new) }
 {
-    code.put_all(&[
-        Coded::Whole(set_word(CX, u16::from(b))),
-        Coded::Whole(shift_down(AX)),
-        Coded::Whole(set_word(BX, ones(t))),
-        Coded::Whole(both(AX, BX)),
-    ])
+    put_shifted_down(code, b)?;
+    put_lowest(code, t, b)
 }
 
+/// The same of a part with a sign.
+fn put_take_signed(code: &mut Assembly, t: u8, b: u8) -> Result<(), NoMemory>
+    requires { t + b ≤ 16 }
+    ensures { OnOk result (Adds code.old (taken_signed t b) code.new) }
+{
+    put_shifted_up(code, 16 - (t + b))?;
+    put_shifted_down_signed(code, 16 - t)
+}
+
+/// Adds the code that takes an operand and puts a part of it, with a sign or without one.
+pub(crate) fn put_part_taken(
+    code: &mut Assembly,
+    t: u8,
+    b: u8,
+    signed: bool,
+) -> Result<(), NoMemory>
+    requires { t + b ≤ 16 }
+    ensures { OnOk result (Adds code.old (part_taken t b signed) code.new) }
+{
+    if signed {
+        put_take_signed(code, t, b)
+    } else {
+        put_take(code, t, b)
+    }
+}
+
+/// Adds the code that takes an address and puts a part of the word there.
+pub(crate) fn put_load_part(code: &mut Assembly, t: u8, b: u8, signed: bool) -> Result<(), NoMemory>
+    requires { t + b ≤ 16 }
+    ensures { OnOk result (Adds code.old (load_part t b signed) code.new) }
+{
+    code.put_all(&[
+        Coded::Whole(exchange()),
+        Coded::Whole(double(BX)),
+        Coded::Whole(load(AX, AT_BX)),
+    ])?;
+    put_part_taken(code, t, b, signed)
+}
+
+/// Adds the code that takes an address, and below it a value, which it stores in a part of the word there.
 pub(crate) fn put_store_part(code: &mut Assembly, t: u8, b: u8) -> Result<(), NoMemory>
     requires some { 1 ≤ t }
     requires within { t + b ≤ 16 }
     ensures { OnOk result (Adds code.old (store_part t b) code.new) }
 {
-    let part = mask(t, b);
     code.put_all(&[
         Coded::Whole(copy(BX, AX)),
         Coded::Whole(Instr::Pop(AX)),
         Coded::Whole(double(BX)),
-        Coded::Whole(set_word(CX, u16::from(b))),
-        Coded::Whole(shift_up(AX)),
-        Coded::Whole(set_word(CX, part)),
-        Coded::Whole(both(AX, CX)),
-        Coded::Whole(load(DX, AT_BX)),
-        Coded::Whole(set_word(CX, 65_535 - part)),
-        Coded::Whole(both(DX, CX)),
-        Coded::Whole(either(DX, AX)),
-        Coded::Whole(store(AT_BX, DX)),
+    ])?;
+    put_shifted_up(code, b)?;
+    code.put_all(&[
+        Coded::Whole(operate(6, AX, AT_BX)),
+        Coded::Whole(with_number(4, mask(t, b))),
+        Coded::Whole(change(6, AT_BX, AX)),
     ])
 }

@@ -1,9 +1,10 @@
 //! The sizes of the code of orders and of their blocks.
-ghost use Rattle.std.specs.Prelude.{◌≡◌, ◌≤◌, ◌+◌, ◌*◌, IfOk};
+ghost use Rattle.std.specs.Prelude.{◌≡◌, ◌≤◌, ◌+◌, ◌*◌, ◌++◌, ◌∷◌, [], IfOk};
 ghost use Rattle.cw_order.specs.HasCode.{HasCode};
 ghost use Rattle.cw_order.specs.declared.order.Order.TheVariants as order;
+ghost use Rattle.cw_tmpl.specs.Blocks.{NamesParts};
 ghost use Rattle.cw_tmpl.specs.declared.blocks.Block.TheVariants as block;
-ghost use Rattle.cw_tmpl.specs.Templates.{times_size, width_size, bound_size, word_size, listed_size, order_size, block_size};
+ghost use Rattle.cw_tmpl.specs.Templates.{address_pieces, load_place, pieces_size, index_size, shift_size, part_size, times_size, width_size, bound_size, word_size, listed_size, order_size, block_size};
 
 use crate::words::power;
 use cw_order::Order;
@@ -90,6 +91,41 @@ pub(crate) fn sum(a: u32, b: u32) -> Result<u32, NoMemory>
     }
 }
 
+/// How many bytes a shift by a number of places has.
+fn shift_size(places: u8) -> u32
+    ensures { result ≡ shift_size places }
+{
+    match places {
+        0 => 0,
+        1 => 2,
+        _ => 5,
+    }
+}
+
+/// How many bytes the code has that takes a part of a word.
+fn part_size(t: u8, b: u8, signed: bool) -> u32
+    requires { t + b ≤ 16 }
+    ensures { result ≡ part_size t b signed }
+{
+    if signed {
+        shift_size(16 - (t + b)) + shift_size(16 - t)
+    } else if t + b == 16 {
+        shift_size(b)
+    } else {
+        shift_size(b) + 3
+    }
+}
+
+/// How many bytes the code has that adds an index at a place to the address of a word.
+fn index_size(index: Place) -> u32
+    ensures { result ≡ index_size index }
+{
+    match index {
+        Place::Word { .. } => 7,
+        Place::Frame(_) => 12,
+    }
+}
+
 /// How many bytes the code of an order alone has.
 fn order_size(order: &Order) -> Result<u32, NoMemory>
     requires { HasCode order.now }
@@ -109,14 +145,16 @@ fn order_size(order: &Order) -> Result<u32, NoMemory>
         Order::Store | Order::Bind { .. } => 7,
         Order::JumpIf { .. } | Order::GoSwitch { .. } | Order::GoSwitchCommon { .. } => 8,
         Order::Neg(_) | Order::InArea(_) | Order::Enter(_) => 9,
-        Order::Add(_) | Order::Take { .. } | Order::SpecialOut(_) => 10,
+        Order::Add(_) | Order::SpecialOut(_) => 10,
+        Order::Take { t, b } => part_size(*t, *b, false),
         Order::Sub(_) | Order::IndexLess { .. } => 12,
         Order::GoSwitchSpecial { .. } | Order::CallSpecial { .. } | Order::BindFrame { .. } => 13,
-        Order::GoMain(_) | Order::LoadPart { .. } => 15,
+        Order::GoMain(_) => 15,
+        Order::LoadPart { t, b, signed } => part_size(*t, *b, *signed) + 5,
         Order::GoSpecial(_) => 17,
         Order::InBounds { .. } => 20,
         Order::Div { .. } => 25,
-        Order::StorePart { .. } => 26,
+        Order::StorePart { b, .. } => shift_size(*b) + 12,
         Order::Rescale { from, to, .. } => rescale_size(*from, *to),
         Order::Mul { power, .. } => product_size(*power),
         Order::Element { lower, .. } => bound_size(*lower) + 21,
@@ -149,22 +187,60 @@ fn operated_size(operand: Simple, with: Use) -> u32
         (Simple::Contents(Place::Frame(_)), Use::Multiply(_)) => 20,
         (Simple::Contents(Place::Frame(_)), Use::Mask | Use::Union | Use::Differ) => 9,
         (Simple::Contents(Place::Frame(_)), Use::Compare { .. }) => 14,
+        (Simple::Element(element), Use::Add(_) | Use::Subtract(_)) => index_size(element.index)
+            + 20,
+        (Simple::Element(element), Use::Multiply(_)) => index_size(element.index) + 24,
+        (Simple::Element(element), Use::Mask | Use::Union | Use::Differ) => {
+            index_size(element.index) + 13
+        }
+        (Simple::Element(element), Use::Compare { .. }) => index_size(element.index) + 18,
+    }
+}
+
+/// How many bytes the code has that loads AX from a place, or stores it there.
+fn place_size(place: Place) -> u32
+    ensures { result ≡ pieces_size (address_pieces place ++ load_place place ∷ []) }
+{
+    match place {
+        Place::Word { .. } => 3,
+        Place::Frame(_) => 9,
     }
 }
 
 /// How many bytes the code of a block has that begins with an order.
 pub(crate) fn block_size(block: Block, order: &Order) -> Result<u32, NoMemory>
-    requires { HasCode order.now }
+    requires code { HasCode order.now }
+    requires parts { NamesParts block }
     ensures { IfOk result (λ n. n ≡ block_size block order.now) }
 {
     let size = match block {
         Block::Within(_) => 0,
         Block::Single => return order_size(order),
-        Block::Fetch(Place::Word { .. }) | Block::Assign(Place::Word { .. }) => 3,
-        Block::Fetch(Place::Frame(_)) | Block::Assign(Place::Frame(_)) => 9,
+        Block::Fetch(place) | Block::Assign(place) => place_size(place),
         Block::Write => 2,
         Block::Divide { .. } => 6,
         Block::Operate { operand, with } => operated_size(operand, with),
+        Block::FetchPart {
+            place,
+            t,
+            b,
+            signed,
+        } => place_size(place) + part_size(t, b, signed),
+        Block::AssignPart {
+            place: Place::Word { .. },
+            b,
+            ..
+        } => shift_size(b) + 11,
+        Block::AssignPart {
+            place: Place::Frame(_),
+            b,
+            ..
+        } => shift_size(b) + 16,
+        Block::FetchElement(element) | Block::AssignElement(element) => {
+            index_size(element.index) + 13
+        }
+        Block::Count { .. } => 8,
+        Block::Halve { places, .. } => shift_size(places),
     };
     Ok(size)
 }

@@ -47,11 +47,15 @@ has_code o = has_numbers o && nat_lt (line_of o) 65536
 
 -- whether it can stand behind others in a block
 abbrev pub ends_block : Order → Bool
+ends_block order.Save = true
 ends_block (order.Const w) = true
 ends_block (order.Home family offset) = true
 ends_block (order.FrameHome n) = true
 ends_block order.Load = true
 ends_block order.Store = true
+ends_block (order.LoadPart t b is_signed) = true
+ends_block (order.StorePart t b) = true
+ends_block (order.Element lower span line) = true
 ends_block (order.Add line) = true
 ends_block (order.Sub line) = true
 ends_block (order.JumpIf c m) = true

@@ -30,19 +30,15 @@ use Rattle.cw_follow.proofs.Standing.{order_place}
 use Rattle.cw_follow.proofs.Stacks.{level, words_split}
 use Rattle.cw_follow.proofs.Orders.{Landed, Does, fetches, assigns, writes_top}
 use Rattle.cw_follow.proofs.States.{Given, Sound}
-use Rattle.cw_follow.proofs.InBlocks.{slice_drop, Each, each_of_both, one_before, none_before, puts_word, loaded_then, loaded_silently}
+use Rattle.cw_follow.proofs.InBlocks.{slice_drop, Each, each_of_both, one_before, none_before, Puts, never_refused, puts_word, loaded_then, loaded_silently}
 use Rattle.cw_follow.proofs.FrameBlocks.{fetches_word, assigns_word}
 use Rattle.cw_follow.proofs.Divisions.{divides_by_number}
 use Rattle.cw_follow.proofs.Steps.{Follow, setting, step_is, stuck_here, weight_is, block_code, block_ends, start_place, order_here, silent_in, moded_as, last_does, last_tells}
 
--- the orders that can stand in a block before its last one
-abbrev pub Puts : Order → Type 0
-Puts order.Save = Unit {0}
-Puts (order.Const x) = Unit {0}
-Puts (order.Home f n) = Unit {0}
-Puts (order.FrameHome n) = Unit {0}
-Puts order.Load = Unit {0}
-Puts _ = ⊥
+-- an operand whose address is not formed
+abbrev pub WithoutAddress : Simple → Type 0
+WithoutAddress (simple.Element e) = ⊥
+WithoutAddress o = Unit {0}
 
 address_unrefused : (a : Option ℕ) (w : Words) → unrefused (put_address a w) ≡ put_address a w
 address_unrefused None w = refl
@@ -58,7 +54,7 @@ write_unrefused area (Word x ∷ rest) w = refl
 plain_divisor : (x : ℕ) → is_plain_divisor x ≡ true → (2 ≤ x) × (x < 32768)
 plain_divisor x plain = (grind (arith, nat_tests), grind (arith, nat_tests))
 
-small_number : (x : ℕ) → x < 32768 → signed x ≡ pos x
+pub small_number : (x : ℕ) → x < 32768 → signed x ≡ pos x
 small_number x short = grind (arith, nat_tests)
 
 -- an order wants the accumulator in one mode alone
@@ -79,7 +75,7 @@ module _ (known : Given) where
     within_block b n is left = let inside = s.inside in let e : orders_left (block_at 0 (drop s.from s.orders.list)) ≡ orders_left b = ap orders_left is in omega arith
 
     -- where the code of the block ends, where its last order is at work
-    abbrev code_end : ℕ
+    abbrev pub code_end : ℕ
     code_end = order_place (base_of p g) s.orders.list (place + 1)
 
     -- ---- the orders before the last one
@@ -104,7 +100,7 @@ module _ (known : Given) where
         cases None mode = absurd (stuck_here known s (step_is known s (Some o) here ∙ ap (λ x. carry_with p x o g place loaded acts w) mode))
         cases (Some m) mode =
             let left : orders_left (block_at 0 (drop s.from s.orders.list)) ≡ orders_left b = ap orders_left is in
-            silent_in known s o m here mode (puts_so o m puts) (omega arith)
+            silent_in known s o m 0 here mode (puts_so o m puts) (λ kind refused goes. absurd (never_refused p g acts o puts w kind refused)) (omega arith)
 
     -- ---- the last one
 
@@ -134,27 +130,19 @@ module _ (known : Given) where
 
     -- ---- all of a block
 
-    place_puts : (x : Place) → Each Puts (address_orders x)
+    pub place_puts : (x : Place) → Each Puts (address_orders x)
     place_puts (cell.Word f n) = (tt, tt)
     place_puts (cell.Frame n) = (tt, tt)
 
-    operand_puts : (o : Simple) → Each Puts (operand_orders o)
-    operand_puts (simple.Number x) = (tt, tt)
-    operand_puts (simple.Contents x) = each_of_both Puts (address_orders x) (order.Load ∷ []) (place_puts x) (tt, tt)
-
-    block_puts : (b : Block) → Each Puts (orders_before b)
-    block_puts (block.Within n) = tt
-    block_puts block.Single = tt
-    block_puts (block.Fetch x) = place_puts x
-    block_puts (block.Assign x) = (tt, place_puts x)
-    block_puts block.Write = (tt, tt)
-    block_puts (block.Divide x line) = (tt, (tt, tt))
-    block_puts (block.Operate o u) = (tt, operand_puts o)
+    pub operand_puts : (o : Simple) → WithoutAddress o → Each Puts (operand_orders o)
+    operand_puts (simple.Element e) h = absurd h
+    operand_puts (simple.Number x) h = (tt, tt)
+    operand_puts (simple.Contents x) h = each_of_both Puts (address_orders x) (order.Load ∷ []) (place_puts x) (tt, tt)
 
     -- the orders of a block, where its last one is followed
-    pub block_follows : (b : Block) (last : Order) (rest : List Order) → drop s.from s.orders.list ≡ orders_before b ++ last ∷ rest → block_at 0 (drop s.from s.orders.list) ≡ b → orders_left b ≡ length (orders_before b)
+    pub block_follows : (b : Block) (last : Order) (rest : List Order) → Each Puts (orders_before b) → drop s.from s.orders.list ≡ orders_before b ++ last ∷ rest → block_at 0 (drop s.from s.orders.list) ≡ b → orders_left b ≡ length (orders_before b)
         → (s.done ≡ length (orders_before b) → Follow known (at g place loaded acts w Running) q) → Follow known (at g place loaded acts w Running) q
-    block_follows b last rest e is many ends = elim (cases_lt s.done (length (orders_before b))) as (λ _. Follow known (at g place loaded acts w Running) q) [
+    block_follows b last rest puts e is many ends = elim (cases_lt s.done (length (orders_before b))) as (λ _. Follow known (at g place loaded acts w Running) q) [
       | inl lt ↦ inner lt
       | inr ge ↦ (let le = within_block b (length (orders_before b)) is many in ends (omega arith))
     ]
@@ -166,7 +154,7 @@ module _ (known : Given) where
             cases None none = absurd (none_before (orders_before b) last rest s.done lt none)
             cases (Some o) there =
                 let more : suc s.done ≤ orders_left b = omega arith in
-                inner_follows s.done o b (orders_before b ++ last ∷ rest) refl e there (one_before Puts (orders_before b) last o rest s.done (block_puts b) lt there) is more
+                inner_follows s.done o b (orders_before b ++ last ∷ rest) refl e there (one_before Puts (orders_before b) last o rest s.done puts lt there) is more
 
     -- ---- words that are put and stored
 
@@ -194,7 +182,7 @@ module _ (known : Given) where
 
     pub fetch_follows : (x : Place) (rest : List Order) → drop s.from s.orders.list ≡ address_orders x ++ order.Load ∷ rest → block_at 0 (drop s.from s.orders.list) ≡ block.Fetch x
         → Follow known (at g place loaded acts w Running) q
-    fetch_follows x rest e is = block_follows (block.Fetch x) order.Load rest e is refl (λ is_done. fetch_last x rest is_done e is)
+    fetch_follows x rest e is = block_follows (block.Fetch x) order.Load rest (place_puts x) e is refl (λ is_done. fetch_last x rest is_done e is)
 
     assign_last : (x : Place) (rest : List Order) → s.done ≡ suc (length (address_orders x)) → drop s.from s.orders.list ≡ order.Save ∷ (address_orders x ++ order.Store ∷ rest)
         → block_at 0 (drop s.from s.orders.list) ≡ block.Assign x → Follow known (at g place loaded acts w Running) q
@@ -223,7 +211,7 @@ module _ (known : Given) where
 
     pub assign_follows : (x : Place) (rest : List Order) → drop s.from s.orders.list ≡ order.Save ∷ (address_orders x ++ order.Store ∷ rest) → block_at 0 (drop s.from s.orders.list) ≡ block.Assign x
         → Follow known (at g place loaded acts w Running) q
-    assign_follows x rest e is = block_follows (block.Assign x) order.Store rest e is refl (λ is_done. assign_last x rest is_done e is)
+    assign_follows x rest e is = block_follows (block.Assign x) order.Store rest (tt, place_puts x) e is refl (λ is_done. assign_last x rest is_done e is)
 
     -- ---- output
 
@@ -240,7 +228,7 @@ module _ (known : Given) where
         (block_code known s block.Write order.Save (order.WriteByte ∷ rest) e is).0 before.landed)
 
     pub write_top_follows : (rest : List Order) → drop s.from s.orders.list ≡ order.Save ∷ order.WriteByte ∷ rest → block_at 0 (drop s.from s.orders.list) ≡ block.Write → Follow known (at g place loaded acts w Running) q
-    write_top_follows rest e is = block_follows block.Write order.WriteByte rest e is refl (λ is_done. write_last rest is_done e is)
+    write_top_follows rest e is = block_follows block.Write order.WriteByte rest (tt, tt) e is refl (λ is_done. write_last rest is_done e is)
 
     -- ---- a number that divides
 
@@ -267,4 +255,4 @@ module _ (known : Given) where
 
     pub divide_number_follows : (x line : ℕ) (rest : List Order) → drop s.from s.orders.list ≡ order.Save ∷ order.Const x ∷ order.Div (pos zero) line ∷ rest → is_plain_divisor x ≡ true
         → block_at 0 (drop s.from s.orders.list) ≡ block.Divide x line → Follow known (at g place loaded acts w Running) q
-    divide_number_follows x line rest e plain is = block_follows (block.Divide x line) (order.Div (pos zero) line) rest e is refl (λ is_done. divide_last x line rest is_done e plain is)
+    divide_number_follows x line rest e plain is = block_follows (block.Divide x line) (order.Div (pos zero) line) rest (tt, (tt, tt)) e is refl (λ is_done. divide_last x line rest is_done e plain is)

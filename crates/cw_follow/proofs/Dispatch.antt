@@ -24,6 +24,7 @@ use Rattle.cw_order.specs.OrderProgram.{defined_at}
 use Rattle.cw_order.specs.Starting.{starts, started_by}
 use Rattle.cw_tmpl.specs.declared.blocks.Place.{Place}
 use Rattle.cw_tmpl.specs.declared.blocks.Place.TheVariants as cell
+use Rattle.cw_tmpl.specs.declared.blocks.Element.{Element}
 use Rattle.cw_tmpl.specs.declared.blocks.Simple.{Simple}
 use Rattle.cw_tmpl.specs.declared.blocks.Simple.TheVariants as simple
 use Rattle.cw_tmpl.specs.declared.blocks.Block.{Block}
@@ -31,7 +32,7 @@ use Rattle.cw_tmpl.specs.declared.blocks.Block.TheVariants as block
 use Rattle.cw_tmpl.specs.declared.blocks.Use.{Use}
 use Rattle.cw_tmpl.specs.declared.blocks.Use.TheVariants as uses
 use Rattle.cw_tmpl.specs.Mnemonics.{nothing}
-use Rattle.cw_tmpl.specs.Blocks.{address_orders, operand_orders, order_of, block_at, orders_left}
+use Rattle.cw_tmpl.specs.Blocks.{address_orders, element_orders, operand_orders, order_of, count_order, block_at, orders_left}
 use Rattle.cw_tmpl.specs.Names.{label_start, procedure_start, switch_start}
 use Rattle.cw_tmpl.specs.Templates.{distance}
 use Rattle.cw_tmpl.specs.ReferenceCode.{mark_starts, names_of, order_places}
@@ -58,7 +59,10 @@ use Rattle.cw_follow.proofs.Within.{frame_home, bind_static, bind_frame, come_ba
 use Rattle.cw_follow.proofs.WordOrders.{rescale_follows, multiply_follows, divide_follows, element_follows, element_of_two_follows, entry_follows}
 use Rattle.cw_follow.proofs.Words.{save_follows, const_follows, home_follows, load_follows, store_follows, load_part_follows, store_part_follows, add_follows, subtract_follows, negate_follows, and_follows, or_follows, xor_follows, take_follows, less_follows, drop_follows, index_less_follows, in_area_follows, in_bounds_follows, read_follows, write_follows}
 use Rattle.cw_follow.proofs.BlockOrders.{fetch_follows, assign_follows, divide_number_follows, within_block, write_top_follows}
-use Rattle.cw_follow.proofs.UseBlocks.{operate_follows}
+use Rattle.cw_follow.proofs.UseBlocks.{operand_follows}
+use Rattle.cw_follow.proofs.ElementBlocks.{fetch_element_follows, assign_element_follows, operate_element_follows}
+use Rattle.cw_follow.proofs.PartBlocks.{fetch_part_follows, assign_part_follows}
+use Rattle.cw_follow.proofs.NumberBlocks.{count_follows, halve_follows}
 
 -- ---- orders at which nothing is noted
 
@@ -73,9 +77,17 @@ place_plain : (x : Place) → Each IsPlain (address_orders x)
 place_plain (cell.Word f n) = (refl, tt)
 place_plain (cell.Frame n) = (refl, tt)
 
+element_plain : (e : Element) → Each IsPlain (element_orders e)
+element_plain e = each_of_both IsPlain (address_orders e.index) (order.Load ∷ order.Save ∷ order.Home e.family e.first ∷ order.Element e.lower e.span e.line ∷ []) (place_plain e.index) (refl, (refl, (refl, (refl, tt))))
+
 operand_plain : (s : Simple) → Each IsPlain (operand_orders s)
 operand_plain (simple.Number w) = (refl, tt)
 operand_plain (simple.Contents x) = each_of_both IsPlain (address_orders x) (order.Load ∷ []) (place_plain x) (refl, tt)
+operand_plain (simple.Element e) = each_of_both IsPlain (element_orders e) (order.Load ∷ []) (element_plain e) (refl, tt)
+
+count_plain : (down : Bool) (line : ℕ) → IsPlain (count_order down line)
+count_plain true line = refl
+count_plain false line = refl
 
 use_plain : (u : Use) → IsPlain (order_of u)
 use_plain (uses.Add line) = refl
@@ -315,8 +327,22 @@ module _ (known : Given) where
     follow_block block.Write o e is sh = several block.Write (order.Save ∷ []) order.WriteByte _ o e sh is refl (refl, tt) refl (write_top_follows known s _ sh is)
     follow_block (block.Divide x line) o e is sh =
         several (block.Divide x line) (order.Save ∷ order.Const x ∷ []) (order.Div (pos zero) line) _ o e sh.0 is refl (refl, (refl, tt)) refl (divide_number_follows known s x line _ sh.0 sh.1 is)
-    follow_block (block.Operate x u) o e is sh =
-        several (block.Operate x u) (order.Save ∷ operand_orders x) (order_of u) _ o e sh is refl (refl, operand_plain x) (use_plain u) (operate_follows known s x u _ sh is)
+    follow_block (block.Operate (simple.Element x) u) o e is sh =
+        several (block.Operate (simple.Element x) u) (order.Save ∷ operand_orders (simple.Element x)) (order_of u) _ o e sh.0 is refl (refl, operand_plain (simple.Element x)) (use_plain u) (operate_element_follows known s x u _ sh.0 sh.1 is)
+    follow_block (block.Operate (simple.Number n) u) o e is sh =
+        several (block.Operate (simple.Number n) u) (order.Save ∷ operand_orders (simple.Number n)) (order_of u) _ o e sh.0 is refl (refl, operand_plain (simple.Number n)) (use_plain u) (operand_follows known s (simple.Number n) tt u _ sh.0 is)
+    follow_block (block.Operate (simple.Contents x) u) o e is sh =
+        several (block.Operate (simple.Contents x) u) (order.Save ∷ operand_orders (simple.Contents x)) (order_of u) _ o e sh.0 is refl (refl, operand_plain (simple.Contents x)) (use_plain u) (operand_follows known s (simple.Contents x) tt u _ sh.0 is)
+    follow_block (block.FetchPart x t b is_signed) o e is sh =
+        several (block.FetchPart x t b is_signed) (address_orders x) (order.LoadPart t b is_signed) _ o e sh.0 is refl (place_plain x) refl (fetch_part_follows known s x t b is_signed _ sh.0 sh.1 is)
+    follow_block (block.AssignPart x t b) o e is sh =
+        several (block.AssignPart x t b) (order.Save ∷ address_orders x) (order.StorePart t b) _ o e sh.0 is refl (refl, place_plain x) refl (assign_part_follows known s x t b _ sh.0 sh.1 is)
+    follow_block (block.FetchElement x) o e is sh = several (block.FetchElement x) (element_orders x) order.Load _ o e sh.0 is refl (element_plain x) refl (fetch_element_follows known s x _ sh.0 sh.1 is)
+    follow_block (block.AssignElement x) o e is sh = several (block.AssignElement x) (order.Save ∷ element_orders x) order.Store _ o e sh.0 is refl (refl, element_plain x) refl (assign_element_follows known s x _ sh.0 sh.1 is)
+    follow_block (block.Count down line) o e is sh =
+        several (block.Count down line) (order.Save ∷ order.Const 1 ∷ []) (count_order down line) _ o e sh is refl (refl, (refl, tt)) (count_plain down line) (count_follows known s down line _ sh is)
+    follow_block (block.Halve x power places line) o e is sh =
+        several (block.Halve x power places line) (order.Save ∷ order.Const x ∷ []) (order.Mul power line) _ o e sh.0 is refl (refl, (refl, tt)) refl (halve_follows known s x power places line _ sh.0 sh.1 is)
 
     follow_place : (o : Option Order) → slice_get s.orders.list place ≡ o → Noting (at g place loaded acts w Running) q
     follow_place None e = absurd (stuck_here known s (step_is known s None e))

@@ -8,7 +8,7 @@ use Rattle.cw_unit.specs.declared.unit.Goal.TheVariants as goal
 use Rattle.cw_unit.specs.declared.unit.Def.{Def}
 use Rattle.cw_unit.specs.declared.unit.Def.TheVariants as def
 use Rattle.cw_i86.specs.declared.instr.Instr.{Instr}
-use Rattle.cw_run86.specs.Views.{Has, with_memory, condition_of}
+use Rattle.cw_run86.specs.Views.{Has, with_memory, with_number, condition_of}
 use Rattle.cw_order.specs.declared.order.Comparator.{Comparator}
 use Rattle.cw_order.specs.declared.order.Comparator.TheVariants as comparator
 use Rattle.cw_order.specs.declared.order.Order.{Order}
@@ -20,19 +20,20 @@ use Rattle.cw_tmpl.specs.declared.pieces.Target.TheVariants as target
 use Rattle.cw_tmpl.specs.declared.pieces.Coded.{Coded}
 use Rattle.cw_tmpl.specs.declared.pieces.Coded.TheVariants as coded
 use Rattle.cw_tmpl.specs.Pieces.{Filling, bytes_with, size_of, target_of, relocation_of, word_of, word_before, filled}
-use Rattle.cw_tmpl.specs.Mnemonics.{entry_of_table, argument, double, jump_to, jump_if_below, at_bx, load, store, set_word, subtract, both, either, one_of, move, add, multiply}
+use Rattle.cw_tmpl.specs.Mnemonics.{entry_of_table, change_memory, argument, double, jump_to, jump_if_below, at_bx, at_si, load, store, subtract, both, either, one_of, operate, change, move, add, multiply, shift_up, shift_up_once, shift_down, shift_down_once, shift_down_signed, shift_down_signed_once}
 use Rattle.cw_tmpl.specs.Library.{places_of_entries, entry_place, start_entry, overflow_entry, zero_divisor_entry, address_entry, bounds_entry, switch_entry, enter_entry, read_entry, product_entry, quotient_up_entry, quotient_down_entry, set_variable_entry, add_step_entry, put_variable_entry, exhausted_entry}
 use Rattle.cw_tmpl.specs.Names.{Names, mark_place, label_start, switch_start, procedure_start}
-use Rattle.cw_tmpl.specs.Templates.{template, call_library, call_stop, unless_overflow, checked, call_at_line, on_both, with_word, times, times_if, taken, taken_signed, load_top, store_part, rescale_if, by_routine, product_start, product_down, product, divisor_tested, quotient, in_area, index_by, less_bound, plus_word, times_width, base_kept, based, element, in_row, element_of_two, entry, in_bounds, branch, distance, jump_near, opposite_of, control_out, return_with, operands_dropped, base_jump, number_compared, mark_words, goal_words, loop_way, switch_pieces, address_pieces, load_place, store_place, operate_place, with_operand, product_with, pieces_size, operated, block_pieces, entry_pieces}
+use Rattle.cw_tmpl.specs.Templates.{template, call_library, call_stop, unless_overflow, checked, call_at_line, on_both, with_word, times, times_if, shifted, shifted_up, shifted_down, shifted_down_signed, lowest_if, taken, part_taken, load_top, store_part, rescale_if, by_routine, product_start, product_down, product, divisor_tested, quotient, in_area, index_by, less_bound, plus_word, times_width, base_kept, based, element, in_row, element_of_two, entry, in_bounds, branch, distance, jump_near, opposite_of, control_out, return_with, operands_dropped, base_jump, number_compared, mark_words, goal_words, loop_way, switch_pieces, address_pieces, load_place, store_place, operate_place, change_place, index_added, element_address, with_operand, product_with, pieces_size, operated, block_pieces, entry_pieces}
 use Rattle.cw_tmpl.specs.declared.blocks.Place.{Place}
 use Rattle.cw_tmpl.specs.declared.blocks.Place.TheVariants as cell
+use Rattle.cw_tmpl.specs.declared.blocks.Element.{Element}
 use Rattle.cw_tmpl.specs.declared.blocks.Simple.{Simple}
 use Rattle.cw_tmpl.specs.declared.blocks.Simple.TheVariants as simple
 use Rattle.cw_tmpl.specs.declared.blocks.Use.{Use}
 use Rattle.cw_tmpl.specs.declared.blocks.Use.TheVariants as uses
 use Rattle.cw_tmpl.specs.declared.blocks.Block.{Block}
 use Rattle.cw_tmpl.specs.declared.blocks.Block.TheVariants as block
-use Rattle.cw_tmpl.specs.Blocks.{operand_orders, order_of, block_at}
+use Rattle.cw_tmpl.specs.Blocks.{address_orders, element_orders, operand_orders, order_of, count_order, block_at}
 use Rattle.cw_tmpl.proofs.Shapes.{IsBlock, shape}
 use Rattle.cw_tmpl.specs.ReferenceCode.{names_of}
 use Rattle.cw_follow.specs.Placing.{Fills, base_of, definition_place}
@@ -41,6 +42,7 @@ use Rattle.cw_tmpl.proofs.Growing.{mask_small}
 use Rattle.cw_tmpl.proofs.Filling.{size_with}
 use Rattle.cw_routines.specs.Ways.{HasWord}
 use Rattle.cw_follow.proofs.Standing.{HasPiece, HasPieces}
+use Rattle.cw_follow.proofs.Halves.{part_of, few_places}
 use Rattle.cw_i86.specs.declared.instr.Instr.TheVariants as i86
 use Rattle.cw_i86.specs.declared.instr.Imm.TheVariants as imm
 use Rattle.cw_word.specs.FixedPoint.{FitsWord}
@@ -74,6 +76,7 @@ IsFine value (coded.Move reg t) = (reg < 8) × IsFilled value t
 IsFine value (coded.Load t) = IsFilled value t
 IsFine value (coded.Store t) = IsFilled value t
 IsFine value (coded.Operate op reg t) = (op < 8) × (reg < 8) × IsFilled value t
+IsFine value (coded.Change op reg t) = (op < 8) × (reg < 8) × IsFilled value t
 IsFine value (coded.Call t) = IsFilled value t
 IsFine value (coded.Jump t) = IsFilled value t
 IsFine value (coded.Word t) = IsFilled value t
@@ -101,6 +104,7 @@ one_piece image before behind value place (coded.Move reg t) fine at e = one_the
 one_piece image before behind value place (coded.Load t) fine at e = one_there image before behind place (i86.MovAcc false true false (word_of value (place + 3) (relocation_of 0 t))) (fine (place + 3)) at e
 one_piece image before behind value place (coded.Store t) fine at e = one_there image before behind place (i86.MovAcc false true true (word_of value (place + 3) (relocation_of 0 t))) (fine (place + 3)) at e
 one_piece image before behind value place (coded.Operate op reg t) fine at e = one_there image before behind place (with_memory op reg (word_of value (place + 4) (relocation_of 0 t))) (fine.0, fine.1, fine.2 (place + 4)) at e
+one_piece image before behind value place (coded.Change op reg t) fine at e = one_there image before behind place (change_memory op (word_of value (place + 4) (relocation_of 0 t)) reg) (fine.0, fine.1, fine.2 (place + 4)) at e
 one_piece image before behind value place (coded.Call t) fine at e = one_there image before behind place (i86.Call (word_of value (place + 3) (relocation_of 0 t))) (fine (place + 3)) at e
 one_piece image before behind value place (coded.Jump t) fine at e = one_there image before behind place (i86.Jump (word_of value (place + 3) (relocation_of 0 t))) (fine (place + 3)) at e
 one_piece image before behind value place (coded.Word t) fine at e = word_there image before behind place (word_of value (place + 2) (relocation_of 0 t)) (fine (place + 2)) at e
@@ -134,11 +138,18 @@ OrderFits o = NumberFits o × HasCode o × (line_of o < 65536)
 abbrev pub SimpleFits : Simple → Type 0
 SimpleFits (simple.Number w) = w < 65536
 SimpleFits (simple.Contents x) = Unit {0}
+SimpleFits (simple.Element e) = e.line < 65536
 
 abbrev pub BlockFits : Block → Order → Type 0
 BlockFits block.Single o = OrderFits o
 BlockFits (block.Divide w line) o = w < 65536
 BlockFits (block.Operate s u) o = SimpleFits s × (line_of (order_of u) < 65536)
+BlockFits (block.FetchPart x t b is_signed) o = t + b ≤ 16
+BlockFits (block.AssignPart x t b) o = t + b ≤ 16
+BlockFits (block.FetchElement e) o = e.line < 65536
+BlockFits (block.AssignElement e) o = e.line < 65536
+BlockFits (block.Count down line) o = line < 65536
+BlockFits (block.Halve w power places line) o = places ≤ 15
 BlockFits _ o = Unit {0}
 
 -- the numbers of all orders of a list
@@ -148,6 +159,22 @@ AllFit list = (k : ℕ) (o : Order) → slice_get list k ≡ Some o → OrderFit
 behind_these : (before : List Order) (o : Order) (rest : List Order) → slice_get (before ++ o ∷ rest) (length before) ≡ Some o
 behind_these [] o rest = refl
 behind_these (x ∷ xs) o rest = behind_these xs o rest
+
+-- the order that forms the address of an element
+forms_there : (x : Place) (a b c d : Order) (more rest : List Order) → slice_get (((address_orders x ++ a ∷ b ∷ c ∷ d ∷ []) ++ more) ++ rest) (length (address_orders x) + 3) ≡ Some d
+forms_there (cell.Word f n) a b c d more rest = refl
+forms_there (cell.Frame n) a b c d more rest = refl
+
+element_there : (e : Element) (more rest : List Order) → slice_get ((element_orders e ++ more) ++ rest) (length (address_orders e.index) + 3) ≡ Some (order.Element e.lower e.span e.line)
+element_there e more rest = forms_there e.index order.Load order.Save (order.Home e.family e.first) (order.Element e.lower e.span e.line) more rest
+
+-- the same with one order behind it
+element_front : (e : Element) (o : Order) (rest : List Order) → slice_get (element_orders e ++ o ∷ rest) (length (address_orders e.index) + 3) ≡ Some (order.Element e.lower e.span e.line)
+element_front e o rest = ap (λ l. slice_get l (length (address_orders e.index) + 3)) (sym (append_assoc (element_orders e) (o ∷ []) rest)) ∙ element_there e (o ∷ []) rest
+
+count_line : (down : Bool) (line : ℕ) → line_of (count_order down line) ≡ line
+count_line true line = refl
+count_line false line = refl
 
 fits_first : (o : Order) (os : List Order) → AllFit (o ∷ os) → BlockFits (block_at 0 (o ∷ os)) o
 fits_first o os fits = cases (block_at 0 (o ∷ os)) (shape (o ∷ os))
@@ -159,6 +186,11 @@ fits_first o os fits = cases (block_at 0 (o ∷ os)) (shape (o ∷ os))
     simple_fits : (s : Simple) (u : Use) (rest : List Order) → o ∷ os ≡ order.Save ∷ (operand_orders s ++ order_of u ∷ rest) → SimpleFits s
     simple_fits (simple.Number w) u rest e = (fits_as 1 (order.Const w) _ e refl).0
     simple_fits (simple.Contents x) u rest e = tt
+    simple_fits (simple.Element x) u rest e =
+        (fits_as (suc (length (address_orders x.index) + 3)) (order.Element x.lower x.span x.line) _ e (element_there x (order.Load ∷ []) (order_of u ∷ rest))).2
+
+    element_fits : (k : ℕ) (x : Element) (all : List Order) → o ∷ os ≡ all → slice_get all k ≡ Some (order.Element x.lower x.span x.line) → x.line < 65536
+    element_fits k x all e is = (fits_as k (order.Element x.lower x.span x.line) all e is).2
 
     cases : (b : Block) → IsBlock b (o ∷ os) → BlockFits b o
     cases (block.Within n) sh = tt
@@ -169,7 +201,13 @@ fits_first o os fits = cases (block_at 0 (o ∷ os)) (shape (o ∷ os))
     cases (block.Divide w line) sh = (fits_as 1 (order.Const w) _ sh.0 refl).0
     cases (block.Operate s u) sh =
         let rest = drop (suc (length (operand_orders s))) os in
-        (simple_fits s u rest sh, (fits_as (suc (length (operand_orders s))) (order_of u) _ sh (behind_these (operand_orders s) (order_of u) rest)).2)
+        (simple_fits s u rest sh.0, (fits_as (suc (length (operand_orders s))) (order_of u) _ sh.0 (behind_these (operand_orders s) (order_of u) rest)).2)
+    cases (block.FetchPart x t b is_signed) sh = (part_of t b sh.1).1
+    cases (block.AssignPart x t b) sh = (part_of t b sh.1).1
+    cases (block.FetchElement e) sh = element_fits (length (address_orders e.index) + 3) e _ sh.0 (element_front e order.Load (drop (length (element_orders e)) os))
+    cases (block.AssignElement e) sh = element_fits (suc (length (address_orders e.index) + 3)) e _ sh.0 (element_front e order.Store (drop (suc (length (element_orders e))) os))
+    cases (block.Count down line) sh = subst (λ n. n < 65536) (count_line down line) (fits_as 2 (count_order down line) _ sh refl).2
+    cases (block.Halve w power places line) sh = few_places w power places sh.1
 
 fits_front : (left : ℕ) (o : Order) (os : List Order) → AllFit (o ∷ os) → BlockFits (block_at left (o ∷ os)) o
 fits_front zero o os fits = fits_first o os fits
@@ -276,23 +314,37 @@ module _ (p : OrderProgram) (segment next : ℕ) (value : Filling) (fills : Fill
   word_fine : (stop line w : ℕ) (i : Instr) → stop < length places_of_entries → line < 65536 → w < 65536 → IsInstr i → AllFine value (with_word stop line w i)
   word_fine stop line w i lt small word instr = ((is_bx, word), (instr, stop_fine stop line lt small))
 
-  taken_fine : (t b : ℕ) → t + b ≤ 16 → AllFine value (taken t b)
-  taken_fine t b room =
-      let power : 2 ^ t ≤ 2 ^ 16 = pow_mono (let h : t ≤ 16 = omega arith in h) in
-      ((cx_register, omega arith), ((lit< tt, λ e. omega arith, is_ax), ((is_bx, (let x : 2 ^ t - 1 < 65536 = omega arith in x)), ((lit< tt, is_ax, is_bx), tt))))
+  -- a shift of AX
+  shifted_fine : (once by_count : Instr) (n : ℕ) → IsInstr once → IsInstr by_count → n < 65536 → AllFine value (shifted once by_count n)
+  shifted_fine once by_count zero one many small = tt
+  shifted_fine once by_count (suc zero) one many small = (one, tt)
+  shifted_fine once by_count (suc (suc n)) one many small = ((cx_register, small), (many, tt))
 
-  taken_signed_fine : (t b : ℕ) → AllFine value (taken_signed t b)
-  taken_signed_fine t b = ((cx_register, (let x : 16 - (t + b) < 65536 = omega arith in x)), ((lit< tt, λ e. omega arith, is_ax), ((cx_register, (let x : 16 - t < 65536 = omega arith in x)), ((lit< tt, λ e. omega arith, is_ax), tt))))
+  up_fine : (n : ℕ) → n ≤ 16 → AllFine value (shifted_up n)
+  up_fine n few = shifted_fine (shift_up_once 0) (shift_up 0) n (lit< tt, λ e. omega arith, is_ax) (lit< tt, λ e. omega arith, is_ax) (omega arith)
+
+  down_fine : (n : ℕ) → n ≤ 16 → AllFine value (shifted_down n)
+  down_fine n few = shifted_fine (shift_down_once 0) (shift_down 0) n (lit< tt, λ e. omega arith, is_ax) (lit< tt, λ e. omega arith, is_ax) (omega arith)
+
+  down_signed_fine : (n : ℕ) → n ≤ 16 → AllFine value (shifted_down_signed n)
+  down_signed_fine n few = shifted_fine (shift_down_signed_once 0) (shift_down_signed 0) n (lit< tt, λ e. omega arith, is_ax) (lit< tt, λ e. omega arith, is_ax) (omega arith)
+
+  lowest_fine : (whole : Bool) (t : ℕ) → t ≤ 16 → AllFine value (lowest_if whole t)
+  lowest_fine true t few = tt
+  lowest_fine false t few = let power : 2 ^ t ≤ 2 ^ 16 = pow_mono few in ((lit< tt, (let x : 2 ^ t - 1 < 65536 = omega arith in x)), tt)
+
+  taken_fine : (t b : ℕ) → t + b ≤ 16 → AllFine value (taken t b)
+  taken_fine t b room = all_fine-append value (shifted_down b) (lowest_if (t + b == 16) t) (down_fine b (omega arith)) (lowest_fine (t + b == 16) t (omega arith))
+
+  part_fine : (t b : ℕ) (is_signed : Bool) → t + b ≤ 16 → AllFine value (part_taken t b is_signed)
+  part_fine t b true room = all_fine-append value (shifted_up (16 - (t + b))) (shifted_down_signed (16 - t)) (up_fine (16 - (t + b)) (omega arith)) (down_signed_fine (16 - t) (omega arith))
+  part_fine t b false room = taken_fine t b room
 
   store_part_fine : (t b : ℕ) → t + b ≤ 16 → AllFine value (store_part t b)
   store_part_fine t b room =
-      let small = mask_small t b room in
-      let ahead : AllFine value (coded.Whole (either 2 0) ∷ coded.Whole (store at_bx 2) ∷ []) = ((lit< tt, dx_register, is_ax), ((dx_register, (lit< tt, λ e. omega arith)), tt)) in
-      let others : AllFine value (coded.Whole (load 2 at_bx) ∷ coded.Whole (set_word 1 (65535 - field_mask t b)) ∷ coded.Whole (both 2 1) ∷ coded.Whole (either 2 0) ∷ coded.Whole (store at_bx 2) ∷ []) =
-      ((dx_register, (lit< tt, λ e. omega arith)), ((cx_register, (let x : 65535 - field_mask t b < 65536 = omega arith in x)), ((lit< tt, dx_register, cx_register), ahead))) in
-      let part : AllFine value (coded.Whole (set_word 1 (field_mask t b)) ∷ coded.Whole (both 0 1) ∷ coded.Whole (load 2 at_bx) ∷ coded.Whole (set_word 1 (65535 - field_mask t b)) ∷ coded.Whole (both 2 1) ∷ coded.Whole (either 2 0) ∷ coded.Whole (store at_bx 2) ∷ []) =
-      ((cx_register, small), ((lit< tt, is_ax, cx_register), others)) in
-      ((is_bx, is_ax), (ax_free, ((lit< tt, λ e. omega arith, is_bx), ((cx_register, (let x : b < 65536 = omega arith in x)), ((lit< tt, λ e. omega arith, is_ax), part)))))
+      let changes : AllFine value (coded.Whole (operate 6 0 at_bx) ∷ coded.Whole (with_number 4 (field_mask t b)) ∷ coded.Whole (change 6 at_bx 0) ∷ []) =
+      ((lit< tt, is_ax, (lit< tt, λ e. omega arith)), ((lit< tt, mask_small t b room), ((lit< tt, is_ax, (lit< tt, λ e. omega arith)), tt))) in
+      ((is_bx, is_ax), (ax_free, ((lit< tt, λ e. omega arith, is_bx), all_fine-append value (shifted_up b) _ (up_fine b (omega arith)) changes)))
 
   power_small : (n k : ℕ) → n ≤ k → k ≤ 15 → 2 ^ n < 65536
   power_small n k le few = let power : 2 ^ n ≤ 2 ^ 15 = pow_mono (let h : n ≤ 15 = omega arith in h) in omega arith
@@ -474,8 +526,7 @@ module _ (p : OrderProgram) (segment next : ℕ) (value : Filling) (fills : Fill
   template_fine names place (order.Add line) fits = (bx_free, ((lit< tt, is_ax, is_bx), checked_fine line fits.2))
   template_fine names place (order.Sub line) fits = ((is_bx, is_ax), (ax_free, ((lit< tt, is_ax, is_bx), checked_fine line fits.2)))
   template_fine names place (order.Neg line) fits = ((lit< tt, lit< tt, is_ax), checked_fine line fits.2)
-  template_fine names place (order.LoadPart t b true) fits = all_fine-append value load_top (taken_signed t b) load_fine (taken_signed_fine t b)
-  template_fine names place (order.LoadPart t b false) fits = all_fine-append value load_top (taken t b) load_fine (taken_fine t b fits.1.1)
+  template_fine names place (order.LoadPart t b is_signed) fits = all_fine-append value load_top (part_taken t b is_signed) load_fine (part_fine t b is_signed fits.1.1)
   template_fine names place (order.StorePart t b) fits = store_part_fine t b fits.1.1
   template_fine names place (order.Rescale from to line) fits = rescale_fine (nat_le from to) (2 ^ (to - from) == 32768) line from to fits.2 fits.1.0 fits.1.1
   template_fine names place (order.Mul s line) fits = product_fine line fits.2 s fits.1
@@ -550,14 +601,31 @@ module _ (p : OrderProgram) (segment next : ℕ) (value : Filling) (fills : Fill
   operate_place_fine op (cell.Word f n) lt = (lt, is_ax, bytes_filled f n)
   operate_place_fine op (cell.Frame n) lt = (lt, is_ax, (lit< tt, field_fine n))
 
+  change_place_fine : (op : ℕ) (x : Place) → op < 8 → IsFine value (change_place op x)
+  change_place_fine op (cell.Word f n) lt = (lt, is_ax, bytes_filled f n)
+  change_place_fine op (cell.Frame n) lt = (lt, is_ax, (lit< tt, field_fine n))
+
+  -- the address of an element
+  index_fine : (x : Place) (family offset : ℕ) → AllFine value (index_added x family offset)
+  index_fine (cell.Word f n) family offset = ((lit< tt, home_filled family offset), ((lit< tt, lit< tt, bytes_filled f n), tt))
+  index_fine (cell.Frame n) family offset = ((is_bx, (lit< tt, lit< tt)), ((lit< tt, λ e. omega arith, is_bx), ((lit< tt, home_filled family offset), ((lit< tt, lit< tt, (lit< tt, field_fine n)), tt))))
+
+  element_address_fine : (e : Element) → e.line < 65536 → AllFine value (element_address e)
+  element_address_fine e small =
+      all_fine-append value (index_added e.index e.family e.zero) _ (index_fine e.index e.family e.zero)
+      ((lit< tt, lit< tt, lit< tt), ((lit< tt, lit< tt), all_fine-append value (call_stop address_entry e.line) (coded.Whole (double 6) ∷ []) (call_stop_fine address_entry e.line (lit< tt) small) ((lit< tt, λ e. omega arith, lit< tt), tt)))
+
   with_operand_fine : (op : ℕ) (s : Simple) → op < 8 → SimpleFits s → AllFine value (with_operand op s)
   with_operand_fine op (simple.Number w) lt fits = ((lt, fits), tt)
   with_operand_fine op (simple.Contents x) lt fits = all_fine-append value (address_pieces x) (operate_place op x ∷ []) (address_fine x) (operate_place_fine op x lt, tt)
+  with_operand_fine op (simple.Element e) lt fits = all_fine-append value (element_address e) (coded.Whole (operate op 0 at_si) ∷ []) (element_address_fine e fits) ((lt, is_ax, (lit< tt, λ e. omega arith)), tt)
 
   product_with_fine : (s : Simple) → SimpleFits s → AllFine value (product_with s)
   product_with_fine (simple.Number w) fits = ((is_bx, fits), ((lit< tt, lit< tt, is_bx), tt))
   product_with_fine (simple.Contents x) fits =
       ((cx_register, is_ax), all_fine-append value (address_pieces x) (load_place x ∷ coded.Whole (multiply 1) ∷ []) (address_fine x) (load_place_fine x, ((lit< tt, lit< tt, cx_register), tt)))
+  product_with_fine (simple.Element e) fits =
+      ((cx_register, is_ax), all_fine-append value (element_address e) (coded.Whole (load 0 at_si) ∷ coded.Whole (multiply 1) ∷ []) (element_address_fine e fits) ((is_ax, (lit< tt, λ e. omega arith)), ((lit< tt, lit< tt, cx_register), tt)))
 
   operated_fine : (names : Names) (place : ℕ) (s : Simple) (u : Use) → SimpleFits s → line_of (order_of u) < 65536 → AllFine value (operated names place s u)
   operated_fine names place s (uses.Add line) fits small = all_fine-append value (with_operand 0 s) (checked line) (with_operand_fine 0 s (lit< tt) fits) (checked_fine line small)
@@ -578,3 +646,13 @@ module _ (p : OrderProgram) (segment next : ℕ) (value : Filling) (fills : Fill
   block_fine names place block.Write o fits = (lit< tt, tt)
   block_fine names place (block.Divide w line) o fits = ((is_bx, fits), (tt, ((lit< tt, lit< tt, is_bx), tt)))
   block_fine names place (block.Operate s u) o fits = operated_fine names place s u fits.0 fits.1
+  block_fine names place (block.FetchPart x t b is_signed) o fits =
+      all_fine-append value (address_pieces x) (load_place x ∷ part_taken t b is_signed) (address_fine x) (load_place_fine x, part_fine t b is_signed fits)
+  block_fine names place (block.AssignPart x t b) o fits =
+      all_fine-append value (shifted_up b) _ (up_fine b (omega arith))
+      (all_fine-append value (address_pieces x) _ (address_fine x) (operate_place_fine 6 x (lit< tt), ((lit< tt, mask_small t b fits), (change_place_fine 6 x (lit< tt), tt))))
+  block_fine names place (block.FetchElement e) o fits = all_fine-append value (element_address e) (coded.Whole (load 0 at_si) ∷ []) (element_address_fine e fits) ((is_ax, (lit< tt, λ e. omega arith)), tt)
+  block_fine names place (block.AssignElement e) o fits = all_fine-append value (element_address e) (coded.Whole (store at_si 0) ∷ []) (element_address_fine e fits) ((is_ax, (lit< tt, λ e. omega arith)), tt)
+  block_fine names place (block.Count true line) o fits = (is_ax, checked_fine line fits)
+  block_fine names place (block.Count false line) o fits = (is_ax, checked_fine line fits)
+  block_fine names place (block.Halve w power places line) o fits = down_signed_fine places (omega arith)

@@ -1,20 +1,22 @@
 -- Orders in their blocks.
 use Rattle.std.proofs.Common.{◌≡◌, ℕ, zero, suc, ◌+◌, List, [], ◌∷◌, ◌++◌, length, drop, Option, Some, None, ◌<◌, ◌≤◌, refl, sym, ap, ◌∙◌, subst, arith, Bool, true, false}
-use Rattle.std.specs.Prelude.{slice_get, if◌then◌else◌, pos}
-use Rattle.cw_unit.specs.Words.{Words, Outcome, Changed, Refused, Impossible, Word, Held, Operand, put, through, is_below, word_at, number_of, with_operands}
-use Rattle.cw_unit.specs.Operation.{Fetch, perform}
-use Rattle.cw_unit.specs.Stop.{StopKind}
+use Rattle.std.specs.Prelude.{slice_get, if◌then◌else◌, ℤ, pos, ◌+ℤ◌, ◌-ℤ◌, min}
+use Rattle.cw_word.specs.FixedPoint.{fits_word}
+use Rattle.cw_unit.specs.Words.{Words, Outcome, Changed, Refused, Impossible, Word, Held, Operand, put, put_if, through, is_below, word_at, number_of, with_operands}
+use Rattle.cw_unit.specs.Operation.{Fetch, Indexed, fitting, perform}
+use Rattle.cw_unit.specs.Stop.{StopKind, AddressRange}
 use Rattle.cw_word.specs.Word.{signed}
 use Rattle.cw_order.specs.declared.order.Order.{Order}
 use Rattle.cw_order.specs.declared.order.Order.TheVariants as order
 use Rattle.cw_order.specs.OrderProgram.{OrderProgram}
 use Rattle.cw_order.specs.OrderState.{OrderActivation, frame_word}
-use Rattle.cw_order.specs.OrderChanges.{put_address}
+use Rattle.cw_order.specs.OrderChanges.{put_address, from_base}
 use Rattle.cw_order.specs.OrderActions.{home_word}
 use Rattle.cw_order.specs.Loading.{loaded_after}
 use Rattle.cw_order.specs.OrderMachine.{unrefused}
 use Rattle.cw_tmpl.specs.declared.blocks.Place.{Place}
 use Rattle.cw_tmpl.specs.declared.blocks.Place.TheVariants as cell
+use Rattle.cw_tmpl.specs.declared.blocks.Element.{Element}
 use Rattle.cw_tmpl.specs.declared.blocks.Simple.{Simple}
 use Rattle.cw_tmpl.specs.declared.blocks.Simple.TheVariants as simple
 use Rattle.cw_tmpl.specs.declared.blocks.Use.{Use}
@@ -22,7 +24,7 @@ use Rattle.cw_tmpl.specs.declared.blocks.Use.TheVariants as uses
 use Rattle.cw_tmpl.specs.declared.blocks.Block.{Block}
 use Rattle.cw_tmpl.specs.declared.blocks.Block.TheVariants as block
 use Rattle.cw_follow.specs.Placing.{StandsBehind}
-use Rattle.cw_tmpl.specs.Blocks.{address_orders, operand_orders, order_of, block_at, orders_left, left_at}
+use Rattle.cw_tmpl.specs.Blocks.{address_orders, element_orders, operand_orders, order_of, count_order, block_at, orders_left, left_at}
 use Rattle.cw_tmpl.proofs.Shapes.{front_is, IsBlock, shape}
 use Rattle.cw_tmpl.proofs.Sizes.{size_to}
 
@@ -86,9 +88,17 @@ place_stands : (x : Place) → Each StandsBehind (address_orders x)
 place_stands (cell.Word f n) = (tt, tt)
 place_stands (cell.Frame n) = (tt, tt)
 
+element_stands : (e : Element) → Each StandsBehind (element_orders e)
+element_stands e = each_of_both StandsBehind (address_orders e.index) (order.Load ∷ order.Save ∷ order.Home e.family e.first ∷ order.Element e.lower e.span e.line ∷ []) (place_stands e.index) (tt, (tt, (tt, (tt, tt))))
+
 operand_stands : (s : Simple) → Each StandsBehind (operand_orders s)
 operand_stands (simple.Number w) = (tt, tt)
 operand_stands (simple.Contents x) = each_of_both StandsBehind (address_orders x) (order.Load ∷ []) (place_stands x) (tt, tt)
+operand_stands (simple.Element e) = each_of_both StandsBehind (element_orders e) (order.Load ∷ []) (element_stands e) (tt, tt)
+
+count_stands : (down : Bool) (line : ℕ) → StandsBehind (count_order down line)
+count_stands true line = tt
+count_stands false line = tt
 
 use_stands : (u : Use) → StandsBehind (order_of u)
 use_stands (uses.Add line) = tt
@@ -103,9 +113,10 @@ ends_with : (xs : List Order) (last : Order) (rest : List Order) → Each Stands
 ends_with [] last rest f h = (h, tt)
 ends_with (o ∷ os) last rest f h = (f.0, ends_with os last rest f.1 h)
 
-fetch_ends : (x : Place) (rest : List Order) → AllEnd (length (address_orders x)) (drop 1 (address_orders x ++ order.Load ∷ rest))
-fetch_ends (cell.Word f n) rest = (tt, tt)
-fetch_ends (cell.Frame n) rest = (tt, tt)
+-- where the first one begins the block
+ends_behind : (xs : List Order) (last : Order) (rest : List Order) → Each StandsBehind xs → StandsBehind last → AllEnd (length xs) (drop 1 (xs ++ last ∷ rest))
+ends_behind [] last rest f h = tt
+ends_behind (o ∷ os) last rest f h = ends_with os last rest f.1 h
 
 -- the orders behind the first one of a list end within its block
 first_ends : (o : Order) (os : List Order) → AllEnd (orders_left (block_at 0 (o ∷ os))) os
@@ -117,11 +128,19 @@ first_ends o os = cases (block_at 0 (o ∷ os)) (shape (o ∷ os))
     cases : (b : Block) → IsBlock b (o ∷ os) → AllEnd (orders_left b) os
     cases (block.Within n) sh = absurd sh
     cases block.Single sh = tt
-    cases (block.Fetch x) sh = ends_so (length (address_orders x)) _ sh (fetch_ends x (drop (length (address_orders x)) os))
+    cases (block.Fetch x) sh = ends_so (length (address_orders x)) _ sh (ends_behind (address_orders x) order.Load (drop (length (address_orders x)) os) (place_stands x) tt)
     cases (block.Assign x) sh = ends_so (suc (length (address_orders x))) _ sh (ends_with (address_orders x) order.Store (drop (suc (length (address_orders x))) os) (place_stands x) tt)
     cases block.Write sh = ends_so 1 _ sh (tt, tt)
     cases (block.Divide w line) sh = ends_so 2 _ sh.0 (tt, (tt, tt))
-    cases (block.Operate s u) sh = ends_so (suc (length (operand_orders s))) _ sh (ends_with (operand_orders s) (order_of u) (drop (suc (length (operand_orders s))) os) (operand_stands s) (use_stands u))
+    cases (block.Operate s u) sh = ends_so (suc (length (operand_orders s))) _ sh.0 (ends_with (operand_orders s) (order_of u) (drop (suc (length (operand_orders s))) os) (operand_stands s) (use_stands u))
+    cases (block.FetchPart x t b is_signed) sh =
+        ends_so (length (address_orders x)) _ sh.0 (ends_behind (address_orders x) (order.LoadPart t b is_signed) (drop (length (address_orders x)) os) (place_stands x) tt)
+    cases (block.AssignPart x t b) sh =
+        ends_so (suc (length (address_orders x))) _ sh.0 (ends_with (address_orders x) (order.StorePart t b) (drop (suc (length (address_orders x))) os) (place_stands x) tt)
+    cases (block.FetchElement e) sh = ends_so (length (element_orders e)) _ sh.0 (ends_behind (element_orders e) order.Load (drop (length (element_orders e)) os) (element_stands e) tt)
+    cases (block.AssignElement e) sh = ends_so (suc (length (element_orders e))) _ sh.0 (ends_with (element_orders e) order.Store (drop (suc (length (element_orders e))) os) (element_stands e) tt)
+    cases (block.Count down line) sh = ends_so 2 _ sh (tt, (count_stands down line, tt))
+    cases (block.Halve w power places line) sh = ends_so 2 _ sh.0 (tt, (tt, tt))
 
 next_ends : (left : ℕ) (o : Order) (os : List Order) → AllEnd left (o ∷ os) → AllEnd (orders_left (block_at left (o ∷ os))) os
 next_ends zero o os h = first_ends o os
@@ -164,6 +183,7 @@ module _ (p : OrderProgram) (g : ℕ) (acts : List OrderActivation) where
   puts_word (order.Home f n) w = Changed (put (signed (home_word p.addresses g f n)) w)
   puts_word (order.FrameHome n) w = put_address (frame_word acts n) w
   puts_word order.Load w = unrefused (perform p.limits.area (Fetch None) w)
+  puts_word (order.Element lower span line) w = from_base p.limits.area (λ base. Indexed base lower) w
   puts_word _ w = Impossible
 
   abbrev pub silently : ℕ → List Order → Words → Outcome
@@ -205,34 +225,74 @@ loaded_next (suc n) (x ∷ xs) o m e = cases (λ v. loaded_next n xs o v e) (loa
     cases each (Some v) = each v
     cases each None = refl
 
--- no stop comes of it, and nothing is written
-pub record IsSilent (w : Words) (o : Outcome) : Type 0 where
-  pub stops : (kind : StopKind) → o ≡ Refused kind → ⊥
-  pub wrote : (v : Words) → o ≡ Changed v → v.output ≡ w.output
+-- the orders that can stand in a block before its last one and never stop
+abbrev pub Puts : Order → Type 0
+Puts order.Save = Unit {0}
+Puts (order.Const x) = Unit {0}
+Puts (order.Home f n) = Unit {0}
+Puts (order.FrameHome n) = Unit {0}
+Puts order.Load = Unit {0}
+Puts _ = ⊥
 
-impossible_silent : (w : Words) → IsSilent w Impossible
-impossible_silent w = record { stops = λ kind e. absurd (cc); wrote = λ v e. absurd (cc) }
+-- no stop comes of it
+abbrev Silent : Outcome → Type 0
+Silent o = (kind : StopKind) → o ≡ Refused kind → ⊥
 
-changed_silent : (w u : Words) → u.output ≡ w.output → IsSilent w (Changed u)
-changed_silent w u same = record { stops = λ kind e. absurd (cc); wrote = λ v e. let is : u ≡ v = cc in ap (λ x. x.output) (sym is) ∙ same }
-
-load_silent : (area : ℕ) (operands : List Operand) (w : Words) → IsSilent w (unrefused (perform area (Fetch None) (with_operands w operands)))
-load_silent area [] w = impossible_silent w
-load_silent area (Held c ∷ rest) w = impossible_silent w
-load_silent area (Word a ∷ rest) w = cases (is_below a area)
+load_silent : (area : ℕ) (operands : List Operand) (w : Words) → Silent (unrefused (perform area (Fetch None) (with_operands w operands)))
+load_silent area [] w kind e = cc
+load_silent area (Held c ∷ rest) w kind e = cc
+load_silent area (Word a ∷ rest) w kind e = cases (is_below a area) e
   where
-    cases : (b : Bool) → IsSilent w (unrefused (through b (λ i v. Changed (put (word_at v.memory i) v)) a (with_operands w rest)))
-    cases true = changed_silent w (put (word_at w.memory (number_of a)) (with_operands w rest)) refl
-    cases false = impossible_silent w
+    cases : (b : Bool) → unrefused (through b (λ i v. Changed (put (word_at v.memory i) v)) a (with_operands w rest)) ≡ Refused kind → ⊥
+    cases true e = cc
+    cases false e = cc
 
-address_silent : (a : Option ℕ) (w : Words) → IsSilent w (put_address a w)
-address_silent None w = impossible_silent w
-address_silent (Some a) w = changed_silent w (put (signed a) w) refl
+address_silent : (a : Option ℕ) (w : Words) → Silent (put_address a w)
+address_silent None w kind e = cc
+address_silent (Some a) w kind e = cc
 
-pub is_silent : (p : OrderProgram) (g : ℕ) (acts : List OrderActivation) (o : Order) (w : Words) → IsSilent w (puts_word p g acts o w)
-is_silent p g acts order.Save w = changed_silent w w refl
-is_silent p g acts (order.Const n) w = changed_silent w (put (signed n) w) refl
-is_silent p g acts (order.Home f n) w = changed_silent w (put (signed (home_word p.addresses g f n)) w) refl
-is_silent p g acts (order.FrameHome n) w = address_silent (frame_word acts n) w
-is_silent p g acts order.Load w = load_silent p.limits.area w.operands w
-is_silent p g acts _ w = impossible_silent w
+pub never_refused : (p : OrderProgram) (g : ℕ) (acts : List OrderActivation) (o : Order) → Puts o → (w : Words) → Silent (puts_word p g acts o w)
+never_refused p g acts order.Save h w kind e = cc
+never_refused p g acts (order.Const n) h w kind e = cc
+never_refused p g acts (order.Home f n) h w kind e = cc
+never_refused p g acts (order.FrameHome n) h w kind e = address_silent (frame_word acts n) w kind e
+never_refused p g acts order.Load h w kind e = load_silent p.limits.area w.operands w kind e
+never_refused p g acts _ h w kind e = h
+
+-- nothing is written
+abbrev Unwritten : Words → Outcome → Type 0
+Unwritten w o = (v : Words) → o ≡ Changed v → v.output ≡ w.output
+
+load_unwritten : (area : ℕ) (operands : List Operand) (w : Words) → Unwritten w (unrefused (perform area (Fetch None) (with_operands w operands)))
+load_unwritten area [] w v e = absurd (cc)
+load_unwritten area (Held c ∷ rest) w v e = absurd (cc)
+load_unwritten area (Word a ∷ rest) w v e = cases (is_below a area) e
+  where
+    cases : (b : Bool) → unrefused (through b (λ i t. Changed (put (word_at t.memory i) t)) a (with_operands w rest)) ≡ Changed v → v.output ≡ w.output
+    cases true e = let same : put (word_at w.memory (number_of a)) (with_operands w rest) ≡ v = cc in ap (λ x. x.output) (sym same)
+    cases false e = absurd (cc)
+
+address_unwritten : (a : Option ℕ) (w : Words) → Unwritten w (put_address a w)
+address_unwritten None w v e = absurd (cc)
+address_unwritten (Some a) w v e = let same : put (signed a) w ≡ v = cc in ap (λ x. x.output) (sym same)
+
+element_unwritten : (area : ℕ) (lower : ℤ) (operands : List Operand) (w : Words) → Unwritten w (from_base area (λ base. Indexed base lower) (with_operands w operands))
+element_unwritten area lower [] w v e = absurd (cc)
+element_unwritten area lower (Held c ∷ rest) w v e = absurd (cc)
+element_unwritten area lower (Word base ∷ []) w v e = absurd (cc)
+element_unwritten area lower (Word base ∷ Held c ∷ rest) w v e = absurd (cc)
+element_unwritten area lower (Word base ∷ Word i ∷ rest) w v e = cases (fits_word (i -ℤ lower)) (is_below (base +ℤ (i -ℤ lower)) (min area 32768)) e
+  where
+    cases : (fits below : Bool) → fitting fits (put_if below AddressRange (base +ℤ (i -ℤ lower)) (with_operands w rest)) ≡ Changed v → v.output ≡ w.output
+    cases true true e = let same : put (base +ℤ (i -ℤ lower)) (with_operands w rest) ≡ v = cc in ap (λ x. x.output) (sym same)
+    cases true false e = absurd (cc)
+    cases false below e = absurd (cc)
+
+pub never_writes : (p : OrderProgram) (g : ℕ) (acts : List OrderActivation) (o : Order) (w : Words) → Unwritten w (puts_word p g acts o w)
+never_writes p g acts order.Save w v e = let same : w ≡ v = cc in ap (λ x. x.output) (sym same)
+never_writes p g acts (order.Const n) w v e = let same : put (signed n) w ≡ v = cc in ap (λ x. x.output) (sym same)
+never_writes p g acts (order.Home f n) w v e = let same : put (signed (home_word p.addresses g f n)) w ≡ v = cc in ap (λ x. x.output) (sym same)
+never_writes p g acts (order.FrameHome n) w v e = address_unwritten (frame_word acts n) w v e
+never_writes p g acts order.Load w v e = load_unwritten p.limits.area w.operands w v e
+never_writes p g acts (order.Element lower span line) w v e = element_unwritten p.limits.area lower w.operands w v e
+never_writes p g acts _ w v e = absurd (cc)

@@ -1,7 +1,8 @@
 pub mod Standing
+pub mod WordLaws
+pub mod Halves
 pub mod Fine
 pub mod Placement
-pub mod WordLaws
 pub mod Fields
 pub mod RoutineLaws
 pub mod Rows
@@ -11,6 +12,7 @@ pub mod Acting
 pub mod Routines
 pub mod Numbers
 pub mod Facts
+pub mod Shifts
 pub mod Straight
 pub mod Stacks
 pub mod Orders
@@ -19,6 +21,7 @@ pub mod Called
 pub mod Bits
 pub mod Addresses
 pub mod Elements
+pub mod Indexed
 pub mod Scales
 pub mod Divisions
 pub mod Inputs
@@ -33,6 +36,9 @@ pub mod Operating
 pub mod FrameBlocks
 pub mod BlockOrders
 pub mod UseBlocks
+pub mod ElementBlocks
+pub mod PartBlocks
+pub mod NumberBlocks
 pub mod Bodies
 pub mod Dispatch
 pub mod Leaving

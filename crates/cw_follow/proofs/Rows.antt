@@ -8,7 +8,7 @@ use Rattle.cw_i86.specs.declared.instr.Imm.TheVariants as imm
 use Rattle.cw_i86.specs.declared.instr.Rm.TheVariants as rms
 use Rattle.cw_i86.specs.declared.instr.Place.TheVariants as places
 use Rattle.cw_run86.specs.Processor.{Processor, processor_step, processor_start, observed, with_given}
-use Rattle.cw_run86.specs.Views.{View, Sees, Has, Goes, IsTop, starting_view, register, on, with_place, with_register, with_result, with_cell, with_stack, with_told, sum_overflows, difference_overflows, word_sum, word_difference, with_other, with_memory, with_number, Compared, Compares, Comparison, condition_of, words_compare, word_up, word_down, word_down_signed, shift_overflow, product_low, product_high, product_overflows, with_pair, double_overflows, with_overflow, sign_of}
+use Rattle.cw_run86.specs.Views.{View, Sees, Has, Goes, IsTop, starting_view, register, on, with_place, with_register, with_result, with_cell, with_stack, with_told, sum_overflows, difference_overflows, word_sum, word_difference, with_other, with_memory, with_number, Compared, Compares, Comparison, condition_of, words_compare, word_down_signed, shift_overflow, product_low, product_high, product_overflows, with_pair, double_overflows, with_overflow, sign_of}
 use Rattle.cw_word.specs.FixedPoint.{FitsWord, scaled_quotient}
 use Rattle.cw_word.specs.Word.{unsigned}
 use Rattle.cw_i86.specs.Encoding.{bytes_of}
@@ -50,8 +50,6 @@ pub record Rows : Type 0 where
   pub both : (code : List ℕ) (v : View) (r q : ℕ) → Has code v.place (i86.AluRm 4 true true r (rms.Reg q)) → Goes code v (with_result r (bit_and (register v r) (register v q)) false (on (i86.AluRm 4 true true r (rms.Reg q)) v))
   pub either : (code : List ℕ) (v : View) (r q : ℕ) → Has code v.place (i86.AluRm 1 true true r (rms.Reg q)) → Goes code v (with_result r (bit_or (register v r) (register v q)) false (on (i86.AluRm 1 true true r (rms.Reg q)) v))
   pub one : (code : List ℕ) (v : View) (r q : ℕ) → Has code v.place (i86.AluRm 6 true true r (rms.Reg q)) → Goes code v (with_result r (bit_xor (register v r) (register v q)) false (on (i86.AluRm 6 true true r (rms.Reg q)) v))
-  pub shift_up : (code : List ℕ) (v : View) (r : ℕ) → Has code v.place (i86.Shift 4 true true (rms.Reg r)) → register v r < 65536 → Goes code v (with_result r (word_up (register v r) (register v 1 % 256)) (shift_overflow 4 (register v r) (register v 1 % 256) v.overflow) (on (i86.Shift 4 true true (rms.Reg r)) v))
-  pub shift_down : (code : List ℕ) (v : View) (r : ℕ) → Has code v.place (i86.Shift 5 true true (rms.Reg r)) → Goes code v (with_result r (word_down (register v r) (register v 1 % 256)) (shift_overflow 5 (register v r) (register v 1 % 256) v.overflow) (on (i86.Shift 5 true true (rms.Reg r)) v))
   pub shift_down_signed : (code : List ℕ) (v : View) (r : ℕ) → Has code v.place (i86.Shift 7 true true (rms.Reg r)) → register v r < 65536 → Goes code v (with_result r (word_down_signed (register v r) (register v 1 % 256)) (shift_overflow 7 (register v r) (register v 1 % 256) v.overflow) (on (i86.Shift 7 true true (rms.Reg r)) v))
   pub multiply : (code : List ℕ) (v : View) (r : ℕ) → Has code v.place (i86.Unary 5 true (rms.Reg r)) → Goes code v (with_overflow (product_overflows (register v 0) (register v r)) (with_pair (product_low (register v 0) (register v r)) (product_high (register v 0) (register v r)) (on (i86.Unary 5 true (rms.Reg r)) v)))
   pub extend : (code : List ℕ) (v : View) → Has code v.place i86.Cwd → Goes code v (with_register 2 (sign_of (register v 0)) (on i86.Cwd v))

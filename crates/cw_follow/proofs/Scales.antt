@@ -57,7 +57,7 @@ module _ (c : Setting) (memory : List ℤ) (input output : List ℕ) where
           (multiplied c memory input output b Overflow to n by 17 line x rest tt small is most fx e arrives (lit≤ tt) i l)
 
   -- a word rounded down to another scale always fits
-  put_shifted : (limit to line : ℕ) {p : Watched} (z : ℤ) (w : Words) → FitsWord z
+  pub put_shifted : (limit to line : ℕ) {p : Watched} (z : ℤ) (w : Words) → FitsWord z
       → DoesHere c memory input output limit to true line p (Changed (put z w)) → DoesHere c memory input output limit to true line p (put_value z w)
   put_shifted limit to line {p} z w f d = subst (λ b. DoesHere c memory input output limit to true line p (put_if b Overflow z w)) (sym (fits_true z f)) d
 
@@ -67,7 +67,7 @@ module _ (c : Setting) (memory : List ℤ) (input output : List ℕ) where
       let e : j % 256 ≡ j = omega arith in
       ap (word_down_signed a) e ∙ sym (c.rows.words.forth (word_down_signed a j) (c.rows.words.down_fits a j lt)) ∙ ap unsigned (c.rows.words.down a j lt)
 
-  shifted_fits : (a j : ℕ) → a < 65536 → FitsWord (floor_div (signed a) (2 ^ j))
+  pub shifted_fits : (a j : ℕ) → a < 65536 → FitsWord (floor_div (signed a) (2 ^ j))
   shifted_fits a j lt = subst FitsWord (c.rows.words.down a j lt) (c.rows.words.signed_fits (word_down_signed a j) (c.rows.words.down_fits a j lt))
 
   pub rescales_down : {p : Watched} {at : ℕ} (to line from scale : ℕ) (operands : List Operand)

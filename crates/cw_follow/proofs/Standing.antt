@@ -1,5 +1,5 @@
 -- Instructions and words that stand one after another in an image, and where those of each order do.
-use Rattle.std.proofs.Common.{◌≡◌, ℕ, suc, ◌+◌, true, false, List, [], ◌∷◌, drop, Some, None}
+use Rattle.std.proofs.Common.{◌≡◌, ℕ, suc, ◌+◌, true, false, List, [], ◌∷◌, ◌++◌, length, drop, Some, None, refl, ap, ◌∙◌, subst, arith, length-append}
 use Rattle.std.specs.Prelude.{slice_get}
 use Rattle.cw_i86.specs.declared.instr.Instr.TheVariants as i86
 use Rattle.cw_i86.specs.declared.instr.Imm.TheVariants as imm
@@ -11,13 +11,17 @@ use Rattle.cw_order.specs.declared.order.Orders.{Orders}
 use Rattle.cw_order.specs.OrderProgram.{OrderProgram}
 use Rattle.cw_tmpl.specs.declared.pieces.Coded.{Coded}
 use Rattle.cw_tmpl.specs.declared.pieces.Coded.TheVariants as coded
-use Rattle.cw_tmpl.specs.Pieces.{Filling, size_of, target_of, word_before}
-use Rattle.cw_tmpl.specs.Mnemonics.{entry_of_table}
+use Rattle.cw_tmpl.specs.declared.blocks.Place.{Place}
+use Rattle.cw_tmpl.specs.declared.blocks.Place.TheVariants as cell
+use Rattle.cw_tmpl.specs.declared.blocks.Element.{Element}
+use Rattle.cw_tmpl.specs.Pieces.{Filling, bytes_with, size_of, target_of, word_before, blanks}
+use Rattle.cw_tmpl.specs.Mnemonics.{si, di, entry_of_table, change_memory, compare, double, jump_if_below}
 use Rattle.cw_tmpl.specs.Names.{landing_start, switch_start}
-use Rattle.cw_tmpl.specs.Library.{entry_place}
+use Rattle.cw_tmpl.specs.Library.{entry_place, address_entry}
 use Rattle.cw_routines.specs.Ways.{HasWord}
 use Rattle.cw_routines.specs.Results.{Stands as LibraryStands}
-use Rattle.cw_tmpl.specs.Templates.{block_pieces, entry_pieces, landing_pieces, switch_pieces}
+use Rattle.cw_tmpl.specs.Templates.{block_pieces, entry_pieces, landing_pieces, switch_pieces, index_added, element_address, call_stop, index_size}
+use Rattle.cw_tmpl.proofs.Growing.{blanks-append}
 use Rattle.cw_tmpl.specs.Blocks.{block_at, left_at}
 use Rattle.cw_tmpl.specs.ReferenceCode.{names_of}
 use Rattle.cw_follow.specs.Placing.{Fills, base_of}
@@ -30,6 +34,7 @@ HasPiece code w place (coded.Move reg t) = Has code place (i86.MovImm reg (imm.W
 HasPiece code w place (coded.Load t) = Has code place (i86.MovAcc false true false w)
 HasPiece code w place (coded.Store t) = Has code place (i86.MovAcc false true true w)
 HasPiece code w place (coded.Operate op reg t) = Has code place (with_memory op reg w)
+HasPiece code w place (coded.Change op reg t) = Has code place (change_memory op w reg)
 HasPiece code w place (coded.Call t) = Has code place (i86.Call w)
 HasPiece code w place (coded.Jump t) = Has code place (i86.Jump w)
 HasPiece code w place (coded.Word t) = HasWord code place w
@@ -40,6 +45,27 @@ HasPiece code w place (coded.Way t) = Has code place (i86.JumpRm (entry_of_table
 abbrev pub HasPieces : List ℕ → Filling → ℕ → List Coded → Type 0
 HasPieces code value at [] = Unit {0}
 HasPieces code value at (p ∷ ps) = HasPiece code (word_before value (at + size_of p) (target_of p)) at p × HasPieces code value (at + size_of p) ps
+
+-- two pieces of code, one behind the other
+pub appended_long : (a b : List Coded) → length (blanks (a ++ b)) ≡ length (blanks a) + length (blanks b)
+appended_long a b = ap length (blanks-append a b) ∙ length-append (blanks a) (blanks b)
+
+pub stand_both : (code : List ℕ) (value : Filling) (at : ℕ) (ps qs : List Coded) → HasPieces code value at (ps ++ qs) → HasPieces code value at ps × HasPieces code value (at + length (blanks ps)) qs
+stand_both code value at [] qs h = let here : at ≡ at + 0 = omega arith in (tt, subst (λ n. HasPieces code value n qs) here h)
+stand_both code value at (p ∷ ps) qs h =
+    let rest = stand_both code value (at + size_of p) ps qs h.1 in
+    let there : at + size_of p + length (blanks ps) ≡ at + length (blanks (p ∷ ps)) = omega (arith, length-append (bytes_with 0 p) (blanks ps)) in
+    ((h.0, rest.0), subst (λ n. HasPieces code value n qs) there rest.1)
+
+-- the bytes of an element's address
+index_long : (x : Place) (family offset : ℕ) → length (blanks (index_added x family offset)) ≡ index_size x
+index_long (cell.Word f n) family offset = refl
+index_long (cell.Frame n) family offset = refl
+
+pub address_long : (e : Element) → length (blanks (element_address e)) ≡ index_size e.index + 11
+address_long e =
+    let tested : List Coded = coded.Whole (compare si di) ∷ coded.Whole (jump_if_below 5) ∷ (call_stop address_entry e.line ++ coded.Whole (double si) ∷ []) in
+    omega (arith, appended_long (index_added e.index e.family e.zero) tested, index_long e.index e.family e.zero)
 
 -- where the code of the order at a place of the list begins in the image
 abbrev pub order_place : (base : ℕ) → List Order → (place : ℕ) → ℕ

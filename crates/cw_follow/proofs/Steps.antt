@@ -10,7 +10,7 @@ use Rattle.cw_track.proofs.Simulations.{Quiet, Followed}
 use Rattle.cw_follow.proofs.Watched.{Watched, watched_machine}
 use Rattle.cw_unit.specs.Begun.{Begun}
 use Rattle.cw_unit.specs.Behaviour.{Observation}
-use Rattle.cw_unit.specs.Stop.{Running, Stopped, Stuck}
+use Rattle.cw_unit.specs.Stop.{StopKind, Running, Stopped, Stuck}
 use Rattle.cw_unit.specs.Words.{Operand, Word, Held, Words, Outcome, Changed, Refused, Impossible, with_operands}
 use Rattle.cw_unit.specs.Operation.{holds}
 use Rattle.cw_order.specs.declared.order.Comparator.{Comparator}
@@ -35,7 +35,7 @@ use Rattle.cw_tmpl.specs.ReferenceCode.{mark_starts, names_of}
 use Rattle.cw_follow.specs.Placing.{base_of}
 use Rattle.cw_tmpl.proofs.Sizes.{size_to, size_next, left_next, own_place, mark_start}
 use Rattle.cw_follow.proofs.Standing.{HasPieces, order_place}
-use Rattle.cw_follow.proofs.InBlocks.{slice_drop, size_split, left_split, begins_at, chain, puts_word, silently, silently_next, is_silent, loaded_then, loaded_silently, loaded_next}
+use Rattle.cw_follow.proofs.InBlocks.{slice_drop, size_split, left_split, begins_at, chain, puts_word, silently, silently_next, never_writes, loaded_then, loaded_silently, loaded_next}
 use Rattle.cw_follow.proofs.Chains.{at_work}
 use Rattle.cw_follow.proofs.Routines.{leads_on}
 use Rattle.cw_follow.proofs.Stacks.{level, words_split}
@@ -261,24 +261,27 @@ module _ (known : Given) where
         let there : place ≡ s.from + n = omega arith in
         ap (slice_get s.orders.list) there ∙ sym (slice_drop s.orders.list s.from n) ∙ ap (λ l. slice_get l n) e ∙ is
 
-    -- an order that is not the last of its block
-    pub silent_in : (o : Order) (m : Bool) → slice_get s.orders.list place ≡ Some o → loaded_after o loaded ≡ Some m → act p (action_of p g acts o) g place m acts w ≡ after p.room 0 (puts_word p g acts o w) g place m acts w → s.done + 1 ≤ orders_left (block_at 0 (drop s.from s.orders.list)) → Follow (at g place loaded acts w Running) q
-    silent_in o m e mode goes_so more = cases (puts_word p g acts o w) refl
+    -- an order that is not the last of its block; where it stops, it pays for the way to the stop
+    pub silent_in : (o : Order) (m : Bool) (line : ℕ) → slice_get s.orders.list place ≡ Some o → loaded_after o loaded ≡ Some m
+        → act p (action_of p g acts o) g place m acts w ≡ after p.room line (puts_word p g acts o w) g place m acts w
+        → ((kind : StopKind) → puts_word p g acts o w ≡ Refused kind → step p (at g place loaded acts w Running) ≡ at g place m acts w (Stopped kind (g + 1) line) → Follow (at g place loaded acts w Running) q)
+        → s.done + 1 ≤ orders_left (block_at 0 (drop s.from s.orders.list)) → Follow (at g place loaded acts w Running) q
+    silent_in o m line e mode goes_so refused more = cases (puts_word p g acts o w) refl
       where
         here : OrderState
         here = at g place loaded acts w Running
 
-        goes_as : (x : Outcome) → puts_word p g acts o w ≡ x → step p (at g place loaded acts w Running) ≡ after p.room 0 x g place m acts w
-        goes_as x is = step_is (Some o) e ∙ ap (λ k. carry_with p k o g place loaded acts w) mode ∙ goes_so ∙ ap (λ x. after p.room 0 x g place m acts w) is
+        goes_as : (x : Outcome) → puts_word p g acts o w ≡ x → step p (at g place loaded acts w Running) ≡ after p.room line x g place m acts w
+        goes_as x is = step_is (Some o) e ∙ ap (λ k. carry_with p k o g place loaded acts w) mode ∙ goes_so ∙ ap (λ x. after p.room line x g place m acts w) is
 
         there : slice_get (drop s.from s.orders.list) s.done ≡ Some o
         there = slice_drop s.orders.list s.from s.done ∙ ap (slice_get s.orders.list) s.place_is ∙ e
 
         cases : (x : Outcome) → puts_word p g acts o w ≡ x → Follow (at g place loaded acts w Running) q
-        cases (Refused kind) is = absurd ((is_silent p g acts o w).stops kind is)
+        cases (Refused kind) is = refused kind is (goes_as (Refused kind) is)
         cases Impossible is = absurd (not_stuck p g place m acts w (never_on p (at g place loaded acts w Running) (at g place m acts w Stuck) (goes_as Impossible is) s.never))
         cases (Changed v) is =
-            let on = went_on p g place loaded m 0 acts w v (goes_as (Changed v) is) s.never in
+            let on = went_on p g place loaded m line acts w v (goes_as (Changed v) is) s.never in
             let placed = s.place_is in
             let next : s.done + 1 ≡ suc s.done = omega arith in
             let matched : Sound p image g (place + 1) m acts v q = record {
@@ -303,7 +306,7 @@ module _ (known : Given) where
               fits_before = s.fits_before;
               room = on.room;
               room_before = s.room_before;
-              wrote = s.wrote ∙ sym ((is_silent p g acts o w).wrote v is);
+              wrote = s.wrote ∙ sym (never_writes p g acts o w v is);
               stands = stands_next (at g (place + 1) m acts v Running) on.goes;
               working = s.working;
               comes_back = s.comes_back;

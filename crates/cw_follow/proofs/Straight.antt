@@ -11,7 +11,7 @@ use Rattle.cw_i86.specs.declared.instr.Place.TheVariants as places
 use Rattle.cw_run86.specs.Processor.{Processor, processor_step}
 use Rattle.cw_follow.specs.Passing.{does_nothing}
 use Rattle.cw_follow.proofs.Watched.{Watched, watched_step}
-use Rattle.cw_run86.specs.Views.{View, Sees, Has, IsTop, register, with_place, with_register, with_result, with_pair, with_overflow, with_cell, with_stack, double_overflows, sum_overflows, difference_overflows, word_sum, word_difference, word_up, word_down, word_down_signed, shift_overflow, product_low, product_high, product_overflows, sign_of, with_number}
+use Rattle.cw_run86.specs.Views.{View, Sees, Has, IsTop, register, with_place, with_register, with_result, with_pair, with_overflow, with_cell, with_stack, double_overflows, sum_overflows, difference_overflows, word_sum, word_difference, word_down_signed, shift_overflow, product_low, product_high, product_overflows, sign_of, with_number}
 use Rattle.cw_tmpl.specs.Mnemonics.{at_bx, slot}
 use Rattle.cw_routines.specs.Ways.{HasAll}
 use Rattle.cw_follow.proofs.Rows.{Rows}
@@ -40,8 +40,6 @@ pub data Act : Type 0 where
   Both : (r q : ℕ) → Act
   Either : (r q : ℕ) → Act
   One : (r q : ℕ) → Act
-  Up : (r : ℕ) → Act
-  Down : (r : ℕ) → Act
   DownSigned : (r : ℕ) → Act
   Product : (r : ℕ) → Act
   Sign : Act
@@ -68,8 +66,6 @@ instruction (DoubleWord r) = i86.Shift 4 true false (rms.Reg r)
 instruction (Both r q) = i86.AluRm 4 true true r (rms.Reg q)
 instruction (Either r q) = i86.AluRm 1 true true r (rms.Reg q)
 instruction (One r q) = i86.AluRm 6 true true r (rms.Reg q)
-instruction (Up r) = i86.Shift 4 true true (rms.Reg r)
-instruction (Down r) = i86.Shift 5 true true (rms.Reg r)
 instruction (DownSigned r) = i86.Shift 7 true true (rms.Reg r)
 instruction (Product r) = i86.Unary 5 true (rms.Reg r)
 instruction Sign = i86.Cwd
@@ -87,7 +83,6 @@ Needs (LoadArgument r by k w) v = (k < 32768) × ((register v 5 + by) % 65536 �
 Needs (LoadWord r by k w) v = (k < 32768) × ((register v 3 + by) % 65536 ≡ 2 * k) × (v.cells k ≡ w)
 Needs (StoreField r by k) v = (k < 32768) × ((register v 3 + by) % 65536 ≡ 2 * k)
 Needs (Double r) v = register v r < 32768
-Needs (Up r) v = register v r < 65536
 Needs (DownSigned r) v = register v r < 65536
 Needs _ v = Unit {0}
 
@@ -114,8 +109,6 @@ after (DoubleWord r) v = with_result r (2 * register v r % 65536) (double_overfl
 after (Both r q) v = with_result r (bit_and (register v r) (register v q)) false v
 after (Either r q) v = with_result r (bit_or (register v r) (register v q)) false v
 after (One r q) v = with_result r (bit_xor (register v r) (register v q)) false v
-after (Up r) v = with_result r (word_up (register v r) (register v 1 % 256)) (shift_overflow 4 (register v r) (register v 1 % 256) v.overflow) v
-after (Down r) v = with_result r (word_down (register v r) (register v 1 % 256)) (shift_overflow 5 (register v r) (register v 1 % 256) v.overflow) v
 after (DownSigned r) v = with_result r (word_down_signed (register v r) (register v 1 % 256)) (shift_overflow 7 (register v r) (register v 1 % 256) v.overflow) v
 after (Product r) v = with_overflow (product_overflows (register v 0) (register v r)) (with_pair (product_low (register v 0) (register v r)) (product_high (register v 0) (register v r)) v)
 after Sign v = with_register 2 (sign_of (register v 0)) v
@@ -176,8 +169,6 @@ module _ (rows : Rows) where
   effect (Both r q) {image} at v {p} h n s = rows.both image (placed at v) r q h p s
   effect (Either r q) {image} at v {p} h n s = rows.either image (placed at v) r q h p s
   effect (One r q) {image} at v {p} h n s = rows.one image (placed at v) r q h p s
-  effect (Up r) {image} at v {p} h n s = rows.shift_up image (placed at v) r h n p s
-  effect (Down r) {image} at v {p} h n s = rows.shift_down image (placed at v) r h p s
   effect (DownSigned r) {image} at v {p} h n s = rows.shift_down_signed image (placed at v) r h n p s
   effect (Product r) {image} at v {p} h n s = rows.multiply image (placed at v) r h p s
   effect Sign {image} at v {p} h n s = rows.extend image (placed at v) h p s

@@ -1,5 +1,6 @@
 -- Blocks that save the top operand, put a simple one and use both.
 use Rattle.std.proofs.Common.{◌≡◌, ℕ, zero, suc, ◌+◌, ◌*◌, ◌%◌, ◌<◌, ◌≤◌, Bool, true, false, not, ℤ, pos, ◌+ℤ◌, ◌-ℤ◌, ◌*ℤ◌, List, [], ◌∷◌, ◌++◌, length, drop, None, Some, refl, sym, ap, ap₂, ◌∙◌, subst, arith, lit<, lit≤}
+use Rattle.std.proofs.lemmas.List.{append-nil}
 use Rattle.std.specs.Prelude.{bit_and, bit_or, bit_xor}
 use Rattle.std.specs.List.{All}
 use Rattle.std.proofs.lemmas.List.Elements.{All-head}
@@ -30,8 +31,10 @@ use Rattle.cw_order.specs.OrderMachine.{unrefused, after, carry_with, step, weig
 use Rattle.cw_order.specs.OrderCosts.{weight_of}
 use Rattle.cw_order.specs.Loading.{loaded_after}
 use Rattle.cw_tmpl.specs.declared.pieces.Coded.{Coded}
+use Rattle.cw_tmpl.specs.declared.pieces.Coded.TheVariants as pieces
 use Rattle.cw_tmpl.specs.declared.blocks.Place.{Place}
 use Rattle.cw_tmpl.specs.declared.blocks.Place.TheVariants as cell
+use Rattle.cw_tmpl.specs.declared.blocks.Element.{Element}
 use Rattle.cw_tmpl.specs.declared.blocks.Simple.{Simple}
 use Rattle.cw_tmpl.specs.declared.blocks.Simple.TheVariants as simple
 use Rattle.cw_tmpl.specs.declared.blocks.Use.{Use}
@@ -39,14 +42,15 @@ use Rattle.cw_tmpl.specs.declared.blocks.Use.TheVariants as uses
 use Rattle.cw_tmpl.specs.declared.blocks.Block.TheVariants as block
 use Rattle.cw_tmpl.specs.Blocks.{address_orders, operand_orders, order_of, block_at}
 use Rattle.cw_tmpl.specs.Library.{overflow_entry, stop_place}
-use Rattle.cw_tmpl.specs.Mnemonics.{ax, bx, cx, slot, base_slot, field, double, load, move}
-use Rattle.cw_tmpl.specs.Pieces.{Filling}
-use Rattle.cw_tmpl.specs.Templates.{distance, opposite_of, with_operand, checked, branch, pieces_size, operated, block_size}
+use Rattle.cw_tmpl.specs.Mnemonics.{ax, bx, cx, slot, base_slot, field, at_si, operate, double, load, move}
+use Rattle.cw_tmpl.specs.Pieces.{Filling, blanks}
+use Rattle.cw_tmpl.specs.Names.{no_names, mark_place}
+use Rattle.cw_tmpl.specs.Templates.{distance, opposite_of, with_operand, checked, branch, pieces_size, index_size, element_address, operated, block_size}
 use Rattle.cw_tmpl.specs.ReferenceCode.{names_of, mark_starts}
 use Rattle.cw_routines.specs.Ways.{HasAll}
 use Rattle.cw_follow.specs.Placing.{base_of}
 use Rattle.cw_tmpl.proofs.Sizes.{own_place}
-use Rattle.cw_follow.proofs.Standing.{HasPieces, order_place}
+use Rattle.cw_follow.proofs.Standing.{HasPieces, appended_long, stand_both, address_long, order_place}
 use Rattle.cw_follow.proofs.Watched.{Watched}
 use Rattle.cw_follow.proofs.Chains.{Is, Leads, view, done, more, load_at, move as moved_to}
 use Rattle.cw_follow.proofs.Straight.{Number, Move, Product, LoadSlot, LoadWord, DoubleWord, straight}
@@ -57,76 +61,94 @@ use Rattle.cw_follow.proofs.Operands.{Setting, words, DoesHere}
 use Rattle.cw_follow.proofs.Operating.{Named, number_named, word_named, sum_of, difference_of, mask_of, union_of, difference_in_bits, comparison_of, product_of}
 use Rattle.cw_follow.proofs.Addresses.{product_overflows_is, product_is}
 use Rattle.cw_follow.proofs.Scales.{turned_overflows, turned_is}
+use Rattle.cw_follow.proofs.Indexed.{index_steps}
 use Rattle.cw_follow.proofs.States.{Given, Sound}
 use Rattle.cw_follow.proofs.InBlocks.{chain}
 use Rattle.cw_follow.proofs.Steps.{Follow, setting, few_segments, weight_is, line_fits, block_code, block_ends, start_place, order_here, last_does, by, calls, start, last_chooses, arrives_at, two_roomy, way_after}
-use Rattle.cw_follow.proofs.BlockOrders.{room_in, block_follows, saved, step_in, number_small}
+use Rattle.cw_follow.proofs.BlockOrders.{WithoutAddress, room_in, operand_puts, block_follows, saved, step_in, number_small}
 
 -- ---- the code of an operation on AX and a simple operand
 
 -- where the operation stands, and how many bytes it has
-abbrev named_at : Simple → ℕ → ℕ
+abbrev pub named_at : Simple → ℕ → ℕ
 named_at (simple.Number x) from = from
 named_at (simple.Contents (cell.Word f n)) from = from
 named_at (simple.Contents (cell.Frame n)) from = from + 3 + 2
+named_at (simple.Element e) from = from + (index_size e.index + 11)
 
-abbrev named_size : Simple → ℕ
+abbrev pub named_size : Simple → ℕ
 named_size (simple.Number x) = 3
 named_size (simple.Contents x) = 4
+named_size (simple.Element e) = 2
 
 -- the instruction, where a word of a family stands at this offset
-abbrev naming : (offset : ℕ) → Simple → WordOperation → Instr
+abbrev pub naming : (offset : ℕ) → Simple → WordOperation → Instr
 naming w (simple.Number x) op = with_number (number_of op) x
 naming w (simple.Contents (cell.Word f n)) op = with_memory (number_of op) ax w
 naming w (simple.Contents (cell.Frame n)) op = i86.AluRm (number_of op) true true ax (field (2 * n % 65536))
+naming w (simple.Element e) op = i86.AluRm (number_of op) true true ax at_si
 
 -- what comes before it
-abbrev Addressed : List ℕ → Simple → ℕ → Type 0
-Addressed image (simple.Contents (cell.Frame n)) from = HasAll image from (load bx (slot base_slot) ∷ double bx ∷ [])
-Addressed image s from = Unit {0}
+abbrev pub Addressed : List ℕ → Filling → Simple → ℕ → Type 0
+Addressed image value (simple.Element e) from = HasPieces image value from (element_address e)
+Addressed image value (simple.Contents (cell.Frame n)) from = HasAll image from (load bx (slot base_slot) ∷ double bx ∷ [])
+Addressed image value s from = Unit {0}
 
 -- what an instruction at a place has filled in
-abbrev offset_at : Filling → Simple → ℕ → ℕ
+abbrev pub offset_at : Filling → Simple → ℕ → ℕ
 offset_at value (simple.Contents (cell.Word f n)) from = value 2 f n (from + 4)
 offset_at value s from = 0
 
-operand_code : (image : List ℕ) (value : Filling) (from : ℕ) (s : Simple) (op : WordOperation) (rest : List Coded) → HasPieces image value from (with_operand (number_of op) s ++ rest)
-    → Addressed image s from × Has image (named_at s from) (naming (offset_at value s from) s op) × HasPieces image value (named_at s from + named_size s) rest
+-- the bytes of an operation on AX and an element
+element_operation : (e : Element) (op : ℕ) → length (blanks (with_operand op (simple.Element e))) ≡ index_size e.index + 13
+element_operation e op = omega (arith, appended_long (element_address e) (pieces.Whole (operate op ax at_si) ∷ []), address_long e)
+
+pub operand_code : (image : List ℕ) (value : Filling) (from : ℕ) (s : Simple) (op : WordOperation) (rest : List Coded) → HasPieces image value from (with_operand (number_of op) s ++ rest)
+    → Addressed image value s from × Has image (named_at s from) (naming (offset_at value s from) s op) × HasPieces image value (named_at s from + named_size s) rest
 operand_code image value from (simple.Number x) op rest h = (tt, h.0, h.1)
 operand_code image value from (simple.Contents (cell.Word f n)) op rest h = (tt, h.0, h.1)
 operand_code image value from (simple.Contents (cell.Frame n)) op rest h = ((h.0, (h.1.0, tt)), h.1.1.0, h.1.1.1)
+operand_code image value from (simple.Element e) op rest h =
+    let o = number_of op in
+    let both = stand_both image value from (with_operand o (simple.Element e)) rest h in
+    let address = stand_both image value from (element_address e) (pieces.Whole (operate o ax at_si) ∷ []) both.0 in
+    let size : from + length (blanks (with_operand o (simple.Element e))) ≡ from + (index_size e.index + 11) + 2 = omega (arith, element_operation e o) in
+    (address.0, subst (λ n. Has image (from + n) (operate o ax at_si)) (address_long e) address.1.0, subst (λ n. HasPieces image value n rest) size both.1)
 
 -- the same without more behind it
 alone_code : (image : List ℕ) (value : Filling) (from : ℕ) (s : Simple) (op : ℕ) → HasPieces image value from (with_operand op s) → HasPieces image value from (with_operand op s ++ [])
 alone_code image value from (simple.Number x) op h = h
 alone_code image value from (simple.Contents (cell.Word f n)) op h = h
 alone_code image value from (simple.Contents (cell.Frame n)) op h = h
+alone_code image value from (simple.Element e) op h = subst (HasPieces image value from) (sym (append-nil (with_operand op (simple.Element e)))) h
 
 -- ---- sizes
 
-abbrev operand_size : Simple → ℕ
+abbrev pub operand_size : Simple → ℕ
 operand_size (simple.Number x) = 3
 operand_size (simple.Contents (cell.Word f n)) = 4
 operand_size (simple.Contents (cell.Frame n)) = 9
+operand_size (simple.Element e) = index_size e.index + 13
 
-named_end : (s : Simple) (from : ℕ) → named_at s from + named_size s ≡ from + operand_size s
+pub named_end : (s : Simple) (from : ℕ) → named_at s from + named_size s ≡ from + operand_size s
 named_end (simple.Number x) from = refl
 named_end (simple.Contents (cell.Word f n)) from = refl
 named_end (simple.Contents (cell.Frame n)) from = omega arith
+named_end (simple.Element e) from = omega arith
 
 -- the bytes of a test, or of the jumps, behind the operation
-abbrev rest_size : Use → ℕ
+abbrev pub rest_size : Use → ℕ
 rest_size (uses.Add line) = 7
 rest_size (uses.Subtract line) = 7
 rest_size (uses.Multiply line) = 0
 rest_size (uses.Compare c m) = 5
 rest_size u = 0
 
-abbrev OneOperation : Use → Type 0
+abbrev pub OneOperation : Use → Type 0
 OneOperation (uses.Multiply line) = ⊥
 OneOperation u = Unit {0}
 
-tested_size : (s : Simple) (u : Use) → OneOperation u → block_size (block.Operate s u) order.Save ≡ operand_size s + rest_size u
+pub tested_size : (s : Simple) (u : Use) → OneOperation u → block_size (block.Operate s u) order.Save ≡ operand_size s + rest_size u
 tested_size s (uses.Multiply line) h = absurd h
 tested_size (simple.Number x) u h = number u h
   where
@@ -138,6 +160,18 @@ tested_size (simple.Number x) u h = number u h
     number uses.Union h = refl
     number uses.Differ h = refl
     number (uses.Compare c m) h = refl
+tested_size (simple.Element e) u h = element u h
+  where
+    element : (u : Use) → OneOperation u → block_size (block.Operate (simple.Element e) u) order.Save ≡ index_size e.index + 13 + rest_size u
+    element (uses.Multiply line) h = absurd h
+    element (uses.Add line) h = omega (arith, appended_long (with_operand 0 (simple.Element e)) (checked line), element_operation e 0)
+    element (uses.Subtract line) h = omega (arith, appended_long (with_operand 5 (simple.Element e)) (checked line), element_operation e 5)
+    element uses.Mask h = omega (arith, element_operation e 4)
+    element uses.Union h = omega (arith, element_operation e 1)
+    element uses.Differ h = omega (arith, element_operation e 6)
+    element (uses.Compare c m) h =
+        let jumps : List Coded = branch c (0 + pieces_size (with_operand 7 (simple.Element e)) + 5) (mark_place no_names m) in
+        omega (arith, appended_long (with_operand 7 (simple.Element e)) jumps, element_operation e 7)
 tested_size (simple.Contents (cell.Word f n)) u h = word u h
   where
     word : (u : Use) → OneOperation u → block_size (block.Operate (simple.Contents (cell.Word f n)) u) order.Save ≡ 4 + rest_size u
@@ -159,15 +193,16 @@ tested_size (simple.Contents (cell.Frame n)) u h = word u h
     word uses.Differ h = refl
     word (uses.Compare c m) h = refl
 
-compare_size : (s : Simple) → pieces_size (with_operand 7 s) ≡ operand_size s
+pub compare_size : (s : Simple) → pieces_size (with_operand 7 s) ≡ operand_size s
 compare_size (simple.Number x) = refl
+compare_size (simple.Element e) = element_operation e 7
 compare_size (simple.Contents (cell.Word f n)) = refl
 compare_size (simple.Contents (cell.Frame n)) = refl
 
 -- ---- outcomes
 
 -- what an order does with the two operands, a comparison apart
-abbrev outcome : (area : ℕ) → Use → Words → Outcome
+abbrev pub outcome : (area : ℕ) → Use → Words → Outcome
 outcome area (uses.Add line) v = perform area operation.Add v
 outcome area (uses.Subtract line) v = perform area operation.Subtract v
 outcome area (uses.Multiply line) v = perform area (Multiply (pos 0)) v
@@ -177,28 +212,34 @@ outcome area uses.Differ v = unrefused (perform area (Combine logic.Differ) v)
 outcome area (uses.Compare c m) v = Impossible
 
 -- all but a comparison
-abbrev Computes : Use → Type 0
+abbrev pub Computes : Use → Type 0
 Computes (uses.Compare c m) = ⊥
 Computes u = Unit {0}
 
 -- how many instructions come before the operation
-abbrev steps_to : Simple → ℕ
+abbrev pub steps_to : Simple → ℕ
 steps_to (simple.Contents (cell.Frame n)) = 2
+steps_to (simple.Element e) = index_steps e.index + 3
 steps_to s = 0
 
-few_steps : (s : Simple) → steps_to s ≤ 2
+pub few_steps : (s : Simple) → steps_to s ≤ 7
 few_steps (simple.Number x) = lit≤ tt
 few_steps (simple.Contents (cell.Word f n)) = lit≤ tt
 few_steps (simple.Contents (cell.Frame n)) = lit≤ tt
+few_steps (simple.Element e) = few_of e.index
+  where
+    few_of : (x : Place) → index_steps x + 3 ≤ 7
+    few_of (cell.Word f n) = lit≤ tt
+    few_of (cell.Frame n) = lit≤ tt
 
-top_fits : (operands : List Operand) → All OperandFits operands → (x : ℤ) (rest : List Operand) → operands ≡ Word x ∷ rest → FitsWord x
+pub top_fits : (operands : List Operand) → All OperandFits operands → (x : ℤ) (rest : List Operand) → operands ≡ Word x ∷ rest → FitsWord x
 top_fits operands fits x rest e = All-head OperandFits (Word x) rest (subst (All OperandFits) e fits)
 
 -- ---- what is done with an operand that the code names
 
 module _ (c : Setting) (memory : List ℤ) (input output : List ℕ) where
   -- with the top operand in AX the code comes to the instruction that names y
-  abbrev NamedFrom : (from offset : ℕ) → Simple → (y : ℤ) → List Operand → Watched → Type 0
+  abbrev pub NamedFrom : (from offset : ℕ) → Simple → (y : ℤ) → List Operand → Watched → Type 0
   NamedFrom from w s y operands p = (x : ℤ) (rest : List Operand) → operands ≡ Word x ∷ rest → Leads output (steps_to s) p (Named c memory input output (named_at s from) (named_size s) (naming w s) x y rest)
 
   -- where the operation stands, and where its code ends
@@ -206,75 +247,75 @@ module _ (c : Setting) (memory : List ℤ) (input output : List ℕ) where
     -- an operation and its test
     module _ (by line : ℕ) (small : line < 65536) (e : named_at s at + named_size s + 7 ≡ to) (arrives : (named_at s at + named_size s + 2 + 3 + by) % 65536 ≡ stop_place Overflow % 65536)
         (i : Check c.image (named_at s at + named_size s) by line) where
-      add_used : Has c.image (named_at s at) (naming w s Add) → DoesHere c memory input output 17 to true line p (perform c.program.limits.area operation.Add (put y (words operands memory input output)))
+      add_used : Has c.image (named_at s at) (naming w s Add) → DoesHere c memory input output 22 to true line p (perform c.program.limits.area operation.Add (put y (words operands memory input output)))
       add_used h = cases operands refl
         where
-          cases : (xs : List Operand) → operands ≡ xs → DoesHere c memory input output 17 to true line p (perform c.program.limits.area operation.Add (put y (words xs memory input output)))
+          cases : (xs : List Operand) → operands ≡ xs → DoesHere c memory input output 22 to true line p (perform c.program.limits.area operation.Add (put y (words xs memory input output)))
           cases [] is = tt
           cases (Held d ∷ rest) is = tt
           cases (Word x ∷ rest) is =
               let few = few_steps s in
-              later c.program c.image 15 to c.g true line c.acts (steps_to s) 17 (put_value (x +ℤ y) (words rest memory input output)) (omega arith) (named x rest is)
+              later c.program c.image 15 to c.g true line c.acts (steps_to s) 22 (put_value (x +ℤ y) (words rest memory input output)) (omega arith) (named x rest is)
               (λ q r. sum_of c memory input output to by line x y rest (top_fits operands fits x rest is) fy small e arrives h i r)
 
-      subtract_used : Has c.image (named_at s at) (naming w s Subtract) → DoesHere c memory input output 17 to true line p (perform c.program.limits.area operation.Subtract (put y (words operands memory input output)))
+      subtract_used : Has c.image (named_at s at) (naming w s Subtract) → DoesHere c memory input output 22 to true line p (perform c.program.limits.area operation.Subtract (put y (words operands memory input output)))
       subtract_used h = cases operands refl
         where
-          cases : (xs : List Operand) → operands ≡ xs → DoesHere c memory input output 17 to true line p (perform c.program.limits.area operation.Subtract (put y (words xs memory input output)))
+          cases : (xs : List Operand) → operands ≡ xs → DoesHere c memory input output 22 to true line p (perform c.program.limits.area operation.Subtract (put y (words xs memory input output)))
           cases [] is = tt
           cases (Held d ∷ rest) is = tt
           cases (Word x ∷ rest) is =
               let few = few_steps s in
-              later c.program c.image 15 to c.g true line c.acts (steps_to s) 17 (put_value (x -ℤ y) (words rest memory input output)) (omega arith) (named x rest is)
+              later c.program c.image 15 to c.g true line c.acts (steps_to s) 22 (put_value (x -ℤ y) (words rest memory input output)) (omega arith) (named x rest is)
               (λ q r. difference_of c memory input output to by line x y rest (top_fits operands fits x rest is) fy small e arrives h i r)
 
     -- bits
     module _ (e : named_at s at + named_size s ≡ to) where
-      mask_used : Has c.image (named_at s at) (naming w s And) → DoesHere c memory input output 3 to true 0 p (unrefused (perform c.program.limits.area (Combine logic.Mask) (put y (words operands memory input output))))
+      mask_used : Has c.image (named_at s at) (naming w s And) → DoesHere c memory input output 8 to true 0 p (unrefused (perform c.program.limits.area (Combine logic.Mask) (put y (words operands memory input output))))
       mask_used h = cases operands refl
         where
-          cases : (xs : List Operand) → operands ≡ xs → DoesHere c memory input output 3 to true 0 p (unrefused (perform c.program.limits.area (Combine logic.Mask) (put y (words xs memory input output))))
+          cases : (xs : List Operand) → operands ≡ xs → DoesHere c memory input output 8 to true 0 p (unrefused (perform c.program.limits.area (Combine logic.Mask) (put y (words xs memory input output))))
           cases [] is = tt
           cases (Held d ∷ rest) is = tt
           cases (Word x ∷ rest) is =
               let few = few_steps s in
-              later c.program c.image 1 to c.g true 0 c.acts (steps_to s) 3 (Changed (put (signed (bit_and (unsigned x) (unsigned y))) (words rest memory input output))) (omega arith) (named x rest is)
+              later c.program c.image 1 to c.g true 0 c.acts (steps_to s) 8 (Changed (put (signed (bit_and (unsigned x) (unsigned y))) (words rest memory input output))) (omega arith) (named x rest is)
               (λ q r. mask_of c memory input output to x y rest (top_fits operands fits x rest is) fy e h r)
 
-      union_used : Has c.image (named_at s at) (naming w s Or) → DoesHere c memory input output 3 to true 0 p (unrefused (perform c.program.limits.area (Combine logic.Union) (put y (words operands memory input output))))
+      union_used : Has c.image (named_at s at) (naming w s Or) → DoesHere c memory input output 8 to true 0 p (unrefused (perform c.program.limits.area (Combine logic.Union) (put y (words operands memory input output))))
       union_used h = cases operands refl
         where
-          cases : (xs : List Operand) → operands ≡ xs → DoesHere c memory input output 3 to true 0 p (unrefused (perform c.program.limits.area (Combine logic.Union) (put y (words xs memory input output))))
+          cases : (xs : List Operand) → operands ≡ xs → DoesHere c memory input output 8 to true 0 p (unrefused (perform c.program.limits.area (Combine logic.Union) (put y (words xs memory input output))))
           cases [] is = tt
           cases (Held d ∷ rest) is = tt
           cases (Word x ∷ rest) is =
               let few = few_steps s in
-              later c.program c.image 1 to c.g true 0 c.acts (steps_to s) 3 (Changed (put (signed (bit_or (unsigned x) (unsigned y))) (words rest memory input output))) (omega arith) (named x rest is)
+              later c.program c.image 1 to c.g true 0 c.acts (steps_to s) 8 (Changed (put (signed (bit_or (unsigned x) (unsigned y))) (words rest memory input output))) (omega arith) (named x rest is)
               (λ q r. union_of c memory input output to x y rest (top_fits operands fits x rest is) fy e h r)
 
-      differ_used : Has c.image (named_at s at) (naming w s Xor) → DoesHere c memory input output 3 to true 0 p (unrefused (perform c.program.limits.area (Combine logic.Differ) (put y (words operands memory input output))))
+      differ_used : Has c.image (named_at s at) (naming w s Xor) → DoesHere c memory input output 8 to true 0 p (unrefused (perform c.program.limits.area (Combine logic.Differ) (put y (words operands memory input output))))
       differ_used h = cases operands refl
         where
-          cases : (xs : List Operand) → operands ≡ xs → DoesHere c memory input output 3 to true 0 p (unrefused (perform c.program.limits.area (Combine logic.Differ) (put y (words xs memory input output))))
+          cases : (xs : List Operand) → operands ≡ xs → DoesHere c memory input output 8 to true 0 p (unrefused (perform c.program.limits.area (Combine logic.Differ) (put y (words xs memory input output))))
           cases [] is = tt
           cases (Held d ∷ rest) is = tt
           cases (Word x ∷ rest) is =
               let few = few_steps s in
-              later c.program c.image 1 to c.g true 0 c.acts (steps_to s) 3 (Changed (put (signed (bit_xor (unsigned x) (unsigned y))) (words rest memory input output))) (omega arith) (named x rest is)
+              later c.program c.image 1 to c.g true 0 c.acts (steps_to s) 8 (Changed (put (signed (bit_xor (unsigned x) (unsigned y))) (words rest memory input output))) (omega arith) (named x rest is)
               (λ q r. difference_in_bits c memory input output to x y rest (top_fits operands fits x rest is) fy e h r)
 
     -- a comparison
     compare_used : (by : ℕ) (start : ℕ → ℕ) (k : Comparator) (m : ℕ) → named_at s at + named_size s + 5 ≡ to → (named_at s at + named_size s + 5 + by) % 65536 ≡ start m % 65536 → Has c.image (named_at s at) (naming w s Compare)
         → HasAll c.image (named_at s at + named_size s) (i86.JumpIf (condition_of (opposite_of k)) 3 ∷ i86.Jump by ∷ [])
-        → Chooses c.program c.image 5 to start c.g false c.acts output p (way_of_two (λ x y v. to_mark_if (holds (comparison k) x y) m v) (put y (words operands memory input output)))
+        → Chooses c.program c.image 10 to start c.g false c.acts output p (way_of_two (λ x y v. to_mark_if (holds (comparison k) x y) m v) (put y (words operands memory input output)))
     compare_used by start k m e arrives h i = cases operands refl
       where
-        cases : (xs : List Operand) → operands ≡ xs → Chooses c.program c.image 5 to start c.g false c.acts output p (way_of_two (λ x y v. to_mark_if (holds (comparison k) x y) m v) (put y (words xs memory input output)))
+        cases : (xs : List Operand) → operands ≡ xs → Chooses c.program c.image 10 to start c.g false c.acts output p (way_of_two (λ x y v. to_mark_if (holds (comparison k) x y) m v) (put y (words xs memory input output)))
         cases [] is = tt
         cases (Held d ∷ rest) is = tt
         cases (Word x ∷ rest) is =
             let few = few_steps s in
-            sooner c.program c.image 3 to start c.g false c.acts (steps_to s) 5 (to_mark_if (holds (comparison k) x y) m (words rest memory input output)) (omega arith) (named x rest is)
+            sooner c.program c.image 3 to start c.g false c.acts (steps_to s) 10 (to_mark_if (holds (comparison k) x y) m (words rest memory input output)) (omega arith) (named x rest is)
             (λ q r. comparison_of c memory input output to by start k m x y rest (top_fits operands fits x rest is) fy e arrives h i r)
 
 -- ---- what each operand is
@@ -327,7 +368,7 @@ module _ (c : Setting) (memory : List ℤ) (input output : List ℕ) {p : Watche
   abbrev Multiplied : (test : ℕ) → ℤ → Type 0
   Multiplied test y =
       test + 7 ≡ to → (test + 2 + 3 + by) % 65536 ≡ stop_place Overflow % 65536 → Check c.image test by line
-      → DoesHere c memory input output 19 to true line p (put_value (scaled_product x y (pos 0)) (words rest memory input output))
+      → DoesHere c memory input output 24 to true line p (put_value (scaled_product x y (pos 0)) (words rest memory input output))
 
   -- AX times a number
   number_multiplies : (n : ℕ) → n < 65536 → HasAll c.image at (i86.MovImm bx (imm.Word n) ∷ i86.Unary 5 true (rms.Reg bx) ∷ []) → Multiplied (at + 3 + 2) (signed n)
@@ -338,12 +379,12 @@ module _ (c : Setting) (memory : List ℤ) (input output : List ℕ) {p : Watche
       let en : n ≡ unsigned y = sym (c.rows.words.forth n lt) in
       let tests : product_overflows s.ax n ≡ not (fits_word (x *ℤ y)) = ap₂ product_overflows l.operands.0 en ∙ product_overflows_is c.rows x y fx fy in
       let low : FitsWord (x *ℤ y) → product_low s.ax n ≡ unsigned (x *ℤ y) = λ f. ap₂ product_low l.operands.0 en ∙ product_is c.rows x y fx fy f in
-      later c.program c.image 14 to c.g true line c.acts 2 19 (put_value (scaled_product x y (pos 0)) (words rest memory input output)) (lit≤ tt)
+      later c.program c.image 14 to c.g true line c.acts 2 24 (put_value (scaled_product x y (pos 0)) (words rest memory input output)) (lit≤ tt)
       (straight c.rows (Number bx n ∷ Product bx ∷ []) l.kept.wrote h (tt, (tt, tt)) s.is (λ q t. done t))
       (λ q t. product_of c memory input output to by line s.ax n x y rest fx fy small e arrives (some_room c memory input output x rest l room) tests low i l.operands.1 l.kept t)
 
   -- times a word of the data area that comes to AX, with what AX had in CX
-  other_multiplies : {q : Watched} {test dx' bx' si' : ℕ} {overflow' : Bool} (y : ℤ) → FitsWord y
+  pub other_multiplies : {q : Watched} {test dx' bx' si' : ℕ} {overflow' : Bool} (y : ℤ) → FitsWord y
       → Is c.image test (view (unsigned y) (unsigned x) dx' bx' (2 * l.top) (record_of c.acts) si' c.program.limits.area overflow' l.cells l.stack l.input l.told) q
       → Has c.image test (i86.Unary 5 true (rms.Reg cx)) → test + 2 + 7 ≡ to → (test + 2 + 2 + 3 + by) % 65536 ≡ stop_place Overflow % 65536 → Check c.image (test + 2) by line
       → DoesHere c memory input output 15 to true line q (put_value (scaled_product x y (pos 0)) (words rest memory input output))
@@ -357,7 +398,7 @@ module _ (c : Setting) (memory : List ℤ) (input output : List ℕ) {p : Watche
       let s = l.stacked in
       let low = c.low in
       let k_low : k < 32768 = omega arith in
-      later c.program c.image 15 to c.g true line c.acts 2 19 (put_value (scaled_product x (word_at memory k) (pos 0)) (words rest memory input output)) (lit≤ tt)
+      later c.program c.image 15 to c.g true line c.acts 2 24 (put_value (scaled_product x (word_at memory k) (pos 0)) (words rest memory input output)) (lit≤ tt)
       (more c.rows {to = at + 2} {w = view s.ax s.ax s.dx s.bx (2 * l.top) (record_of c.acts) s.si c.program.limits.area s.overflow l.cells l.stack l.input l.told} s.is l.kept.wrote (moved_to c.rows cx ax h.0 s.is) (λ q t.
       more c.rows {to = at + 2 + 3} {w = view (l.cells k) s.ax s.dx s.bx (2 * l.top) (record_of c.acts) s.si c.program.limits.area s.overflow l.cells l.stack l.input l.told} t l.kept.wrote (load_at c.rows offset k k_low eo h.1.0 t) (λ q t. done t)))
       (λ q t.
@@ -379,7 +420,7 @@ module _ (c : Setting) (memory : List ℤ) (input output : List ℕ) {p : Watche
       let from_is : frame_base_of c.program c.acts ≡ a.frame_base = ap (frame_base_of c.program) acts_are in
       let k_low : k < 32768 = omega arith in
       let address : (2 * a.frame_base % 65536 + 2 * n % 65536) % 65536 ≡ 2 * k = omega arith in
-      later c.program c.image 15 to c.g true line c.acts 4 19 (put_value (scaled_product x (word_at memory k) (pos 0)) (words rest memory input output)) (lit≤ tt)
+      later c.program c.image 15 to c.g true line c.acts 4 24 (put_value (scaled_product x (word_at memory k) (pos 0)) (words rest memory input output)) (lit≤ tt)
       (straight c.rows (Move cx ax ∷ LoadSlot bx 0xFA (r + 1) a.frame_base ∷ DoubleWord bx ∷ LoadWord ax (2 * n % 65536) k (unsigned (word_at memory k)) ∷ []) {n = 0} kept.wrote (h.0, (h.1.0, (h.1.1.0, (h.1.1.1.0, tt))))
       (tt, ((base, slot_base, kept.piled.0.base_is ∙ from_is), (tt, ((k_low, address, kept.words k within), tt)))) s.is (λ q t. done t))
       (λ q t.
@@ -394,13 +435,13 @@ module _ (known : Given) where
 
   module _ {q : Watched} {g place : ℕ} {loaded : Bool} {acts : List OrderActivation} {w : Words} (s : Sound p image g place loaded acts w q) where
     -- where the code of the block ends, where its last order is at work
-    abbrev block_end : ℕ
+    abbrev pub block_end : ℕ
     block_end = order_place (base_of p g) s.orders.list (place + 1)
 
-    abbrev here_at : ℕ
+    abbrev pub here_at : ℕ
     here_at = start_place known s
 
-    memory_word : (k : ℕ) → k < p.limits.area → FitsWord (word_at s.before.memory k)
+    pub memory_word : (k : ℕ) → k < p.limits.area → FitsWord (word_at s.before.memory k)
     memory_word k lt = let long = s.landed.kept.long in s.fits_before.memory k (pos 0) (omega arith)
 
     -- the word of an address, and what is done with it
@@ -427,17 +468,17 @@ module _ (known : Given) where
     -- ---- one order with two operands, the upper one from the code
 
     -- how many instructions it takes at most
-    abbrev bound : Use → ℕ
-    bound (uses.Add line) = 17
-    bound (uses.Subtract line) = 17
-    bound (uses.Multiply line) = 19
-    bound u = 3
+    abbrev pub bound : Use → ℕ
+    bound (uses.Add line) = 22
+    bound (uses.Subtract line) = 22
+    bound (uses.Multiply line) = 24
+    bound u = 8
 
     -- that of a block whose last order has such an outcome
-    abbrev Ended : Use → Outcome → Type 0
+    abbrev pub Ended : Use → Outcome → Type 0
     Ended u o = Does p image (bound u) block_end g true (line_of (order_of u)) acts s.before.output q o
 
-    step_goes : (u : Use) → Computes u → carry_with p (loaded_after (order_of u) true) (order_of u) g place loaded acts w ≡ after p.room (line_of (order_of u)) (outcome p.limits.area u w) g place true acts w
+    pub step_goes : (u : Use) → Computes u → carry_with p (loaded_after (order_of u) true) (order_of u) g place loaded acts w ≡ after p.room (line_of (order_of u)) (outcome p.limits.area u w) g place true acts w
     step_goes (uses.Add line) h = refl
     step_goes (uses.Subtract line) h = refl
     step_goes (uses.Multiply line) h = refl
@@ -446,7 +487,7 @@ module _ (known : Given) where
     step_goes uses.Differ h = refl
     step_goes (uses.Compare c m) h = absurd h
 
-    costs : (u : Use) → bound u ≤ weight_of (order_of u)
+    pub costs : (u : Use) → bound u ≤ weight_of (order_of u)
     costs (uses.Add line) = lit≤ tt
     costs (uses.Subtract line) = lit≤ tt
     costs (uses.Multiply line) = lit≤ tt
@@ -456,22 +497,22 @@ module _ (known : Given) where
     costs (uses.Compare c m) = lit≤ tt
 
     -- the code of a block from its operand on
-    abbrev Code : Simple → Use → Type 0
+    abbrev pub Code : Simple → Use → Type 0
     Code o u = HasPieces image (all.stands g s.orders s.unit).value here_at (operated (names_of s.orders) (own_place s.orders.list s.from) o u)
 
-    abbrev NamedHere : Simple → ℤ → Type 0
+    abbrev pub NamedHere : Simple → ℤ → Type 0
     NamedHere o y = NamedFrom (setting known s) s.before.memory s.before.input s.before.output here_at (offset_at (all.stands g s.orders s.unit).value o here_at) o y s.before.operands q
 
     -- the product with an operand
-    abbrev Multiplies : Simple → ℤ → Type 0
+    abbrev pub Multiplies : Simple → ℤ → Type 0
     Multiplies o y =
         (line : ℕ) → line < 65536 → Code o (uses.Multiply line) → here_at + block_size (block.Operate o (uses.Multiply line)) order.Save ≡ block_end
-        → Does p image 19 block_end g true line acts s.before.output q (perform p.limits.area (Multiply (pos 0)) (put y s.before))
+        → Does p image 24 block_end g true line acts s.before.output q (perform p.limits.area (Multiply (pos 0)) (put y s.before))
 
-    abbrev call_of : ℕ → ℕ
+    abbrev pub call_of : ℕ → ℕ
     call_of test = by known s overflow_entry (test + 2 + 3)
 
-    used_law : (o : Simple) (u : Use) (y : ℤ) → Computes u → FitsWord y → line_of (order_of u) < 65536 → here_at + block_size (block.Operate o u) order.Save ≡ block_end → Code o u → (OneOperation u → NamedHere o y) → Multiplies o y
+    pub used_law : (o : Simple) (u : Use) (y : ℤ) → Computes u → FitsWord y → line_of (order_of u) < 65536 → here_at + block_size (block.Operate o u) order.Save ≡ block_end → Code o u → (OneOperation u → NamedHere o y) → Multiplies o y
         → Ended u (outcome p.limits.area u (put y s.before))
     used_law o (uses.Add line) y h fy small ends i named product =
         let k = operand_code image (all.stands g s.orders s.unit).value here_at o Add (checked line) i in
@@ -515,7 +556,7 @@ module _ (known : Given) where
     number_product n lt l line small i ends =
         let v = s.before in
         let test = here_at + 3 + 2 in
-        on_word 19 line (signed n)
+        on_word 24 line (signed n)
         (λ x rest fx room t. number_multiplies (setting known s) v.memory v.input v.output x rest fx room t block_end (call_of test) line small n lt (i.0, (i.1.0, tt)) (omega (arith, ends)) (calls known s overflow_entry (test + 2 + 3) (lit< tt)) i.1.1)
         v.operands (room_in known s) s.fits_before.operands l
 
@@ -525,7 +566,7 @@ module _ (known : Given) where
         let v = s.before in
         let offset = (all.stands g s.orders s.unit).value 2 f n (here_at + 2 + 3) in
         let test = here_at + 2 + 3 + 2 in
-        on_word 19 line (word_at v.memory k)
+        on_word 24 line (word_at v.memory k)
         (λ x rest fx room t.
         word_multiplies (setting known s) v.memory v.input v.output x rest fx room t block_end (call_of test) line small offset k within e (memory_word k within) (i.0, (i.1.0, (i.1.1.0, tt))) (omega (arith, ends)) (calls known s overflow_entry (test + 2 + 3) (lit< tt)) i.1.1.1)
         v.operands (room_in known s) s.fits_before.operands l
@@ -535,7 +576,7 @@ module _ (known : Given) where
     frame_product a under n k acts_are within same l line small i ends =
         let v = s.before in
         let test = here_at + 2 + 3 + 2 + 4 + 2 in
-        on_word 19 line (word_at v.memory k)
+        on_word 24 line (word_at v.memory k)
         (λ x rest fx room t.
         frame_multiplies (setting known s) v.memory v.input v.output x rest fx room t block_end (call_of test) line small a under n k acts_are within same (memory_word k within) (i.0, (i.1.0, (i.1.1.0, (i.1.1.1.0, (i.1.1.1.1.0, tt)))))
         (omega (arith, ends)) (calls known s overflow_entry (test + 2 + 3) (lit< tt)) i.1.1.1.1.1)
@@ -592,9 +633,10 @@ module _ (known : Given) where
             (λ one. frame_from (setting known s) v.memory v.input v.output v.operands (room_in known s) l a under n k is within same (addressed n u one i))
             (frame_product a under n k is within same l))
 
-    computes_last : (o : Simple) (u : Use) (rest : List Order) → Computes u → s.done ≡ suc (length (operand_orders o)) → drop s.from s.orders.list ≡ order.Save ∷ (operand_orders o ++ order_of u ∷ rest)
+    computes_last : (o : Simple) (u : Use) (rest : List Order) → WithoutAddress o → Computes u → s.done ≡ suc (length (operand_orders o)) → drop s.from s.orders.list ≡ order.Save ∷ (operand_orders o ++ order_of u ∷ rest)
         → block_at 0 (drop s.from s.orders.list) ≡ block.Operate o u → Follow known (at g place loaded acts w Running) q
-    computes_last (simple.Number n) u rest h is_done e is =
+    computes_last (simple.Element x) u rest without h is_done e is = absurd without
+    computes_last (simple.Number n) u rest without h is_done e is =
         let os = order.Const n ∷ order_of u ∷ rest in
         let here = order_here known s 2 (order_of u) _ is_done e refl in
         let ends = block_ends known s (block.Operate (simple.Number n) u) order.Save os 2 is_done e is refl refl in
@@ -603,7 +645,7 @@ module _ (known : Given) where
         let paid : bound u ≤ weight p (at g place loaded acts w Running) = let y = weight_is known s (order_of u) here in omega arith in
         last_does known s true (line_of (order_of u)) (outcome p.limits.area u) (bound u) 2 _ is_done e ends.begins (step_in known s true (order_of u) before.now here ∙ step_goes u h) paid
         (number_does n u h (number_small known s n (order_of u ∷ rest) e) (line_fits known s (order_of u) here) ends.behind (block_code known s (block.Operate (simple.Number n) u) order.Save os e is) before.landed)
-    computes_last (simple.Contents (cell.Word f n)) u rest h is_done e is =
+    computes_last (simple.Contents (cell.Word f n)) u rest without h is_done e is =
         let os = order.Home f n ∷ order.Load ∷ order_of u ∷ rest in
         let here = order_here known s 3 (order_of u) _ is_done e refl in
         let ends = block_ends known s (block.Operate (simple.Contents (cell.Word f n)) u) order.Save os 3 is_done e is refl refl in
@@ -612,7 +654,7 @@ module _ (known : Given) where
         let paid : bound u ≤ weight p (at g place loaded acts w Running) = let y = weight_is known s (order_of u) here in omega arith in
         last_does known s true (line_of (order_of u)) (outcome p.limits.area u) (bound u) 3 _ is_done e ends.begins (step_in known s true (order_of u) before.now here ∙ step_goes u h) paid
         (word_does f n u h (line_fits known s (order_of u) here) ends.behind (block_code known s (block.Operate (simple.Contents (cell.Word f n)) u) order.Save os e is) before.landed)
-    computes_last (simple.Contents (cell.Frame n)) u rest h is_done e is =
+    computes_last (simple.Contents (cell.Frame n)) u rest without h is_done e is =
         let os = order.FrameHome n ∷ order.Load ∷ order_of u ∷ rest in
         let here = order_here known s 3 (order_of u) _ is_done e refl in
         let ends = block_ends known s (block.Operate (simple.Contents (cell.Frame n)) u) order.Save os 3 is_done e is refl refl in
@@ -624,13 +666,13 @@ module _ (known : Given) where
 
     -- ---- comparisons
 
-    abbrev Chosen : Way → Type 0
-    Chosen way = Chooses p image 5 block_end (start known s) g false acts s.before.output q way
+    abbrev pub Chosen : Way → Type 0
+    Chosen way = Chooses p image 10 block_end (start known s) g false acts s.before.output q way
 
-    abbrev way_of : Comparator → ℕ → Words → Way
+    abbrev pub way_of : Comparator → ℕ → Words → Way
     way_of c m v = way_of_two (λ x y t. to_mark_if (holds (comparison c) x y) m t) v
 
-    compares_with : (o : Simple) (c : Comparator) (m : ℕ) (y : ℤ) → FitsWord y → here_at + block_size (block.Operate o (uses.Compare c m)) order.Save ≡ block_end → Code o (uses.Compare c m) → NamedHere o y → Chosen (way_of c m (put y s.before))
+    pub compares_with : (o : Simple) (c : Comparator) (m : ℕ) (y : ℤ) → FitsWord y → here_at + block_size (block.Operate o (uses.Compare c m)) order.Save ≡ block_end → Code o (uses.Compare c m) → NamedHere o y → Chosen (way_of c m (put y s.before))
     compares_with o c m y fy ends i named =
         let v = s.before in
         let own = own_place s.orders.list s.from in
@@ -655,23 +697,24 @@ module _ (known : Given) where
         cases [] is = tt
         cases (a ∷ under) is =
             let v = s.before in
-            fetched_chooses ((a.frame_base + n) % 65536) 5 (way_of c m) (omega arith)
+            fetched_chooses ((a.frame_base + n) % 65536) 10 (way_of c m) (omega arith)
             (λ k within same.
             compares_with (simple.Contents (cell.Frame n)) c m (word_at v.memory k) (memory_word k within) ends i
             (frame_from (setting known s) v.memory v.input v.output v.operands (room_in known s) l a under n k is within same (addressed n (uses.Compare c m) tt i)))
 
-    compares_last : (o : Simple) (c : Comparator) (m : ℕ) (rest : List Order) → s.done ≡ suc (length (operand_orders o)) → drop s.from s.orders.list ≡ order.Save ∷ (operand_orders o ++ order.JumpIf c m ∷ rest)
+    compares_last : (o : Simple) (c : Comparator) (m : ℕ) (rest : List Order) → WithoutAddress o → s.done ≡ suc (length (operand_orders o)) → drop s.from s.orders.list ≡ order.Save ∷ (operand_orders o ++ order.JumpIf c m ∷ rest)
         → block_at 0 (drop s.from s.orders.list) ≡ block.Operate o (uses.Compare c m) → Follow known (at g place loaded acts w Running) q
-    compares_last (simple.Number n) c m rest is_done e is =
+    compares_last (simple.Element x) c m rest without is_done e is = absurd without
+    compares_last (simple.Number n) c m rest without is_done e is =
         let os = order.Const n ∷ order.JumpIf c m ∷ rest in
         let b = block.Operate (simple.Number n) (uses.Compare c m) in
         let here = order_here known s 2 (order.JumpIf c m) _ is_done e refl in
         let ends = block_ends known s b order.Save os 2 is_done e is refl refl in
         let before = saved known s true 1 os is_done e refl in
-        let paid : 5 ≤ weight p (at g place loaded acts w Running) = let y = weight_is known s (order.JumpIf c m) here in omega arith in
-        last_chooses known s false (way_of c m) 5 2 _ is_done e ends.begins (two_roomy acts p.room m c w.operands w s.room) (step_in known s true (order.JumpIf c m) before.now here) paid
+        let paid : 10 ≤ weight p (at g place loaded acts w Running) = let y = weight_is known s (order.JumpIf c m) here in omega arith in
+        last_chooses known s false (way_of c m) 10 2 _ is_done e ends.begins (two_roomy acts p.room m c w.operands w s.room) (step_in known s true (order.JumpIf c m) before.now here) paid
         (number_chooses n c m (number_small known s n (order.JumpIf c m ∷ rest) e) ends.behind (block_code known s b order.Save os e is) before.landed)
-    compares_last (simple.Contents (cell.Word f n)) c m rest is_done e is =
+    compares_last (simple.Contents (cell.Word f n)) c m rest without is_done e is =
         let os = order.Home f n ∷ order.Load ∷ order.JumpIf c m ∷ rest in
         let o = simple.Contents (cell.Word f n) in
         let b = block.Operate o (uses.Compare c m) in
@@ -682,25 +725,26 @@ module _ (known : Given) where
         let st = all.stands g s.orders s.unit in
         let word = home_word p.addresses g f n in
         let offset = st.fills.bytes f n (here_at + 4) in
-        let paid : 5 ≤ weight p (at g place loaded acts w Running) = let y = weight_is known s (order.JumpIf c m) here in omega arith in
-        last_chooses known s false (way_of c m) 5 3 _ is_done e ends.begins (two_roomy acts p.room m c w.operands w s.room) (step_in known s true (order.JumpIf c m) before.now here) paid
-        (fetched_chooses word 5 (way_of c m) (omega arith)
+        let paid : 10 ≤ weight p (at g place loaded acts w Running) = let y = weight_is known s (order.JumpIf c m) here in omega arith in
+        last_chooses known s false (way_of c m) 10 3 _ is_done e ends.begins (two_roomy acts p.room m c w.operands w s.room) (step_in known s true (order.JumpIf c m) before.now here) paid
+        (fetched_chooses word 10 (way_of c m) (omega arith)
         (λ k within same.
         compares_with o c m (word_at v.memory k) (memory_word k within) ends.behind (block_code known s b order.Save os e is)
         (word_from (setting known s) v.memory v.input v.output v.operands (room_in known s) before.landed f n (st.value 2 f n (here_at + 4)) k within (omega arith))))
-    compares_last (simple.Contents (cell.Frame n)) c m rest is_done e is =
+    compares_last (simple.Contents (cell.Frame n)) c m rest without is_done e is =
         let os = order.FrameHome n ∷ order.Load ∷ order.JumpIf c m ∷ rest in
         let o = simple.Contents (cell.Frame n) in
         let b = block.Operate o (uses.Compare c m) in
         let here = order_here known s 3 (order.JumpIf c m) _ is_done e refl in
         let ends = block_ends known s b order.Save os 3 is_done e is refl refl in
         let before = saved known s true 2 os is_done e refl in
-        let paid : 5 ≤ weight p (at g place loaded acts w Running) = let y = weight_is known s (order.JumpIf c m) here in omega arith in
-        last_chooses known s false (way_of c m) 5 3 _ is_done e ends.begins (two_roomy acts p.room m c w.operands w s.room) (step_in known s true (order.JumpIf c m) before.now here) paid
+        let paid : 10 ≤ weight p (at g place loaded acts w Running) = let y = weight_is known s (order.JumpIf c m) here in omega arith in
+        last_chooses known s false (way_of c m) 10 3 _ is_done e ends.begins (two_roomy acts p.room m c w.operands w s.room) (step_in known s true (order.JumpIf c m) before.now here) paid
         (frame_chooses n c m ends.behind (block_code known s b order.Save os e is) before.landed)
 
-    -- the orders of a block that uses a simple operand
-    pub operate_follows : (o : Simple) (u : Use) (rest : List Order) → drop s.from s.orders.list ≡ order.Save ∷ (operand_orders o ++ order_of u ∷ rest) → block_at 0 (drop s.from s.orders.list) ≡ block.Operate o u
+    -- the orders of a block that uses a simple operand whose address is not formed
+    pub operand_follows : (o : Simple) → WithoutAddress o → (u : Use) (rest : List Order) → drop s.from s.orders.list ≡ order.Save ∷ (operand_orders o ++ order_of u ∷ rest) → block_at 0 (drop s.from s.orders.list) ≡ block.Operate o u
         → Follow known (at g place loaded acts w Running) q
-    operate_follows o (uses.Compare c m) rest e is = block_follows known s (block.Operate o (uses.Compare c m)) (order.JumpIf c m) rest e is refl (λ is_done. compares_last o c m rest is_done e is)
-    operate_follows o u rest e is = block_follows known s (block.Operate o u) (order_of u) rest e is refl (λ is_done. computes_last o u rest tt is_done e is)
+    operand_follows o without (uses.Compare c m) rest e is =
+        block_follows known s (block.Operate o (uses.Compare c m)) (order.JumpIf c m) rest (tt, operand_puts known s o without) e is refl (λ is_done. compares_last o c m rest without is_done e is)
+    operand_follows o without u rest e is = block_follows known s (block.Operate o u) (order_of u) rest (tt, operand_puts known s o without) e is refl (λ is_done. computes_last o u rest without tt is_done e is)

@@ -1,9 +1,13 @@
 -- The steps of orders on words, each of which is a block of its own.
-use Rattle.std.proofs.Common.{◌≡◌, ℕ, ◌+◌, ◌<◌, ◌≤◌, Bool, true, false, inl, ℤ, ◌-ℤ◌, List, [], ◌∷◌, Some, None, refl, sym, ap, ◌∙◌, subst, arith, lit<, lit≤}
+use Rattle.std.proofs.Common.{◌≡◌, ℕ, ◌+◌, ◌<◌, ◌≤◌, Bool, true, false, not, inl, inr, ℤ, ◌-ℤ◌, List, [], ◌∷◌, Some, None, refl, sym, ap, ◌∙◌, subst, arith, lit<, lit≤}
+use Rattle.std.proofs.lemmas.Bool.{cases_lt}
+use Rattle.std.proofs.lemmas.List.Elements.{All-head}
+use Rattle.std.specs.List.{All}
 use Rattle.std.specs.Prelude.{slice_get, bit_and, bit_or, bit_xor}
 use Rattle.cw_i86.specs.declared.instr.Instr.TheVariants as i86
 use Rattle.cw_i86.specs.declared.instr.Imm.TheVariants as imm
 use Rattle.cw_run86.specs.Views.{Has}
+use Rattle.cw_word.specs.BitField.{unsigned_field}
 use Rattle.cw_word.specs.Word.{signed, unsigned, word_difference}
 use Rattle.cw_unit.specs.declared.unit.LogicOp.TheVariants as logic
 use Rattle.cw_unit.specs.Stop.{Running, Stuck}
@@ -15,6 +19,7 @@ use Rattle.cw_order.specs.OrderChanges.{difference, index}
 use Rattle.cw_order.specs.OrderState.{OrderActivation, at}
 use Rattle.cw_order.specs.OrderActions.{home_word}
 use Rattle.cw_order.specs.OrderCosts.{weight_of}
+use Rattle.cw_order.specs.FittingWords.{OperandFits}
 use Rattle.cw_order.specs.OrderMachine.{unrefused, after, carry_out, step}
 use Rattle.cw_tmpl.specs.Library.{overflow_entry, address_entry, bounds_entry, read_entry}
 use Rattle.cw_follow.proofs.Watched.{Watched}
@@ -23,7 +28,8 @@ use Rattle.cw_follow.proofs.Orders.{Landed, Tells, puts, saves, adds, subtracts,
 use Rattle.cw_follow.proofs.States.{Given, Sound, went_on, never_on, not_stuck}
 use Rattle.cw_follow.proofs.Straight.{Both, Either, One}
 use Rattle.cw_follow.proofs.Operands.{words}
-use Rattle.cw_follow.proofs.Bits.{drops, combines, differs, ands, ors, xors, lesses, takes, loads_signed, loads_unsigned, stores_part}
+use Rattle.cw_follow.proofs.Bits.{part, drops, combines, differs, ands, ors, xors, lesses, takes, takes_all, loads_part, stores_part}
+use Rattle.cw_follow.proofs.Shifts.{part_steps, without_steps}
 use Rattle.cw_follow.proofs.Addresses.{indexes_less, in_areas, bounds_kept}
 use Rattle.cw_follow.proofs.Inputs.{reads}
 use Rattle.cw_follow.proofs.Steps.{Follow, Alone, leads_to, onward, few_segments, order_is, step_is, sound_at, does, tells, by, calls, setting, cheap, has_code, line_fits, low_room, here, next, code, behind, begins_next, silent}
@@ -144,33 +150,49 @@ module _ (known : Given) where
     -- ---- parts and logic
 
     pub load_part_follows : (t b : ℕ) (is_signed : Bool) → slice_get s.orders.list place ≡ Some (order.LoadPart t b is_signed) → Follow known (at g place true acts w Running) q
-    load_part_follows t b true e =
-        let o = order.LoadPart t b true in
+    load_part_follows t b is_signed e =
+        let o = order.LoadPart t b is_signed in
         let h = has_code known s o e in
-        does known s true 0 (unrefused (perform p.limits.area (Fetch (Some (record { t = t; b = b; unsigned = false }))) w)) 7 (begins_next known s a o e) (step_is known s (Some o) e) (cheap known s o 7 (lit≤ tt) e)
-        (loads_signed (setting known s) w.memory w.input w.output s.fits.memory a.landed.kept.long (next known s a) t b w.operands (behind known s a o e) h.0 h.1 (low_room known s) s.fits.operands
-        (code known s a o e) a.landed)
-    load_part_follows t b false e =
-        let o = order.LoadPart t b false in
-        let h = has_code known s o e in
-        does known s true 0 (unrefused (perform p.limits.area (Fetch (Some (record { t = t; b = b; unsigned = true }))) w)) 7 (begins_next known s a o e) (step_is known s (Some o) e) (cheap known s o 7 (lit≤ tt) e)
-        (loads_unsigned (setting known s) w.memory w.input w.output s.fits.memory a.landed.kept.long (next known s a) t b w.operands (behind known s a o e) h.1 (low_room known s) s.fits.operands
-        (code known s a o e) a.landed)
+        does known s true 0 (unrefused (perform p.limits.area (Fetch (part t b (not is_signed))) w)) 7 (begins_next known s a o e) (step_is known s (Some o) e) (cheap known s o 7 (lit≤ tt) e)
+        (loads_part (setting known s) w.memory w.input w.output s.fits.memory a.landed.kept.long (all.stands g s.orders s.unit).value (next known s a) t b is_signed w.operands (behind known s a o e) h.0 h.1 (low_room known s)
+        s.fits.operands (code known s a o e) a.landed)
 
     pub store_part_follows : (t b : ℕ) → slice_get s.orders.list place ≡ Some (order.StorePart t b) → Follow known (at g place true acts w Running) q
     store_part_follows t b e =
         let o = order.StorePart t b in
         let h = has_code known s o e in
-        does known s false 0 (unrefused (perform p.limits.area (StoreBits t b) w)) 12 (begins_next known s a o e) (step_is known s (Some o) e) (cheap known s o 12 (lit≤ tt) e)
-        (stores_part (setting known s) w.memory w.input w.output s.fits.memory a.landed.kept.long (next known s a) t b w.operands (behind known s a o e) h.1 (low_room known s) s.fits.operands
+        does known s false 0 (unrefused (perform p.limits.area (StoreBits t b) w)) 8 (begins_next known s a o e) (step_is known s (Some o) e) (cheap known s o 8 (lit≤ tt) e)
+        (stores_part (setting known s) w.memory w.input w.output s.fits.memory a.landed.kept.long (all.stands g s.orders s.unit).value (next known s a) t b w.operands (behind known s a o e) h.1 (low_room known s) s.fits.operands
         (code known s a o e) a.landed)
 
+    -- all bits of a word, by no code
+    take_all : slice_get s.orders.list place ≡ Some (order.Take 16 0) → Follow known (at g place true acts w Running) q
+    take_all e = cases w.operands refl
+      where
+        goes : (operands : List Operand) → w.operands ≡ operands → step p (at g place true acts w Running) ≡ after p.room 0 (unrefused (on_one (λ x v. Changed (put (signed (unsigned_field (unsigned x) 16 0)) v)) operands w)) g place true acts w
+        goes operands is = step_is known s (Some (order.Take 16 0)) e ∙ ap (λ xs. after p.room 0 (unrefused (on_one (λ x v. Changed (put (signed (unsigned_field (unsigned x) 16 0)) v)) xs w)) g place true acts w) is
+
+        stuck : step p (at g place true acts w Running) ≡ at g place true acts w Stuck → Follow known (at g place true acts w Running) q
+        stuck none = absurd (not_stuck p g place true acts w (never_on p (at g place true acts w Running) (at g place true acts w Stuck) none s.never))
+
+        cases : (operands : List Operand) → w.operands ≡ operands → Follow known (at g place true acts w Running) q
+        cases [] is = stuck (goes [] is)
+        cases (Held c ∷ rest) is = stuck (goes (Held c ∷ rest) is)
+        cases (Word z ∷ rest) is =
+            let v = put (signed (unsigned_field (unsigned z) 16 0)) (with_operands w rest) in
+            let on = went_on p g place true true 0 acts w v (goes (Word z ∷ rest) is) s.never in
+            let whole : w ≡ words (Word z ∷ rest) w.memory w.input w.output = ap (λ xs. words xs w.memory w.input w.output) is in
+            let fz = All-head OperandFits (Word z) rest (subst (All OperandFits) is s.fits.operands) in
+            silent known s a (order.Take 16 0) true v e on.goes on.room refl (λ at l. takes_all (setting known s) w.memory w.input w.output at z rest fz (subst (λ x. Landed p image at g true acts x q) whole l))
+
     pub take_follows : (t b : ℕ) → slice_get s.orders.list place ≡ Some (order.Take t b) → Follow known (at g place true acts w Running) q
-    take_follows t b e =
-        let o = order.Take t b in
-        let h = has_code known s o e in
-        does known s true 0 (unrefused (perform p.limits.area (Extract t b) w)) 4 (begins_next known s a o e) (step_is known s (Some o) e) (cheap known s o 4 (lit≤ tt) e)
-        (takes (setting known s) w.memory w.input w.output (next known s a) t b w.operands (behind known s a o e) h.1 (low_room known s) s.fits.operands (code known s a o e) a.landed)
+    take_follows t b e = elim (cases_lt 0 (part_steps t b false)) [
+      | inl some ↦ does known s true 0 (unrefused (perform p.limits.area (Extract t b) w)) 4 (begins_next known s a (order.Take t b) e) (step_is known s (Some (order.Take t b)) e) (cheap known s (order.Take t b) 4 (lit≤ tt) e)
+          (takes (setting known s) w.memory w.input w.output (all.stands g s.orders s.unit).value (next known s a) t b w.operands (behind known s a (order.Take t b) e) some (has_code known s (order.Take t b) e).1 (low_room known s) s.fits.operands
+          (code known s a (order.Take t b) e) a.landed)
+      | inr none ↦ let all_bits = without_steps t b (omega arith) in
+          take_all (subst (λ n. slice_get s.orders.list place ≡ Some (order.Take n 0)) all_bits.0 (subst (λ n. slice_get s.orders.list place ≡ Some (order.Take t n)) all_bits.1 e))
+    ]
 
     pub and_follows : slice_get s.orders.list place ≡ Some order.And → Follow known (at g place true acts w Running) q
     and_follows e =

@@ -95,11 +95,15 @@ pub record IsImage (p : OrderProgram) (image : List ℕ) : Type 0 where
 
 -- the orders that can stand behind others in a block
 abbrev pub StandsBehind : Order → Type 0
+StandsBehind order.Save = Unit {0}
 StandsBehind (order.Const w) = Unit {0}
 StandsBehind (order.Home f n) = Unit {0}
 StandsBehind (order.FrameHome n) = Unit {0}
 StandsBehind order.Load = Unit {0}
 StandsBehind order.Store = Unit {0}
+StandsBehind (order.LoadPart t b is_signed) = Unit {0}
+StandsBehind (order.StorePart t b) = Unit {0}
+StandsBehind (order.Element lower span line) = Unit {0}
 StandsBehind (order.Add line) = Unit {0}
 StandsBehind (order.Sub line) = Unit {0}
 StandsBehind (order.JumpIf c m) = Unit {0}

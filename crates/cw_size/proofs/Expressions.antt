@@ -1,5 +1,5 @@
 -- The orders of expressions, conditions, references and arguments are short by the tokens of their trees.
-use Rattle.std.proofs.Common.{◌≡◌, ℕ, zero, suc, ◌+◌, ◌*◌, ◌<◌, ◌≤◌, max, ℤ, pos, ◌-ℤ◌, List, [], ◌∷◌, ◌++◌, map, Bool, true, false, Option, Some, None, refl, sym, ap, ◌∙◌, subst, arith}
+use Rattle.std.proofs.Common.{◌≡◌, ℕ, zero, suc, ◌+◌, ◌*◌, ◌<◌, ◌≤◌, max, ℤ, pos, ◌-ℤ◌, List, [], ◌∷◌, ◌++◌, map, Bool, true, false, not, Option, Some, None, refl, sym, ap, ◌∙◌, subst, arith}
 use Rattle.std.proofs.lemmas.Option.{none-some}
 use Rattle.cw_word.specs.Decimal.{decimal_floor}
 use Rattle.cw_word.specs.Word.{unsigned}
@@ -22,7 +22,7 @@ use Rattle.cw_gen_expr.proofs.Layers as made
 use Rattle.cw_tokens.specs.LeastTokens.{separated, part, expression_tokens, argument_tokens, condition_tokens, reference_tokens}
 use Rattle.cw_tmpl.specs.Templates.{listed_size, listed_sizes}
 use Rattle.cw_size.proofs.Short.{sizes-append, first_short, Short, plainly, both_short, ended_short, eased}
-use Rattle.cw_size.proofs.OrderSizes.{item-first, item-load, saved-item, saved-table, bounds-short, element-short, of-two-short, entry-short, rescale-short, rescale-whole, rescale-same, logic-short, product-short, call-short, label-short}
+use Rattle.cw_size.proofs.OrderSizes.{item-first, item-load, saved-item, saved-table, bounds-short, take-short, load-part-short, element-short, of-two-short, entry-short, rescale-short, rescale-whole, rescale-same, logic-short, product-short, call-short, label-short}
 use Rattle.cw_size.proofs.TokenLayers.{expression_layer, expression-tokens, argument_layer, argument-tokens, condition_layer, condition-tokens, spot_layer, spot-tokens, reference-tokens, separated-within}
 
 pub choice_short : {m k n : ℕ} {i j : ℕ} (c : ConditionPiece) (a b : Piece) → ((when : Bool) (mark : ℕ) → Short (c when mark) 0 m) → Short a i k → Short b j n → Short (choice_piece c a b) (i + j) (m + k + n + 3)
@@ -37,7 +37,7 @@ choice_short {m = m} {k = k} {n = n} {i = i} {j = j} c a b hc ha hb =
 
 -- ---- trees
 
--- What of 32 bytes for each token of an address is left, by what it reads or writes of its word. The load of a part has ten bytes more than
+-- What of 32 bytes for each token of an address is left, by what it reads or writes of its word. The load of a part has at most ten bytes more than
 -- that of a word. A value may have five beside those of its tokens, and 14 of them where it is at a scale that needs no rescaling.
 abbrev pub spared : Option Field → ℕ
 spared None = 14
@@ -62,7 +62,7 @@ two-spared (Some s) = omega arith
 
 loads : (o : Option Field) → listed_sizes (load_orders o) + 9 ≤ spared o
 loads None = let z : 5 + 0 + 9 ≤ 14 = omega arith in z
-loads (Some s) = let z : 15 + 0 + 9 ≤ 24 = omega arith in z
+loads (Some s) = let h = load-part-short s.t s.b (not s.unsigned) in let z : listed_size (order.LoadPart s.t s.b (not s.unsigned)) + 0 + 9 ≤ 24 = omega (arith, h) in z
 
 module _ (s : Scope) where
   -- the rescaling from a scale to another, and so much to spare, have at most 14 bytes
@@ -303,7 +303,7 @@ module _ (s : Scope) where
     computed_short (layer.Bits t d e) le f spare r =
         let os : List Order = rescale_orders s.line 0 f in
         unary e (value_of s e).operand (order.Take t d ∷ os) 6 (10 + listed_sizes os) spare (let z : expression_size e < n = omega (arith, le) in z)
-        (first_short (order.Take t d) os 10 (listed_sizes os) (let z : 10 ≤ 10 = omega arith in z) (let z : listed_sizes os ≤ listed_sizes os = omega arith in z)) (let z : 10 + listed_sizes os + spare ≤ 32 * 6 = omega (arith, r) in z)
+        (first_short (order.Take t d) os 10 (listed_sizes os) (take-short t d) (let z : listed_sizes os ≤ listed_sizes os = omega arith in z)) (let z : 10 + listed_sizes os + spare ≤ 32 * 6 = omega (arith, r) in z)
     computed_short (layer.Logic op a d) le f spare r =
         let os : List Order = rescale_orders s.line 0 f in
         let h = first_short (logic_order op) os 3 (listed_sizes os) (logic-short op) (let z : listed_sizes os ≤ listed_sizes os = omega arith in z) in

@@ -23,7 +23,7 @@ use Rattle.cw_gen_expr.specs.ReferenceExpressions.{Scope, argument_words, placed
 use Rattle.cw_gen_expr.specs.ReferenceEntries.{bound_by, bound_in, bound_order, parameter_orders, bind_orders}
 use Rattle.cw_gen_expr.specs.UnitTables.{label_mark}
 use Rattle.cw_gen_unit.specs.ReferenceStatements.{after_statement_call, from_procedure, own_order, goal_order, keep_orders, number_orders, set_orders, bump_orders}
-use Rattle.cw_tmpl.specs.Templates.{times_size, width_size, bound_size, word_size, listed_size, sizes_behind, listed_sizes}
+use Rattle.cw_tmpl.specs.Templates.{shift_size, lowest_size, part_size, times_size, width_size, bound_size, word_size, listed_size, sizes_behind, listed_sizes}
 use Rattle.cw_size.proofs.Short.{all-behind, sizes-append, first_short}
 
 -- ---- items
@@ -106,13 +106,43 @@ saved-table y t i o most h =
 
 -- ---- parts, bounds and products
 
+shift-short : (places : ℕ) → shift_size places ≤ 5
+shift-short zero = omega arith
+shift-short (suc zero) = omega arith
+shift-short (suc (suc n)) = omega arith
+
+lowest-short : (all : Bool) → lowest_size all ≤ 3
+lowest-short true = omega arith
+lowest-short false = omega arith
+
+part-short : (t b : ℕ) (is_signed : Bool) → part_size t b is_signed ≤ 10
+part-short t b true =
+    let up = shift-short (16 - (t + b)) in
+    let down = shift-short (16 - t) in
+    let z : shift_size (16 - (t + b)) + shift_size (16 - t) ≤ 10 = omega (arith, up, down) in
+    z
+part-short t b false =
+    let down = shift-short b in
+    let lowest = lowest-short (t + b == 16) in
+    let z : shift_size b + lowest_size (t + b == 16) ≤ 10 = omega (arith, down, lowest) in
+    z
+
+pub take-short : (t b : ℕ) → listed_size (order.Take t b) ≤ 10
+take-short t b = part-short t b false
+
+pub load-part-short : (t b : ℕ) (is_signed : Bool) → listed_size (order.LoadPart t b is_signed) ≤ 15
+load-part-short t b is_signed = let h = part-short t b is_signed in let z : 5 + part_size t b is_signed ≤ 15 = omega (arith, h) in z
+
+pub store-part-short : (t b : ℕ) → listed_size (order.StorePart t b) ≤ 26
+store-part-short t b = let h = shift-short b in let z : shift_size b + 12 ≤ 26 = omega (arith, h) in z
+
 pub bounds-short : (c : Bool) (line : ℕ) (l h : ℤ) → listed_sizes (bounds_orders c line l h) ≤ 20
 bounds-short true line l h = omega arith
 bounds-short false line l h = omega arith
 
 pub store-short : (o : Option Field) → listed_sizes (store_orders o) ≤ 26
 store-short None = omega arith
-store-short (Some s) = omega arith
+store-short (Some s) = let h = store-part-short s.t s.b in let z : listed_size (order.StorePart s.t s.b) + 0 ≤ 26 = omega (arith, h) in z
 
 times-short : (n : ℕ) → times_size n ≤ 14
 times-short n = picked (n == 32768)

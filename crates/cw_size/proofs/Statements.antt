@@ -21,7 +21,7 @@ use Rattle.cw_tokens.specs.LeastTokens.{separated, arguments, expression_tokens,
 use Rattle.cw_tmpl.specs.Templates.{listed_size, listed_sizes}
 use Rattle.cw_tokens.specs.SetLabels.{together, set_step, set_labels}
 use Rattle.cw_size.proofs.Short.{first_short, Short, plainly, both_short, ended_short, labels_short, eased}
-use Rattle.cw_size.proofs.OrderSizes.{item-load, item-keep, store-short, call-short, after-short, goal-short, number-short, set-short, bump-short, turn-short}
+use Rattle.cw_size.proofs.OrderSizes.{item-load, item-keep, store-part-short, store-short, call-short, after-short, goal-short, number-short, set-short, bump-short, turn-short}
 use Rattle.cw_size.proofs.TokenLayers.{each-argument, separated-within}
 use Rattle.cw_size.proofs.Expressions.{choice_short, saved_short, expression_short, condition_ended_short, address_short, arguments_short}
 
@@ -188,7 +188,7 @@ module _ (s : Scope) (who : Option ℕ) (answer : ℕ) where
         eased
         (both_short (begin_short line)
         (both_short (expression_short (at_line line s) e 0)
-        (both_short (saved_short (at_line line s)) (both_short (address_short (at_line line s) r) (plainly (order.StorePart t b ∷ []) 26 (let z : 26 + 0 ≤ 26 = omega arith in z))))))
+        (both_short (saved_short (at_line line s)) (both_short (address_short (at_line line s) r) (plainly (order.StorePart t b ∷ []) 26 (let h = store-part-short t b in let z : listed_size (order.StorePart t b) + 0 ≤ 26 = omega (arith, h) in z))))))
         (let z : 1 + (32 * expression_tokens e + 5 + (1 + (32 * reference_tokens r + 26))) + 15 * 0 ≤ 32 * (7 + (reference_tokens r + expression_tokens e)) + (0 + (0 + (0 + (14 + 0)))) = omega arith in z)
     layer_short (statement.Go line d) le =
         eased (both_short (begin_short line) (jump_short line d)) (let z : 1 + 32 * jump_tokens d + 15 * 0 ≤ 32 * suc (jump_tokens d) + (0 + 0) = omega arith in z)

@@ -1,17 +1,19 @@
 -- The orders of a block stand at the front of the list that it begins.
-use Rattle.std.proofs.Common.{◌≡◌, ℕ, zero, suc, ◌+◌, pos, List, [], ◌∷◌, ◌++◌, length, drop, Bool, true, false, Option, Some, None, refl, sym, ap, ◌∙◌, subst, arith, append_assoc, length-append}
-use Rattle.std.specs.Prelude.{slice_get, if◌then◌else◌}
+use Rattle.std.proofs.Common.{◌≡◌, ℕ, zero, suc, ◌+◌, ℤ, pos, List, [], ◌∷◌, ◌++◌, length, drop, Bool, true, false, Option, Some, None, refl, sym, ap, ◌∙◌, subst, arith, append_assoc, length-append}
+use Rattle.std.proofs.lemmas.Bool.Decides.{nat_tests}
+use Rattle.std.specs.Prelude.{slice_get, if◌then◌else◌, negsuc, ◌==◌}
 use Rattle.cw_order.specs.declared.order.Order.{Order}
 use Rattle.cw_order.specs.declared.order.Order.TheVariants as order
 use Rattle.cw_tmpl.specs.declared.blocks.Place.{Place}
 use Rattle.cw_tmpl.specs.declared.blocks.Place.TheVariants as cell
+use Rattle.cw_tmpl.specs.declared.blocks.Element.{Element}
 use Rattle.cw_tmpl.specs.declared.blocks.Simple.{Simple}
 use Rattle.cw_tmpl.specs.declared.blocks.Simple.TheVariants as simple
 use Rattle.cw_tmpl.specs.declared.blocks.Use.{Use}
 use Rattle.cw_tmpl.specs.declared.blocks.Use.TheVariants as uses
 use Rattle.cw_tmpl.specs.declared.blocks.Block.{Block}
 use Rattle.cw_tmpl.specs.declared.blocks.Block.TheVariants as block
-use Rattle.cw_tmpl.specs.Blocks.{address_orders, operand_orders, order_of, orders_before, last_order, place_at, use_of, with_use, fetched, fetched_from, assigned, is_plain_divisor, with_number, saved, saved_from, block_of}
+use Rattle.cw_tmpl.specs.Blocks.{address_orders, element_orders, operand_orders, order_of, count_order, orders_before, last_order, place_at, use_of, zero_word, element_with, element_of, element_behind, element_at, with_use, fetched, fetched_from, assigned, is_part, NamesParts, block_at, is_plain_divisor, halving_places, halved, divided, number_scaled, number_used, with_number, saved, saved_from, element_fetched, element_used, element_saved, fetched_or, saved_or, block_if_saved, block_from, block_of}
 
 pub front_is : (list : List Order) (k : ℕ) (o : Order) → slice_get list k ≡ Some o → drop k list ≡ o ∷ drop (suc k) list
 front_is [] k o e = absurd (cc)
@@ -22,11 +24,26 @@ front_is (x ∷ xs) (suc k) o e = front_is xs k o e
 abbrev pub BeginsWith : (before : List Order) → Order → List Order → Type 0
 BeginsWith before o os = os ≡ before ++ o ∷ drop (suc (length before)) os
 
+-- the word that index 0 of an element names is known to be in the data area
+abbrev pub IsNear : Element → Type 0
+IsNear e = zero_word e.lower e.span e.first ≡ Some e.zero
+
+-- what is known of the element of an operand
+abbrev pub OperandIs : Simple → Type 0
+OperandIs (simple.Element e) = IsNear e
+OperandIs s = Unit {0}
+
 -- what is known of a list, by the block that it begins
 abbrev pub IsBlock : Block → List Order → Type 0
 IsBlock (block.Within n) os = ⊥
 IsBlock block.Single os = Unit {0}
 IsBlock (block.Divide w line) os = BeginsWith (order.Save ∷ order.Const w ∷ []) (order.Div (pos 0) line) os × (is_plain_divisor w ≡ true)
+IsBlock (block.Halve w power places line) os = BeginsWith (order.Save ∷ order.Const w ∷ []) (order.Mul power line) os × (halving_places w power ≡ Some places)
+IsBlock (block.FetchElement e) os = BeginsWith (element_orders e) order.Load os × IsNear e
+IsBlock (block.AssignElement e) os = BeginsWith (order.Save ∷ element_orders e) order.Store os × IsNear e
+IsBlock (block.Operate s u) os = BeginsWith (order.Save ∷ operand_orders s) (order_of u) os × OperandIs s
+IsBlock (block.FetchPart x t b is_signed) os = BeginsWith (address_orders x) (order.LoadPart t b is_signed) os × (is_part t b ≡ true)
+IsBlock (block.AssignPart x t b) os = BeginsWith (order.Save ∷ address_orders x) (order.StorePart t b) os × (is_part t b ≡ true)
 IsBlock b os = BeginsWith (orders_before b) (last_order b) os
 
 with_last : (before os : List Order) (o : Order) → os ≡ before ++ drop (length before) os → slice_get os (length before) ≡ Some o → BeginsWith before o os
@@ -59,12 +76,64 @@ use_shape (Some order.Xor) u e = as_used order.Xor uses.Differ u refl e
 use_shape (Some (order.JumpIf c m)) u e = as_used (order.JumpIf c m) (uses.Compare c m) u refl e
 use_shape (Some _) u e = absurd (cc)
 
+-- the orders that make the address of an element
+element_shape : (os : List Order) (e : Element) → element_at (place_at os) os ≡ Some e → (os ≡ element_orders e ++ drop (length (element_orders e)) os) × IsNear e
+element_shape os e is = placed (place_at os) refl is
+  where
+    known : (x : Place) (f n : ℕ) (l : ℤ) (s line : ℕ) (z : Option ℕ) → zero_word l s n ≡ z → os ≡ address_orders x ++ order.Load ∷ order.Save ∷ order.Home f n ∷ order.Element l s line ∷ drop (length (address_orders x) + 4) os
+        → element_with z x f n l s line ≡ Some e → (os ≡ element_orders e ++ drop (length (element_orders e)) os) × IsNear e
+    known x f n l s line None near there is = absurd (cc)
+    known x f n l s line (Some z) near there is =
+        let E : Element = record { index = x; family = f; first = n; lower = l; span = s; line = line; zero = z } in
+        let same : E ≡ e = cc in
+        let A = address_orders x in
+        let last : List Order = order.Load ∷ order.Save ∷ order.Home f n ∷ order.Element l s line ∷ [] in
+        let long : length (A ++ last) ≡ length A + 4 = length-append A last in
+        subst (λ y. (os ≡ element_orders y ++ drop (length (element_orders y)) os) × IsNear y) same
+        (there ∙ sym (append_assoc A last (drop (length A + 4) os)) ∙ ap (λ k. (A ++ last) ++ drop k os) (sym long), near)
+
+    formed : (x : Place) (loads saves puts forms : Option Order) → slice_get os (length (address_orders x)) ≡ loads → slice_get os (length (address_orders x) + 1) ≡ saves
+        → slice_get os (length (address_orders x) + 2) ≡ puts → slice_get os (length (address_orders x) + 3) ≡ forms → os ≡ address_orders x ++ drop (length (address_orders x)) os
+        → element_of x loads saves puts forms ≡ Some e → (os ≡ element_orders e ++ drop (length (element_orders e)) os) × IsNear e
+    formed x (Some order.Load) (Some order.Save) (Some (order.Home f n)) (Some (order.Element l s line)) e1 e2 e3 e4 there is =
+        let k = length (address_orders x) in
+        let k1 : k + 1 ≡ suc k = omega arith in
+        let k2 : k + 2 ≡ suc (k + 1) = omega arith in
+        let k3 : k + 3 ≡ suc (k + 2) = omega arith in
+        let k4 : k + 4 ≡ suc (k + 3) = omega arith in
+        let d1 : drop k os ≡ order.Load ∷ drop (k + 1) os = front_is os k order.Load e1 ∙ ap (λ m. order.Load ∷ drop m os) (sym k1) in
+        let d2 : drop (k + 1) os ≡ order.Save ∷ drop (k + 2) os = front_is os (k + 1) order.Save e2 ∙ ap (λ m. order.Save ∷ drop m os) (sym k2) in
+        let d3 : drop (k + 2) os ≡ order.Home f n ∷ drop (k + 3) os = front_is os (k + 2) (order.Home f n) e3 ∙ ap (λ m. order.Home f n ∷ drop m os) (sym k3) in
+        let d4 : drop (k + 3) os ≡ order.Element l s line ∷ drop (k + 4) os = front_is os (k + 3) (order.Element l s line) e4 ∙ ap (λ m. order.Element l s line ∷ drop m os) (sym k4) in
+        known x f n l s line (zero_word l s n) refl
+        (there ∙ ap (λ r. address_orders x ++ r) (d1 ∙ ap (λ r. order.Load ∷ r) (d2 ∙ ap (λ r. order.Save ∷ r) (d3 ∙ ap (λ r. order.Home f n ∷ r) d4)))) is
+    formed x _ _ _ _ e1 e2 e3 e4 there is = absurd (cc)
+
+    placed : (x : Option Place) → place_at os ≡ x → element_at x os ≡ Some e → (os ≡ element_orders e ++ drop (length (element_orders e)) os) × IsNear e
+    placed None at is = absurd (cc)
+    placed (Some x) at is =
+        let k = length (address_orders x) in
+        formed x (slice_get os k) (slice_get os (k + 1)) (slice_get os (k + 2)) (slice_get os (k + 3)) refl refl refl refl (place_shape os x at) is
+
+-- an operand, and the order behind it that uses it
+operand_used : (os before : List Order) (last : Order) → os ≡ before ++ drop (length before) os → slice_get os (length before) ≡ Some last
+    → (os ≡ (before ++ last ∷ []) ++ drop (length (before ++ last ∷ [])) os) × (length (before ++ last ∷ []) ≡ length before + 1)
+operand_used os before last e is =
+    let long : length (before ++ last ∷ []) ≡ length before + 1 = length-append before (last ∷ []) in
+    let next : suc (length before) ≡ length (before ++ last ∷ []) = omega (arith, long) in
+    (with_last before os last e is ∙ sym (append_assoc before (last ∷ []) (drop (suc (length before)) os)) ∙ ap (λ n. (before ++ last ∷ []) ++ drop n os) next, long)
+
 module _ (os : List Order) where
   fetched_shape : IsBlock (fetched_from (place_at os) os) os
   fetched_shape = cases (place_at os) refl
     where
+      parted : (i : Bool) (x : Place) (t b : ℕ) (is_signed : Bool) → is_part t b ≡ i → BeginsWith (address_orders x) (order.LoadPart t b is_signed) os → IsBlock (if i then block.FetchPart x t b is_signed else block.Single) os
+      parted true x t b is_signed is e = (e, is)
+      parted false x t b is_signed is e = tt
+
       loaded : (x : Place) (o : Option Order) → slice_get os (length (address_orders x)) ≡ o → os ≡ address_orders x ++ drop (length (address_orders x)) os → IsBlock (fetched x o) os
       loaded x (Some order.Load) is e = with_last (address_orders x) os order.Load e is
+      loaded x (Some (order.LoadPart t b is_signed)) is e = parted (is_part t b) x t b is_signed refl (with_last (address_orders x) os (order.LoadPart t b is_signed) e is)
       loaded x _ is e = tt
 
       cases : (x : Option Place) → place_at os ≡ x → IsBlock (fetched_from x os) os
@@ -72,40 +141,70 @@ module _ (os : List Order) where
       cases (Some x) e = loaded x (slice_get os (length (address_orders x))) refl (place_shape os x e)
 
   -- behind a Save
-  used : (s : Simple) (next : Option Order) (u : Option Use) → use_of next ≡ u → os ≡ operand_orders s ++ drop (length (operand_orders s)) os → slice_get os (length (operand_orders s)) ≡ next → IsBlock (with_use s u) (order.Save ∷ os)
-  used s next None is e there = tt
-  used s next (Some u) is e there = behind_save (operand_orders s) os (order_of u) (with_last (operand_orders s) os (order_of u) e (there ∙ use_shape next u is))
+  used : (s : Simple) (next : Option Order) (u : Option Use) → OperandIs s → use_of next ≡ u → os ≡ operand_orders s ++ drop (length (operand_orders s)) os → slice_get os (length (operand_orders s)) ≡ next → IsBlock (with_use s u) (order.Save ∷ os)
+  used s next None known is e there = tt
+  used s next (Some u) known is e there = (behind_save (operand_orders s) os (order_of u) (with_last (operand_orders s) os (order_of u) e (there ∙ use_shape next u is)), known)
 
   quotient_shape : (b : Bool) (w line : ℕ) → is_plain_divisor w ≡ b → BeginsWith (order.Save ∷ order.Const w ∷ []) (order.Div (pos 0) line) (order.Save ∷ os)
       → IsBlock (if b then block.Divide w line else block.Single) (order.Save ∷ os)
   quotient_shape true w line is e = (e, is)
   quotient_shape false w line is e = tt
 
+  halved_shape : (w : ℕ) (power : ℤ) (line : ℕ) (n : Option ℕ) → halving_places w power ≡ n → BeginsWith (order.Save ∷ order.Const w ∷ []) (order.Mul power line) (order.Save ∷ os)
+      → IsBlock (halved w power line n) (order.Save ∷ os)
+  halved_shape w power line None is e = tt
+  halved_shape w power line (Some n) is e = (e, is)
+
+  counted_shape : (b : Bool) (w : ℕ) (down : Bool) (line : ℕ) (u : Use) → (w == 1) ≡ b → order_of u ≡ count_order down line → BeginsWith (order.Save ∷ order.Const w ∷ []) (count_order down line) (order.Save ∷ os)
+      → IsBlock (if b then block.Count down line else block.Operate (simple.Number w) u) (order.Save ∷ os)
+  counted_shape true w down line u is same e =
+      let one : w ≡ 1 = grind (arith, nat_tests) in
+      subst (λ n. BeginsWith (order.Save ∷ order.Const n ∷ []) (count_order down line) (order.Save ∷ os)) one e
+  counted_shape false w down line u is same e = (subst (λ o. BeginsWith (order.Save ∷ order.Const w ∷ []) o (order.Save ∷ os)) (sym same) e, tt)
+
+  divided_shape : (w : ℕ) (power : ℤ) (line : ℕ) → BeginsWith (order.Save ∷ order.Const w ∷ []) (order.Div power line) (order.Save ∷ os) → IsBlock (divided w power line) (order.Save ∷ os)
+  divided_shape w (pos zero) line e = quotient_shape (is_plain_divisor w) w line refl e
+  divided_shape w (pos (suc n)) line e = tt
+  divided_shape w (negsuc n) line e = tt
+
+  scaled_shape : (w : ℕ) (next : Option Order) → slice_get os 1 ≡ next → os ≡ order.Const w ∷ drop 1 os → IsBlock (number_scaled w next) (order.Save ∷ os)
+  scaled_shape w (Some (order.Div power line)) is e = divided_shape w power line (behind_save (order.Const w ∷ []) os (order.Div power line) (with_last (order.Const w ∷ []) os (order.Div power line) e is))
+  scaled_shape w (Some (order.Mul power line)) is e =
+      halved_shape w power line (halving_places w power) refl (behind_save (order.Const w ∷ []) os (order.Mul power line) (with_last (order.Const w ∷ []) os (order.Mul power line) e is))
+  scaled_shape w _ is e = tt
+
   number_shape : (w : ℕ) (next : Option Order) → slice_get os 1 ≡ next → os ≡ order.Const w ∷ drop 1 os → IsBlock (with_number w next) (order.Save ∷ os)
-  number_shape w (Some (order.Div (pos zero) line)) is e =
-      quotient_shape (is_plain_divisor w) w line refl (behind_save (order.Const w ∷ []) os (order.Div (pos 0) line) (with_last (order.Const w ∷ []) os (order.Div (pos 0) line) e is))
-  number_shape w None is e = tt
-  number_shape w (Some o) is e = used (simple.Number w) (Some o) (use_of (Some o)) refl e is
+  number_shape w next is e = cases (use_of next) refl
+    where
+      there : (u : Use) → use_of next ≡ Some u → BeginsWith (order.Save ∷ order.Const w ∷ []) (order_of u) (order.Save ∷ os)
+      there u same = behind_save (order.Const w ∷ []) os (order_of u) (with_last (order.Const w ∷ []) os (order_of u) e (is ∙ use_shape next u same))
+
+      cases : (u : Option Use) → use_of next ≡ u → IsBlock (number_used w u next) (order.Save ∷ os)
+      cases None same = scaled_shape w next is e
+      cases (Some (uses.Add line)) same = counted_shape (w == 1) w false line (uses.Add line) refl refl (there (uses.Add line) same)
+      cases (Some (uses.Subtract line)) same = counted_shape (w == 1) w true line (uses.Subtract line) refl refl (there (uses.Subtract line) same)
+      cases (Some (uses.Multiply line)) same = (there (uses.Multiply line) same, tt)
+      cases (Some uses.Mask) same = (there uses.Mask same, tt)
+      cases (Some uses.Union) same = (there uses.Union same, tt)
+      cases (Some uses.Differ) same = (there uses.Differ same, tt)
+      cases (Some (uses.Compare c m)) same = (there (uses.Compare c m) same, tt)
 
   other_shape : (here next : Option Order) → slice_get os 0 ≡ here → slice_get os 1 ≡ next → IsBlock (saved here next) (order.Save ∷ os)
   other_shape (Some (order.Const w)) next is there = number_shape w next there (front_is os 0 (order.Const w) is)
   other_shape (Some order.WriteByte) next is there = behind_save [] os order.WriteByte (with_last [] os order.WriteByte refl is)
   other_shape _ next is there = tt
 
-  contents_shape : (x : Place) → os ≡ address_orders x ++ drop (length (address_orders x)) os → slice_get os (length (address_orders x)) ≡ Some order.Load
-      → (os ≡ operand_orders (simple.Contents x) ++ drop (length (operand_orders (simple.Contents x))) os) × (length (operand_orders (simple.Contents x)) ≡ length (address_orders x) + 1)
-  contents_shape x e is =
-      let A = address_orders x in
-      let long : length (A ++ order.Load ∷ []) ≡ length A + 1 = length-append A (order.Load ∷ []) in
-      let next : suc (length A) ≡ length (A ++ order.Load ∷ []) = omega (arith, long) in
-      (with_last A os order.Load e is ∙ sym (append_assoc A (order.Load ∷ []) (drop (suc (length A)) os)) ∙ ap (λ n. (A ++ order.Load ∷ []) ++ drop n os) next, long)
-
   assigned_shape : (x : Place) (here next : Option Order) → slice_get os (length (address_orders x)) ≡ here → slice_get os (length (address_orders x) + 1) ≡ next
       → os ≡ address_orders x ++ drop (length (address_orders x)) os → IsBlock (assigned x here next) (order.Save ∷ os)
   assigned_shape x (Some order.Load) next is there e =
-      let c = contents_shape x e is in
-      used (simple.Contents x) next (use_of next) refl c.0 (ap (slice_get os) c.1 ∙ there)
+      let c = operand_used os (address_orders x) order.Load e is in
+      used (simple.Contents x) next (use_of next) tt refl c.0 (ap (slice_get os) c.1 ∙ there)
   assigned_shape x (Some order.Store) next is there e = behind_save (address_orders x) os order.Store (with_last (address_orders x) os order.Store e is)
+  assigned_shape x (Some (order.StorePart t b)) next is there e = parted (is_part t b) refl
+    where
+      parted : (i : Bool) → is_part t b ≡ i → IsBlock (if i then block.AssignPart x t b else block.Single) (order.Save ∷ os)
+      parted true same = (behind_save (address_orders x) os (order.StorePart t b) (with_last (address_orders x) os (order.StorePart t b) e is), same)
+      parted false same = tt
   assigned_shape x _ next is there e = tt
 
   saved_shape : IsBlock (saved_from (place_at os) os) (order.Save ∷ os)
@@ -115,7 +214,56 @@ module _ (os : List Order) where
       cases None e = other_shape (slice_get os 0) (slice_get os 1) refl refl
       cases (Some x) e = assigned_shape x (slice_get os (length (address_orders x))) (slice_get os (length (address_orders x) + 1)) refl refl (place_shape os x e)
 
+  -- an element, and another block where it is neither fetched, assigned nor used
+  fetched_or_shape : (other : Block) → IsBlock other os → IsBlock (fetched_or (element_at (place_at os) os) os other) os
+  fetched_or_shape other is = cases (element_at (place_at os) os) refl
+    where
+      loaded : (e : Element) (o : Option Order) → slice_get os (length (element_orders e)) ≡ o → (os ≡ element_orders e ++ drop (length (element_orders e)) os) × IsNear e → IsBlock (element_fetched e o other) os
+      loaded e (Some order.Load) there h = (with_last (element_orders e) os order.Load h.0 there, h.1)
+      loaded e _ there h = is
+
+      cases : (x : Option Element) → element_at (place_at os) os ≡ x → IsBlock (fetched_or x os other) os
+      cases None at = is
+      cases (Some e) at = loaded e (slice_get os (length (element_orders e))) refl (element_shape os e at)
+
+  saved_or_shape : (other : Block) → IsBlock other (order.Save ∷ os) → IsBlock (saved_or (element_at (place_at os) os) os other) (order.Save ∷ os)
+  saved_or_shape other is = cases (element_at (place_at os) os) refl
+    where
+      taken : (e : Element) (next : Option Order) (u : Option Use) → use_of next ≡ u → slice_get os (length (element_orders e)) ≡ Some order.Load → slice_get os (length (element_orders e) + 1) ≡ next
+          → (os ≡ element_orders e ++ drop (length (element_orders e)) os) × IsNear e → IsBlock (element_used e u other) (order.Save ∷ os)
+      taken e next None same there behind h = is
+      taken e next (Some u) same there behind h =
+          let c = operand_used os (element_orders e) order.Load h.0 there in
+          used (simple.Element e) next (Some u) h.1 same c.0 (ap (slice_get os) c.1 ∙ behind)
+
+      stored : (e : Element) (here next : Option Order) → slice_get os (length (element_orders e)) ≡ here → slice_get os (length (element_orders e) + 1) ≡ next
+          → (os ≡ element_orders e ++ drop (length (element_orders e)) os) × IsNear e → IsBlock (element_saved e here next other) (order.Save ∷ os)
+      stored e (Some order.Load) next there behind h = taken e next (use_of next) refl there behind h
+      stored e (Some order.Store) next there behind h = (behind_save (element_orders e) os order.Store (with_last (element_orders e) os order.Store h.0 there), h.1)
+      stored e _ next there behind h = is
+
+      cases : (x : Option Element) → element_at (place_at os) os ≡ x → IsBlock (saved_or x os other) (order.Save ∷ os)
+      cases None at = is
+      cases (Some e) at = stored e (slice_get os (length (element_orders e))) (slice_get os (length (element_orders e) + 1)) refl refl (element_shape os e at)
+
+if_saved_shape : (os : List Order) → IsBlock (block_if_saved os) os
+if_saved_shape [] = tt
+if_saved_shape (order.Save ∷ os) = saved_or_shape os (saved_from (place_at os) os) (saved_shape os)
+if_saved_shape (_ ∷ os) = tt
+
 pub shape : (os : List Order) → IsBlock (block_of os) os
-shape [] = tt
-shape (order.Save ∷ os) = saved_shape os
-shape (o ∷ os) = fetched_shape (o ∷ os)
+shape os = cases (place_at os) refl
+  where
+    cases : (x : Option Place) → place_at os ≡ x → IsBlock (block_from x os) os
+    cases None is = if_saved_shape os
+    cases (Some x) is = subst (λ y. IsBlock (fetched_or (element_at y os) os (fetched_from y os)) os) is (fetched_or_shape os (fetched_from (place_at os) os) (fetched_shape os))
+
+-- the parts that a block names
+pub names_parts : (left : ℕ) (os : List Order) → NamesParts (block_at left os)
+names_parts (suc n) os = tt
+names_parts zero os = cases (block_of os) (shape os)
+  where
+    cases : (b : Block) → IsBlock b os → NamesParts b
+    cases (block.FetchPart x t b is_signed) h = h.1
+    cases (block.AssignPart x t b) h = h.1
+    cases _ h = tt

@@ -1,15 +1,22 @@
 -- The sizes of the code, and the places in it.
-use Rattle.std.proofs.Common.{◌≡◌, ℕ, zero, suc, ◌+◌, ◌*◌, ◌≤◌, List, [], ◌∷◌, ◌++◌, length, drop, get_or, Option, Some, None, refl, sym, ap, ap₂, ◌∙◌, arith, append_assoc, length-append}
+use Rattle.std.proofs.Common.{◌≡◌, ℕ, zero, suc, ◌+◌, ◌*◌, ◌≤◌, List, [], ◌∷◌, ◌++◌, length, drop, get_or, Option, Some, None, refl, sym, ap, ap₂, ◌∙◌, subst, arith, append_assoc, length-append}
+use Rattle.std.proofs.lemmas.List.{append-nil}
 use Rattle.std.specs.Prelude.{◌%◌, ◌-◌, ◌^◌, ◌==◌, nat_le, nat_lt, ℤ, pos, negsuc, Bool, true, false, if◌then◌else◌, slice_get, slice_index}
 use Rattle.cw_order.specs.declared.order.Order.{Order}
 use Rattle.cw_order.specs.declared.order.Order.TheVariants as order
 use Rattle.cw_order.specs.declared.order.Orders.{Orders}
 use Rattle.cw_tmpl.specs.declared.pieces.Coded.{Coded}
+use Rattle.cw_i86.specs.Encoding.{bytes_of}
+use Rattle.cw_i86.specs.declared.instr.Instr.{Instr}
 use Rattle.cw_i86.specs.declared.instr.Instr.TheVariants as i86
+use Rattle.cw_run86.specs.Views.{with_number}
+use Rattle.cw_word.specs.BitField.{field_mask}
+use Rattle.cw_order.specs.declared.order.Comparator.{Comparator}
 use Rattle.cw_tmpl.specs.declared.pieces.Coded.TheVariants as coded
-use Rattle.cw_tmpl.specs.Mnemonics.{ax, cx, move}
+use Rattle.cw_tmpl.specs.Mnemonics.{ax, cx, si, di, at_bx, at_si, set_word, move, load, store, compare, double, multiply, operate, change, shift_up, shift_down, shift_down_signed, shift_up_once, shift_down_once, shift_down_signed_once, jump_if_below}
 use Rattle.cw_tmpl.specs.declared.blocks.Place.{Place}
 use Rattle.cw_tmpl.specs.declared.blocks.Place.TheVariants as cell
+use Rattle.cw_tmpl.specs.declared.blocks.Element.{Element}
 use Rattle.cw_tmpl.specs.declared.blocks.Simple.{Simple}
 use Rattle.cw_tmpl.specs.declared.blocks.Simple.TheVariants as simple
 use Rattle.cw_tmpl.specs.declared.blocks.Use.{Use}
@@ -20,11 +27,11 @@ use Rattle.cw_unit.specs.declared.unit.Goal.{Goal}
 use Rattle.cw_unit.specs.declared.unit.Goal.TheVariants as goal
 use Rattle.cw_order.specs.declared.order.LabelMark.{LabelMark}
 use Rattle.cw_tmpl.specs.Pieces.{blanks}
-use Rattle.cw_tmpl.specs.Names.{Names, no_names, switch_size}
-use Rattle.cw_tmpl.specs.Blocks.{address_orders, operand_orders, order_of, block_of, block_at, orders_left, left_at}
+use Rattle.cw_tmpl.specs.Names.{Names, no_names, mark_place, switch_size}
+use Rattle.cw_tmpl.specs.Blocks.{address_orders, element_orders, operand_orders, order_of, count_order, element_at, element_fetched, fetched_or, block_of, block_at, orders_left, left_at}
 use Rattle.cw_tmpl.proofs.Shapes.{IsBlock, shape}
 use Rattle.cw_tmpl.specs.Library.{overflow_entry, address_entry}
-use Rattle.cw_tmpl.specs.Templates.{template, mark_words, goal_words, landing_pieces, switch_pieces, times_if, rescale_if, product_start, product_down, times, less_bound, plus_word, times_width, based, element, in_row, element_of_two, entry, address_pieces, load_place, store_place, pieces_size, operated, block_pieces, block_size, order_size, times_size, width_size, bound_size, word_size, listed_size, size_behind, sizes_behind, listed_sizes, distance, entry_pieces}
+use Rattle.cw_tmpl.specs.Templates.{template, mark_words, goal_words, landing_pieces, switch_pieces, times_if, rescale_if, product_start, product_down, times, less_bound, plus_word, times_width, based, element, in_row, element_of_two, entry, address_pieces, load_place, store_place, pieces_size, operated, block_pieces, block_size, order_size, times_size, width_size, bound_size, word_size, listed_size, size_behind, sizes_behind, listed_sizes, distance, entry_pieces, shifted, shifted_up, shifted_down, shifted_down_signed, lowest_if, part_taken, index_size, store_part, operate_place, change_place, index_added, element_address, with_operand, product_with, checked, branch, call_stop, shift_size, lowest_size, part_size}
 use Rattle.cw_tmpl.specs.ReferenceCode.{templates, landings, switches, places_from, entry_size, order_places, landings_place, switches_place, names_of, mark_starts, pieces_of, switch_sizes, StandsAt}
 use Rattle.cw_tmpl.proofs.Growing.{blanks-append}
 
@@ -41,6 +48,13 @@ size_of_goals names (goal.Common d ∷ gs) = omega (arith, size_of_goals names g
 loop_way_long : (names : Names) (place : ℕ) (marks : List ℕ) → length (blanks (template names place (order.LoopWay marks))) ≡ 20 + 2 * length marks
 loop_way_long names place marks = omega (arith, size_of_marks names marks)
 
+-- a comparison with an element, and the jumps behind it
+element_compared_long : (names : Names) (place : ℕ) (e : Element) (c : Comparator) (m : ℕ) → length (blanks (operated names place (simple.Element e) (uses.Compare c m))) ≡ length (blanks (operated no_names 0 (simple.Element e) (uses.Compare c m)))
+element_compared_long names place e c m =
+    let before : List Coded = with_operand 7 (simple.Element e) in
+    let long : (end to : ℕ) → length (blanks (before ++ branch c end to)) ≡ length (blanks before) + 5 = λ end to. ap length (blanks-append before (branch c end to)) ∙ length-append (blanks before) (blanks (branch c end to)) in
+    long (place + pieces_size before + 5) (mark_place names m) ∙ sym (long (0 + pieces_size before + 5) (mark_place no_names m))
+
 -- the code of a block is as long wherever it stands
 pub size_everywhere : (names : Names) (place : ℕ) (b : Block) (o : Order) → length (blanks (block_pieces names place b o)) ≡ block_size b o
 size_everywhere names place (block.Within n) o = refl
@@ -54,7 +68,19 @@ size_everywhere names place (block.Divide w line) o = refl
 size_everywhere names place (block.Operate (simple.Number w) (uses.Compare c m)) o = refl
 size_everywhere names place (block.Operate (simple.Contents (cell.Word f n)) (uses.Compare c m)) o = refl
 size_everywhere names place (block.Operate (simple.Contents (cell.Frame n)) (uses.Compare c m)) o = refl
-size_everywhere names place (block.Operate s u) o = refl
+size_everywhere names place (block.Operate (simple.Element e) (uses.Compare c m)) o = element_compared_long names place e c m
+size_everywhere names place (block.Operate s (uses.Add line)) o = refl
+size_everywhere names place (block.Operate s (uses.Subtract line)) o = refl
+size_everywhere names place (block.Operate s (uses.Multiply line)) o = refl
+size_everywhere names place (block.Operate s uses.Mask) o = refl
+size_everywhere names place (block.Operate s uses.Union) o = refl
+size_everywhere names place (block.Operate s uses.Differ) o = refl
+size_everywhere names place (block.FetchPart x t b is_signed) o = refl
+size_everywhere names place (block.AssignPart x t b) o = refl
+size_everywhere names place (block.FetchElement e) o = refl
+size_everywhere names place (block.AssignElement e) o = refl
+size_everywhere names place (block.Count down line) o = refl
+size_everywhere names place (block.Halve w power places line) o = refl
 
 -- ---- the code before a place of the list
 
@@ -183,6 +209,15 @@ behind_save : (x : Order) → ((y : Order) → size_behind (Some order.Save) (So
 behind_save x same [] = refl
 behind_save x same (y ∷ ys) = ap (λ n. n + sizes_behind (Some x) (Some y) ys) (same y)
 
+-- what is fetched from a place is no order alone
+fetched_never_single : (x : Place) (e : Option Element) (os : List Order) → fetched_or e os (block.Fetch x) ≡ block.Single → ⊥
+fetched_never_single x None os is = cc
+fetched_never_single x (Some e) os is = cases (slice_get os (length (element_orders e))) is
+  where
+    cases : (o : Option Order) → element_fetched e o (block.Fetch x) ≡ block.Single → ⊥
+    cases (Some order.Load) is = cc
+    cases _ is = cc
+
 -- an order alone, and the orders behind it
 single_fits : (o : Order) (os : List Order) → block_of (o ∷ os) ≡ block.Single → listed_size o + listed_sizes os ≤ listed_sizes (o ∷ os)
 single_fits order.Save [] is = omega arith
@@ -194,10 +229,10 @@ single_fits order.Save (order.FrameHome n ∷ order.Store ∷ os) is = absurd (c
 single_fits order.Save (order.FrameHome n ∷ o ∷ os) is = omega arith
 single_fits order.Save (x ∷ os) is = omega (arith, behind_save x (λ y. refl) os)
 single_fits (order.Home f n) [] is = omega arith
-single_fits (order.Home f n) (order.Load ∷ os) is = absurd (cc)
+single_fits (order.Home f n) (order.Load ∷ os) is = absurd (fetched_never_single (cell.Word f n) (element_at (Some (cell.Word f n)) (order.Home f n ∷ order.Load ∷ os)) (order.Home f n ∷ order.Load ∷ os) is)
 single_fits (order.Home f n) (x ∷ os) is = omega (arith, behind_unsaved (order.Home f n) tt x os)
 single_fits (order.FrameHome n) [] is = omega arith
-single_fits (order.FrameHome n) (order.Load ∷ os) is = absurd (cc)
+single_fits (order.FrameHome n) (order.Load ∷ os) is = absurd (fetched_never_single (cell.Frame n) (element_at (Some (cell.Frame n)) (order.FrameHome n ∷ order.Load ∷ os)) (order.FrameHome n ∷ order.Load ∷ os) is)
 single_fits (order.FrameHome n) (x ∷ os) is = omega (arith, behind_unsaved (order.FrameHome n) tt x os)
 single_fits o os is = omega (arith, behind_other None o tt (λ x. refl) os)
 
@@ -220,6 +255,29 @@ product_down_long false line n = refl
 
 appended_long : (a b : List Coded) → length (blanks (a ++ b)) ≡ length (blanks a) + length (blanks b)
 appended_long a b = ap length (blanks-append a b) ∙ length-append (blanks a) (blanks b)
+
+appended_one : (i : Instr) → length (blanks (coded.Whole i ∷ [])) ≡ length (bytes_of i)
+appended_one i = ap length (append-nil (bytes_of i))
+
+-- shifts, and parts of words
+pub shifted_long : (once by_count : Instr) (n : ℕ) → length (bytes_of once) ≡ 2 → length (bytes_of by_count) ≡ 2 → length (blanks (shifted once by_count n)) ≡ shift_size n
+shifted_long once by_count zero o c = refl
+shifted_long once by_count (suc zero) o c = appended_one once ∙ o
+shifted_long once by_count (suc (suc n)) o c =
+    omega (arith, appended_long (coded.Whole (set_word cx (suc (suc n))) ∷ []) (coded.Whole by_count ∷ []), appended_one by_count, c)
+
+lowest_long : (all : Bool) (t : ℕ) → length (blanks (lowest_if all t)) ≡ lowest_size all
+lowest_long true t = refl
+lowest_long false t = refl
+
+pub part_long : (t b : ℕ) (is_signed : Bool) → length (blanks (part_taken t b is_signed)) ≡ part_size t b is_signed
+part_long t b true = omega (arith, appended_long (shifted_up (16 - (t + b))) (shifted_down_signed (16 - t)), shifted_long (shift_up_once ax) (shift_up ax) (16 - (t + b)) refl refl, shifted_long (shift_down_signed_once ax) (shift_down_signed ax) (16 - t) refl refl)
+part_long t b false = omega (arith, appended_long (shifted_down b) (lowest_if (t + b == 16) t), shifted_long (shift_down_once ax) (shift_down ax) b refl refl, lowest_long (t + b == 16) t)
+
+store_part_long : (t b : ℕ) → length (blanks (store_part t b)) ≡ shift_size b + 12
+store_part_long t b =
+    let rest : List Coded = coded.Whole (operate 6 ax at_bx) ∷ coded.Whole (with_number 4 (field_mask t b)) ∷ coded.Whole (change 6 at_bx ax) ∷ [] in
+    omega (arith, appended_long (shifted_up b) rest, shifted_long (shift_up_once ax) (shift_up ax) b refl refl)
 
 bound_long : (line : ℕ) (lower : ℤ) → length (blanks (less_bound line lower)) ≡ bound_size lower
 bound_long line (pos zero) = refl
@@ -253,8 +311,9 @@ entry_long line width word =
 
 pub listed : (o : Order) → order_size o ≡ listed_size o
 listed (order.JumpIf c m) = refl
-listed (order.LoadPart t b true) = refl
-listed (order.LoadPart t b false) = refl
+listed (order.LoadPart t b is_signed) = omega (arith, part_long t b is_signed)
+listed (order.StorePart t b) = store_part_long t b
+listed (order.Take t b) = part_long t b false
 listed (order.Rescale from to line) = rescale_long (nat_le from to) (2 ^ (to - from) == 32768) line from to
 listed (order.Mul (pos zero) line) = refl
 listed (order.Mul (pos (suc n)) line) = product_scaled_long (2 ^ suc n == 32768) line (2 ^ suc n)
@@ -276,6 +335,89 @@ assign_fits : (x : Place) (rest : List Order) → pieces_size (address_pieces x 
 assign_fits (cell.Word f n) rest = omega (arith, behind_other (Some (order.Home f n)) order.Store tt (λ x. refl) rest)
 assign_fits (cell.Frame n) rest = omega (arith, behind_other (Some (order.FrameHome n)) order.Store tt (λ x. refl) rest)
 
+-- parts
+fetch_part_fits : (x : Place) (t b : ℕ) (is_signed : Bool) (rest : List Order)
+    → pieces_size (address_pieces x ++ load_place x ∷ part_taken t b is_signed) + listed_sizes rest ≤ listed_sizes (address_orders x ++ order.LoadPart t b is_signed ∷ rest)
+fetch_part_fits (cell.Word f n) t b is_signed rest = omega (arith, part_long t b is_signed, behind_other (Some (order.Home f n)) (order.LoadPart t b is_signed) tt (λ x. refl) rest)
+fetch_part_fits (cell.Frame n) t b is_signed rest = omega (arith, part_long t b is_signed, behind_other (Some (order.FrameHome n)) (order.LoadPart t b is_signed) tt (λ x. refl) rest)
+
+assign_part_fits : (x : Place) (t b : ℕ) (rest : List Order)
+    → pieces_size (shifted_up b ++ (address_pieces x ++ operate_place 6 x ∷ coded.Whole (with_number 4 (field_mask t b)) ∷ change_place 6 x ∷ [])) + listed_sizes rest
+    ≤ listed_sizes (order.Save ∷ (address_orders x ++ order.StorePart t b ∷ rest))
+assign_part_fits x t b rest = cases x
+  where
+    changed : Place → List Coded
+    changed y = address_pieces y ++ operate_place 6 y ∷ coded.Whole (with_number 4 (field_mask t b)) ∷ change_place 6 y ∷ []
+
+    cases : (y : Place) → pieces_size (shifted_up b ++ changed y) + listed_sizes rest ≤ listed_sizes (order.Save ∷ (address_orders y ++ order.StorePart t b ∷ rest))
+    cases (cell.Word f n) = omega (arith, appended_long (shifted_up b) (changed (cell.Word f n)), shifted_long (shift_up_once ax) (shift_up ax) b refl refl, behind_other (Some (order.Home f n)) (order.StorePart t b) tt (λ x. refl) rest)
+    cases (cell.Frame n) = omega (arith, appended_long (shifted_up b) (changed (cell.Frame n)), shifted_long (shift_up_once ax) (shift_up ax) b refl refl, behind_other (Some (order.FrameHome n)) (order.StorePart t b) tt (λ x. refl) rest)
+
+-- one more, and less
+count_fits : (down : Bool) (line : ℕ) (rest : List Order) → 8 + listed_sizes rest ≤ listed_sizes (order.Save ∷ order.Const 1 ∷ count_order down line ∷ rest)
+count_fits true line rest = omega (arith, behind_other (Some (order.Const 1)) (order.Sub line) tt (λ x. refl) rest)
+count_fits false line rest = omega (arith, behind_other (Some (order.Const 1)) (order.Add line) tt (λ x. refl) rest)
+
+count_long : (down : Bool) (line : ℕ) → block_size (block.Count down line) order.Save ≡ 8
+count_long true line = refl
+count_long false line = refl
+
+-- a shift in place of a product
+short_shift : (n : ℕ) → shift_size n ≤ 5
+short_shift zero = omega arith
+short_shift (suc zero) = omega arith
+short_shift (suc (suc n)) = omega arith
+
+halve_fits : (w : ℕ) (power : ℤ) (places line : ℕ) (rest : List Order) → pieces_size (shifted_down_signed places) + listed_sizes rest ≤ listed_sizes (order.Save ∷ order.Const w ∷ order.Mul power line ∷ rest)
+halve_fits w power places line rest =
+    omega (arith, shifted_long (shift_down_signed_once ax) (shift_down_signed ax) places refl refl, short_shift places, product_size power, behind_other (Some (order.Const w)) (order.Mul power line) tt (λ x. refl) rest)
+  where
+    down : (b : Bool) → 5 ≤ (if b then 14 else 10)
+    down true = omega arith
+    down false = omega arith
+
+    product_size : (s : ℤ) → 5 ≤ listed_size (order.Mul s line)
+    product_size (pos zero) = omega arith
+    product_size (pos (suc n)) = omega arith
+    product_size (negsuc n) = down (nat_lt n 15)
+
+-- the address of an element, and the orders that make it
+pub index_long : (x : Place) (family offset : ℕ) → length (blanks (index_added x family offset)) ≡ index_size x
+index_long (cell.Word f n) family offset = refl
+index_long (cell.Frame n) family offset = refl
+
+pub element_long_as : (e : Element) → length (blanks (element_address e)) ≡ index_size e.index + 11
+element_long_as e =
+    let tested : List Coded = coded.Whole (compare si di) ∷ coded.Whole (jump_if_below 5) ∷ (call_stop address_entry e.line ++ coded.Whole (double si) ∷ []) in
+    appended_long (index_added e.index e.family e.zero) tested ∙ ap (λ n. n + 11) (index_long e.index e.family e.zero)
+
+element_orders_fit : (x : Place) (f n : ℕ) (l : ℤ) (s line : ℕ) (o : Order) (rest : List Order)
+    → (let list : List Order = address_orders x ++ (order.Load ∷ order.Save ∷ order.Home f n ∷ order.Element l s line ∷ o ∷ rest) in
+       let behind : ℕ = size_behind (Some (order.Home f n)) (Some (order.Element l s line)) o + sizes_behind (Some (order.Element l s line)) (Some o) rest in
+       (index_size x + 20 + behind ≤ listed_sizes list) × (index_size x + 20 + behind ≤ listed_sizes (order.Save ∷ list)))
+element_orders_fit (cell.Word f' n') f n l s line o rest = (omega arith, omega arith)
+element_orders_fit (cell.Frame n') f n l s line o rest = (omega arith, omega arith)
+
+-- an order behind them
+element_last : (e : Element) (o : Order) (rest : List Order)
+    → (let behind : ℕ = size_behind (Some (order.Home e.family e.first)) (Some (order.Element e.lower e.span e.line)) o + sizes_behind (Some (order.Element e.lower e.span e.line)) (Some o) rest in
+       (index_size e.index + 20 + behind ≤ listed_sizes (element_orders e ++ o ∷ rest)) × (index_size e.index + 20 + behind ≤ listed_sizes (order.Save ∷ (element_orders e ++ o ∷ rest))))
+element_last e o rest =
+    let A = address_orders e.index in
+    let made : List Order = order.Load ∷ order.Save ∷ order.Home e.family e.first ∷ order.Element e.lower e.span e.line ∷ [] in
+    let same : A ++ (made ++ o ∷ rest) ≡ (A ++ made) ++ o ∷ rest = sym (append_assoc A made (o ∷ rest)) in
+    let behind : ℕ = size_behind (Some (order.Home e.family e.first)) (Some (order.Element e.lower e.span e.line)) o + sizes_behind (Some (order.Element e.lower e.span e.line)) (Some o) rest in
+    subst (λ list. (index_size e.index + 20 + behind ≤ listed_sizes list) × (index_size e.index + 20 + behind ≤ listed_sizes (order.Save ∷ list))) same
+    (element_orders_fit e.index e.family e.first e.lower e.span e.line o rest)
+
+fetch_element_fits : (e : Element) (rest : List Order) → pieces_size (element_address e ++ coded.Whole (load ax at_si) ∷ []) + listed_sizes rest ≤ listed_sizes (element_orders e ++ order.Load ∷ rest)
+fetch_element_fits e rest =
+    omega (arith, appended_long (element_address e) (coded.Whole (load ax at_si) ∷ []), element_long_as e, (element_last e order.Load rest).0, behind_other (Some (order.Element e.lower e.span e.line)) order.Load tt (λ x. refl) rest)
+
+assign_element_fits : (e : Element) (rest : List Order) → pieces_size (element_address e ++ coded.Whole (store at_si ax) ∷ []) + listed_sizes rest ≤ listed_sizes (order.Save ∷ (element_orders e ++ order.Store ∷ rest))
+assign_element_fits e rest =
+    omega (arith, appended_long (element_address e) (coded.Whole (store at_si ax) ∷ []), element_long_as e, (element_last e order.Store rest).1, behind_other (Some (order.Element e.lower e.span e.line)) order.Store tt (λ x. refl) rest)
+
 -- behind an order that takes a simple operand
 used_last : (before : Order) (u : Use) (rest : List Order) → sizes_behind (Some before) (Some (order_of u)) rest ≡ listed_sizes rest
 used_last before (uses.Add line) rest = behind_other (Some before) (order.Add line) tt (λ x. refl) rest
@@ -286,7 +428,46 @@ used_last before uses.Union rest = behind_other (Some before) order.Or tt (λ x.
 used_last before uses.Differ rest = behind_other (Some before) order.Xor tt (λ x. refl) rest
 used_last before (uses.Compare c m) rest = behind_other (Some before) (order.JumpIf c m) tt (λ x. refl) rest
 
+operate_element_fits : (e : Element) (u : Use) (rest : List Order) → pieces_size (operated no_names 0 (simple.Element e) u) + listed_sizes rest ≤ listed_sizes (order.Save ∷ (operand_orders (simple.Element e) ++ order_of u ∷ rest))
+operate_element_fits e u rest = element u (used_last order.Load u rest)
+  where
+    element_load : (op : ℕ) → length (blanks (with_operand op (simple.Element e))) ≡ index_size e.index + 13
+    element_load op = appended_long (element_address e) (coded.Whole (operate op ax at_si) ∷ []) ∙ ap (λ n. n + 2) (element_long_as e) ∙ (omega arith)
+
+    listed_behind : (u : Use) → sizes_behind (Some order.Load) (Some (order_of u)) rest ≡ listed_sizes rest → index_size e.index + 25 + listed_size (order_of u) + listed_sizes rest ≤ listed_sizes (order.Save ∷ (operand_orders (simple.Element e) ++ order_of u ∷ rest))
+    listed_behind u same =
+        let A = element_orders e in
+        let list : A ++ (order.Load ∷ order_of u ∷ rest) ≡ (A ++ order.Load ∷ []) ++ order_of u ∷ rest = sym (append_assoc A (order.Load ∷ []) (order_of u ∷ rest)) in
+        let sizes : listed_sizes (order.Save ∷ (A ++ (order.Load ∷ order_of u ∷ rest))) ≡ listed_sizes (order.Save ∷ ((A ++ order.Load ∷ []) ++ order_of u ∷ rest)) = ap (λ l. listed_sizes (order.Save ∷ l)) list in
+        use_behind u same sizes
+      where
+        use_behind : (u : Use) → sizes_behind (Some order.Load) (Some (order_of u)) rest ≡ listed_sizes rest
+            → listed_sizes (order.Save ∷ (element_orders e ++ (order.Load ∷ order_of u ∷ rest))) ≡ listed_sizes (order.Save ∷ ((element_orders e ++ order.Load ∷ []) ++ order_of u ∷ rest))
+            → index_size e.index + 25 + listed_size (order_of u) + listed_sizes rest ≤ listed_sizes (order.Save ∷ ((element_orders e ++ order.Load ∷ []) ++ order_of u ∷ rest))
+        use_behind (uses.Add line) same sizes = omega (arith, same, sizes, (element_last e order.Load (order.Add line ∷ rest)).1)
+        use_behind (uses.Subtract line) same sizes = omega (arith, same, sizes, (element_last e order.Load (order.Sub line ∷ rest)).1)
+        use_behind (uses.Multiply line) same sizes = omega (arith, same, sizes, (element_last e order.Load (order.Mul (pos 0) line ∷ rest)).1)
+        use_behind uses.Mask same sizes = omega (arith, same, sizes, (element_last e order.Load (order.And ∷ rest)).1)
+        use_behind uses.Union same sizes = omega (arith, same, sizes, (element_last e order.Load (order.Or ∷ rest)).1)
+        use_behind uses.Differ same sizes = omega (arith, same, sizes, (element_last e order.Load (order.Xor ∷ rest)).1)
+        use_behind (uses.Compare c m) same sizes = omega (arith, same, sizes, (element_last e order.Load (order.JumpIf c m ∷ rest)).1)
+
+    element : (u : Use) → sizes_behind (Some order.Load) (Some (order_of u)) rest ≡ listed_sizes rest
+        → pieces_size (operated no_names 0 (simple.Element e) u) + listed_sizes rest ≤ listed_sizes (order.Save ∷ (operand_orders (simple.Element e) ++ order_of u ∷ rest))
+    element (uses.Add line) same = omega (arith, listed_behind (uses.Add line) same, appended_long (with_operand 0 (simple.Element e)) (checked line), element_load 0)
+    element (uses.Subtract line) same = omega (arith, listed_behind (uses.Subtract line) same, appended_long (with_operand 5 (simple.Element e)) (checked line), element_load 5)
+    element (uses.Multiply line) same =
+        let last : List Coded = coded.Whole (load ax at_si) ∷ coded.Whole (multiply cx) ∷ [] in
+        omega (arith, listed_behind (uses.Multiply line) same, appended_long (product_with (simple.Element e)) (checked line), appended_long (element_address e) last, element_long_as e)
+    element uses.Mask same = omega (arith, listed_behind uses.Mask same, element_load 4)
+    element uses.Union same = omega (arith, listed_behind uses.Union same, element_load 1)
+    element uses.Differ same = omega (arith, listed_behind uses.Differ same, element_load 6)
+    element (uses.Compare c m) same =
+        let end : ℕ = 0 + pieces_size (with_operand 7 (simple.Element e)) + 5 in
+        omega (arith, listed_behind (uses.Compare c m) same, appended_long (with_operand 7 (simple.Element e)) (branch c end (mark_place no_names m)), element_load 7)
+
 operate_fits : (s : Simple) (u : Use) (rest : List Order) → pieces_size (operated no_names 0 s u) + listed_sizes rest ≤ listed_sizes (order.Save ∷ (operand_orders s ++ order_of u ∷ rest))
+operate_fits (simple.Element e) u rest = operate_element_fits e u rest
 operate_fits (simple.Number w) u rest = number u (used_last (order.Const w) u rest)
   where
     number : (u : Use) → sizes_behind (Some (order.Const w)) (Some (order_of u)) rest ≡ listed_sizes rest → pieces_size (operated no_names 0 (simple.Number w) u) + listed_sizes rest ≤ listed_sizes (order.Save ∷ order.Const w ∷ order_of u ∷ rest)
@@ -337,7 +518,13 @@ block_fits o os = cases (block_of (o ∷ os)) refl (shape (o ∷ os))
     cases (block.Assign x) is sh = omega (arith, assign_fits x (drop (suc (length (address_orders x))) os), ap listed_sizes sh)
     cases block.Write is sh = omega (arith, ap listed_sizes sh, behind_other (Some order.Save) order.WriteByte tt (λ x. refl) (drop 1 os))
     cases (block.Divide w line) is sh = omega (arith, ap listed_sizes sh.0, behind_other (Some (order.Const w)) (order.Div (pos 0) line) tt (λ x. refl) (drop 2 os))
-    cases (block.Operate s u) is sh = omega (arith, operate_fits s u (drop (suc (length (operand_orders s))) os), ap listed_sizes sh)
+    cases (block.Operate s u) is sh = omega (arith, operate_fits s u (drop (suc (length (operand_orders s))) os), ap listed_sizes sh.0)
+    cases (block.FetchPart x t b is_signed) is sh = omega (arith, fetch_part_fits x t b is_signed (drop (length (address_orders x)) os), ap listed_sizes sh.0)
+    cases (block.AssignPart x t b) is sh = omega (arith, assign_part_fits x t b (drop (suc (length (address_orders x))) os), ap listed_sizes sh.0)
+    cases (block.FetchElement e) is sh = omega (arith, fetch_element_fits e (drop (length (element_orders e)) os), ap listed_sizes sh.0)
+    cases (block.AssignElement e) is sh = omega (arith, assign_element_fits e (drop (suc (length (element_orders e))) os), ap listed_sizes sh.0)
+    cases (block.Count down line) is sh = omega (arith, ap listed_sizes sh, count_fits down line (drop 2 os), count_long down line)
+    cases (block.Halve w power places line) is sh = omega (arith, ap listed_sizes sh.0, halve_fits w power places line (drop 2 os))
 
 whole_within : (names : Names) (place left : ℕ) (os : List Order) → length (blanks (templates names place left os)) ≤ listed_sizes (drop left os)
 whole_within names place zero [] = omega arith

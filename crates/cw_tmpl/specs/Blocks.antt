@@ -1,11 +1,12 @@
--- How the orders of a list stand in blocks. A block has one piece of code. Its orders but the last only save the top operand or put a word,
--- which never stops; the code leaves that operand where it is, and takes the word from its own instruction or from memory. A mark stands at
--- the first order of a block alone.
-use Rattle.std.specs.Prelude.{ℕ, zero, suc, ◌+◌, ◌&&◌, if◌then◌else◌, nat_lt, Bool, pos, List, [], ◌∷◌, ◌++◌, length, Option, Some, None, slice_get}
+-- How the orders of a list stand in blocks. A block has one piece of code. Its orders but the last only save the top operand, put a word, or
+-- make the address of an element; the code leaves that operand where it is, and takes the word from its own instruction or from memory. The
+-- address of an element may stop. A mark stands at the first order of a block alone.
+use Rattle.std.specs.Prelude.{◌≡◌, ℕ, zero, suc, ◌+◌, ◌-◌, ◌==◌, ◌&&◌, if◌then◌else◌, nat_lt, nat_le, ℤ, pos, negsuc, Bool, true, false, List, [], ◌∷◌, ◌++◌, length, Option, Some, None, slice_get}
 use Rattle.cw_order.specs.declared.order.Order.{Order}
 use Rattle.cw_order.specs.declared.order.Order.TheVariants as order
 use Rattle.cw_tmpl.specs.declared.blocks.Place.{Place}
 use Rattle.cw_tmpl.specs.declared.blocks.Place.TheVariants as cell
+use Rattle.cw_tmpl.specs.declared.blocks.Element.{Element}
 use Rattle.cw_tmpl.specs.declared.blocks.Simple.{Simple}
 use Rattle.cw_tmpl.specs.declared.blocks.Simple.TheVariants as simple
 use Rattle.cw_tmpl.specs.declared.blocks.Use.{Use}
@@ -20,10 +21,15 @@ abbrev pub address_orders : Place → List Order
 address_orders (cell.Word f n) = order.Home f n ∷ []
 address_orders (cell.Frame n) = order.FrameHome n ∷ []
 
+-- those that make the address of an element whose index stands at a place
+abbrev pub element_orders : Element → List Order
+element_orders e = address_orders e.index ++ order.Load ∷ order.Save ∷ order.Home e.family e.first ∷ order.Element e.lower e.span e.line ∷ []
+
 -- those that put a simple operand
 abbrev pub operand_orders : Simple → List Order
 operand_orders (simple.Number w) = order.Const w ∷ []
 operand_orders (simple.Contents x) = address_orders x ++ order.Load ∷ []
+operand_orders (simple.Element e) = element_orders e ++ order.Load ∷ []
 
 -- the order that takes it
 abbrev pub order_of : Use → Order
@@ -44,6 +50,17 @@ orders_before (block.Assign x) = order.Save ∷ address_orders x
 orders_before block.Write = order.Save ∷ []
 orders_before (block.Divide w line) = order.Save ∷ order.Const w ∷ []
 orders_before (block.Operate s u) = order.Save ∷ operand_orders s
+orders_before (block.FetchPart x t b is_signed) = address_orders x
+orders_before (block.AssignPart x t b) = order.Save ∷ address_orders x
+orders_before (block.FetchElement e) = element_orders e
+orders_before (block.AssignElement e) = order.Save ∷ element_orders e
+orders_before (block.Count down line) = order.Save ∷ order.Const 1 ∷ []
+orders_before (block.Halve w power places line) = order.Save ∷ order.Const w ∷ []
+
+-- one more, and one less
+abbrev pub count_order : (down : Bool) → (line : ℕ) → Order
+count_order true line = order.Sub line
+count_order false line = order.Add line
 
 -- and that one, where there are several
 abbrev pub last_order : Block → Order
@@ -54,6 +71,12 @@ last_order (block.Assign x) = order.Store
 last_order block.Write = order.WriteByte
 last_order (block.Divide w line) = order.Div (pos 0) line
 last_order (block.Operate s u) = order_of u
+last_order (block.FetchPart x t b is_signed) = order.LoadPart t b is_signed
+last_order (block.AssignPart x t b) = order.StorePart t b
+last_order (block.FetchElement e) = order.Load
+last_order (block.AssignElement e) = order.Store
+last_order (block.Count down line) = count_order down line
+last_order (block.Halve w power places line) = order.Mul power line
 
 -- how many orders follow in the block
 abbrev pub orders_left : Block → ℕ
@@ -79,13 +102,44 @@ use_of (Some order.Xor) = Some uses.Differ
 use_of (Some (order.JumpIf c m)) = Some (uses.Compare c m)
 use_of _ = None
 
+-- The offset in its family of the word that index 0 names, where that is among the words from the first one on that are in the data area: then
+-- an index added to its address is an address of the data area exactly where the element is one.
+abbrev pub zero_behind : (below span first : ℕ) → Option ℕ
+zero_behind below span first = if nat_lt below span && nat_lt (first + below) 65536 then Some (first + below) else None
+
+abbrev pub zero_word : (lower : ℤ) → (span first : ℕ) → Option ℕ
+zero_word (pos zero) span first = zero_behind 0 span first
+zero_word (pos (suc n)) span first = None
+zero_word (negsuc n) span first = zero_behind (suc n) span first
+
+abbrev pub element_with : Option ℕ → (index : Place) → (family first : ℕ) → (lower : ℤ) → (span line : ℕ) → Option Element
+element_with None x f n l s line = None
+element_with (Some z) x f n l s line = Some (record { index = x; family = f; first = n; lower = l; span = s; line = line; zero = z })
+
+-- four orders behind the address of the place where the index stands
+abbrev pub element_of : Place → (loads saves puts forms : Option Order) → Option Element
+element_of x (Some order.Load) (Some order.Save) (Some (order.Home f n)) (Some (order.Element l s line)) = element_with (zero_word l s n) x f n l s line
+element_of x _ _ _ _ = None
+
+abbrev pub element_behind : Place → (behind : ℕ) → List Order → Option Element
+element_behind x k os = element_of x (slice_get os k) (slice_get os (k + 1)) (slice_get os (k + 2)) (slice_get os (k + 3))
+
+abbrev pub element_at : Option Place → List Order → Option Element
+element_at None os = None
+element_at (Some x) os = element_behind x (length (address_orders x)) os
+
 abbrev pub with_use : Simple → Option Use → Block
 with_use s None = block.Single
 with_use s (Some u) = block.Operate s u
 
+-- bits of a word
+abbrev pub is_part : (t b : ℕ) → Bool
+is_part t b = nat_lt 0 t && nat_le (t + b) 16
+
 -- behind the address of a place
 abbrev pub fetched : Place → Option Order → Block
 fetched x (Some order.Load) = block.Fetch x
+fetched x (Some (order.LoadPart t b is_signed)) = if is_part t b then block.FetchPart x t b is_signed else block.Single
 fetched x _ = block.Single
 
 abbrev pub fetched_from : Option Place → List Order → Block
@@ -96,15 +150,55 @@ fetched_from (Some x) os = fetched x (slice_get os (length (address_orders x)))
 abbrev pub assigned : Place → (here next : Option Order) → Block
 assigned x (Some order.Load) next = with_use (simple.Contents x) (use_of next)
 assigned x (Some order.Store) next = block.Assign x
+assigned x (Some (order.StorePart t b)) next = if is_part t b then block.AssignPart x t b else block.Single
 assigned x _ next = block.Single
 
 -- A quotient by a number from 2 to 32,767 at no other scale fits a word, and one of words is that of the processor. The others stand alone.
 abbrev pub is_plain_divisor : ℕ → Bool
 is_plain_divisor w = nat_lt 1 w && nat_lt w 32768
 
+-- The exponent of a power of two that is a word.
+abbrev pub exponent_of : ℕ → Option ℕ
+exponent_of w =
+    if w == 1 then Some 0 else if w == 2 then Some 1 else if w == 4 then Some 2 else if w == 8 then Some 3 else if w == 16 then Some 4
+    else if w == 32 then Some 5 else if w == 64 then Some 6 else if w == 128 then Some 7 else if w == 256 then Some 8 else if w == 512 then Some 9
+    else if w == 1024 then Some 10 else if w == 2048 then Some 11 else if w == 4096 then Some 12 else if w == 8192 then Some 13
+    else if w == 16384 then Some 14 else None
+
+-- A product with a power of two, taken down by more places than its exponent, is a shift by the places between, at most 15.
+abbrev pub places_between : Option ℕ → (down : ℕ) → Option ℕ
+places_between None down = None
+places_between (Some j) down = if nat_lt j down && nat_le down (j + 15) then Some (down - j) else None
+
+abbrev pub halving_places : (word : ℕ) → (power : ℤ) → Option ℕ
+halving_places w (pos n) = None
+halving_places w (negsuc n) = places_between (exponent_of w) (suc n)
+
+abbrev pub halved : (word : ℕ) → (power : ℤ) → (line : ℕ) → Option ℕ → Block
+halved w power line None = block.Single
+halved w power line (Some n) = block.Halve w power n line
+
+abbrev pub divided : (word : ℕ) → (power : ℤ) → (line : ℕ) → Block
+divided w (pos zero) line = if is_plain_divisor w then block.Divide w line else block.Single
+divided w power line = block.Single
+
+abbrev pub counted : (word : ℕ) → (down : Bool) → (line : ℕ) → Use → Block
+counted w down line u = if w == 1 then block.Count down line else block.Operate (simple.Number w) u
+
+-- a number behind which is no use of a simple operand
+abbrev pub number_scaled : (word : ℕ) → Option Order → Block
+number_scaled w (Some (order.Div power line)) = divided w power line
+number_scaled w (Some (order.Mul power line)) = halved w power line (halving_places w power)
+number_scaled w next = block.Single
+
+abbrev pub number_used : (word : ℕ) → Option Use → (next : Option Order) → Block
+number_used w None next = number_scaled w next
+number_used w (Some (uses.Add line)) next = counted w false line (uses.Add line)
+number_used w (Some (uses.Subtract line)) next = counted w true line (uses.Subtract line)
+number_used w (Some u) next = block.Operate (simple.Number w) u
+
 abbrev pub with_number : (word : ℕ) → Option Order → Block
-with_number w (Some (order.Div (pos zero) line)) = if is_plain_divisor w then block.Divide w line else block.Single
-with_number w next = with_use (simple.Number w) (use_of next)
+with_number w next = number_used w (use_of next) next
 
 -- behind a Save and no address
 abbrev pub saved : (here next : Option Order) → Block
@@ -116,10 +210,39 @@ abbrev pub saved_from : Option Place → List Order → Block
 saved_from None os = saved (slice_get os 0) (slice_get os 1)
 saved_from (Some x) os = assigned x (slice_get os (length (address_orders x))) (slice_get os (length (address_orders x) + 1))
 
+-- an element that is fetched, and behind a Save one that is assigned or used; another block where it is neither
+abbrev pub element_fetched : Element → Option Order → (other : Block) → Block
+element_fetched e (Some order.Load) other = block.FetchElement e
+element_fetched e _ other = other
+
+abbrev pub element_used : Element → Option Use → (other : Block) → Block
+element_used e None other = other
+element_used e (Some u) other = block.Operate (simple.Element e) u
+
+abbrev pub element_saved : Element → (here next : Option Order) → (other : Block) → Block
+element_saved e (Some order.Load) next other = element_used e (use_of next) other
+element_saved e (Some order.Store) next other = block.AssignElement e
+element_saved e _ next other = other
+
+abbrev pub fetched_or : Option Element → List Order → (other : Block) → Block
+fetched_or None os other = other
+fetched_or (Some e) os other = element_fetched e (slice_get os (length (element_orders e))) other
+
+abbrev pub saved_or : Option Element → List Order → (other : Block) → Block
+saved_or None os other = other
+saved_or (Some e) os other = element_saved e (slice_get os (length (element_orders e))) (slice_get os (length (element_orders e) + 1)) other
+
 -- the block that begins with the first order of a list
+abbrev pub block_if_saved : List Order → Block
+block_if_saved (order.Save ∷ os) = saved_or (element_at (place_at os) os) os (saved_from (place_at os) os)
+block_if_saved os = block.Single
+
+abbrev pub block_from : Option Place → List Order → Block
+block_from None os = block_if_saved os
+block_from (Some x) os = fetched_or (element_at (Some x) os) os (fetched_from (Some x) os)
+
 abbrev pub block_of : List Order → Block
-block_of (order.Save ∷ os) = saved_from (place_at os) os
-block_of os = fetched_from (place_at os) os
+block_of os = block_from (place_at os) os
 
 -- how the first order of a list stands, where so many are left of the block before
 abbrev pub block_at : (left : ℕ) → List Order → Block
@@ -131,3 +254,9 @@ abbrev pub left_at : (left : ℕ) → List Order → (place : ℕ) → ℕ
 left_at left orders zero = left
 left_at left [] (suc k) = left
 left_at left (o ∷ os) (suc k) = left_at (orders_left (block_at left (o ∷ os))) os k
+
+-- the parts of words that blocks name are bits of a word
+abbrev pub NamesParts : Block → Type 0
+NamesParts (block.FetchPart x t b is_signed) = is_part t b ≡ true
+NamesParts (block.AssignPart x t b) = is_part t b ≡ true
+NamesParts b = Unit {0}

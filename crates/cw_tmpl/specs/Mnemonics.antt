@@ -152,6 +152,17 @@ either to from = i86.AluRm 1 true true to (rms.Reg from)
 abbrev pub one_of : ℕ → ℕ → Instr
 one_of to from = i86.AluRm 6 true true to (rms.Reg from)
 
+-- an operation of the arithmetic unit, by its number, on a register, which changes, and an operand
+abbrev pub operate : ℕ → ℕ → Rm → Instr
+operate op to rm = i86.AluRm op true true to rm
+
+-- the same on an operand, which changes, and a register
+abbrev pub change : ℕ → Rm → ℕ → Instr
+change op rm from = i86.AluRm op true false from rm
+
+abbrev pub change_memory : ℕ → (offset : ℕ) → ℕ → Instr
+change_memory op offset from = change op (memory (places.Direct offset)) from
+
 -- shifts by CL: up, down, and down with copies of the sign
 abbrev pub shift_up : ℕ → Instr
 shift_up reg = i86.Shift 4 true true (rms.Reg reg)
@@ -161,6 +172,23 @@ shift_down reg = i86.Shift 5 true true (rms.Reg reg)
 
 abbrev pub shift_down_signed : ℕ → Instr
 shift_down_signed reg = i86.Shift 7 true true (rms.Reg reg)
+
+-- the same by one place
+abbrev pub shift_up_once : ℕ → Instr
+shift_up_once reg = i86.Shift 4 true false (rms.Reg reg)
+
+abbrev pub shift_down_once : ℕ → Instr
+shift_down_once reg = i86.Shift 5 true false (rms.Reg reg)
+
+abbrev pub shift_down_signed_once : ℕ → Instr
+shift_down_signed_once reg = i86.Shift 7 true false (rms.Reg reg)
+
+-- one more, and one less
+abbrev pub increase : ℕ → Instr
+increase reg = i86.Inc reg
+
+abbrev pub decrease : ℕ → Instr
+decrease reg = i86.Dec reg
 
 -- AX times a register, in DX and AX; and these two over a register
 abbrev pub multiply : ℕ → Instr

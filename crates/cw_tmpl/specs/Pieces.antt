@@ -5,7 +5,7 @@ use Rattle.cw_i86.specs.declared.instr.Imm.TheVariants as imm
 use Rattle.cw_i86.specs.declared.instr.Instr.TheVariants as i86
 use Rattle.cw_run86.specs.Views.{with_memory}
 use Rattle.cw_unit.specs.declared.layout.Reloc.{Reloc}
-use Rattle.cw_tmpl.specs.Mnemonics.{entry_of_table}
+use Rattle.cw_tmpl.specs.Mnemonics.{entry_of_table, change_memory}
 use Rattle.cw_tmpl.specs.declared.pieces.Limit.{Limit}
 use Rattle.cw_tmpl.specs.declared.pieces.Limit.TheVariants as limit
 use Rattle.cw_tmpl.specs.declared.pieces.Target.{Target}
@@ -20,6 +20,7 @@ bytes_with w (coded.Move reg t) = bytes_of (i86.MovImm reg (imm.Word w))
 bytes_with w (coded.Load t) = bytes_of (i86.MovAcc false true false w)
 bytes_with w (coded.Store t) = bytes_of (i86.MovAcc false true true w)
 bytes_with w (coded.Operate op reg t) = bytes_of (with_memory op reg w)
+bytes_with w (coded.Change op reg t) = bytes_of (change_memory op w reg)
 bytes_with w (coded.Call t) = bytes_of (i86.Call w)
 bytes_with w (coded.Jump t) = bytes_of (i86.Jump w)
 bytes_with w (coded.Word t) = word w
@@ -36,6 +37,7 @@ target_of (coded.Move reg t) = Some t
 target_of (coded.Load t) = Some t
 target_of (coded.Store t) = Some t
 target_of (coded.Operate op reg t) = Some t
+target_of (coded.Change op reg t) = Some t
 target_of (coded.Call t) = Some t
 target_of (coded.Jump t) = Some t
 target_of (coded.Word t) = Some t
@@ -49,6 +51,7 @@ IsCoded (coded.Move reg t) = IsInstr (i86.MovImm reg (imm.Word 0))
 IsCoded (coded.Load t) = Unit {0}
 IsCoded (coded.Store t) = Unit {0}
 IsCoded (coded.Operate op reg t) = IsInstr (with_memory op reg 0)
+IsCoded (coded.Change op reg t) = IsInstr (change_memory op 0 reg)
 IsCoded (coded.Call t) = Unit {0}
 IsCoded (coded.Jump t) = Unit {0}
 IsCoded (coded.Word t) = Unit {0}

@@ -24,13 +24,14 @@ use Rattle.cw_tmpl.specs.declared.pieces.Coded.{Coded}
 use Rattle.cw_tmpl.specs.declared.pieces.Coded.TheVariants as coded
 use Rattle.cw_tmpl.specs.declared.blocks.Place.{Place}
 use Rattle.cw_tmpl.specs.declared.blocks.Place.TheVariants as cell
+use Rattle.cw_tmpl.specs.declared.blocks.Element.{Element}
 use Rattle.cw_tmpl.specs.declared.blocks.Simple.{Simple}
 use Rattle.cw_tmpl.specs.declared.blocks.Simple.TheVariants as simple
 use Rattle.cw_tmpl.specs.declared.blocks.Use.{Use}
 use Rattle.cw_tmpl.specs.declared.blocks.Use.TheVariants as uses
 use Rattle.cw_tmpl.specs.declared.blocks.Block.{Block}
 use Rattle.cw_tmpl.specs.declared.blocks.Block.TheVariants as block
-use Rattle.cw_tmpl.specs.Mnemonics.{ax, bx, cx, dx, sp, bp, si, di, segment_slot, base_slot, base_record, base_operands, record_depth, slot, argument, at_bx, field, set_word, load, store, move, add, subtract, compare, exchange, negate, double, both, either, one_of, shift_up, shift_down, shift_down_signed, multiply, divide_signed, jump_to, nothing, jump_if_no_overflow, jump_if_below, jump_if_unequal, jump_if_not_less, jump_if_at_most}
+use Rattle.cw_tmpl.specs.Mnemonics.{ax, bx, cx, dx, sp, bp, si, di, segment_slot, base_slot, base_record, base_operands, record_depth, slot, argument, at_bx, at_si, field, set_word, load, store, move, add, subtract, compare, exchange, negate, double, both, either, one_of, shift_up, shift_down, shift_down_signed, multiply, divide_signed, jump_to, nothing, jump_if_no_overflow, jump_if_below, jump_if_unequal, jump_if_not_less, jump_if_at_most, operate, change, increase, decrease, shift_up_once, shift_down_once, shift_down_signed_once}
 use Rattle.cw_tmpl.specs.Library.{start_entry, overflow_entry, zero_divisor_entry, address_entry, switch_entry, bounds_entry, enter_entry, read_entry, product_entry, quotient_down_entry, quotient_up_entry, set_variable_entry, add_step_entry, put_variable_entry, exhausted_entry}
 use Rattle.cw_tmpl.specs.Pieces.{size_of, blanks}
 use Rattle.cw_tmpl.specs.Names.{Names, no_names, mark_place, label_start, procedure_start, switch_start, own}
@@ -75,29 +76,49 @@ times_if false stop line n = coded.Whole (set_word bx n) ∷ coded.Whole (multip
 abbrev pub times : (stop line n : ℕ) → List Coded
 times stop line n = times_if (n == 32768) stop line n
 
+-- AX shifted by a number of places: by none it stays
+abbrev pub shifted : (once by_count : Instr) → (places : ℕ) → List Coded
+shifted once by_count zero = []
+shifted once by_count (suc zero) = coded.Whole once ∷ []
+shifted once by_count (suc (suc n)) = coded.Whole (set_word cx (suc (suc n))) ∷ coded.Whole by_count ∷ []
+
+abbrev pub shifted_up : (places : ℕ) → List Coded
+shifted_up n = shifted (shift_up_once ax) (shift_up ax) n
+
+abbrev pub shifted_down : (places : ℕ) → List Coded
+shifted_down n = shifted (shift_down_once ax) (shift_down ax) n
+
+abbrev pub shifted_down_signed : (places : ℕ) → List Coded
+shifted_down_signed n = shifted (shift_down_signed_once ax) (shift_down_signed ax) n
+
+-- the lowest t bits of AX, where it has others
+abbrev pub lowest_if : Bool → (t : ℕ) → List Coded
+lowest_if true t = []
+lowest_if false t = coded.Whole (with_number 4 (2 ^ t - 1)) ∷ []
+
 -- t bits of AX from bit b, without a sign, and with one
 abbrev pub taken : (t b : ℕ) → List Coded
-taken t b = coded.Whole (set_word cx b) ∷ coded.Whole (shift_down ax) ∷ coded.Whole (set_word bx (2 ^ t - 1)) ∷ coded.Whole (both ax bx) ∷ []
+taken t b = shifted_down b ++ lowest_if (t + b == 16) t
 
 abbrev pub taken_signed : (t b : ℕ) → List Coded
-taken_signed t b =
-    coded.Whole (set_word cx (16 - (t + b))) ∷ coded.Whole (shift_up ax) ∷ coded.Whole (set_word cx (16 - t)) ∷ coded.Whole (shift_down_signed ax) ∷ []
+taken_signed t b = shifted_up (16 - (t + b)) ++ shifted_down_signed (16 - t)
+
+abbrev pub part_taken : (t b : ℕ) → (is_signed : Bool) → List Coded
+part_taken t b true = taken_signed t b
+part_taken t b false = taken t b
 
 -- the word at the address in AX
 abbrev pub load_top : List Coded
 load_top = coded.Whole exchange ∷ coded.Whole (double bx) ∷ coded.Whole (load ax at_bx) ∷ []
 
 abbrev pub load_part : (t b : ℕ) → (is_signed : Bool) → List Coded
-load_part t b true = load_top ++ taken_signed t b
-load_part t b false = load_top ++ taken t b
+load_part t b is_signed = load_top ++ part_taken t b is_signed
 
--- the part's bits of the value, and the other bits of the word
+-- A word takes the part's bits of the value in AX: those in which both differ are turned. The address is in AX, and the value below.
 abbrev pub store_part : (t b : ℕ) → List Coded
 store_part t b =
     coded.Whole (move bx ax) ∷ coded.Whole (i86.Pop ax) ∷ coded.Whole (double bx)
-    ∷ coded.Whole (set_word cx b) ∷ coded.Whole (shift_up ax) ∷ coded.Whole (set_word cx (field_mask t b)) ∷ coded.Whole (both ax cx)
-    ∷ coded.Whole (load dx at_bx) ∷ coded.Whole (set_word cx (65535 - field_mask t b)) ∷ coded.Whole (both dx cx)
-    ∷ coded.Whole (either dx ax) ∷ coded.Whole (store at_bx dx) ∷ []
+    ∷ (shifted_up b ++ coded.Whole (operate 6 ax at_bx) ∷ coded.Whole (with_number 4 (field_mask t b)) ∷ coded.Whole (change 6 at_bx ax) ∷ [])
 
 abbrev pub rescale_if : (up top : Bool) → (line from to : ℕ) → List Coded
 rescale_if true top line from to = times_if top overflow_entry line (2 ^ (to - from))
@@ -384,19 +405,44 @@ abbrev pub operate_place : ℕ → Place → Coded
 operate_place op (cell.Word family offset) = coded.Operate op ax (target.Bytes family offset)
 operate_place op (cell.Frame n) = coded.Whole (i86.AluRm op true true ax (field (2 * n % 65536)))
 
+-- the same on the word there and AX
+abbrev pub change_place : ℕ → Place → Coded
+change_place op (cell.Word family offset) = coded.Change op ax (target.Bytes family offset)
+change_place op (cell.Frame n) = coded.Whole (change op (field (2 * n % 65536)) ax)
+
+-- SI with the address of a word of a family and the word at a place added
+abbrev pub index_added : (index : Place) → (family offset : ℕ) → List Coded
+index_added (cell.Word f n) family offset = coded.Move si (target.Word family offset) ∷ coded.Operate 0 si (target.Bytes f n) ∷ []
+index_added (cell.Frame n) family offset =
+    coded.Whole (load bx (slot base_slot)) ∷ coded.Whole (double bx) ∷ coded.Move si (target.Word family offset) ∷ coded.Whole (operate 0 si (field (2 * n % 65536))) ∷ []
+
+-- the address of an element, tested and doubled, in SI
+abbrev pub element_address : Element → List Coded
+element_address e =
+    index_added e.index e.family e.zero
+    ++ coded.Whole (compare si di) ∷ coded.Whole (jump_if_below 5) ∷ (call_stop address_entry e.line ++ coded.Whole (double si) ∷ [])
+
 -- the same with a simple operand
 abbrev pub operand_pieces : Simple → List Coded
 operand_pieces (simple.Number w) = []
 operand_pieces (simple.Contents x) = address_pieces x
+operand_pieces (simple.Element e) = element_address e
 
 abbrev pub operation : ℕ → Simple → Coded
 operation op (simple.Number w) = coded.Whole (with_number op w)
 operation op (simple.Contents x) = operate_place op x
+operation op (simple.Element e) = coded.Whole (operate op ax at_si)
 
 -- AX times it
 abbrev pub product_with : Simple → List Coded
 product_with (simple.Number w) = coded.Whole (set_word bx w) ∷ coded.Whole (multiply bx) ∷ []
 product_with (simple.Contents x) = coded.Whole (move cx ax) ∷ (address_pieces x ++ load_place x ∷ coded.Whole (multiply cx) ∷ [])
+product_with (simple.Element e) = coded.Whole (move cx ax) ∷ (element_address e ++ coded.Whole (load ax at_si) ∷ coded.Whole (multiply cx) ∷ [])
+
+-- AX with one more, and one less
+abbrev pub counted : (down : Bool) → Instr
+counted true = decrease ax
+counted false = increase ax
 
 -- ---- blocks
 
@@ -426,6 +472,13 @@ block_pieces names place (block.Assign x) o = address_pieces x ++ store_place x 
 block_pieces names place block.Write o = coded.Whole (i86.Out 0x12) ∷ []
 block_pieces names place (block.Divide w line) o = coded.Whole (set_word bx w) ∷ coded.Whole i86.Cwd ∷ coded.Whole (divide_signed bx) ∷ []
 block_pieces names place (block.Operate s u) o = operated names place s u
+block_pieces names place (block.FetchPart x t b is_signed) o = address_pieces x ++ load_place x ∷ part_taken t b is_signed
+block_pieces names place (block.AssignPart x t b) o =
+    shifted_up b ++ (address_pieces x ++ operate_place 6 x ∷ coded.Whole (with_number 4 (field_mask t b)) ∷ change_place 6 x ∷ [])
+block_pieces names place (block.FetchElement e) o = element_address e ++ coded.Whole (load ax at_si) ∷ []
+block_pieces names place (block.AssignElement e) o = element_address e ++ coded.Whole (store at_si ax) ∷ []
+block_pieces names place (block.Count down line) o = coded.Whole (counted down) ∷ checked line
+block_pieces names place (block.Halve w power places line) o = shifted_down_signed places
 
 -- what the code of a segment begins with: the base record is made
 abbrev pub entry_pieces : List Coded
@@ -458,6 +511,25 @@ abbrev pub word_size : ℕ → ℕ
 word_size zero = 0
 word_size (suc n) = 10
 
+-- a shift by a number of places, and a part of a word
+abbrev pub shift_size : (places : ℕ) → ℕ
+shift_size zero = 0
+shift_size (suc zero) = 2
+shift_size (suc (suc n)) = 5
+
+abbrev pub lowest_size : Bool → ℕ
+lowest_size true = 0
+lowest_size false = 3
+
+abbrev pub part_size : (t b : ℕ) → (is_signed : Bool) → ℕ
+part_size t b true = shift_size (16 - (t + b)) + shift_size (16 - t)
+part_size t b false = shift_size b + lowest_size (t + b == 16)
+
+-- the address of a word and an index at a place, in SI
+abbrev pub index_size : Place → ℕ
+index_size (cell.Word f n) = 7
+index_size (cell.Frame n) = 12
+
 -- the same, order by order
 abbrev pub listed_size : Order → ℕ
 listed_size order.Save = 1
@@ -468,8 +540,8 @@ listed_size order.Store = 7
 listed_size (order.Add line) = 10
 listed_size (order.Sub line) = 12
 listed_size (order.Neg line) = 9
-listed_size (order.LoadPart t b is_signed) = 15
-listed_size (order.StorePart t b) = 26
+listed_size (order.LoadPart t b is_signed) = 5 + part_size t b is_signed
+listed_size (order.StorePart t b) = shift_size b + 12
 listed_size (order.Rescale from to line) = if nat_le from to then times_size (2 ^ (to - from)) else 5
 listed_size (order.Mul (pos zero) line) = 10
 listed_size (order.Mul (pos (suc n)) line) = times_size (2 ^ suc n) + 10
@@ -478,7 +550,7 @@ listed_size (order.Div s line) = 25
 listed_size order.And = 3
 listed_size order.Or = 3
 listed_size order.Xor = 3
-listed_size (order.Take t b) = 10
+listed_size (order.Take t b) = part_size t b false
 listed_size order.Less = 5
 listed_size order.Drop = 0
 listed_size (order.IndexLess lower line) = 12

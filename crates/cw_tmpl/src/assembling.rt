@@ -4,7 +4,7 @@ ghost use Rattle.cw_i86.specs.Encoding.{bytes_of, IsInstr};
 ghost use Rattle.cw_tmpl.specs.Assembling.{Adds};
 ghost use Rattle.cw_tmpl.specs.Pieces.{relocation_of, IsCoded, AllCoded};
 
-use crate::instructions::entry_of_table;
+use crate::instructions::{AT_ZERO, change, entry_of_table};
 use crate::pieces::{Coded, Limit, Target};
 use cw_enc86::encode;
 use cw_i86::{Imm, Instr, Mem, Place, Rm};
@@ -140,6 +140,14 @@ impl Assembly {
                         place: Place::Direct(0),
                     }),
                 })?;
+                self.relocate(target)
+            }
+            Coded::Change {
+                operation,
+                reg,
+                target,
+            } => {
+                self.put_instruction(&change(operation, AT_ZERO, reg))?;
                 self.relocate(target)
             }
             Coded::Call(target) => {

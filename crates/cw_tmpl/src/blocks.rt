@@ -1,8 +1,7 @@
-//! Blocks: orders that have one piece of code together. The orders before the last only save the top operand or put a word; the
-//! code leaves the one where it is, and takes the other from its instruction or from memory.
-ghost use Rattle.std.specs.Prelude.{◌≡◌, ◌<◌, length, drop, slice_get, if◌then◌else◌};
-ghost use Rattle.cw_tmpl.specs.declared.blocks.Block.TheVariants as block;
-ghost use Rattle.cw_tmpl.specs.Blocks.{address_orders, use_of, with_use, fetched, assigned, is_plain_divisor, with_number, saved, place_at, fetched_from, saved_from, block_at, orders_left};
+//! Blocks: orders that have one piece of code together. The orders before the last only save the top operand, put a word, or make
+//! the address of an element; the code leaves the one where it is, and takes the other from its instruction or from memory.
+ghost use Rattle.std.specs.Prelude.{◌≡◌, ◌<◌, length, drop, slice_get};
+ghost use Rattle.cw_tmpl.specs.Blocks.{address_orders, element_orders, use_of, is_part, NamesParts, zero_word, element_behind, element_at, with_use, fetched, assigned, is_plain_divisor, exponent_of, halving_places, halved, divided, counted, number_scaled, with_number, saved, place_at, fetched_from, saved_from, element_fetched, element_used, element_saved, fetched_or, saved_or, block_if_saved, block_at, orders_left};
 
 use cw_order::{Comparator, Order};
 
@@ -15,11 +14,27 @@ pub enum Place {
     Frame(u16),
 }
 
+/// An element of an item whose first word stands in a storage family: its index stands at a place and counts from `lower`, and
+/// so many words from the first one on are in the data area (`span`). Where that is the word of no element, it stops at its line. `zero`
+/// is the offset in the family of the word that index 0 names.
+#[derive(Clone, Copy)]
+pub struct Element {
+    pub index: Place,
+    pub family: u16,
+    pub first: u16,
+    pub lower: i16,
+    pub span: u16,
+    pub line: u16,
+    pub zero: u16,
+}
+
 /// An operand that an instruction names.
 #[derive(Clone, Copy)]
 pub enum Simple {
     Number(u16),
     Contents(Place),
+    /// The word of an element.
+    Element(Element),
 }
 
 /// What is done with the operand below and a simple one on top; a sum, a difference or a product that does not fit stops at its
@@ -55,6 +70,28 @@ pub enum Block {
     Divide { by: u16, line: u16 },
     /// First of those that save the top operand, put a simple one and use both.
     Operate { operand: Simple, with: Use },
+    /// First of those that put a part of the word at a place: `t` bits from bit `b` on.
+    FetchPart {
+        place: Place,
+        t: u8,
+        b: u8,
+        signed: bool,
+    },
+    /// First of those that store the top operand in such a part.
+    AssignPart { place: Place, t: u8, b: u8 },
+    /// First of those that put the word of an element.
+    FetchElement(Element),
+    /// First of those that store the top operand in an element.
+    AssignElement(Element),
+    /// First of three: one more, or less, than the top operand.
+    Count { down: bool, line: u16 },
+    /// First of three: the top operand times a power of two, taken down by so many more `places`.
+    Halve {
+        word: u16,
+        power: i8,
+        places: u8,
+        line: u16,
+    },
 }
 
 /// How many orders put the address of a place.
@@ -97,6 +134,68 @@ fn use_at(orders: &[Order], place: usize) -> Option<Use>
     }
 }
 
+/// The offset of the word that index 0 names, where it is known to be in the data area.
+fn zero_word(lower: i16, span: u16, first: u16) -> Option<u16>
+    ensures { result ≡ zero_word lower span first }
+{
+    if 0 < lower {
+        return None;
+    }
+    let below = lower.unsigned_abs();
+    if below < span {
+        first.checked_add(below)
+    } else {
+        None
+    }
+}
+
+/// The element whose index stands at a place, where four orders behind its address make the address of one.
+fn element_behind(index: Place, orders: &[Order], behind: usize) -> Option<Element>
+    requires { behind < 8 }
+    ensures { result ≡ element_behind index behind orders.now }
+{
+    match (
+        orders.get(behind),
+        orders.get(behind + 1),
+        orders.get(behind + 2),
+        orders.get(behind + 3),
+    ) {
+        (
+            Some(Order::Load),
+            Some(Order::Save),
+            Some(Order::Home { family, offset }),
+            Some(Order::Element { lower, span, line }),
+        ) => {
+            let zero = zero_word(*lower, *span, *offset)?;
+            Some(Element {
+                index,
+                family: *family,
+                first: *offset,
+                lower: *lower,
+                span: *span,
+                line: *line,
+                zero,
+            })
+        }
+        _ => None,
+    }
+}
+
+/// The element whose address these orders make.
+fn element_at(orders: &[Order]) -> Option<Element>
+    ensures { result ≡ element_at (place_at orders.now) orders.now }
+{
+    let index = place_at(orders)?;
+    element_behind(index, orders, orders_of_address(index))
+}
+
+/// How many orders make the address of an element.
+fn orders_of_element(element: Element) -> usize
+    ensures { result ≡ length (element_orders element) }
+{
+    orders_of_address(element.index) + 4
+}
+
 fn with_use(operand: Simple, with: Option<Use>) -> Block
     ensures { result ≡ with_use operand with }
 {
@@ -106,22 +205,25 @@ fn with_use(operand: Simple, with: Option<Use>) -> Block
     }
 }
 
+/// Whether so many bits from a bit on are those of a word.
+fn is_part(t: u8, b: u8) -> bool
+    ensures { result ≡ is_part t b }
+{
+    0 < t && u16::from(t) + u16::from(b) <= 16
+}
+
 fn fetched(place: Place, orders: &[Order], behind: usize) -> Block
     ensures { result ≡ fetched place (slice_get orders.now behind) }
 {
     match orders.get(behind) {
         Some(Order::Load) => Block::Fetch(place),
+        Some(Order::LoadPart { t, b, signed }) if is_part(*t, *b) => Block::FetchPart {
+            place,
+            t: *t,
+            b: *b,
+            signed: *signed,
+        },
         _ => Block::Single,
-    }
-}
-
-/// The block that begins with the first of these orders, which is no `Save`.
-fn fetched_from(orders: &[Order]) -> Block
-    ensures { result ≡ fetched_from (place_at orders.now) orders.now }
-{
-    match place_at(orders) {
-        Some(place) => fetched(place, orders, orders_of_address(place)),
-        None => Block::Single,
     }
 }
 
@@ -132,6 +234,11 @@ fn assigned(place: Place, orders: &[Order], behind: usize, next: usize) -> Block
     match orders.get(behind) {
         Some(Order::Load) => with_use(Simple::Contents(place), use_at(orders, next)),
         Some(Order::Store) => Block::Assign(place),
+        Some(Order::StorePart { t, b }) if is_part(*t, *b) => Block::AssignPart {
+            place,
+            t: *t,
+            b: *b,
+        },
         _ => Block::Single,
     }
 }
@@ -143,28 +250,106 @@ fn is_plain_divisor(word: u16) -> bool
     1 < word && word < 32_768
 }
 
-fn divided(by: u16, line: u16) -> Block
-    ensures { result ≡ (if is_plain_divisor by then block.Divide by line else block.Single) }
+fn divided(by: u16, power: i8, line: u16) -> Block
+    ensures { result ≡ divided by power line }
 {
-    if is_plain_divisor(by) {
+    if power == 0 && is_plain_divisor(by) {
         Block::Divide { by, line }
     } else {
         Block::Single
     }
 }
 
+/// The exponent of a power of two that is a word.
+fn exponent_of(word: u16) -> Option<u8>
+    ensures { result ≡ exponent_of word }
+{
+    match word {
+        1 => Some(0),
+        2 => Some(1),
+        4 => Some(2),
+        8 => Some(3),
+        16 => Some(4),
+        32 => Some(5),
+        64 => Some(6),
+        128 => Some(7),
+        256 => Some(8),
+        512 => Some(9),
+        1024 => Some(10),
+        2048 => Some(11),
+        4096 => Some(12),
+        8192 => Some(13),
+        16_384 => Some(14),
+        _ => None,
+    }
+}
+
+/// By how many places a product with a number, at this power of two, is a shift down.
+fn halving_places(word: u16, power: i8) -> Option<u8>
+    ensures { result ≡ halving_places word power }
+{
+    if 0 <= power {
+        return None;
+    }
+    let down = power.unsigned_abs();
+    let exponent = exponent_of(word)?;
+    if exponent < down && down <= exponent + 15 {
+        Some(down - exponent)
+    } else {
+        None
+    }
+}
+
+fn halved(word: u16, power: i8, line: u16) -> Block
+    ensures { result ≡ halved word power line (halving_places word power) }
+{
+    match halving_places(word, power) {
+        Some(places) => Block::Halve {
+            word,
+            power,
+            places,
+            line,
+        },
+        None => Block::Single,
+    }
+}
+
+// A sum or a difference with a number.
+fn counted(word: u16, down: bool, line: u16, with: Use) -> Block
+    ensures { result ≡ counted word down line with }
+{
+    if word == 1 {
+        Block::Count { down, line }
+    } else {
+        Block::Operate {
+            operand: Simple::Number(word),
+            with,
+        }
+    }
+}
+
+// A number behind which is no use of a simple operand.
+fn number_scaled(word: u16, orders: &[Order]) -> Block
+    ensures { result ≡ number_scaled word (slice_get orders.now 1) }
+{
+    match orders.get(1) {
+        Some(Order::Div { power, line }) => divided(word, *power, *line),
+        Some(Order::Mul { power, line }) => halved(word, *power, *line),
+        _ => Block::Single,
+    }
+}
+
 fn with_number(word: u16, orders: &[Order]) -> Block
     ensures { result ≡ with_number word (slice_get orders.now 1) }
 {
-    if let Some(Order::Div { power: 0, line }) = orders.get(1) {
-        return divided(word, *line);
-    }
     match use_at(orders, 1) {
+        None => number_scaled(word, orders),
+        Some(Use::Add(line)) => counted(word, false, line, Use::Add(line)),
+        Some(Use::Subtract(line)) => counted(word, true, line, Use::Subtract(line)),
         Some(with) => Block::Operate {
             operand: Simple::Number(word),
             with,
         },
-        None => Block::Single,
     }
 }
 
@@ -191,13 +376,54 @@ fn saved_from(orders: &[Order]) -> Block
     }
 }
 
+/// The element that these orders fetch, and another block where they fetch none; the first ones put the address of a place.
+fn element_or_fetched(orders: &[Order], place: Place) -> Block
+    ensures { result ≡ fetched_or (element_at (Some place) orders.now) orders.now (fetched_from (Some place) orders.now) }
+{
+    let behind = orders_of_address(place);
+    if let Some(element) = element_behind(place, orders, behind)
+        && let Some(Order::Load) = orders.get(orders_of_element(element))
+    {
+        return Block::FetchElement(element);
+    }
+    fetched(place, orders, behind)
+}
+
+/// The element that these orders behind a `Save` assign or use, and another block where they do neither.
+fn element_or_saved(orders: &[Order]) -> Block
+    ensures { result ≡ saved_or (element_at (place_at orders.now) orders.now) orders.now (saved_from (place_at orders.now) orders.now) }
+{
+    let Some(element) = element_at(orders) else {
+        return saved_from(orders);
+    };
+    let behind = orders_of_element(element);
+    match (orders.get(behind), use_at(orders, behind + 1)) {
+        (Some(Order::Store), _) => Block::AssignElement(element),
+        (Some(Order::Load), Some(with)) => Block::Operate {
+            operand: Simple::Element(element),
+            with,
+        },
+        _ => saved_from(orders),
+    }
+}
+
+/// The block that begins with a `Save`.
+fn block_if_saved(orders: &[Order]) -> Block
+    ensures { result ≡ block_if_saved orders.now }
+{
+    match orders {
+        [Order::Save, rest @ ..] => element_or_saved(rest),
+        _ => Block::Single,
+    }
+}
+
 /// The block that begins with the first of these orders.
 fn block_here(orders: &[Order]) -> Block
     ensures { result ≡ block_at 0 orders.now }
 {
-    match orders {
-        [Order::Save, rest @ ..] => saved_from(rest),
-        _ => fetched_from(orders),
+    match place_at(orders) {
+        Some(place) => element_or_fetched(orders, place),
+        None => block_if_saved(orders),
     }
 }
 
@@ -214,7 +440,8 @@ fn block_at(left: u8, orders: &[Order]) -> Block
 /// How the order at a place stands.
 pub fn block_in(left: u8, orders: &[Order], place: usize) -> Block
     requires { place < length orders.now }
-    ensures { result ≡ block_at left (drop place orders.now) }
+    ensures value { result ≡ block_at left (drop place orders.now) }
+    ensures parts { NamesParts result }
 {
     block_at(left, &orders[place..])
 }
@@ -228,8 +455,17 @@ pub fn orders_left(block: Block) -> u8
         Block::Single => 0,
         Block::Write => 1,
         Block::Divide { .. } => 2,
-        Block::Fetch(place) => orders_of_address(place) as u8,
-        Block::Assign(place) => orders_of_address(place) as u8 + 1,
+        Block::Count { .. } | Block::Halve { .. } => 2,
+        Block::Fetch(place) | Block::FetchPart { place, .. } => orders_of_address(place) as u8,
+        Block::Assign(place) | Block::AssignPart { place, .. } => {
+            orders_of_address(place) as u8 + 1
+        }
+        Block::FetchElement(element) => orders_of_element(element) as u8,
+        Block::AssignElement(element) => orders_of_element(element) as u8 + 1,
+        Block::Operate {
+            operand: Simple::Element(element),
+            ..
+        } => orders_of_element(element) as u8 + 2,
         Block::Operate {
             operand: Simple::Number(_),
             ..

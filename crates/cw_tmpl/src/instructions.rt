@@ -47,6 +47,18 @@ pub const AT_BX: Rm = Rm::Mem(Mem {
     place: Place::Plain(7),
 });
 
+/// The word of the data segment at SI.
+pub const AT_SI: Rm = Rm::Mem(Mem {
+    cs: false,
+    place: Place::Plain(4),
+});
+
+/// The word of the data segment at 0.
+pub const AT_ZERO: Rm = Rm::Mem(Mem {
+    cs: false,
+    place: Place::Direct(0),
+});
+
 /// MOV of a word into a register.
 pub fn set_word(reg: u8, word: u16) -> Instr
     ensures { result ≡ mnemonics.set_word reg word }
@@ -229,6 +241,82 @@ pub fn shift_down_signed(reg: u8) -> Instr
         wide: true,
         by_cl: true,
         rm: Rm::Reg(reg),
+    }
+}
+
+/// SHL of a register by one place.
+pub fn shift_up_once(reg: u8) -> Instr
+    ensures { result ≡ mnemonics.shift_up_once reg }
+{
+    Instr::Shift {
+        op: 4,
+        wide: true,
+        by_cl: false,
+        rm: Rm::Reg(reg),
+    }
+}
+
+/// SHR of a register by one place.
+pub fn shift_down_once(reg: u8) -> Instr
+    ensures { result ≡ mnemonics.shift_down_once reg }
+{
+    Instr::Shift {
+        op: 5,
+        wide: true,
+        by_cl: false,
+        rm: Rm::Reg(reg),
+    }
+}
+
+/// SAR of a register by one place.
+pub fn shift_down_signed_once(reg: u8) -> Instr
+    ensures { result ≡ mnemonics.shift_down_signed_once reg }
+{
+    Instr::Shift {
+        op: 7,
+        wide: true,
+        by_cl: false,
+        rm: Rm::Reg(reg),
+    }
+}
+
+/// INC of a register.
+pub fn increase(reg: u8) -> Instr
+    ensures { result ≡ mnemonics.increase reg }
+{
+    Instr::Inc(reg)
+}
+
+/// DEC of a register.
+pub fn decrease(reg: u8) -> Instr
+    ensures { result ≡ mnemonics.decrease reg }
+{
+    Instr::Dec(reg)
+}
+
+/// An operation of the arithmetic unit, by its number, on a register, which changes, and an operand.
+pub fn operate(operation: u8, reg: u8, rm: Rm) -> Instr
+    ensures { result ≡ mnemonics.operate operation reg rm }
+{
+    Instr::AluRm {
+        op: operation,
+        wide: true,
+        to_reg: true,
+        reg,
+        rm,
+    }
+}
+
+/// The same on an operand, which changes, and a register.
+pub fn change(operation: u8, rm: Rm, reg: u8) -> Instr
+    ensures { result ≡ mnemonics.change operation rm reg }
+{
+    Instr::AluRm {
+        op: operation,
+        wide: true,
+        to_reg: false,
+        reg,
+        rm,
     }
 }
 

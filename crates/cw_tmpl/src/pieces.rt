@@ -53,6 +53,12 @@ pub enum Coded {
         reg: u8,
         target: Target,
     },
+    /// The same operation on the word of the data segment at the word, which changes, and a register.
+    Change {
+        operation: u8,
+        reg: u8,
+        target: Target,
+    },
     /// CALL by the word.
     Call(Target),
     /// JMP by the word.

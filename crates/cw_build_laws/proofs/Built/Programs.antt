@@ -15,11 +15,15 @@ use Rattle.cw_built.specs.Coded.{ends_block, have_code}
 use Rattle.cw_built.proofs.Programs.{codes, lines, tables, paired, switches, entries, marks, callable}
 
 begins-block : (o : Order) → ends_block o ≡ false → StandsBehind o → ⊥
+begins-block order.Save e t = absurd (cc)
 begins-block (order.Const w) e t = absurd (cc)
 begins-block (order.Home f n) e t = absurd (cc)
 begins-block (order.FrameHome n) e t = absurd (cc)
 begins-block order.Load e t = absurd (cc)
 begins-block order.Store e t = absurd (cc)
+begins-block (order.LoadPart t' b is_signed) e t = absurd (cc)
+begins-block (order.StorePart t' b) e t = absurd (cc)
+begins-block (order.Element lower span line) e t = absurd (cc)
 begins-block (order.Add line) e t = absurd (cc)
 begins-block (order.Sub line) e t = absurd (cc)
 begins-block (order.JumpIf c m) e t = absurd (cc)

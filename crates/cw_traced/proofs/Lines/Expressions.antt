@@ -2,6 +2,7 @@
 use Rattle.std.proofs.Common.{◌≡◌, ℕ, zero, suc, ◌+◌, ◌<◌, ◌≤◌, max, ℤ, pos, ◌-ℤ◌, List, [], ◌∷◌, ◌++◌, map, Bool, true, false, Option, Some, None, refl, sym, ap, ◌∙◌, subst, arith}
 use Rattle.cw_order.specs.declared.order.Order.{Order}
 use Rattle.cw_order.specs.declared.order.Order.TheVariants as order
+use Rattle.cw_word.specs.Word.{unsigned}
 use Rattle.cw_unit.specs.declared.layout.Layout.{Layout}
 use Rattle.cw_unit.specs.declared.unit.Arg.{Arg, out-Arg}
 use Rattle.cw_unit.specs.declared.unit.Cond.{Cond, out-Cond}
@@ -31,7 +32,7 @@ saved-silent = plainly (order.Save ∷ []) refl
 
 -- a constant begins none, and neither does the order of a word that is known
 known-silent : (k : Option ℤ) (p : Piece) → Silent p → Silent (known_or k p)
-known-silent (Some z) p h = plainly (number_order _ ∷ []) refl
+known-silent (Some z) p h = plainly (number_order (unsigned z) ∷ []) refl
 known-silent None p h = h
 
 named-silent : (y : Layout) (i : ℕ) (w : Option ℕ) (p : Piece) → Silent p → Silent (named_or y i w p)

@@ -15,6 +15,7 @@ use Rattle.cw_unit.specs.declared.descriptor.Desc.{Desc}
 use Rattle.cw_unit.specs.declared.layout.Family.{Family}
 use Rattle.cw_tmpl.specs.declared.blocks.Place.{Place}
 use Rattle.cw_tmpl.specs.declared.blocks.Place.TheVariants as cell
+use Rattle.cw_tmpl.specs.declared.blocks.Element.{Element}
 use Rattle.cw_tmpl.specs.declared.blocks.Simple.{Simple}
 use Rattle.cw_tmpl.specs.declared.blocks.Simple.TheVariants as simple
 use Rattle.cw_tmpl.specs.declared.blocks.Use.{Use}
@@ -23,7 +24,7 @@ use Rattle.cw_tmpl.specs.declared.blocks.Block.{Block}
 use Rattle.cw_tmpl.specs.declared.blocks.Block.TheVariants as block
 use Rattle.cw_tmpl.specs.Pieces.{blanks}
 use Rattle.cw_tmpl.specs.Names.{mark_place, way_to_label, landing_start, switch_size}
-use Rattle.cw_tmpl.specs.Blocks.{address_orders, operand_orders, order_of, block_at, orders_left}
+use Rattle.cw_tmpl.specs.Blocks.{address_orders, element_orders, operand_orders, order_of, count_order, block_at, orders_left}
 use Rattle.cw_tmpl.proofs.Shapes.{IsBlock, shape}
 use Rattle.cw_tmpl.specs.Templates.{block_size, entry_pieces}
 use Rattle.cw_tmpl.specs.ReferenceCode.{templates, landings, switches, entry_size, order_places, switch_places, switch_sizes, landings_place, switches_place, names_of, mark_starts, label_starts, statement_at, statements_from, orders_code}
@@ -60,7 +61,11 @@ place-ends : (x : Place) → All-end (address_orders x)
 place-ends (cell.Word f n) = refl
 place-ends (cell.Frame n) = refl
 
+element-ends : (e : Element) → All-end (element_orders e)
+element-ends e = end-both (address_orders e.index) (order.Load ∷ order.Save ∷ order.Home e.family e.first ∷ order.Element e.lower e.span e.line ∷ []) (place-ends e.index) refl
+
 operand-ends : (s : Simple) → All-end (operand_orders s)
+operand-ends (simple.Element e) = end-both (element_orders e) (order.Load ∷ []) (element-ends e) refl
 operand-ends (simple.Number w) = refl
 operand-ends (simple.Contents x) = end-both (address_orders x) (order.Load ∷ []) (place-ends x) refl
 
@@ -77,9 +82,14 @@ left-before : (xs : List Order) (last : Order) (rest : List Order) → All-end x
 left-before [] last rest h k = both (ends_block last) true k refl
 left-before (x ∷ xs) last rest h k = let p = parts (ends_block x) (list_all ends_block xs) h in both (ends_block x) (left_over (suc (length xs)) (xs ++ last ∷ rest)) p.0 (left-before xs last rest p.1 k)
 
-left-fetch : (x : Place) (rest : List Order) → IsTrue (left_over (length (address_orders x)) (drop 1 (address_orders x ++ order.Load ∷ rest)))
-left-fetch (cell.Word f n) rest = refl
-left-fetch (cell.Frame n) rest = refl
+count-ends : (down : Bool) (line : ℕ) → IsTrue (ends_block (count_order down line))
+count-ends true line = refl
+count-ends false line = refl
+
+-- where the first order begins the block
+left-behind : (xs : List Order) (last : Order) (rest : List Order) → All-end xs → IsTrue (ends_block last) → IsTrue (left_over (length xs) (drop 1 (xs ++ last ∷ rest)))
+left-behind [] last rest h k = refl
+left-behind (x ∷ xs) last rest h k = left-before xs last rest (parts (ends_block x) (list_all ends_block xs) h).1 k
 
 left-first : (o : Order) (os : List Order) → IsTrue (left_over (orders_left (block_at 0 (o ∷ os))) os)
 left-first o os = cases (block_at 0 (o ∷ os)) (shape (o ∷ os))
@@ -90,11 +100,17 @@ left-first o os = cases (block_at 0 (o ∷ os)) (shape (o ∷ os))
     cases : (b : Block) → IsBlock b (o ∷ os) → IsTrue (left_over (orders_left b) os)
     cases (block.Within n) sh = absurd sh
     cases block.Single sh = refl
-    cases (block.Fetch x) sh = left-so (length (address_orders x)) _ sh (left-fetch x (drop (length (address_orders x)) os))
+    cases (block.Fetch x) sh = left-so (length (address_orders x)) _ sh (left-behind (address_orders x) order.Load (drop (length (address_orders x)) os) (place-ends x) refl)
     cases (block.Assign x) sh = left-so (suc (length (address_orders x))) _ sh (left-before (address_orders x) order.Store (drop (suc (length (address_orders x))) os) (place-ends x) refl)
     cases block.Write sh = left-so 1 _ sh refl
     cases (block.Divide w line) sh = left-so 2 _ sh.0 refl
-    cases (block.Operate s u) sh = left-so (suc (length (operand_orders s))) _ sh (left-before (operand_orders s) (order_of u) (drop (suc (length (operand_orders s))) os) (operand-ends s) (use-ends u))
+    cases (block.FetchPart x t b is_signed) sh = left-so (length (address_orders x)) _ sh.0 (left-behind (address_orders x) (order.LoadPart t b is_signed) (drop (length (address_orders x)) os) (place-ends x) refl)
+    cases (block.AssignPart x t b) sh = left-so (suc (length (address_orders x))) _ sh.0 (left-before (address_orders x) (order.StorePart t b) (drop (suc (length (address_orders x))) os) (place-ends x) refl)
+    cases (block.FetchElement e) sh = left-so (length (element_orders e)) _ sh.0 (left-behind (element_orders e) order.Load (drop (length (element_orders e)) os) (element-ends e) refl)
+    cases (block.AssignElement e) sh = left-so (suc (length (element_orders e))) _ sh.0 (left-before (element_orders e) order.Store (drop (suc (length (element_orders e))) os) (element-ends e) refl)
+    cases (block.Count down line) sh = left-so 2 _ sh (left-before (order.Const 1 ∷ []) (count_order down line) (drop 2 os) refl (count-ends down line))
+    cases (block.Halve w power places line) sh = left-so 2 _ sh.0 refl
+    cases (block.Operate s u) sh = left-so (suc (length (operand_orders s))) _ sh.0 (left-before (operand_orders s) (order_of u) (drop (suc (length (operand_orders s))) os) (operand-ends s) (use-ends u))
 
 left-next : (left : ℕ) (o : Order) (os : List Order) → IsTrue (left_over left (o ∷ os)) → IsTrue (left_over (orders_left (block_at left (o ∷ os))) os)
 left-next (suc n) o os h = (parts (ends_block o) (left_over n os) h).1

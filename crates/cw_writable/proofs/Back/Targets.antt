@@ -1,6 +1,7 @@
 -- The words that the linker fills in the code of orders that name what there is.
 use Rattle.std.proofs.Common.{◌≡◌, ℕ, zero, suc, ◌+◌, ◌-◌, ◌%◌, ◌<◌, ◌≤◌, nat_le, nat_lt, List, [], ◌∷◌, ◌++◌, length, All, Bool, true, false, IsTrue, ◌&&◌, if◌then◌else◌, ◌==◌, ◌^◌, ℤ, pos, negsuc, Option, Some, None, is_some, slice_get, slice_index, refl, sym, subst, arith, drop, ap, ◌∙◌, append_assoc}
 use Rattle.std.proofs.lemmas.Bool.{ltb-true}
+use Rattle.std.proofs.lemmas.Bool.Decides.{nat_tests}
 use Rattle.std.specs.List.{list_all}
 use Rattle.cw_order.specs.declared.order.Order.{Order}
 use Rattle.cw_order.specs.declared.order.Order.TheVariants as order
@@ -14,6 +15,8 @@ use Rattle.cw_tmpl.specs.declared.pieces.Limit.TheVariants as limit
 use Rattle.cw_tmpl.specs.declared.pieces.Target.{Target}
 use Rattle.cw_tmpl.specs.declared.pieces.Target.TheVariants as target
 use Rattle.cw_tmpl.specs.declared.pieces.Coded.{Coded}
+use Rattle.cw_tmpl.specs.declared.pieces.Coded.TheVariants as pieces
+use Rattle.cw_tmpl.specs.Mnemonics.{ax, cx, si, di, at_si, load, store, compare, double, multiply, operate, jump_if_below}
 use Rattle.cw_tmpl.specs.declared.blocks.Use.{Use}
 use Rattle.cw_tmpl.specs.declared.blocks.Use.TheVariants as uses
 use Rattle.cw_tmpl.specs.Pieces.{size_of, target_of, relocation_of, relocation_before, relocations}
@@ -21,13 +24,14 @@ use Rattle.cw_tmpl.specs.Names.{Names, mark_place, label_start, procedure_start,
 use Rattle.cw_tmpl.specs.Library.{overflow_entry, address_entry}
 use Rattle.cw_tmpl.specs.declared.blocks.Place.{Place}
 use Rattle.cw_tmpl.specs.declared.blocks.Place.TheVariants as cell
+use Rattle.cw_tmpl.specs.declared.blocks.Element.{Element}
 use Rattle.cw_tmpl.specs.declared.blocks.Simple.{Simple}
 use Rattle.cw_tmpl.specs.declared.blocks.Simple.TheVariants as simple
 use Rattle.cw_tmpl.specs.declared.blocks.Block.{Block}
 use Rattle.cw_tmpl.specs.declared.blocks.Block.TheVariants as block
-use Rattle.cw_tmpl.specs.Blocks.{address_orders, operand_orders, block_at, orders_left}
-use Rattle.cw_tmpl.proofs.Shapes.{IsBlock, shape}
-use Rattle.cw_tmpl.specs.Templates.{template, mark_words, goal_words, landing_pieces, switch_pieces, times_if, times, rescale_if, product_start, product_down, less_bound, plus_word, times_width, based, in_row, element_of_two, block_pieces, block_size, entry_pieces, checked, address_pieces, load_place, store_place, with_operand, product_with, operated}
+use Rattle.cw_tmpl.specs.Blocks.{address_orders, element_orders, operand_orders, zero_word, block_at, orders_left}
+use Rattle.cw_tmpl.proofs.Shapes.{IsBlock, IsNear, OperandIs, shape}
+use Rattle.cw_tmpl.specs.Templates.{template, mark_words, goal_words, landing_pieces, switch_pieces, times_if, times, rescale_if, product_start, product_down, less_bound, plus_word, times_width, based, in_row, element_of_two, block_pieces, block_size, entry_pieces, checked, address_pieces, load_place, store_place, with_operand, product_with, operated, shifted, shifted_up, shifted_down, shifted_down_signed, lowest_if, part_taken, operate_place, change_place, index_added, element_address, call_stop}
 use Rattle.cw_tmpl.specs.ReferenceCode.{templates, landings, switches, entry_size, landings_place, switches_place, names_of, pieces_of}
 use Rattle.cw_tmpl.specs.Blanks.{FillsBlank, Rise}
 use Rattle.cw_view.specs.ObjectFormat.{is_blank, has_index}
@@ -40,6 +44,20 @@ use Rattle.cw_writable.specs.Back.Ready.{is_goal}
 use Rattle.cw_writable.proofs.Back.Fit.{is_place, names_well, Fit, none, next, begun}
 
 -- ---- the words of code
+
+-- the word that index 0 of an element names has a place in its family
+zero-small : (lower : ℤ) (span first z : ℕ) → zero_word lower span first ≡ Some z → z < 65536
+zero-small (pos zero) span first z e = behind 0 (nat_lt 0 span && nat_lt (first + 0) 65536) refl e
+  where
+    behind : (d : ℕ) (b : Bool) → (nat_lt d span && nat_lt (first + d) 65536) ≡ b → (if b then Some (first + d) else None) ≡ Some z → z < 65536
+    behind d false is e = absurd (cc)
+    behind d true is e = let same : first + d ≡ z = cc in grind (arith, nat_tests)
+zero-small (pos (suc k)) span first z e = absurd (cc)
+zero-small (negsuc k) span first z e = behind (suc k) (nat_lt (suc k) span && nat_lt (first + suc k) 65536) refl e
+  where
+    behind : (d : ℕ) (b : Bool) → (nat_lt d span && nat_lt (first + d) 65536) ≡ b → (if b then Some (first + d) else None) ≡ Some z → z < 65536
+    behind d false is e = absurd (cc)
+    behind d true is e = let same : first + d ≡ z = cc in grind (arith, nat_tests)
 
 module _ (n : ℕ) (fs : List Family) where
   abbrev pub is_target : Target → Bool
@@ -127,10 +145,35 @@ module _ (n : ℕ) (fs : List Family) where
   of-two-sound line lower (pos (suc k)) width = row-sound line lower width
   of-two-sound line lower (negsuc k) width = row-sound line lower width
 
+  -- shifts and parts name nothing
+  up-sound : (k : ℕ) → Sound (shifted_up k)
+  up-sound zero = refl
+  up-sound (suc zero) = refl
+  up-sound (suc (suc k)) = refl
+
+  down-shift-sound : (k : ℕ) → Sound (shifted_down k)
+  down-shift-sound zero = refl
+  down-shift-sound (suc zero) = refl
+  down-shift-sound (suc (suc k)) = refl
+
+  signed-sound : (k : ℕ) → Sound (shifted_down_signed k)
+  signed-sound zero = refl
+  signed-sound (suc zero) = refl
+  signed-sound (suc (suc k)) = refl
+
+  lowest-sound : (all : Bool) (t : ℕ) → Sound (lowest_if all t)
+  lowest-sound true t = refl
+  lowest-sound false t = refl
+
+  part-sound : (t b : ℕ) (is_signed : Bool) → Sound (part_taken t b is_signed)
+  part-sound t b true = sound-both (shifted_up (16 - (t + b))) (shifted_down_signed (16 - t)) (up-sound (16 - (t + b))) (signed-sound (16 - t))
+  part-sound t b false = sound-both (shifted_down b) (lowest_if (t + b == 16) t) (down-shift-sound b) (lowest-sound (t + b == 16) t)
+
   template-sound : (names : Names) (place : ℕ) (o : Order) → IsTrue (names_well n fs o) → Sound (template names place o)
   template-sound names place (order.Home f offset) h = only (is_place fs f offset) h
-  template-sound names place (order.LoadPart t b true) h = refl
-  template-sound names place (order.LoadPart t b false) h = refl
+  template-sound names place (order.LoadPart t b is_signed) h = part-sound t b is_signed
+  template-sound names place (order.StorePart t b) h = sound-both (shifted_up b) _ (up-sound b) refl
+  template-sound names place (order.Take t b) h = part-sound t b false
   template-sound names place (order.Rescale from to line) h = rescale-sound (nat_le from to) (2 ^ (to - from) == 32768) line from to
   template-sound names place (order.Mul (pos zero) line) h = refl
   template-sound names place (order.Mul (pos (suc k)) line) h =
@@ -189,20 +232,51 @@ module _ (n : ℕ) (fs : List Family) where
   fetch-sound (cell.Word f k) h = only (is_place fs f k) h
   fetch-sound (cell.Frame k) h = refl
 
+  fetch-part-sound : (x : Place) (t b : ℕ) (is_signed : Bool) → Named x → Sound (address_pieces x ++ load_place x ∷ part_taken t b is_signed)
+  fetch-part-sound (cell.Word f k) t b is_signed h = both (is_place fs f k) (list_all is_piece (part_taken t b is_signed)) h (part-sound t b is_signed)
+  fetch-part-sound (cell.Frame k) t b is_signed h = part-sound t b is_signed
+
   assign-sound : (x : Place) → Named x → Sound (address_pieces x ++ store_place x ∷ [])
   assign-sound (cell.Word f k) h = only (is_place fs f k) h
   assign-sound (cell.Frame k) h = refl
 
+  -- and so does each order of a list
+  named-there : (os : List Order) → Fit n fs os → (k f m : ℕ) → slice_get os k ≡ Some (order.Home f m) → IsTrue (is_place fs f m)
+  named-there _ none k f m e = absurd (cc)
+  named-there _ (next o os h r) zero f m e = let same : o ≡ order.Home f m = cc in subst (λ x. IsTrue (names_well n fs x)) same h
+  named-there _ (next o os h r) (suc k) f m e = named-there os r k f m e
+  named-there _ (begun line os h r) zero f m e = absurd (cc)
+  named-there _ (begun line os h r) (suc k) f m e = named-there os r k f m e
+
+  -- the index of an element, and the word that index 0 names
+  abbrev ElementNamed : Element → Type 0
+  ElementNamed e = Named e.index × IsTrue (is_place fs e.family e.zero)
+
+  index-sound : (x : Place) (family offset : ℕ) → Named x → IsTrue (is_place fs family offset) → Sound (index_added x family offset)
+  index-sound (cell.Word f k) family offset h z = both (is_place fs family offset) (is_place fs f k && true) z (only (is_place fs f k) h)
+  index-sound (cell.Frame k) family offset h z = both (is_place fs family offset) true z refl
+
+  element-sound : (e : Element) → ElementNamed e → Sound (element_address e)
+  element-sound e h =
+      sound-both (index_added e.index e.family e.zero) (pieces.Whole (compare si di) ∷ pieces.Whole (jump_if_below 5) ∷ (call_stop address_entry e.line ++ pieces.Whole (double si) ∷ [])) (index-sound e.index e.family e.zero h.0 h.1) refl
+
+  change-sound : (x : Place) (p : Coded) → IsTrue (is_piece p) → Named x → Sound (address_pieces x ++ operate_place 6 x ∷ p ∷ change_place 6 x ∷ [])
+  change-sound (cell.Word f k) p h named = both (is_place fs f k) (is_piece p && (is_place fs f k && true)) named (both (is_piece p) (is_place fs f k && true) h (only (is_place fs f k) named))
+  change-sound (cell.Frame k) p h named = both (is_piece p) true h refl
+
   abbrev SimpleNamed : Simple → Type 0
+  SimpleNamed (simple.Element e) = ElementNamed e
   SimpleNamed (simple.Number w) = Unit {0}
   SimpleNamed (simple.Contents x) = Named x
 
   operand-sound : (op : ℕ) (s : Simple) → SimpleNamed s → Sound (with_operand op s)
+  operand-sound op (simple.Element e) h = sound-both (element_address e) (pieces.Whole (operate op ax at_si) ∷ []) (element-sound e h) refl
   operand-sound op (simple.Number w) h = refl
   operand-sound op (simple.Contents (cell.Word f k)) h = only (is_place fs f k) h
   operand-sound op (simple.Contents (cell.Frame k)) h = refl
 
   product-sound : (s : Simple) → SimpleNamed s → Sound (product_with s)
+  product-sound (simple.Element e) h = sound-both (element_address e) (pieces.Whole (load ax at_si) ∷ pieces.Whole (multiply cx) ∷ []) (element-sound e h) refl
   product-sound (simple.Number w) h = refl
   product-sound (simple.Contents (cell.Word f k)) h = only (is_place fs f k) h
   product-sound (simple.Contents (cell.Frame k)) h = refl
@@ -219,13 +293,39 @@ module _ (n : ℕ) (fs : List Family) where
   first-sound : (names : Names) (place : ℕ) (o : Order) (os : List Order) → IsTrue (names_well n fs o) → Fit n fs os → Sound (block_pieces names place (block_at 0 (o ∷ os)) o)
   first-sound names place o os h r = cases (block_at 0 (o ∷ os)) (shape (o ∷ os))
     where
+      -- an order that names well and those behind it, where the first one is that of a place
+      whole-fit : {e : Element} {rest : List Order} → o ∷ os ≡ element_orders e ++ rest → Fit n fs (o ∷ os)
+      whole-fit is = next o os h r
+
       -- what the orders behind a Save name
       behind : (x : Place) (rest : List Order) → o ∷ os ≡ order.Save ∷ (address_orders x ++ rest) → Named x
       behind x rest e = named-first x rest (subst Placed (ap (drop 1) e) (first-placed os r))
 
-      simple-behind : (s : Simple) (rest : List Order) → o ∷ os ≡ order.Save ∷ (operand_orders s ++ rest) → SimpleNamed s
-      simple-behind (simple.Number w) rest e = tt
-      simple-behind (simple.Contents x) rest e = behind x (order.Load ∷ rest) (e ∙ ap (λ l. order.Save ∷ l) (append_assoc (address_orders x) (order.Load ∷ []) rest))
+      -- the word that index 0 names is a place where the first word is one
+      zero-named : (e : Element) → IsNear e → IsTrue (is_place fs e.family e.first) → IsTrue (is_place fs e.family e.zero)
+      zero-named e near h =
+          let p = parts (is_some (slice_get fs e.family)) (nat_lt e.family 65536 && nat_lt e.first 65536) h in
+          both (is_some (slice_get fs e.family)) (nat_lt e.family 65536 && nat_lt e.zero 65536) p.0 (both (nat_lt e.family 65536) (nat_lt e.zero 65536) (parts (nat_lt e.family 65536) (nat_lt e.first 65536) p.1).0 (lt_true e.zero 65536 (zero-small e.lower e.span e.first e.zero near)))
+
+      home-at : (x : Place) (f k : ℕ) (l : ℤ) (span line : ℕ) (rest : List Order) → slice_get ((address_orders x ++ order.Load ∷ order.Save ∷ order.Home f k ∷ order.Element l span line ∷ []) ++ rest) 3 ≡ Some (order.Home f k)
+      home-at (cell.Word f' k') f k l span line rest = refl
+      home-at (cell.Frame k') f k l span line rest = refl
+
+      index-at : (x : Place) (f k : ℕ) (l : ℤ) (span line : ℕ) (rest : List Order) → Placed ((address_orders x ++ order.Load ∷ order.Save ∷ order.Home f k ∷ order.Element l span line ∷ []) ++ rest) → Named x
+      index-at (cell.Word f' k') f k l span line rest h = h
+      index-at (cell.Frame k') f k l span line rest h = tt
+
+      -- of a list that begins with the orders of an element
+      element-named : (e : Element) (list rest : List Order) → IsNear e → Fit n fs list → Placed list → list ≡ element_orders e ++ rest → ElementNamed e
+      element-named e list rest near fit placed is = (
+        index-at e.index e.family e.first e.lower e.span e.line rest (subst Placed is placed),
+        zero-named e near (named-there list fit 3 e.family e.first (ap (λ l. slice_get l 3) is ∙ home-at e.index e.family e.first e.lower e.span e.line rest)),
+      )
+
+      simple-behind : (s : Simple) (rest : List Order) → OperandIs s → o ∷ os ≡ order.Save ∷ (operand_orders s ++ rest) → SimpleNamed s
+      simple-behind (simple.Element e) rest near is = element-named e os (order.Load ∷ rest) near r (first-placed os r) (ap (drop 1) is ∙ append_assoc (element_orders e) (order.Load ∷ []) rest)
+      simple-behind (simple.Number w) rest near e = tt
+      simple-behind (simple.Contents x) rest near e = behind x (order.Load ∷ rest) (e ∙ ap (λ l. order.Save ∷ l) (append_assoc (address_orders x) (order.Load ∷ []) rest))
 
       cases : (b : Block) → IsBlock b (o ∷ os) → Sound (block_pieces names place b o)
       cases (block.Within k) sh = absurd sh
@@ -234,7 +334,15 @@ module _ (n : ℕ) (fs : List Family) where
       cases (block.Assign x) sh = assign-sound x (behind x _ sh)
       cases block.Write sh = refl
       cases (block.Divide w line) sh = refl
-      cases (block.Operate s u) sh = operated-sound names place s u (simple-behind s _ sh)
+      cases (block.Operate s u) sh = operated-sound names place s u (simple-behind s _ sh.1 sh.0)
+      cases (block.FetchPart x t b is_signed) sh = fetch-part-sound x t b is_signed (named-first x _ (subst Placed sh.0 (placed-first o os h)))
+      cases (block.AssignPart x t b) sh =
+          sound-both (shifted_up b) _ (up-sound b) (change-sound x _ refl (behind x _ sh.0))
+      cases (block.FetchElement e) sh = sound-both (element_address e) (pieces.Whole (load ax at_si) ∷ []) (element-sound e (element-named e (o ∷ os) _ sh.1 (whole-fit sh.0) (placed-first o os h) sh.0)) refl
+      cases (block.AssignElement e) sh = sound-both (element_address e) (pieces.Whole (store at_si ax) ∷ []) (element-sound e (element-named e os _ sh.1 r (first-placed os r) (ap (drop 1) sh.0))) refl
+      cases (block.Count true line) sh = refl
+      cases (block.Count false line) sh = refl
+      cases (block.Halve w power places line) sh = signed-sound places
 
   block-sound : (names : Names) (place left : ℕ) (o : Order) (os : List Order) → IsTrue (names_well n fs o) → Fit n fs os → Sound (block_pieces names place (block_at left (o ∷ os)) o)
   block-sound names place (suc left) o os h r = refl

@@ -6,4 +6,4 @@ pub loop-k-preserved : goal.loop-k-preserved
 loop-k-preserved c =
     let list = c.args.list.now in
     next_block c.loop-k.code c.put_block.new.code c.args.names.now list c.loop-k.k c.loop-k.left _ _ c.index-list-k.result _ _
-    (item_first list c.loop-k.k c.index-list-k.result (omega (arith, c.loop-k-test.true)) c.index-list-k.is) c.block_in-block.ensures c.orders_left-left.ensures c.in_ok-put_block.ensures c.loop-k.invariant
+    (item_first list c.loop-k.k c.index-list-k.result (omega (arith, c.loop-k-test.true)) c.index-list-k.is) c.block_in-block.ensures.value c.orders_left-left.ensures c.in_ok-put_block.ensures c.loop-k.invariant

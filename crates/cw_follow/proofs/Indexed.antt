@@ -1,0 +1,226 @@
+-- The address of an element whose index a simple place holds: one sum and one compare.
+use Rattle.std.proofs.Common.{◌≡◌, inl, inr, ◌-◌, ℕ, zero, suc, ◌+◌, ◌*◌, ◌%◌, ◌<◌, ◌≤◌, Bool, true, false, ℤ, pos, negsuc, ◌+ℤ◌, ◌-ℤ◌, List, [], ◌∷◌, ◌++◌, Option, Some, None, refl, sym, ap, ap₂, ◌∙◌, subst, arith, lit<, lit≤}
+use borrow.Author.Tests.{ltb-true}
+use Rattle.std.proofs.Math.Nat.{min-eq_left}
+use Rattle.std.proofs.lemmas.Bool.{lt-ltb, le-ltb, false≢true, cases_lt}
+use Rattle.std.proofs.lemmas.Bool.Decides.{nat_tests}
+use Rattle.std.proofs.lemmas.Int.{ints}
+use Rattle.std.specs.Prelude.{nat_lt, ◌&&◌, if◌then◌else◌, min}
+use Rattle.cw_i86.specs.declared.instr.Instr.TheVariants as i86
+use Rattle.cw_run86.specs.Processor.{Told}
+use Rattle.cw_run86.specs.Views.{View, Has, compare as compare_of, word_sum, sum_overflows, difference_overflows, double_overflows}
+use Rattle.cw_word.specs.FixedPoint.{FitsWord, fits_word}
+use Rattle.cw_word.specs.Word.{signed, unsigned}
+use Rattle.cw_unit.specs.Stop.{AddressRange}
+use Rattle.cw_unit.specs.Words.{Words, Outcome, Changed, Refused, put, put_if, is_below}
+use Rattle.cw_unit.specs.Operation.{fitting, address_of}
+use Rattle.cw_tmpl.specs.declared.pieces.Coded.{Coded}
+use Rattle.cw_tmpl.specs.declared.pieces.Coded.TheVariants as coded
+use Rattle.cw_tmpl.specs.declared.blocks.Place.{Place}
+use Rattle.cw_tmpl.specs.declared.blocks.Place.TheVariants as cell
+use Rattle.cw_tmpl.specs.Blocks.{zero_behind, zero_word}
+use Rattle.cw_tmpl.specs.Library.{stop_place, address_entry}
+use Rattle.cw_tmpl.specs.Mnemonics.{bx as bx_register, si as si_register, di, field, compare, double, jump_if_below}
+use Rattle.cw_tmpl.specs.Pieces.{Filling}
+use Rattle.cw_tmpl.specs.Templates.{call_stop, index_added}
+use Rattle.cw_order.specs.OrderState.{OrderActivation}
+use Rattle.cw_follow.proofs.Watched.{Watched, watched_step}
+use Rattle.cw_follow.proofs.Standing.{HasPieces}
+use Rattle.cw_follow.proofs.Chains.{Is, Leads, view, compare as compares, compared, jump_below, pass_above, jumps_below, passes_above, number, add_at, double as doubled, more, last, done}
+use Rattle.cw_rows86.specs.Locations.{InData}
+use Rattle.cw_rows86.specs.Operations.{Add}
+use Rattle.cw_rows86.specs.Acts.{Operate}
+use Rattle.cw_follow.proofs.Acting.{act}
+use Rattle.cw_follow.proofs.Shifts.{leads_then}
+use Rattle.cw_follow.proofs.Straight.{LoadSlot, DoubleWord, Number, straight}
+use Rattle.cw_follow.proofs.Stacks.{level, record_of, frame_from as frame_base_of}
+use Rattle.cw_follow.proofs.Orders.{Kept, further}
+use Rattle.cw_follow.proofs.Operands.{Setting, words, allowed, DoesHere, calls_stop}
+use Rattle.cw_follow.proofs.Numbers.{unsigned_pos, fits_tested}
+use Rattle.cw_follow.proofs.Facts.{not_below, fits_true}
+
+-- ---- arithmetic
+
+-- The word that index 0 names is in the area: then the sum with an index, modulo 65,536, is below its length exactly where the exact sum is
+-- an address of it.
+pub record OneCompare (zero_at area : ℕ) (i : ℤ) : Type 0 where
+  pub decides : nat_lt (word_sum zero_at (unsigned i)) area ≡ is_below (pos zero_at +ℤ i) area
+  pub value : is_below (pos zero_at +ℤ i) area ≡ true → pos (word_sum zero_at (unsigned i)) ≡ pos zero_at +ℤ i
+
+pub one_compare : (z area : ℕ) (i : ℤ) → z < area → area ≤ 32768 → FitsWord i → OneCompare z area i
+one_compare z area (pos n) inside low f =
+    let e : word_sum z (unsigned (pos n)) ≡ z + n = omega (arith, f.sfits) in
+    record { decides = ap (λ m. nat_lt m area) e; value = λ h. ap pos e }
+one_compare z area (negsuc n) inside low f = elim (cases_lt n z) as (λ _. OneCompare z area (negsuc n)) [
+  | inl lt ↦ (
+    let e : word_sum z (unsigned (negsuc n)) ≡ z - suc n = omega (arith, f.sfits) in
+    let s : pos z +ℤ negsuc n ≡ pos (z - suc n) = omega (arith, ints) in
+    record { decides = ap (λ m. nat_lt m area) e ∙ sym (ap (λ y. is_below y area) s); value = λ h. ap pos e ∙ sym s })
+  | inr ge ↦ (
+    let s : pos z +ℤ negsuc n ≡ negsuc (n - z) = omega (arith, ints) in
+    let none : is_below (pos z +ℤ negsuc n) area ≡ false = ap (λ y. is_below y area) s in
+    let above : area ≤ word_sum z (unsigned (negsuc n)) = omega (arith, f.sfits) in
+    record { decides = le-ltb (word_sum z (unsigned (negsuc n))) area above ∙ sym none; value = λ h. absurd (false≢true (sym none ∙ h)) })
+]
+
+-- the number that the lower bound is below 0
+pub record Below (lower : ℤ) (span first z : ℕ) : Type 0 where
+  pub below : ℕ
+  pub less : (i : ℤ) → i -ℤ lower ≡ i +ℤ pos below
+  pub few : below ≤ 32768
+  pub inside : below < span
+  pub is : z ≡ first + below
+  pub small : z < 65536
+
+pub below_of : (lower : ℤ) (span first z : ℕ) → FitsWord lower → zero_word lower span first ≡ Some z → Below lower span first z
+below_of (pos zero) span first z f e = behind 0 (λ i. omega (arith, ints)) (omega arith) (nat_lt 0 span && nat_lt (first + 0) 65536) refl e
+  where
+    behind : (d : ℕ) → ((i : ℤ) → i -ℤ pos 0 ≡ i +ℤ pos d) → d ≤ 32768 → (b : Bool) → (nat_lt d span && nat_lt (first + d) 65536) ≡ b → (if b then Some (first + d) else None) ≡ Some z → Below (pos 0) span first z
+    behind d less few false is e = absurd (cc)
+    behind d less few true is e =
+        record { below = d; less = less; few = few; inside = grind (arith, nat_tests); is = (let same : first + d ≡ z = cc in sym same); small = (let same : first + d ≡ z = cc in grind (arith, nat_tests)) }
+below_of (pos (suc n)) span first z f e = absurd (cc)
+below_of (negsuc n) span first z f e = behind (suc n) (λ i. omega (arith, ints)) (omega (arith, f.sfits)) (nat_lt (suc n) span && nat_lt (first + suc n) 65536) refl e
+  where
+    behind : (d : ℕ) → ((i : ℤ) → i -ℤ negsuc n ≡ i +ℤ pos d) → d ≤ 32768 → (b : Bool) → (nat_lt d span && nat_lt (first + d) 65536) ≡ b → (if b then Some (first + d) else None) ≡ Some z → Below (negsuc n) span first z
+    behind d less few false is e = absurd (cc)
+    behind d less few true is e =
+        record { below = d; less = less; few = few; inside = grind (arith, nat_tests); is = (let same : first + d ≡ z = cc in sym same); small = (let same : first + d ≡ z = cc in grind (arith, nat_tests)) }
+
+-- where a difference fits no word the address is none of the area
+outside_too : (b d area : ℕ) (i : ℤ) → FitsWord i → d ≤ 32768 → area ≤ 32768 → fits_word (i +ℤ pos d) ≡ false → is_below (pos b +ℤ (i +ℤ pos d)) area ≡ false
+outside_too b d area (pos n) f few low off =
+    let large : 32768 ≤ n + d = grind (arith, nat_tests) in
+    let s : pos b +ℤ (pos n +ℤ pos d) ≡ pos (b + (n + d)) = omega (arith, ints) in
+    ap (λ y. is_below y area) s ∙ le-ltb (b + (n + d)) area (omega arith)
+outside_too b d area (negsuc n) f few low off = elim (cases_lt n d) as (λ _. is_below (pos b +ℤ (negsuc n +ℤ pos d)) area ≡ false) [
+  | inl lt ↦ (
+    let s : negsuc n +ℤ pos d ≡ pos (d - suc n) = omega (arith, ints) in
+    absurd (false≢true (sym off ∙ ap fits_word s ∙ lt-ltb (d - suc n) 32768 (omega arith))))
+  | inr ge ↦ (
+    let s : negsuc n +ℤ pos d ≡ negsuc (n - d) = omega (arith, ints) in
+    absurd (false≢true (sym off ∙ ap fits_word s ∙ lt-ltb (n - d) 32768 (omega (arith, f.sfits)))))
+]
+
+same_allowed : (b : Bool) (z : ℤ) (v : Words) → put_if b AddressRange z v ≡ allowed b AddressRange (Changed (put z v))
+same_allowed true z v = refl
+same_allowed false z v = refl
+
+-- what the source does with an index is that test
+pub formed_by_one : (area b d : ℕ) (lower i : ℤ) (v : Words) → area ≤ 32768 → b < 32768 → d ≤ 32768 → FitsWord i → i -ℤ lower ≡ i +ℤ pos d
+    → fitting (fits_word (i -ℤ lower)) (address_of (min area 32768) (signed b +ℤ (i -ℤ lower)) v) ≡ allowed (is_below (pos (b + d) +ℤ i) area) AddressRange (Changed (put (pos (b + d) +ℤ i) v))
+formed_by_one area b d lower i v low small few f less =
+    ap (λ y. fitting (fits_word y) (address_of (min area 32768) (signed b +ℤ y) v)) less
+    ∙ ap₂ (λ m s. fitting (fits_word (i +ℤ pos d)) (address_of m (s +ℤ (i +ℤ pos d)) v)) (min-eq_left low) signed_is
+    ∙ cases (fits_word (i +ℤ pos d)) refl
+    ∙ ap (λ y. put_if (is_below y area) AddressRange y v) same
+    ∙ same_allowed (is_below (pos (b + d) +ℤ i) area) (pos (b + d) +ℤ i) v
+  where
+    signed_is : signed b ≡ pos b
+    signed_is = grind (arith, nat_tests)
+
+    same : pos b +ℤ (i +ℤ pos d) ≡ pos (b + d) +ℤ i
+    same = omega (arith, ints)
+
+    cases : (t : Bool) → fits_word (i +ℤ pos d) ≡ t → fitting t (address_of area (pos b +ℤ (i +ℤ pos d)) v) ≡ address_of area (pos b +ℤ (i +ℤ pos d)) v
+    cases true is = refl
+    cases false is = sym (ap (λ t. put_if t AddressRange (pos b +ℤ (i +ℤ pos d)) v) (outside_too b d area i f few low is))
+
+-- how many instructions the sum of a word's address and an index takes
+abbrev pub index_steps : Place → ℕ
+index_steps (cell.Word f n) = 2
+index_steps (cell.Frame n) = 4
+
+-- ---- the code
+
+module _ (c : Setting) (memory : List ℤ) (input output : List ℕ) where
+  -- the address of an element, doubled, is in SI, and all else but BX is as it was
+  pub record Addressed (at ax cx dx k top : ℕ) (cells stack : ℕ → ℕ) (left : List ℕ) (told : Told) (q : Watched) : Type 0 where
+    pub bx : ℕ
+    pub overflow : Bool
+    pub is : Is c.image at (view ax cx dx bx (2 * suc top) (record_of c.acts) (2 * k) c.program.limits.area overflow cells stack left told) q
+
+  -- the test, behind the sum
+  module _ (value : Filling) (line : ℕ) (rest : List Coded) {p : Watched} {at ax cx dx bx : ℕ} {overflow : Bool} {cells stack : ℕ → ℕ} {left : List ℕ} {told : Told} (top z : ℕ) (i : ℤ) (inside : z < c.program.limits.area) (f : FitsWord i)
+      (kept : Kept c.program c.g c.acts memory input output cells stack left told)
+      (h : HasPieces c.image value at (coded.Whole (compare si_register di) ∷ coded.Whole (jump_if_below 5) ∷ (call_stop address_entry line ++ coded.Whole (double si_register) ∷ rest)))
+      (s : Is c.image at (view ax cx dx bx (2 * suc top) (record_of c.acts) (word_sum z (unsigned i)) c.program.limits.area overflow cells stack left told) p) where
+    abbrev sum_there : View
+    sum_there = view ax cx dx bx (2 * suc top) (record_of c.acts) (word_sum z (unsigned i)) c.program.limits.area overflow cells stack left told
+
+    pub test_passes : (k : ℕ) → pos z +ℤ i ≡ pos k → k < c.program.limits.area → Leads output 3 p (Addressed (at + 2 + 2 + 5 + 2) ax cx dx k top cells stack left told)
+    test_passes k is within =
+        let low = c.low in
+        let one = one_compare z c.program.limits.area i inside low f in
+        let below : is_below (pos z +ℤ i) c.program.limits.area ≡ true = ap (λ y. is_below y c.program.limits.area) is ∙ lt-ltb k c.program.limits.area within in
+        let same : pos (word_sum z (unsigned i)) ≡ pos k = one.value below ∙ is in
+        let sum_is : word_sum z (unsigned i) ≡ k = cc in
+        let lt : word_sum z (unsigned i) < c.program.limits.area = omega arith in
+        let half : word_sum z (unsigned i) < 32768 = omega arith in
+        let there : at + 2 + 2 + 3 + 2 ≡ at + 2 + 2 + 5 = omega arith in
+        let twice : Has c.image (at + 2 + 2 + 5) (double si_register) = subst (λ n. Has c.image n (double si_register)) there h.1.1.1.1.0 in
+        compared c.rows {v = sum_there} 6 7 kept.wrote h.0 s
+        (more c.rows (jumps_below c.rows {v = sum_there} 6 7 5 lt h.0 h.1.0 s) kept.wrote (doubled c.rows 6 half twice (jumps_below c.rows {v = sum_there} 6 7 5 lt h.0 h.1.0 s))
+        (λ q t.
+        done (record {
+          bx = bx;
+          overflow = double_overflows (word_sum z (unsigned i));
+          is = subst (λ n. Is c.image (at + 2 + 2 + 5 + 2) (view ax cx dx bx (2 * suc top) (record_of c.acts) (2 * n) c.program.limits.area (double_overflows (word_sum z (unsigned i))) cells stack left told) q) sum_is t;
+        })))
+
+    pub test_stops : (to : ℕ) (loaded : Bool) → line < 65536 → top < level c.acts → ((k : ℕ) → (k + value 7 address_entry 0 k) % 65536 ≡ stop_place AddressRange % 65536) → is_below (pos z +ℤ i) c.program.limits.area ≡ false
+        → DoesHere c memory input output 15 to loaded line p (Refused AddressRange)
+    test_stops to loaded small low_top arrives none =
+        let low = c.low in
+        let one = one_compare z c.program.limits.area i inside low f in
+        let above : c.program.limits.area ≤ word_sum z (unsigned i) = not_below (word_sum z (unsigned i)) c.program.limits.area (one.decides ∙ none) in
+        further 15 (lit≤ tt) (lit< tt)
+        (compared c.rows {v = sum_there} 6 7 kept.wrote h.0 s
+        (calls_stop c memory input output AddressRange top (value 7 address_entry 0 (at + 2 + 2 + 3)) line tt small (omega arith) (arrives (at + 2 + 2 + 3)) kept h.1.1.0 h.1.1.1.0 (passes_above c.rows {v = sum_there} 6 7 5 above h.0 h.1.0 s)))
+
+  -- ---- the sum
+
+  -- the sum of the address of a word and an index is in SI, and all else but BX is as it was
+  pub record Summed (at ax cx dx sum top : ℕ) (cells stack : ℕ → ℕ) (left : List ℕ) (told : Told) (q : Watched) : Type 0 where
+    pub bx : ℕ
+    pub overflow : Bool
+    pub is : Is c.image at (view ax cx dx bx (2 * suc top) (record_of c.acts) sum c.program.limits.area overflow cells stack left told) q
+
+  module _ (value : Filling) (family zero_at : ℕ) (rest : List Coded) {p : Watched} {at ax cx dx bx si : ℕ} {overflow : Bool} {cells stack : ℕ → ℕ} {left : List ℕ} {told : Told} (top z k : ℕ) (i : ℤ)
+      (named : (after : ℕ) → value 1 family zero_at after ≡ z) (low : k < 32768) (holds : cells k ≡ unsigned i) (kept : Kept c.program c.g c.acts memory input output cells stack left told)
+      (s : Is c.image at (view ax cx dx bx (2 * suc top) (record_of c.acts) si c.program.limits.area overflow cells stack left told) p) where
+    -- by a word of a family
+    pub sum_by_word : (f n : ℕ) → ((after : ℕ) → value 2 f n after ≡ 2 * k) → HasPieces c.image value at (index_added (cell.Word f n) family zero_at ++ rest)
+        → Leads output 2 p (Summed (at + 3 + 4) ax cx dx (word_sum z (unsigned i)) top cells stack left told)
+    sum_by_word f n index h =
+        let word = value 1 family zero_at (at + 3) in
+        more c.rows {to = at + 3} {w = view ax cx dx bx (2 * suc top) (record_of c.acts) word c.program.limits.area overflow cells stack left told} s kept.wrote (number c.rows 6 word h.0 s) (λ q t.
+        last c.rows t kept.wrote (record {
+          bx = bx;
+          overflow = sum_overflows word (cells k);
+          is = subst (λ b. Is c.image (at + 3 + 4) (view ax cx dx bx (2 * suc top) (record_of c.acts) b c.program.limits.area (sum_overflows word (cells k)) cells stack left told) (watched_step q)) (ap₂ word_sum (named (at + 3)) holds)
+              (add_at c.rows 6 (value 2 f n (at + 3 + 4)) k low (index (at + 3 + 4)) h.1.0 t);
+        }))
+
+    -- by a word of the frame of an activation
+    pub sum_by_frame : (n : ℕ) (a : OrderActivation) (under : List OrderActivation) → c.acts ≡ a ∷ under → k ≡ (a.frame_base + n) % 65536 → HasPieces c.image value at (index_added (cell.Frame n) family zero_at ++ rest)
+        → Leads output 4 p (Summed (at + 3 + 2 + 3 + 4) ax cx dx (word_sum z (unsigned i)) top cells stack left told)
+    sum_by_frame n a under acts_are index h =
+        let word = value 1 family zero_at (at + 3 + 2 + 3) in
+        let r = level c.acts in
+        let bp = record_of c.acts in
+        let base : r + 1 < 32768 = omega arith in
+        let slot_base : (bp + 65530) % 65536 ≡ 2 * (r + 1) = omega arith in
+        let from_is : frame_base_of c.program c.acts ≡ a.frame_base = ap (frame_base_of c.program) acts_are in
+        let address : (2 * a.frame_base % 65536 + 2 * n % 65536) % 65536 ≡ 2 * k = omega arith in
+        leads_then
+        (straight c.rows (LoadSlot bx_register 0xFA (r + 1) a.frame_base ∷ DoubleWord bx_register ∷ Number si_register word ∷ []) {n = 0} kept.wrote (h.0, (h.1.0, (h.1.1.0, tt))) ((base, slot_base, kept.piled.0.base_is ∙ from_is), (tt, (tt, tt))) s
+        (λ q t. done {Target = Is c.image (at + 3 + 2 + 3) (view ax cx dx (2 * a.frame_base % 65536) (2 * suc top) (record_of c.acts) word c.program.limits.area (double_overflows a.frame_base) cells stack left told)} t))
+        (λ q t.
+        let added = act c.rows (Operate Add si_register (field (2 * n % 65536)) (InData k) (cells k)) refl (lit< tt) h.1.1.1.0 ((refl, refl, low, address), refl) t in
+        last c.rows t kept.wrote (record {
+          bx = 2 * a.frame_base % 65536;
+          overflow = sum_overflows word (cells k);
+          is = subst (λ b. Is c.image (at + 3 + 2 + 3 + 4) (view ax cx dx (2 * a.frame_base % 65536) (2 * suc top) (record_of c.acts) b c.program.limits.area (sum_overflows word (cells k)) cells stack left told) (watched_step q))
+              (ap₂ word_sum (named (at + 3 + 2 + 3)) holds) added.is;
+        }))

@@ -1,0 +1,284 @@
+-- Blocks that fetch a part of a word, or store one, at a place.
+use Rattle.std.proofs.Common.{◌≡◌, ℕ, suc, ◌+◌, ◌-◌, ◌*◌, ◌%◌, ◌<◌, ◌≤◌, Bool, true, false, not, ℤ, pos, negsuc, List, [], ◌∷◌, ◌++◌, length, drop, set, None, refl, ap, ◌∙◌, subst, arith, lit<}
+use borrow.Author.Tests.{ltb-true}
+use Rattle.std.proofs.lemmas.Bool.{false≢true}
+use Rattle.std.proofs.lemmas.List.Elements.{All-head}
+use Rattle.std.specs.List.{All}
+use Rattle.std.specs.Prelude.{bit_and, bit_xor}
+use Rattle.cw_i86.specs.declared.instr.Place.TheVariants.{Direct}
+use Rattle.cw_run86.specs.Processor.{Told}
+use Rattle.cw_run86.specs.Views.{put_word, with_number, word_up}
+use Rattle.cw_rows86.specs.Locations.{in_memory}
+use Rattle.cw_rows86.specs.Operations.{Up}
+use Rattle.cw_word.specs.BitField.{field_mask}
+use Rattle.cw_word.specs.FixedPoint.{FitsWord}
+use Rattle.cw_word.specs.Word.{signed, unsigned}
+use Rattle.cw_unit.specs.Stop.{Running}
+use Rattle.cw_unit.specs.Words.{Operand, Word, Held, Words, Changed, put, with_memory, word_at, with_bits, field_value, through, is_below, number_of}
+use Rattle.cw_unit.specs.Operation.{Fetch, StoreBits, perform}
+use Rattle.cw_order.specs.declared.order.Order.{Order}
+use Rattle.cw_order.specs.declared.order.Order.TheVariants as order
+use Rattle.cw_order.specs.FittingWords.{OperandFits}
+use Rattle.cw_order.specs.OrderActions.{home_word}
+use Rattle.cw_order.specs.OrderChanges.{put_address}
+use Rattle.cw_order.specs.OrderState.{OrderActivation, at, frame_word}
+use Rattle.cw_order.specs.OrderMachine.{unrefused, weight}
+use Rattle.cw_tmpl.specs.declared.blocks.Place.{Place}
+use Rattle.cw_tmpl.specs.declared.blocks.Place.TheVariants as cell
+use Rattle.cw_tmpl.specs.declared.blocks.Block.TheVariants as block
+use Rattle.cw_tmpl.specs.declared.pieces.Coded.{Coded}
+use Rattle.cw_tmpl.specs.declared.pieces.Coded.TheVariants as pieces
+use Rattle.cw_tmpl.specs.Blocks.{address_orders, is_part, block_at}
+use Rattle.cw_tmpl.specs.Mnemonics.{slot, base_slot, field, double, load}
+use Rattle.cw_routines.specs.Ways.{HasAll}
+use Rattle.cw_tmpl.specs.Pieces.{Filling, blanks}
+use Rattle.cw_tmpl.specs.Templates.{shifted_up, part_taken, address_pieces, operate_place, change_place}
+use Rattle.cw_follow.specs.Placing.{base_of}
+use Rattle.cw_follow.proofs.Watched.{Watched}
+use Rattle.cw_follow.proofs.Standing.{HasPieces, order_place}
+use Rattle.cw_follow.proofs.Chains.{Is, Leads, view}
+use Rattle.cw_follow.proofs.Straight.{LoadSlot, DoubleWord, straight}
+use Rattle.cw_follow.proofs.Routines.{with_ax, leads_on}
+use Rattle.cw_follow.proofs.Stacks.{level, record_of, StackIs, frame_from as frame_base_of}
+use Rattle.cw_follow.proofs.Orders.{Kept, Landed, Does, below_area, landed, kept_stored, further, fetches}
+use Rattle.cw_follow.proofs.Operands.{Setting, words, with_cells, LandedWith, DoesHere}
+use Rattle.cw_follow.proofs.Bits.{part, part_of_word, stored_is}
+use Rattle.cw_follow.proofs.Halves.{part_of}
+use Rattle.cw_follow.proofs.Shifts.{shift_steps, part_steps, few_steps, few_part_steps, shifts, takes_last, turns, leads_then}
+use Rattle.cw_follow.proofs.FrameBlocks.{fetches_word}
+use Rattle.cw_follow.proofs.States.{Given, Sound}
+use Rattle.cw_follow.proofs.InBlocks.{chain}
+use Rattle.cw_follow.proofs.Steps.{Follow, setting, weight_is, block_code, block_ends, start_place, order_here, last_does}
+use Rattle.cw_follow.proofs.BlockOrders.{place_puts, block_follows, modes, saved, step_in}
+
+-- what stores a part, with its bits where they belong in AX
+abbrev changed_at : (t b : ℕ) → Place → List Coded
+changed_at t b x = operate_place 6 x ∷ pieces.Whole (with_number 4 (field_mask t b)) ∷ change_place 6 x ∷ []
+
+module _ (c : Setting) (value : Filling) (memory : List ℤ) (input output : List ℕ) (all : All FitsWord memory) (long : length memory ≡ c.program.limits.area) (t b : ℕ) (some : 1 ≤ t) (room : t + b ≤ 16) where
+  word_fits : (k : ℕ) → k < c.program.limits.area → FitsWord (word_at memory k)
+  word_fits k lt = all k (pos 0) (omega arith)
+
+  -- ---- fetching
+
+  -- behind the code that fetches the word
+  part_behind : (q : Watched) (middle limit to : ℕ) (is_signed : Bool) (z : ℤ) (operands : List Operand) → middle + length (blanks (part_taken t b is_signed)) ≡ to → HasPieces c.image value middle (part_taken t b is_signed)
+      → DoesHere c memory input output limit middle true 0 q (unrefused (perform c.program.limits.area (Fetch None) (put z (words operands memory input output))))
+      → DoesHere c memory input output (limit + 4) to true 0 q (unrefused (perform c.program.limits.area (Fetch (part t b (not is_signed))) (put z (words operands memory input output))))
+  part_behind q middle limit to is_signed z operands e i d = cases (is_below z c.program.limits.area) refl d
+    where
+      cases : (below : Bool) → is_below z c.program.limits.area ≡ below
+          → DoesHere c memory input output limit middle true 0 q (unrefused (through below (λ k v. Changed (put (word_at v.memory k) v)) z (words operands memory input output)))
+          → DoesHere c memory input output (limit + 4) to true 0 q (unrefused (through below (λ k v. Changed (put (field_value (part t b (not is_signed)) (word_at v.memory k)) v)) z (words operands memory input output)))
+      cases false is d = tt
+      cases true is d =
+          let y = word_at memory (number_of z) in
+          let fy : FitsWord y = word_fits (number_of z) (inside z is) in
+          let small : unsigned y < 65536 = c.rows.words.unsigned_fits y fy in
+          let more = d.some in
+          let within = d.within in
+          let few = few_part_steps t b is_signed in
+          record {
+            spent = d.spent + part_steps t b is_signed;
+            some = omega arith;
+            within = omega arith;
+            leads =
+                leads_then d.leads (λ r l.
+                leads_on
+                (λ x h.
+                landed c.rows c.program c.image c.g c.acts true to l.top (Word (field_value (part t b (not is_signed)) y) ∷ operands) memory input output refl
+                (part_of_word c memory input output y t b is_signed fy some room, l.operands.1) l.kept h.is)
+                (takes_last c.rows c.image value to output t b is_signed room small l.kept.wrote i e (with_ax l.operands.0 l.stacked.is)));
+          }
+        where
+          inside : (z : ℤ) → is_below z c.program.limits.area ≡ true → number_of z < c.program.limits.area
+          inside (pos n) is = ltb-true n c.program.limits.area is
+          inside (negsuc n) is = absurd (false≢true is)
+
+  -- ---- storing
+
+  abbrev Stored : (to : ℕ) (k : ℕ) (z : ℤ) (rest : List Operand) → Watched → Type 0
+  Stored to k z rest r = LandedWith c (set memory k (with_bits t b (word_at memory k) z)) input output to false rest r
+
+  -- where the top operand is none of the data area, or no word, nothing is asked
+  part_at : {q : Watched} {at : ℕ} (to n steps : ℕ) (operands : List Operand) → n < 65536 → 0 < steps → All OperandFits operands → LandedWith c memory input output at true operands q
+      → ((k : ℕ) → k < c.program.limits.area → k ≡ n → (z : ℤ) (rest : List Operand) → FitsWord z → LandedWith c memory input output at true (Word z ∷ rest) q → Leads output steps q (Stored to k z rest))
+      → DoesHere c memory input output steps to false 0 q (unrefused (perform c.program.limits.area (StoreBits t b) (put (signed n) (words operands memory input output))))
+  part_at to n steps [] small more fits l each = tt
+  part_at to n steps (Held d ∷ rest) small more fits l each = tt
+  part_at {q} to n steps (Word z ∷ rest) small more fits l each = cases (is_below (signed n) c.program.limits.area) refl
+    where
+      cases : (below : Bool) → is_below (signed n) c.program.limits.area ≡ below
+          → DoesHere c memory input output steps to false 0 q (unrefused (through below (λ k v. Changed (with_memory v (set v.memory k (with_bits t b (word_at v.memory k) z)))) (signed n) (words rest memory input output)))
+      cases false is = tt
+      cases true is =
+          let f = below_area c.rows.words c.program.limits.area n c.low small is in
+          further steps (let le : steps ≤ steps = omega arith in le) more (each (number_of (signed n)) f.within f.same z rest (All-head OperandFits (Word z) rest fits) l)
+
+  -- the word with the bits of the part
+  stored : {r : Watched} {at ax cx dx bx si : ℕ} {overflow : Bool} {cells stack : ℕ → ℕ} {left : List ℕ} {told : Told} (to k top : ℕ) (z : ℤ) (rest : List Operand) → k < c.program.limits.area → at ≡ to
+      → StackIs c.program c.acts stack top rest → Kept c.program c.g c.acts memory input output cells stack left told
+      → Is c.image at (view ax cx dx bx (2 * top) (record_of c.acts) si c.program.limits.area overflow (put_word cells k (bit_xor (unsigned (word_at memory k)) (bit_and (bit_xor (word_up (unsigned z) b) (unsigned (word_at memory k))) (field_mask t b)))) stack left told) r
+      → Stored to k z rest r
+  stored {cells = cells} to k top z rest within e under kept s =
+      landed c.rows c.program c.image c.g c.acts false to top rest (set memory k (with_bits t b (word_at memory k) z)) input output e under (kept_stored k (with_bits t b (word_at memory k) z) within kept)
+      (with_cells (ap (put_word cells k) (stored_is c memory input output (word_at memory k) z t b (word_fits k within) room)) s)
+
+  -- into a word of a family
+  stores_in_word : {q : Watched} {at : ℕ} (to f n word : ℕ) (operands : List Operand) → word < 65536 → ((after : ℕ) → value 2 f n after ≡ 2 * word % 65536)
+      → HasPieces c.image value at (shifted_up b ++ changed_at t b (cell.Word f n)) → at + length (blanks (shifted_up b ++ changed_at t b (cell.Word f n))) ≡ to
+      → All OperandFits operands → LandedWith c memory input output at true operands q
+      → DoesHere c memory input output (shift_steps b + 3) to false 0 q (unrefused (perform c.program.limits.area (StoreBits t b) (put (signed word) (words operands memory input output))))
+  stores_in_word {q} {at} to f n word operands small fills i e fits l =
+      part_at to word (shift_steps b + 3) operands small (omega arith) fits l
+      (λ k within same z rest fz l.
+      let low = c.low in
+      let lt : k < 32768 = omega arith in
+      let offset : (after : ℕ) → value 2 f n after ≡ 2 * k = λ after. (let o = fills after in omega arith) in
+      shifts c.rows c.image value to output Up b {m = 3} {Target = Stored to k z rest} (changed_at t b (cell.Word f n)) (omega arith) (c.rows.words.unsigned_fits z fz) l.kept.wrote (i, e) (with_ax l.operands.0 l.stacked.is)
+      (λ r place a cx overflow is code s.
+      let h = code.0 in
+      let end = code.1 in
+      let there : place + 4 + 3 + 4 ≡ to = omega arith in
+      leads_on (λ x u. stored to k l.top z rest within there l.operands.1 l.kept u)
+      (turns c.rows 4 k (field_mask t b) (unsigned (word_at memory k)) (in_memory (Direct (value 2 f n (place + 4)))) (in_memory (Direct (value 2 f n (place + 4 + 3 + 4)))) l.kept.wrote (l.kept.words k within)
+      (λ x. (refl, refl, lt, offset (place + 4))) (λ x. (refl, refl, lt, offset (place + 4 + 3 + 4))) refl refl (lit< tt) h.0 h.1.0 h.1.1.0 (with_ax is s))))
+
+  -- into a word of the frame of an activation
+  stores_in_frame : {q : Watched} {at : ℕ} (to n : ℕ) (a : OrderActivation) (under : List OrderActivation) (operands : List Operand) → c.acts ≡ a ∷ under
+      → HasPieces c.image value at (shifted_up b ++ (address_pieces (cell.Frame n) ++ changed_at t b (cell.Frame n))) → at + length (blanks (shifted_up b ++ (address_pieces (cell.Frame n) ++ changed_at t b (cell.Frame n)))) ≡ to
+      → All OperandFits operands → LandedWith c memory input output at true operands q
+      → DoesHere c memory input output (shift_steps b + 5) to false 0 q (unrefused (perform c.program.limits.area (StoreBits t b) (put (signed ((a.frame_base + n) % 65536)) (words operands memory input output))))
+  stores_in_frame {q} {at} to n a under operands acts_are i e fits l =
+      part_at to ((a.frame_base + n) % 65536) (shift_steps b + 5) operands (omega arith) (omega arith) fits l
+      (λ k within same z rest fz l.
+      let low = c.low in
+      let lt : k < 32768 = omega arith in
+      let r = level c.acts in
+      let bp = record_of c.acts in
+      let kept = l.kept in
+      let base : r + 1 < 32768 = omega arith in
+      let slot_base : (bp + 65530) % 65536 ≡ 2 * (r + 1) = omega arith in
+      let from_is : frame_base_of c.program c.acts ≡ a.frame_base = ap (frame_base_of c.program) acts_are in
+      let address : (2 * a.frame_base % 65536 + 2 * n % 65536) % 65536 ≡ 2 * k = omega arith in
+      shifts c.rows c.image value to output Up b {m = 5} {Target = Stored to k z rest} (address_pieces (cell.Frame n) ++ changed_at t b (cell.Frame n)) (omega arith) (c.rows.words.unsigned_fits z fz) kept.wrote (i, e) (with_ax l.operands.0 l.stacked.is)
+      (λ q' place x cx overflow is code s.
+      let h = code.0 in
+      let end = code.1 in
+      let there : place + 3 + 2 + 4 + 3 + 4 ≡ to = omega arith in
+      straight c.rows (LoadSlot 3 0xFA (r + 1) a.frame_base ∷ DoubleWord 3 ∷ []) {n = 3} kept.wrote (h.0, (h.1.0, tt)) ((base, slot_base, kept.piled.0.base_is ∙ from_is), (tt, tt)) s (λ q'' s'.
+      leads_on (λ x u. stored to k l.top z rest within there l.operands.1 kept u)
+      (turns c.rows 4 k (field_mask t b) (unsigned (word_at memory k)) (field (2 * n % 65536)) (field (2 * n % 65536)) kept.wrote (kept.words k within)
+      (λ x. (refl, refl, lt, address)) (λ x. (refl, refl, lt, address)) refl refl (lit< tt) h.1.1.0 h.1.1.1.0 h.1.1.1.1.0 (with_ax is s')))))
+
+-- ---- the blocks
+
+module _ (known : Given) where
+  open known use {rows, p, image, all, coded, few, low}
+
+  module _ {q : Watched} {g place : ℕ} {loaded : Bool} {acts : List OrderActivation} {w : Words} (s : Sound p image g place loaded acts w q) where
+    -- where the code of the block ends, where its last order is at work
+    abbrev block_end : ℕ
+    block_end = order_place (base_of p g) s.orders.list (place + 1)
+
+    abbrev from_here : ℕ
+    from_here = start_place known s
+
+    abbrev words_of : Filling
+    words_of = (all.stands g s.orders s.unit).value
+
+    fetch_part_last : (x : Place) (t b : ℕ) (is_signed : Bool) (rest : List Order) → s.done ≡ length (address_orders x) → drop s.from s.orders.list ≡ address_orders x ++ order.LoadPart t b is_signed ∷ rest → is_part t b ≡ true
+        → block_at 0 (drop s.from s.orders.list) ≡ block.FetchPart x t b is_signed → Follow known (at g place loaded acts w Running) q
+    fetch_part_last (cell.Word f n) t b is_signed rest is_done e part_is is =
+        let o = order.LoadPart t b is_signed in
+        let B = block.FetchPart (cell.Word f n) t b is_signed in
+        let here = order_here known s 1 o _ is_done e refl in
+        let ends = block_ends known s B (order.Home f n) (o ∷ rest) 1 is_done e is refl refl in
+        let before = modes known s false true true (order.Home f n) 0 (o ∷ rest) is_done e refl refl refl in
+        let st = all.stands g s.orders s.unit in
+        let word = home_word p.addresses g f n in
+        let small : word < 65536 = omega arith in
+        let paid : 5 ≤ weight p (at g place loaded acts w Running) = let x = weight_is known s o here in omega arith in
+        let bits = part_of t b part_is in
+        let code = block_code known s B (order.Home f n) (o ∷ rest) e is in
+        let v = s.before in
+        let behind = ends.behind in
+        let last_end : from_here + 3 + length (blanks (part_taken t b is_signed)) ≡ block_end = omega arith in
+        last_does known s true 0 (λ v. unrefused (perform p.limits.area (Fetch (part t b (not is_signed))) v)) 5 1 _ is_done e ends.begins (step_in known s true o before.now here) paid
+        (part_behind (setting known s) words_of v.memory v.input v.output s.fits_before.memory before.landed.kept.long t b bits.0 bits.1 q (from_here + 3) 1 block_end is_signed (signed word) v.operands last_end code.1
+        (fetches rows p image g acts (from_here + 3) (st.value 2 f n (from_here + 3)) word 0 v low small (st.fills.bytes f n (from_here + 3)) refl code.0 before.landed))
+    fetch_part_last (cell.Frame n) t b is_signed rest is_done e part_is is =
+        let o = order.LoadPart t b is_signed in
+        let B = block.FetchPart (cell.Frame n) t b is_signed in
+        let here = order_here known s 1 o _ is_done e refl in
+        let ends = block_ends known s B (order.FrameHome n) (o ∷ rest) 1 is_done e is refl refl in
+        let before = modes known s false true true (order.FrameHome n) 0 (o ∷ rest) is_done e refl refl refl in
+        let paid : 7 ≤ weight p (at g place loaded acts w Running) = let x = weight_is known s o here in omega arith in
+        let bits = part_of t b part_is in
+        let code = block_code known s B (order.FrameHome n) (o ∷ rest) e is in
+        let behind = ends.behind in
+        let last_end : from_here + 3 + 2 + 4 + length (blanks (part_taken t b is_signed)) ≡ block_end = omega arith in
+        last_does known s true 0 (λ v. unrefused (perform p.limits.area (Fetch (part t b (not is_signed))) v)) 7 1 _ is_done e ends.begins (step_in known s true o before.now here) paid
+        (frame_part acts refl t b is_signed n bits.0 bits.1 last_end (code.0, (code.1.0, (code.1.1.0, tt))) code.1.1.1 before.landed)
+      where
+        frame_part : (xs : List OrderActivation) → acts ≡ xs → (t b : ℕ) (is_signed : Bool) (n : ℕ) → 1 ≤ t → t + b ≤ 16 → from_here + 3 + 2 + 4 + length (blanks (part_taken t b is_signed)) ≡ block_end
+            → HasAll image from_here (load 3 (slot base_slot) ∷ double 3 ∷ load 0 (field (2 * n % 65536)) ∷ []) → HasPieces image words_of (from_here + 3 + 2 + 4) (part_taken t b is_signed) → Landed p image from_here g false acts s.before q
+            → Does p image 7 block_end g true 0 acts s.before.output q (chain (chain (put_address (frame_word xs n) s.before) Changed) (λ v. unrefused (perform p.limits.area (Fetch (part t b (not is_signed))) v)))
+        frame_part [] is t b is_signed n some room e i code l = tt
+        frame_part (a ∷ under) is t b is_signed n some room e i code l =
+            let v = s.before in
+            let there : from_here + 9 ≡ from_here + 3 + 2 + 4 = omega arith in
+            part_behind (setting known s) words_of v.memory v.input v.output s.fits_before.memory l.kept.long t b some room q (from_here + 3 + 2 + 4) 3 block_end is_signed (signed ((a.frame_base + n) % 65536)) v.operands e code
+            (subst (λ xs. Does p image 3 (from_here + 3 + 2 + 4) g true 0 acts v.output q (chain (chain (put_address (frame_word xs n) v) Changed) (λ v. unrefused (perform p.limits.area (Fetch None) v)))) is
+            (fetches_word rows p image g (from_here + 3 + 2 + 4) n acts v low there i l))
+
+    pub fetch_part_follows : (x : Place) (t b : ℕ) (is_signed : Bool) (rest : List Order) → drop s.from s.orders.list ≡ address_orders x ++ order.LoadPart t b is_signed ∷ rest → is_part t b ≡ true
+        → block_at 0 (drop s.from s.orders.list) ≡ block.FetchPart x t b is_signed → Follow known (at g place loaded acts w Running) q
+    fetch_part_follows x t b is_signed rest e part_is is =
+        block_follows known s (block.FetchPart x t b is_signed) (order.LoadPart t b is_signed) rest (place_puts known s x) e is refl (λ is_done. fetch_part_last x t b is_signed rest is_done e part_is is)
+
+    assign_part_last : (x : Place) (t b : ℕ) (rest : List Order) → s.done ≡ suc (length (address_orders x)) → drop s.from s.orders.list ≡ order.Save ∷ (address_orders x ++ order.StorePart t b ∷ rest) → is_part t b ≡ true
+        → block_at 0 (drop s.from s.orders.list) ≡ block.AssignPart x t b → Follow known (at g place loaded acts w Running) q
+    assign_part_last (cell.Word f n) t b rest is_done e part_is is =
+        let o = order.StorePart t b in
+        let os = order.Home f n ∷ o ∷ rest in
+        let B = block.AssignPart (cell.Word f n) t b in
+        let here = order_here known s 2 o _ is_done e refl in
+        let ends = block_ends known s B order.Save os 2 is_done e is refl refl in
+        let before = saved known s true 1 os is_done e refl in
+        let st = all.stands g s.orders s.unit in
+        let word = home_word p.addresses g f n in
+        let small : word < 65536 = omega arith in
+        let few = few_steps b in
+        let paid : shift_steps b + 3 ≤ weight p (at g place loaded acts w Running) = let x = weight_is known s o here in omega arith in
+        let bits = part_of t b part_is in
+        let v = s.before in
+        last_does known s false 0 (λ v. unrefused (perform p.limits.area (StoreBits t b) v)) (shift_steps b + 3) 2 _ is_done e ends.begins (step_in known s true o before.now here) paid
+        (stores_in_word (setting known s) words_of v.memory v.input v.output s.fits_before.memory before.landed.kept.long t b bits.0 bits.1 block_end f n word v.operands small (λ after. st.fills.bytes f n after)
+        (block_code known s B order.Save os e is) ends.behind s.fits_before.operands before.landed)
+    assign_part_last (cell.Frame n) t b rest is_done e part_is is =
+        let o = order.StorePart t b in
+        let os = order.FrameHome n ∷ o ∷ rest in
+        let B = block.AssignPart (cell.Frame n) t b in
+        let here = order_here known s 2 o _ is_done e refl in
+        let ends = block_ends known s B order.Save os 2 is_done e is refl refl in
+        let before = saved known s true 1 os is_done e refl in
+        let few = few_steps b in
+        let paid : shift_steps b + 5 ≤ weight p (at g place loaded acts w Running) = let x = weight_is known s o here in omega arith in
+        let bits = part_of t b part_is in
+        last_does known s false 0 (λ v. unrefused (perform p.limits.area (StoreBits t b) v)) (shift_steps b + 5) 2 _ is_done e ends.begins (step_in known s true o before.now here) paid
+        (frame_part acts refl t b n bits.0 bits.1 ends.behind (block_code known s B order.Save os e is) before.landed)
+      where
+        frame_part : (xs : List OrderActivation) → acts ≡ xs → (t b n : ℕ) → 1 ≤ t → t + b ≤ 16
+            → from_here + length (blanks (shifted_up b ++ (address_pieces (cell.Frame n) ++ changed_at t b (cell.Frame n)))) ≡ block_end → HasPieces image words_of from_here (shifted_up b ++ (address_pieces (cell.Frame n) ++ changed_at t b (cell.Frame n)))
+            → Landed p image from_here g true acts s.before q
+            → Does p image (shift_steps b + 5) block_end g false 0 acts s.before.output q (chain (chain (put_address (frame_word xs n) s.before) Changed) (λ v. unrefused (perform p.limits.area (StoreBits t b) v)))
+        frame_part [] is t b n some room e code l = tt
+        frame_part (a ∷ under) is t b n some room e code l =
+            let v = s.before in
+            stores_in_frame (setting known s) words_of v.memory v.input v.output s.fits_before.memory l.kept.long t b some room block_end n a under v.operands is code e s.fits_before.operands l
+
+    pub assign_part_follows : (x : Place) (t b : ℕ) (rest : List Order) → drop s.from s.orders.list ≡ order.Save ∷ (address_orders x ++ order.StorePart t b ∷ rest) → is_part t b ≡ true
+        → block_at 0 (drop s.from s.orders.list) ≡ block.AssignPart x t b → Follow known (at g place loaded acts w Running) q
+    assign_part_follows x t b rest e part_is is =
+        block_follows known s (block.AssignPart x t b) (order.StorePart t b) rest (tt, place_puts known s x) e is refl (λ is_done. assign_part_last x t b rest is_done e part_is is)
