@@ -167,8 +167,8 @@ module _ (known : Given) where
         let b = below_of e.lower e.span e.first e.zero h.lower h.near in
         let next : s.from + (k + 1) ≡ s.from + k + 1 = omega arith in
         let fits : home_word p.addresses g e.family e.first + b.below < p.limits.area =
-            coded.spans g (s.from + k) e.family e.first b.below (order.Element e.lower e.span e.line) (order_there k (order.Home e.family e.first) _ h.list home)
-            (ap (order_at p g) (sym next) ∙ order_there (k + 1) (order.Element e.lower e.span e.line) _ h.list forms) b.inside in
+        coded.spans g (s.from + k) e.family e.first b.below (order.Element e.lower e.span e.line) (order_there k (order.Home e.family e.first) _ h.list home)
+        (ap (order_at p g) (sym next) ∙ order_there (k + 1) (order.Element e.lower e.span e.line) _ h.list forms) b.inside in
         let zero_is = b.is in
         record { below = b.below; few = b.few; less = b.less; base = omega arith; is = omega arith; inside = omega arith }
 
@@ -186,12 +186,12 @@ module _ (known : Given) where
     before_forms : (e : Element) (behind : List Order) (v : Words) → silently p g acts 4 (formed_list e behind) s.before ≡ Changed v → BeforeForms e v
     before_forms e behind v did = elim (index_read e.index s.before) as (λ _. BeforeForms e v) [
       | inl none ↦ (
-        let stuck : Impossible ≡ Changed v = sym (ap (λ o. chain o (silently p g acts 2 os)) none) ∙ sym (index_first e.index 2 os s.before) ∙ did in
-        absurd (cc))
+          let stuck : Impossible ≡ Changed v = sym (ap (λ o. chain o (silently p g acts 2 os)) none) ∙ sym (index_first e.index 2 os s.before) ∙ did in
+          absurd (cc))
       | inr r ↦ (
-        let goes : Changed (put (signed (home_word p.addresses g e.family e.first)) (put (word_at s.before.memory r.at) s.before)) ≡ Changed v =
-            sym (ap (λ o. chain o (silently p g acts 2 os)) r.is) ∙ sym (index_first e.index 2 os s.before) ∙ did in
-        record { read = r; is = (let same : put (signed (home_word p.addresses g e.family e.first)) (put (word_at s.before.memory r.at) s.before) ≡ v = cc in sym same) })
+          let goes : Changed (put (signed (home_word p.addresses g e.family e.first)) (put (word_at s.before.memory r.at) s.before)) ≡ Changed v =
+          sym (ap (λ o. chain o (silently p g acts 2 os)) r.is) ∙ sym (index_first e.index 2 os s.before) ∙ did in
+          record { read = r; is = (let same : put (signed (home_word p.addresses g e.family e.first)) (put (word_at s.before.memory r.at) s.before) ≡ v = cc in sym same) })
     ]
       where
         os : List Order
@@ -301,7 +301,7 @@ module _ (known : Given) where
     address_parts e tail at h =
         let st = all.stands g s.orders s.unit in
         let whole : HasPieces image st.value at (index_added e.index e.family e.zero ++ (tested e ++ tail)) =
-            subst (HasPieces image st.value at) (append_assoc (index_added e.index e.family e.zero) (tested e) tail) h in
+        subst (HasPieces image st.value at) (append_assoc (index_added e.index e.family e.zero) (tested e) tail) h in
         (whole, subst (λ n. HasPieces image st.value (at + n) (tested e ++ tail)) (index_long e.index e.family e.zero) (stand_both image st.value at (index_added e.index e.family e.zero) (tested e ++ tail) whole).1)
 
     -- the address, where it is one of the area
@@ -362,8 +362,8 @@ module _ (known : Given) where
             let f = before_forms e behind u is in
             let x = address_in e f.read in
             let goes : allowed (is_below x p.limits.area) AddressRange (Changed (put x s.before)) ≡ Changed v =
-                sym (formed_as e z f.read) ∙ ap (from_base p.limits.area (λ base. Indexed base e.lower)) (sym f.is)
-                ∙ ap (λ o. chain o (puts_word p g acts (order.Element e.lower e.span e.line))) (sym is) ∙ sym next ∙ did in
+            sym (formed_as e z f.read) ∙ ap (from_base p.limits.area (λ base. Indexed base e.lower)) (sym f.is)
+            ∙ ap (λ o. chain o (puts_word p g acts (order.Element e.lower e.span e.line))) (sym is) ∙ sym next ∙ did in
             within f.read x (is_below x p.limits.area) refl refl goes
 
     -- how the code comes to that of the address
@@ -404,8 +404,8 @@ module _ (known : Given) where
                 let kind_is : AddressRange ≡ kind = cc in
                 let few_steps = c.few_steps in
                 let d : Does p image 26 0 g m e.line acts s.before.output q (Refused AddressRange) =
-                    later p image 20 0 g m e.line acts c.steps 26 (Refused AddressRange) (omega arith) c.comes
-                    (λ t a. address_stops s.landed e c.tail z f.read at c.top c.ax c.cx 0 m t a c.stands (line_fits known s o here) c.low is) in
+                later p image 20 0 g m e.line acts c.steps 26 (Refused AddressRange) (omega arith) c.comes
+                (λ t a. address_stops s.landed e c.tail z f.read at c.top c.ax c.cx 0 m t a c.stands (line_fits known s o here) c.low is) in
                 leads_to known g place loaded acts w (at_order g place m acts w (Stopped kind (g + 1) e.line)) 26 goes paid
                 (subst (λ x. Leading w.output 26 q (Over (record { output = w.output; end = Stopped x (g + 1) e.line }))) kind_is
                 (subst (λ x. Leading x 26 q (Over (record { output = x; end = Stopped AddressRange (g + 1) e.line }))) s.wrote d))
@@ -550,11 +550,11 @@ module _ (known : Given) where
         cases : (k : ℕ) → s.done ≡ k → Follow known (at_order g place loaded acts w Running) q
         cases k is_done = elim (cases_lt k 5) as (λ _. Follow known (at_order g place loaded acts w Running) q) [
           | inl lt ↦ (
-            let h = block_code known s (block.FetchElement e) (address_order e.index) _ list is in
-            plain_inner e z (block.FetchElement e) (order.Load ∷ rest) (start_place known s) k (comes_at_once e _ h) is_done list is (omega arith) (omega (arith, five)))
+              let h = block_code known s (block.FetchElement e) (address_order e.index) _ list is in
+              plain_inner e z (block.FetchElement e) (order.Load ∷ rest) (start_place known s) k (comes_at_once e _ h) is_done list is (omega arith) (omega (arith, five)))
           | inr ge ↦ (
-            let le = within_block known s (block.FetchElement e) 5 is five in
-            fetch_element_last e rest z (omega arith) list is five)
+              let le = within_block known s (block.FetchElement e) 5 is five in
+              fetch_element_last e rest z (omega arith) list is five)
         ]
 
     -- ---- a store
@@ -586,7 +586,7 @@ module _ (known : Given) where
         let there : start_place known s + (index_size e.index + 11) + 2 ≡ to = omega arith in
         let under : StackIs p acts l.stack (suc r.above) rest = subst (λ n. StackIs p acts l.stack n rest) r.is k.operands.1 in
         let stored : unrefused (perform p.limits.area (Store None) (put (pos at) (words (Word x ∷ rest) s.before.memory s.before.input s.before.output))) ≡ Changed (words rest (set s.before.memory at x) s.before.input s.before.output) =
-            ap (λ b. unrefused (through b (λ j t. Changed (with_memory t (set t.memory j x))) (pos at) (words rest s.before.memory s.before.input s.before.output))) (lt-ltb at p.limits.area within) in
+        ap (λ b. unrefused (through b (λ j t. Changed (with_memory t (set t.memory j x))) (pos at) (words rest s.before.memory s.before.input s.before.output))) (lt-ltb at p.limits.area within) in
         subst (λ o. Does p image 8 to g false 0 acts s.before.output q o) (sym stored)
         (further (index_steps e.index + 3 + 1) (omega arith) (omega arith)
         (leads_then (addressed l e (pieces.Whole (store at_si 0) ∷ []) z read (start_place known s) r.above l.stacked.ax l.stacked.cx at q (at_start l r) h exact within)
@@ -629,11 +629,11 @@ module _ (known : Given) where
         cases : (k : ℕ) → s.done ≡ k → Follow known (at_order g place loaded acts w Running) q
         cases k is_done = elim (cases_lt k 6) as (λ _. Follow known (at_order g place loaded acts w Running) q) [
           | inl lt ↦ (
-            let h = block_code known s (block.AssignElement e) order.Save _ list is in
-            saved_inner e z (block.AssignElement e) (order.Store ∷ rest) (start_place known s) k (comes_at_once e _ h) is_done list is (omega arith) (omega (arith, six)))
+              let h = block_code known s (block.AssignElement e) order.Save _ list is in
+              saved_inner e z (block.AssignElement e) (order.Store ∷ rest) (start_place known s) k (comes_at_once e _ h) is_done list is (omega arith) (omega (arith, six)))
           | inr ge ↦ (
-            let le = within_block known s (block.AssignElement e) 6 is six in
-            assign_element_last e rest z (omega arith) list is six)
+              let le = within_block known s (block.AssignElement e) 6 is six in
+              assign_element_last e rest z (omega arith) list is six)
         ]
 
     -- ---- a word of an element as an operand
@@ -658,7 +658,7 @@ module _ (known : Given) where
         cases (Changed u) is =
             let made = after_forms e (order.Load ∷ behind) z u is in
             let goes : Changed (put (word_at s.before.memory made.at) s.before) ≡ Changed v =
-                sym (fetched_there made.at s.before made.within) ∙ ap (λ x. unrefused (perform p.limits.area (Fetch None) x)) (sym made.is) ∙ ap (λ o. chain o (puts_word p g acts order.Load)) (sym is) ∙ sym next ∙ did in
+            sym (fetched_there made.at s.before made.within) ∙ ap (λ x. unrefused (perform p.limits.area (Fetch None) x)) (sym made.is) ∙ ap (λ o. chain o (puts_word p g acts order.Load)) (sym is) ∙ sym next ∙ did in
             record { read = made.read; at = made.at; within = made.within; exact = made.exact; is = (let same : put (word_at s.before.memory made.at) s.before ≡ v = cc in sym same) }
 
     -- where the code of the address begins
@@ -799,8 +799,8 @@ module _ (known : Given) where
         let code = block_code known s b order.Save os list is in
         let y = word_at s.before.memory made.at in
         let d = UseBlocks.used_law known s (simple.Element e) u y h (memory_fits made.at made.within) (line_fits known s (order_of u) here) ends.behind code
-            (λ one. let t = address_there e u one code in word_from_element e t.tail z before.landed made.read made.at made.within made.exact t.stands)
-            (element_multiplies e z before.landed made.read made.at made.within made.exact) in
+        (λ one. let t = address_there e u one code in word_from_element e t.tail z before.landed made.read made.at made.within made.exact t.stands)
+        (element_multiplies e z before.landed made.read made.at made.within made.exact) in
         does known s true (line_of (order_of u)) (UseBlocks.outcome p.limits.area u w) (UseBlocks.bound known s u) ends.begins (step_in known s true (order_of u) before.now here ∙ UseBlocks.step_goes known s u h) paid
         (subst (λ v. Does p image (UseBlocks.bound known s u) (code_end known s) g true (line_of (order_of u)) acts w.output q (UseBlocks.outcome p.limits.area u v)) (sym made.is)
         (subst (λ o. Does p image (UseBlocks.bound known s u) (code_end known s) g true (line_of (order_of u)) acts o q (UseBlocks.outcome p.limits.area u (put y s.before))) s.wrote d))
@@ -861,12 +861,12 @@ module _ (known : Given) where
         cases : (k : ℕ) → s.done ≡ k → Follow known (at_order g place loaded acts w Running) q
         cases k is_done = elim (cases_lt k 6) as (λ _. Follow known (at_order g place loaded acts w Running) q) [
           | inl lt ↦ (
-            let h = begun_at e u (block_code known s b order.Save _ list is) in
-            saved_inner e z b (order.Load ∷ order_of u ∷ rest) h.at k h.comes is_done list is (omega arith) (omega (arith, seven)))
+              let h = begun_at e u (block_code known s b order.Save _ list is) in
+              saved_inner e z b (order.Load ∷ order_of u ∷ rest) h.at k h.comes is_done list is (omega arith) (omega (arith, seven)))
           | inr ge ↦ (
-            let le = within_block known s b 7 is seven in
-            elim (cases_lt k 7) as (λ _. Follow known (at_order g place loaded acts w Running) q) [
-              | inl lt ↦ inner_follows known s 6 order.Load b (order.Save ∷ formed_list e (order.Load ∷ order_of u ∷ rest)) (omega arith) list refl tt is (omega (arith, seven))
-              | inr ge ↦ ends u refl (omega arith)
-            ])
+              let le = within_block known s b 7 is seven in
+              elim (cases_lt k 7) as (λ _. Follow known (at_order g place loaded acts w Running) q) [
+                | inl lt ↦ inner_follows known s 6 order.Load b (order.Save ∷ formed_list e (order.Load ∷ order_of u ∷ rest)) (omega arith) list refl tt is (omega (arith, seven))
+                | inr ge ↦ ends u refl (omega arith)
+              ])
         ]

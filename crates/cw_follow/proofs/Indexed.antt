@@ -53,14 +53,14 @@ one_compare z area (pos n) inside low f =
     record { decides = ap (λ m. nat_lt m area) e; value = λ h. ap pos e }
 one_compare z area (negsuc n) inside low f = elim (cases_lt n z) as (λ _. OneCompare z area (negsuc n)) [
   | inl lt ↦ (
-    let e : word_sum z (unsigned (negsuc n)) ≡ z - suc n = omega (arith, f.sfits) in
-    let s : pos z +ℤ negsuc n ≡ pos (z - suc n) = omega (arith, ints) in
-    record { decides = ap (λ m. nat_lt m area) e ∙ sym (ap (λ y. is_below y area) s); value = λ h. ap pos e ∙ sym s })
+      let e : word_sum z (unsigned (negsuc n)) ≡ z - suc n = omega (arith, f.sfits) in
+      let s : pos z +ℤ negsuc n ≡ pos (z - suc n) = omega (arith, ints) in
+      record { decides = ap (λ m. nat_lt m area) e ∙ sym (ap (λ y. is_below y area) s); value = λ h. ap pos e ∙ sym s })
   | inr ge ↦ (
-    let s : pos z +ℤ negsuc n ≡ negsuc (n - z) = omega (arith, ints) in
-    let none : is_below (pos z +ℤ negsuc n) area ≡ false = ap (λ y. is_below y area) s in
-    let above : area ≤ word_sum z (unsigned (negsuc n)) = omega (arith, f.sfits) in
-    record { decides = le-ltb (word_sum z (unsigned (negsuc n))) area above ∙ sym none; value = λ h. absurd (false≢true (sym none ∙ h)) })
+      let s : pos z +ℤ negsuc n ≡ negsuc (n - z) = omega (arith, ints) in
+      let none : is_below (pos z +ℤ negsuc n) area ≡ false = ap (λ y. is_below y area) s in
+      let above : area ≤ word_sum z (unsigned (negsuc n)) = omega (arith, f.sfits) in
+      record { decides = le-ltb (word_sum z (unsigned (negsuc n))) area above ∙ sym none; value = λ h. absurd (false≢true (sym none ∙ h)) })
 ]
 
 -- the number that the lower bound is below 0
@@ -95,11 +95,11 @@ outside_too b d area (pos n) f few low off =
     ap (λ y. is_below y area) s ∙ le-ltb (b + (n + d)) area (omega arith)
 outside_too b d area (negsuc n) f few low off = elim (cases_lt n d) as (λ _. is_below (pos b +ℤ (negsuc n +ℤ pos d)) area ≡ false) [
   | inl lt ↦ (
-    let s : negsuc n +ℤ pos d ≡ pos (d - suc n) = omega (arith, ints) in
-    absurd (false≢true (sym off ∙ ap fits_word s ∙ lt-ltb (d - suc n) 32768 (omega arith))))
+      let s : negsuc n +ℤ pos d ≡ pos (d - suc n) = omega (arith, ints) in
+      absurd (false≢true (sym off ∙ ap fits_word s ∙ lt-ltb (d - suc n) 32768 (omega arith))))
   | inr ge ↦ (
-    let s : negsuc n +ℤ pos d ≡ negsuc (n - d) = omega (arith, ints) in
-    absurd (false≢true (sym off ∙ ap fits_word s ∙ lt-ltb (n - d) 32768 (omega (arith, f.sfits)))))
+      let s : negsuc n +ℤ pos d ≡ negsuc (n - d) = omega (arith, ints) in
+      absurd (false≢true (sym off ∙ ap fits_word s ∙ lt-ltb (n - d) 32768 (omega (arith, f.sfits)))))
 ]
 
 same_allowed : (b : Bool) (z : ℤ) (v : Words) → put_if b AddressRange z v ≡ allowed b AddressRange (Changed (put z v))

@@ -393,15 +393,15 @@ element_long_as e =
 
 element_orders_fit : (x : Place) (f n : ℕ) (l : ℤ) (s line : ℕ) (o : Order) (rest : List Order)
     → (let list : List Order = address_orders x ++ (order.Load ∷ order.Save ∷ order.Home f n ∷ order.Element l s line ∷ o ∷ rest) in
-       let behind : ℕ = size_behind (Some (order.Home f n)) (Some (order.Element l s line)) o + sizes_behind (Some (order.Element l s line)) (Some o) rest in
-       (index_size x + 20 + behind ≤ listed_sizes list) × (index_size x + 20 + behind ≤ listed_sizes (order.Save ∷ list)))
+    let behind : ℕ = size_behind (Some (order.Home f n)) (Some (order.Element l s line)) o + sizes_behind (Some (order.Element l s line)) (Some o) rest in
+    (index_size x + 20 + behind ≤ listed_sizes list) × (index_size x + 20 + behind ≤ listed_sizes (order.Save ∷ list)))
 element_orders_fit (cell.Word f' n') f n l s line o rest = (omega arith, omega arith)
 element_orders_fit (cell.Frame n') f n l s line o rest = (omega arith, omega arith)
 
 -- an order behind them
 element_last : (e : Element) (o : Order) (rest : List Order)
     → (let behind : ℕ = size_behind (Some (order.Home e.family e.first)) (Some (order.Element e.lower e.span e.line)) o + sizes_behind (Some (order.Element e.lower e.span e.line)) (Some o) rest in
-       (index_size e.index + 20 + behind ≤ listed_sizes (element_orders e ++ o ∷ rest)) × (index_size e.index + 20 + behind ≤ listed_sizes (order.Save ∷ (element_orders e ++ o ∷ rest))))
+    (index_size e.index + 20 + behind ≤ listed_sizes (element_orders e ++ o ∷ rest)) × (index_size e.index + 20 + behind ≤ listed_sizes (order.Save ∷ (element_orders e ++ o ∷ rest))))
 element_last e o rest =
     let A = address_orders e.index in
     let made : List Order = order.Load ∷ order.Save ∷ order.Home e.family e.first ∷ order.Element e.lower e.span e.line ∷ [] in

@@ -67,9 +67,15 @@ pub enum Block {
     /// First of two: the top operand is written.
     Write,
     /// First of three: the top operand is divided by a number from 2 to 32,767, at no other scale.
-    Divide { by: u16, line: u16 },
+    Divide {
+        by: u16,
+        line: u16,
+    },
     /// First of those that save the top operand, put a simple one and use both.
-    Operate { operand: Simple, with: Use },
+    Operate {
+        operand: Simple,
+        with: Use,
+    },
     /// First of those that put a part of the word at a place: `t` bits from bit `b` on.
     FetchPart {
         place: Place,
@@ -78,13 +84,20 @@ pub enum Block {
         signed: bool,
     },
     /// First of those that store the top operand in such a part.
-    AssignPart { place: Place, t: u8, b: u8 },
+    AssignPart {
+        place: Place,
+        t: u8,
+        b: u8,
+    },
     /// First of those that put the word of an element.
     FetchElement(Element),
     /// First of those that store the top operand in an element.
     AssignElement(Element),
     /// First of three: one more, or less, than the top operand.
-    Count { down: bool, line: u16 },
+    Count {
+        down: bool,
+        line: u16,
+    },
     /// First of three: the top operand times a power of two, taken down by so many more `places`.
     Halve {
         word: u16,
