@@ -293,10 +293,6 @@ module _ (n : ℕ) (fs : List Family) where
   first-sound : (names : Names) (place : ℕ) (o : Order) (os : List Order) → IsTrue (names_well n fs o) → Fit n fs os → Sound (block_pieces names place (block_at 0 (o ∷ os)) o)
   first-sound names place o os h r = cases (block_at 0 (o ∷ os)) (shape (o ∷ os))
     where
-      -- an order that names well and those behind it, where the first one is that of a place
-      whole-fit : {e : Element} {rest : List Order} → o ∷ os ≡ element_orders e ++ rest → Fit n fs (o ∷ os)
-      whole-fit is = next o os h r
-
       -- what the orders behind a Save name
       behind : (x : Place) (rest : List Order) → o ∷ os ≡ order.Save ∷ (address_orders x ++ rest) → Named x
       behind x rest e = named-first x rest (subst Placed (ap (drop 1) e) (first-placed os r))
@@ -338,7 +334,7 @@ module _ (n : ℕ) (fs : List Family) where
       cases (block.FetchPart x t b is_signed) sh = fetch-part-sound x t b is_signed (named-first x _ (subst Placed sh.0 (placed-first o os h)))
       cases (block.AssignPart x t b) sh =
           sound-both (shifted_up b) _ (up-sound b) (change-sound x _ refl (behind x _ sh.0))
-      cases (block.FetchElement e) sh = sound-both (element_address e) (pieces.Whole (load ax at_si) ∷ []) (element-sound e (element-named e (o ∷ os) _ sh.1 (whole-fit sh.0) (placed-first o os h) sh.0)) refl
+      cases (block.FetchElement e) sh = sound-both (element_address e) (pieces.Whole (load ax at_si) ∷ []) (element-sound e (element-named e (o ∷ os) _ sh.1 (next o os h r) (placed-first o os h) sh.0)) refl
       cases (block.AssignElement e) sh = sound-both (element_address e) (pieces.Whole (store at_si ax) ∷ []) (element-sound e (element-named e os _ sh.1 r (first-placed os r) (ap (drop 1) sh.0))) refl
       cases (block.Count true line) sh = refl
       cases (block.Count false line) sh = refl

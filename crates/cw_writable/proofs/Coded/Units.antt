@@ -135,6 +135,10 @@ begins-enter order.And h = no h
 begins-enter order.Or h = no h
 begins-enter order.Xor h = no h
 begins-enter order.WriteByte h = no h
+begins-enter order.Save h = no h
+begins-enter (order.LoadPart t b is_signed) h = no h
+begins-enter (order.StorePart t b) h = no h
+begins-enter (order.Element lower span line) h = no h
 begins-enter _ h = refl
 
 entry-begins : (os : List Order) (start : ℕ) (ms : List ℕ) → AllStand is_enter os start ms → AllStand begins os start ms
