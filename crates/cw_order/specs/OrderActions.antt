@@ -50,7 +50,7 @@ module _ (p : OrderProgram) where
   action_of g acts order.Save = Pass
   action_of g acts (order.Const w) = Access (Constant (signed w))
   action_of g acts (order.Home family offset) = Access (Constant (signed (home_word p.addresses g family offset)))
-  action_of g acts (order.FrameHome n) = AlterWithin (put_address (frame_word acts n))
+  action_of g acts (order.FrameHome n) = AlterWithin (put_address (frame_word p.limits.area acts n))
   action_of g acts order.Load = Access (Fetch None)
   action_of g acts order.Store = Access (Store None)
   action_of g acts (order.LoadPart t b is_signed) = Access (Fetch (Some (record { t = t; b = b; unsigned = not is_signed })))
@@ -110,5 +110,5 @@ module _ (p : OrderProgram) where
   action_of g acts (order.Enter size) = Enter size
   action_of g acts (order.Bind k family offset) =
       AlterWithin (bind p.limits.area (argument_at acts k) (Some (home_word p.addresses g family offset)))
-  action_of g acts (order.BindFrame k offset) = AlterWithin (bind p.limits.area (argument_at acts k) (frame_word acts offset))
+  action_of g acts (order.BindFrame k offset) = AlterWithin (bind p.limits.area (argument_at acts k) (frame_word p.limits.area acts offset))
   action_of g acts (order.Return n answers) = Return n answers

@@ -71,10 +71,14 @@ control_at acts n = control_in (argument_at acts n)
 
 -- ---- frames
 
--- the address of a word of the frame at work, as a word; a segment's body has no frame
-abbrev pub frame_word : List OrderActivation → (offset : ℕ) → Option ℕ
-frame_word [] n = None
-frame_word (a ∷ acts) n = Some ((a.frame_base + n) % 65536)
+-- a word of the data area, by its address
+abbrev pub word_of_area : (area address : ℕ) → Option ℕ
+word_of_area area k = if nat_lt k area then Some k else None
+
+-- the address of a word of the frame at work, which has to be in the data area; a segment's body has no frame
+abbrev pub frame_word : (area : ℕ) → List OrderActivation → (offset : ℕ) → Option ℕ
+frame_word area [] n = None
+frame_word area (a ∷ acts) n = word_of_area area (a.frame_base + n)
 
 -- where the next frame begins: at the end of the last one, and before the first at the start of the frame area
 abbrev pub frame_end : OrderProgram → List OrderActivation → ℕ

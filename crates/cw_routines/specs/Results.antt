@@ -41,16 +41,16 @@ pub record Tells (stack : ℕ → ℕ) (bp r segment : ℕ) : Type 0 where
 
 -- ---- records
 
--- The record at work, whose last word has this number: the segment, which is a byte, the calls that are left, and the base and the top of the
--- frame.
-pub record RecordIs (stack : ℕ → ℕ) (bp r segment calls base top : ℕ) : Type 0 where
+-- The record at work, whose last word has this number: the segment, which is a byte, the calls that are left, twice the base of the frame, and
+-- how many words of the area are behind the frame.
+pub record RecordIs (stack : ℕ → ℕ) (bp r segment calls base rest : ℕ) : Type 0 where
   pub there : bp ≡ 2 * (r + 4) % 65536
   pub low : r < 32765
   pub number : stack (r + 3) ≡ segment
   pub few : segment < 256
   pub left : stack (r + 2) ≡ calls
   pub base_is : stack (r + 1) ≡ base
-  pub top_is : stack r ≡ top
+  pub rest_is : stack r ≡ rest
 
 -- A body begins at the words behind the call of its start: the base record is at the end of the stack.
 pub record Started (code : List ℕ) (at area frames calls segment : ℕ) (cells : ℕ → ℕ) (input : List ℕ) (told : Told) (p : Processor) : Type 0 where
@@ -62,10 +62,10 @@ pub record Started (code : List ℕ) (at area frames calls segment : ℕ) (cells
   pub flags : Flags
   pub stack : ℕ → ℕ
   pub is : At code (at + 8) (view ax cx dx bx (2 * 32764) 0 si area cells stack input told) flags p
-  pub record_is : RecordIs stack 0 32764 segment calls (area - frames) (area - frames)
+  pub record_is : RecordIs stack 0 32764 segment calls frames frames
 
 -- An activation begins at a place: its record is on top of the stack, below the caller's BP, and the words above that are as they were.
-pub record Entered (code : List ℕ) (to m bp segment calls base top area : ℕ) (cells before : ℕ → ℕ) (input : List ℕ) (told : Told) (p : Processor) : Type 0 where
+pub record Entered (code : List ℕ) (to m bp segment calls base rest area : ℕ) (cells before : ℕ → ℕ) (input : List ℕ) (told : Told) (p : Processor) : Type 0 where
   pub ax : ℕ
   pub cx : ℕ
   pub dx : ℕ
@@ -74,7 +74,7 @@ pub record Entered (code : List ℕ) (to m bp segment calls base top area : ℕ)
   pub flags : Flags
   pub stack : ℕ → ℕ
   pub is : At code to (view ax cx dx bx (2 * m) (2 * (m + 4)) si area cells stack input told) flags p
-  pub record_is : RecordIs stack (2 * (m + 4)) m segment calls base top
+  pub record_is : RecordIs stack (2 * (m + 4)) m segment calls base rest
   pub caller : stack (m + 4) ≡ bp
   pub above : (k : ℕ) → m + 4 < k → stack k ≡ before k
 
@@ -113,17 +113,17 @@ ToldStop Silent code place count kind =
 
 -- ---- activations
 
--- An activation whose frame has the words in AX, in the segment of the number in CX, with the way back on the stack and the line in DX. The
--- frame begins at the top of the caller's.
+-- An activation whose frame has the words in BX, in the segment of the number in CX, with the way back on the stack and the line in DX. The
+-- frame begins where the caller's ends.
 abbrev pub EnterRoutine : (Silent : ℕ → Type 0) → (code : List ℕ) → (place bound : ℕ) → Type 0
 EnterRoutine Silent code place bound =
-    (m back line r segment calls base top number size bx bp si area : ℕ) (flags : Flags) (cells stack : ℕ → ℕ) (input : List ℕ) (told : Told) (p : Processor)
-    → m + 4 < 32767 → stack (m + 4) ≡ back → back < 65536 → line < 65536 → calls < 65536 → number < 256 → size < 65536 → top ≤ area → area ≤ 32768
-    → RecordIs stack bp r segment calls base top
-    → At code place (view size number line bx (2 * (m + 4)) bp si area cells stack input told) flags p
+    (m back line r segment calls base rest number size ax bp si area : ℕ) (flags : Flags) (cells stack : ℕ → ℕ) (input : List ℕ) (told : Told) (p : Processor)
+    → m + 4 < 32767 → stack (m + 4) ≡ back → back < 65536 → line < 65536 → calls < 65536 → number < 256 → size < 65536 → rest ≤ area → area ≤ 32768
+    → RecordIs stack bp r segment calls base rest
+    → At code place (view ax number line size (2 * (m + 4)) bp si area cells stack input told) flags p
     → Within Silent code told.output bound p
-    (Begins code told.output (nat_lt 0 calls) (nat_le size (area - top)) line segment
-    (Entered code back m bp number (calls - 1) top (top + size) area cells stack input told))
+    (Begins code told.output (nat_lt 0 calls) (nat_le size rest) line segment
+    (Entered code back m bp number (calls - 1) (2 * (area - rest) % 65536) (rest - size) area cells stack input told))
 
 -- what ends an activation, and drops so many words of arguments
 abbrev pub leave : (words : ℕ) → List Instr

@@ -31,7 +31,7 @@ pub fn standing()
 
 /// The start of a body, the stops that tell the line behind their call, and that of a switch, with the line in DX.
 pub fn bodies()
-    ensures start { (quiet : ℕ → Bool) (code : List ℕ) → Stands code → InLibrary quiet → StartRoutine (Quiet quiet) code start_place 12 }
+    ensures start { (quiet : ℕ → Bool) (code : List ℕ) → Stands code → InLibrary quiet → StartRoutine (Quiet quiet) code start_place 10 }
     ensures overflow { (quiet : ℕ → Bool) (code : List ℕ) → Stands code → InLibrary quiet → StopRoutine (Quiet quiet) code (stop_place Overflow) 12 Overflow }
     ensures zero_divisor { (quiet : ℕ → Bool) (code : List ℕ) → Stands code → InLibrary quiet → StopRoutine (Quiet quiet) code (stop_place ZeroDivisor) 12 ZeroDivisor }
     ensures address { (quiet : ℕ → Bool) (code : List ℕ) → Stands code → InLibrary quiet → StopRoutine (Quiet quiet) code (stop_place AddressRange) 12 AddressRange }
@@ -43,7 +43,7 @@ pub fn bodies()
 
 /// Activations begin, or stop with Depth or Frames, and end in the code of a segment. A byte is read.
 pub fn calls()
-    ensures enter { (quiet : ℕ → Bool) (code : List ℕ) → Stands code → InLibrary quiet → EnterRoutine (Quiet quiet) code enter_place 19 }
+    ensures enter { (quiet : ℕ → Bool) (code : List ℕ) → Stands code → InLibrary quiet → EnterRoutine (Quiet quiet) code enter_place 17 }
     ensures leaving { (quiet : ℕ → Bool) (code : List ℕ) (at words : ℕ) → QuietAll (Quiet quiet) at (leave words) → HasAll code at (leave words) →
         Leaving (Quiet quiet) code at words }
     ensures read { (quiet : ℕ → Bool) (code : List ℕ) → Stands code → InLibrary quiet → ReadRoutine (Quiet quiet) code read_place 6 }

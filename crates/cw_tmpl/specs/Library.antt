@@ -1,13 +1,13 @@
 -- The run-time library: the code before that of the first segment, without relocated words. The words of the data area are in DI for the
 -- whole run, and BP is at the record at work: behind the place to come back to and the caller's BP it has the segment, the calls that are
--- left, and the base and the top of the frame.
+-- left, twice the base of the frame, and how many words of the data area are behind the frame.
 use Rattle.std.specs.Prelude.{ℕ, ◌+◌, false, true, List, [], ◌∷◌, ◌++◌, length, Option, slice_get, slice_index}
 use Rattle.cw_i86.specs.declared.instr.Instr.{Instr}
 use Rattle.cw_i86.specs.declared.instr.Instr.TheVariants as i86
 use Rattle.cw_i86.specs.declared.instr.Rm.TheVariants as rms
 use Rattle.cw_run86.specs.Views.{with_number}
 use Rattle.cw_unit.specs.Stop.{StopKind, Overflow, ZeroDivisor, SwitchRange, AddressRange, FramesFull, DepthReached, IndexRange}
-use Rattle.cw_tmpl.specs.Mnemonics.{ax, bx, cx, dx, sp, bp, si, di, al, ah, segment_slot, calls_slot, top_slot, slot, at_bx, at_si, near_field, code_at_bx, code_at_si, code_behind_si, set_word, set_byte, load, store, move, add, add_number, add_word, subtract, subtract_word, compare, one_of, either, negate, double, exchange, shift_up, shift_down, shift_down_signed, multiply, divide, jump_to, jump_if_overflow, jump_if_below, jump_if_not_below, jump_if_equal, jump_if_unequal, jump_if_at_most, bytes_of_all}
+use Rattle.cw_tmpl.specs.Mnemonics.{ax, bx, cx, dx, sp, bp, si, di, al, ah, segment_slot, calls_slot, rest_slot, slot, at_bx, at_si, near_field, code_at_bx, code_at_si, code_behind_si, set_word, set_byte, load, store, move, add, add_number, add_word, subtract, subtract_word, compare, one_of, either, negate, double, exchange, shift_up, shift_down, shift_down_signed, multiply, divide, jump_to, jump_if_overflow, jump_if_below, jump_if_not_below, jump_if_equal, jump_if_unequal, jump_if_at_most, bytes_of_all}
 
 -- ---- the end, and the entries of earlier libraries
 
@@ -38,8 +38,8 @@ start_routine =
     i86.Pop si ∷ set_word bp 0 ∷ move sp bp ∷ load di code_at_si
     -- the segment, and the calls
     ∷ i86.PushRm (code_behind_si 6) ∷ i86.PushRm (code_behind_si 4)
-    -- the base and the top of the frame are the start of the frame area
-    ∷ move ax di ∷ subtract_word ax (code_behind_si 2) ∷ i86.Push ax ∷ i86.Push ax
+    -- a word that nothing reads, since a body has no frame, and all words of the frame area are left
+    ∷ i86.PushRm (code_behind_si 2) ∷ i86.PushRm (code_behind_si 2)
     ∷ add_number si 8 ∷ jump_to si ∷ []
 
 -- ---- the stops
@@ -86,7 +86,7 @@ bad_sum_place = 75
 
 -- ---- calls and input
 
--- Begins an activation whose frame has the words in AX, in the segment of the number in CX; the line of the call is in DX. Until its record is
+-- Begins an activation whose frame has the words in BX, in the segment of the number in CX; the line of the call is in DX. Until its record is
 -- made the caller's is at work: so a stop tells the caller's segment.
 abbrev pub enter_place : ℕ
 enter_place = 91
@@ -95,16 +95,17 @@ abbrev pub enter_routine : List Instr
 enter_routine =
     i86.Pop si
     -- a call is left
-    ∷ load bx (slot calls_slot) ∷ either bx bx ∷ jump_if_equal 0xF0
-    -- the frame begins at the top of the caller's, and ends within the words that are left
-    ∷ move bx di ∷ subtract_word bx (slot top_slot) ∷ compare bx ax ∷ jump_if_below 0xEB
-    ∷ load bx (slot top_slot) ∷ add ax bx ∷ load dx (slot calls_slot) ∷ i86.Dec dx
-    -- the record: the caller's, the segment, the calls left, the base and the top of the frame
-    ∷ i86.Push bp ∷ move bp sp ∷ i86.Push cx ∷ i86.Push dx ∷ i86.Push bx ∷ i86.Push ax ∷ jump_to si ∷ []
+    ∷ load ax (slot calls_slot) ∷ with_number 5 1 ∷ jump_if_below 0xEF
+    -- the frame is within the words that are left
+    ∷ load dx (slot rest_slot) ∷ subtract dx bx ∷ jump_if_below 0xEC
+    -- it begins where the caller's ends
+    ∷ move bx di ∷ subtract_word bx (slot rest_slot) ∷ double bx
+    -- the record: the caller's, the segment, the calls left, twice the base of the frame and the words behind it
+    ∷ i86.Push bp ∷ move bp sp ∷ i86.Push cx ∷ i86.Push ax ∷ i86.Push bx ∷ i86.Push dx ∷ jump_to si ∷ []
 
 -- The next byte of the input in AX, and at its end -1.
 abbrev pub read_place : ℕ
-read_place = 126
+read_place = 123
 
 abbrev pub read_routine : List Instr
 read_routine =
@@ -122,35 +123,35 @@ loop_reached = move bx ax ∷ double bx ∷ []
 
 -- the word on the stack becomes the control variable
 abbrev pub set_variable_place : ℕ
-set_variable_place = 141
+set_variable_place = 138
 
 abbrev pub set_variable_routine : List Instr
 set_variable_routine =
-    i86.Pop si ∷ (loop_reached ++ (load bx at_bx ∷ compare bx di ∷ jump_if_not_below 0xAF ∷ double bx ∷ i86.Pop ax ∷ store at_bx ax ∷ jump_to si ∷ []))
+    i86.Pop si ∷ (loop_reached ++ (load bx at_bx ∷ compare bx di ∷ jump_if_not_below 0xB2 ∷ double bx ∷ i86.Pop ax ∷ store at_bx ax ∷ jump_to si ∷ []))
 
 -- the step of a loop added to its control variable
 abbrev pub add_step_place : ℕ
-add_step_place = 159
+add_step_place = 156
 
 abbrev pub add_step_routine : List Instr
 add_step_routine =
     loop_reached
-    ++ (load si at_bx ∷ compare si di ∷ jump_if_not_below 0x9E ∷ double si
-    ∷ load ax at_si ∷ add_word ax (near_field 2) ∷ jump_if_overflow 0x99 ∷ store at_si ax ∷ i86.Ret ∷ [])
+    ++ (load si at_bx ∷ compare si di ∷ jump_if_not_below 0xA1 ∷ double si
+    ∷ load ax at_si ∷ add_word ax (near_field 2) ∷ jump_if_overflow 0x9C ∷ store at_si ax ∷ i86.Ret ∷ [])
 
 -- the value of the control variable on the stack; AX stays
 abbrev pub put_variable_place : ℕ
-put_variable_place = 181
+put_variable_place = 178
 
 abbrev pub put_variable_routine : List Instr
 put_variable_routine =
-    i86.Pop si ∷ (loop_reached ++ (load bx at_bx ∷ compare bx di ∷ jump_if_not_below 0x87 ∷ double bx ∷ load cx at_bx ∷ i86.Push cx ∷ jump_to si ∷ []))
+    i86.Pop si ∷ (loop_reached ++ (load bx at_bx ∷ compare bx di ∷ jump_if_not_below 0x8A ∷ double bx ∷ load cx at_bx ∷ i86.Push cx ∷ jump_to si ∷ []))
 
 -- Takes the value of the control variable from the stack. Where that is past the limit the way on is behind the call, and else 3 bytes
 -- further, past a jump. Where the step is negative, the value and the limit are turned bit by bit, which turns their order; where it is 0,
 -- none is past the limit.
 abbrev pub exhausted_place : ℕ
-exhausted_place = 199
+exhausted_place = 196
 
 abbrev pub exhausted_routine : List Instr
 exhausted_routine =
@@ -167,7 +168,7 @@ exhausted_routine =
 
 -- The product over 2 to the count, rounded down. The two words of the quotient have to be those of one word.
 abbrev pub product_place : ℕ
-product_place = 232
+product_place = 229
 
 abbrev pub product_routine : List Instr
 product_routine =
@@ -176,7 +177,7 @@ product_routine =
 
 -- sets OF
 abbrev pub too_large_place : ℕ
-too_large_place = 257
+too_large_place = 254
 
 abbrev pub too_large : List Instr
 too_large = set_byte al 0x80 ∷ i86.AluRm 0 false true al (rms.Reg al) ∷ i86.Ret ∷ []
@@ -189,7 +190,7 @@ magnitudes =
 
 -- the dividend's magnitude over 2 to the count
 abbrev pub quotient_down_place : ℕ
-quotient_down_place = 262
+quotient_down_place = 259
 
 abbrev pub quotient_down_routine : List Instr
 quotient_down_routine = magnitudes ++ (shift_down ax ∷ set_word dx 0 ∷ i86.JumpShort 0x1B ∷ [])
@@ -197,13 +198,13 @@ quotient_down_routine = magnitudes ++ (shift_down ax ∷ set_word dx 0 ∷ i86.J
 -- The dividend's magnitude times 2 to the count, as a pair of words. From there on both have one way: a quotient that is not below
 -- 32,768, or, where the signs differ, 32,769, is too large.
 abbrev pub quotient_up_place : ℕ
-quotient_up_place = 285
+quotient_up_place = 282
 
 abbrev pub quotient_up_routine : List Instr
 quotient_up_routine = magnitudes ++ (move dx ax ∷ shift_up ax ∷ negate cx ∷ add_number cx 16 ∷ shift_down dx ∷ [])
 
 abbrev pub quotient_end_place : ℕ
-quotient_end_place = 312
+quotient_end_place = 309
 
 abbrev pub quotient_end : List Instr
 quotient_end =

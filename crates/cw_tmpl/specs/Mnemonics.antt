@@ -39,7 +39,8 @@ al = 0
 abbrev pub ah : ℕ
 ah = 4
 
--- the words of an activation record, as displacements from BP
+-- The words of an activation record, as displacements from BP: the number of the segment, the calls that are left, twice the base of the frame
+-- modulo 65,536, and how many words of the data area are behind the frame.
 abbrev pub segment_slot : ℕ
 segment_slot = 0xFE
 
@@ -49,8 +50,8 @@ calls_slot = 0xFC
 abbrev pub base_slot : ℕ
 base_slot = 0xFA
 
-abbrev pub top_slot : ℕ
-top_slot = 0xF8
+abbrev pub rest_slot : ℕ
+rest_slot = 0xF8
 
 -- the first word of the arguments, as a displacement from BP
 abbrev pub first_argument : ℕ

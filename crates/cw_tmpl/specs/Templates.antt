@@ -345,7 +345,7 @@ template names place (order.Start n) = coded.Whole nothing ∷ []
 template names place order.NextBody = coded.Move ax target.NextSegment ∷ coded.Whole (jump_to ax) ∷ []
 template names place (order.Jump mark) = jump_near (place + 3) (mark_place names mark) ∷ []
 template names place (order.JumpIf c mark) = jump_where c place (mark_place names mark)
-template names place (order.FrameHome n) = coded.Whole (load ax (slot base_slot)) ∷ coded.Whole (with_number 0 n) ∷ []
+template names place (order.FrameHome n) = coded.Whole (load ax (slot base_slot)) ∷ coded.Whole (shift_down_once ax) ∷ coded.Whole (with_number 0 n) ∷ []
 template names place (order.Exhausted mark) = past_limit place (mark_place names mark)
 template names place (order.SetVariable line) = call_at_line set_variable_entry line
 template names place (order.AddStep line) = call_at_line add_step_entry line
@@ -356,10 +356,10 @@ template names place (order.CallProc q line) = call_near line place (procedure_s
 template names place (order.CallCommon d line) = coded.Whole (set_word dx line) ∷ coded.Call (target.DefinitionAhead d) ∷ []
 template names place (order.CallSpecial k line) =
     coded.Whole (set_word dx line) ∷ coded.Whole (load ax (argument k)) ∷ back_jump (own (place + 13))
-template names place (order.Enter size) = coded.Whole (set_word ax size) ∷ coded.Move cx (target.Limit limit.Segment) ∷ call_library enter_entry ∷ []
+template names place (order.Enter size) = coded.Whole (set_word bx size) ∷ coded.Move cx (target.Limit limit.Segment) ∷ call_library enter_entry ∷ []
 template names place (order.Bind k family offset) = coded.Whole (load ax (argument k)) ∷ coded.Store (target.Bytes family offset) ∷ []
 template names place (order.BindFrame k offset) =
-    coded.Whole (load cx (argument k)) ∷ coded.Whole (load bx (slot base_slot)) ∷ coded.Whole (double bx) ∷ coded.Whole (store (field (2 * offset % 65536)) cx) ∷ []
+    coded.Whole (load cx (argument k)) ∷ coded.Whole (load bx (slot base_slot)) ∷ coded.Whole (store (field (2 * offset % 65536)) cx) ∷ []
 template names place (order.Return n answers) = return_with n
 -- control arguments
 template names place (order.LabelOut l) = control_out (own (label_start names l))
@@ -389,7 +389,7 @@ template names place order.Mark = []
 -- what is needed before an instruction names a place
 abbrev pub address_pieces : Place → List Coded
 address_pieces (cell.Word family offset) = []
-address_pieces (cell.Frame n) = coded.Whole (load bx (slot base_slot)) ∷ coded.Whole (double bx) ∷ []
+address_pieces (cell.Frame n) = coded.Whole (load bx (slot base_slot)) ∷ []
 
 -- AX from a place, and to it
 abbrev pub load_place : Place → Coded
@@ -414,7 +414,7 @@ change_place op (cell.Frame n) = coded.Whole (change op (field (2 * n % 65536)) 
 abbrev pub index_added : (index : Place) → (family offset : ℕ) → List Coded
 index_added (cell.Word f n) family offset = coded.Move si (target.Word family offset) ∷ coded.Operate 0 si (target.Bytes f n) ∷ []
 index_added (cell.Frame n) family offset =
-    coded.Whole (load bx (slot base_slot)) ∷ coded.Whole (double bx) ∷ coded.Move si (target.Word family offset) ∷ coded.Whole (operate 0 si (field (2 * n % 65536))) ∷ []
+    coded.Whole (load bx (slot base_slot)) ∷ coded.Move si (target.Word family offset) ∷ coded.Whole (operate 0 si (field (2 * n % 65536))) ∷ []
 
 -- the address of an element, tested and doubled, in SI
 abbrev pub element_address : Element → List Coded
@@ -528,7 +528,7 @@ part_size t b false = shift_size b + lowest_size (t + b == 16)
 -- the address of a word and an index at a place, in SI
 abbrev pub index_size : Place → ℕ
 index_size (cell.Word f n) = 7
-index_size (cell.Frame n) = 12
+index_size (cell.Frame n) = 10
 
 -- the same, order by order
 abbrev pub listed_size : Order → ℕ
@@ -564,7 +564,7 @@ listed_size order.WriteByte = 3
 listed_size order.NextBody = 5
 listed_size (order.Jump mark) = 3
 listed_size (order.JumpIf c mark) = 8
-listed_size (order.FrameHome n) = 6
+listed_size (order.FrameHome n) = 8
 listed_size (order.Exhausted mark) = 6
 listed_size (order.SetVariable line) = 6
 listed_size (order.AddStep line) = 6
@@ -575,7 +575,7 @@ listed_size (order.CallCommon d line) = 6
 listed_size (order.CallSpecial k line) = 13
 listed_size (order.Enter size) = 9
 listed_size (order.Bind k family offset) = 7
-listed_size (order.BindFrame k offset) = 13
+listed_size (order.BindFrame k offset) = 11
 listed_size (order.Return n answers) = 6
 listed_size (order.LabelOut l) = 5
 listed_size (order.LabelCommon d) = 5
@@ -597,9 +597,9 @@ listed_size (order.Start n) = 1
 -- the address.
 abbrev pub size_behind : (second first : Option Order) → Order → ℕ
 size_behind _ (Some (order.Home f n)) order.Load = 0
-size_behind _ (Some (order.FrameHome n)) order.Load = 3
+size_behind _ (Some (order.FrameHome n)) order.Load = 0
 size_behind (Some order.Save) (Some (order.Home f n)) order.Store = 0
-size_behind (Some order.Save) (Some (order.FrameHome n)) order.Store = 2
+size_behind (Some order.Save) (Some (order.FrameHome n)) order.Store = 0
 size_behind _ _ o = listed_size o
 
 abbrev pub sizes_behind : (second first : Option Order) → List Order → ℕ
