@@ -107,8 +107,8 @@ tested_none : (w : ℕ) (f : Flags) → w % 256 ≡ 0 → meets (logic_flags 128
 unfolding meets
 tested_none w f e = ap (λ n. not (bit_and n n == 0)) e
 
-module _ (finds : Finds) (Quiet : ℕ → Type 0) (code : List ℕ) (stands : Stands code) (library : (k : ℕ) → k < 331 → Quiet k) where
-  quiet : {at : ℕ} (to : ℕ) → to ≤ 331 → (k : ℕ) → at ≤ k → k < to → Quiet k
+module _ (finds : Finds) (Quiet : ℕ → Type 0) (code : List ℕ) (stands : Stands code) (library : (k : ℕ) → k < 338 → Quiet k) where
+  quiet : {at : ℕ} (to : ℕ) → to ≤ 338 → (k : ℕ) → at ≤ k → k < to → Quiet k
   quiet {at} to le = run finds Quiet code stands library {at = at} to le
 
   -- ---- the start of a body
@@ -178,55 +178,58 @@ module _ (finds : Finds) (Quiet : ℕ → Type 0) (code : List ℕ) (stands : St
 
   -- ---- the begin of an activation
 
-  pub enters : (m back line r segment calls base rest number size : ℕ) {ax bp si area : ℕ} {f : Flags} {cells stack : ℕ → ℕ} {input : List ℕ} {told : Told} {p : Processor}
-      → m + 4 < 32767 → stack (m + 4) ≡ back → back < 65536 → line < 65536
+  pub enters : (m at line r segment calls base rest number size : ℕ) {ax cx bx bp si area : ℕ} {f : Flags} {cells stack : ℕ → ℕ} {input : List ℕ} {told : Told} {p : Processor}
+      → m + 4 < 32767 → stack (m + 4) ≡ at → HasWord code at size → HasWord code (at + 2) number → line < 65536
       → calls < 65536 → number < 256 → size < 65536 → rest ≤ area → area ≤ 32768 → RecordIs stack bp r segment calls base rest
-      → At code 91 (view ax number line size (2 * (m + 4)) bp si area cells stack input told) f p
-      → Within Quiet code told.output 17 p (Begins code told.output (nat_lt 0 calls) (nat_le size rest) line segment
-      (Entered code back m bp number (calls - 1) (2 * (area - rest) % 65536) (rest - size) area cells stack input told))
-  enters m back line r segment calls base rest number size {ax} {bp} {si} {area} {f} {cells} {stack} {input} {told} {p} low there back_small small few byte size_small rest_low area_low i s = cases (nat_lt 0 calls) refl
+      → At code 91 (view ax cx line bx (2 * (m + 4)) bp si area cells stack input told) f p
+      → Within Quiet code told.output 18 p (Begins code told.output (nat_lt 0 calls) (nat_le size rest) line segment
+      (Entered code (at + 4) m bp number (calls - 1) (2 * (area - rest) % 65536) (rest - size) area cells stack input told))
+  enters m at line r segment calls base rest number size {ax} {cx} {bx} {bp} {si} {area} {f} {cells} {stack} {input} {told} {p} low there words names small few byte size_small rest_low area_low i s = cases (nat_lt 0 calls) refl
     where
       -- one of the calls that are left is taken
       first : Leads Quiet code told.output 3 p
-          (λ q. At code 98 (view (word_difference calls 1) number line size (2 * suc (m + 4)) bp back area cells stack input told) (difference_flags 32768 calls 1 false) q)
+          (λ q. At code 98 (view (word_difference calls 1) cx line bx (2 * suc (m + 4)) bp at area cells stack input told) (difference_flags 32768 calls 1 false) q)
       first =
           let h = enter_stands code stands in
           let c = calls_there i in
           let lt : m + 4 < 32768 = omega arith in
           let top : 2 * (m + 4) ≡ 2 * (m + 4) % 65536 = omega arith in
           let up : 2 * suc (m + 4) % 65536 ≡ 2 * suc (m + 4) = omega arith in
-          straight Quiet code told.output finds (Pop 6 (m + 4) back (2 * suc (m + 4)) ∷ Load 0 (Slot (places.Near 6 0xFC) (r + 2) calls) ∷ DifferenceNumber 1 ∷ []) {n = 0}
+          straight Quiet code told.output finds (Pop 6 (m + 4) at (2 * suc (m + 4)) ∷ Load 0 (Slot (places.Near 6 0xFC) (r + 2) calls) ∷ DifferenceNumber 1 ∷ []) {n = 0}
           (quiet 98 (lit≤ tt)) refl (h.0, (h.1.0, (h.1.1.0, tt)))
           ((lit< tt, lit≤ tt), (lt, top, there, up), ((lit< tt, lit≤ tt), (refl, c.0, c.1, i.left), ((lit< tt, lit≤ tt), tt, tt))) s (λ q u. done Quiet code told.output u)
 
       -- where there was one, the words of the frame are taken from those that are left
       taken : 0 < calls
-          → Leads Quiet code told.output 6 p (λ q. At code 105 (view (word_difference calls 1) number (word_difference rest size) size (2 * suc (m + 4)) bp back area cells stack input told)
+          → Leads Quiet code told.output 6 p (λ q. At code 106 (view (word_difference calls 1) (word_difference rest size) line bx (2 * suc (m + 4)) bp at area cells stack input told)
           (difference_flags 32768 rest size false) q)
       taken some =
           let h = enter_stands code stands in
           let b = rest_there i in
           both Quiet code told.output 3 3 first (λ q u.
           more Quiet code told.output finds u (library 98 (lit< tt)) refl (passes_if finds 2 0xEF h.1.1.1.0 (carry calls 1 ∙ le-ltb calls 1 some) u) (λ q u.
-          straight Quiet code told.output finds (Load 2 (Slot (places.Near 6 0xF8) r rest) ∷ Difference 2 (Register 3) ∷ []) {n = 0}
-          (quiet 105 (lit≤ tt)) refl (h.1.1.1.1.0, (h.1.1.1.1.1.0, tt))
-          ((lit< tt, lit≤ tt), (refl, b.0, b.1, i.rest_is), ((lit< tt, lit≤ tt), tt, tt)) u (λ q u. done Quiet code told.output u)))
+          straight Quiet code told.output finds (Load 1 (Slot (places.Near 6 0xF8) r rest) ∷ Difference 1 (InCode (places.Plain 4) at size) ∷ []) {n = 0}
+          (quiet 106 (lit≤ tt)) refl (h.1.1.1.1.0, (h.1.1.1.1.1.0, tt))
+          ((lit< tt, lit≤ tt), (refl, b.0, b.1, i.rest_is), ((lit< tt, lit≤ tt), (refl, words), tt)) u (λ q u. done Quiet code told.output u)))
 
       by_frame : (b : Bool) → nat_le size rest ≡ b → 0 < calls
-          → Within Quiet code told.output 17 p (Begins code told.output true b line segment
-          (Entered code back m bp number (calls - 1) (2 * (area - rest) % 65536) (rest - size) area cells stack input told))
+          → Within Quiet code told.output 18 p (Begins code told.output true b line segment
+          (Entered code (at + 4) m bp number (calls - 1) (2 * (area - rest) % 65536) (rest - size) area cells stack input told))
       by_frame false is some =
           let h = enter_stands code stands in
-          within Quiet code told.output 17 17 (lit≤ tt)
+          within Quiet code told.output 17 18 (lit≤ tt)
           (both Quiet code told.output 6 11 (taken some) (λ q u.
-          more Quiet code told.output finds u (library 105 (lit< tt)) refl
-          (to_place {to = 87} refl (jumps_if finds 2 0xEC h.1.1.1.1.1.1.0 (carry rest size ∙ lt-ltb rest size (not_within size rest is)) u)) (λ q u.
+          more Quiet code told.output finds u (library 106 (lit< tt)) refl
+          (to_place {to = 87} refl (jumps_if finds 2 0xEB h.1.1.1.1.1.1.0 (carry rest size ∙ lt-ltb rest size (not_within size rest is)) u)) (λ q u.
           told_stops finds Quiet code stands library FramesFull 87 0xDC (r + 3) segment (frames_stands code stands) (lit≤ tt) refl (tells_of i) small u)))
       by_frame true is some =
           let h = enter_stands code stands in
           let g = h.1.1.1.1.1.1.1 in
           let le : size ≤ rest = leb-true size rest is in
           let b = rest_there i in
+          let fits = s.sees.fits in
+          let in2 = names.within in
+          let e2 = word_within at 2 in2 fits in
           let left = word_difference calls 1 in
           let behind = word_difference rest size in
           let from = 2 * word_difference area rest % 65536 in
@@ -245,20 +248,20 @@ module _ (finds : Finds) (Quiet : ℕ → Type 0) (code : List ℕ) (stands : St
           let t0 : 2 * (m + 1) ≡ 2 * suc m % 65536 = omega arith in
           let low' : m < 32765 = omega arith in
           let bp_is : 2 * (m + 4) % 65536 ≡ 2 * (m + 4) = omega arith in
-          let whole : back ≡ back % 65536 = omega arith in
           let st = four (put_word stack (m + 4) bp) m number left from behind in
           let e0 = new_record (put_word stack (m + 4) bp) m number left from behind low' byte in
           let e1 : RecordIs st (2 * (m + 4)) m number left from behind = subst (λ x. RecordIs st x m number left from behind) bp_is e0 in
-          let e2 : RecordIs st (2 * (m + 4)) m number (calls - 1) from behind = subst (λ x. RecordIs st (2 * (m + 4)) m number x from behind) left_is e1 in
-          let e3 : RecordIs st (2 * (m + 4)) m number (calls - 1) from (rest - size) = subst (λ x. RecordIs st (2 * (m + 4)) m number (calls - 1) from x) behind_is e2 in
-          within Quiet code told.output 17 17 (lit≤ tt)
-          (both Quiet code told.output 6 11 (taken some) (λ q u.
-          more Quiet code told.output finds u (library 105 (lit< tt)) refl
-          (passes_if finds 2 0xEC h.1.1.1.1.1.1.0 (carry rest size ∙ le-ltb rest size le) u) (λ q u.
+          let e2' : RecordIs st (2 * (m + 4)) m number (calls - 1) from behind = subst (λ x. RecordIs st (2 * (m + 4)) m number x from behind) left_is e1 in
+          let e3 : RecordIs st (2 * (m + 4)) m number (calls - 1) from (rest - size) = subst (λ x. RecordIs st (2 * (m + 4)) m number (calls - 1) from x) behind_is e2' in
+          within Quiet code told.output 18 18 (lit≤ tt)
+          (both Quiet code told.output 6 12 (taken some) (λ q u.
+          more Quiet code told.output finds u (library 106 (lit< tt)) refl
+          (passes_if finds 2 0xEB h.1.1.1.1.1.1.0 (carry rest size ∙ le-ltb rest size le) u) (λ q u.
           straight Quiet code told.output finds
           (Load 3 (Register 7) ∷ Difference 3 (Slot (places.Near 6 0xF8) r rest) ∷ DoubleWord 3
-          ∷ Push 5 (m + 4) ∷ Load 5 (Register 4) ∷ Push 1 (m + 3) ∷ Push 0 (m + 2) ∷ Push 3 (m + 1) ∷ Push 2 m ∷ []) {n = 1} (quiet 121 (lit≤ tt)) refl
-          (g.0, (g.1.0, (g.1.1.0, (g.1.1.1.0, (g.1.1.1.1.0, (g.1.1.1.1.1.0, (g.1.1.1.1.1.1.0, (g.1.1.1.1.1.1.1.0, (g.1.1.1.1.1.1.1.1.0, tt))))))))) (
+          ∷ Push 5 (m + 4) ∷ Load 5 (Register 4) ∷ PushFrom (InCode (places.Near 4 2) (at + 2) number) (m + 3) ∷ Push 0 (m + 2) ∷ Push 3 (m + 1) ∷ Push 1 m ∷ SumShort 6 4 ∷ []) {n = 1}
+          (quiet 128 (lit≤ tt)) refl
+          (g.0, (g.1.0, (g.1.1.0, (g.1.1.1.0, (g.1.1.1.1.0, (g.1.1.1.1.1.0, (g.1.1.1.1.1.1.0, (g.1.1.1.1.1.1.1.0, (g.1.1.1.1.1.1.1.1.0, (g.1.1.1.1.1.1.1.1.1.0, tt)))))))))) (
             (lit< tt, lit≤ tt),
             tt,
             (
@@ -273,21 +276,25 @@ module _ (finds : Finds) (Quiet : ℕ → Type 0) (code : List ℕ) (stands : St
                   (
                     (lit< tt, lit≤ tt),
                     tt,
-                    ((lit< tt, lit≤ tt), (n3, t3), ((lit< tt, lit≤ tt), (n2, t2), ((lit< tt, lit≤ tt), (n1, t1), ((lit< tt, lit≤ tt), (n0, t0), tt)))),
+                    (
+                      (lit< tt, lit≤ tt),
+                      ((e2, names), n3, t3),
+                      ((lit< tt, lit≤ tt), (n2, t2), ((lit< tt, lit≤ tt), (n1, t1), ((lit< tt, lit≤ tt), (n0, t0), ((lit< tt, lit≤ tt), tt, tt)))),
+                    ),
                   ),
                 ),
               ),
             ),
           ) u (λ q u.
-          last Quiet code told.output finds u (library 121 (lit< tt)) refl (record {
+          last Quiet code told.output finds u (library 128 (lit< tt)) refl (record {
             ax = left;
-            cx = number;
-            dx = behind;
+            cx = behind;
+            dx = line;
             bx = from;
-            si = back;
+            si = (at + 4) % 65536;
             flags = _;
             stack = st;
-            is = acts.jump_to finds u 6 back g.1.1.1.1.1.1.1.1.1.0 whole;
+            is = acts.jump_to finds u 6 (at + 4) g.1.1.1.1.1.1.1.1.1.1.0 refl;
             record_is = subst (λ x. RecordIs st (2 * (m + 4)) m number (calls - 1) x (rest - size)) from_is e3;
             caller = four_above (put_word stack (m + 4) bp) m number left from behind (m + 4) (omega arith) ∙ put_at stack (m + 4) bp;
             above = λ k lt. four_above (put_word stack (m + 4) bp) m number left from behind k (omega arith)
@@ -295,13 +302,13 @@ module _ (finds : Finds) (Quiet : ℕ → Type 0) (code : List ℕ) (stands : St
           })))))
 
       cases : (b : Bool) → nat_lt 0 calls ≡ b
-          → Within Quiet code told.output 17 p (Begins code told.output b (nat_le size rest) line segment
-          (Entered code back m bp number (calls - 1) (2 * (area - rest) % 65536) (rest - size) area cells stack input told))
+          → Within Quiet code told.output 18 p (Begins code told.output b (nat_le size rest) line segment
+          (Entered code (at + 4) m bp number (calls - 1) (2 * (area - rest) % 65536) (rest - size) area cells stack input told))
       cases true is = by_frame (nat_le size rest) refl (ltb-true 0 calls is)
       cases false is =
           let h = enter_stands code stands in
           let none : calls < 1 = let z = none_left calls is in omega arith in
-          within Quiet code told.output 14 17 (lit≤ tt)
+          within Quiet code told.output 14 18 (lit≤ tt)
           (both Quiet code told.output 3 11 first (λ q u.
           more Quiet code told.output finds u (library 98 (lit< tt)) refl (to_place {to = 83} refl (jumps_if finds 2 0xEF h.1.1.1.0 (carry calls 1 ∙ lt-ltb calls 1 none) u)) (λ q u.
           told_stops finds Quiet code stands library DepthReached 83 0xE0 (r + 3) segment (depth_stands code stands) (lit≤ tt) refl (tells_of i) small u)))
@@ -310,7 +317,7 @@ module _ (finds : Finds) (Quiet : ℕ → Type 0) (code : List ℕ) (stands : St
 
   pub reads_byte : (n back : ℕ) (rest_input : List ℕ) {ax cx dx bx bp si area : ℕ} {f : Flags} {cells stack : ℕ → ℕ} {told : Told} {p : Processor} → slice_index rest_input 0 < 256
       → n < 32767 → stack n ≡ back → back < 65536
-      → At code 123 (view ax cx dx bx (2 * n) bp si area cells stack rest_input told) f p
+      → At code 130 (view ax cx dx bx (2 * n) bp si area cells stack rest_input told) f p
       → Within Quiet code told.output 6 p (Back code back (2 * suc n) bp area cells stack (drop 1 rest_input) told (λ ax f. ax ≡ next_word rest_input))
   reads_byte n back [] {ax} {cx} {dx} {bx} {bp} {si} {area} {f} {cells} {stack} {told} {p} byte low there small s =
       let h = read_stands code stands in
@@ -319,11 +326,11 @@ module _ (finds : Finds) (Quiet : ℕ → Type 0) (code : List ℕ) (stands : St
       let up : 2 * suc n % 65536 ≡ 2 * suc n = omega arith in
       let lt : n < 32768 = omega arith in
       within Quiet code told.output 5 6 (lit≤ tt)
-      (more Quiet code told.output finds s (library 123 (lit< tt)) refl (acts.take finds s 0x11 h.0) (λ q u.
-      straight Quiet code told.output finds (TestLow ∷ []) {n = 3} (quiet 127 (lit≤ tt)) refl (h.1.0, tt) ((lit< tt, lit≤ tt), tt, tt) u (λ q u.
-      more Quiet code told.output finds u (library 127 (lit< tt)) refl (jumps_if finds 5 5 h.1.1.0 (tested_some (ax / 256 * 256 + 1) f (one_low ax)) u) (λ q u.
-      straight Quiet code told.output finds (Number 0 65535 ∷ []) {n = 1} (quiet 137 (lit≤ tt)) refl (h.1.1.1.1.1.1.0, tt) ((lit< tt, lit≤ tt), tt, tt) u (λ q u.
-      last Quiet code told.output finds u (library 137 (lit< tt)) refl
+      (more Quiet code told.output finds s (library 130 (lit< tt)) refl (acts.take finds s 0x11 h.0) (λ q u.
+      straight Quiet code told.output finds (TestLow ∷ []) {n = 3} (quiet 134 (lit≤ tt)) refl (h.1.0, tt) ((lit< tt, lit≤ tt), tt, tt) u (λ q u.
+      more Quiet code told.output finds u (library 134 (lit< tt)) refl (jumps_if finds 5 5 h.1.1.0 (tested_some (ax / 256 * 256 + 1) f (one_low ax)) u) (λ q u.
+      straight Quiet code told.output finds (Number 0 65535 ∷ []) {n = 1} (quiet 144 (lit≤ tt)) refl (h.1.1.1.1.1.1.0, tt) ((lit< tt, lit≤ tt), tt, tt) u (λ q u.
+      last Quiet code told.output finds u (library 144 (lit< tt)) refl
       (record { ax = 65535; cx = cx; dx = dx; bx = bx; si = si; flags = _; is = acts.return finds u n (2 * suc n) back h.1.1.1.1.1.1.1.0 lt top up (there ∙ whole); answers = refl }))))))
   reads_byte n back (b ∷ rest) {ax} {cx} {dx} {bx} {bp} {si} {area} {f} {cells} {stack} {told} {p} byte low there small s =
       let h = read_stands code stands in
@@ -333,14 +340,14 @@ module _ (finds : Finds) (Quiet : ℕ → Type 0) (code : List ℕ) (stands : St
       let lt : n < 32768 = omega arith in
       let some : (length (b ∷ rest) == 0) ≡ false = ne_eqb (length (b ∷ rest)) 0 (λ e. omega arith) in
       within Quiet code told.output 6 6 (lit≤ tt)
-      (more Quiet code told.output finds s (library 123 (lit< tt)) refl
-      (subst (λ t. At code 125 (view (ax / 256 * 256 + (if t then 1 else 0)) cx dx bx (2 * n) bp si area cells stack (b ∷ rest) told) f (processor_step p)) some
+      (more Quiet code told.output finds s (library 130 (lit< tt)) refl
+      (subst (λ t. At code 132 (view (ax / 256 * 256 + (if t then 1 else 0)) cx dx bx (2 * n) bp si area cells stack (b ∷ rest) told) f (processor_step p)) some
       (acts.take finds s 0x11 h.0)) (λ q u.
-      straight Quiet code told.output finds (TestLow ∷ []) {n = 4} (quiet 127 (lit≤ tt)) refl (h.1.0, tt) ((lit< tt, lit≤ tt), tt, tt) u (λ q u.
-      more Quiet code told.output finds u (library 127 (lit< tt)) refl (passes_if finds 5 5 h.1.1.0 (tested_none (ax / 256 * 256 + 0) f (none_low ax)) u) (λ q u.
-      more Quiet code told.output finds u (library 129 (lit< tt)) refl (acts.take finds u 0x10 h.1.1.1.0) (λ q u.
-      straight Quiet code told.output finds (HighByte 0 ∷ []) {n = 1} (quiet 133 (lit≤ tt)) refl (h.1.1.1.1.0, tt) ((lit< tt, lit≤ tt), tt, tt) u (λ q u.
-      last Quiet code told.output finds u (library 133 (lit< tt)) refl
+      straight Quiet code told.output finds (TestLow ∷ []) {n = 4} (quiet 134 (lit≤ tt)) refl (h.1.0, tt) ((lit< tt, lit≤ tt), tt, tt) u (λ q u.
+      more Quiet code told.output finds u (library 134 (lit< tt)) refl (passes_if finds 5 5 h.1.1.0 (tested_none (ax / 256 * 256 + 0) f (none_low ax)) u) (λ q u.
+      more Quiet code told.output finds u (library 136 (lit< tt)) refl (acts.take finds u 0x10 h.1.1.1.0) (λ q u.
+      straight Quiet code told.output finds (HighByte 0 ∷ []) {n = 1} (quiet 140 (lit≤ tt)) refl (h.1.1.1.1.0, tt) ((lit< tt, lit≤ tt), tt, tt) u (λ q u.
+      last Quiet code told.output finds u (library 140 (lit< tt)) refl
       (record { ax = _; cx = cx; dx = dx; bx = bx; si = si; flags = _; is = acts.return finds u n (2 * suc n) back h.1.1.1.1.1.0 lt top up (there ∙ whole); answers = byte_low (ax / 256 * 256 + 0) b byte })))))))
 
 -- ---- in the code of segments

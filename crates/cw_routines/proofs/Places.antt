@@ -106,62 +106,62 @@ module _ (code : List ℕ) (stands : Stands code) where
   pub enter_stands : HasAll code 91 enter_routine
   enter_stands = has_front code 91 enter_routine (joined (drop 13 routines)) from_12
 
-  from_13 : HasAll code 123 (joined (drop 13 routines))
+  from_13 : HasAll code 130 (joined (drop 13 routines))
   from_13 = has_back code 91 enter_routine (joined (drop 13 routines)) from_12
 
-  pub read_stands : HasAll code 123 read_routine
-  read_stands = has_front code 123 read_routine (joined (drop 14 routines)) from_13
+  pub read_stands : HasAll code 130 read_routine
+  read_stands = has_front code 130 read_routine (joined (drop 14 routines)) from_13
 
-  from_14 : HasAll code 138 (joined (drop 14 routines))
-  from_14 = has_back code 123 read_routine (joined (drop 14 routines)) from_13
+  from_14 : HasAll code 145 (joined (drop 14 routines))
+  from_14 = has_back code 130 read_routine (joined (drop 14 routines)) from_13
 
-  pub set_variable_stands : HasAll code 138 set_variable_routine
-  set_variable_stands = has_front code 138 set_variable_routine (joined (drop 15 routines)) from_14
+  pub set_variable_stands : HasAll code 145 set_variable_routine
+  set_variable_stands = has_front code 145 set_variable_routine (joined (drop 15 routines)) from_14
 
-  from_15 : HasAll code 156 (joined (drop 15 routines))
-  from_15 = has_back code 138 set_variable_routine (joined (drop 15 routines)) from_14
+  from_15 : HasAll code 163 (joined (drop 15 routines))
+  from_15 = has_back code 145 set_variable_routine (joined (drop 15 routines)) from_14
 
-  pub add_step_stands : HasAll code 156 add_step_routine
-  add_step_stands = has_front code 156 add_step_routine (joined (drop 16 routines)) from_15
+  pub add_step_stands : HasAll code 163 add_step_routine
+  add_step_stands = has_front code 163 add_step_routine (joined (drop 16 routines)) from_15
 
-  from_16 : HasAll code 178 (joined (drop 16 routines))
-  from_16 = has_back code 156 add_step_routine (joined (drop 16 routines)) from_15
+  from_16 : HasAll code 185 (joined (drop 16 routines))
+  from_16 = has_back code 163 add_step_routine (joined (drop 16 routines)) from_15
 
-  pub put_variable_stands : HasAll code 178 put_variable_routine
-  put_variable_stands = has_front code 178 put_variable_routine (joined (drop 17 routines)) from_16
+  pub put_variable_stands : HasAll code 185 put_variable_routine
+  put_variable_stands = has_front code 185 put_variable_routine (joined (drop 17 routines)) from_16
 
-  from_17 : HasAll code 196 (joined (drop 17 routines))
-  from_17 = has_back code 178 put_variable_routine (joined (drop 17 routines)) from_16
+  from_17 : HasAll code 203 (joined (drop 17 routines))
+  from_17 = has_back code 185 put_variable_routine (joined (drop 17 routines)) from_16
 
-  pub exhausted_stands : HasAll code 196 exhausted_routine
-  exhausted_stands = has_front code 196 exhausted_routine (joined (drop 18 routines)) from_17
+  pub exhausted_stands : HasAll code 203 exhausted_routine
+  exhausted_stands = has_front code 203 exhausted_routine (joined (drop 18 routines)) from_17
 
-  from_18 : HasAll code 229 (joined (drop 18 routines))
-  from_18 = has_back code 196 exhausted_routine (joined (drop 18 routines)) from_17
+  from_18 : HasAll code 236 (joined (drop 18 routines))
+  from_18 = has_back code 203 exhausted_routine (joined (drop 18 routines)) from_17
 
-  pub product_stands : HasAll code 229 product_routine
-  product_stands = has_front code 229 product_routine (joined (drop 19 routines)) from_18
+  pub product_stands : HasAll code 236 product_routine
+  product_stands = has_front code 236 product_routine (joined (drop 19 routines)) from_18
 
-  from_19 : HasAll code 254 (joined (drop 19 routines))
-  from_19 = has_back code 229 product_routine (joined (drop 19 routines)) from_18
+  from_19 : HasAll code 261 (joined (drop 19 routines))
+  from_19 = has_back code 236 product_routine (joined (drop 19 routines)) from_18
 
-  pub too_large_stands : HasAll code 254 too_large
-  too_large_stands = has_front code 254 too_large (joined (drop 20 routines)) from_19
+  pub too_large_stands : HasAll code 261 too_large
+  too_large_stands = has_front code 261 too_large (joined (drop 20 routines)) from_19
 
-  from_20 : HasAll code 259 (joined (drop 20 routines))
-  from_20 = has_back code 254 too_large (joined (drop 20 routines)) from_19
+  from_20 : HasAll code 266 (joined (drop 20 routines))
+  from_20 = has_back code 261 too_large (joined (drop 20 routines)) from_19
 
-  pub quotient_down_stands : HasAll code 259 quotient_down_routine
-  quotient_down_stands = has_front code 259 quotient_down_routine (joined (drop 21 routines)) from_20
+  pub quotient_down_stands : HasAll code 266 quotient_down_routine
+  quotient_down_stands = has_front code 266 quotient_down_routine (joined (drop 21 routines)) from_20
 
-  from_21 : HasAll code 282 (joined (drop 21 routines))
-  from_21 = has_back code 259 quotient_down_routine (joined (drop 21 routines)) from_20
+  from_21 : HasAll code 289 (joined (drop 21 routines))
+  from_21 = has_back code 266 quotient_down_routine (joined (drop 21 routines)) from_20
 
-  pub quotient_up_stands : HasAll code 282 quotient_up_routine
-  quotient_up_stands = has_front code 282 quotient_up_routine (joined (drop 22 routines)) from_21
+  pub quotient_up_stands : HasAll code 289 quotient_up_routine
+  quotient_up_stands = has_front code 289 quotient_up_routine (joined (drop 22 routines)) from_21
 
-  from_22 : HasAll code 309 (joined (drop 22 routines))
-  from_22 = has_back code 282 quotient_up_routine (joined (drop 22 routines)) from_21
+  from_22 : HasAll code 316 (joined (drop 22 routines))
+  from_22 = has_back code 289 quotient_up_routine (joined (drop 22 routines)) from_21
 
-  pub quotient_stands : HasAll code 309 quotient_end
-  quotient_stands = has_front code 309 quotient_end (joined (drop 23 routines)) from_22
+  pub quotient_stands : HasAll code 316 quotient_end
+  quotient_stands = has_front code 316 quotient_end (joined (drop 23 routines)) from_22
