@@ -12,7 +12,7 @@ use Rattle.cw_i86.specs.declared.instr.Instr.TheVariants as i86
 use Rattle.cw_i86.specs.declared.flags.Flags.{Flags}
 use Rattle.cw_i86.specs.declared.instr.Place.TheVariants as places
 use Rattle.cw_run86.specs.Processor.{Processor, Told, processor_step}
-use Rattle.cw_run86.specs.Views.{View, Has, Goes, register, on, with_register, put_word, word_sum, word_difference}
+use Rattle.cw_run86.specs.Views.{View, Has, Goes, register, on, with_register, put_word, word_difference}
 use Rattle.cw_run86.proofs.Tests.{Finds}
 use Rattle.cw_run86.proofs.Memory.{holds}
 use Rattle.cw_run86.proofs.Goes.{goes, sees}
@@ -22,8 +22,8 @@ use Rattle.cw_routines.specs.Results.{Stands, Tells, RecordIs, Started, Entered,
 use Rattle.cw_routines.proofs.Arrive.{jumps_if, passes_if}
 use Rattle.cw_routines.proofs.Sources.{Register, Slot, InCode}
 use Rattle.cw_routines.proofs.Acts as acts
-use Rattle.cw_routines.proofs.Chains.{Number, HighByte, Load, Sum, Difference, Either, DifferenceNumber, DoubleWord, SumShort, TestLow, Push, PushFrom, Pop, done, more, last, within, each_of, straight, both}
-use Rattle.cw_routines.proofs.Facts.{put_at, put_off, tested_zero, tested_not_zero, carry}
+use Rattle.cw_routines.proofs.Chains.{Number, HighByte, Load, Difference, Either, DifferenceNumber, DoubleWord, SumShort, TestLow, Push, PushFrom, Pop, done, more, last, within, each_of, straight, both}
+use Rattle.cw_routines.proofs.Facts.{put_at, put_off, tested_not_zero, carry}
 use Rattle.cw_routines.proofs.Places.{to_place, start_stands, depth_stands, frames_stands, enter_stands, read_stands}
 use Rattle.cw_routines.proofs.Stops.{told_stops, run}
 
