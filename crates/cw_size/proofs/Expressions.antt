@@ -21,7 +21,7 @@ use Rattle.cw_gen_expr.proofs.Layers.{value_layer, value-made, spot-made, refere
 use Rattle.cw_gen_expr.proofs.Layers as made
 use Rattle.cw_tokens.specs.LeastTokens.{separated, part, expression_tokens, argument_tokens, condition_tokens, reference_tokens}
 use Rattle.cw_tmpl.specs.Templates.{listed_size, listed_sizes}
-use Rattle.cw_size.proofs.Short.{sizes-append, first_short, Short, plainly, both_short, ended_short, eased}
+use Rattle.cw_size.proofs.Short.{one_short, sizes-append, first_short, Short, plainly, both_short, ended_short, eased}
 use Rattle.cw_size.proofs.OrderSizes.{item-first, item-load, saved-item, saved-table, bounds-short, take-short, load-part-short, element-short, of-two-short, entry-short, rescale-short, rescale-whole, rescale-same, logic-short, product-short, call-short, label-short}
 use Rattle.cw_size.proofs.TokenLayers.{expression_layer, expression-tokens, argument_layer, argument-tokens, condition_layer, condition-tokens, spot_layer, spot-tokens, reference-tokens, separated-within}
 
@@ -62,7 +62,7 @@ two-spared (Some s) = omega arith
 
 loads : (o : Option Field) → listed_sizes (load_orders o) + 9 ≤ spared o
 loads None = let z : 5 + 0 + 9 ≤ 14 = omega arith in z
-loads (Some s) = let h = load-part-short s.t s.b (not s.unsigned) in let z : listed_size (order.LoadPart s.t s.b (not s.unsigned)) + 0 + 9 ≤ 24 = omega (arith, h) in z
+loads (Some s) = let h = load-part-short s.t s.b (not s.unsigned) in let one = one_short (order.LoadPart s.t s.b (not s.unsigned)) 15 h in let z : listed_sizes (order.LoadPart s.t s.b (not s.unsigned) ∷ []) + 9 ≤ 24 = omega (arith, one) in z
 
 module _ (s : Scope) where
   -- the rescaling from a scale to another, and so much to spare, have at most 14 bytes
@@ -234,7 +234,7 @@ module _ (s : Scope) where
     argument_short (layer.Base i) le = argument (item_order s.layout i 0 ∷ order.Save ∷ []) (item-first s.layout i 0 (order.Save ∷ []) 32 (let z : 1 + 0 ≤ 32 = omega arith in z))
     argument_short (layer.Goal g) le =
         let h = label-short s g in
-        argument (label_order s g ∷ []) (let z : listed_size (label_order s g) + 0 ≤ 38 = omega (arith, h) in z)
+        argument (label_order s g ∷ []) (one_short (label_order s g) 38 (let z : listed_size (label_order s g) ≤ 38 = omega (arith, h) in z))
     argument_short (layer.Switch k) le = argument (order.SwitchOut k ∷ []) (let z : 5 + 0 ≤ 38 = omega arith in z)
     argument_short (layer.CommonSwitch d) le = argument (order.SwitchCommon d ∷ []) (let z : 5 + 0 ≤ 38 = omega arith in z)
     argument_short (layer.Proc q) le = argument (order.ProcOut q ∷ []) (let z : 5 + 0 ≤ 38 = omega arith in z)
@@ -320,7 +320,7 @@ module _ (s : Scope) where
         let power = narrow (pos f -ℤ pos ((value_of s a).operand + (value_of s d).operand)) in
         let h = product-short s.line power in
         operands a d (order.Mul power s.line ∷ []) spare (let z : expression_size a < n = omega (arith, le) in z) (let z : expression_size d < n = omega (arith, le) in z)
-        (let z : listed_size (order.Mul power s.line) + 0 + spare ≤ 54 = omega (arith, h, r) in z)
+        (let one = one_short (order.Mul power s.line) 24 h in let z : listed_sizes (order.Mul power s.line ∷ []) + spare ≤ 54 = omega (arith, one, r) in z)
     computed_short (layer.Over a d) le f spare r =
         let power = narrow (pos (f + (value_of s d).operand) -ℤ pos (value_of s a).operand) in
         operands a d (order.Div power s.line ∷ []) spare (let z : expression_size a < n = omega (arith, le) in z) (let z : expression_size d < n = omega (arith, le) in z) (let z : 25 + 0 + spare ≤ 54 = omega (arith, r) in z)
