@@ -127,38 +127,38 @@ module _ (s : Scope) where
         let span = item_span s.layout i in
         let o = order.Element l span s.line in
         let left = most-spared field in
-        indexed 9 (32 * expression_tokens e + 25) 38 (spared field) (32 * (3 + expression_tokens e)) (order.Save ∷ item_order s.layout i 0 ∷ o ∷ []) (bounded e l u (let z : expression_size e < n = omega (arith, le) in z))
+        indexed 9 (32 * expression_tokens e + 25) 40 (spared field) (32 * (3 + expression_tokens e)) (order.Save ∷ item_order s.layout i 0 ∷ o ∷ []) (bounded e l u (let z : expression_size e < n = omega (arith, le) in z))
         (saved-item s.layout i o 31 (element-short l span s.line))
-        (let z : 32 * expression_tokens e + 25 + 38 + spared field ≤ 32 * (3 + expression_tokens e) + 9 = omega (arith, left) in z)
+        (let z : 32 * expression_tokens e + 25 + 40 + spared field ≤ 32 * (3 + expression_tokens e) + 9 = omega (arith, left) in z)
     indexed_short (layer.Two i l1 u1 l2 u2 m e g) field le =
         let span = item_span s.layout i in
         let o = order.ElementOfTwo l1 l2 m span s.line in
         let left = two-spared field in
-        indexed (9 + (0 + 9)) (32 * expression_tokens e + 25 + (1 + (32 * expression_tokens g + 25))) 74 (spared field) (32 * (4 + (part field + (expression_tokens e + expression_tokens g)))) (order.Save ∷ item_order s.layout i 0 ∷ o ∷ [])
+        indexed (9 + (0 + 9)) (32 * expression_tokens e + 25 + (1 + (32 * expression_tokens g + 25))) 76 (spared field) (32 * (4 + (part field + (expression_tokens e + expression_tokens g)))) (order.Save ∷ item_order s.layout i 0 ∷ o ∷ [])
         (both_short (bounded e l1 u1 (let z : expression_size e < n = omega (arith, le) in z)) (both_short saved_short (bounded g l2 u2 (let z : expression_size g < n = omega (arith, le) in z))))
         (saved-item s.layout i o 67 (of-two-short l1 l2 m span s.line))
-        (let z : 32 * expression_tokens e + 25 + (1 + (32 * expression_tokens g + 25)) + 74 + spared field ≤ 32 * (4 + (part field + (expression_tokens e + expression_tokens g))) + (9 + (0 + 9)) = omega (arith, left) in z)
+        (let z : 32 * expression_tokens e + 25 + (1 + (32 * expression_tokens g + 25)) + 76 + spared field ≤ 32 * (4 + (part field + (expression_tokens e + expression_tokens g))) + (9 + (0 + 9)) = omega (arith, left) in z)
     indexed_short (layer.ParamArray i e) field le =
         let o = order.Element (pos 0) 0 s.line in
         let left = most-spared field in
-        indexed 9 (32 * expression_tokens e + 5) 31 (spared field) (32 * (3 + expression_tokens e)) (order.Save ∷ item_order s.layout i 0 ∷ order.Load ∷ o ∷ []) (at-zero e (let z : expression_size e < n = omega (arith, le) in z))
+        indexed 9 (32 * expression_tokens e + 5) 30 (spared field) (32 * (3 + expression_tokens e)) (order.Save ∷ item_order s.layout i 0 ∷ order.Load ∷ o ∷ []) (at-zero e (let z : expression_size e < n = omega (arith, le) in z))
         (saved-table s.layout true i o 21 (let z : 0 + 21 ≤ 21 = omega arith in z))
-        (let z : 32 * expression_tokens e + 5 + 31 + spared field ≤ 32 * (3 + expression_tokens e) + 9 = omega (arith, left) in z)
+        (let z : 32 * expression_tokens e + 5 + 30 + spared field ≤ 32 * (3 + expression_tokens e) + 9 = omega (arith, left) in z)
     indexed_short (layer.Word i t m e) field le =
         let o = order.Element (pos 0) (table_span s.layout t i) s.line in
         let left = most-spared field in
-        indexed 9 (32 * expression_tokens e + 25) 31 (spared field) (32 * (3 + expression_tokens e)) (order.Save ∷ (table_orders s.layout t i ++ o ∷ []))
+        indexed 9 (32 * expression_tokens e + 25) 30 (spared field) (32 * (3 + expression_tokens e)) (order.Save ∷ (table_orders s.layout t i ++ o ∷ []))
         (bounded e (pos 0) (pos m -ℤ pos 1) (let z : expression_size e < n = omega (arith, le) in z))
         (saved-table s.layout t i o 21 (let z : 0 + 21 ≤ 21 = omega arith in z))
-        (let z : 32 * expression_tokens e + 25 + 31 + spared field ≤ 32 * (3 + expression_tokens e) + 9 = omega (arith, left) in z)
+        (let z : 32 * expression_tokens e + 25 + 30 + spared field ≤ 32 * (3 + expression_tokens e) + 9 = omega (arith, left) in z)
     indexed_short (layer.Elem i t k m w e) field le =
         let span = table_span s.layout t i in
         let o = order.Entry k w span s.line in
         let left = most-spared field in
-        indexed 9 (32 * expression_tokens e + 25) 55 (spared field) (32 * (3 + expression_tokens e)) (order.Save ∷ (table_orders s.layout t i ++ o ∷ []))
+        indexed 9 (32 * expression_tokens e + 25) 54 (spared field) (32 * (3 + expression_tokens e)) (order.Save ∷ (table_orders s.layout t i ++ o ∷ []))
         (bounded e (pos 0) (pos m -ℤ pos 1) (let z : expression_size e < n = omega (arith, le) in z))
         (saved-table s.layout t i o 45 (entry-short k w span s.line))
-        (let z : 32 * expression_tokens e + 25 + 55 + spared field ≤ 32 * (3 + expression_tokens e) + 9 = omega (arith, left) in z)
+        (let z : 32 * expression_tokens e + 25 + 54 + spared field ≤ 32 * (3 + expression_tokens e) + 9 = omega (arith, left) in z)
     indexed_short (layer.Bare e) field le =
         let left = most-spared field in
         indexed 9 (32 * expression_tokens e + 5) 9 (spared field) (32 * (2 + expression_tokens e)) (order.InArea s.line ∷ []) (at-zero e (let z : expression_size e < n = omega (arith, le) in z)) (let z : 9 + 0 ≤ 9 = omega arith in z)
@@ -229,9 +229,9 @@ module _ (s : Scope) where
         eased (both_short (b.references r (let z : reference_size r < n = omega (arith, le) in z)) saved_short)
         (let z : 32 * reference_tokens r + 1 + 0 ≤ 32 * reference_tokens r + 6 + (spared (reference_of s r).field + 0) = omega arith in z)
     argument_short (layer.Array i l) le =
-        argument (item_order s.layout i 0 ∷ order.IndexLess l s.line ∷ order.Save ∷ []) (item-first s.layout i 0 (order.IndexLess l s.line ∷ order.Save ∷ []) 32 (let z : 12 + (1 + 0) ≤ 32 = omega arith in z))
-    argument_short (layer.Same i) le = argument (item_order s.layout i 0 ∷ order.Load ∷ order.Save ∷ []) (item-load s.layout i 0 (order.Save ∷ []) 29 (let z : 1 + 0 ≤ 29 = omega arith in z))
-    argument_short (layer.Base i) le = argument (item_order s.layout i 0 ∷ order.Save ∷ []) (item-first s.layout i 0 (order.Save ∷ []) 32 (let z : 1 + 0 ≤ 32 = omega arith in z))
+        argument (item_order s.layout i 0 ∷ order.IndexLess l s.line ∷ order.Save ∷ []) (item-first s.layout i 0 (order.IndexLess l s.line ∷ order.Save ∷ []) 30 (let z : 12 + (1 + 0) ≤ 30 = omega arith in z))
+    argument_short (layer.Same i) le = argument (item_order s.layout i 0 ∷ order.Load ∷ order.Save ∷ []) (item-load s.layout i 0 (order.Save ∷ []) 31 (let z : 1 + 0 ≤ 31 = omega arith in z))
+    argument_short (layer.Base i) le = argument (item_order s.layout i 0 ∷ order.Save ∷ []) (item-first s.layout i 0 (order.Save ∷ []) 30 (let z : 1 + 0 ≤ 30 = omega arith in z))
     argument_short (layer.Goal g) le =
         let h = label-short s g in
         argument (label_order s g ∷ []) (one_short (label_order s g) 38 (let z : listed_size (label_order s g) ≤ 38 = omega (arith, h) in z))

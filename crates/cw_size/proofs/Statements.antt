@@ -66,8 +66,8 @@ statement-size = fold_out-Stmt ℕ size_step
 begin_short : (line : ℕ) → Short (plain (begin_orders line)) 0 1
 begin_short line = plainly (begin_orders line) 1 (let z : 1 + 0 ≤ 1 = omega arith in z)
 
-kept_short : (y : Layout) (item word : ℕ) (os : List Order) (most : ℕ) → listed_sizes os ≤ most → Short (plain (keep_orders y item word ++ os)) 0 (9 + most)
-kept_short y item word os most h = plainly (keep_orders y item word ++ os) (9 + most) (item-keep y item word os most h)
+kept_short : (y : Layout) (item word : ℕ) (os : List Order) (most : ℕ) → listed_sizes os ≤ most → Short (plain (keep_orders y item word ++ os)) 0 (7 + most)
+kept_short y item word os most h = plainly (keep_orders y item word ++ os) (7 + most) (item-keep y item word os most h)
 
 -- ---- FOR
 
@@ -130,7 +130,7 @@ module _ (s : Scope) where
     where
       way_short : (ways : List ℕ) → length ways ≡ length es → listed_sizes (item_order s.layout item 3 ∷ order.Load ∷ order.LoopWay ways ∷ []) ≤ 27 + 2 * length es
       way_short ways e =
-          let h = item-load s.layout item 3 (order.LoopWay ways ∷ []) (20 + 2 * length es) (let z : 20 + 2 * length ways + 0 ≤ 20 + 2 * length es = omega (arith, e) in z) in
+          let h = item-load s.layout item 3 (order.LoopWay ways ∷ []) (20 + 2 * length es) (one_short (order.LoopWay ways) (20 + 2 * length es) (let z : 20 + 2 * length ways ≤ 20 + 2 * length es = omega (arith, e) in z)) in
           let z : listed_sizes (item_order s.layout item 3 ∷ order.Load ∷ order.LoopWay ways ∷ []) ≤ 27 + 2 * length es = omega (arith, h) in
           z
 
@@ -158,7 +158,7 @@ module _ (s : Scope) (who : Option ℕ) (answer : ℕ) where
       (let z : 32 * expression_tokens e + 5 + 13 + 0 ≤ 32 * (3 + expression_tokens e) + (0 + 0) = omega arith in z)
 
   jump_short : (line : ℕ) (d : Dest) → Short (jump_piece (at_line line s) who d) 0 (32 * jump_tokens d)
-  jump_short line (dest.Goal g) = let h = goal-short s.unit who g in plainly (goal_order s.unit who g ∷ []) (32 * 1) (one_short (goal_order s.unit who g) (32 * 1) h)
+  jump_short line (dest.Goal g) = let h = goal-short s.unit who g in plainly (goal_order s.unit who g ∷ []) (32 * 1) (one_short (goal_order s.unit who g) (32 * 1) (let z : listed_size (goal_order s.unit who g) ≤ 32 * 1 = omega (arith, h) in z))
   jump_short line (dest.Special k) = plainly (order.GoSpecial (control_place s.parameters k) ∷ []) (32 * 1) (let z : 17 + 0 ≤ 32 * 1 = omega arith in z)
   jump_short line (dest.Switch n e) = switched line e (order.GoSwitch n line) (let z : 8 ≤ 13 = omega arith in z)
   jump_short line (dest.CommonSwitch d e) = switched line e (order.GoSwitchCommon d line) (let z : 8 ≤ 13 = omega arith in z)
@@ -222,7 +222,7 @@ module _ (s : Scope) (who : Option ℕ) (answer : ℕ) where
         (both_short (address_short h r)
         (both_short (kept_short s.layout item 0 [] 0 (let z : 0 ≤ 0 = omega arith in z))
         (ring_short h item (out-Ref r).f es (statement_piece s who answer t) (15 * set_labels t) (32 * statement_tokens t) (below t (let z : statement_size t < n = omega (arith, le) in z))))))
-        (let z : 1 + (32 * reference_tokens r + (9 + 0 + (32 * m + 32 * statement_tokens t + 45))) + 15 * set_labels t ≤ 32 * (2 + (reference_tokens r + (m + statement_tokens t))) + (0 + (14 + (0 + 15 * set_labels t))) = omega arith in z)
+        (let z : 1 + (32 * reference_tokens r + (7 + 0 + (32 * m + 32 * statement_tokens t + 45))) + 15 * set_labels t ≤ 32 * (2 + (reference_tokens r + (m + statement_tokens t))) + (0 + (14 + (0 + 15 * set_labels t))) = omega arith in z)
     layer_short (statement.Seq ss) le = all_short ss (let z : total (map statement_size ss) < n = omega (arith, le) in z)
     layer_short (statement.Mark ls t) le =
         eased (both_short (labels_short ls) (below t (let z : statement_size t < n = omega (arith, le) in z)))
