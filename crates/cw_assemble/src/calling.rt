@@ -72,12 +72,9 @@ pub(crate) fn put_enter(code: &mut Assembly, size: u16) -> Result<(), NoMemory>
     ensures { OnOk result (Adds code.old (template no_names 0 (order.Enter size)) code.new) }
 {
     code.put_all(&[
-        Coded::Whole(set_word(BX, size)),
-        Coded::Move {
-            reg: CX,
-            target: Target::Limit(Limit::Segment),
-        },
         Coded::Call(Target::LibraryAhead(ENTER)),
+        Coded::Data(size),
+        Coded::Word(Target::Limit(Limit::Segment)),
     ])
 }
 
