@@ -265,18 +265,18 @@ fn texts_run(rt: HostRuntime) -> Result<(), Fail> {
 }
 
 // A body, the bytes of its segment's code, and the instructions of its run. The segment's entry has 11 bytes, and the way on to the
-// end 5. A run takes 14 instructions to the first order, and 3 from the last one through the end.
+// end 5. A run takes 12 instructions to the first order, and 3 from the last one through the end.
 const COUNTED: [(&str, usize, u64); 4] = [
     // The statement's place 1 byte and 1 instruction, the number 3 and 1, the byte 2 and 1.
-    ("W(7)", 22, 20),
+    ("W(7)", 22, 18),
     // Place, number and store 7 and 3; place, load, sum with a number and store 17 and 5; place, load and byte 6 and 3.
-    ("INTEGER X; X := 3; X := X + 4; W(X)", 46, 28),
-    // Place, number, its save and the call 11 and 5; the entry and the argument 16 and 24; place, load and byte 6 and 3; 0 and the return 9 and 4.
-    ("PROCEDURE P(VALUE INTEGER N); W(N); P(5)", 58, 53),
+    ("INTEGER X; X := 3; X := X + 4; W(X)", 46, 26),
+    // Place, number, its save and the call 11 and 5; the entry and the argument 14 and 21; place, load and byte 6 and 3; 0 and the return 9 and 4.
+    ("PROCEDURE P(VALUE INTEGER N); W(N); P(5)", 56, 48),
     // Place, address and store 7 and 3; the number of the element, its first value, which is set, its step, its limit and the jump 34 and 22;
     // the step added 9 and 14; the test 18, and 30 or at the end 29; the jump past the loop 3 and 1; a value set 10; place, load and byte
     // 6 and 3; number and the way on 25 and 7. The body runs twice.
-    ("INTEGER I; FOR I := 1 STEP 1 UNTIL 2 DO W(I)", 128, 180),
+    ("INTEGER I; FOR I := 1 STEP 1 UNTIL 2 DO W(I)", 128, 178),
 ];
 
 #[test]
