@@ -67,16 +67,16 @@ module _ (known : Given) where
         let next : place + 1 ≡ suc place = omega arith in
         ap (left_at 0 s.orders.list) next ∙ left_next 0 s.orders.list place Enters listed ∙ ap orders_left alone_is
 
-    enter_weight : 22 ≤ weight p T
+    enter_weight : 20 ≤ weight p T
     enter_weight = let e : weight p T ≡ 30 = ap weight_at s.beginning.order in omega arith
 
     begins_with : (shallow fits : Bool) → nat_lt (length acts) p.limits.depth ≡ shallow → nat_le (a.frame_base + s.beginning.size) p.limits.area ≡ fits
-        → Leading w.output 22 q (EntersTo rows p image a acts w g s.beginning.size few_there shallow fits (here + 9)) → Follow known T q
+        → Leading w.output 20 q (EntersTo rows p image a acts w g s.beginning.size few_there shallow fits (here + 9)) → Follow known T q
     begins_with false fits es ef d =
-        leads_to known g place false (a ∷ acts) w (at g place false (a ∷ acts) w (Stopped DepthReached (a.segment + 1) a.line)) 22
+        leads_to known g place false (a ∷ acts) w (at g place false (a ∷ acts) w (Stopped DepthReached (a.segment + 1) a.line)) 20
         (enter_is ∙ ap (λ x. enter_with false x (nat_le (a.frame_base + s.beginning.size) p.limits.area) s.beginning.size a g place false acts w) es) enter_weight d
     begins_with true false es ef d =
-        leads_to known g place false (a ∷ acts) w (at g place false (a ∷ acts) w (Stopped FramesFull (a.segment + 1) a.line)) 22
+        leads_to known g place false (a ∷ acts) w (at g place false (a ∷ acts) w (Stopped FramesFull (a.segment + 1) a.line)) 20
         (enter_is ∙ ap (λ x. enter_with false x (nat_le (a.frame_base + s.beginning.size) p.limits.area) s.beginning.size a g place false acts w) es
         ∙ ap (λ x. enter_with false true x s.beginning.size a g place false acts w) ef) enter_weight d
     begins_with true true es ef d =
@@ -90,7 +90,7 @@ module _ (known : Given) where
         let top : a.frame_base + size ≤ p.limits.area = leb-true (a.frame_base + size) p.limits.area ef in
         let base : a.frame_base ≤ p.limits.area = omega arith in
         let working : ActivationsStand p g (a' ∷ acts) = (refl, base, top, s.beginning.arguments, s.beginning.operands_stand, s.beginning.callers) in
-        leads_to known g place false (a ∷ acts) w t 22 goes enter_weight
+        leads_to known g place false (a ∷ acts) w t 20 goes enter_weight
         (onward known (λ r l. inl (record {
           orders = s.orders;
           unit = s.unit;
@@ -133,7 +133,7 @@ module _ (known : Given) where
         let small : size < 65536 = coded.codes g place Enters s.beginning.order in
         let room : stack_words [] (a ∷ acts) ≤ 32000 = (let r = s.stands.room in let e : stack_words w.operands (a ∷ acts) ≡ stack_words [] (a ∷ acts) = ap (λ xs. stack_words xs (a ∷ acts)) s.beginning.none in omega arith) in
         begins_with (nat_lt (length acts) p.limits.depth) (nat_le (a.frame_base + size) p.limits.area) refl refl
-        (begins rows p image a acts w g size few_there s.beginning.none s.beginning.base room here by number all.library low base_low small coded.depth is_number arrives i s.called_at)
+        (begins rows p image a acts w g size few_there s.beginning.none s.beginning.base base_low room here by number all.library low small coded.depth is_number arrives i s.called_at)
       where
         frame_low : (xs : List OrderActivation) → ActivationsStand p a.segment xs → a.frame_base ≡ frame_end p xs → a.frame_base ≤ p.limits.area
         frame_low [] h e = let f : a.frame_base ≡ p.limits.area - p.limits.frames = e in omega arith
