@@ -249,7 +249,7 @@ impl<'a> Machine<'a> {
         address
     }
 
-    // The address of a word of a storage family, and of the frame at work.
+    // The address of a word of a storage family.
     pub(crate) fn home(&self, family: u16, offset: u16) -> i16 {
         let homes = match self.program.segments.get(self.segment) {
             Some(segment) => segment.homes.as_slice(),
@@ -259,16 +259,15 @@ impl<'a> Machine<'a> {
         base.wrapping_add(offset).cast_signed()
     }
 
+    // The address of a word of the frame at work; 0, and the run ends, where there is no frame or the word is not in the data area.
     pub(crate) fn frame_home(&mut self, offset: u16) -> i16 {
-        match self.activations.last() {
-            Some(last) => {
-                let address = last.base.wrapping_add(u32::from(offset)) % 65_536;
-                (address as u16).cast_signed()
-            }
-            None => {
-                self.end_with(End::Stuck);
-                0
+        if let Some(last) = self.activations.last() {
+            let address = last.base.wrapping_add(u32::from(offset));
+            if address < self.program.limits.area {
+                return ((address % 65_536) as u16).cast_signed();
             }
         }
+        self.end_with(End::Stuck);
+        0
     }
 }

@@ -339,7 +339,7 @@ constant-fits area n w fits = put-fits (signed n) (signed-fits n) w fits
 action-fits : (p : OrderProgram) (g : ℕ) (acts : List OrderActivation) (o : Order) → All ActivationFits acts → ActionFits p.limits.area (action_of p g acts o)
 action-fits p g acts (order.Const n) all = constant-fits p.limits.area n
 action-fits p g acts (order.Home family offset) all = constant-fits p.limits.area (home_word p.addresses g family offset)
-action-fits p g acts (order.FrameHome n) all = put_address-fits (frame_word acts n)
+action-fits p g acts (order.FrameHome n) all = put_address-fits (frame_word p.limits.area acts n)
 action-fits p g acts order.Load all = fetch-fits p.limits.area None
 action-fits p g acts order.Store all = store-fits p.limits.area (λ x z. z) (λ x z fz. fz)
 action-fits p g acts (order.LoadPart t b s) all = fetch-fits p.limits.area (Some (record { t = t; b = b; unsigned = not s }))
@@ -396,7 +396,7 @@ action-fits p g acts (order.ProcCommon d) all = held-fits (common_procedure p g 
 action-fits p g acts (order.SpecialOut k) all = held-fits (control_at acts k)
 action-fits p g acts (order.Bind k family offset) all =
     bind-fits p.limits.area (argument_at acts k) (Some (home_word p.addresses g family offset)) (argument-fits acts k all)
-action-fits p g acts (order.BindFrame k offset) all = bind-fits p.limits.area (argument_at acts k) (frame_word acts offset) (argument-fits acts k all)
+action-fits p g acts (order.BindFrame k offset) all = bind-fits p.limits.area (argument_at acts k) (frame_word p.limits.area acts offset) (argument-fits acts k all)
 action-fits p g acts _ all = tt
 
 -- ---- steps

@@ -335,7 +335,7 @@ module _ (p : OrderProgram) where
       action-stands : (o : Order) → ActionStands P plain p.limits.area (action_of p g acts o)
       action-stands (order.Const n) = λ w h. put-stands P plain (signed n) w h
       action-stands (order.Home family offset) = λ w h. put-stands P plain (signed (home_word p.addresses g family offset)) w h
-      action-stands (order.FrameHome n) = put_address-stands P plain (frame_word acts n)
+      action-stands (order.FrameHome n) = put_address-stands P plain (frame_word p.limits.area acts n)
       action-stands order.Load = fetch-stands P plain p.limits.area None
       action-stands order.Store = store-stands P plain p.limits.area (λ x z. z)
       action-stands (order.LoadPart t b s) = fetch-stands P plain p.limits.area (Some (record { t = t; b = b; unsigned = not s }))
@@ -392,7 +392,7 @@ module _ (p : OrderProgram) where
       action-stands (order.SpecialOut k) = held-stands P plain (control_at acts k) (control_at_stands g acts k working)
       action-stands (order.Bind k family offset) =
           bind-stands P plain p.limits.area (argument_at acts k) (Some (home_word p.addresses g family offset))
-      action-stands (order.BindFrame k offset) = bind-stands P plain p.limits.area (argument_at acts k) (frame_word acts offset)
+      action-stands (order.BindFrame k offset) = bind-stands P plain p.limits.area (argument_at acts k) (frame_word p.limits.area acts offset)
       action-stands _ = tt
 
     -- ---- steps

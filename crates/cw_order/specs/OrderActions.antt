@@ -1,5 +1,5 @@
 -- What each order does.
-use Rattle.std.specs.Prelude.{ℕ, ◌+◌, ◌-◌, ◌%◌, pos, ◌-ℤ◌, List, [], length, Bool, not, Option, Some, None, slice_index, slice_index_or}
+use Rattle.std.specs.Prelude.{ℕ, ◌+◌, ◌-◌, ◌%◌, ◌-ℤ◌, List, [], length, Bool, not, Option, Some, None, slice_index, slice_index_or}
 use Rattle.cw_word.specs.Word.{signed}
 use Rattle.cw_unit.specs.declared.unit.LogicOp.TheVariants as logic
 use Rattle.cw_unit.specs.declared.layout.Map.{Map}

@@ -5,7 +5,7 @@ use Rattle.cw_word.specs.Word.{signed, unsigned, word_difference}
 use Rattle.cw_unit.specs.declared.unit.CompareOp.{CompareOp}
 use Rattle.cw_unit.specs.declared.unit.CompareOp.TheVariants as compare
 use Rattle.cw_unit.specs.Stop.{AddressRange}
-use Rattle.cw_unit.specs.Words.{Operand, Word, Words, Outcome, Changed, Refused, Impossible, with_operands, with_memory, put, put_if, is_below, number_of, on_one, on_two, word_at, at_address}
+use Rattle.cw_unit.specs.Words.{Operand, Word, Words, Outcome, Changed, Impossible, with_operands, with_memory, put, put_if, is_below, number_of, on_one, on_two, word_at, at_address}
 use Rattle.cw_unit.specs.Operation.{Addressing, form_address, SetVariable, AddStep, perform, is_past}
 use Rattle.cw_order.specs.declared.order.Comparator.{Comparator}
 use Rattle.cw_order.specs.declared.order.Comparator.TheVariants as comparator

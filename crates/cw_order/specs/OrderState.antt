@@ -1,5 +1,5 @@
 -- The states of the machine of orders.
-use Rattle.std.specs.Prelude.{ℕ, zero, suc, ◌+◌, ◌-◌, ◌%◌, List, [], ◌∷◌, Bool, Option, Some, None}
+use Rattle.std.specs.Prelude.{ℕ, zero, suc, ◌+◌, ◌-◌, List, [], ◌∷◌, Bool, Option, Some, None, nat_lt, if◌then◌else◌}
 use Rattle.cw_unit.specs.Stop.{End}
 use Rattle.cw_unit.specs.Words.{Control, Operand, Word, Held, Words}
 use Rattle.cw_order.specs.OrderProgram.{OrderProgram}

@@ -152,6 +152,15 @@ module _ (finds : Finds) {code : List ℕ} {at : ℕ} {v : View} {f : Flags} {p 
       (once_set _ _ r _ _ s.sees.registers (ap (λ a. (a + sign_extended b + 0) % 65536) (one r) ∙ plain_sum (register v r) (sign_extended b)))
       (past_it _ at 3 s.sees.place) (ap (λ a. sum_flags 32768 a (sign_extended b) false) (one r)) refl refl
 
+  -- of AX and a number
+  pub difference_number : (w : ℕ) → Has code at (i86.AluAcc 5 (imm.Word w))
+      → At code (at + 3) (with_register 0 (word_difference (register v 0) w) v) (difference_flags 32768 (register v 0) w false) (processor_step p)
+  unfolding operated with_operand with_sized_register alu_value alu_flags operand sized_register
+  difference_number w h =
+      arrives finds {w = with_register 0 (word_difference (register v 0) w) v} (i86.AluAcc 5 (imm.Word w)) (omega arith) (omega arith) h s refl (held s) refl
+      (once_set _ _ 0 _ _ s.sees.registers (ap (λ a. (a + 65536 - (w + 0)) % 65536) (one 0) ∙ plain_difference (register v 0) w))
+      (past_it _ at 3 s.sees.place) (ap (λ a. difference_flags 32768 a w false) (one 0)) refl refl
+
   -- of AX with a word
   pub comparison_number : (w : ℕ) → Has code at (i86.AluAcc 7 (imm.Word w)) → At code (at + 3) v (difference_flags 32768 (register v 0) w false) (processor_step p)
   unfolding operated alu_flags operand sized_register

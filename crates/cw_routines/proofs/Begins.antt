@@ -12,7 +12,7 @@ use Rattle.cw_i86.specs.declared.instr.Instr.TheVariants as i86
 use Rattle.cw_i86.specs.declared.flags.Flags.{Flags}
 use Rattle.cw_i86.specs.declared.instr.Place.TheVariants as places
 use Rattle.cw_run86.specs.Processor.{Processor, Told, processor_step}
-use Rattle.cw_run86.specs.Views.{View, Has, Goes, register, on, with_register, put_word, word_sum, word_difference}
+use Rattle.cw_run86.specs.Views.{View, Has, Goes, register, on, with_register, put_word, word_difference}
 use Rattle.cw_run86.proofs.Tests.{Finds}
 use Rattle.cw_run86.proofs.Memory.{holds}
 use Rattle.cw_run86.proofs.Goes.{goes, sees}
@@ -22,24 +22,24 @@ use Rattle.cw_routines.specs.Results.{Stands, Tells, RecordIs, Started, Entered,
 use Rattle.cw_routines.proofs.Arrive.{jumps_if, passes_if}
 use Rattle.cw_routines.proofs.Sources.{Register, Slot, InCode}
 use Rattle.cw_routines.proofs.Acts as acts
-use Rattle.cw_routines.proofs.Chains.{Number, HighByte, Load, Sum, Difference, Either, Comparison, LessOne, SumShort, TestLow, Push, PushFrom, Pop, done, more, last, within, each_of, straight, both}
-use Rattle.cw_routines.proofs.Facts.{put_at, put_off, tested_zero, tested_not_zero, carry}
+use Rattle.cw_routines.proofs.Chains.{Number, HighByte, Load, Difference, Either, DifferenceNumber, DoubleWord, SumShort, TestLow, Push, PushFrom, Pop, done, more, last, within, each_of, straight, both}
+use Rattle.cw_routines.proofs.Facts.{put_at, put_off, tested_not_zero, carry}
 use Rattle.cw_routines.proofs.Places.{to_place, start_stands, depth_stands, frames_stands, enter_stands, read_stands}
 use Rattle.cw_routines.proofs.Stops.{told_stops, run}
 
 -- the record tells the segment
-pub tells_of : {stack : ℕ → ℕ} {bp r segment calls base top : ℕ} → RecordIs stack bp r segment calls base top → Tells stack bp (r + 3) segment
+pub tells_of : {stack : ℕ → ℕ} {bp r segment calls base rest : ℕ} → RecordIs stack bp r segment calls base rest → Tells stack bp (r + 3) segment
 tells_of {bp = bp} {r = r} i =
     let there = i.there in
     let low = i.low in
     record { there = (let e : (bp + 65534) % 65536 ≡ 2 * (r + 3) = omega arith in e); low = (let e : r + 3 < 32768 = omega arith in e); number = i.number; few = i.few }
 
 -- the slots of a record
-calls_there : {stack : ℕ → ℕ} {bp r segment calls base top : ℕ} → RecordIs stack bp r segment calls base top → (r + 2 < 32768) × ((bp + 65532) % 65536 ≡ 2 * (r + 2))
+calls_there : {stack : ℕ → ℕ} {bp r segment calls base rest : ℕ} → RecordIs stack bp r segment calls base rest → (r + 2 < 32768) × ((bp + 65532) % 65536 ≡ 2 * (r + 2))
 calls_there i = let there = i.there in let low = i.low in (omega arith, omega arith)
 
-top_there : {stack : ℕ → ℕ} {bp r segment calls base top : ℕ} → RecordIs stack bp r segment calls base top → (r < 32768) × ((bp + 65528) % 65536 ≡ 2 * r)
-top_there i = let there = i.there in let low = i.low in (omega arith, omega arith)
+rest_there : {stack : ℕ → ℕ} {bp r segment calls base rest : ℕ} → RecordIs stack bp r segment calls base rest → (r < 32768) × ((bp + 65528) % 65536 ≡ 2 * r)
+rest_there i = let there = i.there in let low = i.low in (omega arith, omega arith)
 
 -- four words on the stack
 abbrev pub four : (ℕ → ℕ) → (n a b c d : ℕ) → ℕ → ℕ
@@ -70,16 +70,16 @@ four_above stack n a b c d k lt =
     ∙ put_off (put_word stack (n + 3) a) (n + 2) b k (λ e. omega arith) ∙ put_off stack (n + 3) a k (λ e. omega arith)
 
 -- a new record on top
-new_record : (stack : ℕ → ℕ) (n segment calls base top : ℕ) → n < 32765 → segment < 256
-    → RecordIs (four stack n segment calls base top) (2 * (n + 4) % 65536) n segment calls base top
-new_record stack n segment calls base top low few = record {
+new_record : (stack : ℕ → ℕ) (n segment calls base rest : ℕ) → n < 32765 → segment < 256
+    → RecordIs (four stack n segment calls base rest) (2 * (n + 4) % 65536) n segment calls base rest
+new_record stack n segment calls base rest low few = record {
   there = refl;
   low = low;
-  number = four_3 stack n segment calls base top;
+  number = four_3 stack n segment calls base rest;
   few = few;
-  left = four_2 stack n segment calls base top;
-  base_is = four_1 stack n segment calls base top;
-  top_is = four_0 stack n segment calls base top;
+  left = four_2 stack n segment calls base rest;
+  base_is = four_1 stack n segment calls base rest;
+  rest_is = four_0 stack n segment calls base rest;
 }
 
 none_left : (n : ℕ) → nat_lt 0 n ≡ false → n ≡ 0
@@ -107,8 +107,8 @@ tested_none : (w : ℕ) (f : Flags) → w % 256 ≡ 0 → meets (logic_flags 128
 unfolding meets
 tested_none w f e = ap (λ n. not (bit_and n n == 0)) e
 
-module _ (finds : Finds) (Quiet : ℕ → Type 0) (code : List ℕ) (stands : Stands code) (library : (k : ℕ) → k < 334 → Quiet k) where
-  quiet : {at : ℕ} (to : ℕ) → to ≤ 334 → (k : ℕ) → at ≤ k → k < to → Quiet k
+module _ (finds : Finds) (Quiet : ℕ → Type 0) (code : List ℕ) (stands : Stands code) (library : (k : ℕ) → k < 338 → Quiet k) where
+  quiet : {at : ℕ} (to : ℕ) → to ≤ 338 → (k : ℕ) → at ≤ k → k < to → Quiet k
   quiet {at} to le = run finds Quiet code stands library {at = at} to le
 
   -- ---- the start of a body
@@ -119,7 +119,7 @@ module _ (finds : Finds) (Quiet : ℕ → Type 0) (code : List ℕ) (stands : St
   pub starts : (at n area frames calls segment : ℕ) {ax cx dx bx bp si di : ℕ} {f : Flags} {cells stack : ℕ → ℕ} {input : List ℕ} {told : Told} {p : Processor} → n < 32768
       → stack n ≡ at → frames ≤ area → area ≤ 32768 → segment < 256
       → HasWord code at area → HasWord code (at + 2) frames → HasWord code (at + 4) calls → HasWord code (at + 6) segment
-      → At code 5 (view ax cx dx bx (2 * n) bp si di cells stack input told) f p → Leads Quiet code told.output 12 p (Started code at area frames calls segment cells input told)
+      → At code 5 (view ax cx dx bx (2 * n) bp si di cells stack input told) f p → Leads Quiet code told.output 10 p (Started code at area frames calls segment cells input told)
   starts at n area frames calls segment {ax} {cx} {dx} {bx} {bp} {si} {di} {f} {cells} {stack} {input} {told} {p} lt is le low few d w2 w4 w6 s =
       let h = start_stands code stands in
       let fits = s.sees.fits in
@@ -131,27 +131,11 @@ module _ (finds : Finds) (Quiet : ℕ → Type 0) (code : List ℕ) (stands : St
       let e2 = word_within at 2 in2 fits in
       let e4 = word_within at 4 in4 fits in
       let e6 = word_within at 6 in6 fits in
-      let half : word_difference area frames ≡ area - frames = omega arith in
-      let d0 = word_difference area frames in
       straight Quiet code told.output finds
       (Pop 6 n at (2 * suc n % 65536) ∷ Number 5 0 ∷ Load 4 (Register 5) ∷ Load 7 (InCode (places.Plain 4) at area)
       ∷ PushFrom (InCode (places.Near 4 6) (at + 6) segment) 32767 ∷ PushFrom (InCode (places.Near 4 4) (at + 4) calls) 32766
-      ∷ Load 0 (Register 7) ∷ Difference 0 (InCode (places.Near 4 2) (at + 2) frames) ∷ Push 0 32765 ∷ Push 0 32764 ∷ SumShort 6 8 ∷ []) {n = 1} (quiet 33 (lit≤ tt)) refl (
-        h.0,
-        (
-          h.1.0,
-          (
-            h.1.1.0,
-            (
-              h.1.1.1.0,
-              (
-                h.1.1.1.1.0,
-                (h.1.1.1.1.1.0, (h.1.1.1.1.1.1.0, (h.1.1.1.1.1.1.1.0, (h.1.1.1.1.1.1.1.1.0, (h.1.1.1.1.1.1.1.1.1.0, (h.1.1.1.1.1.1.1.1.1.1.0, tt)))))),
-              ),
-            ),
-          ),
-        ),
-      ) (
+      ∷ PushFrom (InCode (places.Near 4 2) (at + 2) frames) 32765 ∷ PushFrom (InCode (places.Near 4 2) (at + 2) frames) 32764 ∷ SumShort 6 8 ∷ []) {n = 1} (quiet 33 (lit≤ tt)) refl
+      (h.0, (h.1.0, (h.1.1.0, (h.1.1.1.0, (h.1.1.1.1.0, (h.1.1.1.1.1.0, (h.1.1.1.1.1.1.0, (h.1.1.1.1.1.1.1.0, (h.1.1.1.1.1.1.1.1.0, tt))))))))) (
         (lit< tt, lit≤ tt),
         (lt, top, is, refl),
         (
@@ -171,12 +155,8 @@ module _ (finds : Finds) (Quiet : ℕ → Type 0) (code : List ℕ) (stands : St
                   ((e4, w4), lit< tt, refl),
                   (
                     (lit< tt, lit≤ tt),
-                    tt,
-                    (
-                      (lit< tt, lit≤ tt),
-                      (e2, w2),
-                      ((lit< tt, lit≤ tt), (lit< tt, refl), ((lit< tt, lit≤ tt), (lit< tt, refl), ((lit< tt, lit≤ tt), tt, tt))),
-                    ),
+                    ((e2, w2), lit< tt, refl),
+                    ((lit< tt, lit≤ tt), ((e2, w2), lit< tt, refl), ((lit< tt, lit≤ tt), tt, tt)),
                   ),
                 ),
               ),
@@ -185,77 +165,77 @@ module _ (finds : Finds) (Quiet : ℕ → Type 0) (code : List ℕ) (stands : St
         ),
       ) s (λ q u.
       last Quiet code told.output finds u (library 33 (lit< tt)) refl (record {
-        ax = d0;
+        ax = ax;
         cx = cx;
         dx = dx;
         bx = bx;
         si = (at + 8) % 65536;
         flags = _;
-        stack = four stack 32764 segment calls d0 d0;
-        is = acts.jump_to finds u 6 (at + 8) h.1.1.1.1.1.1.1.1.1.1.1.0 refl;
-        record_is = subst (λ x. RecordIs (four stack 32764 segment calls d0 d0) 0 32764 segment calls x x) half (new_record stack 32764 segment calls d0 d0 (lit< tt) few);
+        stack = four stack 32764 segment calls frames frames;
+        is = acts.jump_to finds u 6 (at + 8) h.1.1.1.1.1.1.1.1.1.0 refl;
+        record_is = new_record stack 32764 segment calls frames frames (lit< tt) few;
       }))
 
   -- ---- the begin of an activation
 
-  pub enters : (m back line r segment calls base top number size : ℕ) {bx bp si area : ℕ} {f : Flags} {cells stack : ℕ → ℕ} {input : List ℕ} {told : Told} {p : Processor}
-      → m + 4 < 32767 → stack (m + 4) ≡ back → back < 65536 → line < 65536
-      → calls < 65536 → number < 256 → size < 65536 → top ≤ area → area ≤ 32768 → RecordIs stack bp r segment calls base top
-      → At code 91 (view size number line bx (2 * (m + 4)) bp si area cells stack input told) f p
-      → Within Quiet code told.output 19 p (Begins code told.output (nat_lt 0 calls) (nat_le size (area - top)) line segment
-      (Entered code back m bp number (calls - 1) top (top + size) area cells stack input told))
-  enters m back line r segment calls base top number size {bx} {bp} {si} {area} {f} {cells} {stack} {input} {told} {p} low there back_small small few byte size_small top_low area_low i s = cases (nat_lt 0 calls) refl
+  pub enters : (m at line r segment calls base rest number size : ℕ) {ax cx bx bp si area : ℕ} {f : Flags} {cells stack : ℕ → ℕ} {input : List ℕ} {told : Told} {p : Processor}
+      → m + 4 < 32767 → stack (m + 4) ≡ at → HasWord code at size → HasWord code (at + 2) number → line < 65536
+      → calls < 65536 → number < 256 → size < 65536 → rest ≤ area → area ≤ 32768 → RecordIs stack bp r segment calls base rest
+      → At code 91 (view ax cx line bx (2 * (m + 4)) bp si area cells stack input told) f p
+      → Within Quiet code told.output 18 p (Begins code told.output (nat_lt 0 calls) (nat_le size rest) line segment
+      (Entered code (at + 4) m bp number (calls - 1) (2 * (area - rest) % 65536) (rest - size) area cells stack input told))
+  enters m at line r segment calls base rest number size {ax} {cx} {bx} {bp} {si} {area} {f} {cells} {stack} {input} {told} {p} low there words names small few byte size_small rest_low area_low i s = cases (nat_lt 0 calls) refl
     where
-      -- the calls that are left are tested
+      -- one of the calls that are left is taken
       first : Leads Quiet code told.output 3 p
-          (λ q. At code 97 (view size number line (bit_or calls calls) (2 * suc (m + 4)) bp back area cells stack input told) (logic_flags 32768 (bit_or calls calls) f) q)
+          (λ q. At code 98 (view (word_difference calls 1) cx line bx (2 * suc (m + 4)) bp at area cells stack input told) (difference_flags 32768 calls 1 false) q)
       first =
           let h = enter_stands code stands in
           let c = calls_there i in
           let lt : m + 4 < 32768 = omega arith in
           let top : 2 * (m + 4) ≡ 2 * (m + 4) % 65536 = omega arith in
           let up : 2 * suc (m + 4) % 65536 ≡ 2 * suc (m + 4) = omega arith in
-          straight Quiet code told.output finds (Pop 6 (m + 4) back (2 * suc (m + 4)) ∷ Load 3 (Slot (places.Near 6 0xFC) (r + 2) calls) ∷ Either 3 (Register 3) ∷ []) {n = 0}
-          (quiet 97 (lit≤ tt)) refl (h.0, (h.1.0, (h.1.1.0, tt)))
+          straight Quiet code told.output finds (Pop 6 (m + 4) at (2 * suc (m + 4)) ∷ Load 0 (Slot (places.Near 6 0xFC) (r + 2) calls) ∷ DifferenceNumber 1 ∷ []) {n = 0}
+          (quiet 98 (lit≤ tt)) refl (h.0, (h.1.0, (h.1.1.0, tt)))
           ((lit< tt, lit≤ tt), (lt, top, there, up), ((lit< tt, lit≤ tt), (refl, c.0, c.1, i.left), ((lit< tt, lit≤ tt), tt, tt))) s (λ q u. done Quiet code told.output u)
 
-      -- where one is, the words of the frame are compared with those that are left
-      compared : 0 < calls
-          → Leads Quiet code told.output 7 p (λ q. At code 106 (view size number line (word_difference area top) (2 * suc (m + 4)) bp back area cells stack input told)
-          (difference_flags 32768 (word_difference area top) size false) q)
-      compared some =
+      -- where there was one, the words of the frame are taken from those that are left
+      taken : 0 < calls
+          → Leads Quiet code told.output 6 p (λ q. At code 106 (view (word_difference calls 1) (word_difference rest size) line bx (2 * suc (m + 4)) bp at area cells stack input told)
+          (difference_flags 32768 rest size false) q)
+      taken some =
           let h = enter_stands code stands in
-          let b = top_there i in
-          let not_none : (calls == 0) ≡ false = ne_eqb calls 0 (λ e. omega arith) in
-          both Quiet code told.output 3 4 first (λ q u.
-          more Quiet code told.output finds u (library 97 (lit< tt)) refl (passes_if finds 4 0xF0 h.1.1.1.0 (tested_zero calls f ∙ not_none) u) (λ q u.
-          straight Quiet code told.output finds (Load 3 (Register 7) ∷ Difference 3 (Slot (places.Near 6 0xF8) r top) ∷ Comparison 3 (Register 0) ∷ []) {n = 0}
-          (quiet 106 (lit≤ tt)) refl (h.1.1.1.1.0, (h.1.1.1.1.1.0, (h.1.1.1.1.1.1.0, tt)))
-          ((lit< tt, lit≤ tt), tt, ((lit< tt, lit≤ tt), (refl, b.0, b.1, i.top_is), ((lit< tt, lit≤ tt), tt, tt))) u (λ q u. done Quiet code told.output u)))
+          let b = rest_there i in
+          both Quiet code told.output 3 3 first (λ q u.
+          more Quiet code told.output finds u (library 98 (lit< tt)) refl (passes_if finds 2 0xEF h.1.1.1.0 (carry calls 1 ∙ le-ltb calls 1 some) u) (λ q u.
+          straight Quiet code told.output finds (Load 1 (Slot (places.Near 6 0xF8) r rest) ∷ Difference 1 (InCode (places.Plain 4) at size) ∷ []) {n = 0}
+          (quiet 106 (lit≤ tt)) refl (h.1.1.1.1.0, (h.1.1.1.1.1.0, tt))
+          ((lit< tt, lit≤ tt), (refl, b.0, b.1, i.rest_is), ((lit< tt, lit≤ tt), (refl, words), tt)) u (λ q u. done Quiet code told.output u)))
 
-      half : word_difference area top ≡ area - top
-      half = omega arith
-
-      by_frame : (b : Bool) → nat_le size (area - top) ≡ b → 0 < calls
-          → Within Quiet code told.output 19 p (Begins code told.output true b line segment
-          (Entered code back m bp number (calls - 1) top (top + size) area cells stack input told))
+      by_frame : (b : Bool) → nat_le size rest ≡ b → 0 < calls
+          → Within Quiet code told.output 18 p (Begins code told.output true b line segment
+          (Entered code (at + 4) m bp number (calls - 1) (2 * (area - rest) % 65536) (rest - size) area cells stack input told))
       by_frame false is some =
           let h = enter_stands code stands in
-          let gt : word_difference area top < size = subst (λ n. n < size) (sym half) (not_within size (area - top) is) in
-          within Quiet code told.output 18 19 (lit≤ tt)
-          (both Quiet code told.output 7 11 (compared some) (λ q u.
+          within Quiet code told.output 17 18 (lit≤ tt)
+          (both Quiet code told.output 6 11 (taken some) (λ q u.
           more Quiet code told.output finds u (library 106 (lit< tt)) refl
-          (to_place {to = 87} refl (jumps_if finds 2 0xEB h.1.1.1.1.1.1.1.0 (carry (word_difference area top) size ∙ lt-ltb (word_difference area top) size gt) u)) (λ q u.
+          (to_place {to = 87} refl (jumps_if finds 2 0xEB h.1.1.1.1.1.1.0 (carry rest size ∙ lt-ltb rest size (not_within size rest is)) u)) (λ q u.
           told_stops finds Quiet code stands library FramesFull 87 0xDC (r + 3) segment (frames_stands code stands) (lit≤ tt) refl (tells_of i) small u)))
       by_frame true is some =
           let h = enter_stands code stands in
-          let g = h.1.1.1.1.1.1.1.1 in
-          let le : size ≤ area - top = leb-true size (area - top) is in
-          let under : size ≤ word_difference area top = subst (λ n. size ≤ n) (sym half) le in
-          let c = calls_there i in
-          let b = top_there i in
-          let one : word_difference calls 1 ≡ calls - 1 = omega arith in
-          let sum : word_sum size top ≡ top + size = omega arith in
+          let g = h.1.1.1.1.1.1.1 in
+          let le : size ≤ rest = leb-true size rest is in
+          let b = rest_there i in
+          let fits = s.sees.fits in
+          let in2 = names.within in
+          let e2 = word_within at 2 in2 fits in
+          let left = word_difference calls 1 in
+          let behind = word_difference rest size in
+          let from = 2 * word_difference area rest % 65536 in
+          let left_is : left ≡ calls - 1 = omega arith in
+          let behind_is : behind ≡ rest - size = omega arith in
+          let from_is : from ≡ 2 * (area - rest) % 65536 = omega arith in
           let n4 : m + 4 < 32768 = omega arith in
           let n3 : m + 3 < 32768 = omega arith in
           let n2 : m + 2 < 32768 = omega arith in
@@ -268,77 +248,76 @@ module _ (finds : Finds) (Quiet : ℕ → Type 0) (code : List ℕ) (stands : St
           let t0 : 2 * (m + 1) ≡ 2 * suc m % 65536 = omega arith in
           let low' : m < 32765 = omega arith in
           let bp_is : 2 * (m + 4) % 65536 ≡ 2 * (m + 4) = omega arith in
-          let whole : back ≡ back % 65536 = omega arith in
-          let st = four (put_word stack (m + 4) bp) m number (word_difference calls 1) top (word_sum size top) in
-          let e0 = new_record (put_word stack (m + 4) bp) m number (word_difference calls 1) top (word_sum size top) low' byte in
-          let e1 : RecordIs st (2 * (m + 4)) m number (word_difference calls 1) top
-          (word_sum size top) = subst (λ x. RecordIs st x m number (word_difference calls 1) top (word_sum size top)) bp_is e0 in
-          let e2 : RecordIs st (2 * (m + 4)) m number (calls - 1) top (word_sum size top) = subst (λ x. RecordIs st (2 * (m + 4)) m number x top (word_sum size top)) one e1 in
-          let e3 : RecordIs st (2 * (m + 4)) m number (calls - 1) top (top + size) = subst (λ x. RecordIs st (2 * (m + 4)) m number (calls - 1) top x) sum e2 in
-          within Quiet code told.output 19 19 (lit≤ tt)
-          (both Quiet code told.output 7 12 (compared some) (λ q u.
+          let st = four (put_word stack (m + 4) bp) m number left from behind in
+          let e0 = new_record (put_word stack (m + 4) bp) m number left from behind low' byte in
+          let e1 : RecordIs st (2 * (m + 4)) m number left from behind = subst (λ x. RecordIs st x m number left from behind) bp_is e0 in
+          let e2' : RecordIs st (2 * (m + 4)) m number (calls - 1) from behind = subst (λ x. RecordIs st (2 * (m + 4)) m number x from behind) left_is e1 in
+          let e3 : RecordIs st (2 * (m + 4)) m number (calls - 1) from (rest - size) = subst (λ x. RecordIs st (2 * (m + 4)) m number (calls - 1) from x) behind_is e2' in
+          within Quiet code told.output 18 18 (lit≤ tt)
+          (both Quiet code told.output 6 12 (taken some) (λ q u.
           more Quiet code told.output finds u (library 106 (lit< tt)) refl
-          (passes_if finds 2 0xEB h.1.1.1.1.1.1.1.0 (carry (word_difference area top) size ∙ le-ltb (word_difference area top) size under) u) (λ q u.
+          (passes_if finds 2 0xEB h.1.1.1.1.1.1.0 (carry rest size ∙ le-ltb rest size le) u) (λ q u.
           straight Quiet code told.output finds
-          (Load 3 (Slot (places.Near 6 0xF8) r top) ∷ Sum 0 (Register 3) ∷ Load 2 (Slot (places.Near 6 0xFC) (r + 2) calls) ∷ LessOne 2
-          ∷ Push 5 (m + 4) ∷ Load 5 (Register 4) ∷ Push 1 (m + 3) ∷ Push 2 (m + 2) ∷ Push 3 (m + 1) ∷ Push 0 m ∷ []) {n = 1} (quiet 124 (lit≤ tt)) refl
+          (Load 3 (Register 7) ∷ Difference 3 (Slot (places.Near 6 0xF8) r rest) ∷ DoubleWord 3
+          ∷ Push 5 (m + 4) ∷ Load 5 (Register 4) ∷ PushFrom (InCode (places.Near 4 2) (at + 2) number) (m + 3) ∷ Push 0 (m + 2) ∷ Push 3 (m + 1) ∷ Push 1 m ∷ SumShort 6 4 ∷ []) {n = 1}
+          (quiet 128 (lit≤ tt)) refl
           (g.0, (g.1.0, (g.1.1.0, (g.1.1.1.0, (g.1.1.1.1.0, (g.1.1.1.1.1.0, (g.1.1.1.1.1.1.0, (g.1.1.1.1.1.1.1.0, (g.1.1.1.1.1.1.1.1.0, (g.1.1.1.1.1.1.1.1.1.0, tt)))))))))) (
             (lit< tt, lit≤ tt),
-            (refl, b.0, b.1, i.top_is),
+            tt,
             (
               (lit< tt, lit≤ tt),
-              tt,
+              (refl, b.0, b.1, i.rest_is),
               (
                 (lit< tt, lit≤ tt),
-                (refl, c.0, c.1, i.left),
+                tt,
                 (
                   (lit< tt, lit≤ tt),
-                  tt,
+                  (n4, t4),
                   (
                     (lit< tt, lit≤ tt),
-                    (n4, t4),
+                    tt,
                     (
                       (lit< tt, lit≤ tt),
-                      tt,
-                      ((lit< tt, lit≤ tt), (n3, t3), ((lit< tt, lit≤ tt), (n2, t2), ((lit< tt, lit≤ tt), (n1, t1), ((lit< tt, lit≤ tt), (n0, t0), tt)))),
+                      ((e2, names), n3, t3),
+                      ((lit< tt, lit≤ tt), (n2, t2), ((lit< tt, lit≤ tt), (n1, t1), ((lit< tt, lit≤ tt), (n0, t0), ((lit< tt, lit≤ tt), tt, tt)))),
                     ),
                   ),
                 ),
               ),
             ),
           ) u (λ q u.
-          last Quiet code told.output finds u (library 124 (lit< tt)) refl (record {
-            ax = word_sum size top;
-            cx = number;
-            dx = word_difference calls 1;
-            bx = top;
-            si = back;
+          last Quiet code told.output finds u (library 128 (lit< tt)) refl (record {
+            ax = left;
+            cx = behind;
+            dx = line;
+            bx = from;
+            si = (at + 4) % 65536;
             flags = _;
             stack = st;
-            is = acts.jump_to finds u 6 back g.1.1.1.1.1.1.1.1.1.1.0 whole;
-            record_is = e3;
-            caller = four_above (put_word stack (m + 4) bp) m number (word_difference calls 1) top (word_sum size top) (m + 4) (omega arith) ∙ put_at stack (m + 4) bp;
-            above = λ k lt. four_above (put_word stack (m + 4) bp) m number (word_difference calls 1) top (word_sum size top) k (omega arith)
+            is = acts.jump_to finds u 6 (at + 4) g.1.1.1.1.1.1.1.1.1.1.0 refl;
+            record_is = subst (λ x. RecordIs st (2 * (m + 4)) m number (calls - 1) x (rest - size)) from_is e3;
+            caller = four_above (put_word stack (m + 4) bp) m number left from behind (m + 4) (omega arith) ∙ put_at stack (m + 4) bp;
+            above = λ k lt. four_above (put_word stack (m + 4) bp) m number left from behind k (omega arith)
                 ∙ put_off stack (m + 4) bp k (λ e. omega arith);
           })))))
 
       cases : (b : Bool) → nat_lt 0 calls ≡ b
-          → Within Quiet code told.output 19 p (Begins code told.output b (nat_le size (area - top)) line segment
-          (Entered code back m bp number (calls - 1) top (top + size) area cells stack input told))
-      cases true is = by_frame (nat_le size (area - top)) refl (ltb-true 0 calls is)
+          → Within Quiet code told.output 18 p (Begins code told.output b (nat_le size rest) line segment
+          (Entered code (at + 4) m bp number (calls - 1) (2 * (area - rest) % 65536) (rest - size) area cells stack input told))
+      cases true is = by_frame (nat_le size rest) refl (ltb-true 0 calls is)
       cases false is =
           let h = enter_stands code stands in
-          let none : (calls == 0) ≡ true = ap (λ n. n == 0) (none_left calls is) in
-          within Quiet code told.output 14 19 (lit≤ tt)
+          let none : calls < 1 = let z = none_left calls is in omega arith in
+          within Quiet code told.output 14 18 (lit≤ tt)
           (both Quiet code told.output 3 11 first (λ q u.
-          more Quiet code told.output finds u (library 97 (lit< tt)) refl (to_place {to = 83} refl (jumps_if finds 4 0xF0 h.1.1.1.0 (tested_zero calls f ∙ none) u)) (λ q u.
+          more Quiet code told.output finds u (library 98 (lit< tt)) refl (to_place {to = 83} refl (jumps_if finds 2 0xEF h.1.1.1.0 (carry calls 1 ∙ lt-ltb calls 1 none) u)) (λ q u.
           told_stops finds Quiet code stands library DepthReached 83 0xE0 (r + 3) segment (depth_stands code stands) (lit≤ tt) refl (tells_of i) small u)))
 
   -- ---- input
 
   pub reads_byte : (n back : ℕ) (rest_input : List ℕ) {ax cx dx bx bp si area : ℕ} {f : Flags} {cells stack : ℕ → ℕ} {told : Told} {p : Processor} → slice_index rest_input 0 < 256
       → n < 32767 → stack n ≡ back → back < 65536
-      → At code 126 (view ax cx dx bx (2 * n) bp si area cells stack rest_input told) f p
+      → At code 130 (view ax cx dx bx (2 * n) bp si area cells stack rest_input told) f p
       → Within Quiet code told.output 6 p (Back code back (2 * suc n) bp area cells stack (drop 1 rest_input) told (λ ax f. ax ≡ next_word rest_input))
   reads_byte n back [] {ax} {cx} {dx} {bx} {bp} {si} {area} {f} {cells} {stack} {told} {p} byte low there small s =
       let h = read_stands code stands in
@@ -347,11 +326,11 @@ module _ (finds : Finds) (Quiet : ℕ → Type 0) (code : List ℕ) (stands : St
       let up : 2 * suc n % 65536 ≡ 2 * suc n = omega arith in
       let lt : n < 32768 = omega arith in
       within Quiet code told.output 5 6 (lit≤ tt)
-      (more Quiet code told.output finds s (library 126 (lit< tt)) refl (acts.take finds s 0x11 h.0) (λ q u.
-      straight Quiet code told.output finds (TestLow ∷ []) {n = 3} (quiet 130 (lit≤ tt)) refl (h.1.0, tt) ((lit< tt, lit≤ tt), tt, tt) u (λ q u.
-      more Quiet code told.output finds u (library 130 (lit< tt)) refl (jumps_if finds 5 5 h.1.1.0 (tested_some (ax / 256 * 256 + 1) f (one_low ax)) u) (λ q u.
-      straight Quiet code told.output finds (Number 0 65535 ∷ []) {n = 1} (quiet 140 (lit≤ tt)) refl (h.1.1.1.1.1.1.0, tt) ((lit< tt, lit≤ tt), tt, tt) u (λ q u.
-      last Quiet code told.output finds u (library 140 (lit< tt)) refl
+      (more Quiet code told.output finds s (library 130 (lit< tt)) refl (acts.take finds s 0x11 h.0) (λ q u.
+      straight Quiet code told.output finds (TestLow ∷ []) {n = 3} (quiet 134 (lit≤ tt)) refl (h.1.0, tt) ((lit< tt, lit≤ tt), tt, tt) u (λ q u.
+      more Quiet code told.output finds u (library 134 (lit< tt)) refl (jumps_if finds 5 5 h.1.1.0 (tested_some (ax / 256 * 256 + 1) f (one_low ax)) u) (λ q u.
+      straight Quiet code told.output finds (Number 0 65535 ∷ []) {n = 1} (quiet 144 (lit≤ tt)) refl (h.1.1.1.1.1.1.0, tt) ((lit< tt, lit≤ tt), tt, tt) u (λ q u.
+      last Quiet code told.output finds u (library 144 (lit< tt)) refl
       (record { ax = 65535; cx = cx; dx = dx; bx = bx; si = si; flags = _; is = acts.return finds u n (2 * suc n) back h.1.1.1.1.1.1.1.0 lt top up (there ∙ whole); answers = refl }))))))
   reads_byte n back (b ∷ rest) {ax} {cx} {dx} {bx} {bp} {si} {area} {f} {cells} {stack} {told} {p} byte low there small s =
       let h = read_stands code stands in
@@ -361,14 +340,14 @@ module _ (finds : Finds) (Quiet : ℕ → Type 0) (code : List ℕ) (stands : St
       let lt : n < 32768 = omega arith in
       let some : (length (b ∷ rest) == 0) ≡ false = ne_eqb (length (b ∷ rest)) 0 (λ e. omega arith) in
       within Quiet code told.output 6 6 (lit≤ tt)
-      (more Quiet code told.output finds s (library 126 (lit< tt)) refl
-      (subst (λ t. At code 128 (view (ax / 256 * 256 + (if t then 1 else 0)) cx dx bx (2 * n) bp si area cells stack (b ∷ rest) told) f (processor_step p)) some
+      (more Quiet code told.output finds s (library 130 (lit< tt)) refl
+      (subst (λ t. At code 132 (view (ax / 256 * 256 + (if t then 1 else 0)) cx dx bx (2 * n) bp si area cells stack (b ∷ rest) told) f (processor_step p)) some
       (acts.take finds s 0x11 h.0)) (λ q u.
-      straight Quiet code told.output finds (TestLow ∷ []) {n = 4} (quiet 130 (lit≤ tt)) refl (h.1.0, tt) ((lit< tt, lit≤ tt), tt, tt) u (λ q u.
-      more Quiet code told.output finds u (library 130 (lit< tt)) refl (passes_if finds 5 5 h.1.1.0 (tested_none (ax / 256 * 256 + 0) f (none_low ax)) u) (λ q u.
-      more Quiet code told.output finds u (library 132 (lit< tt)) refl (acts.take finds u 0x10 h.1.1.1.0) (λ q u.
-      straight Quiet code told.output finds (HighByte 0 ∷ []) {n = 1} (quiet 136 (lit≤ tt)) refl (h.1.1.1.1.0, tt) ((lit< tt, lit≤ tt), tt, tt) u (λ q u.
-      last Quiet code told.output finds u (library 136 (lit< tt)) refl
+      straight Quiet code told.output finds (TestLow ∷ []) {n = 4} (quiet 134 (lit≤ tt)) refl (h.1.0, tt) ((lit< tt, lit≤ tt), tt, tt) u (λ q u.
+      more Quiet code told.output finds u (library 134 (lit< tt)) refl (passes_if finds 5 5 h.1.1.0 (tested_none (ax / 256 * 256 + 0) f (none_low ax)) u) (λ q u.
+      more Quiet code told.output finds u (library 136 (lit< tt)) refl (acts.take finds u 0x10 h.1.1.1.0) (λ q u.
+      straight Quiet code told.output finds (HighByte 0 ∷ []) {n = 1} (quiet 140 (lit≤ tt)) refl (h.1.1.1.1.0, tt) ((lit< tt, lit≤ tt), tt, tt) u (λ q u.
+      last Quiet code told.output finds u (library 140 (lit< tt)) refl
       (record { ax = _; cx = cx; dx = dx; bx = bx; si = si; flags = _; is = acts.return finds u n (2 * suc n) back h.1.1.1.1.1.0 lt top up (there ∙ whole); answers = byte_low (ax / 256 * 256 + 0) b byte })))))))
 
 -- ---- in the code of segments

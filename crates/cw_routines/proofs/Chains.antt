@@ -37,12 +37,13 @@ pub data Act : Type 0 where
   One : (r : ℕ) → Source → Act
   Comparison : (r : ℕ) → Source → Act
   SumShort : (r b : ℕ) → Act
-  ComparisonNumber : (w : ℕ) → Act
+  DifferenceNumber ComparisonNumber : (w : ℕ) → Act
   LessOne : (r : ℕ) → Act
   Negative : (r : ℕ) → Act
   TestLow : Act
   AddLow : Act
   Double : (r : ℕ) → Act
+  DoubleWord : (r : ℕ) → Act
   Up : (r : ℕ) → Act
   Down : (r : ℕ) → Act
   DownSigned : (r : ℕ) → Act
@@ -67,12 +68,14 @@ instruction (Either r src) = i86.AluRm 1 true true r (rm_of src)
 instruction (One r src) = i86.AluRm 6 true true r (rm_of src)
 instruction (Comparison r src) = i86.AluRm 7 true true r (rm_of src)
 instruction (SumShort r b) = i86.AluShort 0 (rms.Reg r) b
+instruction (DifferenceNumber w) = i86.AluAcc 5 (imm.Word w)
 instruction (ComparisonNumber w) = i86.AluAcc 7 (imm.Word w)
 instruction (LessOne r) = i86.Dec r
 instruction (Negative r) = i86.Unary 3 true (rms.Reg r)
 instruction TestLow = i86.TestRm false 0 (rms.Reg 0)
 instruction AddLow = i86.AluRm 0 false true 0 (rms.Reg 0)
 instruction (Double r) = i86.Shift 4 true false (rms.Reg r)
+instruction (DoubleWord r) = i86.Shift 4 true false (rms.Reg r)
 instruction (Up r) = i86.Shift 4 true true (rms.Reg r)
 instruction (Down r) = i86.Shift 5 true true (rms.Reg r)
 instruction (DownSigned r) = i86.Shift 7 true true (rms.Reg r)
@@ -123,12 +126,14 @@ after (Either r src) v = with_register r (bit_or (register v r) (value_of src v)
 after (One r src) v = with_register r (bit_xor (register v r) (value_of src v)) v
 after (Comparison r src) v = v
 after (SumShort r b) v = with_register r (word_sum (register v r) (sign_extended b)) v
+after (DifferenceNumber w) v = with_register 0 (word_difference (register v 0) w) v
 after (ComparisonNumber w) v = v
 after (LessOne r) v = with_register r (word_difference (register v r) 1) v
 after (Negative r) v = with_register r (word_difference 0 (register v r)) v
 after TestLow v = v
 after AddLow v = with_register 0 (register v 0 / 256 * 256 + (register v 0 % 256 + register v 0 % 256 + 0) % 256) v
 after (Double r) v = with_register r (2 * register v r) v
+after (DoubleWord r) v = with_register r (2 * register v r % 65536) v
 after (Up r) v = with_register r (word_up (register v r) (register v 1 % 256)) v
 after (Down r) v = with_register r (word_down (register v r) (register v 1 % 256)) v
 after (DownSigned r) v = with_register r (word_down_signed (register v r) (register v 1 % 256)) v
@@ -147,12 +152,14 @@ flags_after (Either r src) v f = logic_flags 32768 (bit_or (register v r) (value
 flags_after (One r src) v f = logic_flags 32768 (bit_xor (register v r) (value_of src v)) f
 flags_after (Comparison r src) v f = difference_flags 32768 (register v r) (value_of src v) false
 flags_after (SumShort r b) v f = sum_flags 32768 (register v r) (sign_extended b) false
+flags_after (DifferenceNumber w) v f = difference_flags 32768 (register v 0) w false
 flags_after (ComparisonNumber w) v f = difference_flags 32768 (register v 0) w false
 flags_after (LessOne r) v f = keeping_carry f (difference_flags 32768 (register v r) 1 false)
 flags_after (Negative r) v f = difference_flags 32768 0 (register v r) false
 flags_after TestLow v f = logic_flags 128 (bit_and (register v 0 % 256) (register v 0 % 256)) f
 flags_after AddLow v f = sum_flags 128 (register v 0 % 256) (register v 0 % 256) false
 flags_after (Double r) v f = shift_flags Shl 32768 (register v r) 1 f
+flags_after (DoubleWord r) v f = shift_flags Shl 32768 (register v r) 1 f
 flags_after (Up r) v f = shift_flags Shl 32768 (register v r) (register v 1 % 256) f
 flags_after (Down r) v f = shift_flags Shr 32768 (register v r) (register v 1 % 256) f
 flags_after (DownSigned r) v f = shift_flags Sar 32768 (register v r) (register v 1 % 256) f
@@ -210,12 +217,14 @@ module _ (finds : Finds) where
   step (One r src) short h n s = acts.one_of finds s r src short.0 short.1 h n
   step (Comparison r src) short h n s = acts.comparison finds s r src short.0 short.1 h n
   step (SumShort r b) short h n s = acts.sum_short finds s r b h
+  step (DifferenceNumber w) short h n s = acts.difference_number finds s w h
   step (ComparisonNumber w) short h n s = acts.comparison_number finds s w h
   step (LessOne r) short h n s = acts.less_one finds s r h
   step (Negative r) short h n s = acts.negative finds s r h
   step TestLow short h n s = acts.test_low finds s h
   step AddLow short h n s = acts.add_low finds s h
   step (Double r) short h n s = acts.double finds s r h n
+  step (DoubleWord r) short h n s = acts.double_word finds s r h
   step (Up r) short h n s = acts.up finds s r h n
   step (Down r) short h n s = acts.down_by finds s r h
   step (DownSigned r) short h n s = acts.down_signed finds s r h n

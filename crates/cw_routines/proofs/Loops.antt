@@ -39,8 +39,8 @@ turned_value a lt = grind (arith, ints, nat_tests)
 turned_order : (x y : ℤ) → int_le (negsuc 0 -ℤ x) (negsuc 0 -ℤ y) ≡ not (int_lt x y)
 turned_order x y = grind (arith, ints, nat_tests)
 
-module _ (finds : Finds) (laws : WordLaws) (Quiet : ℕ → Type 0) (code : List ℕ) (stands : Stands code) (library : (k : ℕ) → k < 334 → Quiet k) where
-  quiet : {at : ℕ} (to : ℕ) → to ≤ 334 → (k : ℕ) → at ≤ k → k < to → Quiet k
+module _ (finds : Finds) (laws : WordLaws) (Quiet : ℕ → Type 0) (code : List ℕ) (stands : Stands code) (library : (k : ℕ) → k < 338 → Quiet k) where
+  quiet : {at : ℕ} (to : ℕ) → to ≤ 338 → (k : ℕ) → at ≤ k → k < to → Quiet k
   quiet {at} to le = run finds Quiet code stands library {at = at} to le
 
   module _ (area a line bp n r segment back : ℕ) (stack : ℕ → ℕ) (input : List ℕ) (told : Told) (inside_area : a < area) (line_small : line < 65536) (way : stack n ≡ back)
@@ -64,7 +64,7 @@ module _ (finds : Finds) (laws : WordLaws) (Quiet : ℕ → Type 0) (code : List
     -- ---- the control variable is set
 
     sets_at : (x : ℤ) → FitsWord x → n < 32766 → stack (suc n) ≡ unsigned x → Tells stack bp r segment → {cx bx si : ℕ} {f : Flags} {cells : ℕ → ℕ} {p : Processor} (w : Words)
-        → Holds area w.memory cells → Here 141 a cx bx (2 * n) si f cells p
+        → Holds area w.memory cells → Here 145 a cx bx (2 * n) si f cells p
         → (b : Bool) → is_below (word_at w.memory a) area ≡ b
         → Within Quiet code told.output 16 p (Ends code told.output area back (2 * suc (suc n)) bp segment line stack input told
         (through b (λ i t. Changed (with_memory t (set t.memory i x))) (word_at w.memory a) w))
@@ -78,7 +78,7 @@ module _ (finds : Finds) (laws : WordLaws) (Quiet : ℕ → Type 0) (code : List
 
         -- the address of the variable is compared
         first : Leads Quiet code told.output 5 p
-            (λ q. Here 150 a cx (unsigned (word_at w.memory a)) (2 * suc n) back (difference_flags 32768 (unsigned (word_at w.memory a)) area false) cells q)
+            (λ q. Here 154 a cx (unsigned (word_at w.memory a)) (2 * suc n) back (difference_flags 32768 (unsigned (word_at w.memory a)) area false) cells q)
         first =
             let g = set_variable_stands code stands in
             let e : a < 32768 = omega arith in
@@ -86,7 +86,7 @@ module _ (finds : Finds) (laws : WordLaws) (Quiet : ℕ → Type 0) (code : List
             let top : 2 * n ≡ 2 * n % 65536 = omega arith in
             let up : 2 * suc n % 65536 ≡ 2 * suc n = omega arith in
             straight Quiet code told.output finds (Pop 6 n back (2 * suc n) ∷ Load 3 (Register 0) ∷ Double 3 ∷ Load 3 (Cell (places.Plain 7) a (unsigned (word_at w.memory a)))
-            ∷ Comparison 3 (Register 7) ∷ []) {n = 0} (quiet 150 (lit≤ tt)) refl
+            ∷ Comparison 3 (Register 7) ∷ []) {n = 0} (quiet 154 (lit≤ tt)) refl
             (g.0, (g.1.0, (g.1.1.0, (g.1.1.1.0, (g.1.1.1.1.0, tt))))) (
               (lit< tt, lit≤ tt),
               (lt, top, way, up),
@@ -101,8 +101,8 @@ module _ (finds : Finds) (laws : WordLaws) (Quiet : ℕ → Type 0) (code : List
             let g = (set_variable_stands code stands).1.1.1.1.1 in
             within Quiet code told.output 16 16 (lit≤ tt)
             (both Quiet code told.output 5 11 first (λ q u.
-            more Quiet code told.output finds u (library 150 (lit< tt)) refl
-            (to_place {to = 71} refl (jumps_if finds 3 0xAF g.0 (not_below (unsigned (word_at w.memory a)) area (outside area (word_at w.memory a) fz is low)) u))
+            more Quiet code told.output finds u (library 154 (lit< tt)) refl
+            (to_place {to = 71} refl (jumps_if finds 3 0xAB g.0 (not_below (unsigned (word_at w.memory a)) area (outside area (word_at w.memory a) fz is low)) u))
             (λ q u. bad_address t u)))
         cases true is =
             let g = (set_variable_stands code stands).1.1.1.1.1 in
@@ -120,18 +120,18 @@ module _ (finds : Finds) (laws : WordLaws) (Quiet : ℕ → Type 0) (code : List
             let whole : back ≡ back % 65536 = omega arith in
             within Quiet code told.output 10 16 (lit≤ tt)
             (both Quiet code told.output 5 5 first (λ q u.
-            more Quiet code told.output finds u (library 150 (lit< tt)) refl (passes_if finds 3 0xAF g.0 (below (unsigned (word_at w.memory a)) area lower) u) (λ q u.
-            straight Quiet code told.output finds (Double 3 ∷ Pop 0 (suc n) (unsigned x) (2 * suc (suc n)) ∷ Store (places.Plain 7) 0 k ∷ []) {n = 1} (quiet 157 (lit≤ tt)) refl
+            more Quiet code told.output finds u (library 154 (lit< tt)) refl (passes_if finds 3 0xAB g.0 (below (unsigned (word_at w.memory a)) area lower) u) (λ q u.
+            straight Quiet code told.output finds (Double 3 ∷ Pop 0 (suc n) (unsigned x) (2 * suc (suc n)) ∷ Store (places.Plain 7) 0 k ∷ []) {n = 1} (quiet 161 (lit≤ tt)) refl
             (g.1.0, (g.1.1.0, (g.1.1.1.0, tt)))
             ((lit< tt, lit≤ tt), half, ((lit< tt, lit≤ tt), (lt, top, value, up), ((lit< tt, lit≤ tt), (refl, k_low, there), tt))) u (λ q u.
-            last Quiet code told.output finds u (library 157 (lit< tt)) refl (record {
+            last Quiet code told.output finds u (library 161 (lit< tt)) refl (record {
               cells = put_word cells k (unsigned x);
               holds_words = stored k x in_area fx h;
               back = record { ax = unsigned x; cx = cx; dx = line; bx = 2 * unsigned (word_at w.memory a); si = back; flags = _; is = acts.jump_to finds u 6 back g.1.1.1.1.0 whole; answers = tt };
             })))))
 
     pub sets : (x : ℤ) → FitsWord x → n < 32766 → stack (suc n) ≡ unsigned x → Tells stack bp r segment → {cx bx si : ℕ} {f : Flags} {cells : ℕ → ℕ} {p : Processor} (w : Words)
-        → Holds area w.memory cells → Here 141 a cx bx (2 * n) si f cells p
+        → Holds area w.memory cells → Here 145 a cx bx (2 * n) si f cells p
         → Within Quiet code told.output 16 p (Ends code told.output area back (2 * suc (suc n)) bp segment line stack input told (perform area (SetVariable a) (put x w)))
     sets x fx n_low value t w h s = sets_at x fx n_low value t w h s (is_below (word_at w.memory a) area) refl
 
@@ -139,7 +139,7 @@ module _ (finds : Finds) (laws : WordLaws) (Quiet : ℕ → Type 0) (code : List
 
     -- from the address of the variable on
     sums_at : (k : ℕ) → n < 32767 → Tells stack bp r segment → a + 1 < area → k < area → {ax cx bx si : ℕ} {f : Flags} {cells : ℕ → ℕ} {p : Processor} (w : Words)
-        → Holds area w.memory cells → bx ≡ 2 * a → si ≡ k → Here 169 ax cx bx (2 * n) si f cells p
+        → Holds area w.memory cells → bx ≡ 2 * a → si ≡ k → Here 173 ax cx bx (2 * n) si f cells p
         → Within Quiet code told.output 14 p
         (Ends code told.output area back (2 * suc n) bp segment line stack input told
         (store_sum (fits_word (word_at w.memory k +ℤ word_at w.memory (a + 1))) k (word_at w.memory k +ℤ word_at w.memory (a + 1)) w))
@@ -160,7 +160,7 @@ module _ (finds : Finds) (laws : WordLaws) (Quiet : ℕ → Type 0) (code : List
         there : 2 * si ≡ 2 * k
         there = omega arith
 
-        sums : Leads Quiet code told.output 3 p (λ q. Here 176 (word_sum (unsigned (word_at w.memory k)) (unsigned (word_at w.memory (a + 1)))) cx bx (2 * n) (2 * si)
+        sums : Leads Quiet code told.output 3 p (λ q. Here 180 (word_sum (unsigned (word_at w.memory k)) (unsigned (word_at w.memory (a + 1)))) cx bx (2 * n) (2 * si)
             (sum_flags 32768 (unsigned (word_at w.memory k)) (unsigned (word_at w.memory (a + 1))) false) cells q)
         sums =
             let g = (add_step_stands code stands).1.1.1.1.1 in
@@ -168,7 +168,7 @@ module _ (finds : Finds) (laws : WordLaws) (Quiet : ℕ → Type 0) (code : List
             let e2 : (bx + 2) % 65536 ≡ 2 * (a + 1) = omega arith in
             let half : si < 32768 = omega arith in
             straight Quiet code told.output finds (Double 6 ∷ Load 0 (Cell (places.Plain 4) k (unsigned (word_at w.memory k)))
-            ∷ Sum 0 (Cell (places.Near 7 2) (a + 1) (unsigned (word_at w.memory (a + 1)))) ∷ []) {n = 0} (quiet 176 (lit≤ tt)) refl
+            ∷ Sum 0 (Cell (places.Near 7 2) (a + 1) (unsigned (word_at w.memory (a + 1)))) ∷ []) {n = 0} (quiet 180 (lit≤ tt)) refl
             (g.0, (g.1.0, (g.1.1.0, tt)))
             ((lit< tt, lit≤ tt), half, ((lit< tt, lit≤ tt), (refl, k_low, there, h.words k lt), ((lit< tt, lit≤ tt), (refl, e1, e2, h.words (a + 1) small), tt))) s
             (λ q u. done Quiet code told.output u)
@@ -180,8 +180,8 @@ module _ (finds : Finds) (laws : WordLaws) (Quiet : ℕ → Type 0) (code : List
             let g = (add_step_stands code stands).1.1.1.1.1.1.1.1 in
             within Quiet code told.output 14 14 (lit≤ tt)
             (both Quiet code told.output 3 11 sums (λ q u.
-            more Quiet code told.output finds u (library 176 (lit< tt)) refl
-            (to_place {to = 75} refl (jumps_if finds 0 0x99 g.0 (sum_overflows laws (word_at w.memory k) (word_at w.memory (a + 1)) fx fx fs ∙ ap not is) u)) (λ q u. bad_sum t u)))
+            more Quiet code told.output finds u (library 180 (lit< tt)) refl
+            (to_place {to = 75} refl (jumps_if finds 0 0x95 g.0 (sum_overflows laws (word_at w.memory k) (word_at w.memory (a + 1)) fx fx fs ∙ ap not is) u)) (λ q u. bad_sum t u)))
         cases true is =
             let g = (add_step_stands code stands).1.1.1.1.1.1.1.1 in
             let z = word_at w.memory k +ℤ word_at w.memory (a + 1) in
@@ -193,18 +193,18 @@ module _ (finds : Finds) (laws : WordLaws) (Quiet : ℕ → Type 0) (code : List
             let up : 2 * suc n % 65536 ≡ 2 * suc n = omega arith in
             within Quiet code told.output 6 14 (lit≤ tt)
             (both Quiet code told.output 3 3 sums (λ q u.
-            more Quiet code told.output finds u (library 176 (lit< tt)) refl
-            (passes_if finds 0 0x99 g.0 (sum_overflows laws (word_at w.memory k) (word_at w.memory (a + 1)) fx fx fs ∙ ap not is) u) (λ q u.
-            straight Quiet code told.output finds (Store (places.Plain 4) 0 k ∷ []) {n = 1} (quiet 180 (lit≤ tt)) refl (g.1.0, tt) ((lit< tt, lit≤ tt), (refl, k_low, there), tt)
+            more Quiet code told.output finds u (library 180 (lit< tt)) refl
+            (passes_if finds 0 0x95 g.0 (sum_overflows laws (word_at w.memory k) (word_at w.memory (a + 1)) fx fx fs ∙ ap not is) u) (λ q u.
+            straight Quiet code told.output finds (Store (places.Plain 4) 0 k ∷ []) {n = 1} (quiet 184 (lit≤ tt)) refl (g.1.0, tt) ((lit< tt, lit≤ tt), (refl, k_low, there), tt)
             (with_ax value u) (λ q u.
-            last Quiet code told.output finds u (library 180 (lit< tt)) refl (record {
+            last Quiet code told.output finds u (library 184 (lit< tt)) refl (record {
               cells = put_word cells k (unsigned z);
               holds_words = stored k z lt fz h;
               back = record { ax = unsigned z; cx = cx; dx = line; bx = bx; si = 2 * si; flags = _; is = acts.return finds u n (2 * suc n) back g.1.1.0 lt' top up (way ∙ whole); answers = tt };
             })))))
 
     pub adds : n < 32767 → Tells stack bp r segment → a + 1 < area → {cx bx si : ℕ} {f : Flags} {cells : ℕ → ℕ} {p : Processor} (w : Words) → Holds area w.memory cells
-        → Here 159 a cx bx (2 * n) si f cells p
+        → Here 163 a cx bx (2 * n) si f cells p
         → Within Quiet code told.output 19 p (Ends code told.output area back (2 * suc n) bp segment line stack input told (perform area (AddStep a) w))
     adds n_low t small {cx} {bx} {si} {f} {cells} {p} w h s = cases (is_below (word_at w.memory a) area) refl
       where
@@ -215,12 +215,12 @@ module _ (finds : Finds) (laws : WordLaws) (Quiet : ℕ → Type 0) (code : List
         fz = fits_there a inside_area h
 
         first : Leads Quiet code told.output 4 p
-            (λ q. Here 167 a cx (2 * a) (2 * n) (unsigned (word_at w.memory a)) (difference_flags 32768 (unsigned (word_at w.memory a)) area false) cells q)
+            (λ q. Here 171 a cx (2 * a) (2 * n) (unsigned (word_at w.memory a)) (difference_flags 32768 (unsigned (word_at w.memory a)) area false) cells q)
         first =
             let g = add_step_stands code stands in
             let e : a < 32768 = omega arith in
             straight Quiet code told.output finds (Load 3 (Register 0) ∷ Double 3 ∷ Load 6 (Cell (places.Plain 7) a (unsigned (word_at w.memory a))) ∷ Comparison 6 (Register 7)
-            ∷ []) {n = 0} (quiet 167 (lit≤ tt)) refl
+            ∷ []) {n = 0} (quiet 171 (lit≤ tt)) refl
             (g.0, (g.1.0, (g.1.1.0, (g.1.1.1.0, tt))))
             ((lit< tt, lit≤ tt), tt, ((lit< tt, lit≤ tt), e, ((lit< tt, lit≤ tt), (refl, e, refl, h.words a inside_area), ((lit< tt, lit≤ tt), tt, tt)))) s
             (λ q u. done Quiet code told.output u)
@@ -234,8 +234,8 @@ module _ (finds : Finds) (laws : WordLaws) (Quiet : ℕ → Type 0) (code : List
             let g = (add_step_stands code stands).1.1.1.1 in
             within Quiet code told.output 15 19 (lit≤ tt)
             (both Quiet code told.output 4 11 first (λ q u.
-            more Quiet code told.output finds u (library 167 (lit< tt)) refl
-            (to_place {to = 71} refl (jumps_if finds 3 0x9E g.0 (not_below (unsigned (word_at w.memory a)) area (outside area (word_at w.memory a) fz is low)) u))
+            more Quiet code told.output finds u (library 171 (lit< tt)) refl
+            (to_place {to = 71} refl (jumps_if finds 3 0x9A g.0 (not_below (unsigned (word_at w.memory a)) area (outside area (word_at w.memory a) fz is low)) u))
             (λ q u. bad_address t u)))
         cases true is =
             let g = (add_step_stands code stands).1.1.1.1 in
@@ -245,14 +245,14 @@ module _ (finds : Finds) (laws : WordLaws) (Quiet : ℕ → Type 0) (code : List
             let lower : unsigned (word_at w.memory a) < area = omega arith in
             afterwards Quiet code told.output 5 14 19 (lit≤ tt)
             (both Quiet code told.output 4 1 first (λ q u.
-            more Quiet code told.output finds u (library 167 (lit< tt)) refl (passes_if finds 3 0x9E g.0 (below (unsigned (word_at w.memory a)) area lower) u)
+            more Quiet code told.output finds u (library 171 (lit< tt)) refl (passes_if finds 3 0x9A g.0 (below (unsigned (word_at w.memory a)) area lower) u)
             (λ q u. done Quiet code told.output u)))
             (λ q u. sums_at (number_of (word_at w.memory a)) n_low t small in_area w h refl same u)
 
     -- ---- the value of the control variable
 
     pub puts : n < 32767 → Tells stack bp r segment → {cx bx si : ℕ} {f : Flags} {cells : ℕ → ℕ} {p : Processor} (memory : List ℤ) → Holds area memory cells
-        → Here 181 a cx bx (2 * n) si f cells p
+        → Here 185 a cx bx (2 * n) si f cells p
         → Within Quiet code told.output 16 p (Fetches told.output (is_below (word_at memory a) area) segment line
         (Fetched code back n bp a (unsigned (word_at memory (number_of (word_at memory a)))) area cells stack input told))
     puts n_low t {cx} {bx} {si} {f} {cells} {p} memory h s = cases (is_below (word_at memory a) area) refl
@@ -264,7 +264,7 @@ module _ (finds : Finds) (laws : WordLaws) (Quiet : ℕ → Type 0) (code : List
         fz = fits_there a inside_area h
 
         first : Leads Quiet code told.output 5 p
-            (λ q. Here 190 a cx (unsigned (word_at memory a)) (2 * suc n) back (difference_flags 32768 (unsigned (word_at memory a)) area false) cells q)
+            (λ q. Here 194 a cx (unsigned (word_at memory a)) (2 * suc n) back (difference_flags 32768 (unsigned (word_at memory a)) area false) cells q)
         first =
             let g = put_variable_stands code stands in
             let e : a < 32768 = omega arith in
@@ -272,7 +272,7 @@ module _ (finds : Finds) (laws : WordLaws) (Quiet : ℕ → Type 0) (code : List
             let top : 2 * n ≡ 2 * n % 65536 = omega arith in
             let up : 2 * suc n % 65536 ≡ 2 * suc n = omega arith in
             straight Quiet code told.output finds (Pop 6 n back (2 * suc n) ∷ Load 3 (Register 0) ∷ Double 3 ∷ Load 3 (Cell (places.Plain 7) a (unsigned (word_at memory a)))
-            ∷ Comparison 3 (Register 7) ∷ []) {n = 0} (quiet 190 (lit≤ tt)) refl
+            ∷ Comparison 3 (Register 7) ∷ []) {n = 0} (quiet 194 (lit≤ tt)) refl
             (g.0, (g.1.0, (g.1.1.0, (g.1.1.1.0, (g.1.1.1.1.0, tt))))) (
               (lit< tt, lit≤ tt),
               (lt, top, way, up),
@@ -287,8 +287,8 @@ module _ (finds : Finds) (laws : WordLaws) (Quiet : ℕ → Type 0) (code : List
             let g = (put_variable_stands code stands).1.1.1.1.1 in
             within Quiet code told.output 16 16 (lit≤ tt)
             (both Quiet code told.output 5 11 first (λ q u.
-            more Quiet code told.output finds u (library 190 (lit< tt)) refl
-            (to_place {to = 71} refl (jumps_if finds 3 0x87 g.0 (not_below (unsigned (word_at memory a)) area (outside area (word_at memory a) fz is low)) u))
+            more Quiet code told.output finds u (library 194 (lit< tt)) refl
+            (to_place {to = 71} refl (jumps_if finds 3 0x83 g.0 (not_below (unsigned (word_at memory a)) area (outside area (word_at memory a) fz is low)) u))
             (λ q u. bad_address t u)))
         cases true is =
             let g = (put_variable_stands code stands).1.1.1.1.1 in
@@ -306,11 +306,11 @@ module _ (finds : Finds) (laws : WordLaws) (Quiet : ℕ → Type 0) (code : List
             let x = unsigned (word_at memory k) in
             within Quiet code told.output 10 16 (lit≤ tt)
             (both Quiet code told.output 5 5 first (λ q u.
-            more Quiet code told.output finds u (library 190 (lit< tt)) refl (passes_if finds 3 0x87 g.0 (below (unsigned (word_at memory a)) area lower) u) (λ q u.
-            straight Quiet code told.output finds (Double 3 ∷ Load 1 (Cell (places.Plain 7) k x) ∷ Push 1 n ∷ []) {n = 1} (quiet 197 (lit≤ tt)) refl
+            more Quiet code told.output finds u (library 194 (lit< tt)) refl (passes_if finds 3 0x83 g.0 (below (unsigned (word_at memory a)) area lower) u) (λ q u.
+            straight Quiet code told.output finds (Double 3 ∷ Load 1 (Cell (places.Plain 7) k x) ∷ Push 1 n ∷ []) {n = 1} (quiet 201 (lit≤ tt)) refl
             (g.1.0, (g.1.1.0, (g.1.1.1.0, tt)))
             ((lit< tt, lit≤ tt), half, ((lit< tt, lit≤ tt), (refl, k_low, there, h.words k in_area), ((lit< tt, lit≤ tt), (lt, top), tt))) u (λ q u.
-            last Quiet code told.output finds u (library 197 (lit< tt)) refl (record {
+            last Quiet code told.output finds u (library 201 (lit< tt)) refl (record {
               cx = x;
               dx = line;
               bx = 2 * unsigned (word_at memory a);
@@ -358,28 +358,28 @@ module _ (finds : Finds) (laws : WordLaws) (Quiet : ℕ → Type 0) (code : List
     abbrev Past : Bool → Processor → Type 0
     Past b p = Back code (if b then back else back + 3) (2 * suc (suc n)) bp area cells stack input told (λ ax f. Unit {0}) p
 
-    on_with_it : {ax cx dx bx : ℕ} {f : Flags} {p : Processor} → There 227 ax cx dx bx (2 * suc (suc n)) back f p → Leads Quiet code told.output 2 p (Past false)
+    on_with_it : {ax cx dx bx : ℕ} {f : Flags} {p : Processor} → There 231 ax cx dx bx (2 * suc (suc n)) back f p → Leads Quiet code told.output 2 p (Past false)
     on_with_it {ax} {cx} {dx} {bx} {f} s =
         let g = (exhausted_stands code stands).1.1.1.1.1.1.1.1.1.1.1.1.1.1 in
-        straight Quiet code told.output finds (SumShort 6 3 ∷ []) {n = 1} (quiet 230 (lit≤ tt)) refl (g.0, tt) ((lit< tt, lit≤ tt), tt, tt) s (λ q u.
-        last Quiet code told.output finds u (library 230 (lit< tt)) refl
+        straight Quiet code told.output finds (SumShort 6 3 ∷ []) {n = 1} (quiet 234 (lit≤ tt)) refl (g.0, tt) ((lit< tt, lit≤ tt), tt, tt) s (λ q u.
+        last Quiet code told.output finds u (library 234 (lit< tt)) refl
         (record { ax = ax; cx = cx; dx = dx; bx = bx; si = word_sum back 3; flags = _; is = acts.jump_to finds u 6 (back + 3) g.1.0 refl; answers = tt }))
 
     -- behind the comparison
     by_order : (past : Bool) {ax cx dx bx : ℕ} {p : Processor} → meets (difference_flags 32768 cx bx false) 14 ≡ not past
-        → There 223 ax cx dx bx (2 * suc (suc n)) back (difference_flags 32768 cx bx false) p
+        → There 227 ax cx dx bx (2 * suc (suc n)) back (difference_flags 32768 cx bx false) p
         → Within Quiet code told.output 3 p (Past past)
     by_order true {ax} {cx} {dx} {bx} is s =
         let g = (exhausted_stands code stands).1.1.1.1.1.1.1.1.1.1.1.1 in
         let whole : back ≡ back % 65536 = omega arith in
         within Quiet code told.output 2 3 (lit≤ tt)
-        (more Quiet code told.output finds s (library 223 (lit< tt)) refl (passes_if finds 14 2 g.0 is s) (λ q u.
-        last Quiet code told.output finds u (library 225 (lit< tt)) refl
+        (more Quiet code told.output finds s (library 227 (lit< tt)) refl (passes_if finds 14 2 g.0 is s) (λ q u.
+        last Quiet code told.output finds u (library 229 (lit< tt)) refl
         (record { ax = ax; cx = cx; dx = dx; bx = bx; si = back; flags = _; is = acts.jump_to finds u 6 back g.1.0 whole; answers = tt })))
     by_order false {ax} {cx} {dx} {bx} is s =
         let g = (exhausted_stands code stands).1.1.1.1.1.1.1.1.1.1.1.1 in
         within Quiet code told.output 3 3 (lit≤ tt)
-        (more Quiet code told.output finds s (library 223 (lit< tt)) refl (jumps_if finds 14 2 g.0 is s) (λ q u. on_with_it u))
+        (more Quiet code told.output finds s (library 227 (lit< tt)) refl (jumps_if finds 14 2 g.0 is s) (λ q u. on_with_it u))
 
     fl : FitsWord (word_at memory (a + 2))
     fl = fits_there (a + 2) small h
@@ -387,19 +387,19 @@ module _ (finds : Finds) (laws : WordLaws) (Quiet : ℕ → Type 0) (code : List
     -- with a step that is not 0
     by_step : (sign : ℕ) (past : Bool) {w : ℕ} {p : Processor} → w < 65536 → w ≢ 0
         → meets (difference_flags 32768 (bit_xor (unsigned x) sign) (bit_xor (unsigned (word_at memory (a + 2))) sign) false) 14 ≡ not past
-        → There 215 w (unsigned x) sign (unsigned (word_at memory (a + 2))) (2 * suc (suc n)) back (difference_flags 32768 w 0 false) p
+        → There 219 w (unsigned x) sign (unsigned (word_at memory (a + 2))) (2 * suc (suc n)) back (difference_flags 32768 w 0 false) p
         → Within Quiet code told.output 7 p (Past past)
     by_step sign past {w} lt some is s =
         let g = (exhausted_stands code stands).1.1.1.1.1.1.1.1 in
         afterwards Quiet code told.output 4 3 7 (lit≤ tt)
-        (more Quiet code told.output finds s (library 215 (lit< tt)) refl (passes_if finds 4 10 g.0 (not_equal w 0 lt (lit< tt) some) s) (λ q u.
-        straight Quiet code told.output finds (One 1 (Register 2) ∷ One 3 (Register 2) ∷ Comparison 1 (Register 3) ∷ []) {n = 0} (quiet 223 (lit≤ tt)) refl
+        (more Quiet code told.output finds s (library 219 (lit< tt)) refl (passes_if finds 4 10 g.0 (not_equal w 0 lt (lit< tt) some) s) (λ q u.
+        straight Quiet code told.output finds (One 1 (Register 2) ∷ One 3 (Register 2) ∷ Comparison 1 (Register 3) ∷ []) {n = 0} (quiet 227 (lit≤ tt)) refl
         (g.1.0, (g.1.1.0, (g.1.1.1.0, tt)))
         ((lit< tt, lit≤ tt), tt, ((lit< tt, lit≤ tt), tt, ((lit< tt, lit≤ tt), tt, tt))) u (λ q u. done Quiet code told.output u)))
         (λ q u. by_order past {cx = bit_xor (unsigned x) sign} {bx = bit_xor (unsigned (word_at memory (a + 2))) sign} is u)
 
     abbrev Loaded : ℤ → Processor → Type 0
-    Loaded step p = There 215 (unsigned step) (unsigned x) (sign_of (unsigned step)) (unsigned (word_at memory (a + 2))) (2 * suc (suc n)) back
+    Loaded step p = There 219 (unsigned step) (unsigned x) (sign_of (unsigned step)) (unsigned (word_at memory (a + 2))) (2 * suc (suc n)) back
         (difference_flags 32768 (unsigned step) 0 false) p
 
     by_sign : (step : ℤ) → FitsWord step → {p : Processor} → Loaded step p → Within Quiet code told.output 7 p (Past (is_past step x (word_at memory (a + 2))))
@@ -407,7 +407,7 @@ module _ (finds : Finds) (laws : WordLaws) (Quiet : ℕ → Type 0) (code : List
         let g = (exhausted_stands code stands).1.1.1.1.1.1.1.1 in
         let none : unsigned (pos zero) ≡ 0 = unsigned_pos 0 (lit< tt) in
         within Quiet code told.output 3 7 (lit≤ tt)
-        (more Quiet code told.output finds s (library 215 (lit< tt)) refl
+        (more Quiet code told.output finds s (library 219 (lit< tt)) refl
         (jumps_if finds 4 10 g.0 (equal (unsigned (pos zero)) 0 (laws.unsigned_fits (pos zero) fs) (lit< tt) none) s) (λ q u. on_with_it u))
     by_sign (pos (suc m)) fs {p} s =
         let l = word_at memory (a + 2) in
@@ -415,7 +415,7 @@ module _ (finds : Finds) (laws : WordLaws) (Quiet : ℕ → Type 0) (code : List
         let is = unsigned_pos (suc m) (omega arith) in
         let some : unsigned (pos (suc m)) ≢ 0 = λ e. omega arith in
         by_step 0 (int_lt l x) (laws.unsigned_fits (pos (suc m)) fs) some (order_up x l fx fl)
-        (subst (λ d. There 215 (unsigned (pos (suc m))) (unsigned x) d (unsigned l) (2 * suc (suc n)) back (difference_flags 32768 (unsigned (pos (suc m))) 0 false) p)
+        (subst (λ d. There 219 (unsigned (pos (suc m))) (unsigned x) d (unsigned l) (2 * suc (suc n)) back (difference_flags 32768 (unsigned (pos (suc m))) 0 false) p)
         (sign_up (suc m) fs) s)
     by_sign (negsuc m) fs {p} s =
         let l = word_at memory (a + 2) in
@@ -423,10 +423,10 @@ module _ (finds : Finds) (laws : WordLaws) (Quiet : ℕ → Type 0) (code : List
         let is = unsigned_negative m lt in
         let some : unsigned (negsuc m) ≢ 0 = λ e. omega arith in
         by_step 65535 (int_lt x l) (laws.unsigned_fits (negsuc m) fs) some (order_down x l fx fl)
-        (subst (λ d. There 215 (unsigned (negsuc m)) (unsigned x) d (unsigned l) (2 * suc (suc n)) back (difference_flags 32768 (unsigned (negsuc m)) 0 false) p)
+        (subst (λ d. There 219 (unsigned (negsuc m)) (unsigned x) d (unsigned l) (2 * suc (suc n)) back (difference_flags 32768 (unsigned (negsuc m)) 0 false) p)
         (sign_down m fs) s)
 
-    pub exhausts : {cx dx bx si : ℕ} {f : Flags} {p : Processor} → There 199 a cx dx bx (2 * n) si f p
+    pub exhausts : {cx dx bx si : ℕ} {f : Flags} {p : Processor} → There 203 a cx dx bx (2 * n) si f p
         → Within Quiet code told.output 15 p (Past (is_past (word_at memory (a + 1)) x (word_at memory (a + 2))))
     exhausts s =
         let g = exhausted_stands code stands in
@@ -448,7 +448,7 @@ module _ (finds : Finds) (laws : WordLaws) (Quiet : ℕ → Type 0) (code : List
         (straight Quiet code told.output finds
         (Pop 6 n back (2 * suc n) ∷ Load 3 (Register 0) ∷ Double 3 ∷ Pop 1 (suc n) (unsigned x) (2 * suc (suc n))
         ∷ Load 0 (Cell (places.Near 7 2) (a + 1) (unsigned step)) ∷ Load 3 (Cell (places.Near 7 4) (a + 2) (unsigned (word_at memory (a + 2)))) ∷ Sign ∷ ComparisonNumber 0
-        ∷ []) {n = 0} (quiet 215 (lit≤ tt)) refl
+        ∷ []) {n = 0} (quiet 219 (lit≤ tt)) refl
         (g.0, (g.1.0, (g.1.1.0, (g.1.1.1.0, (g.1.1.1.1.0, (g.1.1.1.1.1.0, (g.1.1.1.1.1.1.0, (g.1.1.1.1.1.1.1.0, tt)))))))) (
           (lit< tt, lit≤ tt),
           (n0, top0, way, up0),

@@ -106,62 +106,62 @@ module _ (code : List ℕ) (stands : Stands code) where
   pub enter_stands : HasAll code 91 enter_routine
   enter_stands = has_front code 91 enter_routine (joined (drop 13 routines)) from_12
 
-  from_13 : HasAll code 126 (joined (drop 13 routines))
+  from_13 : HasAll code 130 (joined (drop 13 routines))
   from_13 = has_back code 91 enter_routine (joined (drop 13 routines)) from_12
 
-  pub read_stands : HasAll code 126 read_routine
-  read_stands = has_front code 126 read_routine (joined (drop 14 routines)) from_13
+  pub read_stands : HasAll code 130 read_routine
+  read_stands = has_front code 130 read_routine (joined (drop 14 routines)) from_13
 
-  from_14 : HasAll code 141 (joined (drop 14 routines))
-  from_14 = has_back code 126 read_routine (joined (drop 14 routines)) from_13
+  from_14 : HasAll code 145 (joined (drop 14 routines))
+  from_14 = has_back code 130 read_routine (joined (drop 14 routines)) from_13
 
-  pub set_variable_stands : HasAll code 141 set_variable_routine
-  set_variable_stands = has_front code 141 set_variable_routine (joined (drop 15 routines)) from_14
+  pub set_variable_stands : HasAll code 145 set_variable_routine
+  set_variable_stands = has_front code 145 set_variable_routine (joined (drop 15 routines)) from_14
 
-  from_15 : HasAll code 159 (joined (drop 15 routines))
-  from_15 = has_back code 141 set_variable_routine (joined (drop 15 routines)) from_14
+  from_15 : HasAll code 163 (joined (drop 15 routines))
+  from_15 = has_back code 145 set_variable_routine (joined (drop 15 routines)) from_14
 
-  pub add_step_stands : HasAll code 159 add_step_routine
-  add_step_stands = has_front code 159 add_step_routine (joined (drop 16 routines)) from_15
+  pub add_step_stands : HasAll code 163 add_step_routine
+  add_step_stands = has_front code 163 add_step_routine (joined (drop 16 routines)) from_15
 
-  from_16 : HasAll code 181 (joined (drop 16 routines))
-  from_16 = has_back code 159 add_step_routine (joined (drop 16 routines)) from_15
+  from_16 : HasAll code 185 (joined (drop 16 routines))
+  from_16 = has_back code 163 add_step_routine (joined (drop 16 routines)) from_15
 
-  pub put_variable_stands : HasAll code 181 put_variable_routine
-  put_variable_stands = has_front code 181 put_variable_routine (joined (drop 17 routines)) from_16
+  pub put_variable_stands : HasAll code 185 put_variable_routine
+  put_variable_stands = has_front code 185 put_variable_routine (joined (drop 17 routines)) from_16
 
-  from_17 : HasAll code 199 (joined (drop 17 routines))
-  from_17 = has_back code 181 put_variable_routine (joined (drop 17 routines)) from_16
+  from_17 : HasAll code 203 (joined (drop 17 routines))
+  from_17 = has_back code 185 put_variable_routine (joined (drop 17 routines)) from_16
 
-  pub exhausted_stands : HasAll code 199 exhausted_routine
-  exhausted_stands = has_front code 199 exhausted_routine (joined (drop 18 routines)) from_17
+  pub exhausted_stands : HasAll code 203 exhausted_routine
+  exhausted_stands = has_front code 203 exhausted_routine (joined (drop 18 routines)) from_17
 
-  from_18 : HasAll code 232 (joined (drop 18 routines))
-  from_18 = has_back code 199 exhausted_routine (joined (drop 18 routines)) from_17
+  from_18 : HasAll code 236 (joined (drop 18 routines))
+  from_18 = has_back code 203 exhausted_routine (joined (drop 18 routines)) from_17
 
-  pub product_stands : HasAll code 232 product_routine
-  product_stands = has_front code 232 product_routine (joined (drop 19 routines)) from_18
+  pub product_stands : HasAll code 236 product_routine
+  product_stands = has_front code 236 product_routine (joined (drop 19 routines)) from_18
 
-  from_19 : HasAll code 257 (joined (drop 19 routines))
-  from_19 = has_back code 232 product_routine (joined (drop 19 routines)) from_18
+  from_19 : HasAll code 261 (joined (drop 19 routines))
+  from_19 = has_back code 236 product_routine (joined (drop 19 routines)) from_18
 
-  pub too_large_stands : HasAll code 257 too_large
-  too_large_stands = has_front code 257 too_large (joined (drop 20 routines)) from_19
+  pub too_large_stands : HasAll code 261 too_large
+  too_large_stands = has_front code 261 too_large (joined (drop 20 routines)) from_19
 
-  from_20 : HasAll code 262 (joined (drop 20 routines))
-  from_20 = has_back code 257 too_large (joined (drop 20 routines)) from_19
+  from_20 : HasAll code 266 (joined (drop 20 routines))
+  from_20 = has_back code 261 too_large (joined (drop 20 routines)) from_19
 
-  pub quotient_down_stands : HasAll code 262 quotient_down_routine
-  quotient_down_stands = has_front code 262 quotient_down_routine (joined (drop 21 routines)) from_20
+  pub quotient_down_stands : HasAll code 266 quotient_down_routine
+  quotient_down_stands = has_front code 266 quotient_down_routine (joined (drop 21 routines)) from_20
 
-  from_21 : HasAll code 285 (joined (drop 21 routines))
-  from_21 = has_back code 262 quotient_down_routine (joined (drop 21 routines)) from_20
+  from_21 : HasAll code 289 (joined (drop 21 routines))
+  from_21 = has_back code 266 quotient_down_routine (joined (drop 21 routines)) from_20
 
-  pub quotient_up_stands : HasAll code 285 quotient_up_routine
-  quotient_up_stands = has_front code 285 quotient_up_routine (joined (drop 22 routines)) from_21
+  pub quotient_up_stands : HasAll code 289 quotient_up_routine
+  quotient_up_stands = has_front code 289 quotient_up_routine (joined (drop 22 routines)) from_21
 
-  from_22 : HasAll code 312 (joined (drop 22 routines))
-  from_22 = has_back code 285 quotient_up_routine (joined (drop 22 routines)) from_21
+  from_22 : HasAll code 316 (joined (drop 22 routines))
+  from_22 = has_back code 289 quotient_up_routine (joined (drop 22 routines)) from_21
 
-  pub quotient_stands : HasAll code 312 quotient_end
-  quotient_stands = has_front code 312 quotient_end (joined (drop 23 routines)) from_22
+  pub quotient_stands : HasAll code 316 quotient_end
+  quotient_stands = has_front code 316 quotient_end (joined (drop 23 routines)) from_22

@@ -63,8 +63,8 @@ rest_of k few = omega arith
 rest_low : (k : ℕ) → k ≤ 16 → word_sum (word_difference 0 k) 16 % 256 ≡ 16 - k
 rest_low k few = omega arith
 
-module _ (finds : Finds) (laws : NumberLaws) (Quiet : ℕ → Type 0) (code : List ℕ) (stands : Stands code) (library : (k : ℕ) → k < 334 → Quiet k) where
-  quiet : {at : ℕ} (to : ℕ) → to ≤ 334 → (k : ℕ) → at ≤ k → k < to → Quiet k
+module _ (finds : Finds) (laws : NumberLaws) (Quiet : ℕ → Type 0) (code : List ℕ) (stands : Stands code) (library : (k : ℕ) → k < 338 → Quiet k) where
+  quiet : {at : ℕ} (to : ℕ) → to ≤ 338 → (k : ℕ) → at ≤ k → k < to → Quiet k
   quiet {at} to le = run finds Quiet code stands library {at = at} to le
 
   -- ---- the ends
@@ -86,7 +86,7 @@ module _ (finds : Finds) (laws : NumberLaws) (Quiet : ℕ → Type 0) (code : Li
     remade {at} {to} {x} {y} {cx} {dx} {bx} {b} {si} {m} {f} {p} ea ex eb em s = subst (λ n. Here n y cx dx b m f p) ea
         (subst (λ n. Here at n cx dx b m f p) ex (subst (λ n. Here at x cx dx n m f p) eb (subst (λ n. Here at x cx dx bx n f p) em s)))
 
-    returned : (P : ℕ → Flags → Type 0) (at ax cx dx bx si : ℕ) (f : Flags) {p : Processor} → at < 334 → Has code at i86.Ret → P ax f → Here at ax cx dx bx si f p
+    returned : (P : ℕ → Flags → Type 0) (at ax cx dx bx si : ℕ) (f : Flags) {p : Processor} → at < 338 → Has code at i86.Ret → P ax f → Here at ax cx dx bx si f p
         → Leads Quiet code told.output 1 p (Answer P)
     returned P at ax cx dx bx si f lt i holds s =
         let whole : back ≡ back % 65536 = omega arith in
@@ -96,12 +96,12 @@ module _ (finds : Finds) (laws : NumberLaws) (Quiet : ℕ → Type 0) (code : Li
         last Quiet code told.output finds s (subst Quiet here (library at lt)) refl
         (record { ax = ax; cx = cx; dx = dx; bx = bx; si = si; flags = f; is = acts.return finds s n (2 * suc n) back i (omega arith) top up (way ∙ whole); answers = holds })
 
-    too_large : (z : ℤ) (ax cx dx bx si : ℕ) (f : Flags) {p : Processor} → Here 257 ax cx dx bx si f p → Leads Quiet code told.output 3 p (Answer (Fitting false z))
+    too_large : (z : ℤ) (ax cx dx bx si : ℕ) (f : Flags) {p : Processor} → Here 261 ax cx dx bx si f p → Leads Quiet code told.output 3 p (Answer (Fitting false z))
     too_large z ax cx dx bx si f s =
         let h = too_large_stands code stands in
-        straight Quiet code told.output finds (LowByte 128 ∷ AddLow ∷ []) {n = 1} (quiet 261 (lit≤ tt)) refl (h.0, (h.1.0, tt))
+        straight Quiet code told.output finds (LowByte 128 ∷ AddLow ∷ []) {n = 1} (quiet 265 (lit≤ tt)) refl (h.0, (h.1.0, tt))
         ((lit< tt, lit≤ tt), tt, ((lit< tt, lit≤ tt), tt, tt)) s (λ q u.
-        returned (Fitting false z) 261 _ cx dx bx si _ (lit< tt) h.1.1.0 (twice_overflows ax) u)
+        returned (Fitting false z) 265 _ cx dx bx si _ (lit< tt) h.1.1.0 (twice_overflows ax) u)
 
     -- ---- products
 
@@ -163,8 +163,8 @@ module _ (finds : Finds) (laws : NumberLaws) (Quiet : ℕ → Type 0) (code : Li
           sym (laws.words.forth value value_fits) ∙ ap unsigned (sym (laws.pair_value above value above_fits value_fits e) ∙ pair_value_is)
 
       -- to the test
-      shifted : {dx si : ℕ} {f : Flags} {p : Processor} → Here 232 (unsigned x) k dx (unsigned y) si f p
-          → Leads Quiet code told.output 11 p (λ q. Here 254 value (word_sum (word_difference 0 k) 16) (sign_of value) above si
+      shifted : {dx si : ℕ} {f : Flags} {p : Processor} → Here 236 (unsigned x) k dx (unsigned y) si f p
+          → Leads Quiet code told.output 11 p (λ q. Here 258 value (word_sum (word_difference 0 k) 16) (sign_of value) above si
           (difference_flags 32768 (sign_of value) above false) q)
       shifted {dx} {si} {f} {p} s =
           let h = product_stands code stands in
@@ -173,7 +173,7 @@ module _ (finds : Finds) (laws : NumberLaws) (Quiet : ℕ → Type 0) (code : Li
           let second = rest_low k le in
           straight Quiet code told.output finds
           (Product 3 ∷ Down 0 ∷ Load 3 (Register 2) ∷ DownSigned 2 ∷ Negative 1 ∷ SumShort 1 16 ∷ Up 3 ∷ Sum 0 (Register 3) ∷ Load 3 (Register 2) ∷ Sign
-          ∷ Comparison 2 (Register 3) ∷ []) {n = 0} (quiet 254 (lit≤ tt)) refl (
+          ∷ Comparison 2 (Register 3) ∷ []) {n = 0} (quiet 258 (lit≤ tt)) refl (
             h.0,
             (
               h.1.0,
@@ -218,15 +218,15 @@ module _ (finds : Finds) (laws : NumberLaws) (Quiet : ℕ → Type 0) (code : Li
             ),
           ) s (λ q u.
           done Quiet code told.output
-          (subst (λ i. Here 254 (lower_by i (16 - k)) (word_sum (word_difference 0 k) 16) (sign_of (lower_by i (16 - k))) (word_down_signed H i) si
+          (subst (λ i. Here 258 (lower_by i (16 - k)) (word_sum (word_difference 0 k) 16) (sign_of (lower_by i (16 - k))) (word_down_signed H i) si
           (difference_flags 32768 (sign_of (lower_by i (16 - k))) (word_down_signed H i) false) q) first
-          (subst (λ j. Here 254 (lower_by (k % 256) j) (word_sum (word_difference 0 k) 16) (sign_of (lower_by (k % 256) j)) (word_down_signed H (k % 256)) si
+          (subst (λ j. Here 258 (lower_by (k % 256) j) (word_sum (word_difference 0 k) 16) (sign_of (lower_by (k % 256) j)) (word_down_signed H (k % 256)) si
           (difference_flags 32768 (sign_of (lower_by (k % 256) j)) (word_down_signed H (k % 256)) false) q) second u)))
         where
           lower_by : (i j : ℕ) → ℕ
           lower_by i j = word_sum (word_down L i) (word_up H j)
 
-      pub product_comes : (b : Bool) → fits_word (scaled_product x y (negsuc j)) ≡ b → {dx si : ℕ} {f : Flags} {p : Processor} → Here 232 (unsigned x) k dx (unsigned y) si f p
+      pub product_comes : (b : Bool) → fits_word (scaled_product x y (negsuc j)) ≡ b → {dx si : ℕ} {f : Flags} {p : Processor} → Here 236 (unsigned x) k dx (unsigned y) si f p
           → Within Quiet code told.output 15 p (Answer (Fitting b (scaled_product x y (negsuc j))))
       product_comes true is {si = si} s =
           let h = product_stands code stands in
@@ -234,8 +234,8 @@ module _ (finds : Finds) (laws : NumberLaws) (Quiet : ℕ → Type 0) (code : Li
           let e = sign_there is in
           within Quiet code told.output 13 15 (lit≤ tt)
           (both Quiet code told.output 11 2 (shifted s) (λ q u.
-          more Quiet code told.output finds u (library 254 (lit< tt)) refl (passes_if finds 5 1 g.0 (not_unequal (sign_of value) above (sign_fits value) above_fits e) u) (λ q u.
-          returned (Fitting true (scaled_product x y (negsuc j))) 256 value (word_sum (word_difference 0 k) 16) (sign_of value) above si
+          more Quiet code told.output finds u (library 258 (lit< tt)) refl (passes_if finds 5 1 g.0 (not_unequal (sign_of value) above (sign_fits value) above_fits e) u) (λ q u.
+          returned (Fitting true (scaled_product x y (negsuc j))) 260 value (word_sum (word_difference 0 k) 16) (sign_of value) above si
           (difference_flags 32768 (sign_of value) above false) (lit< tt) g.1.0
           (word_is is, ap (λ a. (difference_flags 32768 a above false).of) e ∙ same_fits above) u)))
       product_comes false is {si = si} s =
@@ -243,7 +243,7 @@ module _ (finds : Finds) (laws : NumberLaws) (Quiet : ℕ → Type 0) (code : Li
           let g = h.1.1.1.1.1.1.1.1.1.1.1 in
           within Quiet code told.output 15 15 (lit≤ tt)
           (both Quiet code told.output 11 4 (shifted s) (λ q u.
-          more Quiet code told.output finds u (library 254 (lit< tt)) refl
+          more Quiet code told.output finds u (library 258 (lit< tt)) refl
           (jumps_if finds 5 1 g.0 (unequal (sign_of value) above (sign_fits value) above_fits (sign_missing is)) u) (λ q u.
           too_large (scaled_product x y (negsuc j)) value (word_sum (word_difference 0 k) 16) (sign_of value) above si (difference_flags 32768 (sign_of value) above false) u)))
 
@@ -288,19 +288,19 @@ module _ (finds : Finds) (laws : NumberLaws) (Quiet : ℕ → Type 0) (code : Li
           fits false small = small
 
       -- to the second test
-      divided : (cx : ℕ) (f : Flags) {p : Processor} → high < d → Here 312 low cx high d (mask negative) f p
-          → Leads Quiet code told.output 6 p (λ q. Here 325 result cx (word_difference 32768 (mask negative)) d (mask negative)
+      divided : (cx : ℕ) (f : Flags) {p : Processor} → high < d → Here 316 low cx high d (mask negative) f p
+          → Leads Quiet code told.output 6 p (λ q. Here 329 result cx (word_difference 32768 (mask negative)) d (mask negative)
           (difference_flags 32768 result (word_difference 32768 (mask negative)) false) q)
       divided cx f lt s =
           let h = quotient_stands code stands in
           let g = h.1.1 in
-          straight Quiet code told.output finds (Comparison 2 (Register 3) ∷ []) {n = 5} (quiet 314 (lit≤ tt)) refl (h.0, tt) ((lit< tt, lit≤ tt), tt, tt) s (λ q u.
-          more Quiet code told.output finds u (library 314 (lit< tt)) refl (passes_if finds 3 0xC5 h.1.0 (below high d lt) u) (λ q u.
-          straight Quiet code told.output finds (Quotient 3 ∷ Number 2 32768 ∷ Difference 2 (Register 6) ∷ Comparison 0 (Register 2) ∷ []) {n = 0} (quiet 325 (lit≤ tt)) refl
+          straight Quiet code told.output finds (Comparison 2 (Register 3) ∷ []) {n = 5} (quiet 318 (lit≤ tt)) refl (h.0, tt) ((lit< tt, lit≤ tt), tt, tt) s (λ q u.
+          more Quiet code told.output finds u (library 318 (lit< tt)) refl (passes_if finds 3 0xC5 h.1.0 (below high d lt) u) (λ q u.
+          straight Quiet code told.output finds (Quotient 3 ∷ Number 2 32768 ∷ Difference 2 (Register 6) ∷ Comparison 0 (Register 2) ∷ []) {n = 0} (quiet 329 (lit≤ tt)) refl
           (g.0, (g.1.0, (g.1.1.0, (g.1.1.1.0, tt))))
           ((lit< tt, lit≤ tt), (some, divides_when lt), ((lit< tt, lit≤ tt), tt, ((lit< tt, lit≤ tt), tt, ((lit< tt, lit≤ tt), tt, tt)))) u (λ q u. done Quiet code told.output u)))
 
-      end_comes : (b : Bool) → fits_word number ≡ b → (cx : ℕ) (f : Flags) {p : Processor} → Here 312 low cx high d (mask negative) f p
+      end_comes : (b : Bool) → fits_word number ≡ b → (cx : ℕ) (f : Flags) {p : Processor} → Here 316 low cx high d (mask negative) f p
           → Within Quiet code told.output 11 p (Answer (Fitting b number))
       end_comes true is cx f s =
           let g = (quotient_stands code stands).1.1.1.1.1.1 in
@@ -313,11 +313,11 @@ module _ (finds : Finds) (laws : NumberLaws) (Quiet : ℕ → Type 0) (code : Li
           let w = word_difference (bit_xor result S) S in
           within Quiet code told.output 11 11 (lit≤ tt)
           (both Quiet code told.output 6 5 (divided cx f (below_when below_all) s) (λ q u.
-          more Quiet code told.output finds u (library 325 (lit< tt)) refl (passes_if finds 3 0xBA g.0 (below result T under) u) (λ q u.
-          straight Quiet code told.output finds (One 0 (Register 6) ∷ Difference 0 (Register 6) ∷ Either 0 (Register 0) ∷ []) {n = 1} (quiet 333 (lit≤ tt)) refl
+          more Quiet code told.output finds u (library 329 (lit< tt)) refl (passes_if finds 3 0xBA g.0 (below result T under) u) (λ q u.
+          straight Quiet code told.output finds (One 0 (Register 6) ∷ Difference 0 (Register 6) ∷ Either 0 (Register 0) ∷ []) {n = 1} (quiet 337 (lit≤ tt)) refl
           (g.1.0, (g.1.1.0, (g.1.1.1.0, tt)))
           ((lit< tt, lit≤ tt), tt, ((lit< tt, lit≤ tt), tt, ((lit< tt, lit≤ tt), tt, tt))) u (λ q u.
-          returned (Fitting true number) 333 (bit_or w w) cx T d S _ (lit< tt) g.1.1.1.1.0 (or_self w ∙ number_is is, refl) u))))
+          returned (Fitting true number) 337 (bit_or w w) cx T d S _ (lit< tt) g.1.1.1.1.0 (or_self w ∙ number_is is, refl) u))))
       end_comes false is cx f {p} s =
           let h = quotient_stands code stands in
           let g = h.1.1.1.1.1.1 in
@@ -329,12 +329,12 @@ module _ (finds : Finds) (laws : NumberLaws) (Quiet : ℕ → Type 0) (code : Li
             | inl lt ↦
                 within Quiet code told.output 10 11 (lit≤ tt)
                 (both Quiet code told.output 6 4 (divided cx f lt s) (λ q u.
-                more Quiet code told.output finds u (library 325 (lit< tt)) refl (to_place {to = 257} refl (jumps_if finds 3 0xBA g.0 (not_below result T over) u)) (λ q u.
+                more Quiet code told.output finds u (library 329 (lit< tt)) refl (to_place {to = 261} refl (jumps_if finds 3 0xBA g.0 (not_below result T over) u)) (λ q u.
                 too_large number result cx T d S (difference_flags 32768 result T false) u)))
             | inr above ↦
                 within Quiet code told.output 5 11 (lit≤ tt)
-                (straight Quiet code told.output finds (Comparison 2 (Register 3) ∷ []) {n = 4} (quiet 314 (lit≤ tt)) refl (h.0, tt) ((lit< tt, lit≤ tt), tt, tt) s (λ q u.
-                more Quiet code told.output finds u (library 314 (lit< tt)) refl (to_place {to = 257} refl (jumps_if finds 3 0xC5 h.1.0 (not_below high d above) u)) (λ q u.
+                (straight Quiet code told.output finds (Comparison 2 (Register 3) ∷ []) {n = 4} (quiet 318 (lit≤ tt)) refl (h.0, tt) ((lit< tt, lit≤ tt), tt, tt) s (λ q u.
+                more Quiet code told.output finds u (library 318 (lit< tt)) refl (to_place {to = 261} refl (jumps_if finds 3 0xC5 h.1.0 (not_below high d above) u)) (λ q u.
                 too_large number low cx high d S (difference_flags 32768 high d false) u)))
           ]
 
@@ -403,7 +403,7 @@ module _ (finds : Finds) (laws : NumberLaws) (Quiet : ℕ → Type 0) (code : Li
           done Quiet code told.output (_, remade there (magnitude_made a a_fits) (magnitude_made d d_fits) (signs_made a d) u))
 
       pub down_comes : (j k : ℕ) → k ≡ suc j → k ≤ 15 → (b : Bool) → fits_word (scaled_quotient x y (negsuc j)) ≡ b → {dx si : ℕ} {f : Flags} {p : Processor}
-          → Here 262 (unsigned x) k dx (unsigned y) si f p
+          → Here 266 (unsigned x) k dx (unsigned y) si f p
           → Within Quiet code told.output 24 p (Answer (Fitting b (scaled_quotient x y (negsuc j))))
       down_comes j k count few b is {f = f} {p = p} s =
           let h = quotient_down_stands code stands in
@@ -419,18 +419,18 @@ module _ (finds : Finds) (laws : NumberLaws) (Quiet : ℕ → Type 0) (code : Li
           ∙ ap₂ (λ p q. scaled_quotient p q (negsuc j)) (laws.words.back x fx) (laws.words.back y fy) in
           subst (λ z. Within Quiet code told.output 24 p (Answer (Fitting b z))) value
           (afterwards Quiet code told.output 13 11 24 (lit≤ tt)
-          (both Quiet code told.output {U = λ q. (g : Flags) × Here 312 low k 0 D (mask differ) g q} 10 3
-          (found 262 k (λ i lo hi. library i (omega arith))
+          (both Quiet code told.output {U = λ q. (g : Flags) × Here 316 low k 0 D (mask differ) g q} 10 3
+          (found 266 k (λ i lo hi. library i (omega arith))
           (h.0, (h.1.0, (h.1.1.0, (h.1.1.1.0, (h.1.1.1.1.0, (h.1.1.1.1.1.0, (h.1.1.1.1.1.1.0, (h.1.1.1.1.1.1.1.0, (h.1.1.1.1.1.1.1.1.0, (h.1.1.1.1.1.1.1.1.1.0, tt)))))))))) s)
           (λ q u.
-          straight Quiet code told.output finds (Down 0 ∷ Number 2 0 ∷ []) {n = 1} (quiet 283 (lit≤ tt)) refl (g.0, (g.1.0, tt))
+          straight Quiet code told.output finds (Down 0 ∷ Number 2 0 ∷ []) {n = 1} (quiet 287 (lit≤ tt)) refl (g.0, (g.1.0, tt))
           ((lit< tt, lit≤ tt), tt, ((lit< tt, lit≤ tt), tt, tt)) u.1 (λ q u.
-          more Quiet code told.output finds u (library 283 (lit< tt)) refl (to_place {to = 312} refl (acts.short finds u 0x1B g.1.1.0)) (λ q u.
+          more Quiet code told.output finds u (library 287 (lit< tt)) refl (to_place {to = 316} refl (acts.short finds u 0x1B g.1.1.0)) (λ q u.
           done Quiet code told.output (_, with_low (ap (word_down M) first) u)))))
           (λ q u. end_comes differ 0 low D some ll b (ap fits_word value ∙ is) k u.0 u.1))
 
       pub up_comes : (k : ℕ) → k ≤ 16 → (b : Bool) → fits_word (scaled_quotient x y (pos k)) ≡ b → {dx si : ℕ} {f : Flags} {p : Processor}
-          → Here 285 (unsigned x) k dx (unsigned y) si f p
+          → Here 289 (unsigned x) k dx (unsigned y) si f p
           → Within Quiet code told.output 26 p (Answer (Fitting b (scaled_quotient x y (pos k))))
       up_comes k few b is {f = f} {p = p} s =
           let h = quotient_up_stands code stands in
@@ -449,11 +449,11 @@ module _ (finds : Finds) (laws : NumberLaws) (Quiet : ℕ → Type 0) (code : Li
           ∙ ap₂ (λ p q. scaled_quotient p q (pos k)) (laws.words.back x fx) (laws.words.back y fy) in
           subst (λ z. Within Quiet code told.output 26 p (Answer (Fitting b z))) value
           (afterwards Quiet code told.output 15 11 26 (lit≤ tt)
-          (both Quiet code told.output {U = λ q. (g : Flags) × Here 312 low turned high D (mask differ) g q} 10 5
-          (found 285 k (λ i lo hi. library i (omega arith))
+          (both Quiet code told.output {U = λ q. (g : Flags) × Here 316 low turned high D (mask differ) g q} 10 5
+          (found 289 k (λ i lo hi. library i (omega arith))
           (h.0, (h.1.0, (h.1.1.0, (h.1.1.1.0, (h.1.1.1.1.0, (h.1.1.1.1.1.0, (h.1.1.1.1.1.1.0, (h.1.1.1.1.1.1.1.0, (h.1.1.1.1.1.1.1.1.0, (h.1.1.1.1.1.1.1.1.1.0, tt)))))))))) s)
           (λ q u.
-          straight Quiet code told.output finds (Load 2 (Register 0) ∷ Up 0 ∷ Negative 1 ∷ SumShort 1 16 ∷ Down 2 ∷ []) {n = 0} (quiet 312 (lit≤ tt)) refl
+          straight Quiet code told.output finds (Load 2 (Register 0) ∷ Up 0 ∷ Negative 1 ∷ SumShort 1 16 ∷ Down 2 ∷ []) {n = 0} (quiet 316 (lit≤ tt)) refl
           (g.0, (g.1.0, (g.1.1.0, (g.1.1.1.0, (g.1.1.1.1.0, tt)))))
           ((lit< tt, lit≤ tt), tt, ((lit< tt, lit≤ tt), ml, ((lit< tt, lit≤ tt), tt, ((lit< tt, lit≤ tt), tt, ((lit< tt, lit≤ tt), tt, tt))))) u.1 (λ q u.
           done Quiet code told.output (_, with_pair (ap (word_up M) first) (ap (word_down M) second) u))))

@@ -113,17 +113,17 @@ ToldStop Silent code place count kind =
 
 -- ---- activations
 
--- An activation whose frame has the words in BX, in the segment of the number in CX, with the way back on the stack and the line in DX. The
--- frame begins where the caller's ends.
+-- An activation, with the place of its two words on the stack, which are those of its frame and the number of the segment, and the line in DX.
+-- The frame begins where the caller's ends.
 abbrev pub EnterRoutine : (Silent : ℕ → Type 0) → (code : List ℕ) → (place bound : ℕ) → Type 0
 EnterRoutine Silent code place bound =
-    (m back line r segment calls base rest number size ax bp si area : ℕ) (flags : Flags) (cells stack : ℕ → ℕ) (input : List ℕ) (told : Told) (p : Processor)
-    → m + 4 < 32767 → stack (m + 4) ≡ back → back < 65536 → line < 65536 → calls < 65536 → number < 256 → size < 65536 → rest ≤ area → area ≤ 32768
+    (m at line r segment calls base rest number size ax cx bx bp si area : ℕ) (flags : Flags) (cells stack : ℕ → ℕ) (input : List ℕ) (told : Told) (p : Processor)
+    → m + 4 < 32767 → stack (m + 4) ≡ at → HasWord code at size → HasWord code (at + 2) number → line < 65536 → calls < 65536 → number < 256 → size < 65536 → rest ≤ area → area ≤ 32768
     → RecordIs stack bp r segment calls base rest
-    → At code place (view ax number line size (2 * (m + 4)) bp si area cells stack input told) flags p
+    → At code place (view ax cx line bx (2 * (m + 4)) bp si area cells stack input told) flags p
     → Within Silent code told.output bound p
     (Begins code told.output (nat_lt 0 calls) (nat_le size rest) line segment
-    (Entered code back m bp number (calls - 1) (2 * (area - rest) % 65536) (rest - size) area cells stack input told))
+    (Entered code (at + 4) m bp number (calls - 1) (2 * (area - rest) % 65536) (rest - size) area cells stack input told))
 
 -- what ends an activation, and drops so many words of arguments
 abbrev pub leave : (words : ℕ) → List Instr

@@ -43,7 +43,7 @@ pub fn bodies()
 
 /// Activations begin, or stop with Depth or Frames, and end in the code of a segment. A byte is read.
 pub fn calls()
-    ensures enter { (quiet : ℕ → Bool) (code : List ℕ) → Stands code → InLibrary quiet → EnterRoutine (Quiet quiet) code enter_place 17 }
+    ensures enter { (quiet : ℕ → Bool) (code : List ℕ) → Stands code → InLibrary quiet → EnterRoutine (Quiet quiet) code enter_place 18 }
     ensures leaving { (quiet : ℕ → Bool) (code : List ℕ) (at words : ℕ) → QuietAll (Quiet quiet) at (leave words) → HasAll code at (leave words) →
         Leaving (Quiet quiet) code at words }
     ensures read { (quiet : ℕ → Bool) (code : List ℕ) → Stands code → InLibrary quiet → ReadRoutine (Quiet quiet) code read_place 6 }

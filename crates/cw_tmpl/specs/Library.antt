@@ -86,8 +86,8 @@ bad_sum_place = 75
 
 -- ---- calls and input
 
--- Begins an activation whose frame has the words in BX, in the segment of the number in CX; the line of the call is in DX. Until its record is
--- made the caller's is at work: so a stop tells the caller's segment.
+-- Begins an activation; the line of the call is in DX. Behind the call of this routine stand two words: those of the frame, and the number of the
+-- segment. Until the record is made the caller's is at work: so a stop tells the caller's segment.
 abbrev pub enter_place : ℕ
 enter_place = 91
 
@@ -97,15 +97,16 @@ enter_routine =
     -- a call is left
     ∷ load ax (slot calls_slot) ∷ with_number 5 1 ∷ jump_if_below 0xEF
     -- the frame is within the words that are left
-    ∷ load dx (slot rest_slot) ∷ subtract dx bx ∷ jump_if_below 0xEC
+    ∷ load cx (slot rest_slot) ∷ subtract_word cx code_at_si ∷ jump_if_below 0xEB
     -- it begins where the caller's ends
     ∷ move bx di ∷ subtract_word bx (slot rest_slot) ∷ double bx
     -- the record: the caller's, the segment, the calls left, twice the base of the frame and the words behind it
-    ∷ i86.Push bp ∷ move bp sp ∷ i86.Push cx ∷ i86.Push ax ∷ i86.Push bx ∷ i86.Push dx ∷ jump_to si ∷ []
+    ∷ i86.Push bp ∷ move bp sp ∷ i86.PushRm (code_behind_si 2) ∷ i86.Push ax ∷ i86.Push bx ∷ i86.Push cx
+    ∷ add_number si 4 ∷ jump_to si ∷ []
 
 -- The next byte of the input in AX, and at its end -1.
 abbrev pub read_place : ℕ
-read_place = 123
+read_place = 130
 
 abbrev pub read_routine : List Instr
 read_routine =
@@ -123,35 +124,35 @@ loop_reached = move bx ax ∷ double bx ∷ []
 
 -- the word on the stack becomes the control variable
 abbrev pub set_variable_place : ℕ
-set_variable_place = 138
+set_variable_place = 145
 
 abbrev pub set_variable_routine : List Instr
 set_variable_routine =
-    i86.Pop si ∷ (loop_reached ++ (load bx at_bx ∷ compare bx di ∷ jump_if_not_below 0xB2 ∷ double bx ∷ i86.Pop ax ∷ store at_bx ax ∷ jump_to si ∷ []))
+    i86.Pop si ∷ (loop_reached ++ (load bx at_bx ∷ compare bx di ∷ jump_if_not_below 0xAB ∷ double bx ∷ i86.Pop ax ∷ store at_bx ax ∷ jump_to si ∷ []))
 
 -- the step of a loop added to its control variable
 abbrev pub add_step_place : ℕ
-add_step_place = 156
+add_step_place = 163
 
 abbrev pub add_step_routine : List Instr
 add_step_routine =
     loop_reached
-    ++ (load si at_bx ∷ compare si di ∷ jump_if_not_below 0xA1 ∷ double si
-    ∷ load ax at_si ∷ add_word ax (near_field 2) ∷ jump_if_overflow 0x9C ∷ store at_si ax ∷ i86.Ret ∷ [])
+    ++ (load si at_bx ∷ compare si di ∷ jump_if_not_below 0x9A ∷ double si
+    ∷ load ax at_si ∷ add_word ax (near_field 2) ∷ jump_if_overflow 0x95 ∷ store at_si ax ∷ i86.Ret ∷ [])
 
 -- the value of the control variable on the stack; AX stays
 abbrev pub put_variable_place : ℕ
-put_variable_place = 178
+put_variable_place = 185
 
 abbrev pub put_variable_routine : List Instr
 put_variable_routine =
-    i86.Pop si ∷ (loop_reached ++ (load bx at_bx ∷ compare bx di ∷ jump_if_not_below 0x8A ∷ double bx ∷ load cx at_bx ∷ i86.Push cx ∷ jump_to si ∷ []))
+    i86.Pop si ∷ (loop_reached ++ (load bx at_bx ∷ compare bx di ∷ jump_if_not_below 0x83 ∷ double bx ∷ load cx at_bx ∷ i86.Push cx ∷ jump_to si ∷ []))
 
 -- Takes the value of the control variable from the stack. Where that is past the limit the way on is behind the call, and else 3 bytes
 -- further, past a jump. Where the step is negative, the value and the limit are turned bit by bit, which turns their order; where it is 0,
 -- none is past the limit.
 abbrev pub exhausted_place : ℕ
-exhausted_place = 196
+exhausted_place = 203
 
 abbrev pub exhausted_routine : List Instr
 exhausted_routine =
@@ -168,7 +169,7 @@ exhausted_routine =
 
 -- The product over 2 to the count, rounded down. The two words of the quotient have to be those of one word.
 abbrev pub product_place : ℕ
-product_place = 229
+product_place = 236
 
 abbrev pub product_routine : List Instr
 product_routine =
@@ -177,7 +178,7 @@ product_routine =
 
 -- sets OF
 abbrev pub too_large_place : ℕ
-too_large_place = 254
+too_large_place = 261
 
 abbrev pub too_large : List Instr
 too_large = set_byte al 0x80 ∷ i86.AluRm 0 false true al (rms.Reg al) ∷ i86.Ret ∷ []
@@ -190,7 +191,7 @@ magnitudes =
 
 -- the dividend's magnitude over 2 to the count
 abbrev pub quotient_down_place : ℕ
-quotient_down_place = 259
+quotient_down_place = 266
 
 abbrev pub quotient_down_routine : List Instr
 quotient_down_routine = magnitudes ++ (shift_down ax ∷ set_word dx 0 ∷ i86.JumpShort 0x1B ∷ [])
@@ -198,13 +199,13 @@ quotient_down_routine = magnitudes ++ (shift_down ax ∷ set_word dx 0 ∷ i86.J
 -- The dividend's magnitude times 2 to the count, as a pair of words. From there on both have one way: a quotient that is not below
 -- 32,768, or, where the signs differ, 32,769, is too large.
 abbrev pub quotient_up_place : ℕ
-quotient_up_place = 282
+quotient_up_place = 289
 
 abbrev pub quotient_up_routine : List Instr
 quotient_up_routine = magnitudes ++ (move dx ax ∷ shift_up ax ∷ negate cx ∷ add_number cx 16 ∷ shift_down dx ∷ [])
 
 abbrev pub quotient_end_place : ℕ
-quotient_end_place = 309
+quotient_end_place = 316
 
 abbrev pub quotient_end : List Instr
 quotient_end =

@@ -356,7 +356,7 @@ template names place (order.CallProc q line) = call_near line place (procedure_s
 template names place (order.CallCommon d line) = coded.Whole (set_word dx line) ∷ coded.Call (target.DefinitionAhead d) ∷ []
 template names place (order.CallSpecial k line) =
     coded.Whole (set_word dx line) ∷ coded.Whole (load ax (argument k)) ∷ back_jump (own (place + 13))
-template names place (order.Enter size) = coded.Whole (set_word bx size) ∷ coded.Move cx (target.Limit limit.Segment) ∷ call_library enter_entry ∷ []
+template names place (order.Enter size) = call_library enter_entry ∷ coded.Data size ∷ coded.Word (target.Limit limit.Segment) ∷ []
 template names place (order.Bind k family offset) = coded.Whole (load ax (argument k)) ∷ coded.Store (target.Bytes family offset) ∷ []
 template names place (order.BindFrame k offset) =
     coded.Whole (load cx (argument k)) ∷ coded.Whole (load bx (slot base_slot)) ∷ coded.Whole (store (field (2 * offset % 65536)) cx) ∷ []
@@ -573,7 +573,7 @@ listed_size (order.LoopWay marks) = 20 + 2 * length marks
 listed_size (order.CallProc q line) = 6
 listed_size (order.CallCommon d line) = 6
 listed_size (order.CallSpecial k line) = 13
-listed_size (order.Enter size) = 9
+listed_size (order.Enter size) = 7
 listed_size (order.Bind k family offset) = 7
 listed_size (order.BindFrame k offset) = 11
 listed_size (order.Return n answers) = 6

@@ -40,8 +40,8 @@ pub const PUT_VARIABLE: u16 = 31;
 /// The entry that tests whether a loop is exhausted.
 pub const EXHAUSTED: u16 = 32;
 
-const CODE: [u8; 331] = [
-    0xE9, 0x48, 0x01, // JMP past the library
+const CODE: [u8; 338] = [
+    0xE9, 0x4F, 0x01, // JMP past the library
     0xF4, // end: HLT
     0xCC, // earlier entries: no instruction
     0x5E, // start: POP SI
@@ -86,18 +86,19 @@ const CODE: [u8; 331] = [
     0x8B, 0x46, 0xFC, // MOV AX,[BP-4]
     0x2D, 0x01, 0x00, // SUB AX,1
     0x72, 0xEF, // JB depth
-    0x8B, 0x56, 0xF8, // MOV DX,[BP-8]
-    0x2B, 0xD3, // SUB DX,BX
-    0x72, 0xEC, // JB frames
+    0x8B, 0x4E, 0xF8, // MOV CX,[BP-8]
+    0x2E, 0x2B, 0x0C, // SUB CX,CS:[SI]
+    0x72, 0xEB, // JB frames
     0x8B, 0xDF, // MOV BX,DI
     0x2B, 0x5E, 0xF8, // SUB BX,[BP-8]
     0xD1, 0xE3, // SHL BX,1
     0x55, // PUSH BP
     0x8B, 0xEC, // MOV BP,SP
-    0x51, // PUSH CX
+    0x2E, 0xFF, 0x74, 0x02, // PUSH WORD CS:[SI+2]
     0x50, // PUSH AX
     0x53, // PUSH BX
-    0x52, // PUSH DX
+    0x51, // PUSH CX
+    0x83, 0xC6, 0x04, // ADD SI,4
     0xFF, 0xE6, // JMP SI
     0xE4, 0x11, // read: IN AL,11h
     0x84, 0xC0, // TEST AL,AL
@@ -112,7 +113,7 @@ const CODE: [u8; 331] = [
     0xD1, 0xE3, // SHL BX,1
     0x8B, 0x1F, // MOV BX,[BX]
     0x3B, 0xDF, // CMP BX,DI
-    0x73, 0xB2, // JNB bad address
+    0x73, 0xAB, // JNB bad address
     0xD1, 0xE3, // SHL BX,1
     0x58, // POP AX
     0x89, 0x07, // MOV [BX],AX
@@ -121,11 +122,11 @@ const CODE: [u8; 331] = [
     0xD1, 0xE3, // SHL BX,1
     0x8B, 0x37, // MOV SI,[BX]
     0x3B, 0xF7, // CMP SI,DI
-    0x73, 0xA1, // JNB bad address
+    0x73, 0x9A, // JNB bad address
     0xD1, 0xE6, // SHL SI,1
     0x8B, 0x04, // MOV AX,[SI]
     0x03, 0x47, 0x02, // ADD AX,[BX+2]
-    0x70, 0x9C, // JO bad sum
+    0x70, 0x95, // JO bad sum
     0x89, 0x04, // MOV [SI],AX
     0xC3, // RET
     0x5E, // put variable: POP SI
@@ -133,7 +134,7 @@ const CODE: [u8; 331] = [
     0xD1, 0xE3, // SHL BX,1
     0x8B, 0x1F, // MOV BX,[BX]
     0x3B, 0xDF, // CMP BX,DI
-    0x73, 0x8A, // JNB bad address
+    0x73, 0x83, // JNB bad address
     0xD1, 0xE3, // SHL BX,1
     0x8B, 0x0F, // MOV CX,[BX]
     0x51, // PUSH CX
@@ -212,8 +213,8 @@ const CODE: [u8; 331] = [
 ];
 
 const ENTRIES: [u16; 33] = [
-    3, 4, 4, 4, 4, 4, 4, 4, 4, 4, 4, 4, 4, 4, 4, 4, 4, 4, 5, 35, 39, 43, 47, 79, 91, 123, 229, 259,
-    282, 138, 156, 178, 196,
+    3, 4, 4, 4, 4, 4, 4, 4, 4, 4, 4, 4, 4, 4, 4, 4, 4, 4, 5, 35, 39, 43, 47, 79, 91, 130, 236, 266,
+    289, 145, 163, 185, 203,
 ];
 
 /// The code of the run-time library, which begins with a jump to its own end. It has no relocated word.

@@ -402,7 +402,7 @@ module _ (p : OrderProgram) (g : ℕ) (acts : List OrderActivation) where
   fine_order (order.ProcCommon d) w s = fine_unrefused _ _ _ (fine_held _ _ _ w (same p.limits.area w) refl)
   fine_order (order.SpecialOut k) w s = fine_unrefused _ _ _ (fine_held _ _ _ w (same p.limits.area w) refl)
   fine_order (order.Bind k f o) w s = fine_unrefused _ _ _ (fine_bind _ _ p.limits.area (argument_at acts k) (Some (home_word p.addresses g f o)) w (same p.limits.area w) refl)
-  fine_order (order.BindFrame k o) w s = fine_unrefused _ _ _ (fine_bind _ _ p.limits.area (argument_at acts k) (frame_word acts o) w (same p.limits.area w) refl)
+  fine_order (order.BindFrame k o) w s = fine_unrefused _ _ _ (fine_bind _ _ p.limits.area (argument_at acts k) (frame_word p.limits.area acts o) w (same p.limits.area w) refl)
   fine_order _ w s = tt
 
   fine_grows : (n : ℕ) (out : List ℕ) (e : Outcome) (v : Words) → Fine n out e → e ≡ Changed v → operand_words v.operands ≤ 2 + n
@@ -422,7 +422,7 @@ module _ (p : OrderProgram) (g : ℕ) (acts : List OrderActivation) where
 
   grows : (o : Order) (w v : Words) → IsTrue (is_silent o) → effect o w ≡ Changed v → operand_words v.operands ≤ growth o + operand_words w.operands
   grows (order.Bind k f x) w v s e = same_hand p.limits.area (argument_at acts k) (Some (home_word p.addresses g f x)) w v e
-  grows (order.BindFrame k x) w v s e = same_hand p.limits.area (argument_at acts k) (frame_word acts x) w v e
+  grows (order.BindFrame k x) w v s e = same_hand p.limits.area (argument_at acts k) (frame_word p.limits.area acts x) w v e
   grows o w v s e = fine_grows (operand_words w.operands) w.output (effect o w) v (fine_order o w s) e
 
   -- ---- steps

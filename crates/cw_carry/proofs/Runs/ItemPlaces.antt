@@ -19,9 +19,9 @@ use Rattle.cw_unit.specs.Program.{Program, no_layout, is_frame_family, item_addr
 use Rattle.cw_unit.specs.Words.{Operand, Word, Words, Changed, with_memory, put, through}
 use Rattle.cw_unit.specs.Configuration.{frame_size_of}
 use Rattle.cw_order.specs.declared.order.Order.TheVariants as order
-use Rattle.cw_order.specs.OrderState.{OrderActivation, argument_behind}
+use Rattle.cw_order.specs.OrderState.{OrderActivation, argument_behind, word_of_area}
 use Rattle.cw_order.specs.OrderActions.{home_word}
-use Rattle.cw_order.specs.OrderChanges.{bind}
+use Rattle.cw_order.specs.OrderChanges.{bind, put_address}
 use Rattle.cw_order.specs.OrderMachine.{unrefused}
 use Rattle.cw_gen_expr.specs.ReferenceExpressions.{placed_by, placed_in, item_order, item_span}
 use Rattle.cw_gen_expr.specs.ReferenceEntries.{bound_by, bound_in, bound_order}
@@ -36,6 +36,10 @@ use Rattle.cw_carry.proofs.Runs.Spans.{Covers}
 
 signed-small : (n : ℕ) → n < 32768 → signed n ≡ pos n
 signed-small n h = omega (arith, ints, h)
+
+-- an address below the area is that of a word there
+word-there : (area k n : ℕ) → k ≡ n → n < area → word_of_area area k ≡ Some n
+word-there area k n e lt = ap (word_of_area area) e ∙ ap (λ b. if b then Some n else None) (lt-ltb n area lt)
 
 -- ---- layouts
 
@@ -229,10 +233,12 @@ module _ (us : List SourceUnit) (m : Map) (limits : Limits) (room : ℕ) where
             let b : OrderActivation = here.0 in
             let base-is : b.frame_base ≡ base = here.3 in
             let ends : base + frame_size_in us g (Some p) ≤ limits.area = here.4 in
-            let word : (b.frame_base + (d + (o + n)) % 65536) % 65536 ≡ base + (d + (o + n)) = omega (arith, base-is, ends, within, lt, in_words) in
+            let at : b.frame_base + (d + (o + n)) % 65536 ≡ base + (d + (o + n)) = omega (arith, base-is, ends, within, lt, in_words) in
+            let below : base + (d + (o + n)) < limits.area = omega (arith, ends, within, lt) in
+            let word : word_of_area limits.area (b.frame_base + (d + (o + n)) % 65536) ≡ Some (base + (d + (o + n))) = word-there limits.area (b.frame_base + (d + (o + n)) % 65536) (base + (d + (o + n))) at below in
             let small : base + (d + (o + n)) < 32768 = omega (arith, ends, within, lt, in_words) in
             let same : base + (d + (o + n)) ≡ item_address (source c) g i base + n = omega (arith, address) in (
-              ap₂ (λ xs x. effect (target c) g xs x w) here.2 (orders n) ∙ ap (λ x. Changed (put (signed x) w)) word ∙ ap (λ z. Changed (put z w)) (signed-small (base + (d + (o + n))) small) ∙ ap (λ x. Changed (put (pos x) w)) same,
+              ap₂ (λ xs x. effect (target c) g xs x w) here.2 (orders n) ∙ ap (λ x. unrefused (put_address x w)) word ∙ ap (λ z. Changed (put z w)) (signed-small (base + (d + (o + n))) small) ∙ ap (λ x. Changed (put (pos x) w)) same,
               (let z : item_address (source c) g i base + n < limits.area = omega (arith, address, ends, within, lt) in z),
             )
 
@@ -258,9 +264,9 @@ module _ (us : List SourceUnit) (m : Map) (limits : Limits) (room : ℕ) where
             absurd (omega (arith, none, lt))
 
     -- a word argument is stored at an address in the area
-    bound-at : (a z-at : ℕ) (z : ℤ) (x : Words) (argument : Option Operand) → argument ≡ Some (Word z) → a ≡ z-at → z-at < limits.area → unrefused (bind limits.area argument (Some a) x) ≡ Changed (with_memory x (set x.memory z-at z))
+    bound-at : (a : Option ℕ) (z-at : ℕ) (z : ℤ) (x : Words) (argument : Option Operand) → argument ≡ Some (Word z) → a ≡ Some z-at → z-at < limits.area → unrefused (bind limits.area argument a x) ≡ Changed (with_memory x (set x.memory z-at z))
     bound-at a z-at z x argument arg-is e lt =
-        ap₂ (λ v y. unrefused (bind limits.area v (Some y) x)) arg-is e
+        ap₂ (λ v y. unrefused (bind limits.area v y x)) arg-is e
         ∙ ap (λ b. unrefused (through b (λ i v. Changed (with_memory v (set v.memory i z))) (pos z-at) x)) (lt-ltb z-at limits.area lt)
 
     pub item-bound : (g : ℕ) (u : SourceUnit) (who : Option ℕ) (base : ℕ) (b : OrderActivation) (bs : List OrderActivation) (j i : ℕ) (z : ℤ) (x : Words) → slice_get us g ≡ Some u → FrameHere g who base (b ∷ bs) → IsTrue (has_words u who i 1) → argument_behind j b.arguments ≡ Some (Word z) → effect (target c) g (b ∷ bs) (bound_order (layout_of u) j i) x ≡ Changed (with_memory x (set x.memory (item_address (source c) g i base) z))
@@ -271,11 +277,13 @@ module _ (us : List SourceUnit) (m : Map) (limits : Limits) (room : ℕ) where
             let a : ℕ = family_start g f in
             let word : (a + o % 65536) % 65536 ≡ item_address (source c) g i base = omega (arith, within, in_words, address) in
             ap (λ y. effect (target c) g (b ∷ bs) y x) (binds j)
-            ∙ bound-at ((a + o % 65536) % 65536) (item_address (source c) g i base) z x (argument_behind j b.arguments) arg-is word (let y : item_address (source c) g i base < limits.area = omega (arith, address, within) in y)
+            ∙ bound-at (Some ((a + o % 65536) % 65536)) (item_address (source c) g i base) z x (argument_behind j b.arguments) arg-is (ap (λ n. Some n) word) (let y : item_address (source c) g i base < limits.area = omega (arith, address, within) in y)
         of (in_frame p d o who-is orders binds address within) =
             let here = frame p who-is in
             let base-is : b.frame_base ≡ base = ap (λ xs. elim xs [ [] ↦ 0 | y ∷ ys ↦ y.frame_base ]) here.2 ∙ here.3 in
             let ends : base + frame_size_in us g (Some p) ≤ limits.area = here.4 in
-            let word : (b.frame_base + (d + o) % 65536) % 65536 ≡ item_address (source c) g i base = omega (arith, base-is, ends, within, in_words, address) in
+            let at : b.frame_base + (d + o) % 65536 ≡ item_address (source c) g i base = omega (arith, base-is, ends, within, in_words, address) in
+            let below : item_address (source c) g i base < limits.area = omega (arith, address, ends, within) in
+            let word : word_of_area limits.area (b.frame_base + (d + o) % 65536) ≡ Some (item_address (source c) g i base) = word-there limits.area (b.frame_base + (d + o) % 65536) (item_address (source c) g i base) at below in
             ap (λ y. effect (target c) g (b ∷ bs) y x) (binds j)
-            ∙ bound-at ((b.frame_base + (d + o) % 65536) % 65536) (item_address (source c) g i base) z x (argument_behind j b.arguments) arg-is word (let y : item_address (source c) g i base < limits.area = omega (arith, address, ends, within) in y)
+            ∙ bound-at (word_of_area limits.area (b.frame_base + (d + o) % 65536)) (item_address (source c) g i base) z x (argument_behind j b.arguments) arg-is word below

@@ -12,8 +12,8 @@ pub returns : goal.returns
 returns c =
     let finds = c.fetching.ensures.finds in
     record {
-      enter = λ quiet code stands library m back line r segment calls base top number size bx bp si area flags cells stack input told p low there back_small small few byte size_small top_low area_low i s.
-          enters finds (Quiet quiet) code stands library m back line r segment calls base top number size low there back_small small few byte size_small top_low area_low i s;
+      enter = λ quiet code stands library m at line r segment calls base rest number size ax cx bx bp si area flags cells stack input told p low there words names small few byte size_small rest_low area_low i s.
+          enters finds (Quiet quiet) code stands library m at line r segment calls base rest number size low there words names small few byte size_small rest_low area_low i s;
       leaving = λ quiet code at words silent h b caller back ax cx dx bx sp si di flags cells stack input told p low c r small s.
           leaves_it finds (Quiet quiet) code at b words caller back low c r small h silent s;
       read = λ quiet code stands library n back ax cx dx bx bp si area flags cells stack input told p bytes low there small s.
