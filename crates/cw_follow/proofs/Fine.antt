@@ -557,7 +557,7 @@ module _ (p : OrderProgram) (segment next : ℕ) (value : Filling) (fills : Fill
   template_fine names place (order.CallCommon d line) fits = ((dx_register, fits.2), (ahead_filled d, tt))
   template_fine names place (order.CallSpecial k line) fits =
       ((dx_register, fits.2), (argument_fine 0 k is_ax (few_more k fits.1), ((is_bx, place_filled ((place + 13) % 65536)), (bx_free, (is_ax, tt)))))
-  template_fine names place (order.Enter size) fits = ((is_bx, fits.1), ((cx_register, number_filled), (library_filled enter_entry (lit< tt), tt)))
+  template_fine names place (order.Enter size) fits = (library_filled enter_entry (lit< tt), (fits.1, (number_filled, tt)))
   template_fine names place (order.Bind k family offset) fits = (argument_fine 0 k is_ax (few_more k fits.1), (bytes_filled family offset, tt))
   template_fine names place (order.BindFrame k offset) fits =
       let small : 2 * offset % 65536 < 65536 = omega arith in

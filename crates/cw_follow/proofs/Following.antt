@@ -79,7 +79,7 @@ following rows p image words memory input s places all is stand coded begins nev
         let known : Given = record { rows = rows; p = p; image = image; all = all; coded = coded; few = few; low = area; places = places; places_stand = stand } in
         let begin = watch known (processor_start s input) in
         let from : Is image 0 (view 0 0 0 0 0 0 0 0 false (slice_index words) (λ k. 0) input nothing_told) begin = record { sees = rows.starts image words input s is.fits short_words starts_so; ignores = stand.ignores; silent = refl } in
-        let at_entry : (q : Watched) → Begun image (base_of p 0 + 11) 1 p.limits.depth (p.limits.area - p.limits.frames) p.limits.area (slice_index words) input nothing_told q → Sound p image 0 first false [] begun q = λ q b.
+        let at_entry : (q : Watched) → Begun image (base_of p 0 + 11) 1 p.limits.depth p.limits.frames p.limits.area (slice_index words) input nothing_told q → Sound p image 0 first false [] begun q = λ q b.
         let place_is : base_of p 0 + 11 ≡ order_place (base_of p 0) u.list 0 = omega arith in
         let there : base_of p 0 + 11 ≡ order_place (base_of p 0) u.list first = place_is ∙ ap (order_place (base_of p 0) u.list) (sym is_zero) in
         record {
@@ -106,9 +106,9 @@ following rows p image words memory input s places all is stand coded begins nev
           comes_back = tt;
           never = never;
         } in
-        let base_is : 331 ≡ base_of p 0 = refl in
+        let base_is : 338 ≡ base_of p 0 = refl in
         let way : Leads [] 12 begin (Sound p image 0 first false [] begun) =
-        more rows {to = base_of p 0} {w = view 0 0 0 0 0 0 0 0 false (slice_index words) (λ k. 0) input nothing_told} from refl (seen base_is refl (near rows 328 all.library.0.0 from)) (λ q t.
+        more rows {to = base_of p 0} {w = view 0 0 0 0 0 0 0 0 false (slice_index words) (λ k. 0) input nothing_told} from refl (seen base_is refl (near rows 335 all.library.0.0 from)) (λ q t.
         leads_on at_entry
         (enters rows p 0 su.next_place su.value (base_of p 0) 0 0 0 0 0 0 0 32767 false (slice_index words) (λ k. 0) input nothing_told all.library su.fills su.entry (lit< tt) (lit< tt) area coded.frames coded.depth 0 refl t)) in
         let start = watched_way known (processor_start s input) (at 0 first false [] begun Running) (leads_on (λ q m. inl m) way) in

@@ -108,7 +108,7 @@ pub operand_code : (image : List ℕ) (value : Filling) (from : ℕ) (s : Simple
     → Addressed image value s from × Has image (named_at s from) (naming (offset_at value s from) s op) × HasPieces image value (named_at s from + named_size s) rest
 operand_code image value from (simple.Number x) op rest h = (tt, h.0, h.1)
 operand_code image value from (simple.Contents (cell.Word f n)) op rest h = (tt, h.0, h.1)
-operand_code image value from (simple.Contents (cell.Frame n)) op rest h = ((h.0, (h.1.0, tt)), h.1.1.0, h.1.1.1)
+operand_code image value from (simple.Contents (cell.Frame n)) op rest h = ((h.0, tt), h.1.0, h.1.1)
 operand_code image value from (simple.Element e) op rest h =
     let o = number_of op in
     let both = stand_both image value from (with_operand o (simple.Element e)) rest h in
@@ -128,7 +128,7 @@ alone_code image value from (simple.Element e) op h = subst (HasPieces image val
 abbrev pub operand_size : Simple → ℕ
 operand_size (simple.Number x) = 3
 operand_size (simple.Contents (cell.Word f n)) = 4
-operand_size (simple.Contents (cell.Frame n)) = 9
+operand_size (simple.Contents (cell.Frame n)) = 7
 operand_size (simple.Element e) = index_size e.index + 13
 
 pub named_end : (s : Simple) (from : ℕ) → named_at s from + named_size s ≡ from + operand_size s
@@ -185,7 +185,7 @@ tested_size (simple.Contents (cell.Word f n)) u h = word u h
     word (uses.Compare c m) h = refl
 tested_size (simple.Contents (cell.Frame n)) u h = word u h
   where
-    word : (u : Use) → OneOperation u → block_size (block.Operate (simple.Contents (cell.Frame n)) u) order.Save ≡ 9 + rest_size u
+    word : (u : Use) → OneOperation u → block_size (block.Operate (simple.Contents (cell.Frame n)) u) order.Save ≡ 7 + rest_size u
     word (uses.Multiply line) h = absurd h
     word (uses.Add line) h = refl
     word (uses.Subtract line) h = refl
@@ -219,17 +219,17 @@ Computes u = Unit {0}
 
 -- how many instructions come before the operation
 abbrev pub steps_to : Simple → ℕ
-steps_to (simple.Contents (cell.Frame n)) = 2
+steps_to (simple.Contents (cell.Frame n)) = 1
 steps_to (simple.Element e) = index_steps e.index + 3
 steps_to s = 0
 
-pub few_steps : (s : Simple) → steps_to s ≤ 7
+pub few_steps : (s : Simple) → steps_to s ≤ 6
 few_steps (simple.Number x) = lit≤ tt
 few_steps (simple.Contents (cell.Word f n)) = lit≤ tt
 few_steps (simple.Contents (cell.Frame n)) = lit≤ tt
 few_steps (simple.Element e) = few_of e.index
   where
-    few_of : (x : Place) → index_steps x + 3 ≤ 7
+    few_of : (x : Place) → index_steps x + 3 ≤ 6
     few_of (cell.Word f n) = lit≤ tt
     few_of (cell.Frame n) = lit≤ tt
 
