@@ -32,7 +32,7 @@ fn put_address(code: &mut Assembly, place: Place) -> Result<(), NoMemory>
 {
     match place {
         Place::Word { .. } => code.put_all(&[]),
-        Place::Frame(_) => code.put_all(&[Coded::Whole(load(BX, BASE)), Coded::Whole(double(BX))]),
+        Place::Frame(_) => code.put_all(&[Coded::Whole(load(BX, BASE))]),
     }
 }
 
@@ -109,7 +109,6 @@ fn put_index(code: &mut Assembly, index: Place, family: u16, offset: u16) -> Res
         ]),
         Place::Frame(offset) => code.put_all(&[
             Coded::Whole(load(BX, BASE)),
-            Coded::Whole(double(BX)),
             base,
             Coded::Whole(operate(0, SI, frame_field(offset))),
         ]),

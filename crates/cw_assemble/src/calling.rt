@@ -9,8 +9,8 @@ ghost use Rattle.cw_tmpl.specs.Templates.{template, call_near, back_jump, contro
 use crate::jumping::distance;
 use cw_i86::{Instr, Rm};
 use cw_tmpl::instructions::{
-    AX, BASE, BP, BX, CX, DX, SP, argument, copy, double, field, jump_to, load, set_word, store,
-    with_number,
+    AX, BASE, BP, BX, CX, DX, SP, argument, copy, field, jump_to, load, set_word, shift_down_once,
+    store, with_number,
 };
 use cw_tmpl::library::{ENTER, READ};
 use cw_tmpl::{Assembly, Coded, Limit, Target, own};
@@ -72,12 +72,9 @@ pub(crate) fn put_enter(code: &mut Assembly, size: u16) -> Result<(), NoMemory>
     ensures { OnOk result (Adds code.old (template no_names 0 (order.Enter size)) code.new) }
 {
     code.put_all(&[
-        Coded::Whole(set_word(AX, size)),
-        Coded::Move {
-            reg: CX,
-            target: Target::Limit(Limit::Segment),
-        },
         Coded::Call(Target::LibraryAhead(ENTER)),
+        Coded::Data(size),
+        Coded::Word(Target::Limit(Limit::Segment)),
     ])
 }
 
@@ -111,7 +108,6 @@ pub(crate) fn put_bind_frame(code: &mut Assembly, words: u8, offset: u16) -> Res
     code.put_all(&[
         Coded::Whole(load(CX, argument(u16::from(words)))),
         Coded::Whole(load(BX, BASE)),
-        Coded::Whole(double(BX)),
         Coded::Whole(store(frame_field(offset), CX)),
     ])
 }
@@ -156,6 +152,7 @@ pub(crate) fn put_frame_home(code: &mut Assembly, offset: u16) -> Result<(), NoM
 {
     code.put_all(&[
         Coded::Whole(load(AX, BASE)),
+        Coded::Whole(shift_down_once(AX)),
         Coded::Whole(with_number(0, offset)),
     ])
 }

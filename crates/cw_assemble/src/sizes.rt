@@ -122,7 +122,7 @@ fn index_size(index: Place) -> u32
 {
     match index {
         Place::Word { .. } => 7,
-        Place::Frame(_) => 12,
+        Place::Frame(_) => 10,
     }
 }
 
@@ -139,16 +139,18 @@ fn order_size(order: &Order) -> Result<u32, NoMemory>
         Order::NextBody | Order::Less | Order::Load => 5,
         Order::LabelOut(_) | Order::SwitchOut(_) | Order::ProcOut(_) => 5,
         Order::LabelCommon(_) | Order::SwitchCommon(_) | Order::ProcCommon(_) => 5,
-        Order::FrameHome(_) | Order::Exhausted(_) | Order::Return { .. } => 6,
+        Order::Exhausted(_) | Order::Return { .. } => 6,
         Order::SetVariable(_) | Order::AddStep(_) | Order::PutVariable(_) => 6,
         Order::CallProc { .. } | Order::CallCommon { .. } => 6,
-        Order::Store | Order::Bind { .. } => 7,
+        Order::Store | Order::Bind { .. } | Order::Enter(_) => 7,
         Order::JumpIf { .. } | Order::GoSwitch { .. } | Order::GoSwitchCommon { .. } => 8,
-        Order::Neg(_) | Order::InArea(_) | Order::Enter(_) => 9,
+        Order::FrameHome(_) => 8,
+        Order::Neg(_) | Order::InArea(_) => 9,
         Order::Add(_) | Order::SpecialOut(_) => 10,
         Order::Take { t, b } => part_size(*t, *b, false),
+        Order::BindFrame { .. } => 11,
         Order::Sub(_) | Order::IndexLess { .. } => 12,
-        Order::GoSwitchSpecial { .. } | Order::CallSpecial { .. } | Order::BindFrame { .. } => 13,
+        Order::GoSwitchSpecial { .. } | Order::CallSpecial { .. } => 13,
         Order::GoMain(_) => 15,
         Order::LoadPart { t, b, signed } => part_size(*t, *b, *signed) + 5,
         Order::GoSpecial(_) => 17,
@@ -183,10 +185,10 @@ fn operated_size(operand: Simple, with: Use) -> u32
         (Simple::Contents(Place::Word { .. }), Use::Multiply(_)) => 14,
         (Simple::Contents(Place::Word { .. }), Use::Mask | Use::Union | Use::Differ) => 4,
         (Simple::Contents(Place::Word { .. }), Use::Compare { .. }) => 9,
-        (Simple::Contents(Place::Frame(_)), Use::Add(_) | Use::Subtract(_)) => 16,
-        (Simple::Contents(Place::Frame(_)), Use::Multiply(_)) => 20,
-        (Simple::Contents(Place::Frame(_)), Use::Mask | Use::Union | Use::Differ) => 9,
-        (Simple::Contents(Place::Frame(_)), Use::Compare { .. }) => 14,
+        (Simple::Contents(Place::Frame(_)), Use::Add(_) | Use::Subtract(_)) => 14,
+        (Simple::Contents(Place::Frame(_)), Use::Multiply(_)) => 18,
+        (Simple::Contents(Place::Frame(_)), Use::Mask | Use::Union | Use::Differ) => 7,
+        (Simple::Contents(Place::Frame(_)), Use::Compare { .. }) => 12,
         (Simple::Element(element), Use::Add(_) | Use::Subtract(_)) => index_size(element.index)
             + 20,
         (Simple::Element(element), Use::Multiply(_)) => index_size(element.index) + 24,
@@ -203,7 +205,7 @@ fn place_size(place: Place) -> u32
 {
     match place {
         Place::Word { .. } => 3,
-        Place::Frame(_) => 9,
+        Place::Frame(_) => 7,
     }
 }
 
@@ -235,7 +237,7 @@ pub(crate) fn block_size(block: Block, order: &Order) -> Result<u32, NoMemory>
             place: Place::Frame(_),
             b,
             ..
-        } => shift_size(b) + 16,
+        } => shift_size(b) + 14,
         Block::FetchElement(element) | Block::AssignElement(element) => {
             index_size(element.index) + 13
         }

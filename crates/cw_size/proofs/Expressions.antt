@@ -21,7 +21,7 @@ use Rattle.cw_gen_expr.proofs.Layers.{value_layer, value-made, spot-made, refere
 use Rattle.cw_gen_expr.proofs.Layers as made
 use Rattle.cw_tokens.specs.LeastTokens.{separated, part, expression_tokens, argument_tokens, condition_tokens, reference_tokens}
 use Rattle.cw_tmpl.specs.Templates.{listed_size, listed_sizes}
-use Rattle.cw_size.proofs.Short.{sizes-append, first_short, Short, plainly, both_short, ended_short, eased}
+use Rattle.cw_size.proofs.Short.{one_short, sizes-append, first_short, Short, plainly, both_short, ended_short, eased}
 use Rattle.cw_size.proofs.OrderSizes.{item-first, item-load, saved-item, saved-table, bounds-short, take-short, load-part-short, element-short, of-two-short, entry-short, rescale-short, rescale-whole, rescale-same, logic-short, product-short, call-short, label-short}
 use Rattle.cw_size.proofs.TokenLayers.{expression_layer, expression-tokens, argument_layer, argument-tokens, condition_layer, condition-tokens, spot_layer, spot-tokens, reference-tokens, separated-within}
 
@@ -62,7 +62,7 @@ two-spared (Some s) = omega arith
 
 loads : (o : Option Field) → listed_sizes (load_orders o) + 9 ≤ spared o
 loads None = let z : 5 + 0 + 9 ≤ 14 = omega arith in z
-loads (Some s) = let h = load-part-short s.t s.b (not s.unsigned) in let z : listed_size (order.LoadPart s.t s.b (not s.unsigned)) + 0 + 9 ≤ 24 = omega (arith, h) in z
+loads (Some s) = let h = load-part-short s.t s.b (not s.unsigned) in let one = one_short (order.LoadPart s.t s.b (not s.unsigned)) 15 h in let z : listed_sizes (order.LoadPart s.t s.b (not s.unsigned) ∷ []) + 9 ≤ 24 = omega (arith, one) in z
 
 module _ (s : Scope) where
   -- the rescaling from a scale to another, and so much to spare, have at most 14 bytes
@@ -127,38 +127,38 @@ module _ (s : Scope) where
         let span = item_span s.layout i in
         let o = order.Element l span s.line in
         let left = most-spared field in
-        indexed 9 (32 * expression_tokens e + 25) 38 (spared field) (32 * (3 + expression_tokens e)) (order.Save ∷ item_order s.layout i 0 ∷ o ∷ []) (bounded e l u (let z : expression_size e < n = omega (arith, le) in z))
+        indexed 9 (32 * expression_tokens e + 25) 40 (spared field) (32 * (3 + expression_tokens e)) (order.Save ∷ item_order s.layout i 0 ∷ o ∷ []) (bounded e l u (let z : expression_size e < n = omega (arith, le) in z))
         (saved-item s.layout i o 31 (element-short l span s.line))
-        (let z : 32 * expression_tokens e + 25 + 38 + spared field ≤ 32 * (3 + expression_tokens e) + 9 = omega (arith, left) in z)
+        (let z : 32 * expression_tokens e + 25 + 40 + spared field ≤ 32 * (3 + expression_tokens e) + 9 = omega (arith, left) in z)
     indexed_short (layer.Two i l1 u1 l2 u2 m e g) field le =
         let span = item_span s.layout i in
         let o = order.ElementOfTwo l1 l2 m span s.line in
         let left = two-spared field in
-        indexed (9 + (0 + 9)) (32 * expression_tokens e + 25 + (1 + (32 * expression_tokens g + 25))) 74 (spared field) (32 * (4 + (part field + (expression_tokens e + expression_tokens g)))) (order.Save ∷ item_order s.layout i 0 ∷ o ∷ [])
+        indexed (9 + (0 + 9)) (32 * expression_tokens e + 25 + (1 + (32 * expression_tokens g + 25))) 76 (spared field) (32 * (4 + (part field + (expression_tokens e + expression_tokens g)))) (order.Save ∷ item_order s.layout i 0 ∷ o ∷ [])
         (both_short (bounded e l1 u1 (let z : expression_size e < n = omega (arith, le) in z)) (both_short saved_short (bounded g l2 u2 (let z : expression_size g < n = omega (arith, le) in z))))
         (saved-item s.layout i o 67 (of-two-short l1 l2 m span s.line))
-        (let z : 32 * expression_tokens e + 25 + (1 + (32 * expression_tokens g + 25)) + 74 + spared field ≤ 32 * (4 + (part field + (expression_tokens e + expression_tokens g))) + (9 + (0 + 9)) = omega (arith, left) in z)
+        (let z : 32 * expression_tokens e + 25 + (1 + (32 * expression_tokens g + 25)) + 76 + spared field ≤ 32 * (4 + (part field + (expression_tokens e + expression_tokens g))) + (9 + (0 + 9)) = omega (arith, left) in z)
     indexed_short (layer.ParamArray i e) field le =
         let o = order.Element (pos 0) 0 s.line in
         let left = most-spared field in
-        indexed 9 (32 * expression_tokens e + 5) 31 (spared field) (32 * (3 + expression_tokens e)) (order.Save ∷ item_order s.layout i 0 ∷ order.Load ∷ o ∷ []) (at-zero e (let z : expression_size e < n = omega (arith, le) in z))
+        indexed 9 (32 * expression_tokens e + 5) 30 (spared field) (32 * (3 + expression_tokens e)) (order.Save ∷ item_order s.layout i 0 ∷ order.Load ∷ o ∷ []) (at-zero e (let z : expression_size e < n = omega (arith, le) in z))
         (saved-table s.layout true i o 21 (let z : 0 + 21 ≤ 21 = omega arith in z))
-        (let z : 32 * expression_tokens e + 5 + 31 + spared field ≤ 32 * (3 + expression_tokens e) + 9 = omega (arith, left) in z)
+        (let z : 32 * expression_tokens e + 5 + 30 + spared field ≤ 32 * (3 + expression_tokens e) + 9 = omega (arith, left) in z)
     indexed_short (layer.Word i t m e) field le =
         let o = order.Element (pos 0) (table_span s.layout t i) s.line in
         let left = most-spared field in
-        indexed 9 (32 * expression_tokens e + 25) 31 (spared field) (32 * (3 + expression_tokens e)) (order.Save ∷ (table_orders s.layout t i ++ o ∷ []))
+        indexed 9 (32 * expression_tokens e + 25) 30 (spared field) (32 * (3 + expression_tokens e)) (order.Save ∷ (table_orders s.layout t i ++ o ∷ []))
         (bounded e (pos 0) (pos m -ℤ pos 1) (let z : expression_size e < n = omega (arith, le) in z))
         (saved-table s.layout t i o 21 (let z : 0 + 21 ≤ 21 = omega arith in z))
-        (let z : 32 * expression_tokens e + 25 + 31 + spared field ≤ 32 * (3 + expression_tokens e) + 9 = omega (arith, left) in z)
+        (let z : 32 * expression_tokens e + 25 + 30 + spared field ≤ 32 * (3 + expression_tokens e) + 9 = omega (arith, left) in z)
     indexed_short (layer.Elem i t k m w e) field le =
         let span = table_span s.layout t i in
         let o = order.Entry k w span s.line in
         let left = most-spared field in
-        indexed 9 (32 * expression_tokens e + 25) 55 (spared field) (32 * (3 + expression_tokens e)) (order.Save ∷ (table_orders s.layout t i ++ o ∷ []))
+        indexed 9 (32 * expression_tokens e + 25) 54 (spared field) (32 * (3 + expression_tokens e)) (order.Save ∷ (table_orders s.layout t i ++ o ∷ []))
         (bounded e (pos 0) (pos m -ℤ pos 1) (let z : expression_size e < n = omega (arith, le) in z))
         (saved-table s.layout t i o 45 (entry-short k w span s.line))
-        (let z : 32 * expression_tokens e + 25 + 55 + spared field ≤ 32 * (3 + expression_tokens e) + 9 = omega (arith, left) in z)
+        (let z : 32 * expression_tokens e + 25 + 54 + spared field ≤ 32 * (3 + expression_tokens e) + 9 = omega (arith, left) in z)
     indexed_short (layer.Bare e) field le =
         let left = most-spared field in
         indexed 9 (32 * expression_tokens e + 5) 9 (spared field) (32 * (2 + expression_tokens e)) (order.InArea s.line ∷ []) (at-zero e (let z : expression_size e < n = omega (arith, le) in z)) (let z : 9 + 0 ≤ 9 = omega arith in z)
@@ -229,12 +229,12 @@ module _ (s : Scope) where
         eased (both_short (b.references r (let z : reference_size r < n = omega (arith, le) in z)) saved_short)
         (let z : 32 * reference_tokens r + 1 + 0 ≤ 32 * reference_tokens r + 6 + (spared (reference_of s r).field + 0) = omega arith in z)
     argument_short (layer.Array i l) le =
-        argument (item_order s.layout i 0 ∷ order.IndexLess l s.line ∷ order.Save ∷ []) (item-first s.layout i 0 (order.IndexLess l s.line ∷ order.Save ∷ []) 32 (let z : 12 + (1 + 0) ≤ 32 = omega arith in z))
-    argument_short (layer.Same i) le = argument (item_order s.layout i 0 ∷ order.Load ∷ order.Save ∷ []) (item-load s.layout i 0 (order.Save ∷ []) 29 (let z : 1 + 0 ≤ 29 = omega arith in z))
-    argument_short (layer.Base i) le = argument (item_order s.layout i 0 ∷ order.Save ∷ []) (item-first s.layout i 0 (order.Save ∷ []) 32 (let z : 1 + 0 ≤ 32 = omega arith in z))
+        argument (item_order s.layout i 0 ∷ order.IndexLess l s.line ∷ order.Save ∷ []) (item-first s.layout i 0 (order.IndexLess l s.line ∷ order.Save ∷ []) 30 (let z : 12 + (1 + 0) ≤ 30 = omega arith in z))
+    argument_short (layer.Same i) le = argument (item_order s.layout i 0 ∷ order.Load ∷ order.Save ∷ []) (item-load s.layout i 0 (order.Save ∷ []) 31 (let z : 1 + 0 ≤ 31 = omega arith in z))
+    argument_short (layer.Base i) le = argument (item_order s.layout i 0 ∷ order.Save ∷ []) (item-first s.layout i 0 (order.Save ∷ []) 30 (let z : 1 + 0 ≤ 30 = omega arith in z))
     argument_short (layer.Goal g) le =
         let h = label-short s g in
-        argument (label_order s g ∷ []) (let z : listed_size (label_order s g) + 0 ≤ 38 = omega (arith, h) in z)
+        argument (label_order s g ∷ []) (one_short (label_order s g) 38 (let z : listed_size (label_order s g) ≤ 38 = omega (arith, h) in z))
     argument_short (layer.Switch k) le = argument (order.SwitchOut k ∷ []) (let z : 5 + 0 ≤ 38 = omega arith in z)
     argument_short (layer.CommonSwitch d) le = argument (order.SwitchCommon d ∷ []) (let z : 5 + 0 ≤ 38 = omega arith in z)
     argument_short (layer.Proc q) le = argument (order.ProcOut q ∷ []) (let z : 5 + 0 ≤ 38 = omega arith in z)
@@ -320,7 +320,7 @@ module _ (s : Scope) where
         let power = narrow (pos f -ℤ pos ((value_of s a).operand + (value_of s d).operand)) in
         let h = product-short s.line power in
         operands a d (order.Mul power s.line ∷ []) spare (let z : expression_size a < n = omega (arith, le) in z) (let z : expression_size d < n = omega (arith, le) in z)
-        (let z : listed_size (order.Mul power s.line) + 0 + spare ≤ 54 = omega (arith, h, r) in z)
+        (let one = one_short (order.Mul power s.line) 24 h in let z : listed_sizes (order.Mul power s.line ∷ []) + spare ≤ 54 = omega (arith, one, r) in z)
     computed_short (layer.Over a d) le f spare r =
         let power = narrow (pos (f + (value_of s d).operand) -ℤ pos (value_of s a).operand) in
         operands a d (order.Div power s.line ∷ []) spare (let z : expression_size a < n = omega (arith, le) in z) (let z : expression_size d < n = omega (arith, le) in z) (let z : 25 + 0 + spare ≤ 54 = omega (arith, r) in z)

@@ -24,7 +24,7 @@ use Rattle.cw_gen_expr.specs.ReferenceEntries.{bound_by, bound_in, bound_order, 
 use Rattle.cw_gen_expr.specs.UnitTables.{label_mark}
 use Rattle.cw_gen_unit.specs.ReferenceStatements.{after_statement_call, from_procedure, own_order, goal_order, keep_orders, number_orders, set_orders, bump_orders}
 use Rattle.cw_tmpl.specs.Templates.{shift_size, lowest_size, part_size, times_size, width_size, bound_size, word_size, listed_size, sizes_behind, listed_sizes}
-use Rattle.cw_size.proofs.Short.{all-behind, sizes-append, first_short}
+use Rattle.cw_size.proofs.Short.{one_short, all-behind, sizes-append, first_short}
 
 -- ---- items
 
@@ -42,39 +42,39 @@ by-form P home frame y i n = at_family (slice_get y.families (slice_index_or y.h
     at_family None f o = home f (o % 65536)
     at_family (Some x) f o = at_sort x.sort f o
 
-pub item-short : (y : Layout) (i n : ℕ) → listed_size (item_order y i n) ≤ 6
-item-short = by-form (λ o. listed_size o ≤ 6) (λ f n. omega arith) (λ n. omega arith)
+pub item-short : (y : Layout) (i n : ℕ) → listed_size (item_order y i n) ≤ 8
+item-short = by-form (λ o. listed_size o ≤ 8) (λ f n. omega arith) (λ n. omega arith)
 
 -- behind the address of an item, and behind its load
-pub item-first : (y : Layout) (i n : ℕ) (os : List Order) (most : ℕ) → listed_sizes os ≤ most → listed_sizes (item_order y i n ∷ os) ≤ 6 + most
-item-first y i n os most = first_short (item_order y i n) os 6 most (item-short y i n)
+pub item-first : (y : Layout) (i n : ℕ) (os : List Order) (most : ℕ) → listed_sizes os ≤ most → listed_sizes (item_order y i n ∷ os) ≤ 8 + most
+item-first y i n os most = first_short (item_order y i n) os 8 most (item-short y i n)
 
-pub item-load : (y : Layout) (i n : ℕ) (os : List Order) (most : ℕ) → listed_sizes os ≤ most → listed_sizes (item_order y i n ∷ order.Load ∷ os) ≤ 9 + most
+pub item-load : (y : Layout) (i n : ℕ) (os : List Order) (most : ℕ) → listed_sizes os ≤ most → listed_sizes (item_order y i n ∷ order.Load ∷ os) ≤ 7 + most
 item-load y i n os most h =
-    by-form (λ o. listed_sizes (o ∷ order.Load ∷ os) ≤ 9 + most)
+    by-form (λ o. listed_sizes (o ∷ order.Load ∷ os) ≤ 7 + most)
     (λ f m.
     let behind = all-behind (Some (order.Home f m)) (Some order.Load) os in
-    let z : 3 + (0 + sizes_behind (Some (order.Home f m)) (Some order.Load) os) ≤ 9 + most = omega (arith, h, behind) in
+    let z : 0 + 3 + (0 + sizes_behind (Some (order.Home f m)) (Some order.Load) os) ≤ 7 + most = omega (arith, h, behind) in
     z)
     (λ m.
     let behind = all-behind (Some (order.FrameHome m)) (Some order.Load) os in
-    let z : 6 + (3 + sizes_behind (Some (order.FrameHome m)) (Some order.Load) os) ≤ 9 + most = omega (arith, h, behind) in
+    let z : 0 + 6 + (1 + sizes_behind (Some (order.FrameHome m)) (Some order.Load) os) ≤ 7 + most = omega (arith, h, behind) in
     z)
     y
     i
     n
 
 -- behind the store of a saved operand there
-pub item-keep : (y : Layout) (i n : ℕ) (os : List Order) (most : ℕ) → listed_sizes os ≤ most → listed_sizes (order.Save ∷ item_order y i n ∷ order.Store ∷ os) ≤ 9 + most
+pub item-keep : (y : Layout) (i n : ℕ) (os : List Order) (most : ℕ) → listed_sizes os ≤ most → listed_sizes (order.Save ∷ item_order y i n ∷ order.Store ∷ os) ≤ 7 + most
 item-keep y i n os most h =
-    by-form (λ o. listed_sizes (order.Save ∷ o ∷ order.Store ∷ os) ≤ 9 + most)
+    by-form (λ o. listed_sizes (order.Save ∷ o ∷ order.Store ∷ os) ≤ 7 + most)
     (λ f m.
     let behind = all-behind (Some (order.Home f m)) (Some order.Store) os in
-    let z : 1 + (3 + (0 + sizes_behind (Some (order.Home f m)) (Some order.Store) os)) ≤ 9 + most = omega (arith, h, behind) in
+    let z : 0 + 1 + (0 + 3 + (0 + sizes_behind (Some (order.Home f m)) (Some order.Store) os)) ≤ 7 + most = omega (arith, h, behind) in
     z)
     (λ m.
     let behind = all-behind (Some (order.FrameHome m)) (Some order.Store) os in
-    let z : 1 + (6 + (2 + sizes_behind (Some (order.FrameHome m)) (Some order.Store) os)) ≤ 9 + most = omega (arith, h, behind) in
+    let z : 0 + 1 + (0 + 6 + (0 + sizes_behind (Some (order.FrameHome m)) (Some order.Store) os)) ≤ 7 + most = omega (arith, h, behind) in
     z)
     y
     i
@@ -84,24 +84,24 @@ item-keep y i n os most h =
 saved-first : (os : List Order) (most : ℕ) → listed_sizes os ≤ most → listed_sizes (order.Save ∷ os) ≤ 1 + most
 saved-first os most = first_short order.Save os 1 most (let z : 1 ≤ 1 = omega arith in z)
 
-table-short : (y : Layout) (t : Bool) (i : ℕ) → listed_sizes (table_orders y t i) ≤ 9
-table-short y true i = item-load y i 0 [] 0 (let z : 0 ≤ 0 = omega arith in z)
-table-short y false i = item-first y i 0 [] 3 (let z : 0 ≤ 3 = omega arith in z)
+table-short : (y : Layout) (t : Bool) (i : ℕ) → listed_sizes (table_orders y t i) ≤ 8
+table-short y true i = item-load y i 0 [] 1 (let z : 0 ≤ 1 = omega arith in z)
+table-short y false i = item-first y i 0 [] 0 (let z : 0 ≤ 0 = omega arith in z)
 
 -- one order behind a saved index and the address of an item, or a table
-pub saved-item : (y : Layout) (i : ℕ) (o : Order) (most : ℕ) → listed_size o ≤ most → listed_sizes (order.Save ∷ item_order y i 0 ∷ o ∷ []) ≤ 7 + most
+pub saved-item : (y : Layout) (i : ℕ) (o : Order) (most : ℕ) → listed_size o ≤ most → listed_sizes (order.Save ∷ item_order y i 0 ∷ o ∷ []) ≤ 9 + most
 saved-item y i o most h =
-    let all = saved-first (item_order y i 0 ∷ o ∷ []) (6 + most) (item-first y i 0 (o ∷ []) most (let z : listed_size o + 0 ≤ most = omega (arith, h) in z)) in
-    let z : listed_sizes (order.Save ∷ item_order y i 0 ∷ o ∷ []) ≤ 7 + most = omega (arith, all) in
+    let all = saved-first (item_order y i 0 ∷ o ∷ []) (8 + most) (item-first y i 0 (o ∷ []) most (one_short o most h)) in
+    let z : listed_sizes (order.Save ∷ item_order y i 0 ∷ o ∷ []) ≤ 9 + most = omega (arith, all) in
     z
 
-pub saved-table : (y : Layout) (t : Bool) (i : ℕ) (o : Order) (most : ℕ) → listed_size o ≤ most → listed_sizes (order.Save ∷ (table_orders y t i ++ o ∷ [])) ≤ 10 + most
+pub saved-table : (y : Layout) (t : Bool) (i : ℕ) (o : Order) (most : ℕ) → listed_size o ≤ most → listed_sizes (order.Save ∷ (table_orders y t i ++ o ∷ [])) ≤ 9 + most
 saved-table y t i o most h =
     let table = table-short y t i in
     let both = sizes-append (table_orders y t i) (o ∷ []) in
-    let last : listed_sizes (o ∷ []) ≤ most = (let z : listed_size o + 0 ≤ most = omega (arith, h) in z) in
-    let all = saved-first (table_orders y t i ++ o ∷ []) (9 + most) (let z : listed_sizes (table_orders y t i ++ o ∷ []) ≤ 9 + most = omega (arith, table, both, last) in z) in
-    let z : listed_sizes (order.Save ∷ (table_orders y t i ++ o ∷ [])) ≤ 10 + most = omega (arith, all) in
+    let last : listed_sizes (o ∷ []) ≤ most = one_short o most h in
+    let all = saved-first (table_orders y t i ++ o ∷ []) (8 + most) (let z : listed_sizes (table_orders y t i ++ o ∷ []) ≤ 8 + most = omega (arith, table, both, last) in z) in
+    let z : listed_sizes (order.Save ∷ (table_orders y t i ++ o ∷ [])) ≤ 9 + most = omega (arith, all) in
     z
 
 -- ---- parts, bounds and products
@@ -142,7 +142,7 @@ bounds-short false line l h = omega arith
 
 pub store-short : (o : Option Field) → listed_sizes (store_orders o) ≤ 26
 store-short None = omega arith
-store-short (Some s) = let h = store-part-short s.t s.b in let z : listed_size (order.StorePart s.t s.b) + 0 ≤ 26 = omega (arith, h) in z
+store-short (Some s) = let h = store-part-short s.t s.b in one_short (order.StorePart s.t s.b) 26 h
 
 times-short : (n : ℕ) → times_size n ≤ 14
 times-short n = picked (n == 32768)
@@ -201,7 +201,7 @@ rescale-short line from to = picked (from == to)
   where
     picked : (b : Bool) → listed_sizes (if b then [] else (order.Rescale from to line ∷ [])) ≤ 14
     picked true = omega arith
-    picked false = let h = one-rescale line from to in let z : listed_size (order.Rescale from to line) + 0 ≤ 14 = omega (arith, h) in z
+    picked false = let h = one-rescale line from to in one_short (order.Rescale from to line) 14 h
 
 -- to scale 0, and to the same
 pub rescale-whole : (line from : ℕ) → listed_sizes (rescale_orders line from 0) ≤ 5
@@ -218,7 +218,7 @@ rescale-whole line from = picked (from == 0) refl
     picked : (b : Bool) → (from == 0) ≡ b → listed_sizes (if b then [] else (order.Rescale from 0 line ∷ [])) ≤ 5
     picked true e = omega arith
     picked false e =
-        let h = by_order (nat_le from 0) refl e (times_size (2 ^ (0 - from))) in let z : listed_size (order.Rescale from 0 line) + 0 ≤ 5 = omega (arith, h) in z
+        one_short (order.Rescale from 0 line) 5 (by_order (nat_le from 0) refl e (times_size (2 ^ (0 - from))))
 
 pub rescale-same : (line f : ℕ) → listed_sizes (rescale_orders line f f) ≤ 0
 rescale-same line f = picked (f == f) (same f)
@@ -282,18 +282,18 @@ goal-short u who (goal.Common d) = omega arith
 
 -- ---- FOR
 
-pub number-short : (y : Layout) (item i : ℕ) → listed_sizes (number_orders y item i) ≤ 12
+pub number-short : (y : Layout) (item i : ℕ) → listed_sizes (number_orders y item i) ≤ 10
 number-short y item i =
-    first_short (number_order i) (keep_orders y item 3) 3 9 (let z : 3 ≤ 3 = omega arith in z) (item-keep y item 3 [] 0 (let z : 0 ≤ 0 = omega arith in z))
+    first_short (number_order i) (keep_orders y item 3) 3 7 (let z : 3 ≤ 3 = omega arith in z) (item-keep y item 3 [] 0 (let z : 0 ≤ 0 = omega arith in z))
 
-pub set-short : (y : Layout) (line item : ℕ) → listed_sizes (set_orders y line item) ≤ 13
+pub set-short : (y : Layout) (line item : ℕ) → listed_sizes (set_orders y line item) ≤ 15
 set-short y line item =
-    saved-first (item_order y item 0 ∷ order.SetVariable line ∷ []) 12 (item-first y item 0 (order.SetVariable line ∷ []) 6 (let z : 6 + 0 ≤ 6 = omega arith in z))
+    saved-first (item_order y item 0 ∷ order.SetVariable line ∷ []) 14 (item-first y item 0 (order.SetVariable line ∷ []) 6 (let z : 6 + 0 ≤ 6 = omega arith in z))
 
-pub bump-short : (y : Layout) (line item : ℕ) → listed_sizes (bump_orders y line item) ≤ 12
+pub bump-short : (y : Layout) (line item : ℕ) → listed_sizes (bump_orders y line item) ≤ 14
 bump-short y line item = item-first y item 0 (order.AddStep line ∷ []) 6 (let z : 6 + 0 ≤ 6 = omega arith in z)
 
-pub turn-short : (y : Layout) (line item body mark : ℕ) → listed_sizes (item_order y item 0 ∷ order.PutVariable line ∷ order.Exhausted mark ∷ order.Jump body ∷ []) ≤ 21
+pub turn-short : (y : Layout) (line item body mark : ℕ) → listed_sizes (item_order y item 0 ∷ order.PutVariable line ∷ order.Exhausted mark ∷ order.Jump body ∷ []) ≤ 23
 turn-short y line item body mark =
     item-first y item 0 (order.PutVariable line ∷ order.Exhausted mark ∷ order.Jump body ∷ []) 15 (let z : 6 + (6 + (3 + 0)) ≤ 15 = omega arith in z)
 
@@ -313,7 +313,7 @@ bound-short y k i = at_family (slice_get y.families (slice_index_or y.homes i (0
     at_family (Some x) f o = at_sort x.sort f o
 
 one-bound : (y : Layout) (k i : ℕ) → listed_sizes (bound_order y k i ∷ []) ≤ 13
-one-bound y k i = let e = bound-short y k i in let z : listed_size (bound_order y k i) + 0 ≤ 13 = omega (arith, e) in z
+one-bound y k i = one_short (bound_order y k i) 13 (bound-short y k i)
 
 parameter-short : (y : Layout) (q : Param) (k : ℕ) → listed_sizes (parameter_orders y q k) ≤ 13
 parameter-short y (param.Value i s) k = one-bound y k i

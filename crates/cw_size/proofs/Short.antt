@@ -1,12 +1,12 @@
 -- Pieces whose orders have few bytes, wherever they stand.
-use Rattle.std.proofs.Common.{ℕ, ◌+◌, ◌≤◌, List, [], ◌∷◌, ◌++◌, length, Option, Some, None, arith}
+use Rattle.std.proofs.Common.{ℕ, ◌+◌, ◌≤◌, List, [], ◌∷◌, ◌++◌, length, Option, Some, None, refl, ◌≡◌, arith}
 use Rattle.cw_order.specs.declared.order.Order.{Order}
 use Rattle.cw_order.specs.declared.order.Order.TheVariants as order
 use Rattle.cw_gen_expr.specs.Pieces.{Piece, plain, followed_by, with_end, with_labels}
-use Rattle.cw_tmpl.specs.Templates.{listed_size, size_behind, sizes_behind, listed_sizes}
+use Rattle.cw_tmpl.specs.Templates.{listed_size, size_in_list, owed, size_behind, sizes_behind, listed_sizes}
 
--- an order takes no more behind others
-behind-within : (second first : Option Order) (o : Order) → size_behind second first o ≤ listed_size o
+-- an order takes no more behind others than what these owe
+behind-within : (second first : Option Order) (o : Order) → size_behind second first o ≤ owed first + size_in_list o
 behind-within second (Some (order.Home f n)) order.Load = omega arith
 behind-within second (Some (order.FrameHome n)) order.Load = omega arith
 behind-within (Some order.Save) (Some (order.Home f n)) order.Store = omega arith
@@ -27,17 +27,17 @@ seconds-within second x (o ∷ os) =
     let z : size_behind second (Some x) o + sizes_behind (Some x) (Some o) os ≤ size_behind None (Some x) o + sizes_behind (Some x) (Some o) os = omega (arith, h) in
     z
 
-pub all-behind : (second first : Option Order) (os : List Order) → sizes_behind second first os ≤ listed_sizes os
+pub all-behind : (second first : Option Order) (os : List Order) → sizes_behind second first os ≤ owed first + listed_sizes os
 all-behind second first [] = omega arith
 all-behind second first (o ∷ os) =
     let h = behind-within second first o in
     let k = seconds-within first o os in
-    let z : size_behind second first o + sizes_behind first (Some o) os ≤ listed_size o + sizes_behind None (Some o) os = omega (arith, h, k) in
+    let z : size_behind second first o + sizes_behind first (Some o) os ≤ owed first + (0 + size_in_list o + sizes_behind None (Some o) os) = omega (arith, h, k) in
     z
 
 append-behind : (second first : Option Order) (xs ys : List Order) → sizes_behind second first (xs ++ ys) ≤ sizes_behind second first xs + listed_sizes ys
 append-behind second first [] ys =
-    let h = all-behind second first ys in let z : sizes_behind second first ys ≤ 0 + listed_sizes ys = omega (arith, h) in z
+    all-behind second first ys
 append-behind second first (x ∷ xs) ys =
     let h = append-behind first (Some x) xs ys in
     let z : size_behind second first x + sizes_behind first (Some x) (xs ++ ys) ≤ size_behind second first x + sizes_behind first (Some x) xs + listed_sizes ys = omega (arith, h) in
@@ -46,10 +46,21 @@ append-behind second first (x ∷ xs) ys =
 pub sizes-append : (xs ys : List Order) → listed_sizes (xs ++ ys) ≤ listed_sizes xs + listed_sizes ys
 sizes-append = append-behind None None
 
+-- an order alone has what it has in a list and what it owes
+whole-size : (o : Order) → size_in_list o + owed (Some o) ≡ listed_size o
+whole-size (order.FrameHome n) = refl
+whole-size o = omega arith
+
 -- an order, and orders behind it
 pub first_short : (o : Order) (os : List Order) (m n : ℕ) → listed_size o ≤ m → listed_sizes os ≤ n → listed_sizes (o ∷ os) ≤ m + n
 first_short o os m n h k =
-    let behind = all-behind None (Some o) os in let z : listed_size o + sizes_behind None (Some o) os ≤ m + n = omega (arith, h, k, behind) in z
+    let behind = all-behind None (Some o) os in
+    let alone = whole-size o in
+    let z : 0 + size_in_list o + sizes_behind None (Some o) os ≤ m + n = omega (arith, h, k, behind, alone) in
+    z
+
+pub one_short : (o : Order) (most : ℕ) → listed_size o ≤ most → listed_sizes (o ∷ []) ≤ most
+one_short o most h = let alone = whole-size o in let z : 0 + size_in_list o + owed (Some o) ≤ most = omega (arith, h, alone) in z
 
 -- the orders have at most so many bytes, even with some to spare
 pub record Short (p : Piece) (spare most : ℕ) : Type 0 where

@@ -20,7 +20,7 @@ use Rattle.cw_tokens.specs.LeastTokens as least
 use Rattle.cw_tokens.specs.LeastTokens.{separated, arguments, expression_tokens, argument_tokens, condition_tokens, reference_tokens, each_argument, element_tokens, each_element, jump_tokens, statement_tokens}
 use Rattle.cw_tmpl.specs.Templates.{listed_size, listed_sizes}
 use Rattle.cw_tokens.specs.SetLabels.{together, set_step, set_labels}
-use Rattle.cw_size.proofs.Short.{first_short, Short, plainly, both_short, ended_short, labels_short, eased}
+use Rattle.cw_size.proofs.Short.{one_short, first_short, Short, plainly, both_short, ended_short, labels_short, eased}
 use Rattle.cw_size.proofs.OrderSizes.{item-load, item-keep, store-part-short, store-short, call-short, after-short, goal-short, number-short, set-short, bump-short, turn-short}
 use Rattle.cw_size.proofs.TokenLayers.{each-argument, separated-within}
 use Rattle.cw_size.proofs.Expressions.{choice_short, saved_short, expression_short, condition_ended_short, address_short, arguments_short}
@@ -66,8 +66,8 @@ statement-size = fold_out-Stmt ℕ size_step
 begin_short : (line : ℕ) → Short (plain (begin_orders line)) 0 1
 begin_short line = plainly (begin_orders line) 1 (let z : 1 + 0 ≤ 1 = omega arith in z)
 
-kept_short : (y : Layout) (item word : ℕ) (os : List Order) (most : ℕ) → listed_sizes os ≤ most → Short (plain (keep_orders y item word ++ os)) 0 (9 + most)
-kept_short y item word os most h = plainly (keep_orders y item word ++ os) (9 + most) (item-keep y item word os most h)
+kept_short : (y : Layout) (item word : ℕ) (os : List Order) (most : ℕ) → listed_sizes os ≤ most → Short (plain (keep_orders y item word ++ os)) 0 (7 + most)
+kept_short y item word os most h = plainly (keep_orders y item word ++ os) (7 + most) (item-keep y item word os most h)
 
 -- ---- FOR
 
@@ -80,20 +80,20 @@ module _ (s : Scope) where
   element_short item f set body i (element.One e) =
       ended_short (λ next. followed_by (plain (number_orders s.layout item i)) (followed_by (expression_piece s e f) (plain (order.Jump set ∷ []))))
       (λ next. eased
-      (both_short (plainly (number_orders s.layout item i) 12 (number-short s.layout item i))
+      (both_short (plainly (number_orders s.layout item i) 10 (number-short s.layout item i))
       (both_short (expression_short s e f) (plainly (order.Jump set ∷ []) 3 (let z : 3 + 0 ≤ 3 = omega arith in z))))
-      (let z : 12 + (32 * expression_tokens e + 5 + 3) + 2 ≤ 32 * suc (expression_tokens e) + (0 + (0 + 0)) = omega arith in z))
+      (let z : 10 + (32 * expression_tokens e + 5 + 3) + 2 ≤ 32 * suc (expression_tokens e) + (0 + (0 + 0)) = omega arith in z))
   element_short item f set body i (element.While e c) =
       let a = expression_tokens e in
       let b = condition_tokens c in
       eased
       (middle_short (λ own. plain []) (λ own. with_end (λ next. while_values s item f body next i e c)) (λ own. plainly [] 0 (let z : 0 ≤ 0 = omega arith in z))
       (λ own. ended_short (λ next. while_values s item f body next i e c)
-      (λ next. both_short (plainly (number_orders s.layout item i) 12 (number-short s.layout item i))
+      (λ next. both_short (plainly (number_orders s.layout item i) 10 (number-short s.layout item i))
       (both_short (expression_short s e f)
-      (both_short (plainly (set_orders s.layout s.line item) 13 (set-short s.layout s.line item))
+      (both_short (plainly (set_orders s.layout s.line item) 15 (set-short s.layout s.line item))
       (both_short (condition_ended_short s c false next) (plainly (order.Jump body ∷ []) 3 (let z : 3 + 0 ≤ 3 = omega arith in z))))))))
-      (let z : 0 + (12 + (32 * a + 5 + (13 + (32 * b + 3)))) + 2 ≤ 32 * suc (suc (a + b)) + (0 + (0 + (0 + (0 + (0 + 0))))) = omega arith in z)
+      (let z : 0 + (10 + (32 * a + 5 + (15 + (32 * b + 3)))) + 2 ≤ 32 * suc (suc (a + b)) + (0 + (0 + (0 + (0 + (0 + 0))))) = omega arith in z)
   element_short item f set body i (element.Step a b d) =
       let k = expression_tokens a in
       let m = expression_tokens b in
@@ -102,16 +102,16 @@ module _ (s : Scope) where
       (middle_short (λ turn. followed_by (with_end (λ bump. step_values s item f turn i a b d)) (plain (bump_orders s.layout s.line item))) (λ turn. turn_piece s.layout s.line item body)
       (λ turn. both_short
       (ended_short (λ bump. step_values s item f turn i a b d)
-      (λ bump. both_short (plainly (number_orders s.layout item i) 12 (number-short s.layout item i))
+      (λ bump. both_short (plainly (number_orders s.layout item i) 10 (number-short s.layout item i))
       (both_short (expression_short s a f)
-      (both_short (plainly (set_orders s.layout s.line item) 13 (set-short s.layout s.line item))
+      (both_short (plainly (set_orders s.layout s.line item) 15 (set-short s.layout s.line item))
       (both_short (expression_short s b f)
       (both_short (kept_short s.layout item 1 [] 0 (let z : 0 ≤ 0 = omega arith in z))
       (both_short (expression_short s d f) (kept_short s.layout item 2 (order.Jump turn ∷ []) 3 (let z : 3 + 0 ≤ 3 = omega arith in z)))))))))
-      (plainly (bump_orders s.layout s.line item) 12 (bump-short s.layout s.line item)))
+      (plainly (bump_orders s.layout s.line item) 14 (bump-short s.layout s.line item)))
       (λ turn. ended_short (λ next. plain (item_order s.layout item 0 ∷ order.PutVariable s.line ∷ order.Exhausted next ∷ order.Jump body ∷ []))
-      (λ next. plainly (item_order s.layout item 0 ∷ order.PutVariable s.line ∷ order.Exhausted next ∷ order.Jump body ∷ []) 21 (turn-short s.layout s.line item body next))))
-      (let z : 12 + (32 * k + 5 + (13 + (32 * m + 5 + (9 + 0 + (32 * n + 5 + (9 + 3)))))) + 12 + 21 + 2 ≤ 32 * suc (2 + (k + (m + n))) + (0 + (0 + (0 + (0 + (0 + (0 + 0))))) + 0 + 0) = omega arith in z)
+      (λ next. plainly (item_order s.layout item 0 ∷ order.PutVariable s.line ∷ order.Exhausted next ∷ order.Jump body ∷ []) 23 (turn-short s.layout s.line item body next))))
+      (let z : 10 + (32 * k + 5 + (15 + (32 * m + 5 + (7 + 0 + (32 * n + 5 + (7 + 3)))))) + 14 + 23 + 2 ≤ 32 * suc (2 + (k + (m + n))) + (0 + (0 + (0 + (0 + (0 + (0 + 0))))) + 0 + 0) = omega arith in z)
 
   elements_short : (item f set body i : ℕ) (es : List Felem) → Short (elements_piece s item f set body i es) (2 * length es) (32 * separated (each_element es))
   elements_short item f set body i [] = plainly [] (32 * 0) (let z : 0 ≤ 32 * 0 = omega arith in z)
@@ -128,10 +128,10 @@ module _ (s : Scope) where
   ring_short : (item f : ℕ) (es : List Felem) (body : Piece) (k m : ℕ) → Short body k m → Short (ring_piece s item f es body) k (32 * separated (each_element es) + m + 45)
   ring_short item f es body k m hb = record { at = λ place next. (laid (element_ways s item f (next + 1 + 1) (next + 1) 1 es place (next + 1 + 1 + 1)) (ways-long item f (next + 1 + 1) (next + 1) 1 es place (next + 1 + 1 + 1))).at place next }
     where
-      way_short : (ways : List ℕ) → length ways ≡ length es → listed_sizes (item_order s.layout item 3 ∷ order.Load ∷ order.LoopWay ways ∷ []) ≤ 29 + 2 * length es
+      way_short : (ways : List ℕ) → length ways ≡ length es → listed_sizes (item_order s.layout item 3 ∷ order.Load ∷ order.LoopWay ways ∷ []) ≤ 27 + 2 * length es
       way_short ways e =
-          let h = item-load s.layout item 3 (order.LoopWay ways ∷ []) (20 + 2 * length es) (let z : 20 + 2 * length ways + 0 ≤ 20 + 2 * length es = omega (arith, e) in z) in
-          let z : listed_sizes (item_order s.layout item 3 ∷ order.Load ∷ order.LoopWay ways ∷ []) ≤ 29 + 2 * length es = omega (arith, h) in
+          let h = item-load s.layout item 3 (order.LoopWay ways ∷ []) (20 + 2 * length es) (one_short (order.LoopWay ways) (20 + 2 * length es) (let z : 20 + 2 * length ways ≤ 20 + 2 * length es = omega (arith, e) in z)) in
+          let z : listed_sizes (item_order s.layout item 3 ∷ order.Load ∷ order.LoopWay ways ∷ []) ≤ 27 + 2 * length es = omega (arith, h) in
           z
 
       laid : (ways : List ℕ) → length ways ≡ length es
@@ -144,9 +144,9 @@ module _ (s : Scope) where
           (λ start. both_short
           (ended_short (λ set. followed_by (elements_piece s item f set start 1 es) (plain (order.Jump end ∷ [])))
           (λ set. both_short (elements_short item f set start 1 es) (plainly (order.Jump end ∷ []) 3 (let z : 3 + 0 ≤ 3 = omega arith in z))))
-          (plainly (set_orders s.layout s.line item) 13 (set-short s.layout s.line item)))
-          (λ start. both_short hb (plainly (item_order s.layout item 3 ∷ order.Load ∷ order.LoopWay ways ∷ []) (29 + 2 * length es) (way_short ways e))))
-          (let z : 32 * separated (each_element es) + 3 + 13 + (m + (29 + 2 * length es)) + k ≤ 32 * separated (each_element es) + m + 45 + (2 * length es + 0 + 0 + (k + 0)) = omega arith in z))
+          (plainly (set_orders s.layout s.line item) 15 (set-short s.layout s.line item)))
+          (λ start. both_short hb (plainly (item_order s.layout item 3 ∷ order.Load ∷ order.LoopWay ways ∷ []) (27 + 2 * length es) (way_short ways e))))
+          (let z : 32 * separated (each_element es) + 3 + 15 + (m + (27 + 2 * length es)) + k ≤ 32 * separated (each_element es) + m + 45 + (2 * length es + 0 + 0 + (k + 0)) = omega arith in z))
 
 -- ---- statements
 
@@ -154,11 +154,11 @@ module _ (s : Scope) (who : Option ℕ) (answer : ℕ) where
   -- the index of a switch, and the way to it
   switched : (line : ℕ) (e : Expr) (o : Order) → listed_size o ≤ 13 → Short (followed_by (expression_piece (at_line line s) e 0) (plain (o ∷ []))) 0 (32 * (3 + expression_tokens e))
   switched line e o h =
-      eased (both_short (expression_short (at_line line s) e 0) (plainly (o ∷ []) 13 (let z : listed_size o + 0 ≤ 13 = omega (arith, h) in z)))
+      eased (both_short (expression_short (at_line line s) e 0) (plainly (o ∷ []) 13 (one_short o 13 h)))
       (let z : 32 * expression_tokens e + 5 + 13 + 0 ≤ 32 * (3 + expression_tokens e) + (0 + 0) = omega arith in z)
 
   jump_short : (line : ℕ) (d : Dest) → Short (jump_piece (at_line line s) who d) 0 (32 * jump_tokens d)
-  jump_short line (dest.Goal g) = let h = goal-short s.unit who g in plainly (goal_order s.unit who g ∷ []) (32 * 1) (let z : listed_size (goal_order s.unit who g) + 0 ≤ 32 * 1 = omega (arith, h) in z)
+  jump_short line (dest.Goal g) = let h = goal-short s.unit who g in plainly (goal_order s.unit who g ∷ []) (32 * 1) (one_short (goal_order s.unit who g) (32 * 1) (let z : listed_size (goal_order s.unit who g) ≤ 32 * 1 = omega (arith, h) in z))
   jump_short line (dest.Special k) = plainly (order.GoSpecial (control_place s.parameters k) ∷ []) (32 * 1) (let z : 17 + 0 ≤ 32 * 1 = omega arith in z)
   jump_short line (dest.Switch n e) = switched line e (order.GoSwitch n line) (let z : 8 ≤ 13 = omega arith in z)
   jump_short line (dest.CommonSwitch d e) = switched line e (order.GoSwitchCommon d line) (let z : 8 ≤ 13 = omega arith in z)
@@ -188,7 +188,7 @@ module _ (s : Scope) (who : Option ℕ) (answer : ℕ) where
         eased
         (both_short (begin_short line)
         (both_short (expression_short (at_line line s) e 0)
-        (both_short (saved_short (at_line line s)) (both_short (address_short (at_line line s) r) (plainly (order.StorePart t b ∷ []) 26 (let h = store-part-short t b in let z : listed_size (order.StorePart t b) + 0 ≤ 26 = omega (arith, h) in z))))))
+        (both_short (saved_short (at_line line s)) (both_short (address_short (at_line line s) r) (plainly (order.StorePart t b ∷ []) 26 (one_short (order.StorePart t b) 26 (store-part-short t b)))))))
         (let z : 1 + (32 * expression_tokens e + 5 + (1 + (32 * reference_tokens r + 26))) + 15 * 0 ≤ 32 * (7 + (reference_tokens r + expression_tokens e)) + (0 + (0 + (0 + (14 + 0)))) = omega arith in z)
     layer_short (statement.Go line d) le =
         eased (both_short (begin_short line) (jump_short line d)) (let z : 1 + 32 * jump_tokens d + 15 * 0 ≤ 32 * suc (jump_tokens d) + (0 + 0) = omega arith in z)
@@ -222,7 +222,7 @@ module _ (s : Scope) (who : Option ℕ) (answer : ℕ) where
         (both_short (address_short h r)
         (both_short (kept_short s.layout item 0 [] 0 (let z : 0 ≤ 0 = omega arith in z))
         (ring_short h item (out-Ref r).f es (statement_piece s who answer t) (15 * set_labels t) (32 * statement_tokens t) (below t (let z : statement_size t < n = omega (arith, le) in z))))))
-        (let z : 1 + (32 * reference_tokens r + (9 + 0 + (32 * m + 32 * statement_tokens t + 45))) + 15 * set_labels t ≤ 32 * (2 + (reference_tokens r + (m + statement_tokens t))) + (0 + (14 + (0 + 15 * set_labels t))) = omega arith in z)
+        (let z : 1 + (32 * reference_tokens r + (7 + 0 + (32 * m + 32 * statement_tokens t + 45))) + 15 * set_labels t ≤ 32 * (2 + (reference_tokens r + (m + statement_tokens t))) + (0 + (14 + (0 + 15 * set_labels t))) = omega arith in z)
     layer_short (statement.Seq ss) le = all_short ss (let z : total (map statement_size ss) < n = omega (arith, le) in z)
     layer_short (statement.Mark ls t) le =
         eased (both_short (labels_short ls) (below t (let z : statement_size t < n = omega (arith, le) in z)))

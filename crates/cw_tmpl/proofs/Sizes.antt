@@ -31,7 +31,7 @@ use Rattle.cw_tmpl.specs.Names.{Names, no_names, mark_place, switch_size}
 use Rattle.cw_tmpl.specs.Blocks.{address_orders, element_orders, operand_orders, order_of, count_order, element_at, element_fetched, fetched_or, block_of, block_at, orders_left, left_at}
 use Rattle.cw_tmpl.proofs.Shapes.{IsBlock, shape}
 use Rattle.cw_tmpl.specs.Library.{overflow_entry, address_entry}
-use Rattle.cw_tmpl.specs.Templates.{template, mark_words, goal_words, landing_pieces, switch_pieces, times_if, rescale_if, product_start, product_down, times, less_bound, plus_word, times_width, based, element, in_row, element_of_two, entry, address_pieces, load_place, store_place, pieces_size, operated, block_pieces, block_size, order_size, times_size, width_size, bound_size, word_size, listed_size, size_behind, sizes_behind, listed_sizes, distance, entry_pieces, shifted, shifted_up, shifted_down, shifted_down_signed, lowest_if, part_taken, index_size, store_part, operate_place, change_place, index_added, element_address, with_operand, product_with, checked, branch, call_stop, shift_size, lowest_size, part_size}
+use Rattle.cw_tmpl.specs.Templates.{template, mark_words, goal_words, landing_pieces, switch_pieces, times_if, rescale_if, product_start, product_down, times, less_bound, plus_word, times_width, based, element, in_row, element_of_two, entry, address_pieces, load_place, store_place, pieces_size, operated, block_pieces, block_size, order_size, times_size, width_size, bound_size, word_size, listed_size, size_behind, sizes_behind, listed_sizes, distance, entry_pieces, shifted, shifted_up, shifted_down, shifted_down_signed, lowest_if, part_taken, index_size, store_part, operate_place, change_place, index_added, element_address, with_operand, product_with, checked, branch, call_stop, shift_size, lowest_size, part_size, size_in_list, owed}
 use Rattle.cw_tmpl.specs.ReferenceCode.{templates, landings, switches, places_from, entry_size, order_places, landings_place, switches_place, names_of, mark_starts, pieces_of, switch_sizes, StandsAt}
 use Rattle.cw_tmpl.proofs.Growing.{blanks-append}
 
@@ -200,9 +200,9 @@ behind_unsaved o h x [] = refl
 behind_unsaved o h x (y ∷ ys) = ap (λ n. n + sizes_behind (Some x) (Some y) ys) (unsaved o h x y)
 
 -- behind an order that is neither a save nor the address of a word
-behind_other : (before : Option Order) (o : Order) → NoSave o → ((x : Order) → size_behind before (Some o) x ≡ listed_size x) → (os : List Order) → sizes_behind before (Some o) os ≡ listed_sizes os
-behind_other before o h same [] = refl
-behind_other before o h same (x ∷ xs) = ap₂ (λ m n. m + n) (same x) (behind_unsaved o h x xs)
+behind_other : (before : Option Order) (o : Order) → NoSave o → ((x : Order) → size_behind before (Some o) x ≡ 0 + size_in_list x) → (owed (Some o) ≡ 0) → (os : List Order) → sizes_behind before (Some o) os ≡ listed_sizes os
+behind_other before o h same none [] = none
+behind_other before o h same none (x ∷ xs) = ap₂ (λ m n. m + n) (same x) (behind_unsaved o h x xs)
 
 -- behind a save that is a block of its own
 behind_save : (x : Order) → ((y : Order) → size_behind (Some order.Save) (Some x) y ≡ size_behind None (Some x) y) → (os : List Order) → sizes_behind (Some order.Save) (Some x) os ≡ sizes_behind None (Some x) os
@@ -234,7 +234,7 @@ single_fits (order.Home f n) (x ∷ os) is = omega (arith, behind_unsaved (order
 single_fits (order.FrameHome n) [] is = omega arith
 single_fits (order.FrameHome n) (order.Load ∷ os) is = absurd (fetched_never_single (cell.Frame n) (element_at (Some (cell.Frame n)) (order.FrameHome n ∷ order.Load ∷ os)) (order.FrameHome n ∷ order.Load ∷ os) is)
 single_fits (order.FrameHome n) (x ∷ os) is = omega (arith, behind_unsaved (order.FrameHome n) tt x os)
-single_fits o os is = omega (arith, behind_other None o tt (λ x. refl) os)
+single_fits o os is = omega (arith, behind_other None o tt (λ x. refl) refl os)
 
 -- a multiplication by a number, and codes that hang on one
 times_long : (b : Bool) (stop line n : ℕ) → length (blanks (times_if b stop line n)) ≡ (if b then 14 else 12)
@@ -328,18 +328,18 @@ listed _ = refl
 
 -- the orders of a block, and those behind it
 fetch_fits : (x : Place) (rest : List Order) → pieces_size (address_pieces x ++ load_place x ∷ []) + listed_sizes rest ≤ listed_sizes (address_orders x ++ order.Load ∷ rest)
-fetch_fits (cell.Word f n) rest = omega (arith, behind_other (Some (order.Home f n)) order.Load tt (λ x. refl) rest)
-fetch_fits (cell.Frame n) rest = omega (arith, behind_other (Some (order.FrameHome n)) order.Load tt (λ x. refl) rest)
+fetch_fits (cell.Word f n) rest = omega (arith, behind_other (Some (order.Home f n)) order.Load tt (λ x. refl) refl rest)
+fetch_fits (cell.Frame n) rest = omega (arith, behind_other (Some (order.FrameHome n)) order.Load tt (λ x. refl) refl rest)
 
 assign_fits : (x : Place) (rest : List Order) → pieces_size (address_pieces x ++ store_place x ∷ []) + listed_sizes rest ≤ listed_sizes (order.Save ∷ (address_orders x ++ order.Store ∷ rest))
-assign_fits (cell.Word f n) rest = omega (arith, behind_other (Some (order.Home f n)) order.Store tt (λ x. refl) rest)
-assign_fits (cell.Frame n) rest = omega (arith, behind_other (Some (order.FrameHome n)) order.Store tt (λ x. refl) rest)
+assign_fits (cell.Word f n) rest = omega (arith, behind_other (Some (order.Home f n)) order.Store tt (λ x. refl) refl rest)
+assign_fits (cell.Frame n) rest = omega (arith, behind_other (Some (order.FrameHome n)) order.Store tt (λ x. refl) refl rest)
 
 -- parts
 fetch_part_fits : (x : Place) (t b : ℕ) (is_signed : Bool) (rest : List Order)
     → pieces_size (address_pieces x ++ load_place x ∷ part_taken t b is_signed) + listed_sizes rest ≤ listed_sizes (address_orders x ++ order.LoadPart t b is_signed ∷ rest)
-fetch_part_fits (cell.Word f n) t b is_signed rest = omega (arith, part_long t b is_signed, behind_other (Some (order.Home f n)) (order.LoadPart t b is_signed) tt (λ x. refl) rest)
-fetch_part_fits (cell.Frame n) t b is_signed rest = omega (arith, part_long t b is_signed, behind_other (Some (order.FrameHome n)) (order.LoadPart t b is_signed) tt (λ x. refl) rest)
+fetch_part_fits (cell.Word f n) t b is_signed rest = omega (arith, part_long t b is_signed, behind_other (Some (order.Home f n)) (order.LoadPart t b is_signed) tt (λ x. refl) refl rest)
+fetch_part_fits (cell.Frame n) t b is_signed rest = omega (arith, part_long t b is_signed, behind_other (Some (order.FrameHome n)) (order.LoadPart t b is_signed) tt (λ x. refl) refl rest)
 
 assign_part_fits : (x : Place) (t b : ℕ) (rest : List Order)
     → pieces_size (shifted_up b ++ (address_pieces x ++ operate_place 6 x ∷ coded.Whole (with_number 4 (field_mask t b)) ∷ change_place 6 x ∷ [])) + listed_sizes rest
@@ -350,13 +350,13 @@ assign_part_fits x t b rest = cases x
     changed y = address_pieces y ++ operate_place 6 y ∷ coded.Whole (with_number 4 (field_mask t b)) ∷ change_place 6 y ∷ []
 
     cases : (y : Place) → pieces_size (shifted_up b ++ changed y) + listed_sizes rest ≤ listed_sizes (order.Save ∷ (address_orders y ++ order.StorePart t b ∷ rest))
-    cases (cell.Word f n) = omega (arith, appended_long (shifted_up b) (changed (cell.Word f n)), shifted_long (shift_up_once ax) (shift_up ax) b refl refl, behind_other (Some (order.Home f n)) (order.StorePart t b) tt (λ x. refl) rest)
-    cases (cell.Frame n) = omega (arith, appended_long (shifted_up b) (changed (cell.Frame n)), shifted_long (shift_up_once ax) (shift_up ax) b refl refl, behind_other (Some (order.FrameHome n)) (order.StorePart t b) tt (λ x. refl) rest)
+    cases (cell.Word f n) = omega (arith, appended_long (shifted_up b) (changed (cell.Word f n)), shifted_long (shift_up_once ax) (shift_up ax) b refl refl, behind_other (Some (order.Home f n)) (order.StorePart t b) tt (λ x. refl) refl rest)
+    cases (cell.Frame n) = omega (arith, appended_long (shifted_up b) (changed (cell.Frame n)), shifted_long (shift_up_once ax) (shift_up ax) b refl refl, behind_other (Some (order.FrameHome n)) (order.StorePart t b) tt (λ x. refl) refl rest)
 
 -- one more, and less
 count_fits : (down : Bool) (line : ℕ) (rest : List Order) → 8 + listed_sizes rest ≤ listed_sizes (order.Save ∷ order.Const 1 ∷ count_order down line ∷ rest)
-count_fits true line rest = omega (arith, behind_other (Some (order.Const 1)) (order.Sub line) tt (λ x. refl) rest)
-count_fits false line rest = omega (arith, behind_other (Some (order.Const 1)) (order.Add line) tt (λ x. refl) rest)
+count_fits true line rest = omega (arith, behind_other (Some (order.Const 1)) (order.Sub line) tt (λ x. refl) refl rest)
+count_fits false line rest = omega (arith, behind_other (Some (order.Const 1)) (order.Add line) tt (λ x. refl) refl rest)
 
 count_long : (down : Bool) (line : ℕ) → block_size (block.Count down line) order.Save ≡ 8
 count_long true line = refl
@@ -370,7 +370,7 @@ short_shift (suc (suc n)) = omega arith
 
 halve_fits : (w : ℕ) (power : ℤ) (places line : ℕ) (rest : List Order) → pieces_size (shifted_down_signed places) + listed_sizes rest ≤ listed_sizes (order.Save ∷ order.Const w ∷ order.Mul power line ∷ rest)
 halve_fits w power places line rest =
-    omega (arith, shifted_long (shift_down_signed_once ax) (shift_down_signed ax) places refl refl, short_shift places, product_size power, behind_other (Some (order.Const w)) (order.Mul power line) tt (λ x. refl) rest)
+    omega (arith, shifted_long (shift_down_signed_once ax) (shift_down_signed ax) places refl refl, short_shift places, product_size power, behind_other (Some (order.Const w)) (order.Mul power line) tt (λ x. refl) refl rest)
   where
     down : (b : Bool) → 5 ≤ (if b then 14 else 10)
     down true = omega arith
@@ -412,21 +412,21 @@ element_last e o rest =
 
 fetch_element_fits : (e : Element) (rest : List Order) → pieces_size (element_address e ++ coded.Whole (load ax at_si) ∷ []) + listed_sizes rest ≤ listed_sizes (element_orders e ++ order.Load ∷ rest)
 fetch_element_fits e rest =
-    omega (arith, appended_long (element_address e) (coded.Whole (load ax at_si) ∷ []), element_long_as e, (element_last e order.Load rest).0, behind_other (Some (order.Element e.lower e.span e.line)) order.Load tt (λ x. refl) rest)
+    omega (arith, appended_long (element_address e) (coded.Whole (load ax at_si) ∷ []), element_long_as e, (element_last e order.Load rest).0, behind_other (Some (order.Element e.lower e.span e.line)) order.Load tt (λ x. refl) refl rest)
 
 assign_element_fits : (e : Element) (rest : List Order) → pieces_size (element_address e ++ coded.Whole (store at_si ax) ∷ []) + listed_sizes rest ≤ listed_sizes (order.Save ∷ (element_orders e ++ order.Store ∷ rest))
 assign_element_fits e rest =
-    omega (arith, appended_long (element_address e) (coded.Whole (store at_si ax) ∷ []), element_long_as e, (element_last e order.Store rest).1, behind_other (Some (order.Element e.lower e.span e.line)) order.Store tt (λ x. refl) rest)
+    omega (arith, appended_long (element_address e) (coded.Whole (store at_si ax) ∷ []), element_long_as e, (element_last e order.Store rest).1, behind_other (Some (order.Element e.lower e.span e.line)) order.Store tt (λ x. refl) refl rest)
 
 -- behind an order that takes a simple operand
 used_last : (before : Order) (u : Use) (rest : List Order) → sizes_behind (Some before) (Some (order_of u)) rest ≡ listed_sizes rest
-used_last before (uses.Add line) rest = behind_other (Some before) (order.Add line) tt (λ x. refl) rest
-used_last before (uses.Subtract line) rest = behind_other (Some before) (order.Sub line) tt (λ x. refl) rest
-used_last before (uses.Multiply line) rest = behind_other (Some before) (order.Mul (pos 0) line) tt (λ x. refl) rest
-used_last before uses.Mask rest = behind_other (Some before) order.And tt (λ x. refl) rest
-used_last before uses.Union rest = behind_other (Some before) order.Or tt (λ x. refl) rest
-used_last before uses.Differ rest = behind_other (Some before) order.Xor tt (λ x. refl) rest
-used_last before (uses.Compare c m) rest = behind_other (Some before) (order.JumpIf c m) tt (λ x. refl) rest
+used_last before (uses.Add line) rest = behind_other (Some before) (order.Add line) tt (λ x. refl) refl rest
+used_last before (uses.Subtract line) rest = behind_other (Some before) (order.Sub line) tt (λ x. refl) refl rest
+used_last before (uses.Multiply line) rest = behind_other (Some before) (order.Mul (pos 0) line) tt (λ x. refl) refl rest
+used_last before uses.Mask rest = behind_other (Some before) order.And tt (λ x. refl) refl rest
+used_last before uses.Union rest = behind_other (Some before) order.Or tt (λ x. refl) refl rest
+used_last before uses.Differ rest = behind_other (Some before) order.Xor tt (λ x. refl) refl rest
+used_last before (uses.Compare c m) rest = behind_other (Some before) (order.JumpIf c m) tt (λ x. refl) refl rest
 
 operate_element_fits : (e : Element) (u : Use) (rest : List Order) → pieces_size (operated no_names 0 (simple.Element e) u) + listed_sizes rest ≤ listed_sizes (order.Save ∷ (operand_orders (simple.Element e) ++ order_of u ∷ rest))
 operate_element_fits e u rest = element u (used_last order.Load u rest)
@@ -516,8 +516,8 @@ block_fits o os = cases (block_of (o ∷ os)) refl (shape (o ∷ os))
     cases block.Single is sh = omega (arith, listed o, single_fits o os is)
     cases (block.Fetch x) is sh = omega (arith, fetch_fits x (drop (length (address_orders x)) os), ap listed_sizes sh)
     cases (block.Assign x) is sh = omega (arith, assign_fits x (drop (suc (length (address_orders x))) os), ap listed_sizes sh)
-    cases block.Write is sh = omega (arith, ap listed_sizes sh, behind_other (Some order.Save) order.WriteByte tt (λ x. refl) (drop 1 os))
-    cases (block.Divide w line) is sh = omega (arith, ap listed_sizes sh.0, behind_other (Some (order.Const w)) (order.Div (pos 0) line) tt (λ x. refl) (drop 2 os))
+    cases block.Write is sh = omega (arith, ap listed_sizes sh, behind_other (Some order.Save) order.WriteByte tt (λ x. refl) refl (drop 1 os))
+    cases (block.Divide w line) is sh = omega (arith, ap listed_sizes sh.0, behind_other (Some (order.Const w)) (order.Div (pos 0) line) tt (λ x. refl) refl (drop 2 os))
     cases (block.Operate s u) is sh = omega (arith, operate_fits s u (drop (suc (length (operand_orders s))) os), ap listed_sizes sh.0)
     cases (block.FetchPart x t b is_signed) is sh = omega (arith, fetch_part_fits x t b is_signed (drop (length (address_orders x)) os), ap listed_sizes sh.0)
     cases (block.AssignPart x t b) is sh = omega (arith, assign_part_fits x t b (drop (suc (length (address_orders x))) os), ap listed_sizes sh.0)

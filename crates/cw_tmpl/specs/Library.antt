@@ -256,9 +256,6 @@ bounds_entry = 22
 abbrev pub switch_entry : ℕ
 switch_entry = 23
 
-abbrev pub enter_entry : ℕ
-enter_entry = 24
-
 abbrev pub read_entry : ℕ
 read_entry = 25
 
@@ -283,13 +280,16 @@ put_variable_entry = 31
 abbrev pub exhausted_entry : ℕ
 exhausted_entry = 32
 
+abbrev pub enter_entry : ℕ
+enter_entry = 33
+
 abbrev pub places_of_entries : List ℕ
 places_of_entries =
     end_place ∷ retired_place ∷ retired_place ∷ retired_place ∷ retired_place ∷ retired_place ∷ retired_place ∷ retired_place ∷ retired_place
     ∷ retired_place ∷ retired_place ∷ retired_place ∷ retired_place ∷ retired_place ∷ retired_place ∷ retired_place ∷ retired_place ∷ retired_place
     ∷ start_place ∷ stop_place Overflow ∷ stop_place ZeroDivisor ∷ stop_place AddressRange ∷ stop_place IndexRange ∷ stop_place SwitchRange
-    ∷ enter_place ∷ read_place ∷ product_place ∷ quotient_down_place ∷ quotient_up_place
-    ∷ set_variable_place ∷ add_step_place ∷ put_variable_place ∷ exhausted_place ∷ []
+    ∷ retired_place ∷ read_place ∷ product_place ∷ quotient_down_place ∷ quotient_up_place
+    ∷ set_variable_place ∷ add_step_place ∷ put_variable_place ∷ exhausted_place ∷ enter_place ∷ []
 
 -- the place of a routine
 abbrev pub library_entry : ℕ → Option ℕ

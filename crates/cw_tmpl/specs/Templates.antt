@@ -33,7 +33,7 @@ use Rattle.cw_tmpl.specs.declared.blocks.Block.{Block}
 use Rattle.cw_tmpl.specs.declared.blocks.Block.TheVariants as block
 use Rattle.cw_tmpl.specs.Mnemonics.{ax, bx, cx, dx, sp, bp, si, di, segment_slot, base_slot, base_record, base_operands, record_depth, slot, argument, at_bx, at_si, field, set_word, load, store, move, add, subtract, compare, exchange, negate, double, both, either, one_of, shift_up, shift_down, shift_down_signed, multiply, divide_signed, jump_to, nothing, jump_if_no_overflow, jump_if_below, jump_if_unequal, jump_if_not_less, jump_if_at_most, operate, change, increase, decrease, shift_up_once, shift_down_once, shift_down_signed_once}
 use Rattle.cw_tmpl.specs.Library.{start_entry, overflow_entry, zero_divisor_entry, address_entry, switch_entry, bounds_entry, enter_entry, read_entry, product_entry, quotient_down_entry, quotient_up_entry, set_variable_entry, add_step_entry, put_variable_entry, exhausted_entry}
-use Rattle.cw_tmpl.specs.Pieces.{size_of, blanks}
+use Rattle.cw_tmpl.specs.Pieces.{blanks}
 use Rattle.cw_tmpl.specs.Names.{Names, no_names, mark_place, label_start, procedure_start, switch_start, own}
 
 abbrev pub call_library : ℕ → Coded
@@ -593,17 +593,26 @@ listed_size (order.GoSwitchSpecial k line) = 13
 listed_size order.Mark = 0
 listed_size (order.Start n) = 1
 
+-- The same in a list, where the address of a word of the frame has two bytes less: they are owed by what stands behind it.
+abbrev pub size_in_list : Order → ℕ
+size_in_list (order.FrameHome n) = 6
+size_in_list o = listed_size o
+
+abbrev pub owed : Option Order → ℕ
+owed (Some (order.FrameHome n)) = 2
+owed _ = 0
+
 -- The same behind two orders: a load behind the address of a word is in its block, and so is a store there, where the top operand is saved before
 -- the address.
 abbrev pub size_behind : (second first : Option Order) → Order → ℕ
 size_behind _ (Some (order.Home f n)) order.Load = 0
-size_behind _ (Some (order.FrameHome n)) order.Load = 0
+size_behind _ (Some (order.FrameHome n)) order.Load = 1
 size_behind (Some order.Save) (Some (order.Home f n)) order.Store = 0
 size_behind (Some order.Save) (Some (order.FrameHome n)) order.Store = 0
-size_behind _ _ o = listed_size o
+size_behind _ first o = owed first + size_in_list o
 
 abbrev pub sizes_behind : (second first : Option Order) → List Order → ℕ
-sizes_behind second first [] = 0
+sizes_behind second first [] = owed first
 sizes_behind second first (o ∷ os) = size_behind second first o + sizes_behind first (Some o) os
 
 abbrev pub listed_sizes : List Order → ℕ

@@ -35,7 +35,7 @@ pub const SEGMENT: Rm = Rm::Mem(Mem {
     place: Place::Near(6, 0xFE),
 });
 
-/// The word that holds the frame base, at BP - 6.
+/// The word that holds twice the frame base, at BP - 6.
 pub const BASE: Rm = Rm::Mem(Mem {
     cs: false,
     place: Place::Near(6, 0xFA),

@@ -17,9 +17,6 @@ pub const BOUNDS: u16 = 22;
 /// The entry that stops with SwitchRange, at the line in DX.
 pub const SWITCH: u16 = 23;
 
-/// The entry that begins an activation.
-pub const ENTER: u16 = 24;
-
 /// The entry that reads a byte.
 pub const READ: u16 = 25;
 
@@ -39,6 +36,9 @@ pub const PUT_VARIABLE: u16 = 31;
 
 /// The entry that tests whether a loop is exhausted.
 pub const EXHAUSTED: u16 = 32;
+
+/// The entry that begins an activation.
+pub const ENTER: u16 = 33;
 
 const CODE: [u8; 338] = [
     0xE9, 0x4F, 0x01, // JMP past the library
@@ -212,9 +212,9 @@ const CODE: [u8; 338] = [
     0xC3, // RET
 ];
 
-const ENTRIES: [u16; 33] = [
-    3, 4, 4, 4, 4, 4, 4, 4, 4, 4, 4, 4, 4, 4, 4, 4, 4, 4, 5, 35, 39, 43, 47, 79, 91, 130, 236, 266,
-    289, 145, 163, 185, 203,
+const ENTRIES: [u16; 34] = [
+    3, 4, 4, 4, 4, 4, 4, 4, 4, 4, 4, 4, 4, 4, 4, 4, 4, 4, 5, 35, 39, 43, 47, 79, 4, 130, 236, 266,
+    289, 145, 163, 185, 203, 91,
 ];
 
 /// The code of the run-time library, which begins with a jump to its own end. It has no relocated word.
