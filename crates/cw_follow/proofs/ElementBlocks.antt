@@ -1,6 +1,6 @@
 -- Blocks of an element whose index is in memory: its word is fetched, assigned or used. Where its address is none of the data area, the order
 -- that makes the address stops, and pays for the way to the stop.
-use Rattle.std.proofs.Common.{◌≡◌, inl, inr, ◌⊎◌, ℕ, zero, suc, ◌+◌, ◌*◌, ◌%◌, ◌<◌, ◌≤◌, Bool, true, false, ℤ, pos, negsuc, ◌+ℤ◌, ◌-ℤ◌, List, [], ◌∷◌, ◌++◌, length, drop, set, Option, Some, None, refl, sym, ap, ap₂, ◌∙◌, subst, arith, lit<, lit≤, append_assoc}
+use Rattle.std.proofs.Common.{◌≡◌, inl, inr, ◌⊎◌, ℕ, zero, suc, ◌+◌, ◌*◌, ◌%◌, ◌<◌, ◌≤◌, Bool, true, false, ℤ, pos, negsuc, ◌+ℤ◌, ◌-ℤ◌, List, [], ◌∷◌, ◌++◌, length, drop, set, Option, Some, None, refl, sym, ap, ◌∙◌, subst, arith, lit<, lit≤, append_assoc}
 use Rattle.std.specs.Prelude.{slice_get}
 use borrow.Author.Tests.{ltb-true}
 use Rattle.std.proofs.lemmas.Bool.{false≢true, lt-ltb, cases_lt}
@@ -60,7 +60,7 @@ use Rattle.cw_follow.proofs.Steps.{Follow, setting, calls, order_here, weight_is
 use Rattle.cw_follow.proofs.BlockOrders.{code_end, room_in, within_block, inner_follows, modes, saved, step_in}
 use Rattle.cw_follow.proofs.InBlocks.{slice_drop, chain, loaded_then, loaded_silently, Puts, puts_word, silently, silently_next}
 use Rattle.cw_follow.proofs.FrameBlocks.{frame_word_inside}
-use Rattle.cw_follow.proofs.Indexed.{Below, below_of, formed_by_one, Addressed, Summed, index_steps, sum_by_word, sum_by_frame, test_passes, test_stops}
+use Rattle.cw_follow.proofs.Indexed.{below_of, formed_by_one, Addressed, Summed, index_steps, sum_by_word, sum_by_frame, test_passes, test_stops}
 use Rattle.cw_follow.proofs.Operands.{allowed, words, with_cells, DoesHere}
 
 chain_chain : (x : Outcome) (f g : Words → Outcome) → chain (chain x f) g ≡ chain x (λ v. chain (f v) g)

@@ -1,10 +1,9 @@
 -- An instruction of the blocks of a frame's words that no law of cw_run86 tells of: MOV from the word of the data segment at BX and so many
 -- bytes behind it.
-use Rattle.std.proofs.Common.{◌≡◌, ℕ, ◌+◌, ◌*◌, ◌%◌, ◌<◌, true, false, List, refl, ap, ◌∙◌, arith}
+use Rattle.std.proofs.Common.{◌≡◌, ℕ, ◌+◌, ◌*◌, ◌%◌, ◌<◌, true, List, refl, ap, ◌∙◌, arith}
 use Rattle.cw_i86.specs.State.{with_sized_register, operand, segment_of, offset_of, form_base, value_at}
 use Rattle.cw_i86.specs.Effect.{moved}
 use Rattle.cw_i86.specs.declared.instr.Instr.TheVariants as i86
-use Rattle.cw_i86.specs.declared.instr.Rm.TheVariants as rms
 use Rattle.cw_run86.specs.Views.{View, Has, Goes, register, on, with_register}
 use Rattle.cw_run86.proofs.Tests.{Finds}
 use Rattle.cw_run86.proofs.Memory.{holds}

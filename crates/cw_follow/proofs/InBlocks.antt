@@ -1,6 +1,6 @@
 -- Orders in their blocks.
 use Rattle.std.proofs.Common.{◌≡◌, ℕ, zero, suc, ◌+◌, List, [], ◌∷◌, ◌++◌, length, drop, Option, Some, None, ◌<◌, ◌≤◌, refl, sym, ap, ◌∙◌, subst, arith, Bool, true, false}
-use Rattle.std.specs.Prelude.{slice_get, if◌then◌else◌, ℤ, pos, ◌+ℤ◌, ◌-ℤ◌, min}
+use Rattle.std.specs.Prelude.{slice_get, ℤ, ◌+ℤ◌, ◌-ℤ◌, min}
 use Rattle.cw_word.specs.FixedPoint.{fits_word}
 use Rattle.cw_unit.specs.Words.{Words, Outcome, Changed, Refused, Impossible, Word, Held, Operand, put, put_if, through, is_below, word_at, number_of, with_operands}
 use Rattle.cw_unit.specs.Operation.{Fetch, Indexed, fitting, perform}

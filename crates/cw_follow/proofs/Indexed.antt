@@ -1,24 +1,22 @@
 -- The address of an element whose index a simple place holds: one sum and one compare.
-use Rattle.std.proofs.Common.{◌≡◌, inl, inr, ◌-◌, ℕ, zero, suc, ◌+◌, ◌*◌, ◌%◌, ◌<◌, ◌≤◌, Bool, true, false, ℤ, pos, negsuc, ◌+ℤ◌, ◌-ℤ◌, List, [], ◌∷◌, ◌++◌, Option, Some, None, refl, sym, ap, ap₂, ◌∙◌, subst, arith, lit<, lit≤}
-use borrow.Author.Tests.{ltb-true}
+use Rattle.std.proofs.Common.{◌≡◌, inl, inr, ◌-◌, ℕ, zero, suc, ◌+◌, ◌*◌, ◌%◌, ◌<◌, ◌≤◌, Bool, true, false, ℤ, pos, negsuc, ◌+ℤ◌, ◌-ℤ◌, List, [], ◌∷◌, ◌++◌, Some, None, refl, sym, ap, ap₂, ◌∙◌, subst, arith, lit<, lit≤}
 use Rattle.std.proofs.Math.Nat.{min-eq_left}
 use Rattle.std.proofs.lemmas.Bool.{lt-ltb, le-ltb, false≢true, cases_lt}
 use Rattle.std.proofs.lemmas.Bool.Decides.{nat_tests}
 use Rattle.std.proofs.lemmas.Int.{ints}
 use Rattle.std.specs.Prelude.{nat_lt, ◌&&◌, if◌then◌else◌, min}
-use Rattle.cw_i86.specs.declared.instr.Instr.TheVariants as i86
 use Rattle.cw_run86.specs.Processor.{Told}
-use Rattle.cw_run86.specs.Views.{View, Has, compare as compare_of, word_sum, sum_overflows, difference_overflows, double_overflows}
+use Rattle.cw_run86.specs.Views.{View, Has, word_sum, sum_overflows, double_overflows}
 use Rattle.cw_word.specs.FixedPoint.{FitsWord, fits_word}
 use Rattle.cw_word.specs.Word.{signed, unsigned}
 use Rattle.cw_unit.specs.Stop.{AddressRange}
-use Rattle.cw_unit.specs.Words.{Words, Outcome, Changed, Refused, put, put_if, is_below}
+use Rattle.cw_unit.specs.Words.{Words, Changed, Refused, put, put_if, is_below}
 use Rattle.cw_unit.specs.Operation.{fitting, address_of}
 use Rattle.cw_tmpl.specs.declared.pieces.Coded.{Coded}
 use Rattle.cw_tmpl.specs.declared.pieces.Coded.TheVariants as coded
 use Rattle.cw_tmpl.specs.declared.blocks.Place.{Place}
 use Rattle.cw_tmpl.specs.declared.blocks.Place.TheVariants as cell
-use Rattle.cw_tmpl.specs.Blocks.{zero_behind, zero_word}
+use Rattle.cw_tmpl.specs.Blocks.{zero_word}
 use Rattle.cw_tmpl.specs.Library.{stop_place, address_entry}
 use Rattle.cw_tmpl.specs.Mnemonics.{bx as bx_register, si as si_register, di, field, compare, double, jump_if_below}
 use Rattle.cw_tmpl.specs.Pieces.{Filling}
@@ -26,7 +24,7 @@ use Rattle.cw_tmpl.specs.Templates.{call_stop, index_added}
 use Rattle.cw_order.specs.OrderState.{OrderActivation}
 use Rattle.cw_follow.proofs.Watched.{Watched, watched_step}
 use Rattle.cw_follow.proofs.Standing.{HasPieces}
-use Rattle.cw_follow.proofs.Chains.{Is, Leads, view, compare as compares, compared, jump_below, pass_above, jumps_below, passes_above, number, add_at, double as doubled, more, last, done}
+use Rattle.cw_follow.proofs.Chains.{Is, Leads, view, compared, jumps_below, passes_above, number, add_at, double as doubled, more, last, done}
 use Rattle.cw_rows86.specs.Locations.{InData}
 use Rattle.cw_rows86.specs.Operations.{Add}
 use Rattle.cw_rows86.specs.Acts.{Operate}
@@ -35,9 +33,8 @@ use Rattle.cw_follow.proofs.Shifts.{leads_then}
 use Rattle.cw_follow.proofs.Straight.{LoadSlot, Number, straight}
 use Rattle.cw_follow.proofs.Stacks.{level, record_of, base_word}
 use Rattle.cw_follow.proofs.Orders.{Kept, further}
-use Rattle.cw_follow.proofs.Operands.{Setting, words, allowed, DoesHere, calls_stop}
-use Rattle.cw_follow.proofs.Numbers.{unsigned_pos, fits_tested}
-use Rattle.cw_follow.proofs.Facts.{not_below, fits_true}
+use Rattle.cw_follow.proofs.Operands.{Setting, allowed, DoesHere, calls_stop}
+use Rattle.cw_follow.proofs.Facts.{not_below}
 
 -- ---- arithmetic
 

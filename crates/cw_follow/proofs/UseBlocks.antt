@@ -1,5 +1,5 @@
 -- Blocks that save the top operand, put a simple one and use both.
-use Rattle.std.proofs.Common.{◌≡◌, ℕ, zero, suc, ◌+◌, ◌*◌, ◌%◌, ◌<◌, ◌≤◌, Bool, true, false, not, ℤ, pos, ◌+ℤ◌, ◌-ℤ◌, ◌*ℤ◌, List, [], ◌∷◌, ◌++◌, length, drop, None, Some, refl, sym, ap, ap₂, ◌∙◌, subst, arith, lit<, lit≤}
+use Rattle.std.proofs.Common.{◌≡◌, ℕ, suc, ◌+◌, ◌*◌, ◌%◌, ◌<◌, ◌≤◌, Bool, true, false, not, ℤ, pos, ◌+ℤ◌, ◌-ℤ◌, ◌*ℤ◌, List, [], ◌∷◌, ◌++◌, length, drop, None, Some, refl, sym, ap, ap₂, ◌∙◌, subst, arith, lit<, lit≤}
 use Rattle.std.proofs.lemmas.List.{append-nil}
 use Rattle.std.specs.Prelude.{bit_and, bit_or, bit_xor, nat_lt, if◌then◌else◌}
 use borrow.Author.Tests.{ltb-true}
@@ -10,8 +10,7 @@ use Rattle.cw_i86.specs.declared.instr.Instr.TheVariants as i86
 use Rattle.cw_i86.specs.declared.instr.Imm.TheVariants as imm
 use Rattle.cw_i86.specs.declared.instr.Rm.TheVariants as rms
 use Rattle.cw_i86.specs.declared.instr.Place.TheVariants as places
-use Rattle.cw_run86.specs.Views.{Has, condition_of, with_number, with_memory, product_low, product_high, product_overflows}
-use Rattle.cw_rows86.specs.Locations.{InRegister, InData}
+use Rattle.cw_run86.specs.Views.{Has, condition_of, with_number, with_memory, product_low, product_overflows}
 use Rattle.cw_rows86.specs.Operations.{WordOperation, Add, Or, And, Subtract, Xor, Compare, number_of}
 use Rattle.cw_word.specs.FixedPoint.{FitsWord, fits_word, scaled_product}
 use Rattle.cw_word.specs.Word.{signed, unsigned}
@@ -28,7 +27,7 @@ use Rattle.cw_order.specs.OrderChanges.{put_address, Way, way_of_two, to_mark_if
 use Rattle.cw_order.specs.OrderLines.{line_of}
 use Rattle.cw_order.specs.OrderActions.{home_word}
 use Rattle.cw_order.specs.OrderState.{OrderActivation, at, operand_words, frame_word}
-use Rattle.cw_order.specs.OrderMachine.{unrefused, after, carry_with, step, weight}
+use Rattle.cw_order.specs.OrderMachine.{unrefused, after, carry_with, weight}
 use Rattle.cw_order.specs.OrderCosts.{weight_of}
 use Rattle.cw_order.specs.Loading.{loaded_after}
 use Rattle.cw_tmpl.specs.declared.pieces.Coded.{Coded}
@@ -41,7 +40,7 @@ use Rattle.cw_tmpl.specs.declared.blocks.Simple.TheVariants as simple
 use Rattle.cw_tmpl.specs.declared.blocks.Use.{Use}
 use Rattle.cw_tmpl.specs.declared.blocks.Use.TheVariants as uses
 use Rattle.cw_tmpl.specs.declared.blocks.Block.TheVariants as block
-use Rattle.cw_tmpl.specs.Blocks.{address_orders, operand_orders, order_of, block_at}
+use Rattle.cw_tmpl.specs.Blocks.{operand_orders, order_of, block_at}
 use Rattle.cw_tmpl.specs.Library.{overflow_entry, stop_place}
 use Rattle.cw_tmpl.specs.Mnemonics.{ax, bx, cx, slot, base_slot, field, at_si, operate, load, move}
 use Rattle.cw_tmpl.specs.Pieces.{Filling, blanks}
@@ -55,7 +54,6 @@ use Rattle.cw_follow.proofs.Standing.{HasPieces, appended_long, stand_both, addr
 use Rattle.cw_follow.proofs.Watched.{Watched}
 use Rattle.cw_follow.proofs.Chains.{Is, Leads, view, done, more, load_at, move as moved_to}
 use Rattle.cw_follow.proofs.Straight.{Number, Move, Product, LoadSlot, LoadWord, straight}
-use Rattle.cw_follow.proofs.Routines.{with_ax, leads_on}
 use Rattle.cw_follow.proofs.Stacks.{level, record_of, top_is, base_word}
 use Rattle.cw_follow.proofs.Orders.{Landed, Does, Chooses, Check, below_area, later, sooner}
 use Rattle.cw_follow.proofs.Operands.{Setting, words, DoesHere}
@@ -65,7 +63,7 @@ use Rattle.cw_follow.proofs.Scales.{turned_overflows, turned_is}
 use Rattle.cw_follow.proofs.Indexed.{index_steps}
 use Rattle.cw_follow.proofs.States.{Given, Sound}
 use Rattle.cw_follow.proofs.InBlocks.{chain}
-use Rattle.cw_follow.proofs.Steps.{Follow, setting, few_segments, weight_is, line_fits, block_code, block_ends, start_place, order_here, last_does, by, calls, start, last_chooses, arrives_at, two_roomy, way_after}
+use Rattle.cw_follow.proofs.Steps.{Follow, setting, weight_is, line_fits, block_code, block_ends, start_place, order_here, last_does, by, calls, start, last_chooses, arrives_at, two_roomy, way_after}
 use Rattle.cw_follow.proofs.BlockOrders.{WithoutAddress, room_in, operand_puts, block_follows, saved, step_in, number_small}
 
 -- ---- the code of an operation on AX and a simple operand
