@@ -1,7 +1,7 @@
 -- What an activation does: its way back, the words of its frame and of its arguments, its control parameters.
 use Rattle.std.proofs.Common.{◌≡◌, inl, ℕ, ◌+◌, ◌%◌, ◌<◌, Bool, true, false, List, [], ◌∷◌, Option, Some, None, refl, sym, ap, ◌∙◌, subst, arith, lit≤}
-use Rattle.std.specs.Prelude.{slice_get, nat_eq}
-use borrow.Author.Tests.{eqb-true}
+use Rattle.std.specs.Prelude.{slice_get, nat_eq, nat_lt, if◌then◌else◌}
+use borrow.Author.Tests.{eqb-true, ltb-true}
 use Rattle.cw_i86.specs.declared.instr.Instr.TheVariants as i86
 use Rattle.cw_i86.specs.declared.instr.Imm.TheVariants as imm
 use Rattle.cw_run86.specs.Views.{Has}
@@ -9,9 +9,10 @@ use Rattle.cw_word.specs.Word.{signed}
 use Rattle.cw_unit.specs.Stop.{Running}
 use Rattle.cw_unit.specs.Words.{LabelControl, SwitchControl, ProcedureControl, Operand, Word, Held, Words, put, with_operands}
 use Rattle.cw_unit.specs.Step.{held}
+use Rattle.cw_order.specs.declared.order.Order.{Order}
 use Rattle.cw_order.specs.declared.order.Order.TheVariants as order
-use Rattle.cw_order.specs.OrderChanges.{bind}
-use Rattle.cw_order.specs.OrderState.{OrderActivation, OrderState, at, operand_words, argument_behind, control_in}
+use Rattle.cw_order.specs.OrderChanges.{bind, put_address}
+use Rattle.cw_order.specs.OrderState.{OrderActivation, OrderState, at, operand_words, argument_behind, control_in, frame_word}
 use Rattle.cw_order.specs.OrderActions.{home_word}
 use Rattle.cw_order.specs.OrderMachine.{after, unrefused, return_with, call, step}
 use Rattle.cw_follow.specs.Placing.{base_of}
@@ -25,7 +26,7 @@ use Rattle.cw_follow.proofs.Returns.{returns, answers, frame_homes, binds, binds
 use Rattle.cw_follow.proofs.Leaving.{hands_on, calls_special}
 use Rattle.cw_follow.proofs.Calling.{sound_in, puts_with, calls_procedure, back_is, landed_as, holds_control}
 use Rattle.cw_follow.proofs.Naming.{argument_stands, start_is}
-use Rattle.cw_follow.proofs.Steps.{Follow, leads_to, onward, step_is, weight_is, never_next, stuck_here, does, cheap, has_code, line_fits, Alone, code, behind, begins_next}
+use Rattle.cw_follow.proofs.Steps.{Follow, leads_to, onward, step_is, weight_is, never_next, stuck_here, does, cheap, line_fits, Alone, code, behind, begins_next}
 
 module _ (known : Given) where
   open known use {rows, p, image, all, coded, few, low}
@@ -60,12 +61,25 @@ module _ (known : Given) where
     -- ---- the words of the frame, and arguments
 
     pub frames_home : (n : ℕ) → slice_get s.orders.list place ≡ Some (order.FrameHome n) → Follow known (at g place false (a ∷ acts) w Running) q
-    frames_home n e =
-        let o = order.FrameHome n in
-        let word = (a.frame_base + n) % 65536 in
-        let small : word < 65536 = omega arith in
-        puts_with known s by_itself o true (put (signed word) w) 2 e (step_is known s (Some o) e) (cheap known s o 2 (lit≤ tt) e) (λ room.
-        frame_homes rows p image g next n a acts (signed word) w (behind known s by_itself o e) (sym (rows.words.forth word small)) (code known s by_itself o e) by_itself.landed)
+    frames_home n e = cases (nat_lt word p.limits.area) refl
+      where
+        o : Order
+        o = order.FrameHome n
+
+        word : ℕ
+        word = a.frame_base + n
+
+        goes : (b : Bool) → nat_lt word p.limits.area ≡ b → step p S ≡ after p.room 0 (unrefused (put_address (if b then Some word else None) w)) g place true (a ∷ acts) w
+        goes b is = step_is known s (Some o) e ∙ ap (λ b. after p.room 0 (unrefused (put_address (if b then Some word else None) w)) g place true (a ∷ acts) w) is
+
+        -- a word that is not in the data area is none of the frame
+        cases : (b : Bool) → nat_lt word p.limits.area ≡ b → Follow known S q
+        cases false is = absurd (stuck_here known s (goes false is))
+        cases true is =
+            let inside : word < p.limits.area = ltb-true word p.limits.area is in
+            let small : word < 65536 = omega arith in
+            puts_with known s by_itself o true (put (signed word) w) 3 e (goes true is) (cheap known s o 3 (lit≤ tt) e) (λ room.
+            frame_homes rows p image g next n a acts (signed word) w low inside (behind known s by_itself o e) (sym (rows.words.forth word small)) (code known s by_itself o e) by_itself.landed)
 
     pub binds_static : (k family offset : ℕ) → slice_get s.orders.list place ≡ Some (order.Bind k family offset) → Follow known (at g place false (a ∷ acts) w Running) q
     binds_static k family offset e =
@@ -79,9 +93,8 @@ module _ (known : Given) where
     pub binds_in_frame : (k offset : ℕ) → slice_get s.orders.list place ≡ Some (order.BindFrame k offset) → Follow known (at g place false (a ∷ acts) w Running) q
     binds_in_frame k offset e =
         let o = order.BindFrame k offset in
-        let fits = has_code known s o e in
-        does known s false 0 (unrefused (bind p.limits.area (argument_behind k a.arguments) (Some ((a.frame_base + offset) % 65536)) w)) 4 (begins_next known s by_itself o e) (step_is known s (Some o) e) (cheap known s o 4 (lit≤ tt) e)
-        (binds_frame rows p image g next k offset 0 a acts (argument_behind k a.arguments) w low s.working.1 refl (behind known s by_itself o e) fits.1 (code known s by_itself o e) by_itself.landed)
+        does known s false 0 (unrefused (bind p.limits.area (argument_behind k a.arguments) (frame_word p.limits.area (a ∷ acts) offset) w)) 3 (begins_next known s by_itself o e) (step_is known s (Some o) e) (cheap known s o 3 (lit≤ tt) e)
+        (binds_frame rows p image g next k offset 0 a acts (argument_behind k a.arguments) w low refl (behind known s by_itself o e) (code known s by_itself o e) by_itself.landed)
 
     -- ---- control parameters
 

@@ -67,16 +67,16 @@ module _ (known : Given) where
         let next : place + 1 ≡ suc place = omega arith in
         ap (left_at 0 s.orders.list) next ∙ left_next 0 s.orders.list place Enters listed ∙ ap orders_left alone_is
 
-    enter_weight : 22 ≤ weight p T
+    enter_weight : 19 ≤ weight p T
     enter_weight = let e : weight p T ≡ 30 = ap weight_at s.beginning.order in omega arith
 
     begins_with : (shallow fits : Bool) → nat_lt (length acts) p.limits.depth ≡ shallow → nat_le (a.frame_base + s.beginning.size) p.limits.area ≡ fits
-        → Leading w.output 22 q (EntersTo rows p image a acts w g s.beginning.size few_there shallow fits (here + 9)) → Follow known T q
+        → Leading w.output 19 q (EntersTo rows p image a acts w g s.beginning.size few_there shallow fits (here + 7)) → Follow known T q
     begins_with false fits es ef d =
-        leads_to known g place false (a ∷ acts) w (at g place false (a ∷ acts) w (Stopped DepthReached (a.segment + 1) a.line)) 22
+        leads_to known g place false (a ∷ acts) w (at g place false (a ∷ acts) w (Stopped DepthReached (a.segment + 1) a.line)) 19
         (enter_is ∙ ap (λ x. enter_with false x (nat_le (a.frame_base + s.beginning.size) p.limits.area) s.beginning.size a g place false acts w) es) enter_weight d
     begins_with true false es ef d =
-        leads_to known g place false (a ∷ acts) w (at g place false (a ∷ acts) w (Stopped FramesFull (a.segment + 1) a.line)) 22
+        leads_to known g place false (a ∷ acts) w (at g place false (a ∷ acts) w (Stopped FramesFull (a.segment + 1) a.line)) 19
         (enter_is ∙ ap (λ x. enter_with false x (nat_le (a.frame_base + s.beginning.size) p.limits.area) s.beginning.size a g place false acts w) es
         ∙ ap (λ x. enter_with false true x s.beginning.size a g place false acts w) ef) enter_weight d
     begins_with true true es ef d =
@@ -84,13 +84,13 @@ module _ (known : Given) where
         let a' : OrderActivation = record a { entered = true; frame_top = a.frame_base + size } in
         let t = at g (place + 1) false (a' ∷ acts) w Running in
         let goes : step p T ≡ t = enter_is ∙ ap (λ x. enter_with false x (nat_le (a.frame_base + size) p.limits.area) size a g place false acts w) es ∙ ap (λ x. enter_with false true x size a g place false acts w) ef in
-        let next : here + 9 ≡ order_place (base_of p g) s.orders.list (place + 1) = ap (λ x. here + block_size x Enters) (sym alone_is) ∙ order_next (base_of p g) s.orders.list place Enters listed in
+        let next : here + 7 ≡ order_place (base_of p g) s.orders.list (place + 1) = ap (λ x. here + block_size x Enters) (sym alone_is) ∙ order_next (base_of p g) s.orders.list place Enters listed in
         let room_there = (stands_there t goes).room in
         let fit = fits_there t goes in
         let top : a.frame_base + size ≤ p.limits.area = leb-true (a.frame_base + size) p.limits.area ef in
         let base : a.frame_base ≤ p.limits.area = omega arith in
         let working : ActivationsStand p g (a' ∷ acts) = (refl, base, top, s.beginning.arguments, s.beginning.operands_stand, s.beginning.callers) in
-        leads_to known g place false (a ∷ acts) w t 22 goes enter_weight
+        leads_to known g place false (a ∷ acts) w t 19 goes enter_weight
         (onward known (λ r l. inl (record {
           orders = s.orders;
           unit = s.unit;
@@ -121,19 +121,19 @@ module _ (known : Given) where
         let size = s.beginning.size in
         let st = all.stands g s.orders s.unit in
         let i = subst (λ x. HasPieces image st.value here (block_pieces (names_of s.orders) (own_place s.orders.list place) x Enters)) alone_is (st.orders place Enters listed) in
-        let number = st.value 8 3 0 (here + 3 + 3) in
-        let by = st.value 7 enter_entry 0 (here + 3 + 3 + 3) in
-        let numbered = st.fills.number (here + 3 + 3) in
+        let number = st.value 8 3 0 (here + 3 + 2 + 2) in
+        let by = st.value 7 enter_entry 0 (here + 3) in
+        let numbered = st.fills.number (here + 3 + 2 + 2) in
         let few_here = few_there in
         let is_number : number ≡ g + 1 = omega arith in
-        let by_is : by ≡ (enter_place + (65536 - (here + 3 + 3 + 3) % 65536)) % 65536 = st.fills.library enter_entry (here + 3 + 3 + 3) (lit< tt) in
-        let arrives : (here + 9 + by) % 65536 ≡ enter_place % 65536 = omega arith in
+        let by_is : by ≡ (enter_place + (65536 - (here + 3) % 65536)) % 65536 = st.fills.library enter_entry (here + 3) (lit< tt) in
+        let arrives : (here + 3 + by) % 65536 ≡ enter_place % 65536 = omega arith in
         let base_low : a.frame_base ≤ p.limits.area = frame_low acts s.beginning.callers s.beginning.base in
         let most = coded.room in
         let small : size < 65536 = coded.codes g place Enters s.beginning.order in
         let room : stack_words [] (a ∷ acts) ≤ 32000 = (let r = s.stands.room in let e : stack_words w.operands (a ∷ acts) ≡ stack_words [] (a ∷ acts) = ap (λ xs. stack_words xs (a ∷ acts)) s.beginning.none in omega arith) in
         begins_with (nat_lt (length acts) p.limits.depth) (nat_le (a.frame_base + size) p.limits.area) refl refl
-        (begins rows p image a acts w g size few_there s.beginning.none s.beginning.base room here by number all.library low base_low small coded.depth is_number arrives i s.called_at)
+        (begins rows p image a acts w g size few_there s.beginning.none s.beginning.base base_low room here by number all.library low small coded.depth is_number arrives i.0 i.1.0 i.1.1.0 s.called_at)
       where
         frame_low : (xs : List OrderActivation) → ActivationsStand p a.segment xs → a.frame_base ≡ frame_end p xs → a.frame_base ≤ p.limits.area
         frame_low [] h e = let f : a.frame_base ≡ p.limits.area - p.limits.frames = e in omega arith

@@ -1,14 +1,13 @@
 -- Blocks of several orders.
-use Rattle.std.proofs.Common.{◌≡◌, inl, inr, ℕ, zero, suc, ◌+◌, ◌%◌, ◌<◌, ◌≤◌, Bool, true, false, not, pos, List, [], ◌∷◌, ◌++◌, length, drop, Option, Some, None, refl, sym, ap, ◌∙◌, subst, arith, lit<, lit≤}
+use Rattle.std.proofs.Common.{◌≡◌, inl, inr, ℕ, zero, suc, ◌+◌, ◌<◌, ◌≤◌, Bool, true, false, not, pos, List, [], ◌∷◌, ◌++◌, length, drop, Option, Some, None, refl, sym, ap, ◌∙◌, subst, arith}
 use Rattle.std.proofs.lemmas.Bool.{cases_lt}
 use Rattle.std.proofs.lemmas.Bool.Decides.{nat_tests}
 use Rattle.std.specs.Prelude.{slice_get}
 use Rattle.std.proofs.lemmas.Bool.{le-leb}
 use Rattle.cw_follow.proofs.Watched.{Watched}
-use Rattle.cw_word.specs.FixedPoint.{FitsWord}
 use Rattle.cw_word.specs.Word.{signed}
 use Rattle.cw_unit.specs.Stop.{Running}
-use Rattle.cw_unit.specs.Words.{Operand, Word, Held, Words, Outcome, with_operands, Changed, put, word_at, through, is_below, number_of}
+use Rattle.cw_unit.specs.Words.{Operand, Word, Held, Words, with_operands, put}
 use Rattle.cw_unit.specs.Operation.{Fetch, Store, Divide, WriteByte, perform}
 use Rattle.cw_order.specs.declared.order.Order.{Order}
 use Rattle.cw_order.specs.declared.order.Order.TheVariants as order
@@ -84,7 +83,7 @@ module _ (known : Given) where
     puts_so order.Save m is = ap (λ b. go_on b g place m acts w w) (sym (le-leb (stack_words w.operands acts) p.room s.room))
     puts_so (order.Const x) m is = refl
     puts_so (order.Home f n) m is = refl
-    puts_so (order.FrameHome n) m is = ap (λ x. after p.room 0 x g place m acts w) (address_unrefused (frame_word acts n) w)
+    puts_so (order.FrameHome n) m is = ap (λ x. after p.room 0 x g place m acts w) (address_unrefused (frame_word p.limits.area acts n) w)
     puts_so order.Load m is = refl
     puts_so _ m is = absurd is
 
@@ -176,8 +175,8 @@ module _ (known : Given) where
         let here = order_here known s 1 order.Load _ is_done e refl in
         let ends = block_ends known s (block.Fetch (cell.Frame n)) (order.FrameHome n) (order.Load ∷ rest) 1 is_done e is refl refl in
         let before = modes false true true (order.FrameHome n) 0 (order.Load ∷ rest) is_done e refl refl refl in
-        let paid : 3 ≤ weight p (at g place loaded acts w Running) = let x = weight_is known s order.Load here in omega arith in
-        last_does known s true 0 (λ v. unrefused (perform p.limits.area (Fetch None) v)) 3 1 _ is_done e ends.begins (step_in true order.Load before.now here) paid
+        let paid : 2 ≤ weight p (at g place loaded acts w Running) = let x = weight_is known s order.Load here in omega arith in
+        last_does known s true 0 (λ v. unrefused (perform p.limits.area (Fetch None) v)) 2 1 _ is_done e ends.begins (step_in true order.Load before.now here) paid
         (fetches_word rows p image g code_end n acts s.before low ends.behind (block_code known s (block.Fetch (cell.Frame n)) (order.FrameHome n) (order.Load ∷ rest) e is) before.landed)
 
     pub fetch_follows : (x : Place) (rest : List Order) → drop s.from s.orders.list ≡ address_orders x ++ order.Load ∷ rest → block_at 0 (drop s.from s.orders.list) ≡ block.Fetch x
@@ -205,8 +204,8 @@ module _ (known : Given) where
         let here = order_here known s 2 order.Store _ is_done e refl in
         let ends = block_ends known s (block.Assign (cell.Frame n)) order.Save os 2 is_done e is refl refl in
         let before = saved true 1 os is_done e refl in
-        let paid : 3 ≤ weight p (at g place loaded acts w Running) = let x = weight_is known s order.Store here in omega arith in
-        last_does known s false 0 (λ v. unrefused (perform p.limits.area (Store None) v)) 3 2 _ is_done e ends.begins (step_in true order.Store before.now here) paid
+        let paid : 2 ≤ weight p (at g place loaded acts w Running) = let x = weight_is known s order.Store here in omega arith in
+        last_does known s false 0 (λ v. unrefused (perform p.limits.area (Store None) v)) 2 2 _ is_done e ends.begins (step_in true order.Store before.now here) paid
         (assigns_word rows p image g code_end n acts s.before low ends.behind (block_code known s (block.Assign (cell.Frame n)) order.Save os e is) before.landed)
 
     pub assign_follows : (x : Place) (rest : List Order) → drop s.from s.orders.list ≡ order.Save ∷ (address_orders x ++ order.Store ∷ rest) → block_at 0 (drop s.from s.orders.list) ≡ block.Assign x

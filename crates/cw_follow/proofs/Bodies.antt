@@ -32,20 +32,20 @@ use Rattle.cw_follow.proofs.States.{Given, Sound, Matches, never_on, not_stuck}
 use Rattle.cw_follow.proofs.Steps.{Follow, leads_to, step_is, weight_is, fits_next, stands_next, Alone, code, under, under_low, under_is}
 
 -- a body begins, with the base record made and no operands
-pub record Begun (image : List ℕ) (at segment calls frame area : ℕ) (cells : ℕ → ℕ) (input : List ℕ) (told : Told) (p : Watched) : Type 0 where
+pub record Begun (image : List ℕ) (at segment calls frames area : ℕ) (cells : ℕ → ℕ) (input : List ℕ) (told : Told) (p : Watched) : Type 0 where
   pub stack : ℕ → ℕ
   pub number : stack 32767 ≡ segment
   pub left : stack 32766 ≡ calls
-  pub base : stack 32765 ≡ frame
-  pub top : stack 32764 ≡ frame
+  pub base : stack 32765 ≡ frames
+  pub rest : stack 32764 ≡ frames
   pub stacked : Stacked image at 32764 0 area cells stack input told p
 
 -- the same as what the orders begin with
-pub begun_landed : (p : OrderProgram) {image : List ℕ} {at g : ℕ} {cells : ℕ → ℕ} {left : List ℕ} {told : Told} {q : Watched} (to : ℕ) (memory : List ℤ) (input output : List ℕ) → at ≡ to → g < 255
+pub begun_landed : (p : OrderProgram) {image : List ℕ} {at g : ℕ} {cells : ℕ → ℕ} {left : List ℕ} {told : Told} {q : Watched} (to : ℕ) (memory : List ℤ) (input output : List ℕ) → at ≡ to → g < 255 → p.limits.frames ≤ p.limits.area
     → ((k : ℕ) → k < p.limits.area → cells k ≡ unsigned (word_at memory k)) → length memory ≡ p.limits.area → left ≡ input → told.output ≡ output → told.kind ≡ 0
-    → Begun image at (suc g) p.limits.depth (p.limits.area - p.limits.frames) p.limits.area cells left told q
+    → Begun image at (suc g) p.limits.depth p.limits.frames p.limits.area cells left told q
     → Landed p image to g false [] (record { operands = []; memory = memory; input = input; output = output }) q
-begun_landed p {image} {at} {g} {cells} {left} {told} {q} to memory input output there few words long read wrote kind b =
+begun_landed p {image} {at} {g} {cells} {left} {told} {q} to memory input output there few inside words long read wrote kind b =
     let z = b.stacked in
     record {
       top = 32764;
@@ -60,7 +60,7 @@ begun_landed p {image} {at} {g} {cells} {left} {told} {q} to memory input output
         long = long;
         piled = (
           record {
-            top_is = b.top;
+            rest_is = b.rest ∙ (let x : p.limits.frames ≡ p.limits.area - (p.limits.area - p.limits.frames) = omega arith in x);
             base_is = b.base;
             left_is = b.left ∙ (let x : p.limits.depth ≡ p.limits.depth - 0 = omega arith in x);
             number_is = b.number ∙ (let x : suc g ≡ g + 1 = omega arith in x);
@@ -79,7 +79,7 @@ pub enters : Rows
     → {image : List ℕ} {q : Watched} (p : OrderProgram) (g next_place : ℕ) (value : Filling) (base ax cx dx bx bp si di n : ℕ) (overflow : Bool) (cells stack : ℕ → ℕ) (input : List ℕ) (told : Told)
     → Stands image → Fills p g next_place value → HasPieces image value base entry_pieces → g < 255 → n < 32768 → p.limits.area ≤ 32768 → p.limits.frames ≤ p.limits.area → p.limits.depth < 65536
     → (sp : ℕ) → sp ≡ 2 * suc n % 65536 → Is image base (view ax cx dx bx sp bp si di overflow cells stack input told) q
-    → Leads told.output 13 q (Begun image (base + 11) (suc g) p.limits.depth (p.limits.area - p.limits.frames) p.limits.area cells input told)
+    → Leads told.output 11 q (Begun image (base + 11) (suc g) p.limits.depth p.limits.frames p.limits.area cells input told)
 enters rows {image} {q} p g next_place value base ax cx dx bx bp si di n overflow cells stack input told library fills h few lt low within deep sp top s =
     let by = value 7 start_entry 0 (base + 3) in
     let by_is : by ≡ (start_place + (65536 - (base + 3) % 65536)) % 65536 = fills.library start_entry (base + 3) (lit< tt) in
@@ -99,7 +99,7 @@ enters rows {image} {q} p g next_place value base ax cx dx bx bp si di n overflo
     let six : base + 3 + 2 + 2 + 2 ≡ base + 3 + 6 = omega arith in
     let few' : suc g < 256 = omega arith in
     more rows {to = start_place} {w = view ax cx dx bx (2 * n) bp si di overflow cells (put_word stack n (base + 3)) input told} s refl (to_place arrives_there (call rows by n (base + 3) lt top behind h.0 s)) (λ q t.
-    lifted rows {n = 12} t.silent
+    lifted rows {n = 10} t.silent
     (rows.routines.start (quiet_in q.places) image library (quiet_library t.ignores) (base + 3) n p.limits.area p.limits.frames p.limits.depth (suc g) ax cx dx bx bp si di (flags_of q) cells (put_word stack n (base + 3)) input told q.processor
     lt (put_at stack n (base + 3)) within low few'
     (subst (HasWord image (base + 3)) area h.1.0)
@@ -112,7 +112,7 @@ enters rows {image} {q} p g next_place value base ax cx dx bx bp si di n overflo
       number = b.record_is.number;
       left = b.record_is.left;
       base = b.record_is.base_is;
-      top = b.record_is.top_is;
+      rest = b.record_is.rest_is;
       stacked = record { ax = b.ax; cx = b.cx; dx = b.dx; bx = b.bx; si = b.si; overflow = b.flags.of; is = seen (let e : base + 3 + 8 ≡ base + 11 = omega arith in e) refl (returned q t.ignores b.is) };
     }))
 
@@ -161,10 +161,10 @@ module _ (known : Given) where
         let t = top_is p acts l.stack l.top w.operands l.operands in
         let most : l.top ≤ 32764 = omega arith in
         leads_to known g place false acts w next_state 22 goes (weight_is known s order.NextBody e)
-        (further 15 (lit≤ tt) (lit< tt)
+        (further 13 (lit≤ tt) (lit< tt)
         (more rows {to = here + 3} {w = view n r.cx r.dx r.bx (2 * l.top) (record_of acts) r.si p.limits.area r.overflow l.cells l.stack l.input l.told} r.is k.wrote (number rows 0 n i.0 r.is) (λ q t.
         more rows {to = base} {w = view n r.cx r.dx r.bx (2 * l.top) (record_of acts) r.si p.limits.area r.overflow l.cells l.stack l.input l.told} t k.wrote (jump_to rows 0 base (to ∙ below) i.1.0 t) (λ q t.
-        subst (λ x. Leads x 13 q (Matches p image next_state)) k.wrote
+        subst (λ x. Leads x 11 q (Matches p image next_state)) k.wrote
         (leads_on (λ r b. inl (begins goes is b))
         (enters rows p (g + 1) su.next_place su.value base n r.cx r.dx r.bx (record_of acts) r.si p.limits.area (under l.top) r.overflow l.cells l.stack l.input l.told
         all.library su.fills su.entry (few_next u is) (under_low l.top most) low coded.frames coded.depth (2 * l.top) (under_is l.top most) t))))))
@@ -173,7 +173,7 @@ module _ (known : Given) where
         few_next u is = let lt = slice_get_within p.units (g + 1) u is in omega arith
 
         begins : {r : Watched} → step p (at g place false acts w Running) ≡ at (g + 1) u.entry false [] (with_operands w []) Running → slice_get p.units (g + 1) ≡ Some u
-            → Begun image (base_of p (g + 1) + 11) (suc (g + 1)) p.limits.depth (p.limits.area - p.limits.frames) p.limits.area a.landed.cells a.landed.input a.landed.told r
+            → Begun image (base_of p (g + 1) + 11) (suc (g + 1)) p.limits.depth p.limits.frames p.limits.area a.landed.cells a.landed.input a.landed.told r
             → Sound p image (g + 1) u.entry false [] (with_operands w []) r
         begins {r} goes is b =
             let k = a.landed.kept in
@@ -200,7 +200,7 @@ module _ (known : Given) where
               working = tt;
               comes_back = tt;
               fits_before = fit;
-              landed = begun_landed p (order_place (base_of p (g + 1)) u.list u.entry) w.memory w.input w.output there (few_next u is) k.words k.long k.read k.wrote k.kind b;
+              landed = begun_landed p (order_place (base_of p (g + 1)) u.list u.entry) w.memory w.input w.output there (few_next u is) coded.frames k.words k.long k.read k.wrote k.kind b;
               fits = fit;
               acts_fit = All-nil ActivationFits;
               never = never_on p (at g place false acts w Running) (at (g + 1) u.entry false [] (with_operands w []) Running) goes s.never;

@@ -6,13 +6,13 @@ use Rattle.cw_track.proofs.Paths.{join}
 use Rattle.cw_i86.specs.declared.instr.Instr.TheVariants as i86
 use Rattle.cw_i86.specs.declared.instr.Imm.TheVariants as imm
 use Rattle.cw_run86.specs.Processor.{Processor, Told}
-use Rattle.cw_run86.specs.Views.{put_word}
+use Rattle.cw_run86.specs.Views.{Has, put_word}
 use Rattle.cw_unit.specs.Stop.{FramesFull, DepthReached, Stopped}
 use Rattle.cw_unit.specs.Words.{Words}
 use Rattle.cw_order.specs.OrderProgram.{OrderProgram}
 use Rattle.cw_order.specs.OrderState.{OrderActivation, operand_words, stack_words, frame_end}
 use Rattle.cw_tmpl.specs.Library.{enter_place}
-use Rattle.cw_routines.specs.Ways.{HasAll}
+use Rattle.cw_routines.specs.Ways.{HasAll, HasWord}
 use Rattle.cw_routines.specs.Results as results
 use Rattle.cw_routines.specs.Results.{Begins}
 use Rattle.cw_follow.specs.Passing.{Ignores}
@@ -20,7 +20,7 @@ use Rattle.cw_follow.proofs.Watched.{Watched, watched_machine, fresh}
 use Rattle.cw_follow.proofs.Rows.{Rows}
 use Rattle.cw_follow.proofs.Chains.{Is, Leads, view, seen, to_place, number, call, more, last}
 use Rattle.cw_follow.proofs.Routines.{Over, quiet_in, quiet_library, flags_of, arrives, returned, lifted, over, put_at}
-use Rattle.cw_follow.proofs.Stacks.{level, record_of, code_place, frame_from, StackIs, Piled, words_split, words_append, top_is, SameFrom, same_put, same_above, stack_same, piled_same}
+use Rattle.cw_follow.proofs.Stacks.{level, record_of, code_place, base_word, words_behind, StackIs, Piled, words_split, words_append, top_is, SameFrom, same_put, same_above, stack_same, piled_same}
 use Rattle.cw_follow.proofs.Orders.{Kept, kept_under, kept_same, Landed, Leading, CalledAt, further}
 
 -- no more than so many instructions
@@ -117,12 +117,12 @@ module _ (rows : Rows) (prog : OrderProgram) (image : List ℕ) where
     EntersTo true false to q = Over (record { output = w.output; end = Stopped FramesFull (a.segment + 1) a.line }) q
     EntersTo true true to q = Landed prog image to g false (begun ∷ acts) w q
 
-    module _ (none : w.operands ≡ []) (base_is : a.frame_base ≡ frame_end prog acts) (room : stack_words [] (a ∷ acts) ≤ 32000) where
+    module _ (none : w.operands ≡ []) (base_is : a.frame_base ≡ frame_end prog acts) (base_low : a.frame_base ≤ prog.limits.area) (room : stack_words [] (a ∷ acts) ≤ 32000) where
       -- the record has been made
       entered : {q : Processor} {cells before : ℕ → ℕ} {input : List ℕ} {told : Told} (u : Watched) (at to : ℕ) → at % 65536 ≡ to % 65536 → Ignores image u.places
           → before (level (begun ∷ acts) + 5) ≡ code_place prog a.segment a.place → StackIs prog acts before (level (begun ∷ acts) + 6) (a.arguments ++ a.operands)
           → Kept prog a.segment acts w.memory w.input w.output cells before input told
-          → results.Entered image at (level (begun ∷ acts)) (record_of acts) (g + 1) (prog.limits.depth - length acts - 1) (frame_end prog acts) (frame_end prog acts + size) prog.limits.area cells before input told q
+          → results.Entered image at (level (begun ∷ acts)) (record_of acts) (g + 1) (prog.limits.depth - length acts - 1) (2 * (prog.limits.area - words_behind prog acts) % 65536) (words_behind prog acts - size) prog.limits.area cells before input told q
           → Landed prog image to g false (begun ∷ acts) w (fresh u.places u.area q)
       entered {q} {cells} {before} {input} {told} u at to there ignores back h k e =
           let r = level (begun ∷ acts) in
@@ -131,6 +131,8 @@ module _ (rows : Rows) (prog : OrderProgram) (image : List ℕ) where
           let made = e.record_is in
           let below : Piled prog e.stack a.segment acts = piled_same prog before e.stack a.segment acts (same_above before e.stack (r + 5) (level acts) (omega arith) same) k.piled in
           let record_at : 2 * (r + 4) ≡ record_of (begun ∷ acts) = omega arith in
+          let begins_at : prog.limits.area - words_behind prog acts ≡ a.frame_base = omega arith in
+          let behind : words_behind prog acts - size ≡ prog.limits.area - (a.frame_base + size) = omega arith in
           record {
             top = r;
             cells = cells;
@@ -152,8 +154,8 @@ module _ (rows : Rows) (prog : OrderProgram) (image : List ℕ) where
               long = k.long;
               piled = (
                 record {
-                  top_is = made.top_is ∙ ap (λ n. n + size) (sym base_is);
-                  base_is = made.base_is ∙ sym base_is;
+                  rest_is = made.rest_is ∙ behind;
+                  base_is = made.base_is ∙ ap (λ n. 2 * n % 65536) begins_at;
                   left_is = made.left ∙ (let f : prog.limits.depth - length acts - 1 ≡ prog.limits.depth - length (begun ∷ acts) = omega arith in f);
                   number_is = made.number;
                   few = few;
@@ -182,35 +184,35 @@ module _ (rows : Rows) (prog : OrderProgram) (image : List ℕ) where
       ends {q} T u true false to output e begins d = subst (λ o. Over (record { output = o; end = Stopped FramesFull (a.segment + 1) a.line }) (fresh u.places u.area q)) e (over u d)
       ends T u true true to output e begins d = begins d
 
-      -- the routine, with the place behind its call on the stack
-      routine : {u : Watched} {cells stack : ℕ → ℕ} {input : List ℕ} {told : Told} (back to bx si : ℕ) (overflow : Bool) → results.Stands image → prog.limits.area ≤ 32768
-          → a.frame_base ≤ prog.limits.area → size < 65536 → prog.limits.depth < 65536 → a.line < 65536
-          → stack (level (begun ∷ acts) + 4) ≡ back → back < 65536 → back % 65536 ≡ to % 65536
+      -- the routine, with the place of its words on the stack
+      routine : {u : Watched} {cells stack : ℕ → ℕ} {input : List ℕ} {told : Told} (at to ax cx bx si : ℕ) (overflow : Bool) → results.Stands image → prog.limits.area ≤ 32768
+          → size < 65536 → prog.limits.depth < 65536 → a.line < 65536
+          → stack (level (begun ∷ acts) + 4) ≡ at → HasWord image at size → HasWord image (at + 2) (g + 1) → (at + 4) % 65536 ≡ to % 65536
           → stack (level (begun ∷ acts) + 5) ≡ code_place prog a.segment a.place → StackIs prog acts stack (level (begun ∷ acts) + 6) (a.arguments ++ a.operands)
           → Kept prog a.segment acts w.memory w.input w.output cells stack input told
-          → Is image enter_place (view size (g + 1) a.line bx (2 * (level (begun ∷ acts) + 4)) (record_of acts) si prog.limits.area overflow cells stack input told) u
-          → Few w.output 19 u (EntersTo (nat_lt (length acts) prog.limits.depth) (nat_le (a.frame_base + size) prog.limits.area) to)
-      routine {u} {cells} {stack} {input} {told} back to bx si overflow library low base_low small depth_low line_small back_is back_small there return h k s =
+          → Is image enter_place (view ax cx a.line bx (2 * (level (begun ∷ acts) + 4)) (record_of acts) si prog.limits.area overflow cells stack input told) u
+          → Few w.output 18 u (EntersTo (nat_lt (length acts) prog.limits.depth) (nat_le (a.frame_base + size) prog.limits.area) to)
+      routine {u} {cells} {stack} {input} {told} at to ax cx bx si overflow library low small depth_low line_small at_is size_there number_there there return h k s =
           let r = level (begun ∷ acts) in
           let l = level acts in
           let bp = record_of acts in
           let area = prog.limits.area in
           let calls_left = prog.limits.depth - length acts in
-          let frame_top = frame_end prog acts in
+          let rest = words_behind prog acts in
           let t = top_is prog acts stack (r + 6) (a.arguments ++ a.operands) h in
-          let caller : results.RecordIs stack bp l (a.segment + 1) calls_left (frame_from prog acts) frame_top = record {
+          let caller : results.RecordIs stack bp l (a.segment + 1) calls_left (base_word prog acts) rest = record {
             there = (let e : bp ≡ 2 * (l + 4) % 65536 = omega arith in e);
             low = omega arith;
             number = k.piled.0.number_is;
             few = (let f = k.piled.0.few in omega arith);
             left = k.piled.0.left_is;
             base_is = k.piled.0.base_is;
-            top_is = k.piled.0.top_is;
+            rest_is = k.piled.0.rest_is;
           } in
-          let fit_is : nat_le size (area - frame_top) ≡ nat_le (a.frame_base + size) area = ap (λ n. nat_le size (area - n)) (sym base_is) ∙ frame_tests a.frame_base size area base_low in
-          let law = rows.routines.enter (quiet_in u.places) image library (quiet_library s.ignores) r back a.line l (a.segment + 1) calls_left (frame_from prog acts) frame_top
-          (g + 1) size bx bp si area (flags_of u) cells stack input told u.processor
-          (omega arith) back_is back_small line_small (omega arith) (omega arith) small (omega arith) low caller (arrives s) in
+          let fit_is : nat_le size rest ≡ nat_le (a.frame_base + size) area = ap (λ n. nat_le size (area - n)) (sym base_is) ∙ frame_tests a.frame_base size area base_low in
+          let law = rows.routines.enter (quiet_in u.places) image library (quiet_library s.ignores) r at a.line l (a.segment + 1) calls_left (base_word prog acts) rest
+          (g + 1) size ax cx bx bp si area (flags_of u) cells stack input told u.processor
+          (omega arith) at_is size_there number_there line_small (omega arith) (omega arith) small (omega arith) low caller (arrives s) in
           record {
             spent = law.spent;
             within = law.within;
@@ -218,16 +220,16 @@ module _ (rows : Rows) (prog : OrderProgram) (image : List ℕ) where
                 (lifted rows {n = law.spent} {U = EntersTo (nat_lt (length acts) prog.limits.depth) (nat_le (a.frame_base + size) area) to} s.silent law.leads (λ t d.
                 subst (λ b. EntersTo b (nat_le (a.frame_base + size) area) to (fresh u.places u.area t)) (left_tests (length acts) prog.limits.depth)
                 (subst (λ b. EntersTo (nat_lt 0 calls_left) b to (fresh u.places u.area t)) fit_is
-                (ends (results.Entered image back r bp (g + 1) (calls_left - 1) frame_top (frame_top + size) area cells stack input told) u (nat_lt 0 calls_left) (nat_le size (area - frame_top)) to told.output k.wrote
-                (entered u back to there s.ignores return h k) d))));
+                (ends (results.Entered image (at + 4) r bp (g + 1) (calls_left - 1) (2 * (area - rest) % 65536) (rest - size) area cells stack input told) u (nat_lt 0 calls_left) (nat_le size rest) to told.output k.wrote
+                (entered u (at + 4) to there s.ignores return h k) d))));
           }
 
       -- the code of Enter, in the called procedure
-      pub begins : {q : Watched} (at by segment : ℕ) → results.Stands image → prog.limits.area ≤ 32768 → a.frame_base ≤ prog.limits.area → size < 65536 → prog.limits.depth < 65536 → segment ≡ g + 1
-          → (at + 9 + by) % 65536 ≡ enter_place % 65536
-          → HasAll image at (i86.MovImm 0 (imm.Word size) ∷ i86.MovImm 1 (imm.Word segment) ∷ i86.Call by ∷ []) → CalledAt prog image at a acts w q
-          → Leading w.output 22 q (EntersTo (nat_lt (length acts) prog.limits.depth) (nat_le (a.frame_base + size) prog.limits.area) (at + 9))
-      begins {q} at by segment library low base_low small depth_low number_is arrives_at i c =
+      pub begins : {q : Watched} (at by segment : ℕ) → results.Stands image → prog.limits.area ≤ 32768 → size < 65536 → prog.limits.depth < 65536 → segment ≡ g + 1
+          → (at + 3 + by) % 65536 ≡ enter_place % 65536
+          → Has image at (i86.Call by) → HasWord image (at + 3) size → HasWord image (at + 3 + 2) segment → CalledAt prog image at a acts w q
+          → Leading w.output 19 q (EntersTo (nat_lt (length acts) prog.limits.depth) (nat_le (a.frame_base + size) prog.limits.area) (at + 7))
+      begins {q} at by segment library low small depth_low number_is arrives_at i size_there number_there c =
           let r = level (begun ∷ acts) in
           let xs = a.arguments ++ a.operands in
           let t = top_is prog acts c.stack (suc c.top) xs c.operands in
@@ -237,9 +239,11 @@ module _ (rows : Rows) (prog : OrderProgram) (image : List ℕ) where
           let bp = record_of acts in
           let l = level acts in
           let top_at : c.top ≡ suc (r + 4) = omega arith in
-          let back = (at + 3 + 3 + 3) % 65536 in
-          let stack : ℕ → ℕ = put_word c.stack (r + 4) back in
-          let same : SameFrom (r + 5) c.stack stack = same_put c.stack (r + 4) back (r + 5) (omega arith) in
+          let inside = size_there.within in
+          let fits = c.is.sees.fits in
+          let behind : (at + 3) % 65536 ≡ at + 3 = omega arith in
+          let stack : ℕ → ℕ = put_word c.stack (r + 4) (at + 3) in
+          let same : SameFrom (r + 5) c.stack stack = same_put c.stack (r + 4) (at + 3) (r + 5) (omega arith) in
           let k = kept_same stack (same_above c.stack stack (r + 5) l (omega arith) same) c.kept in
           let six : suc c.top ≡ r + 6 = omega arith in
           let h : StackIs prog acts stack (r + 6) xs = stack_same prog acts c.stack stack (r + 6) xs (same_above c.stack stack (r + 5) (r + 6) (omega arith) same) (subst (λ n. StackIs prog acts c.stack n xs) six c.operands) in
@@ -247,14 +251,10 @@ module _ (rows : Rows) (prog : OrderProgram) (image : List ℕ) where
           let return : stack (r + 5) ≡ code_place prog a.segment a.place = same (r + 5) (omega arith) ∙ ap c.stack five ∙ c.back in
           let sp_top : 2 * suc (r + 4) ≡ 2 * suc (r + 4) % 65536 = omega arith in
           let below : r + 4 < 32768 = omega arith in
-          let there : (at + 3 + 3 + 3 + by) % 65536 ≡ enter_place % 65536 = (let e : (at + 3 + 3 + 3 + by) % 65536 ≡ (at + 9 + by) % 65536 = omega arith in e) ∙ arrives_at in
-          let past : back % 65536 ≡ (at + 9) % 65536 = omega arith in
-          let back_small : back < 65536 = omega arith in
+          let past : (at + 3 + 4) % 65536 ≡ (at + 7) % 65536 = omega arith in
           let start : Is image at (view c.ax c.cx a.line c.bx (2 * suc (r + 4)) bp c.si area c.overflow c.cells c.stack c.input c.told) q =
           seen refl (ap (λ n. view c.ax c.cx a.line c.bx (2 * n) bp c.si area c.overflow c.cells c.stack c.input c.told) top_at) c.is in
-          and_few {T = Is image enter_place (view size (g + 1) a.line c.bx (2 * (r + 4)) bp c.si area c.overflow c.cells stack c.input c.told)} 3 19 22 (lit< tt) (lit≤ tt)
-          (more rows {to = at + 3} {w = view size c.cx a.line c.bx (2 * suc (r + 4)) bp c.si area c.overflow c.cells c.stack c.input c.told} start c.kept.wrote (number rows 0 size i.0 start) (λ q u.
-          more rows {to = at + 3 + 3} {w = view size (g + 1) a.line c.bx (2 * suc (r + 4)) bp c.si area c.overflow c.cells c.stack c.input c.told} u c.kept.wrote
-          (seen refl (ap (λ n. view size n a.line c.bx (2 * suc (r + 4)) bp c.si area c.overflow c.cells c.stack c.input c.told) number_is) (number rows 1 segment i.1.0 u)) (λ q u.
-          last rows u c.kept.wrote (to_place there (call rows by (r + 4) back below sp_top refl i.1.1.0 u)))))
-          (λ q u. routine back (at + 9) c.bx c.si c.overflow library low base_low small depth_low c.small (put_at c.stack (r + 4) back) back_small past return h k u)
+          and_few {T = Is image enter_place (view c.ax c.cx a.line c.bx (2 * (r + 4)) bp c.si area c.overflow c.cells stack c.input c.told)} 1 18 19 (lit< tt) (lit≤ tt)
+          (last rows start c.kept.wrote (to_place arrives_at (call rows by (r + 4) (at + 3) below sp_top behind i start)))
+          (λ q u.
+          routine (at + 3) (at + 7) c.ax c.cx c.bx c.si c.overflow library low small depth_low c.small (put_at c.stack (r + 4) (at + 3)) size_there (subst (HasWord image (at + 3 + 2)) number_is number_there) past return h k u)

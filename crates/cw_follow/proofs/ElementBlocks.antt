@@ -1,6 +1,6 @@
 -- Blocks of an element whose index is in memory: its word is fetched, assigned or used. Where its address is none of the data area, the order
 -- that makes the address stops, and pays for the way to the stop.
-use Rattle.std.proofs.Common.{◌≡◌, inl, inr, ◌⊎◌, ℕ, zero, suc, ◌+◌, ◌*◌, ◌%◌, ◌<◌, ◌≤◌, Bool, true, false, ℤ, pos, negsuc, ◌+ℤ◌, ◌-ℤ◌, List, [], ◌∷◌, ◌++◌, length, drop, set, Option, Some, None, refl, sym, ap, ap₂, ◌∙◌, subst, arith, lit<, lit≤, append_assoc}
+use Rattle.std.proofs.Common.{◌≡◌, inl, inr, ◌⊎◌, ℕ, zero, suc, ◌+◌, ◌*◌, ◌%◌, ◌<◌, ◌≤◌, Bool, true, false, ℤ, pos, negsuc, ◌+ℤ◌, ◌-ℤ◌, List, [], ◌∷◌, ◌++◌, length, drop, set, Option, Some, None, refl, sym, ap, ◌∙◌, subst, arith, lit<, lit≤, append_assoc}
 use Rattle.std.specs.Prelude.{slice_get}
 use borrow.Author.Tests.{ltb-true}
 use Rattle.std.proofs.lemmas.Bool.{false≢true, lt-ltb, cases_lt}
@@ -59,7 +59,8 @@ use Rattle.cw_follow.proofs.States.{Given, Sound}
 use Rattle.cw_follow.proofs.Steps.{Follow, setting, calls, order_here, weight_is, line_fits, leads_to, stuck_here, step_is, silent_in, start_place, block_code, block_ends, did_as, does, chosen, start, two_roomy}
 use Rattle.cw_follow.proofs.BlockOrders.{code_end, room_in, within_block, inner_follows, modes, saved, step_in}
 use Rattle.cw_follow.proofs.InBlocks.{slice_drop, chain, loaded_then, loaded_silently, Puts, puts_word, silently, silently_next}
-use Rattle.cw_follow.proofs.Indexed.{Below, below_of, formed_by_one, Addressed, Summed, index_steps, sum_by_word, sum_by_frame, test_passes, test_stops}
+use Rattle.cw_follow.proofs.FrameBlocks.{frame_word_inside}
+use Rattle.cw_follow.proofs.Indexed.{below_of, formed_by_one, Addressed, Summed, index_steps, sum_by_word, sum_by_frame, test_passes, test_stops}
 use Rattle.cw_follow.proofs.Operands.{allowed, words, with_cells, DoesHere}
 
 chain_chain : (x : Outcome) (f g : Words → Outcome) → chain (chain x f) g ≡ chain x (λ v. chain (f v) g)
@@ -83,7 +84,7 @@ formed_list e behind = address_order e.index ∷ order.Load ∷ order.Save ∷ o
 pub formed_list_is : (e : Element) (behind : List Order) → element_orders e ++ behind ≡ formed_list e behind
 formed_list_is e behind = ap (λ l. (l ++ order.Load ∷ order.Save ∷ order.Home e.family e.first ∷ order.Element e.lower e.span e.line ∷ []) ++ behind) (address_one e.index)
 
-few_index : (x : Place) → index_steps x ≤ 4
+few_index : (x : Place) → index_steps x ≤ 3
 few_index (cell.Word f n) = lit≤ tt
 few_index (cell.Frame n) = lit≤ tt
 
@@ -96,7 +97,7 @@ module _ (known : Given) where
     -- where it stands
     abbrev place_address : Place → Option ℕ
     place_address (cell.Word f n) = Some (home_word p.addresses g f n)
-    place_address (cell.Frame n) = frame_word acts n
+    place_address (cell.Frame n) = frame_word p.limits.area acts n
 
     address_puts : (x : Place) (v : Words) → puts_word p g acts (address_order x) v ≡ put_address (place_address x) v
     address_puts (cell.Word f n) v = refl
@@ -113,9 +114,9 @@ module _ (known : Given) where
     place_small (cell.Word f n) a e = let same : home_word p.addresses g f n ≡ a = cc in omega arith
     place_small (cell.Frame n) a e = of_frame acts e
       where
-        of_frame : (xs : List OrderActivation) → frame_word xs n ≡ Some a → a < 65536
+        of_frame : (xs : List OrderActivation) → frame_word p.limits.area xs n ≡ Some a → a < 65536
         of_frame [] e = absurd (cc)
-        of_frame (x ∷ xs) e = let same : (x.frame_base + n) % 65536 ≡ a = cc in omega arith
+        of_frame (x ∷ xs) e = let within = (frame_word_inside p.limits.area x xs n a e).1 in omega arith
 
     pub record IndexRead (x : Place) (v : Words) : Type 0 where
       pub at : ℕ
@@ -282,15 +283,15 @@ module _ (known : Given) where
             l.kept a.is f n (λ after. st.fills.bytes f n after ∙ twice) h)
         cases (cell.Frame n) stands h = of_frame acts refl stands
           where
-            of_frame : (xs : List OrderActivation) → acts ≡ xs → frame_word xs n ≡ Some r.at → Leads s.before.output 4 q' (SummedAt l (at + 12) top ax cx a.dx (word_sum (zero_at e) (unsigned (word_at s.before.memory r.at))))
+            of_frame : (xs : List OrderActivation) → acts ≡ xs → frame_word p.limits.area xs n ≡ Some r.at → Leads s.before.output 3 q' (SummedAt l (at + 10) top ax cx a.dx (word_sum (zero_at e) (unsigned (word_at s.before.memory r.at))))
             of_frame [] are stands = absurd (cc)
             of_frame (b ∷ under) are stands =
                 let st = all.stands g s.orders s.unit in
-                let index : (b.frame_base + n) % 65536 ≡ r.at = cc in
-                let there : at + 3 + 2 + 3 + 4 ≡ at + 12 = omega arith in
-                subst (λ k. Leads s.before.output 4 q' (SummedAt l k top ax cx a.dx (word_sum (zero_at e) (unsigned (word_at s.before.memory r.at))))) there
+                let index = (frame_word_inside p.limits.area b under n r.at stands).0 in
+                let there : at + 3 + 3 + 4 ≡ at + 10 = omega arith in
+                subst (λ k. Leads s.before.output 3 q' (SummedAt l k top ax cx a.dx (word_sum (zero_at e) (unsigned (word_at s.before.memory r.at))))) there
                 (sum_by_frame (setting known s) s.before.memory s.before.input s.before.output st.value e.family e.zero rest top (zero_at e) r.at (word_at s.before.memory r.at) (λ after. st.fills.homes e.family e.zero after) half (l.kept.words r.at r.within)
-                l.kept a.is n b under are (sym index) h)
+                l.kept a.is n b under are index h)
 
     -- the test behind it
     abbrev tested : Element → List Coded

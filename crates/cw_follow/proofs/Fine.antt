@@ -547,7 +547,7 @@ module _ (p : OrderProgram) (segment next : ℕ) (value : Filling) (fills : Fill
   template_fine names place order.NextBody fits = ((is_ax, next_filled), (is_ax, tt))
   template_fine names place (order.Jump mark) fits = (distance_small (place + 3) (mark_place names mark), tt)
   template_fine names place (order.JumpIf c mark) fits = (bx_free, ((lit< tt, is_bx, is_ax), branch_fine c (place + 8) (mark_place names mark)))
-  template_fine names place (order.FrameHome n) fits = ((is_ax, (lit< tt, lit< tt)), ((lit< tt, fits.1), tt))
+  template_fine names place (order.FrameHome n) fits = ((is_ax, (lit< tt, lit< tt)), ((lit< tt, λ e. omega arith, is_ax), ((lit< tt, fits.1), tt)))
   template_fine names place (order.Exhausted mark) fits = (library_filled exhausted_entry (lit< tt), (distance_small (place + 6) (mark_place names mark), tt))
   template_fine names place (order.SetVariable line) fits = at_line_fine set_variable_entry line (lit< tt) fits.2
   template_fine names place (order.AddStep line) fits = at_line_fine add_step_entry line (lit< tt) fits.2
@@ -557,11 +557,11 @@ module _ (p : OrderProgram) (segment next : ℕ) (value : Filling) (fills : Fill
   template_fine names place (order.CallCommon d line) fits = ((dx_register, fits.2), (ahead_filled d, tt))
   template_fine names place (order.CallSpecial k line) fits =
       ((dx_register, fits.2), (argument_fine 0 k is_ax (few_more k fits.1), ((is_bx, place_filled ((place + 13) % 65536)), (bx_free, (is_ax, tt)))))
-  template_fine names place (order.Enter size) fits = ((is_ax, fits.1), ((cx_register, number_filled), (library_filled enter_entry (lit< tt), tt)))
+  template_fine names place (order.Enter size) fits = (library_filled enter_entry (lit< tt), (fits.1, (number_filled, tt)))
   template_fine names place (order.Bind k family offset) fits = (argument_fine 0 k is_ax (few_more k fits.1), (bytes_filled family offset, tt))
   template_fine names place (order.BindFrame k offset) fits =
       let small : 2 * offset % 65536 < 65536 = omega arith in
-      (argument_fine 1 k cx_register (few_more k fits.1.0), ((is_bx, (lit< tt, lit< tt)), ((lit< tt, λ e. omega arith, is_bx), ((cx_register, (lit< tt, small)), tt))))
+      (argument_fine 1 k cx_register (few_more k fits.1.0), ((is_bx, (lit< tt, lit< tt)), ((cx_register, (lit< tt, small)), tt)))
   template_fine names place (order.Return n answers) fits = return_fine n fits.1
   template_fine names place (order.LabelOut l) fits = control_fine (target.Place (label_start names l % 65536)) (place_filled (label_start names l % 65536))
   template_fine names place (order.LabelCommon d) fits = control_fine (target.Definition d) (definition_filled d)
@@ -587,7 +587,7 @@ module _ (p : OrderProgram) (segment next : ℕ) (value : Filling) (fills : Fill
 
   address_fine : (x : Place) → AllFine value (address_pieces x)
   address_fine (cell.Word f n) = tt
-  address_fine (cell.Frame n) = ((is_bx, (lit< tt, lit< tt)), ((lit< tt, λ e. omega arith, is_bx), tt))
+  address_fine (cell.Frame n) = ((is_bx, (lit< tt, lit< tt)), tt)
 
   load_place_fine : (x : Place) → IsFine value (load_place x)
   load_place_fine (cell.Word f n) = bytes_filled f n
@@ -608,7 +608,7 @@ module _ (p : OrderProgram) (segment next : ℕ) (value : Filling) (fills : Fill
   -- the address of an element
   index_fine : (x : Place) (family offset : ℕ) → AllFine value (index_added x family offset)
   index_fine (cell.Word f n) family offset = ((lit< tt, home_filled family offset), ((lit< tt, lit< tt, bytes_filled f n), tt))
-  index_fine (cell.Frame n) family offset = ((is_bx, (lit< tt, lit< tt)), ((lit< tt, λ e. omega arith, is_bx), ((lit< tt, home_filled family offset), ((lit< tt, lit< tt, (lit< tt, field_fine n)), tt))))
+  index_fine (cell.Frame n) family offset = ((is_bx, (lit< tt, lit< tt)), ((lit< tt, home_filled family offset), ((lit< tt, lit< tt, (lit< tt, field_fine n)), tt)))
 
   element_address_fine : (e : Element) → e.line < 65536 → AllFine value (element_address e)
   element_address_fine e small =

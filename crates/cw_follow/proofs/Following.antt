@@ -1,5 +1,5 @@
 -- From the first instruction of an image on, the processor follows the machine of the orders.
-use Rattle.std.proofs.Common.{◌≡◌, inl, ℕ, zero, suc, ◌+◌, ◌-◌, ◌<◌, ◌≤◌, false, ℤ, pos, List, [], ◌∷◌, length, Option, Some, None, refl, sym, ap, ◌∙◌, subst, arith, lit<}
+use Rattle.std.proofs.Common.{◌≡◌, inl, ℕ, zero, suc, ◌+◌, ◌<◌, ◌≤◌, false, ℤ, pos, List, [], ◌∷◌, length, Option, Some, None, refl, sym, ap, ◌∙◌, subst, arith, lit<}
 use Rattle.std.specs.Prelude.{slice_get, slice_index}
 use Rattle.std.specs.List.{All}
 use Rattle.std.proofs.lemmas.List.{get_or_default}
@@ -79,7 +79,7 @@ following rows p image words memory input s places all is stand coded begins nev
         let known : Given = record { rows = rows; p = p; image = image; all = all; coded = coded; few = few; low = area; places = places; places_stand = stand } in
         let begin = watch known (processor_start s input) in
         let from : Is image 0 (view 0 0 0 0 0 0 0 0 false (slice_index words) (λ k. 0) input nothing_told) begin = record { sees = rows.starts image words input s is.fits short_words starts_so; ignores = stand.ignores; silent = refl } in
-        let at_entry : (q : Watched) → Begun image (base_of p 0 + 11) 1 p.limits.depth (p.limits.area - p.limits.frames) p.limits.area (slice_index words) input nothing_told q → Sound p image 0 first false [] begun q = λ q b.
+        let at_entry : (q : Watched) → Begun image (base_of p 0 + 11) 1 p.limits.depth p.limits.frames p.limits.area (slice_index words) input nothing_told q → Sound p image 0 first false [] begun q = λ q b.
         let place_is : base_of p 0 + 11 ≡ order_place (base_of p 0) u.list 0 = omega arith in
         let there : base_of p 0 + 11 ≡ order_place (base_of p 0) u.list first = place_is ∙ ap (order_place (base_of p 0) u.list) (sym is_zero) in
         record {
@@ -98,7 +98,7 @@ following rows p image words memory input s places all is stand coded begins nev
           room_before = omega arith;
           wrote = refl;
           fits_before = record { operands = All-nil OperandFits; memory = memory_fits rows.words p words memory begins; input = bytes };
-          landed = begun_landed p (order_place (base_of p 0) u.list first) memory input [] there (lit< tt) (cells_begin rows.words p words memory begins) begins.long refl refl refl b;
+          landed = begun_landed p (order_place (base_of p 0) u.list first) memory input [] there (lit< tt) coded.frames (cells_begin rows.words p words memory begins) begins.long refl refl refl b;
           acts_fit = All-nil ActivationFits;
           fits = record { operands = All-nil OperandFits; memory = memory_fits rows.words p words memory begins; input = bytes };
           stands = record { room = omega arith; last = tt; operands = All-nil (OperandStands p 0 []) };
@@ -106,13 +106,13 @@ following rows p image words memory input s places all is stand coded begins nev
           comes_back = tt;
           never = never;
         } in
-        let base_is : 334 ≡ base_of p 0 = refl in
-        let way : Leads [] 14 begin (Sound p image 0 first false [] begun) =
-        more rows {to = base_of p 0} {w = view 0 0 0 0 0 0 0 0 false (slice_index words) (λ k. 0) input nothing_told} from refl (seen base_is refl (near rows 331 all.library.0.0 from)) (λ q t.
+        let base_is : 338 ≡ base_of p 0 = refl in
+        let way : Leads [] 12 begin (Sound p image 0 first false [] begun) =
+        more rows {to = base_of p 0} {w = view 0 0 0 0 0 0 0 0 false (slice_index words) (λ k. 0) input nothing_told} from refl (seen base_is refl (near rows 335 all.library.0.0 from)) (λ q t.
         leads_on at_entry
         (enters rows p 0 su.next_place su.value (base_of p 0) 0 0 0 0 0 0 0 32767 false (slice_index words) (λ k. 0) input nothing_told all.library su.fills su.entry (lit< tt) (lit< tt) area coded.frames coded.depth 0 refl t)) in
         let start = watched_way known (processor_start s input) (at 0 first false [] begun Running) (leads_on (λ q m. inl m) way) in
         let A = watched (order_machine p) (starts p) in
         let B = watched (processor_machine shown_as) (passes places p.limits.area) in
-        starts_up (λ o. is_running o.0) A B (order_start p memory input, []) 0 14 14 (processor_start s input, []) (start.0, []) refl start.1
+        starts_up (λ o. is_running o.0) A B (order_start p memory input, []) 0 12 12 (processor_start s input, []) (start.0, []) refl start.1
         (tracks_leaping (λ o. is_running o.0) A B _ _ (simulation_watched is_running (order_machine p) (processor_machine shown_as) (starts p) (passes places p.limits.area) (MatchesWatched known) (left p) (simulates known)) (order_start p memory input, []) (start.0, []) (start.2, refl))

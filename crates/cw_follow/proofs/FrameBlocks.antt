@@ -1,5 +1,7 @@
 -- What the code does that fetches and stores a word of the frame at work.
-use Rattle.std.proofs.Common.{◌≡◌, ℕ, zero, suc, ◌+◌, ◌*◌, ◌%◌, ◌<◌, ◌≤◌, Bool, true, false, ℤ, List, [], ◌∷◌, drop, set, None, refl, arith, lit<, lit≤}
+use Rattle.std.proofs.Common.{◌≡◌, ℕ, ◌+◌, ◌*◌, ◌%◌, ◌<◌, ◌≤◌, Bool, true, false, ℤ, List, [], ◌∷◌, set, Some, None, refl, sym, arith, lit<, lit≤}
+use Rattle.std.specs.Prelude.{nat_lt, if◌then◌else◌}
+use borrow.Author.Tests.{ltb-true}
 use Rattle.cw_follow.proofs.Watched.{Watched}
 use Rattle.cw_word.specs.Word.{signed, unsigned}
 use Rattle.cw_unit.specs.Words.{Operand, Word, Held, Words, Changed, with_memory, put, through, is_below, number_of, word_at}
@@ -8,28 +10,36 @@ use Rattle.cw_order.specs.OrderProgram.{OrderProgram}
 use Rattle.cw_order.specs.OrderChanges.{put_address}
 use Rattle.cw_order.specs.OrderState.{OrderActivation, frame_word}
 use Rattle.cw_order.specs.OrderMachine.{unrefused}
-use Rattle.cw_tmpl.specs.Mnemonics.{ax, bx, slot, base_slot, field, double, load, store}
+use Rattle.cw_tmpl.specs.Mnemonics.{ax, bx, slot, base_slot, field, load, store}
 use Rattle.cw_routines.specs.Ways.{HasAll}
 use Rattle.cw_follow.proofs.Rows.{Rows}
 use Rattle.cw_follow.proofs.Chains.{done}
-use Rattle.cw_follow.proofs.Straight.{LoadSlot, LoadWord, StoreField, DoubleWord, straight}
+use Rattle.cw_follow.proofs.Straight.{LoadSlot, LoadWord, StoreField, straight}
 use Rattle.cw_follow.proofs.Routines.{with_ax}
 use Rattle.cw_follow.proofs.Stacks.{level, record_of}
 use Rattle.cw_follow.proofs.Orders.{kept_stored, Landed, landed, Does, below_area, further}
 use Rattle.cw_follow.proofs.InBlocks.{chain}
 
+-- a word of the frame of an activation, where it is one of the data area
+pub frame_word_inside : (area : ℕ) (a : OrderActivation) (acts : List OrderActivation) (n k : ℕ) → frame_word area (a ∷ acts) n ≡ Some k → (k ≡ a.frame_base + n) × (k < area)
+frame_word_inside area a acts n k e = cases (nat_lt (a.frame_base + n) area) refl e
+  where
+    cases : (b : Bool) → nat_lt (a.frame_base + n) area ≡ b → (if b then Some (a.frame_base + n) else None) ≡ Some k → (k ≡ a.frame_base + n) × (k < area)
+    cases false is e = absurd (cc)
+    cases true is e = let same : a.frame_base + n ≡ k = cc in let lt = ltb-true (a.frame_base + n) area is in (sym same, omega arith)
+
 module _ (rows : Rows) (prog : OrderProgram) (image : List ℕ) where
   -- the word comes to AX
-  fetches_frame : {q : Watched} {at : ℕ} (g to n : ℕ) (a : OrderActivation) (acts : List OrderActivation) (w : Words) → prog.limits.area ≤ 32768 → at + 9 ≡ to
-      → HasAll image at (load bx (slot base_slot) ∷ double bx ∷ load ax (field (2 * n % 65536)) ∷ []) → Landed prog image at g false (a ∷ acts) w q
-      → Does prog image 3 to g true 0 (a ∷ acts) w.output q (unrefused (perform prog.limits.area (Fetch None) (put (signed ((a.frame_base + n) % 65536)) w)))
-  fetches_frame {q} {at} g to n a acts w low e i l = cases (is_below (signed m) prog.limits.area) refl
+  fetches_frame : {q : Watched} {at : ℕ} (g to n : ℕ) (a : OrderActivation) (acts : List OrderActivation) (w : Words) → prog.limits.area ≤ 32768 → a.frame_base + n < prog.limits.area → at + 7 ≡ to
+      → HasAll image at (load bx (slot base_slot) ∷ load ax (field (2 * n % 65536)) ∷ []) → Landed prog image at g false (a ∷ acts) w q
+      → Does prog image 2 to g true 0 (a ∷ acts) w.output q (unrefused (perform prog.limits.area (Fetch None) (put (signed (a.frame_base + n)) w)))
+  fetches_frame {q} {at} g to n a acts w low inside e i l = cases (is_below (signed m) prog.limits.area) refl
     where
       m : ℕ
-      m = (a.frame_base + n) % 65536
+      m = a.frame_base + n
 
       cases : (b : Bool) → is_below (signed m) prog.limits.area ≡ b
-          → Does prog image 3 to g true 0 (a ∷ acts) w.output q (unrefused (through b (λ j v. Changed (put (word_at v.memory j) v)) (signed m) w))
+          → Does prog image 2 to g true 0 (a ∷ acts) w.output q (unrefused (through b (λ j v. Changed (put (word_at v.memory j) v)) (signed m) w))
       cases false is = tt
       cases true is =
           let s = l.stacked in
@@ -44,27 +54,27 @@ module _ (rows : Rows) (prog : OrderProgram) (image : List ℕ) where
           let base : r + 1 < 32768 = omega arith in
           let slot_base : (bp + 65530) % 65536 ≡ 2 * (r + 1) = omega arith in
           let address : (2 * a.frame_base % 65536 + 2 * n % 65536) % 65536 ≡ 2 * k = omega arith in
-          let end : at + 3 + 2 + 4 ≡ to = omega arith in
-          further 3 (lit≤ tt) (lit< tt)
-          (straight rows (LoadSlot 3 0xFA (r + 1) a.frame_base ∷ DoubleWord 3 ∷ LoadWord 0 (2 * n % 65536) k (unsigned (word_at w.memory k)) ∷ []) {n = 0} c.wrote i
-          ((base, slot_base, c.piled.0.base_is), (tt, ((k_low, address, c.words k within), tt))) s.is (λ q u.
+          let end : at + 3 + 4 ≡ to = omega arith in
+          further 2 (lit≤ tt) (lit< tt)
+          (straight rows (LoadSlot 3 0xFA (r + 1) (2 * a.frame_base % 65536) ∷ LoadWord 0 (2 * n % 65536) k (unsigned (word_at w.memory k)) ∷ []) {n = 0} c.wrote i
+          ((base, slot_base, c.piled.0.base_is), ((k_low, address, c.words k within), tt)) s.is (λ q u.
           done (landed rows prog image g (a ∷ acts) true to l.top (Word (word_at w.memory k) ∷ w.operands) w.memory w.input w.output end (refl, l.operands) c u)))
 
   -- the top operand goes to the word
   assigns_frame : {q : Watched} {at : ℕ} (g to n : ℕ) (a : OrderActivation) (acts : List OrderActivation) (operands : List Operand) (memory : List ℤ) (input output : List ℕ) → prog.limits.area ≤ 32768
-      → at + 9 ≡ to
-      → HasAll image at (load bx (slot base_slot) ∷ double bx ∷ store (field (2 * n % 65536)) ax ∷ [])
+      → a.frame_base + n < prog.limits.area → at + 7 ≡ to
+      → HasAll image at (load bx (slot base_slot) ∷ store (field (2 * n % 65536)) ax ∷ [])
       → Landed prog image at g true (a ∷ acts) (record { operands = operands; memory = memory; input = input; output = output }) q
-      → Does prog image 3 to g false 0 (a ∷ acts) output q (unrefused (perform prog.limits.area (Store None) (record { operands = Word (signed ((a.frame_base + n) % 65536)) ∷ operands; memory = memory; input = input; output = output })))
-  assigns_frame g to n a acts [] memory input output low e i l = tt
-  assigns_frame g to n a acts (Held c ∷ rest) memory input output low e i l = tt
-  assigns_frame {q} {at} g to n a acts (Word z ∷ rest) memory input output low e i l = cases (is_below (signed m) prog.limits.area) refl
+      → Does prog image 2 to g false 0 (a ∷ acts) output q (unrefused (perform prog.limits.area (Store None) (record { operands = Word (signed (a.frame_base + n)) ∷ operands; memory = memory; input = input; output = output })))
+  assigns_frame g to n a acts [] memory input output low inside e i l = tt
+  assigns_frame g to n a acts (Held c ∷ rest) memory input output low inside e i l = tt
+  assigns_frame {q} {at} g to n a acts (Word z ∷ rest) memory input output low inside e i l = cases (is_below (signed m) prog.limits.area) refl
     where
       m : ℕ
-      m = (a.frame_base + n) % 65536
+      m = a.frame_base + n
 
       cases : (b : Bool) → is_below (signed m) prog.limits.area ≡ b
-          → Does prog image 3 to g false 0 (a ∷ acts) output q (unrefused (through b (λ j t. Changed (with_memory t (set t.memory j z))) (signed m) (record { operands = rest; memory = memory; input = input; output = output })))
+          → Does prog image 2 to g false 0 (a ∷ acts) output q (unrefused (through b (λ j t. Changed (with_memory t (set t.memory j z))) (signed m) (record { operands = rest; memory = memory; input = input; output = output })))
       cases false is = tt
       cases true is =
           let s = l.stacked in
@@ -79,21 +89,31 @@ module _ (rows : Rows) (prog : OrderProgram) (image : List ℕ) where
           let base : r + 1 < 32768 = omega arith in
           let slot_base : (bp + 65530) % 65536 ≡ 2 * (r + 1) = omega arith in
           let address : (2 * a.frame_base % 65536 + 2 * n % 65536) % 65536 ≡ 2 * k = omega arith in
-          let end : at + 3 + 2 + 4 ≡ to = omega arith in
-          further 3 (lit≤ tt) (lit< tt)
-          (straight rows (LoadSlot 3 0xFA (r + 1) a.frame_base ∷ DoubleWord 3 ∷ StoreField 0 (2 * n % 65536) k ∷ []) {n = 0} c.wrote i
-          ((base, slot_base, c.piled.0.base_is), (tt, ((k_low, address), tt))) (with_ax l.operands.0 s.is) (λ q u.
+          let end : at + 3 + 4 ≡ to = omega arith in
+          further 2 (lit≤ tt) (lit< tt)
+          (straight rows (LoadSlot 3 0xFA (r + 1) (2 * a.frame_base % 65536) ∷ StoreField 0 (2 * n % 65536) k ∷ []) {n = 0} c.wrote i
+          ((base, slot_base, c.piled.0.base_is), ((k_low, address), tt)) (with_ax l.operands.0 s.is) (λ q u.
           done (landed rows prog image g (a ∷ acts) false to l.top rest (set memory k z) input output end l.operands.1 (kept_stored k z within c) u)))
 
-  -- a segment's body has no frame
-  pub fetches_word : {q : Watched} {at : ℕ} (g to n : ℕ) (acts : List OrderActivation) (w : Words) → prog.limits.area ≤ 32768 → at + 9 ≡ to
-      → HasAll image at (load bx (slot base_slot) ∷ double bx ∷ load ax (field (2 * n % 65536)) ∷ []) → Landed prog image at g false acts w q
-      → Does prog image 3 to g true 0 acts w.output q (chain (chain (put_address (frame_word acts n) w) Changed) (λ v. unrefused (perform prog.limits.area (Fetch None) v)))
+  -- a segment's body has no frame, and a word that is not in the data area is none of a frame
+  pub fetches_word : {q : Watched} {at : ℕ} (g to n : ℕ) (acts : List OrderActivation) (w : Words) → prog.limits.area ≤ 32768 → at + 7 ≡ to
+      → HasAll image at (load bx (slot base_slot) ∷ load ax (field (2 * n % 65536)) ∷ []) → Landed prog image at g false acts w q
+      → Does prog image 2 to g true 0 acts w.output q (chain (chain (put_address (frame_word prog.limits.area acts n) w) Changed) (λ v. unrefused (perform prog.limits.area (Fetch None) v)))
   fetches_word g to n [] w low e i l = tt
-  fetches_word g to n (a ∷ acts) w low e i l = fetches_frame g to n a acts w low e i l
+  fetches_word {q} g to n (a ∷ acts) w low e i l = cases (nat_lt (a.frame_base + n) prog.limits.area) refl
+    where
+      cases : (b : Bool) → nat_lt (a.frame_base + n) prog.limits.area ≡ b
+          → Does prog image 2 to g true 0 (a ∷ acts) w.output q (chain (chain (put_address (if b then Some (a.frame_base + n) else None) w) Changed) (λ v. unrefused (perform prog.limits.area (Fetch None) v)))
+      cases false is = tt
+      cases true is = fetches_frame g to n a acts w low (ltb-true (a.frame_base + n) prog.limits.area is) e i l
 
-  pub assigns_word : {q : Watched} {at : ℕ} (g to n : ℕ) (acts : List OrderActivation) (w : Words) → prog.limits.area ≤ 32768 → at + 9 ≡ to
-      → HasAll image at (load bx (slot base_slot) ∷ double bx ∷ store (field (2 * n % 65536)) ax ∷ []) → Landed prog image at g true acts w q
-      → Does prog image 3 to g false 0 acts w.output q (chain (chain (put_address (frame_word acts n) w) Changed) (λ v. unrefused (perform prog.limits.area (Store None) v)))
+  pub assigns_word : {q : Watched} {at : ℕ} (g to n : ℕ) (acts : List OrderActivation) (w : Words) → prog.limits.area ≤ 32768 → at + 7 ≡ to
+      → HasAll image at (load bx (slot base_slot) ∷ store (field (2 * n % 65536)) ax ∷ []) → Landed prog image at g true acts w q
+      → Does prog image 2 to g false 0 acts w.output q (chain (chain (put_address (frame_word prog.limits.area acts n) w) Changed) (λ v. unrefused (perform prog.limits.area (Store None) v)))
   assigns_word g to n [] w low e i l = tt
-  assigns_word g to n (a ∷ acts) w low e i l = assigns_frame g to n a acts w.operands w.memory w.input w.output low e i l
+  assigns_word {q} g to n (a ∷ acts) w low e i l = cases (nat_lt (a.frame_base + n) prog.limits.area) refl
+    where
+      cases : (b : Bool) → nat_lt (a.frame_base + n) prog.limits.area ≡ b
+          → Does prog image 2 to g false 0 (a ∷ acts) w.output q (chain (chain (put_address (if b then Some (a.frame_base + n) else None) w) Changed) (λ v. unrefused (perform prog.limits.area (Store None) v)))
+      cases false is = tt
+      cases true is = assigns_frame g to n a acts w.operands w.memory w.input w.output low (ltb-true (a.frame_base + n) prog.limits.area is) e i l

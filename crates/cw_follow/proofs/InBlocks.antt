@@ -1,6 +1,6 @@
 -- Orders in their blocks.
 use Rattle.std.proofs.Common.{◌≡◌, ℕ, zero, suc, ◌+◌, List, [], ◌∷◌, ◌++◌, length, drop, Option, Some, None, ◌<◌, ◌≤◌, refl, sym, ap, ◌∙◌, subst, arith, Bool, true, false}
-use Rattle.std.specs.Prelude.{slice_get, if◌then◌else◌, ℤ, pos, ◌+ℤ◌, ◌-ℤ◌, min}
+use Rattle.std.specs.Prelude.{slice_get, ℤ, ◌+ℤ◌, ◌-ℤ◌, min}
 use Rattle.cw_word.specs.FixedPoint.{fits_word}
 use Rattle.cw_unit.specs.Words.{Words, Outcome, Changed, Refused, Impossible, Word, Held, Operand, put, put_if, through, is_below, word_at, number_of, with_operands}
 use Rattle.cw_unit.specs.Operation.{Fetch, Indexed, fitting, perform}
@@ -181,7 +181,7 @@ module _ (p : OrderProgram) (g : ℕ) (acts : List OrderActivation) where
   puts_word order.Save w = Changed w
   puts_word (order.Const n) w = Changed (put (signed n) w)
   puts_word (order.Home f n) w = Changed (put (signed (home_word p.addresses g f n)) w)
-  puts_word (order.FrameHome n) w = put_address (frame_word acts n) w
+  puts_word (order.FrameHome n) w = put_address (frame_word p.limits.area acts n) w
   puts_word order.Load w = unrefused (perform p.limits.area (Fetch None) w)
   puts_word (order.Element lower span line) w = from_base p.limits.area (λ base. Indexed base lower) w
   puts_word _ w = Impossible
@@ -255,7 +255,7 @@ pub never_refused : (p : OrderProgram) (g : ℕ) (acts : List OrderActivation) (
 never_refused p g acts order.Save h w kind e = cc
 never_refused p g acts (order.Const n) h w kind e = cc
 never_refused p g acts (order.Home f n) h w kind e = cc
-never_refused p g acts (order.FrameHome n) h w kind e = address_silent (frame_word acts n) w kind e
+never_refused p g acts (order.FrameHome n) h w kind e = address_silent (frame_word p.limits.area acts n) w kind e
 never_refused p g acts order.Load h w kind e = load_silent p.limits.area w.operands w kind e
 never_refused p g acts _ h w kind e = h
 
@@ -292,7 +292,7 @@ pub never_writes : (p : OrderProgram) (g : ℕ) (acts : List OrderActivation) (o
 never_writes p g acts order.Save w v e = let same : w ≡ v = cc in ap (λ x. x.output) (sym same)
 never_writes p g acts (order.Const n) w v e = let same : put (signed n) w ≡ v = cc in ap (λ x. x.output) (sym same)
 never_writes p g acts (order.Home f n) w v e = let same : put (signed (home_word p.addresses g f n)) w ≡ v = cc in ap (λ x. x.output) (sym same)
-never_writes p g acts (order.FrameHome n) w v e = address_unwritten (frame_word acts n) w v e
+never_writes p g acts (order.FrameHome n) w v e = address_unwritten (frame_word p.limits.area acts n) w v e
 never_writes p g acts order.Load w v e = load_unwritten p.limits.area w.operands w v e
 never_writes p g acts (order.Element lower span line) w v e = element_unwritten p.limits.area lower w.operands w v e
 never_writes p g acts _ w v e = absurd (cc)

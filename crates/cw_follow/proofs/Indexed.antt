@@ -1,24 +1,22 @@
 -- The address of an element whose index a simple place holds: one sum and one compare.
-use Rattle.std.proofs.Common.{◌≡◌, inl, inr, ◌-◌, ℕ, zero, suc, ◌+◌, ◌*◌, ◌%◌, ◌<◌, ◌≤◌, Bool, true, false, ℤ, pos, negsuc, ◌+ℤ◌, ◌-ℤ◌, List, [], ◌∷◌, ◌++◌, Option, Some, None, refl, sym, ap, ap₂, ◌∙◌, subst, arith, lit<, lit≤}
-use borrow.Author.Tests.{ltb-true}
+use Rattle.std.proofs.Common.{◌≡◌, inl, inr, ◌-◌, ℕ, zero, suc, ◌+◌, ◌*◌, ◌%◌, ◌<◌, ◌≤◌, Bool, true, false, ℤ, pos, negsuc, ◌+ℤ◌, ◌-ℤ◌, List, [], ◌∷◌, ◌++◌, Some, None, refl, sym, ap, ap₂, ◌∙◌, subst, arith, lit<, lit≤}
 use Rattle.std.proofs.Math.Nat.{min-eq_left}
 use Rattle.std.proofs.lemmas.Bool.{lt-ltb, le-ltb, false≢true, cases_lt}
 use Rattle.std.proofs.lemmas.Bool.Decides.{nat_tests}
 use Rattle.std.proofs.lemmas.Int.{ints}
 use Rattle.std.specs.Prelude.{nat_lt, ◌&&◌, if◌then◌else◌, min}
-use Rattle.cw_i86.specs.declared.instr.Instr.TheVariants as i86
 use Rattle.cw_run86.specs.Processor.{Told}
-use Rattle.cw_run86.specs.Views.{View, Has, compare as compare_of, word_sum, sum_overflows, difference_overflows, double_overflows}
+use Rattle.cw_run86.specs.Views.{View, Has, word_sum, sum_overflows, double_overflows}
 use Rattle.cw_word.specs.FixedPoint.{FitsWord, fits_word}
 use Rattle.cw_word.specs.Word.{signed, unsigned}
 use Rattle.cw_unit.specs.Stop.{AddressRange}
-use Rattle.cw_unit.specs.Words.{Words, Outcome, Changed, Refused, put, put_if, is_below}
+use Rattle.cw_unit.specs.Words.{Words, Changed, Refused, put, put_if, is_below}
 use Rattle.cw_unit.specs.Operation.{fitting, address_of}
 use Rattle.cw_tmpl.specs.declared.pieces.Coded.{Coded}
 use Rattle.cw_tmpl.specs.declared.pieces.Coded.TheVariants as coded
 use Rattle.cw_tmpl.specs.declared.blocks.Place.{Place}
 use Rattle.cw_tmpl.specs.declared.blocks.Place.TheVariants as cell
-use Rattle.cw_tmpl.specs.Blocks.{zero_behind, zero_word}
+use Rattle.cw_tmpl.specs.Blocks.{zero_word}
 use Rattle.cw_tmpl.specs.Library.{stop_place, address_entry}
 use Rattle.cw_tmpl.specs.Mnemonics.{bx as bx_register, si as si_register, di, field, compare, double, jump_if_below}
 use Rattle.cw_tmpl.specs.Pieces.{Filling}
@@ -26,18 +24,17 @@ use Rattle.cw_tmpl.specs.Templates.{call_stop, index_added}
 use Rattle.cw_order.specs.OrderState.{OrderActivation}
 use Rattle.cw_follow.proofs.Watched.{Watched, watched_step}
 use Rattle.cw_follow.proofs.Standing.{HasPieces}
-use Rattle.cw_follow.proofs.Chains.{Is, Leads, view, compare as compares, compared, jump_below, pass_above, jumps_below, passes_above, number, add_at, double as doubled, more, last, done}
+use Rattle.cw_follow.proofs.Chains.{Is, Leads, view, compared, jumps_below, passes_above, number, add_at, double as doubled, more, last, done}
 use Rattle.cw_rows86.specs.Locations.{InData}
 use Rattle.cw_rows86.specs.Operations.{Add}
 use Rattle.cw_rows86.specs.Acts.{Operate}
 use Rattle.cw_follow.proofs.Acting.{act}
 use Rattle.cw_follow.proofs.Shifts.{leads_then}
-use Rattle.cw_follow.proofs.Straight.{LoadSlot, DoubleWord, Number, straight}
-use Rattle.cw_follow.proofs.Stacks.{level, record_of, frame_from as frame_base_of}
+use Rattle.cw_follow.proofs.Straight.{LoadSlot, Number, straight}
+use Rattle.cw_follow.proofs.Stacks.{level, record_of, base_word}
 use Rattle.cw_follow.proofs.Orders.{Kept, further}
-use Rattle.cw_follow.proofs.Operands.{Setting, words, allowed, DoesHere, calls_stop}
-use Rattle.cw_follow.proofs.Numbers.{unsigned_pos, fits_tested}
-use Rattle.cw_follow.proofs.Facts.{not_below, fits_true}
+use Rattle.cw_follow.proofs.Operands.{Setting, allowed, DoesHere, calls_stop}
+use Rattle.cw_follow.proofs.Facts.{not_below}
 
 -- ---- arithmetic
 
@@ -129,7 +126,7 @@ formed_by_one area b d lower i v low small few f less =
 -- how many instructions the sum of a word's address and an index takes
 abbrev pub index_steps : Place → ℕ
 index_steps (cell.Word f n) = 2
-index_steps (cell.Frame n) = 4
+index_steps (cell.Frame n) = 3
 
 -- ---- the code
 
@@ -203,24 +200,25 @@ module _ (c : Setting) (memory : List ℤ) (input output : List ℕ) where
         }))
 
     -- by a word of the frame of an activation
-    pub sum_by_frame : (n : ℕ) (a : OrderActivation) (under : List OrderActivation) → c.acts ≡ a ∷ under → k ≡ (a.frame_base + n) % 65536 → HasPieces c.image value at (index_added (cell.Frame n) family zero_at ++ rest)
-        → Leads output 4 p (Summed (at + 3 + 2 + 3 + 4) ax cx dx (word_sum z (unsigned i)) top cells stack left told)
+    pub sum_by_frame : (n : ℕ) (a : OrderActivation) (under : List OrderActivation) → c.acts ≡ a ∷ under → k ≡ a.frame_base + n → HasPieces c.image value at (index_added (cell.Frame n) family zero_at ++ rest)
+        → Leads output 3 p (Summed (at + 3 + 3 + 4) ax cx dx (word_sum z (unsigned i)) top cells stack left told)
     sum_by_frame n a under acts_are index h =
-        let word = value 1 family zero_at (at + 3 + 2 + 3) in
+        let word = value 1 family zero_at (at + 3 + 3) in
         let r = level c.acts in
         let bp = record_of c.acts in
         let base : r + 1 < 32768 = omega arith in
         let slot_base : (bp + 65530) % 65536 ≡ 2 * (r + 1) = omega arith in
-        let from_is : frame_base_of c.program c.acts ≡ a.frame_base = ap (frame_base_of c.program) acts_are in
-        let address : (2 * a.frame_base % 65536 + 2 * n % 65536) % 65536 ≡ 2 * k = omega arith in
+        let twice = 2 * a.frame_base % 65536 in
+        let base_is : base_word c.program c.acts ≡ twice = ap (base_word c.program) acts_are in
+        let address : (twice + 2 * n % 65536) % 65536 ≡ 2 * k = omega arith in
         leads_then
-        (straight c.rows (LoadSlot bx_register 0xFA (r + 1) a.frame_base ∷ DoubleWord bx_register ∷ Number si_register word ∷ []) {n = 0} kept.wrote (h.0, (h.1.0, (h.1.1.0, tt))) ((base, slot_base, kept.piled.0.base_is ∙ from_is), (tt, (tt, tt))) s
-        (λ q t. done {Target = Is c.image (at + 3 + 2 + 3) (view ax cx dx (2 * a.frame_base % 65536) (2 * suc top) (record_of c.acts) word c.program.limits.area (double_overflows a.frame_base) cells stack left told)} t))
+        (straight c.rows (LoadSlot bx_register 0xFA (r + 1) twice ∷ Number si_register word ∷ []) {n = 0} kept.wrote (h.0, (h.1.0, tt)) ((base, slot_base, kept.piled.0.base_is ∙ base_is), (tt, tt)) s
+        (λ q t. done {Target = Is c.image (at + 3 + 3) (view ax cx dx twice (2 * suc top) (record_of c.acts) word c.program.limits.area overflow cells stack left told)} t))
         (λ q t.
-        let added = act c.rows (Operate Add si_register (field (2 * n % 65536)) (InData k) (cells k)) refl (lit< tt) h.1.1.1.0 ((refl, refl, low, address), refl) t in
+        let added = act c.rows (Operate Add si_register (field (2 * n % 65536)) (InData k) (cells k)) refl (lit< tt) h.1.1.0 ((refl, refl, low, address), refl) t in
         last c.rows t kept.wrote (record {
-          bx = 2 * a.frame_base % 65536;
+          bx = twice;
           overflow = sum_overflows word (cells k);
-          is = subst (λ b. Is c.image (at + 3 + 2 + 3 + 4) (view ax cx dx (2 * a.frame_base % 65536) (2 * suc top) (record_of c.acts) b c.program.limits.area (sum_overflows word (cells k)) cells stack left told) (watched_step q))
-              (ap₂ word_sum (named (at + 3 + 2 + 3)) holds) added.is;
+          is = subst (λ b. Is c.image (at + 3 + 3 + 4) (view ax cx dx twice (2 * suc top) (record_of c.acts) b c.program.limits.area (sum_overflows word (cells k)) cells stack left told) (watched_step q))
+              (ap₂ word_sum (named (at + 3 + 3)) holds) added.is;
         }))

@@ -148,7 +148,7 @@ module _ (rows : Rows) (prog : OrderProgram) (image : List ℕ) where
           long = k.long;
           piled = (
             record {
-              top_is = off 32764 (λ e. omega arith) ∙ here.top_is;
+              rest_is = off 32764 (λ e. omega arith) ∙ here.rest_is;
               base_is = off 32765 (λ e. omega arith) ∙ here.base_is;
               left_is = off 32766 (λ e. omega arith) ∙ here.left_is;
               number_is = put_at stack 32767 segment ∙ is;

@@ -1,5 +1,5 @@
 -- Blocks that count a word up or down, or halve it several times.
-use Rattle.std.proofs.Common.{◌≡◌, ℕ, suc, ◌+◌, ◌-◌, ◌*◌, ◌%◌, ◌^◌, ◌<◌, ◌≤◌, Bool, true, false, ℤ, pos, ◌+ℤ◌, ◌-ℤ◌, List, ◌∷◌, length, drop, Some, refl, sym, ap, ap₂, ◌∙◌, subst, arith, lit<, lit≤, pow_mono}
+use Rattle.std.proofs.Common.{◌≡◌, ℕ, suc, ◌+◌, ◌*◌, ◌%◌, ◌^◌, ◌<◌, ◌≤◌, Bool, true, false, ℤ, pos, ◌+ℤ◌, ◌-ℤ◌, List, ◌∷◌, length, drop, Some, refl, sym, ap, ap₂, ◌∙◌, subst, arith, lit<, lit≤, pow_mono}
 use Rattle.std.proofs.lemmas.Int.{ints}
 use Rattle.std.specs.List.{All}
 use Rattle.cw_run86.specs.Views.{Has, word_sum, word_difference, sum_overflows, difference_overflows, word_down_signed}

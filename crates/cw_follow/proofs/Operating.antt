@@ -1,6 +1,6 @@
 -- A simple operand that instructions name, and what is done with it: an operation of the arithmetic unit, a product, a comparison, and the
 -- tests behind them.
-use Rattle.std.proofs.Common.{◌≡◌, ℕ, suc, ◌+◌, ◌-◌, ◌*◌, ◌%◌, ◌<◌, ◌≤◌, Bool, true, false, not, ℤ, pos, ◌+ℤ◌, ◌-ℤ◌, ◌*ℤ◌, List, [], ◌∷◌, length, refl, sym, ap, ◌∙◌, subst, arith, lit<, lit≤}
+use Rattle.std.proofs.Common.{◌≡◌, ℕ, ◌+◌, ◌*◌, ◌%◌, ◌<◌, Bool, true, false, not, ℤ, pos, ◌+ℤ◌, ◌-ℤ◌, ◌*ℤ◌, List, [], ◌∷◌, length, refl, sym, ap, ◌∙◌, subst, arith, lit<, lit≤}
 use Rattle.std.proofs.lemmas.Int.{ints}
 use Rattle.std.proofs.lemmas.Nat.{and_comm, or_comm, xor_comm}
 use Rattle.std.specs.Prelude.{bit_and, bit_or, bit_xor}
@@ -9,32 +9,28 @@ use Rattle.cw_i86.specs.declared.flags.Flags.{Flags}
 use Rattle.cw_i86.specs.declared.instr.Instr.{Instr}
 use Rattle.cw_i86.specs.declared.instr.Instr.TheVariants as i86
 use Rattle.cw_i86.specs.declared.instr.Rm.{Rm}
-use Rattle.cw_i86.specs.declared.instr.Rm.TheVariants as rms
 use Rattle.cw_run86.specs.Processor.{Told}
-use Rattle.cw_run86.specs.Views.{View, Has, condition_of, product_low, product_overflows, product_high, word_sum, word_difference, sum_overflows, difference_overflows, with_number}
-use Rattle.cw_rows86.specs.Locations.{Location, InRegister, InData, Denotes}
+use Rattle.cw_run86.specs.Views.{View, Has, condition_of, product_low, product_overflows, word_sum, word_difference, sum_overflows, difference_overflows, with_number}
+use Rattle.cw_rows86.specs.Locations.{InRegister, InData, Denotes}
 use Rattle.cw_rows86.specs.Operations.{WordOperation, Add, Or, And, Subtract, Xor, Compare, number_of, operated_on, flags_after}
-use Rattle.cw_rows86.specs.Acts.{Act, Operate, OperateNumber, instruction, Needs, after}
+use Rattle.cw_rows86.specs.Acts.{Operate, OperateNumber}
 use Rattle.cw_word.specs.FixedPoint.{FitsWord, fits_word, scaled_product}
 use Rattle.cw_word.specs.Word.{signed, unsigned}
-use Rattle.cw_unit.specs.declared.unit.LogicOp.TheVariants as logic
 use Rattle.cw_unit.specs.Stop.{Overflow}
-use Rattle.cw_unit.specs.Words.{Operand, Word, Held, Words, Outcome, Changed, put, put_value}
-use Rattle.cw_unit.specs.Operation.{holds, perform}
+use Rattle.cw_unit.specs.Words.{Operand, Word, Changed, put, put_value}
+use Rattle.cw_unit.specs.Operation.{holds}
 use Rattle.cw_order.specs.declared.order.Comparator.{Comparator}
 use Rattle.cw_order.specs.OrderChanges.{to_mark_if, comparison}
 use Rattle.cw_tmpl.specs.Library.{stop_place}
 use Rattle.cw_tmpl.specs.Templates.{opposite_of}
 use Rattle.cw_routines.specs.Ways.{HasAll}
-use Rattle.cw_follow.specs.Passing.{does_nothing}
 use Rattle.cw_follow.proofs.Watched.{Watched, watched_step}
-use Rattle.cw_follow.proofs.Chains.{Is, IsCompared, Leads, view, last, done}
-use Rattle.cw_follow.proofs.Acting.{Acted, act}
-use Rattle.cw_follow.proofs.Stacks.{level, record_of, StackIs, top_is}
-use Rattle.cw_follow.proofs.Orders.{Kept, Landed, Does, Chooses, Check, later, further, sooner, landed, checks, branches}
+use Rattle.cw_follow.proofs.Chains.{Is, IsCompared, view, last}
+use Rattle.cw_follow.proofs.Acting.{act}
+use Rattle.cw_follow.proofs.Stacks.{record_of, StackIs}
+use Rattle.cw_follow.proofs.Orders.{Kept, Landed, Chooses, Check, later, further, sooner, landed, checks, branches}
 use Rattle.cw_follow.proofs.Operands.{Setting, words, DoesHere}
 use Rattle.cw_follow.proofs.Numbers.{sum_overflows_is, difference_overflows_is, sum_is, difference_is}
-use Rattle.cw_follow.proofs.Addresses.{product_overflows_is, product_is}
 use Rattle.cw_follow.proofs.Bits.{ands, ors, xors}
 
 module _ (c : Setting) (memory : List ℤ) (input output : List ℕ) where

@@ -1,10 +1,10 @@
 -- Blocks that fetch a part of a word, or store one, at a place.
-use Rattle.std.proofs.Common.{◌≡◌, ℕ, suc, ◌+◌, ◌-◌, ◌*◌, ◌%◌, ◌<◌, ◌≤◌, Bool, true, false, not, ℤ, pos, negsuc, List, [], ◌∷◌, ◌++◌, length, drop, set, None, refl, ap, ◌∙◌, subst, arith, lit<}
+use Rattle.std.proofs.Common.{◌≡◌, ℕ, suc, ◌+◌, ◌*◌, ◌%◌, ◌<◌, ◌≤◌, Bool, true, false, not, ℤ, pos, negsuc, List, [], ◌∷◌, ◌++◌, length, drop, set, Some, None, refl, ap, ◌∙◌, subst, arith, lit<}
 use borrow.Author.Tests.{ltb-true}
 use Rattle.std.proofs.lemmas.Bool.{false≢true}
 use Rattle.std.proofs.lemmas.List.Elements.{All-head}
 use Rattle.std.specs.List.{All}
-use Rattle.std.specs.Prelude.{bit_and, bit_xor}
+use Rattle.std.specs.Prelude.{bit_and, bit_xor, nat_lt, if◌then◌else◌}
 use Rattle.cw_i86.specs.declared.instr.Place.TheVariants.{Direct}
 use Rattle.cw_run86.specs.Processor.{Told}
 use Rattle.cw_run86.specs.Views.{put_word, with_number, word_up}
@@ -29,7 +29,7 @@ use Rattle.cw_tmpl.specs.declared.blocks.Block.TheVariants as block
 use Rattle.cw_tmpl.specs.declared.pieces.Coded.{Coded}
 use Rattle.cw_tmpl.specs.declared.pieces.Coded.TheVariants as pieces
 use Rattle.cw_tmpl.specs.Blocks.{address_orders, is_part, block_at}
-use Rattle.cw_tmpl.specs.Mnemonics.{slot, base_slot, field, double, load}
+use Rattle.cw_tmpl.specs.Mnemonics.{slot, base_slot, field, load}
 use Rattle.cw_routines.specs.Ways.{HasAll}
 use Rattle.cw_tmpl.specs.Pieces.{Filling, blanks}
 use Rattle.cw_tmpl.specs.Templates.{shifted_up, part_taken, address_pieces, operate_place, change_place}
@@ -37,9 +37,9 @@ use Rattle.cw_follow.specs.Placing.{base_of}
 use Rattle.cw_follow.proofs.Watched.{Watched}
 use Rattle.cw_follow.proofs.Standing.{HasPieces, order_place}
 use Rattle.cw_follow.proofs.Chains.{Is, Leads, view}
-use Rattle.cw_follow.proofs.Straight.{LoadSlot, DoubleWord, straight}
+use Rattle.cw_follow.proofs.Straight.{LoadSlot, straight}
 use Rattle.cw_follow.proofs.Routines.{with_ax, leads_on}
-use Rattle.cw_follow.proofs.Stacks.{level, record_of, StackIs, frame_from as frame_base_of}
+use Rattle.cw_follow.proofs.Stacks.{level, record_of, StackIs, base_word}
 use Rattle.cw_follow.proofs.Orders.{Kept, Landed, Does, below_area, landed, kept_stored, further, fetches}
 use Rattle.cw_follow.proofs.Operands.{Setting, words, with_cells, LandedWith, DoesHere}
 use Rattle.cw_follow.proofs.Bits.{part, part_of_word, stored_is}
@@ -145,12 +145,12 @@ module _ (c : Setting) (value : Filling) (memory : List ℤ) (input output : Lis
       (λ x. (refl, refl, lt, offset (place + 4))) (λ x. (refl, refl, lt, offset (place + 4 + 3 + 4))) refl refl (lit< tt) h.0 h.1.0 h.1.1.0 (with_ax is s))))
 
   -- into a word of the frame of an activation
-  stores_in_frame : {q : Watched} {at : ℕ} (to n : ℕ) (a : OrderActivation) (under : List OrderActivation) (operands : List Operand) → c.acts ≡ a ∷ under
+  stores_in_frame : {q : Watched} {at : ℕ} (to n : ℕ) (a : OrderActivation) (under : List OrderActivation) (operands : List Operand) → c.acts ≡ a ∷ under → a.frame_base + n < c.program.limits.area
       → HasPieces c.image value at (shifted_up b ++ (address_pieces (cell.Frame n) ++ changed_at t b (cell.Frame n))) → at + length (blanks (shifted_up b ++ (address_pieces (cell.Frame n) ++ changed_at t b (cell.Frame n)))) ≡ to
       → All OperandFits operands → LandedWith c memory input output at true operands q
-      → DoesHere c memory input output (shift_steps b + 5) to false 0 q (unrefused (perform c.program.limits.area (StoreBits t b) (put (signed ((a.frame_base + n) % 65536)) (words operands memory input output))))
-  stores_in_frame {q} {at} to n a under operands acts_are i e fits l =
-      part_at to ((a.frame_base + n) % 65536) (shift_steps b + 5) operands (omega arith) (omega arith) fits l
+      → DoesHere c memory input output (shift_steps b + 4) to false 0 q (unrefused (perform c.program.limits.area (StoreBits t b) (put (signed (a.frame_base + n)) (words operands memory input output))))
+  stores_in_frame {q} {at} to n a under operands acts_are inside i e fits l =
+      part_at to (a.frame_base + n) (shift_steps b + 4) operands (let area_low = c.low in omega arith) (omega arith) fits l
       (λ k within same z rest fz l.
       let low = c.low in
       let lt : k < 32768 = omega arith in
@@ -159,17 +159,18 @@ module _ (c : Setting) (value : Filling) (memory : List ℤ) (input output : Lis
       let kept = l.kept in
       let base : r + 1 < 32768 = omega arith in
       let slot_base : (bp + 65530) % 65536 ≡ 2 * (r + 1) = omega arith in
-      let from_is : frame_base_of c.program c.acts ≡ a.frame_base = ap (frame_base_of c.program) acts_are in
-      let address : (2 * a.frame_base % 65536 + 2 * n % 65536) % 65536 ≡ 2 * k = omega arith in
-      shifts c.rows c.image value to output Up b {m = 5} {Target = Stored to k z rest} (address_pieces (cell.Frame n) ++ changed_at t b (cell.Frame n)) (omega arith) (c.rows.words.unsigned_fits z fz) kept.wrote (i, e) (with_ax l.operands.0 l.stacked.is)
+      let twice = 2 * a.frame_base % 65536 in
+      let base_is : base_word c.program c.acts ≡ twice = ap (base_word c.program) acts_are in
+      let address : (twice + 2 * n % 65536) % 65536 ≡ 2 * k = omega arith in
+      shifts c.rows c.image value to output Up b {m = 4} {Target = Stored to k z rest} (address_pieces (cell.Frame n) ++ changed_at t b (cell.Frame n)) (omega arith) (c.rows.words.unsigned_fits z fz) kept.wrote (i, e) (with_ax l.operands.0 l.stacked.is)
       (λ q' place x cx overflow is code s.
       let h = code.0 in
       let end = code.1 in
-      let there : place + 3 + 2 + 4 + 3 + 4 ≡ to = omega arith in
-      straight c.rows (LoadSlot 3 0xFA (r + 1) a.frame_base ∷ DoubleWord 3 ∷ []) {n = 3} kept.wrote (h.0, (h.1.0, tt)) ((base, slot_base, kept.piled.0.base_is ∙ from_is), (tt, tt)) s (λ q'' s'.
+      let there : place + 3 + 4 + 3 + 4 ≡ to = omega arith in
+      straight c.rows (LoadSlot 3 0xFA (r + 1) twice ∷ []) {n = 3} kept.wrote (h.0, tt) ((base, slot_base, kept.piled.0.base_is ∙ base_is), tt) s (λ q'' s'.
       leads_on (λ x u. stored to k l.top z rest within there l.operands.1 kept u)
       (turns c.rows 4 k (field_mask t b) (unsigned (word_at memory k)) (field (2 * n % 65536)) (field (2 * n % 65536)) kept.wrote (kept.words k within)
-      (λ x. (refl, refl, lt, address)) (λ x. (refl, refl, lt, address)) refl refl (lit< tt) h.1.1.0 h.1.1.1.0 h.1.1.1.1.0 (with_ax is s')))))
+      (λ x. (refl, refl, lt, address)) (λ x. (refl, refl, lt, address)) refl refl (lit< tt) h.1.0 h.1.1.0 h.1.1.1.0 (with_ax is s')))))
 
 -- ---- the blocks
 
@@ -213,24 +214,33 @@ module _ (known : Given) where
         let here = order_here known s 1 o _ is_done e refl in
         let ends = block_ends known s B (order.FrameHome n) (o ∷ rest) 1 is_done e is refl refl in
         let before = modes known s false true true (order.FrameHome n) 0 (o ∷ rest) is_done e refl refl refl in
-        let paid : 7 ≤ weight p (at g place loaded acts w Running) = let x = weight_is known s o here in omega arith in
+        let paid : 6 ≤ weight p (at g place loaded acts w Running) = let x = weight_is known s o here in omega arith in
         let bits = part_of t b part_is in
         let code = block_code known s B (order.FrameHome n) (o ∷ rest) e is in
         let behind = ends.behind in
-        let last_end : from_here + 3 + 2 + 4 + length (blanks (part_taken t b is_signed)) ≡ block_end = omega arith in
-        last_does known s true 0 (λ v. unrefused (perform p.limits.area (Fetch (part t b (not is_signed))) v)) 7 1 _ is_done e ends.begins (step_in known s true o before.now here) paid
-        (frame_part acts refl t b is_signed n bits.0 bits.1 last_end (code.0, (code.1.0, (code.1.1.0, tt))) code.1.1.1 before.landed)
+        let last_end : from_here + 3 + 4 + length (blanks (part_taken t b is_signed)) ≡ block_end = omega arith in
+        last_does known s true 0 (λ v. unrefused (perform p.limits.area (Fetch (part t b (not is_signed))) v)) 6 1 _ is_done e ends.begins (step_in known s true o before.now here) paid
+        (frame_part acts refl t b is_signed n bits.0 bits.1 last_end (code.0, (code.1.0, tt)) code.1.1 before.landed)
       where
-        frame_part : (xs : List OrderActivation) → acts ≡ xs → (t b : ℕ) (is_signed : Bool) (n : ℕ) → 1 ≤ t → t + b ≤ 16 → from_here + 3 + 2 + 4 + length (blanks (part_taken t b is_signed)) ≡ block_end
-            → HasAll image from_here (load 3 (slot base_slot) ∷ double 3 ∷ load 0 (field (2 * n % 65536)) ∷ []) → HasPieces image words_of (from_here + 3 + 2 + 4) (part_taken t b is_signed) → Landed p image from_here g false acts s.before q
-            → Does p image 7 block_end g true 0 acts s.before.output q (chain (chain (put_address (frame_word xs n) s.before) Changed) (λ v. unrefused (perform p.limits.area (Fetch (part t b (not is_signed))) v)))
+        frame_part : (xs : List OrderActivation) → acts ≡ xs → (t b : ℕ) (is_signed : Bool) (n : ℕ) → 1 ≤ t → t + b ≤ 16 → from_here + 3 + 4 + length (blanks (part_taken t b is_signed)) ≡ block_end
+            → HasAll image from_here (load 3 (slot base_slot) ∷ load 0 (field (2 * n % 65536)) ∷ []) → HasPieces image words_of (from_here + 3 + 4) (part_taken t b is_signed) → Landed p image from_here g false acts s.before q
+            → Does p image 6 block_end g true 0 acts s.before.output q (chain (chain (put_address (frame_word p.limits.area xs n) s.before) Changed) (λ v. unrefused (perform p.limits.area (Fetch (part t b (not is_signed))) v)))
         frame_part [] is t b is_signed n some room e i code l = tt
         frame_part (a ∷ under) is t b is_signed n some room e i code l =
-            let v = s.before in
-            let there : from_here + 9 ≡ from_here + 3 + 2 + 4 = omega arith in
-            part_behind (setting known s) words_of v.memory v.input v.output s.fits_before.memory l.kept.long t b some room q (from_here + 3 + 2 + 4) 3 block_end is_signed (signed ((a.frame_base + n) % 65536)) v.operands e code
-            (subst (λ xs. Does p image 3 (from_here + 3 + 2 + 4) g true 0 acts v.output q (chain (chain (put_address (frame_word xs n) v) Changed) (λ v. unrefused (perform p.limits.area (Fetch None) v)))) is
-            (fetches_word rows p image g (from_here + 3 + 2 + 4) n acts v low there i l))
+            cases (nat_lt (a.frame_base + n) p.limits.area)
+            (subst (λ xs. Does p image 2 (from_here + 3 + 4) g true 0 acts s.before.output q (chain (chain (put_address (frame_word p.limits.area xs n) s.before) Changed) (λ v. unrefused (perform p.limits.area (Fetch None) v)))) is
+            (fetches_word rows p image g (from_here + 3 + 4) n acts s.before low there i l))
+          where
+            there : from_here + 7 ≡ from_here + 3 + 4
+            there = omega arith
+
+            cases : (inside : Bool)
+                → Does p image 2 (from_here + 3 + 4) g true 0 acts s.before.output q (chain (chain (put_address (if inside then Some (a.frame_base + n) else None) s.before) Changed) (λ v. unrefused (perform p.limits.area (Fetch None) v)))
+                → Does p image 6 block_end g true 0 acts s.before.output q (chain (chain (put_address (if inside then Some (a.frame_base + n) else None) s.before) Changed) (λ v. unrefused (perform p.limits.area (Fetch (part t b (not is_signed))) v)))
+            cases false d = tt
+            cases true d =
+                let v = s.before in
+                part_behind (setting known s) words_of v.memory v.input v.output s.fits_before.memory l.kept.long t b some room q (from_here + 3 + 4) 2 block_end is_signed (signed (a.frame_base + n)) v.operands e code d
 
     pub fetch_part_follows : (x : Place) (t b : ℕ) (is_signed : Bool) (rest : List Order) → drop s.from s.orders.list ≡ address_orders x ++ order.LoadPart t b is_signed ∷ rest → is_part t b ≡ true
         → block_at 0 (drop s.from s.orders.list) ≡ block.FetchPart x t b is_signed → Follow known (at g place loaded acts w Running) q
@@ -264,19 +274,24 @@ module _ (known : Given) where
         let ends = block_ends known s B order.Save os 2 is_done e is refl refl in
         let before = saved known s true 1 os is_done e refl in
         let few = few_steps b in
-        let paid : shift_steps b + 5 ≤ weight p (at g place loaded acts w Running) = let x = weight_is known s o here in omega arith in
+        let paid : shift_steps b + 4 ≤ weight p (at g place loaded acts w Running) = let x = weight_is known s o here in omega arith in
         let bits = part_of t b part_is in
-        last_does known s false 0 (λ v. unrefused (perform p.limits.area (StoreBits t b) v)) (shift_steps b + 5) 2 _ is_done e ends.begins (step_in known s true o before.now here) paid
+        last_does known s false 0 (λ v. unrefused (perform p.limits.area (StoreBits t b) v)) (shift_steps b + 4) 2 _ is_done e ends.begins (step_in known s true o before.now here) paid
         (frame_part acts refl t b n bits.0 bits.1 ends.behind (block_code known s B order.Save os e is) before.landed)
       where
         frame_part : (xs : List OrderActivation) → acts ≡ xs → (t b n : ℕ) → 1 ≤ t → t + b ≤ 16
             → from_here + length (blanks (shifted_up b ++ (address_pieces (cell.Frame n) ++ changed_at t b (cell.Frame n)))) ≡ block_end → HasPieces image words_of from_here (shifted_up b ++ (address_pieces (cell.Frame n) ++ changed_at t b (cell.Frame n)))
             → Landed p image from_here g true acts s.before q
-            → Does p image (shift_steps b + 5) block_end g false 0 acts s.before.output q (chain (chain (put_address (frame_word xs n) s.before) Changed) (λ v. unrefused (perform p.limits.area (StoreBits t b) v)))
+            → Does p image (shift_steps b + 4) block_end g false 0 acts s.before.output q (chain (chain (put_address (frame_word p.limits.area xs n) s.before) Changed) (λ v. unrefused (perform p.limits.area (StoreBits t b) v)))
         frame_part [] is t b n some room e code l = tt
-        frame_part (a ∷ under) is t b n some room e code l =
-            let v = s.before in
-            stores_in_frame (setting known s) words_of v.memory v.input v.output s.fits_before.memory l.kept.long t b some room block_end n a under v.operands is code e s.fits_before.operands l
+        frame_part (a ∷ under) is t b n some room e code l = cases (nat_lt (a.frame_base + n) p.limits.area) refl
+          where
+            cases : (inside : Bool) → nat_lt (a.frame_base + n) p.limits.area ≡ inside
+                → Does p image (shift_steps b + 4) block_end g false 0 acts s.before.output q (chain (chain (put_address (if inside then Some (a.frame_base + n) else None) s.before) Changed) (λ v. unrefused (perform p.limits.area (StoreBits t b) v)))
+            cases false is_out = tt
+            cases true is_in =
+                let v = s.before in
+                stores_in_frame (setting known s) words_of v.memory v.input v.output s.fits_before.memory l.kept.long t b some room block_end n a under v.operands is (ltb-true (a.frame_base + n) p.limits.area is_in) code e s.fits_before.operands l
 
     pub assign_part_follows : (x : Place) (t b : ℕ) (rest : List Order) → drop s.from s.orders.list ≡ order.Save ∷ (address_orders x ++ order.StorePart t b ∷ rest) → is_part t b ≡ true
         → block_at 0 (drop s.from s.orders.list) ≡ block.AssignPart x t b → Follow known (at g place loaded acts w Running) q

@@ -1,25 +1,29 @@
 -- What the code of an activation's own orders does: the way back, the words of its frame, and its arguments.
-use Rattle.std.proofs.Common.{◌≡◌, ℕ, ◌+◌, ◌*◌, ◌%◌, ◌<◌, ◌≤◌, Bool, true, false, ℤ, pos, List, [], ◌∷◌, ◌++◌, set, Option, Some, None, refl, ap, ◌∙◌, subst, arith, lit<, lit≤}
-use Rattle.std.specs.Prelude.{slice_get}
+use Rattle.std.proofs.Common.{◌≡◌, ℕ, ◌+◌, ◌*◌, ◌/◌, ◌%◌, ◌^◌, ◌<◌, ◌≤◌, Bool, true, false, ℤ, pos, List, [], ◌∷◌, ◌++◌, set, Option, Some, None, refl, sym, ap, ◌∙◌, subst, arith, lit<, lit≤}
+use Rattle.std.specs.Prelude.{slice_get, nat_lt, if◌then◌else◌}
 use borrow.Author.Tests.{ltb-true}
 use Rattle.cw_i86.specs.declared.instr.Instr.TheVariants as i86
 use Rattle.cw_i86.specs.declared.instr.Rm.TheVariants as rms
 use Rattle.cw_run86.specs.Processor.{Told}
-use Rattle.cw_run86.specs.Views.{with_number}
+use Rattle.cw_run86.specs.Views.{with_number, word_sum}
+use Rattle.cw_rows86.specs.Locations.{InRegister}
+use Rattle.cw_rows86.specs.Operations.{Down}
+use Rattle.cw_rows86.specs.Acts.{Shift}
 use Rattle.cw_word.specs.Word.{unsigned}
-use Rattle.cw_unit.specs.Words.{Operand, Word, Held, Words, Changed, put, with_memory, through, is_below}
+use Rattle.cw_unit.specs.Words.{Operand, Word, Held, Words, Changed, Impossible, put, with_memory, through, is_below}
 use Rattle.cw_order.specs.OrderProgram.{OrderProgram}
-use Rattle.cw_order.specs.OrderState.{OrderActivation, operand_words, argument_behind}
+use Rattle.cw_order.specs.OrderState.{OrderActivation, operand_words, argument_behind, frame_word}
 use Rattle.cw_order.specs.OrderChanges.{bind}
 use Rattle.cw_order.specs.OrderMachine.{unrefused}
-use Rattle.cw_tmpl.specs.Mnemonics.{slot, base_slot, argument, field}
+use Rattle.cw_tmpl.specs.Mnemonics.{slot, base_slot, argument, field, shift_down_once}
 use Rattle.cw_tmpl.proofs.Sizes.{own_place}
 use Rattle.cw_routines.specs.Ways.{HasAll, QuietAll}
 use Rattle.cw_routines.specs.Results.{Quiet, leave}
 use Rattle.cw_follow.proofs.Watched.{Watched}
 use Rattle.cw_follow.proofs.Rows.{Rows}
+use Rattle.cw_follow.proofs.Acting.{act}
 use Rattle.cw_follow.proofs.Chains.{Is, Leads, view, seen, to_place, load_argument, store_at, more, last, done}
-use Rattle.cw_follow.proofs.Straight.{Double, LoadArgument, LoadSlot, StoreField, SumNumber, straight}
+use Rattle.cw_follow.proofs.Straight.{LoadArgument, LoadSlot, StoreField, SumNumber, straight}
 use Rattle.cw_follow.proofs.Routines.{quiet_in, quiet_at, flags_of, arrives, returned, lifted, leads_on, with_ax}
 use Rattle.cw_follow.proofs.Stacks.{start_small, level, record_of, code_place, StackIs, top_is, behind_arguments, argument_words}
 use Rattle.cw_follow.proofs.Orders.{Kept, kept_stored, Landed, landed, Leading, Does, further}
@@ -87,19 +91,24 @@ module _ (rows : Rows) (prog : OrderProgram) (image : List ℕ) where
 
   -- ---- the words of the frame
 
-  pub frame_homes : {q : Watched} {at : ℕ} (g to n : ℕ) (a : OrderActivation) (acts : List OrderActivation) (z : ℤ) (w : Words) → at + 6 ≡ to → (a.frame_base + n) % 65536 ≡ unsigned z
-      → HasAll image at (i86.Mov true true 0 (slot base_slot) ∷ with_number 0 n ∷ []) → Landed prog image at g false (a ∷ acts) w q
-      → Leading w.output 2 q (Landed prog image to g true (a ∷ acts) (put z w))
-  frame_homes {q} {at} g to n a acts z w e value i l =
+  pub frame_homes : {q : Watched} {at : ℕ} (g to n : ℕ) (a : OrderActivation) (acts : List OrderActivation) (z : ℤ) (w : Words) → prog.limits.area ≤ 32768 → a.frame_base + n < prog.limits.area → at + 8 ≡ to → a.frame_base + n ≡ unsigned z
+      → HasAll image at (i86.Mov true true 0 (slot base_slot) ∷ shift_down_once 0 ∷ with_number 0 n ∷ []) → Landed prog image at g false (a ∷ acts) w q
+      → Leading w.output 3 q (Landed prog image to g true (a ∷ acts) (put z w))
+  frame_homes {q} {at} g to n a acts z w low_area inside e value i l =
       let s = l.stacked in
       let k = l.kept in
       let r = level (a ∷ acts) in
       let low : r + 1 < 32768 = omega arith in
       let slot_base : (record_of (a ∷ acts) + 65530) % 65536 ≡ 2 * (r + 1) = omega arith in
-      let end : at + 3 + 3 ≡ to = omega arith in
-      further 2 (lit≤ tt) (lit< tt)
-      (straight rows (LoadSlot 0 0xFA (r + 1) a.frame_base ∷ SumNumber n ∷ []) {n = 0} k.wrote i ((low, slot_base, k.piled.0.base_is), (tt, tt)) s.is (λ q u.
-      done (landed rows prog image g (a ∷ acts) true to l.top (Word z ∷ w.operands) w.memory w.input w.output end (value, l.operands) k u)))
+      let twice = 2 * a.frame_base % 65536 in
+      let small : twice < 65536 = omega arith in
+      let sum : word_sum (twice / 2 ^ 1) n ≡ unsigned z = omega (arith, value) in
+      let end : at + 3 + 2 + 3 ≡ to = omega arith in
+      further 3 (lit≤ tt) (lit< tt)
+      (straight rows (LoadSlot 0 0xFA (r + 1) twice ∷ []) {n = 2} k.wrote (i.0, tt) ((low, slot_base, k.piled.0.base_is), tt) s.is (λ q u.
+      more rows u k.wrote (act rows (Shift Down false (rms.Reg 0) (InRegister 0) twice) refl (lit< tt) i.1.0 ((refl, tt, refl), small) u).is (λ q u.
+      straight rows (SumNumber n ∷ []) {n = 0} k.wrote (i.1.1.0, tt) (tt, tt) u (λ q u.
+      done (landed rows prog image g (a ∷ acts) true to l.top (Word z ∷ w.operands) w.memory w.input w.output end (sum, l.operands) k u)))))
 
   -- ---- arguments
 
@@ -133,27 +142,27 @@ module _ (rows : Rows) (prog : OrderProgram) (image : List ℕ) where
           last rows u c.wrote (landed rows prog image g (a ∷ acts) false to l.top w.operands (set w.memory n z) w.input w.output end l.operands (kept_stored n z within c) (store_at rows offset n lt address i.1.0 u))))
 
   -- or to a word of the frame
-  pub binds_frame : {q : Watched} {at : ℕ} (g to k offset line : ℕ) (a : OrderActivation) (acts : List OrderActivation) (x : Option Operand) (w : Words) → prog.limits.area ≤ 32768
-      → a.frame_base ≤ prog.limits.area → argument_behind k a.arguments ≡ x → at + 13 ≡ to → offset < 32768
-      → HasAll image at (i86.Mov true true 1 (argument k) ∷ i86.Mov true true 3 (slot base_slot) ∷ i86.Shift 4 true false (rms.Reg 3) ∷ i86.Mov true false 1 (field (2 * offset % 65536)) ∷ [])
+  binds_inside : {q : Watched} {at : ℕ} (g to k offset line : ℕ) (a : OrderActivation) (acts : List OrderActivation) (x : Option Operand) (w : Words) → prog.limits.area ≤ 32768
+      → a.frame_base + offset < prog.limits.area → argument_behind k a.arguments ≡ x → at + 11 ≡ to
+      → HasAll image at (i86.Mov true true 1 (argument k) ∷ i86.Mov true true 3 (slot base_slot) ∷ i86.Mov true false 1 (field (2 * offset % 65536)) ∷ [])
       → Landed prog image at g false (a ∷ acts) w q
-      → Does prog image 4 to g false line (a ∷ acts) w.output q (unrefused (bind prog.limits.area x (Some ((a.frame_base + offset) % 65536)) w))
-  binds_frame g to k offset line a acts None w low base is e short i l = tt
-  binds_frame g to k offset line a acts (Some (Held c)) w low base is e short i l = tt
-  binds_frame {q} {at} g to k offset line a acts (Some (Word z)) w low base is e short i l = cases (is_below (pos n) prog.limits.area) refl
+      → Does prog image 3 to g false line (a ∷ acts) w.output q (unrefused (bind prog.limits.area x (Some (a.frame_base + offset)) w))
+  binds_inside g to k offset line a acts None w low inside is e i l = tt
+  binds_inside g to k offset line a acts (Some (Held c)) w low inside is e i l = tt
+  binds_inside {q} {at} g to k offset line a acts (Some (Word z)) w low inside is e i l = cases (is_below (pos n) prog.limits.area) refl
     where
       n : ℕ
-      n = (a.frame_base + offset) % 65536
+      n = a.frame_base + offset
 
       cases : (b : Bool) → is_below (pos n) prog.limits.area ≡ b
-          → Does prog image 4 to g false line (a ∷ acts) w.output q (unrefused (through b (λ j v. Changed (with_memory v (set v.memory j z))) (pos n) w))
+          → Does prog image 3 to g false line (a ∷ acts) w.output q (unrefused (through b (λ j v. Changed (with_memory v (set v.memory j z))) (pos n) w))
       cases false b = tt
       cases true b =
           let s = l.stacked in
           let c = l.kept in
           let r = level (a ∷ acts) in
           let bp = record_of (a ∷ acts) in
-          let B = a.frame_base in
+          let twice = 2 * a.frame_base % 65536 in
           let within : n < prog.limits.area = ltb-true n prog.limits.area b in
           let arg = argument_words prog acts l.stack (r + 6) k a.arguments a.operands (Word z) c.piled.1.0.operands is in
           let below = arg.1 in
@@ -161,11 +170,27 @@ module _ (rows : Rows) (prog : OrderProgram) (image : List ℕ) where
           let there : (bp + (4 + 2 * k)) % 65536 ≡ 2 * (r + 6 + k) = omega arith in
           let base_at : r + 1 < 32768 = omega arith in
           let slot_base : (bp + 65530) % 65536 ≡ 2 * (r + 1) = omega arith in
-          let lt : B < 32768 = omega arith in
-          let lt' : n < 32768 = omega arith in
-          let address : (2 * B + 2 * offset % 65536) % 65536 ≡ 2 * n = omega arith in
-          let end : at + 4 + 3 + 2 + 4 ≡ to = omega arith in
-          let pieces = LoadArgument 1 (4 + 2 * k) (r + 6 + k) (unsigned z) ∷ LoadSlot 3 0xFA (r + 1) B ∷ Double 3 ∷ StoreField 1 (2 * offset % 65536) n ∷ [] in
-          further 4 (lit≤ tt) (lit< tt)
-          (straight rows pieces {n = 0} c.wrote i ((small, there, arg.0), ((base_at, slot_base, c.piled.0.base_is), (lt, ((lt', address), tt)))) s.is (λ q u.
+          let lt : n < 32768 = omega arith in
+          let address : (twice + 2 * offset % 65536) % 65536 ≡ 2 * n = omega arith in
+          let end : at + 4 + 3 + 4 ≡ to = omega arith in
+          let pieces = LoadArgument 1 (4 + 2 * k) (r + 6 + k) (unsigned z) ∷ LoadSlot 3 0xFA (r + 1) twice ∷ StoreField 1 (2 * offset % 65536) n ∷ [] in
+          further 3 (lit≤ tt) (lit< tt)
+          (straight rows pieces {n = 0} c.wrote i ((small, there, arg.0), ((base_at, slot_base, c.piled.0.base_is), ((lt, address), tt))) s.is (λ q u.
           done (landed rows prog image g (a ∷ acts) false to l.top w.operands (set w.memory n z) w.input w.output end l.operands (kept_stored n z within c) u)))
+
+  bind_nowhere : (x : Option Operand) (w : Words) → unrefused (bind prog.limits.area x None w) ≡ Impossible
+  bind_nowhere None w = refl
+  bind_nowhere (Some (Held c)) w = refl
+  bind_nowhere (Some (Word z)) w = refl
+
+  pub binds_frame : {q : Watched} {at : ℕ} (g to k offset line : ℕ) (a : OrderActivation) (acts : List OrderActivation) (x : Option Operand) (w : Words) → prog.limits.area ≤ 32768
+      → argument_behind k a.arguments ≡ x → at + 11 ≡ to
+      → HasAll image at (i86.Mov true true 1 (argument k) ∷ i86.Mov true true 3 (slot base_slot) ∷ i86.Mov true false 1 (field (2 * offset % 65536)) ∷ [])
+      → Landed prog image at g false (a ∷ acts) w q
+      → Does prog image 3 to g false line (a ∷ acts) w.output q (unrefused (bind prog.limits.area x (frame_word prog.limits.area (a ∷ acts) offset) w))
+  binds_frame {q} g to k offset line a acts x w low is e i l = cases (nat_lt (a.frame_base + offset) prog.limits.area) refl
+    where
+      cases : (b : Bool) → nat_lt (a.frame_base + offset) prog.limits.area ≡ b
+          → Does prog image 3 to g false line (a ∷ acts) w.output q (unrefused (bind prog.limits.area x (if b then Some (a.frame_base + offset) else None) w))
+      cases false is_out = subst (Does prog image 3 to g false line (a ∷ acts) w.output q) (sym (bind_nowhere x w)) tt
+      cases true is_in = binds_inside g to k offset line a acts x w low (ltb-true (a.frame_base + offset) prog.limits.area is_in) is e i l

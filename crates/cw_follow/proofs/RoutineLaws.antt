@@ -7,13 +7,13 @@ use Rattle.cw_routines.specs.Ways.{HasAll, QuietAll}
 use Rattle.cw_routines.specs.Results.{Stands, Quiet, InLibrary, StartRoutine, StopRoutine, ToldStop, EnterRoutine, leave, Leaving, ReadRoutine, SetRoutine, StepRoutine, PutRoutine, ExhaustedRoutine, WordRoutine, divisor_test, DivisorTest}
 
 pub record RoutineLaws : Type 0 where
-  pub start : (quiet : ℕ → Bool) (code : List ℕ) → Stands code → InLibrary quiet → StartRoutine (Quiet quiet) code start_place 12
+  pub start : (quiet : ℕ → Bool) (code : List ℕ) → Stands code → InLibrary quiet → StartRoutine (Quiet quiet) code start_place 10
   pub overflow : (quiet : ℕ → Bool) (code : List ℕ) → Stands code → InLibrary quiet → StopRoutine (Quiet quiet) code (stop_place Overflow) 12 Overflow
   pub zero_divisor : (quiet : ℕ → Bool) (code : List ℕ) → Stands code → InLibrary quiet → StopRoutine (Quiet quiet) code (stop_place ZeroDivisor) 12 ZeroDivisor
   pub address : (quiet : ℕ → Bool) (code : List ℕ) → Stands code → InLibrary quiet → StopRoutine (Quiet quiet) code (stop_place AddressRange) 12 AddressRange
   pub bounds : (quiet : ℕ → Bool) (code : List ℕ) → Stands code → InLibrary quiet → StopRoutine (Quiet quiet) code (stop_place IndexRange) 12 IndexRange
   pub switch : (quiet : ℕ → Bool) (code : List ℕ) → Stands code → InLibrary quiet → ToldStop (Quiet quiet) code (stop_place SwitchRange) 10 SwitchRange
-  pub enter : (quiet : ℕ → Bool) (code : List ℕ) → Stands code → InLibrary quiet → EnterRoutine (Quiet quiet) code enter_place 19
+  pub enter : (quiet : ℕ → Bool) (code : List ℕ) → Stands code → InLibrary quiet → EnterRoutine (Quiet quiet) code enter_place 18
   pub leaving : (quiet : ℕ → Bool) (code : List ℕ) (at words : ℕ) → QuietAll (Quiet quiet) at (leave words) → HasAll code at (leave words) → Leaving (Quiet quiet) code at words
   pub read : (quiet : ℕ → Bool) (code : List ℕ) → Stands code → InLibrary quiet → ReadRoutine (Quiet quiet) code read_place 6
   pub product : (quiet : ℕ → Bool) (code : List ℕ) → Stands code → InLibrary quiet → (x y : ℤ) (j : ℕ) → FitsWord x → FitsWord y → j < 15 → WordRoutine (Quiet quiet) code product_place 15 (suc j) x y (scaled_product x y (negsuc j))

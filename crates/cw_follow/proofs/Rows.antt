@@ -41,7 +41,6 @@ pub record Rows : Type 0 where
   pub store_slot : (code : List ℕ) (v : View) (r by k : ℕ) → Has code v.place (i86.Mov true false r (rms.Mem (record { cs = false; place = places.Near 6 by }))) → k < 32768 → (register v 5 + sign_extended by) % 65536 ≡ 2 * k → Goes code v (with_stack k (register v r) (on (i86.Mov true false r (rms.Mem (record { cs = false; place = places.Near 6 by }))) v))
   -- words of a frame
   pub load_word : (code : List ℕ) (v : View) (r by k : ℕ) → Has code v.place (i86.Mov true true r (rms.Mem (record { cs = false; place = places.Far 7 by }))) → k < 32768 → (register v 3 + by) % 65536 ≡ 2 * k → Goes code v (with_register r (v.cells k) (on (i86.Mov true true r (rms.Mem (record { cs = false; place = places.Far 7 by }))) v))
-  pub double_word : (code : List ℕ) (v : View) (r : ℕ) → Has code v.place (i86.Shift 4 true false (rms.Reg r)) → Goes code v (with_result r (2 * register v r % 65536) (double_overflows (register v r)) (on (i86.Shift 4 true false (rms.Reg r)) v))
   -- arithmetic
   pub add : (code : List ℕ) (v : View) (r q : ℕ) → Has code v.place (i86.AluRm 0 true true r (rms.Reg q)) → Goes code v (with_result r (word_sum (register v r) (register v q)) (sum_overflows (register v r) (register v q)) (on (i86.AluRm 0 true true r (rms.Reg q)) v))
   pub subtract : (code : List ℕ) (v : View) (r q : ℕ) → Has code v.place (i86.AluRm 5 true true r (rms.Reg q)) → Goes code v (with_result r (word_difference (register v r) (register v q)) (difference_overflows (register v r) (register v q)) (on (i86.AluRm 5 true true r (rms.Reg q)) v))

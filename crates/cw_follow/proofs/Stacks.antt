@@ -26,10 +26,14 @@ level acts = 32764 - stack_words [] acts
 abbrev pub record_of : List OrderActivation → ℕ
 record_of acts = (2 * level acts + 8) % 65536
 
--- the first word of the frame at work
-abbrev pub frame_from : OrderProgram → List OrderActivation → ℕ
-frame_from p [] = frame_end p []
-frame_from p (a ∷ acts) = a.frame_base
+-- the word of the frame at work in its record: twice its first word, and in that of a body, where nothing reads it, the words of the frame area
+abbrev pub base_word : OrderProgram → List OrderActivation → ℕ
+base_word p [] = p.limits.frames
+base_word p (a ∷ acts) = 2 * a.frame_base % 65536
+
+-- the words of the area behind the frame
+abbrev pub words_behind : OrderProgram → List OrderActivation → ℕ
+words_behind p acts = p.limits.area - frame_end p acts
 
 module _ (p : OrderProgram) where
   -- the place of an order's code
@@ -59,9 +63,9 @@ module _ (p : OrderProgram) where
   OperandsAre acts true ax stack top (Word z ∷ rest) = (ax ≡ unsigned z) × StackIs acts stack top rest
   OperandsAre acts true ax stack top _ = ⊥
 
-  -- a record, from its last word: the top and the base of the frame, the calls left and the segment
-  pub record RecordIs (stack : ℕ → ℕ) (r g left base top : ℕ) : Type 0 where
-    pub top_is : stack r ≡ top
+  -- a record, from its last word: the words behind the frame, that of its base, the calls left and the segment
+  pub record RecordIs (stack : ℕ → ℕ) (r g left base rest : ℕ) : Type 0 where
+    pub rest_is : stack r ≡ rest
     pub base_is : stack (r + 1) ≡ base
     pub left_is : stack (r + 2) ≡ left
     pub number_is : stack (r + 3) ≡ g + 1
@@ -74,7 +78,7 @@ module _ (p : OrderProgram) where
     pub operands : StackIs acts stack (r + 6) (a.arguments ++ a.operands)
 
   abbrev pub LastRecord : (ℕ → ℕ) → (g : ℕ) → List OrderActivation → Type 0
-  LastRecord stack g acts = RecordIs stack (level acts) g (p.limits.depth - length acts) (frame_from p acts) (frame_end p acts)
+  LastRecord stack g acts = RecordIs stack (level acts) g (p.limits.depth - length acts) (base_word p acts) (words_behind p acts)
 
   abbrev pub Callers : (ℕ → ℕ) → List OrderActivation → Type 0
   Callers stack [] = Unit {0}
@@ -143,9 +147,9 @@ module _ (p : OrderProgram) where
   pub stack_pushed : (acts : List OrderActivation) (stack : ℕ → ℕ) (n x : ℕ) (z : ℤ) (operands : List Operand) → x ≡ unsigned z → StackIs p acts stack (suc n) operands → StackIs p acts (put_word stack n x) n (Word z ∷ operands)
   stack_pushed acts stack n x z operands e h = (put_at stack n x ∙ e, stack_same acts stack (put_word stack n x) (suc n) operands (same_put stack n x (suc n) (omega arith)) h)
 
-  pub record_same : (now new : ℕ → ℕ) (r g left base top : ℕ) → SameFrom r now new → RecordIs p now r g left base top → RecordIs p new r g left base top
-  record_same now new r g left base top same h = record {
-    top_is = same r (omega arith) ∙ h.top_is;
+  pub record_same : (now new : ℕ → ℕ) (r g left base rest : ℕ) → SameFrom r now new → RecordIs p now r g left base rest → RecordIs p new r g left base rest
+  record_same now new r g left base rest same h = record {
+    rest_is = same r (omega arith) ∙ h.rest_is;
     base_is = same (r + 1) (omega arith) ∙ h.base_is;
     left_is = same (r + 2) (omega arith) ∙ h.left_is;
     number_is = same (r + 3) (omega arith) ∙ h.number_is;
@@ -163,13 +167,13 @@ module _ (p : OrderProgram) where
           back = same (r + 5) (omega arith) ∙ h.0.back;
           operands = stack_same acts now new (r + 6) (a.arguments ++ a.operands) (same_above now new (r + 4) (r + 6) (omega arith) same) h.0.operands;
         },
-        record_same now new (level acts) a.segment (p.limits.depth - length acts) (frame_from p acts) (frame_end p acts) on h.1,
+        record_same now new (level acts) a.segment (p.limits.depth - length acts) (base_word p acts) (words_behind p acts) on h.1,
         callers_same now new acts (same_above now new (level acts) (level acts + 4) (omega arith) on) h.2,
       )
 
   pub piled_same : (now new : ℕ → ℕ) (g : ℕ) (acts : List OrderActivation) → SameFrom (level acts) now new → Piled p now g acts → Piled p new g acts
   piled_same now new g acts same h = (
-    record_same now new (level acts) g (p.limits.depth - length acts) (frame_from p acts) (frame_end p acts) same h.0,
+    record_same now new (level acts) g (p.limits.depth - length acts) (base_word p acts) (words_behind p acts) same h.0,
     callers_same now new acts (same_above now new (level acts) (level acts + 4) (omega arith) same) h.1,
   )
 

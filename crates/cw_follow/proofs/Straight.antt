@@ -36,7 +36,6 @@ pub data Act : Type 0 where
   Difference : (r q : ℕ) → Act
   Negative : (r : ℕ) → Act
   Double : (r : ℕ) → Act
-  DoubleWord : (r : ℕ) → Act
   Both : (r q : ℕ) → Act
   Either : (r q : ℕ) → Act
   One : (r q : ℕ) → Act
@@ -62,7 +61,6 @@ instruction (Sum r q) = i86.AluRm 0 true true r (rms.Reg q)
 instruction (Difference r q) = i86.AluRm 5 true true r (rms.Reg q)
 instruction (Negative r) = i86.Unary 3 true (rms.Reg r)
 instruction (Double r) = i86.Shift 4 true false (rms.Reg r)
-instruction (DoubleWord r) = i86.Shift 4 true false (rms.Reg r)
 instruction (Both r q) = i86.AluRm 4 true true r (rms.Reg q)
 instruction (Either r q) = i86.AluRm 1 true true r (rms.Reg q)
 instruction (One r q) = i86.AluRm 6 true true r (rms.Reg q)
@@ -105,7 +103,6 @@ after (Sum r q) v = with_result r (word_sum (register v r) (register v q)) (sum_
 after (Difference r q) v = with_result r (word_difference (register v r) (register v q)) (difference_overflows (register v r) (register v q)) v
 after (Negative r) v = with_result r (word_difference 0 (register v r)) (difference_overflows 0 (register v r)) v
 after (Double r) v = with_result r (2 * register v r) (double_overflows (register v r)) v
-after (DoubleWord r) v = with_result r (2 * register v r % 65536) (double_overflows (register v r)) v
 after (Both r q) v = with_result r (bit_and (register v r) (register v q)) false v
 after (Either r q) v = with_result r (bit_or (register v r) (register v q)) false v
 after (One r q) v = with_result r (bit_xor (register v r) (register v q)) false v
@@ -165,7 +162,6 @@ module _ (rows : Rows) where
   effect (Difference r q) {image} at v {p} h n s = rows.subtract image (placed at v) r q h p s
   effect (Negative r) {image} at v {p} h n s = rows.negate image (placed at v) r h p s
   effect (Double r) {image} at v {p} h n s = rows.double image (placed at v) r h n p s
-  effect (DoubleWord r) {image} at v {p} h n s = rows.double_word image (placed at v) r h p s
   effect (Both r q) {image} at v {p} h n s = rows.both image (placed at v) r q h p s
   effect (Either r q) {image} at v {p} h n s = rows.either image (placed at v) r q h p s
   effect (One r q) {image} at v {p} h n s = rows.one image (placed at v) r q h p s

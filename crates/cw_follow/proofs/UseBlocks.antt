@@ -1,7 +1,8 @@
 -- Blocks that save the top operand, put a simple one and use both.
-use Rattle.std.proofs.Common.{◌≡◌, ℕ, zero, suc, ◌+◌, ◌*◌, ◌%◌, ◌<◌, ◌≤◌, Bool, true, false, not, ℤ, pos, ◌+ℤ◌, ◌-ℤ◌, ◌*ℤ◌, List, [], ◌∷◌, ◌++◌, length, drop, None, Some, refl, sym, ap, ap₂, ◌∙◌, subst, arith, lit<, lit≤}
+use Rattle.std.proofs.Common.{◌≡◌, ℕ, suc, ◌+◌, ◌*◌, ◌%◌, ◌<◌, ◌≤◌, Bool, true, false, not, ℤ, pos, ◌+ℤ◌, ◌-ℤ◌, ◌*ℤ◌, List, [], ◌∷◌, ◌++◌, length, drop, None, Some, refl, sym, ap, ap₂, ◌∙◌, subst, arith, lit<, lit≤}
 use Rattle.std.proofs.lemmas.List.{append-nil}
-use Rattle.std.specs.Prelude.{bit_and, bit_or, bit_xor}
+use Rattle.std.specs.Prelude.{bit_and, bit_or, bit_xor, nat_lt, if◌then◌else◌}
+use borrow.Author.Tests.{ltb-true}
 use Rattle.std.specs.List.{All}
 use Rattle.std.proofs.lemmas.List.Elements.{All-head}
 use Rattle.cw_i86.specs.declared.instr.Instr.{Instr}
@@ -9,8 +10,7 @@ use Rattle.cw_i86.specs.declared.instr.Instr.TheVariants as i86
 use Rattle.cw_i86.specs.declared.instr.Imm.TheVariants as imm
 use Rattle.cw_i86.specs.declared.instr.Rm.TheVariants as rms
 use Rattle.cw_i86.specs.declared.instr.Place.TheVariants as places
-use Rattle.cw_run86.specs.Views.{Has, condition_of, with_number, with_memory, product_low, product_high, product_overflows, double_overflows}
-use Rattle.cw_rows86.specs.Locations.{InRegister, InData}
+use Rattle.cw_run86.specs.Views.{Has, condition_of, with_number, with_memory, product_low, product_overflows}
 use Rattle.cw_rows86.specs.Operations.{WordOperation, Add, Or, And, Subtract, Xor, Compare, number_of}
 use Rattle.cw_word.specs.FixedPoint.{FitsWord, fits_word, scaled_product}
 use Rattle.cw_word.specs.Word.{signed, unsigned}
@@ -27,7 +27,7 @@ use Rattle.cw_order.specs.OrderChanges.{put_address, Way, way_of_two, to_mark_if
 use Rattle.cw_order.specs.OrderLines.{line_of}
 use Rattle.cw_order.specs.OrderActions.{home_word}
 use Rattle.cw_order.specs.OrderState.{OrderActivation, at, operand_words, frame_word}
-use Rattle.cw_order.specs.OrderMachine.{unrefused, after, carry_with, step, weight}
+use Rattle.cw_order.specs.OrderMachine.{unrefused, after, carry_with, weight}
 use Rattle.cw_order.specs.OrderCosts.{weight_of}
 use Rattle.cw_order.specs.Loading.{loaded_after}
 use Rattle.cw_tmpl.specs.declared.pieces.Coded.{Coded}
@@ -40,9 +40,9 @@ use Rattle.cw_tmpl.specs.declared.blocks.Simple.TheVariants as simple
 use Rattle.cw_tmpl.specs.declared.blocks.Use.{Use}
 use Rattle.cw_tmpl.specs.declared.blocks.Use.TheVariants as uses
 use Rattle.cw_tmpl.specs.declared.blocks.Block.TheVariants as block
-use Rattle.cw_tmpl.specs.Blocks.{address_orders, operand_orders, order_of, block_at}
+use Rattle.cw_tmpl.specs.Blocks.{operand_orders, order_of, block_at}
 use Rattle.cw_tmpl.specs.Library.{overflow_entry, stop_place}
-use Rattle.cw_tmpl.specs.Mnemonics.{ax, bx, cx, slot, base_slot, field, at_si, operate, double, load, move}
+use Rattle.cw_tmpl.specs.Mnemonics.{ax, bx, cx, slot, base_slot, field, at_si, operate, load, move}
 use Rattle.cw_tmpl.specs.Pieces.{Filling, blanks}
 use Rattle.cw_tmpl.specs.Names.{no_names, mark_place}
 use Rattle.cw_tmpl.specs.Templates.{distance, opposite_of, with_operand, checked, branch, pieces_size, index_size, element_address, operated, block_size}
@@ -53,9 +53,8 @@ use Rattle.cw_tmpl.proofs.Sizes.{own_place}
 use Rattle.cw_follow.proofs.Standing.{HasPieces, appended_long, stand_both, address_long, order_place}
 use Rattle.cw_follow.proofs.Watched.{Watched}
 use Rattle.cw_follow.proofs.Chains.{Is, Leads, view, done, more, load_at, move as moved_to}
-use Rattle.cw_follow.proofs.Straight.{Number, Move, Product, LoadSlot, LoadWord, DoubleWord, straight}
-use Rattle.cw_follow.proofs.Routines.{with_ax, leads_on}
-use Rattle.cw_follow.proofs.Stacks.{level, record_of, top_is, frame_from as frame_base_of}
+use Rattle.cw_follow.proofs.Straight.{Number, Move, Product, LoadSlot, LoadWord, straight}
+use Rattle.cw_follow.proofs.Stacks.{level, record_of, top_is, base_word}
 use Rattle.cw_follow.proofs.Orders.{Landed, Does, Chooses, Check, below_area, later, sooner}
 use Rattle.cw_follow.proofs.Operands.{Setting, words, DoesHere}
 use Rattle.cw_follow.proofs.Operating.{Named, number_named, word_named, sum_of, difference_of, mask_of, union_of, difference_in_bits, comparison_of, product_of}
@@ -64,7 +63,7 @@ use Rattle.cw_follow.proofs.Scales.{turned_overflows, turned_is}
 use Rattle.cw_follow.proofs.Indexed.{index_steps}
 use Rattle.cw_follow.proofs.States.{Given, Sound}
 use Rattle.cw_follow.proofs.InBlocks.{chain}
-use Rattle.cw_follow.proofs.Steps.{Follow, setting, few_segments, weight_is, line_fits, block_code, block_ends, start_place, order_here, last_does, by, calls, start, last_chooses, arrives_at, two_roomy, way_after}
+use Rattle.cw_follow.proofs.Steps.{Follow, setting, weight_is, line_fits, block_code, block_ends, start_place, order_here, last_does, by, calls, start, last_chooses, arrives_at, two_roomy, way_after}
 use Rattle.cw_follow.proofs.BlockOrders.{WithoutAddress, room_in, operand_puts, block_follows, saved, step_in, number_small}
 
 -- ---- the code of an operation on AX and a simple operand
@@ -73,7 +72,7 @@ use Rattle.cw_follow.proofs.BlockOrders.{WithoutAddress, room_in, operand_puts, 
 abbrev pub named_at : Simple → ℕ → ℕ
 named_at (simple.Number x) from = from
 named_at (simple.Contents (cell.Word f n)) from = from
-named_at (simple.Contents (cell.Frame n)) from = from + 3 + 2
+named_at (simple.Contents (cell.Frame n)) from = from + 3
 named_at (simple.Element e) from = from + (index_size e.index + 11)
 
 abbrev pub named_size : Simple → ℕ
@@ -91,7 +90,7 @@ naming w (simple.Element e) op = i86.AluRm (number_of op) true true ax at_si
 -- what comes before it
 abbrev pub Addressed : List ℕ → Filling → Simple → ℕ → Type 0
 Addressed image value (simple.Element e) from = HasPieces image value from (element_address e)
-Addressed image value (simple.Contents (cell.Frame n)) from = HasAll image from (load bx (slot base_slot) ∷ double bx ∷ [])
+Addressed image value (simple.Contents (cell.Frame n)) from = HasAll image from (load bx (slot base_slot) ∷ [])
 Addressed image value s from = Unit {0}
 
 -- what an instruction at a place has filled in
@@ -107,7 +106,7 @@ pub operand_code : (image : List ℕ) (value : Filling) (from : ℕ) (s : Simple
     → Addressed image value s from × Has image (named_at s from) (naming (offset_at value s from) s op) × HasPieces image value (named_at s from + named_size s) rest
 operand_code image value from (simple.Number x) op rest h = (tt, h.0, h.1)
 operand_code image value from (simple.Contents (cell.Word f n)) op rest h = (tt, h.0, h.1)
-operand_code image value from (simple.Contents (cell.Frame n)) op rest h = ((h.0, (h.1.0, tt)), h.1.1.0, h.1.1.1)
+operand_code image value from (simple.Contents (cell.Frame n)) op rest h = ((h.0, tt), h.1.0, h.1.1)
 operand_code image value from (simple.Element e) op rest h =
     let o = number_of op in
     let both = stand_both image value from (with_operand o (simple.Element e)) rest h in
@@ -127,7 +126,7 @@ alone_code image value from (simple.Element e) op h = subst (HasPieces image val
 abbrev pub operand_size : Simple → ℕ
 operand_size (simple.Number x) = 3
 operand_size (simple.Contents (cell.Word f n)) = 4
-operand_size (simple.Contents (cell.Frame n)) = 9
+operand_size (simple.Contents (cell.Frame n)) = 7
 operand_size (simple.Element e) = index_size e.index + 13
 
 pub named_end : (s : Simple) (from : ℕ) → named_at s from + named_size s ≡ from + operand_size s
@@ -184,7 +183,7 @@ tested_size (simple.Contents (cell.Word f n)) u h = word u h
     word (uses.Compare c m) h = refl
 tested_size (simple.Contents (cell.Frame n)) u h = word u h
   where
-    word : (u : Use) → OneOperation u → block_size (block.Operate (simple.Contents (cell.Frame n)) u) order.Save ≡ 9 + rest_size u
+    word : (u : Use) → OneOperation u → block_size (block.Operate (simple.Contents (cell.Frame n)) u) order.Save ≡ 7 + rest_size u
     word (uses.Multiply line) h = absurd h
     word (uses.Add line) h = refl
     word (uses.Subtract line) h = refl
@@ -218,17 +217,17 @@ Computes u = Unit {0}
 
 -- how many instructions come before the operation
 abbrev pub steps_to : Simple → ℕ
-steps_to (simple.Contents (cell.Frame n)) = 2
+steps_to (simple.Contents (cell.Frame n)) = 1
 steps_to (simple.Element e) = index_steps e.index + 3
 steps_to s = 0
 
-pub few_steps : (s : Simple) → steps_to s ≤ 7
+pub few_steps : (s : Simple) → steps_to s ≤ 6
 few_steps (simple.Number x) = lit≤ tt
 few_steps (simple.Contents (cell.Word f n)) = lit≤ tt
 few_steps (simple.Contents (cell.Frame n)) = lit≤ tt
 few_steps (simple.Element e) = few_of e.index
   where
-    few_of : (x : Place) → index_steps x + 3 ≤ 7
+    few_of : (x : Place) → index_steps x + 3 ≤ 6
     few_of (cell.Word f n) = lit≤ tt
     few_of (cell.Frame n) = lit≤ tt
 
@@ -341,7 +340,7 @@ module _ (c : Setting) (memory : List ℤ) (input output : List ℕ) where
         (refl, refl, (let z : k < 32768 = omega arith in z), e) (λ op. refl) (lit< tt) (some_room x rest l' (subst (λ xs. operand_words xs < level c.acts) is room)) l'.operands.1 l'.kept s.is)
 
     -- of the frame of an activation
-    frame_from : (a : OrderActivation) (under : List OrderActivation) (n k : ℕ) → c.acts ≡ a ∷ under → k < c.program.limits.area → k ≡ (a.frame_base + n) % 65536 → HasAll c.image at (load bx (slot base_slot) ∷ double bx ∷ [])
+    frame_from : (a : OrderActivation) (under : List OrderActivation) (n k : ℕ) → c.acts ≡ a ∷ under → k < c.program.limits.area → k ≡ a.frame_base + n → HasAll c.image at (load bx (slot base_slot) ∷ [])
         → NamedFrom c memory input output at 0 (simple.Contents (cell.Frame n)) (word_at memory k) operands p
     frame_from a under n k acts_are within same i x rest is =
         let l' = subst (λ xs. Landed c.program c.image at c.g true c.acts (words xs memory input output) p) is l in
@@ -352,10 +351,11 @@ module _ (c : Setting) (memory : List ℤ) (input output : List ℕ) where
         let bp = record_of c.acts in
         let base : r + 1 < 32768 = omega arith in
         let slot_base : (bp + 65530) % 65536 ≡ 2 * (r + 1) = omega arith in
-        let from_is : frame_base_of c.program c.acts ≡ a.frame_base = ap (frame_base_of c.program) acts_are in
+        let twice = 2 * a.frame_base % 65536 in
+        let base_is : base_word c.program c.acts ≡ twice = ap (base_word c.program) acts_are in
         let k_low : k < 32768 = omega arith in
-        let address : (2 * a.frame_base % 65536 + 2 * n % 65536) % 65536 ≡ 2 * k = omega arith in
-        straight c.rows (LoadSlot bx 0xFA (r + 1) a.frame_base ∷ DoubleWord bx ∷ []) {n = 0} kept.wrote i ((base, slot_base, kept.piled.0.base_is ∙ from_is), (tt, tt)) s.is
+        let address : (twice + 2 * n % 65536) % 65536 ≡ 2 * k = omega arith in
+        straight c.rows (LoadSlot bx 0xFA (r + 1) twice ∷ []) {n = 0} kept.wrote i ((base, slot_base, kept.piled.0.base_is ∙ base_is), tt) s.is
         (λ q t.
         done
         (word_named c memory input output 4 k (field (2 * n % 65536)) (word_at memory k) x rest l'.operands.0 (kept.words k within) (refl, refl, k_low, address) (λ op. refl) (lit< tt)
@@ -407,8 +407,8 @@ module _ (c : Setting) (memory : List ℤ) (input output : List ℕ) {p : Watche
       (subst (λ n. Is c.image (at + 2 + 3) (view (l.cells k) n s.dx s.bx (2 * l.top) (record_of c.acts) s.si c.program.limits.area s.overflow l.cells l.stack l.input l.told) q) l.operands.0 t))
       h.1.1.0 e arrives i)
 
-  frame_multiplies : (a : OrderActivation) (under : List OrderActivation) (n k : ℕ) → c.acts ≡ a ∷ under → k < c.program.limits.area → k ≡ (a.frame_base + n) % 65536 → FitsWord (word_at memory k)
-      → HasAll c.image at (move cx ax ∷ load bx (slot base_slot) ∷ double bx ∷ load ax (field (2 * n % 65536)) ∷ i86.Unary 5 true (rms.Reg cx) ∷ []) → Multiplied (at + 2 + 3 + 2 + 4 + 2) (word_at memory k)
+  frame_multiplies : (a : OrderActivation) (under : List OrderActivation) (n k : ℕ) → c.acts ≡ a ∷ under → k < c.program.limits.area → k ≡ a.frame_base + n → FitsWord (word_at memory k)
+      → HasAll c.image at (move cx ax ∷ load bx (slot base_slot) ∷ load ax (field (2 * n % 65536)) ∷ i86.Unary 5 true (rms.Reg cx) ∷ []) → Multiplied (at + 2 + 3 + 4 + 2) (word_at memory k)
   frame_multiplies a under n k acts_are within same fy h e arrives i =
       let s = l.stacked in
       let kept = l.kept in
@@ -417,16 +417,17 @@ module _ (c : Setting) (memory : List ℤ) (input output : List ℕ) {p : Watche
       let bp = record_of c.acts in
       let base : r + 1 < 32768 = omega arith in
       let slot_base : (bp + 65530) % 65536 ≡ 2 * (r + 1) = omega arith in
-      let from_is : frame_base_of c.program c.acts ≡ a.frame_base = ap (frame_base_of c.program) acts_are in
+      let twice = 2 * a.frame_base % 65536 in
+      let base_is : base_word c.program c.acts ≡ twice = ap (base_word c.program) acts_are in
       let k_low : k < 32768 = omega arith in
-      let address : (2 * a.frame_base % 65536 + 2 * n % 65536) % 65536 ≡ 2 * k = omega arith in
-      later c.program c.image 15 to c.g true line c.acts 4 24 (put_value (scaled_product x (word_at memory k) (pos 0)) (words rest memory input output)) (lit≤ tt)
-      (straight c.rows (Move cx ax ∷ LoadSlot bx 0xFA (r + 1) a.frame_base ∷ DoubleWord bx ∷ LoadWord ax (2 * n % 65536) k (unsigned (word_at memory k)) ∷ []) {n = 0} kept.wrote (h.0, (h.1.0, (h.1.1.0, (h.1.1.1.0, tt))))
-      (tt, ((base, slot_base, kept.piled.0.base_is ∙ from_is), (tt, ((k_low, address, kept.words k within), tt)))) s.is (λ q t. done t))
+      let address : (twice + 2 * n % 65536) % 65536 ≡ 2 * k = omega arith in
+      later c.program c.image 15 to c.g true line c.acts 3 24 (put_value (scaled_product x (word_at memory k) (pos 0)) (words rest memory input output)) (lit≤ tt)
+      (straight c.rows (Move cx ax ∷ LoadSlot bx 0xFA (r + 1) twice ∷ LoadWord ax (2 * n % 65536) k (unsigned (word_at memory k)) ∷ []) {n = 0} kept.wrote (h.0, (h.1.0, (h.1.1.0, tt)))
+      (tt, ((base, slot_base, kept.piled.0.base_is ∙ base_is), ((k_low, address, kept.words k within), tt))) s.is (λ q t. done t))
       (λ q t.
       other_multiplies (word_at memory k) fy
-      (subst (λ m. Is c.image (at + 2 + 3 + 2 + 4) (view (unsigned (word_at memory k)) m s.dx (2 * a.frame_base % 65536) (2 * l.top) (record_of c.acts) s.si c.program.limits.area (double_overflows a.frame_base) l.cells l.stack l.input l.told) q) l.operands.0 t)
-      h.1.1.1.1.0 e arrives i)
+      (subst (λ m. Is c.image (at + 2 + 3 + 4) (view (unsigned (word_at memory k)) m s.dx twice (2 * l.top) (record_of c.acts) s.si c.program.limits.area s.overflow l.cells l.stack l.input l.told) q) l.operands.0 t)
+      h.1.1.1.0 e arrives i)
 
 -- ---- the blocks
 
@@ -571,15 +572,15 @@ module _ (known : Given) where
         word_multiplies (setting known s) v.memory v.input v.output x rest fx room t block_end (call_of test) line small offset k within e (memory_word k within) (i.0, (i.1.0, (i.1.1.0, tt))) (omega (arith, ends)) (calls known s overflow_entry (test + 2 + 3) (lit< tt)) i.1.1.1)
         v.operands (room_in known s) s.fits_before.operands l
 
-    frame_product : (a : OrderActivation) (under : List OrderActivation) (n k : ℕ) → acts ≡ a ∷ under → k < p.limits.area → k ≡ (a.frame_base + n) % 65536 → Landed p image here_at g true acts s.before q
+    frame_product : (a : OrderActivation) (under : List OrderActivation) (n k : ℕ) → acts ≡ a ∷ under → k < p.limits.area → k ≡ a.frame_base + n → Landed p image here_at g true acts s.before q
         → Multiplies (simple.Contents (cell.Frame n)) (word_at s.before.memory k)
     frame_product a under n k acts_are within same l line small i ends =
         let v = s.before in
-        let test = here_at + 2 + 3 + 2 + 4 + 2 in
+        let test = here_at + 2 + 3 + 4 + 2 in
         on_word 24 line (word_at v.memory k)
         (λ x rest fx room t.
-        frame_multiplies (setting known s) v.memory v.input v.output x rest fx room t block_end (call_of test) line small a under n k acts_are within same (memory_word k within) (i.0, (i.1.0, (i.1.1.0, (i.1.1.1.0, (i.1.1.1.1.0, tt)))))
-        (omega (arith, ends)) (calls known s overflow_entry (test + 2 + 3) (lit< tt)) i.1.1.1.1.1)
+        frame_multiplies (setting known s) v.memory v.input v.output x rest fx room t block_end (call_of test) line small a under n k acts_are within same (memory_word k within) (i.0, (i.1.0, (i.1.1.0, (i.1.1.1.0, tt))))
+        (omega (arith, ends)) (calls known s overflow_entry (test + 2 + 3) (lit< tt)) i.1.1.1.1)
         v.operands (room_in known s) s.fits_before.operands l
 
     -- ---- the last order
@@ -606,32 +607,38 @@ module _ (known : Given) where
         (λ one. word_from (setting known s) v.memory v.input v.output v.operands (room_in known s) l f n (st.value 2 f n (here_at + 4)) k within (omega arith))
         (word_product f n k within (omega arith) l))
 
-    addressed : (n : ℕ) (u : Use) → OneOperation u → Code (simple.Contents (cell.Frame n)) u → HasAll image here_at (load bx (slot base_slot) ∷ double bx ∷ [])
-    addressed n (uses.Add line) h i = (i.0, (i.1.0, tt))
-    addressed n (uses.Subtract line) h i = (i.0, (i.1.0, tt))
+    addressed : (n : ℕ) (u : Use) → OneOperation u → Code (simple.Contents (cell.Frame n)) u → HasAll image here_at (load bx (slot base_slot) ∷ [])
+    addressed n (uses.Add line) h i = (i.0, tt)
+    addressed n (uses.Subtract line) h i = (i.0, tt)
     addressed n (uses.Multiply line) h i = absurd h
-    addressed n uses.Mask h i = (i.0, (i.1.0, tt))
-    addressed n uses.Union h i = (i.0, (i.1.0, tt))
-    addressed n uses.Differ h i = (i.0, (i.1.0, tt))
-    addressed n (uses.Compare c m) h i = (i.0, (i.1.0, tt))
+    addressed n uses.Mask h i = (i.0, tt)
+    addressed n uses.Union h i = (i.0, tt)
+    addressed n uses.Differ h i = (i.0, tt)
+    addressed n (uses.Compare c m) h i = (i.0, tt)
 
     -- what the orders of a word of the frame do
     abbrev fetched_frame : ℕ → Outcome
-    fetched_frame n = chain (put_address (frame_word acts n) s.before) (λ v. chain (unrefused (perform p.limits.area (Fetch None) v)) Changed)
+    fetched_frame n = chain (put_address (frame_word p.limits.area acts n) s.before) (λ v. chain (unrefused (perform p.limits.area (Fetch None) v)) Changed)
 
     frame_does : (n : ℕ) (u : Use) → Computes u → line_of (order_of u) < 65536 → here_at + block_size (block.Operate (simple.Contents (cell.Frame n)) u) order.Save ≡ block_end → Code (simple.Contents (cell.Frame n)) u
         → Landed p image here_at g true acts s.before q → Ended u (chain (fetched_frame n) (outcome p.limits.area u))
     frame_does n u h small ends i l = cases acts refl
       where
-        cases : (xs : List OrderActivation) → acts ≡ xs → Ended u (chain (chain (put_address (frame_word xs n) s.before) (λ v. chain (unrefused (perform p.limits.area (Fetch None) v)) Changed)) (outcome p.limits.area u))
+        cases : (xs : List OrderActivation) → acts ≡ xs → Ended u (chain (chain (put_address (frame_word p.limits.area xs n) s.before) (λ v. chain (unrefused (perform p.limits.area (Fetch None) v)) Changed)) (outcome p.limits.area u))
         cases [] is = tt
-        cases (a ∷ under) is =
-            let v = s.before in
-            fetched_does ((a.frame_base + n) % 65536) (bound u) (line_of (order_of u)) (outcome p.limits.area u) (omega arith)
-            (λ k within same.
-            used_law (simple.Contents (cell.Frame n)) u (word_at v.memory k) h (memory_word k within) small ends i
-            (λ one. frame_from (setting known s) v.memory v.input v.output v.operands (room_in known s) l a under n k is within same (addressed n u one i))
-            (frame_product a under n k is within same l))
+        cases (a ∷ under) is = by_place (nat_lt (a.frame_base + n) p.limits.area) refl
+          where
+            by_place : (inside : Bool) → nat_lt (a.frame_base + n) p.limits.area ≡ inside
+                → Ended u (chain (chain (put_address (if inside then Some (a.frame_base + n) else None) s.before) (λ v. chain (unrefused (perform p.limits.area (Fetch None) v)) Changed)) (outcome p.limits.area u))
+            by_place false is_out = tt
+            by_place true is_in =
+                let v = s.before in
+                let inside = ltb-true (a.frame_base + n) p.limits.area is_in in
+                fetched_does (a.frame_base + n) (bound u) (line_of (order_of u)) (outcome p.limits.area u) (omega arith)
+                (λ k within same.
+                used_law (simple.Contents (cell.Frame n)) u (word_at v.memory k) h (memory_word k within) small ends i
+                (λ one. frame_from (setting known s) v.memory v.input v.output v.operands (room_in known s) l a under n k is within same (addressed n u one i))
+                (frame_product a under n k is within same l))
 
     computes_last : (o : Simple) (u : Use) (rest : List Order) → WithoutAddress o → Computes u → s.done ≡ suc (length (operand_orders o)) → drop s.from s.orders.list ≡ order.Save ∷ (operand_orders o ++ order_of u ∷ rest)
         → block_at 0 (drop s.from s.orders.list) ≡ block.Operate o u → Follow known (at g place loaded acts w Running) q
@@ -693,14 +700,20 @@ module _ (known : Given) where
         → Landed p image here_at g true acts s.before q → Chosen (way_after (fetched_frame n) (way_of c m))
     frame_chooses n c m ends i l = cases acts refl
       where
-        cases : (xs : List OrderActivation) → acts ≡ xs → Chosen (way_after (chain (put_address (frame_word xs n) s.before) (λ v. chain (unrefused (perform p.limits.area (Fetch None) v)) Changed)) (way_of c m))
+        cases : (xs : List OrderActivation) → acts ≡ xs → Chosen (way_after (chain (put_address (frame_word p.limits.area xs n) s.before) (λ v. chain (unrefused (perform p.limits.area (Fetch None) v)) Changed)) (way_of c m))
         cases [] is = tt
-        cases (a ∷ under) is =
-            let v = s.before in
-            fetched_chooses ((a.frame_base + n) % 65536) 10 (way_of c m) (omega arith)
-            (λ k within same.
-            compares_with (simple.Contents (cell.Frame n)) c m (word_at v.memory k) (memory_word k within) ends i
-            (frame_from (setting known s) v.memory v.input v.output v.operands (room_in known s) l a under n k is within same (addressed n (uses.Compare c m) tt i)))
+        cases (a ∷ under) is = by_place (nat_lt (a.frame_base + n) p.limits.area) refl
+          where
+            by_place : (inside : Bool) → nat_lt (a.frame_base + n) p.limits.area ≡ inside
+                → Chosen (way_after (chain (put_address (if inside then Some (a.frame_base + n) else None) s.before) (λ v. chain (unrefused (perform p.limits.area (Fetch None) v)) Changed)) (way_of c m))
+            by_place false is_out = tt
+            by_place true is_in =
+                let v = s.before in
+                let inside = ltb-true (a.frame_base + n) p.limits.area is_in in
+                fetched_chooses (a.frame_base + n) 10 (way_of c m) (omega arith)
+                (λ k within same.
+                compares_with (simple.Contents (cell.Frame n)) c m (word_at v.memory k) (memory_word k within) ends i
+                (frame_from (setting known s) v.memory v.input v.output v.operands (room_in known s) l a under n k is within same (addressed n (uses.Compare c m) tt i)))
 
     compares_last : (o : Simple) (c : Comparator) (m : ℕ) (rest : List Order) → WithoutAddress o → s.done ≡ suc (length (operand_orders o)) → drop s.from s.orders.list ≡ order.Save ∷ (operand_orders o ++ order.JumpIf c m ∷ rest)
         → block_at 0 (drop s.from s.orders.list) ≡ block.Operate o (uses.Compare c m) → Follow known (at g place loaded acts w Running) q

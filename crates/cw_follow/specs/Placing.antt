@@ -148,4 +148,4 @@ NeverStuck p memory input = (k : ℕ) → (shown_after (order_machine p) k (orde
 
 -- from the first instruction to the first order: the way past the library, and the entry of the first segment
 abbrev pub startup_cost : ℕ
-startup_cost = 14
+startup_cost = 12

@@ -1,7 +1,7 @@
 use Rattle.cw_follow.proofs.WordLaws.{WordLaws}
 use Rattle.cw_follow.proofs.RoutineLaws.{RoutineLaws}
 use Rattle.cw_follow.proofs.Rows.{Rows}
-use Rattle.cw_follow.proofs.Fields.{load_word, double_word}
+use Rattle.cw_follow.proofs.Fields.{load_word}
 use Rattle.cw_follow.proofs.Placement.{all_stand}
 use Rattle.cw_follow.proofs.Following.{following}
 use Rattle.cw_follow.proofs.laws.code_follows_orders.Goals as goal
@@ -75,7 +75,6 @@ returns c =
       store_field = c.fields-2.ensures.store_field;
       store_slot = c.fields-2.ensures.store_slot;
       load_word = load_word c.fetching.ensures.finds;
-      double_word = double_word c.fetching.ensures.finds;
       add = c.arithmetic.ensures.add;
       subtract = c.arithmetic.ensures.subtract;
       negate = c.arithmetic.ensures.negate;
