@@ -63,6 +63,8 @@ word_blank pre lead rest t =
 piece_blank : (pre rest : List ℕ) (p : Coded) → All (FillsBlank (pre ++ (bytes_with 0 p ++ rest))) (relocation_before (length pre + size_of p) (target_of p))
 piece_blank pre rest (coded.Whole i) = none _
 piece_blank pre rest (coded.Move reg t) = word_blank pre ((0xB8 + reg) ∷ []) rest t
+piece_blank pre rest (coded.Sum reg t) = word_blank pre (0x81 ∷ (64 * 3 + 8 * 0 + reg) ∷ []) rest t
+piece_blank pre rest (coded.Fetch reg t) = word_blank pre (0x8B ∷ (64 * 0 + 8 * reg + 6) ∷ []) rest t
 piece_blank pre rest (coded.Load t) = word_blank pre (0xA1 ∷ []) rest t
 piece_blank pre rest (coded.Store t) = word_blank pre (0xA3 ∷ []) rest t
 piece_blank pre rest (coded.Operate op reg t) = word_blank pre ((8 * op + 2 * 1 + 1) ∷ (64 * 0 + 8 * reg + 6) ∷ []) rest t
@@ -97,6 +99,8 @@ all_rise from at (coded.Load t ∷ ps) le = word_rises from (at + 3) t _ (omega 
 all_rise from at (coded.Store t ∷ ps) le = word_rises from (at + 3) t _ (omega arith) (all_rise (at + 3) (at + 3) ps (omega arith))
 all_rise from at (coded.Operate op reg t ∷ ps) le = word_rises from (at + 4) t _ (omega arith) (all_rise (at + 4) (at + 4) ps (omega arith))
 all_rise from at (coded.Change op reg t ∷ ps) le = word_rises from (at + 4) t _ (omega arith) (all_rise (at + 4) (at + 4) ps (omega arith))
+all_rise from at (coded.Sum reg t ∷ ps) le = word_rises from (at + 4) t _ (omega arith) (all_rise (at + 4) (at + 4) ps (omega arith))
+all_rise from at (coded.Fetch reg t ∷ ps) le = word_rises from (at + 4) t _ (omega arith) (all_rise (at + 4) (at + 4) ps (omega arith))
 all_rise from at (coded.Call t ∷ ps) le = word_rises from (at + 3) t _ (omega arith) (all_rise (at + 3) (at + 3) ps (omega arith))
 all_rise from at (coded.Jump t ∷ ps) le = word_rises from (at + 3) t _ (omega arith) (all_rise (at + 3) (at + 3) ps (omega arith))
 all_rise from at (coded.Word t ∷ ps) le = word_rises from (at + 2) t _ (omega arith) (all_rise (at + 2) (at + 2) ps (omega arith))

@@ -74,6 +74,8 @@ one_is : (value : Filling) (p : Coded) (rs : List Reloc) (base at : ℕ) (pre po
     ≡ fill value base rs ((pre ++ bytes_with (word_before value (base + (at + size_of p)) (target_of p)) p) ++ post)
 one_is value (coded.Whole i) rs base at pre post e = ap (fill value base rs) (sym (append_assoc pre (bytes_of i) post))
 one_is value (coded.Move reg t) rs base at pre post e = word_is value ((0xB8 + reg) ∷ []) t rs base at pre post e
+one_is value (coded.Sum reg t) rs base at pre post e = word_is value (0x81 ∷ (64 * 3 + 8 * 0 + reg) ∷ []) t rs base at pre post e
+one_is value (coded.Fetch reg t) rs base at pre post e = word_is value (0x8B ∷ (64 * 0 + 8 * reg + 6) ∷ []) t rs base at pre post e
 one_is value (coded.Load t) rs base at pre post e = word_is value (0xA1 ∷ []) t rs base at pre post e
 one_is value (coded.Store t) rs base at pre post e = word_is value (0xA3 ∷ []) t rs base at pre post e
 one_is value (coded.Operate op reg t) rs base at pre post e = word_is value ((8 * op + 2 * 1 + 1) ∷ (64 * 0 + 8 * reg + 6) ∷ []) t rs base at pre post e
@@ -87,6 +89,8 @@ one_is value (coded.Way t) rs base at pre post e = word_is value (0x2E ∷ 0xFF 
 pub size_with : (w : ℕ) (p : Coded) → length (bytes_with w p) ≡ size_of p
 size_with w (coded.Whole i) = refl
 size_with w (coded.Move reg t) = refl
+size_with w (coded.Sum reg t) = refl
+size_with w (coded.Fetch reg t) = refl
 size_with w (coded.Load t) = refl
 size_with w (coded.Store t) = refl
 size_with w (coded.Operate op reg t) = refl

@@ -24,9 +24,13 @@ front_is (x ∷ xs) (suc k) o e = front_is xs k o e
 abbrev pub BeginsWith : (before : List Order) → Order → List Order → Type 0
 BeginsWith before o os = os ≡ before ++ o ∷ drop (suc (length before)) os
 
--- the word that index 0 of an element names is known to be in the data area
+-- the word that index 0 of an element names is known to be in the data area, or all words between its bounds are
+abbrev pub TestNear : Element → Test → Type 0
+TestNear e (test.Address zero) = zero_word e.lower e.span e.first ≡ Some zero
+TestNear e (test.Bounds upper line) = is_within (upper -ℤ e.lower) e.span ≡ true
+
 abbrev pub IsNear : Element → Type 0
-IsNear e = zero_word e.lower e.span e.first ≡ Some e.zero
+IsNear e = TestNear e e.test
 
 -- what is known of the element of an operand
 abbrev pub OperandIs : Simple → Type 0

@@ -1,12 +1,14 @@
 -- How the orders of a list stand in blocks. A block has one piece of code. Its orders but the last only save the top operand, put a word, or
 -- make the address of an element; the code leaves that operand where it is, and takes the word from its own instruction or from memory. The
 -- address of an element may stop. A mark stands at the first order of a block alone.
-use Rattle.std.specs.Prelude.{◌≡◌, ℕ, zero, suc, ◌+◌, ◌-◌, ◌==◌, ◌&&◌, if◌then◌else◌, nat_lt, nat_le, ℤ, pos, negsuc, Bool, true, false, List, [], ◌∷◌, ◌++◌, length, Option, Some, None, slice_get}
+use Rattle.std.specs.Prelude.{◌≡◌, ℕ, zero, suc, ◌+◌, ◌-◌, ◌==◌, ◌&&◌, if◌then◌else◌, nat_lt, nat_le, int_le, ◌-ℤ◌, ℤ, pos, negsuc, Bool, true, false, List, [], ◌∷◌, ◌++◌, length, Option, Some, None, slice_get}
 use Rattle.cw_order.specs.declared.order.Order.{Order}
 use Rattle.cw_order.specs.declared.order.Order.TheVariants as order
 use Rattle.cw_tmpl.specs.declared.blocks.Place.{Place}
 use Rattle.cw_tmpl.specs.declared.blocks.Place.TheVariants as cell
 use Rattle.cw_tmpl.specs.declared.blocks.Element.{Element}
+use Rattle.cw_tmpl.specs.declared.blocks.Test.{Test}
+use Rattle.cw_tmpl.specs.declared.blocks.Test.TheVariants as test
 use Rattle.cw_tmpl.specs.declared.blocks.Simple.{Simple}
 use Rattle.cw_tmpl.specs.declared.blocks.Simple.TheVariants as simple
 use Rattle.cw_tmpl.specs.declared.blocks.Use.{Use}
@@ -21,9 +23,16 @@ abbrev pub address_orders : Place → List Order
 address_orders (cell.Word f n) = order.Home f n ∷ []
 address_orders (cell.Frame n) = order.FrameHome n ∷ []
 
+-- those that compare an index with its bounds
+abbrev pub bounds_orders : (lower : ℤ) → Test → List Order
+bounds_orders lower (test.Address zero) = []
+bounds_orders lower (test.Bounds upper line) = order.InBounds lower upper line ∷ []
+
 -- those that make the address of an element whose index stands at a place
 abbrev pub element_orders : Element → List Order
-element_orders e = address_orders e.index ++ order.Load ∷ order.Save ∷ order.Home e.family e.first ∷ order.Element e.lower e.span e.line ∷ []
+element_orders e =
+    address_orders e.index
+    ++ order.Load ∷ (bounds_orders e.lower e.test ++ order.Save ∷ order.Home e.family e.first ∷ order.Element e.lower e.span e.line ∷ [])
 
 -- those that put a simple operand
 abbrev pub operand_orders : Simple → List Order
@@ -112,17 +121,39 @@ zero_word (pos zero) span first = zero_behind 0 span first
 zero_word (pos (suc n)) span first = None
 zero_word (negsuc n) span first = zero_behind (suc n) span first
 
-abbrev pub element_with : Option ℕ → (index : Place) → (family first : ℕ) → (lower : ℤ) → (span line : ℕ) → Option Element
-element_with None x f n l s line = None
-element_with (Some z) x f n l s line = Some (record { index = x; family = f; first = n; lower = l; span = s; line = line; zero = z })
+abbrev pub address_test : Option ℕ → Option Test
+address_test None = None
+address_test (Some zero) = Some (test.Address zero)
 
--- four orders behind the address of the place where the index stands
-abbrev pub element_of : Place → (loads saves puts forms : Option Order) → Option Element
-element_of x (Some order.Load) (Some order.Save) (Some (order.Home f n)) (Some (order.Element l s line)) = element_with (zero_word l s n) x f n l s line
+-- how many words are between the lower bound and the upper one: the first one's is 0
+abbrev pub is_within : (last : ℤ) → (span : ℕ) → Bool
+is_within (pos n) span = nat_lt n span
+is_within (negsuc n) span = false
+
+-- An index between its bounds names a word that is known to be in the data area, where the item begins at the lower one.
+abbrev pub bounds_test : (lower upper : ℤ) → (line : ℕ) → (begins : ℤ) → (span : ℕ) → Option Test
+bounds_test lower upper line begins span =
+    if (int_le lower begins && int_le begins lower) && is_within (upper -ℤ lower) span then Some (test.Bounds upper line) else None
+
+abbrev pub element_with : Option Test → (index : Place) → (family first : ℕ) → (lower : ℤ) → (span line : ℕ) → Option Element
+element_with None x f n l s line = None
+element_with (Some t) x f n l s line = Some (record { index = x; family = f; first = n; lower = l; span = s; line = line; test = t })
+
+-- the orders behind the load of the index
+abbrev pub element_of : Place → (second third fourth fifth : Option Order) → Option Element
+element_of x (Some order.Save) (Some (order.Home f n)) (Some (order.Element l s line)) _ = element_with (address_test (zero_word l s n)) x f n l s line
+element_of x (Some (order.InBounds l u at)) (Some order.Save) (Some (order.Home f n)) (Some (order.Element begins s line)) =
+    element_with (bounds_test l u at begins s) x f n begins s line
 element_of x _ _ _ _ = None
 
+-- and from that load on, behind the address of the place where the index stands
+abbrev pub element_loaded : Place → (loads second third fourth fifth : Option Order) → Option Element
+element_loaded x (Some order.Load) second third fourth fifth = element_of x second third fourth fifth
+element_loaded x _ second third fourth fifth = None
+
 abbrev pub element_behind : Place → (behind : ℕ) → List Order → Option Element
-element_behind x k os = element_of x (slice_get os k) (slice_get os (k + 1)) (slice_get os (k + 2)) (slice_get os (k + 3))
+element_behind x k os =
+    element_loaded x (slice_get os k) (slice_get os (k + 1)) (slice_get os (k + 2)) (slice_get os (k + 3)) (slice_get os (k + 4))
 
 abbrev pub element_at : Option Place → List Order → Option Element
 element_at None os = None

@@ -161,6 +161,10 @@ operate op to rm = i86.AluRm op true true to rm
 abbrev pub change : ℕ → Rm → ℕ → Instr
 change op rm from = i86.AluRm op true false from rm
 
+-- an operation of the arithmetic unit on a register and a number
+abbrev pub operate_number : ℕ → ℕ → ℕ → Instr
+operate_number op reg w = i86.AluImm op (rms.Reg reg) (imm.Word w)
+
 abbrev pub change_memory : ℕ → (offset : ℕ) → ℕ → Instr
 change_memory op offset from = change op (memory (places.Direct offset)) from
 

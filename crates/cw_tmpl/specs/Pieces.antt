@@ -5,7 +5,8 @@ use Rattle.cw_i86.specs.declared.instr.Imm.TheVariants as imm
 use Rattle.cw_i86.specs.declared.instr.Instr.TheVariants as i86
 use Rattle.cw_run86.specs.Views.{with_memory}
 use Rattle.cw_unit.specs.declared.layout.Reloc.{Reloc}
-use Rattle.cw_tmpl.specs.Mnemonics.{entry_of_table, change_memory}
+use Rattle.cw_i86.specs.declared.instr.Place.TheVariants as places
+use Rattle.cw_tmpl.specs.Mnemonics.{entry_of_table, change_memory, operate_number, load, memory}
 use Rattle.cw_tmpl.specs.declared.pieces.Limit.{Limit}
 use Rattle.cw_tmpl.specs.declared.pieces.Limit.TheVariants as limit
 use Rattle.cw_tmpl.specs.declared.pieces.Target.{Target}
@@ -17,6 +18,8 @@ use Rattle.cw_tmpl.specs.declared.pieces.Coded.TheVariants as coded
 abbrev pub bytes_with : ℕ → Coded → List ℕ
 bytes_with w (coded.Whole i) = bytes_of i
 bytes_with w (coded.Move reg t) = bytes_of (i86.MovImm reg (imm.Word w))
+bytes_with w (coded.Sum reg t) = bytes_of (operate_number 0 reg w)
+bytes_with w (coded.Fetch reg t) = bytes_of (load reg (memory (places.Direct w)))
 bytes_with w (coded.Load t) = bytes_of (i86.MovAcc false true false w)
 bytes_with w (coded.Store t) = bytes_of (i86.MovAcc false true true w)
 bytes_with w (coded.Operate op reg t) = bytes_of (with_memory op reg w)
@@ -34,6 +37,8 @@ size_of p = length (bytes_with 0 p)
 abbrev pub target_of : Coded → Option Target
 target_of (coded.Whole i) = None
 target_of (coded.Move reg t) = Some t
+target_of (coded.Sum reg t) = Some t
+target_of (coded.Fetch reg t) = Some t
 target_of (coded.Load t) = Some t
 target_of (coded.Store t) = Some t
 target_of (coded.Operate op reg t) = Some t
@@ -48,6 +53,8 @@ target_of (coded.Way t) = Some t
 abbrev pub IsCoded : Coded → Type 0
 IsCoded (coded.Whole i) = IsInstr i
 IsCoded (coded.Move reg t) = IsInstr (i86.MovImm reg (imm.Word 0))
+IsCoded (coded.Sum reg t) = IsInstr (operate_number 0 reg 0)
+IsCoded (coded.Fetch reg t) = IsInstr (load reg (memory (places.Direct 0)))
 IsCoded (coded.Load t) = Unit {0}
 IsCoded (coded.Store t) = Unit {0}
 IsCoded (coded.Operate op reg t) = IsInstr (with_memory op reg 0)

@@ -4,7 +4,7 @@
 -- are in words, and DI has their number. A stop is called in the library, with the line behind the call; a routine that may stop, and a call,
 -- take the line in DX. The segment is told by the activation record. A jump goes by the distance from its end, so its code hangs on where it
 -- stands, and on where the marks' code starts: both are places in the code of the segment.
-use Rattle.std.specs.Prelude.{ℕ, ◌*◌, zero, suc, ◌+◌, ◌-◌, ◌%◌, ◌^◌, ◌==◌, nat_lt, nat_le, ℤ, pos, negsuc, Bool, true, false, List, [], ◌∷◌, ◌++◌, length, if◌then◌else◌, Option, Some, None}
+use Rattle.std.specs.Prelude.{ℕ, ◌*◌, zero, suc, ◌+◌, ◌-◌, ◌%◌, ◌^◌, ◌==◌, nat_lt, nat_le, ℤ, pos, negsuc, ◌-ℤ◌, Bool, true, false, List, [], ◌∷◌, ◌++◌, length, if◌then◌else◌, Option, Some, None}
 use Rattle.cw_i86.specs.declared.instr.Instr.{Instr}
 use Rattle.cw_i86.specs.declared.instr.Instr.TheVariants as i86
 use Rattle.cw_run86.specs.Views.{with_number, Comparison, Equal, Unequal, Less, NotLess, AtMost, Greater, condition_of}
@@ -25,13 +25,15 @@ use Rattle.cw_tmpl.specs.declared.pieces.Coded.TheVariants as coded
 use Rattle.cw_tmpl.specs.declared.blocks.Place.{Place}
 use Rattle.cw_tmpl.specs.declared.blocks.Place.TheVariants as cell
 use Rattle.cw_tmpl.specs.declared.blocks.Element.{Element}
+use Rattle.cw_tmpl.specs.declared.blocks.Test.{Test}
+use Rattle.cw_tmpl.specs.declared.blocks.Test.TheVariants as test
 use Rattle.cw_tmpl.specs.declared.blocks.Simple.{Simple}
 use Rattle.cw_tmpl.specs.declared.blocks.Simple.TheVariants as simple
 use Rattle.cw_tmpl.specs.declared.blocks.Use.{Use}
 use Rattle.cw_tmpl.specs.declared.blocks.Use.TheVariants as uses
 use Rattle.cw_tmpl.specs.declared.blocks.Block.{Block}
 use Rattle.cw_tmpl.specs.declared.blocks.Block.TheVariants as block
-use Rattle.cw_tmpl.specs.Mnemonics.{ax, bx, cx, dx, sp, bp, si, di, segment_slot, base_slot, base_record, base_operands, record_depth, slot, argument, at_bx, at_si, field, set_word, load, store, move, add, subtract, compare, exchange, negate, double, both, either, one_of, shift_up, shift_down, shift_down_signed, multiply, divide_signed, jump_to, nothing, jump_if_no_overflow, jump_if_below, jump_if_unequal, jump_if_not_less, jump_if_at_most, operate, change, increase, decrease, shift_up_once, shift_down_once, shift_down_signed_once}
+use Rattle.cw_tmpl.specs.Mnemonics.{ax, bx, cx, dx, sp, bp, si, di, segment_slot, base_slot, base_record, base_operands, record_depth, slot, argument, at_bx, at_si, field, set_word, load, store, move, add, subtract, compare, exchange, negate, double, both, either, one_of, shift_up, shift_down, shift_down_signed, multiply, divide_signed, jump_to, nothing, jump_if_no_overflow, jump_if_below, jump_if_unequal, jump_if_not_less, jump_if_at_most, operate, change, increase, decrease, shift_up_once, shift_down_once, shift_down_signed_once, operate_number}
 use Rattle.cw_tmpl.specs.Library.{start_entry, overflow_entry, zero_divisor_entry, address_entry, switch_entry, bounds_entry, enter_entry, read_entry, product_entry, quotient_down_entry, quotient_up_entry, set_variable_entry, add_step_entry, put_variable_entry, exhausted_entry}
 use Rattle.cw_tmpl.specs.Pieces.{blanks}
 use Rattle.cw_tmpl.specs.Names.{Names, no_names, mark_place, label_start, procedure_start, switch_start, own}
@@ -410,17 +412,46 @@ abbrev pub change_place : ℕ → Place → Coded
 change_place op (cell.Word family offset) = coded.Change op ax (target.Bytes family offset)
 change_place op (cell.Frame n) = coded.Whole (change op (field (2 * n % 65536)) ax)
 
+-- SI from a place
+abbrev pub index_loaded : (index : Place) → List Coded
+index_loaded (cell.Word f n) = coded.Fetch si (target.Bytes f n) ∷ []
+index_loaded (cell.Frame n) = coded.Whole (load bx (slot base_slot)) ∷ coded.Whole (load si (field (2 * n % 65536))) ∷ []
+
+-- less a lower bound
+abbrev pub from_lower : (lower : ℤ) → List Coded
+from_lower (pos zero) = []
+from_lower lower = coded.Whole (operate_number 5 si (unsigned lower)) ∷ []
+
+-- how many indexes are between the bounds
+abbrev pub indexes_between : (last : ℤ) → ℕ
+indexes_between (pos n) = suc n
+indexes_between (negsuc n) = 0
+
 -- SI with the address of a word of a family and the word at a place added
 abbrev pub index_added : (index : Place) → (family offset : ℕ) → List Coded
 index_added (cell.Word f n) family offset = coded.Move si (target.Word family offset) ∷ coded.Operate 0 si (target.Bytes f n) ∷ []
 index_added (cell.Frame n) family offset =
     coded.Whole (load bx (slot base_slot)) ∷ coded.Move si (target.Word family offset) ∷ coded.Whole (operate 0 si (field (2 * n % 65536))) ∷ []
 
--- the address of an element, tested and doubled, in SI
-abbrev pub element_address : Element → List Coded
-element_address e =
-    index_added e.index e.family e.zero
+-- the address of an element, doubled, in SI: it is tested, or the index is
+abbrev pub address_tested : Element → (zero : ℕ) → List Coded
+address_tested e zero =
+    index_added e.index e.family zero
     ++ coded.Whole (compare si di) ∷ coded.Whole (jump_if_below 5) ∷ (call_stop address_entry e.line ++ coded.Whole (double si) ∷ [])
+
+abbrev pub index_tested : Element → (upper : ℤ) → (line : ℕ) → List Coded
+index_tested e upper line =
+    index_loaded e.index
+    ++ (from_lower e.lower
+    ++ coded.Whole (operate_number 7 si (indexes_between (upper -ℤ e.lower))) ∷ coded.Whole (jump_if_below 5)
+    ∷ (call_stop bounds_entry line ++ coded.Sum si (target.Word e.family e.first) ∷ coded.Whole (double si) ∷ []))
+
+abbrev pub element_tested : Element → Test → List Coded
+element_tested e (test.Address zero) = address_tested e zero
+element_tested e (test.Bounds upper line) = index_tested e upper line
+
+abbrev pub element_address : Element → List Coded
+element_address e = element_tested e e.test
 
 -- the same with a simple operand
 abbrev pub operand_pieces : Simple → List Coded
@@ -529,6 +560,15 @@ part_size t b false = shift_size b + lowest_size (t + b == 16)
 abbrev pub index_size : Place → ℕ
 index_size (cell.Word f n) = 7
 index_size (cell.Frame n) = 10
+
+-- the address of an element, in SI: an index that is compared with its bounds has 3 bytes less before the test, and 4 for a lower bound
+abbrev pub lower_size : ℤ → ℕ
+lower_size (pos zero) = 0
+lower_size lower = 4
+
+abbrev pub element_size : Element → Test → ℕ
+element_size e (test.Address zero) = index_size e.index + 11
+element_size e (test.Bounds upper line) = index_size e.index + lower_size e.lower + 14
 
 -- the same, order by order
 abbrev pub listed_size : Order → ℕ

@@ -4,7 +4,7 @@ ghost use Rattle.cw_i86.specs.Encoding.{bytes_of, IsInstr};
 ghost use Rattle.cw_tmpl.specs.Assembling.{Adds};
 ghost use Rattle.cw_tmpl.specs.Pieces.{relocation_of, IsCoded, AllCoded};
 
-use crate::instructions::{AT_ZERO, change, entry_of_table};
+use crate::instructions::{AT_ZERO, change, entry_of_table, load, operate_number};
 use crate::pieces::{Coded, Limit, Target};
 use cw_enc86::encode;
 use cw_i86::{Imm, Instr, Mem, Place, Rm};
@@ -105,6 +105,14 @@ impl Assembly {
                     reg,
                     imm: Imm::Word(0),
                 })?;
+                self.relocate(target)
+            }
+            Coded::Sum { reg, target } => {
+                self.put_instruction(&operate_number(0, reg, 0))?;
+                self.relocate(target)
+            }
+            Coded::Fetch { reg, target } => {
+                self.put_instruction(&load(reg, AT_ZERO))?;
                 self.relocate(target)
             }
             Coded::Load(target) => {

@@ -1,7 +1,7 @@
 //! Blocks: orders that have one piece of code together. The orders before the last only save the top operand, put a word, or make
 //! the address of an element; the code leaves the one where it is, and takes the other from its instruction or from memory.
 ghost use Rattle.std.specs.Prelude.{◌≡◌, ◌<◌, length, drop, slice_get};
-ghost use Rattle.cw_tmpl.specs.Blocks.{address_orders, element_orders, use_of, is_part, NamesParts, zero_word, element_behind, element_at, with_use, fetched, assigned, is_plain_divisor, exponent_of, halving_places, halved, divided, counted, number_scaled, with_number, saved, place_at, fetched_from, saved_from, element_fetched, element_used, element_saved, fetched_or, saved_or, block_if_saved, block_at, orders_left};
+ghost use Rattle.cw_tmpl.specs.Blocks.{address_orders, element_orders, use_of, is_part, NamesParts, zero_word, address_test, bounds_test, element_behind, element_at, with_use, fetched, assigned, is_plain_divisor, exponent_of, halving_places, halved, divided, counted, number_scaled, with_number, saved, place_at, fetched_from, saved_from, element_fetched, element_used, element_saved, fetched_or, saved_or, block_if_saved, block_at, orders_left};
 
 use cw_order::{Comparator, Order};
 
@@ -14,9 +14,18 @@ pub enum Place {
     Frame(u16),
 }
 
+/// How it is found out whether there is an element.
+#[derive(Clone, Copy)]
+pub enum Test {
+    /// Its address is compared with the length of the data area. `zero` is the offset in the family of the word that index 0 names.
+    Address { zero: u16 },
+    /// The index is compared with its bounds, between which the words are known to be in the data area; elsewhere it stops with Bounds at
+    /// this line.
+    Bounds { upper: i16, line: u16 },
+}
+
 /// An element of an item whose first word stands in a storage family: its index stands at a place and counts from `lower`, and
-/// so many words from the first one on are in the data area (`span`). Where that is the word of no element, it stops at its line. `zero`
-/// is the offset in the family of the word that index 0 names.
+/// so many words from the first one on are in the data area (`span`). Where its address is that of no word, it stops at its line.
 #[derive(Clone, Copy)]
 pub struct Element {
     pub index: Place,
@@ -25,7 +34,7 @@ pub struct Element {
     pub lower: i16,
     pub span: u16,
     pub line: u16,
-    pub zero: u16,
+    pub test: Test,
 }
 
 /// An operand that an instruction names.
@@ -162,24 +171,47 @@ fn zero_word(lower: i16, span: u16, first: u16) -> Option<u16>
     }
 }
 
-/// The element whose index stands at a place, where four orders behind its address make the address of one.
+/// The test of the address, where one compare is enough.
+fn address_test(lower: i16, span: u16, first: u16) -> Option<Test>
+    ensures { result ≡ address_test (zero_word lower span first) }
+{
+    let zero = zero_word(lower, span, first)?;
+    Some(Test::Address { zero })
+}
+
+/// The test of an index with bounds, where an element begins at the lower one and all words between them are known to be in the data area.
+fn bounds_test(lower: i16, upper: i16, line: u16, begins: i16, span: u16) -> Option<Test>
+    ensures { result ≡ bounds_test lower upper line begins span }
+{
+    let last = i32::from(upper) - i32::from(lower);
+    if lower == begins && 0 <= last && last < i32::from(span) {
+        Some(Test::Bounds { upper, line })
+    } else {
+        None
+    }
+}
+
+/// The element whose index stands at a place, where four orders behind its address make the address of one, or five with a test of its bounds.
 fn element_behind(index: Place, orders: &[Order], behind: usize) -> Option<Element>
     requires { behind < 8 }
     ensures { result ≡ element_behind index behind orders.now }
 {
+    if !matches!(orders.get(behind), Some(Order::Load)) {
+        return None;
+    }
     match (
-        orders.get(behind),
         orders.get(behind + 1),
         orders.get(behind + 2),
         orders.get(behind + 3),
+        orders.get(behind + 4),
     ) {
         (
-            Some(Order::Load),
             Some(Order::Save),
             Some(Order::Home { family, offset }),
             Some(Order::Element { lower, span, line }),
+            _,
         ) => {
-            let zero = zero_word(*lower, *span, *offset)?;
+            let test = address_test(*lower, *span, *offset)?;
             Some(Element {
                 index,
                 family: *family,
@@ -187,7 +219,32 @@ fn element_behind(index: Place, orders: &[Order], behind: usize) -> Option<Eleme
                 lower: *lower,
                 span: *span,
                 line: *line,
-                zero,
+                test,
+            })
+        }
+        (
+            Some(Order::InBounds {
+                lower,
+                upper,
+                line: at,
+            }),
+            Some(Order::Save),
+            Some(Order::Home { family, offset }),
+            Some(Order::Element {
+                lower: begins,
+                span,
+                line,
+            }),
+        ) => {
+            let test = bounds_test(*lower, *upper, *at, *begins, *span)?;
+            Some(Element {
+                index,
+                family: *family,
+                first: *offset,
+                lower: *begins,
+                span: *span,
+                line: *line,
+                test,
             })
         }
         _ => None,
@@ -206,7 +263,11 @@ fn element_at(orders: &[Order]) -> Option<Element>
 fn orders_of_element(element: Element) -> usize
     ensures { result ≡ length (element_orders element) }
 {
-    orders_of_address(element.index) + 4
+    let tested = match element.test {
+        Test::Address { .. } => 0,
+        Test::Bounds { .. } => 1,
+    };
+    orders_of_address(element.index) + 4 + tested
 }
 
 fn with_use(operand: Simple, with: Option<Use>) -> Block

@@ -59,6 +59,17 @@ pub const AT_ZERO: Rm = Rm::Mem(Mem {
     place: Place::Direct(0),
 });
 
+/// An operation of the arithmetic unit on a register and a number.
+pub fn operate_number(operation: u8, reg: u8, word: u16) -> Instr
+    ensures { result ≡ mnemonics.operate_number operation reg word }
+{
+    Instr::AluImm {
+        op: operation,
+        rm: Rm::Reg(reg),
+        imm: Imm::Word(word),
+    }
+}
+
 /// MOV of a word into a register.
 pub fn set_word(reg: u8, word: u16) -> Instr
     ensures { result ≡ mnemonics.set_word reg word }

@@ -43,6 +43,16 @@ pub enum Coded {
         reg: u8,
         target: Target,
     },
+    /// ADD of the word to a register.
+    Sum {
+        reg: u8,
+        target: Target,
+    },
+    /// MOV of the word of the data segment at the word into a register.
+    Fetch {
+        reg: u8,
+        target: Target,
+    },
     /// MOV of the word of the data segment at the word into AX.
     Load(Target),
     /// MOV of AX into the word of the data segment at the word.
