@@ -16,6 +16,8 @@ use Rattle.cw_unit.specs.declared.layout.Family.{Family}
 use Rattle.cw_tmpl.specs.declared.blocks.Place.{Place}
 use Rattle.cw_tmpl.specs.declared.blocks.Place.TheVariants as cell
 use Rattle.cw_tmpl.specs.declared.blocks.Element.{Element}
+use Rattle.cw_tmpl.specs.declared.blocks.Test.{Test}
+use Rattle.cw_tmpl.specs.declared.blocks.Test.TheVariants as test
 use Rattle.cw_tmpl.specs.declared.blocks.Simple.{Simple}
 use Rattle.cw_tmpl.specs.declared.blocks.Simple.TheVariants as simple
 use Rattle.cw_tmpl.specs.declared.blocks.Use.{Use}
@@ -24,7 +26,7 @@ use Rattle.cw_tmpl.specs.declared.blocks.Block.{Block}
 use Rattle.cw_tmpl.specs.declared.blocks.Block.TheVariants as block
 use Rattle.cw_tmpl.specs.Pieces.{blanks}
 use Rattle.cw_tmpl.specs.Names.{mark_place, way_to_label, landing_start, switch_size}
-use Rattle.cw_tmpl.specs.Blocks.{address_orders, element_orders, operand_orders, order_of, count_order, block_at, orders_left}
+use Rattle.cw_tmpl.specs.Blocks.{address_orders, element_orders, operand_orders, order_of, count_order, block_at, orders_left, bounds_orders}
 use Rattle.cw_tmpl.proofs.Shapes.{IsBlock, shape}
 use Rattle.cw_tmpl.specs.Templates.{block_size, entry_pieces}
 use Rattle.cw_tmpl.specs.ReferenceCode.{templates, landings, switches, entry_size, order_places, switch_places, switch_sizes, landings_place, switches_place, names_of, mark_starts, label_starts, statement_at, statements_from, orders_code}
@@ -61,8 +63,14 @@ place-ends : (x : Place) → All-end (address_orders x)
 place-ends (cell.Word f n) = refl
 place-ends (cell.Frame n) = refl
 
+test-ends : (e : Element) (t : Test) → All-end (order.Load ∷ (bounds_orders e.lower t ++ order.Save ∷ order.Home e.family e.first ∷ order.Element e.lower e.span e.line ∷ []))
+test-ends e (test.Address zero) = refl
+test-ends e (test.Bounds upper line) = refl
+
 element-ends : (e : Element) → All-end (element_orders e)
-element-ends e = end-both (address_orders e.index) (order.Load ∷ order.Save ∷ order.Home e.family e.first ∷ order.Element e.lower e.span e.line ∷ []) (place-ends e.index) refl
+element-ends e =
+    end-both (address_orders e.index) (order.Load ∷ (bounds_orders e.lower e.test ++ order.Save ∷ order.Home e.family e.first ∷ order.Element e.lower e.span e.line ∷ []))
+    (place-ends e.index) (test-ends e e.test)
 
 operand-ends : (s : Simple) → All-end (operand_orders s)
 operand-ends (simple.Element e) = end-both (element_orders e) (order.Load ∷ []) (element-ends e) refl

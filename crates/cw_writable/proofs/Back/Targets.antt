@@ -1,5 +1,5 @@
 -- The words that the linker fills in the code of orders that name what there is.
-use Rattle.std.proofs.Common.{◌≡◌, ℕ, zero, suc, ◌+◌, ◌-◌, ◌%◌, ◌<◌, ◌≤◌, nat_le, nat_lt, List, [], ◌∷◌, ◌++◌, length, All, Bool, true, false, IsTrue, ◌&&◌, if◌then◌else◌, ◌==◌, ◌^◌, ℤ, pos, negsuc, Option, Some, None, is_some, slice_get, slice_index, refl, sym, subst, arith, drop, ap, ◌∙◌, append_assoc}
+use Rattle.std.proofs.Common.{◌≡◌, ℕ, zero, suc, ◌+◌, ◌-◌, ◌%◌, ◌<◌, ◌≤◌, nat_le, nat_lt, List, [], ◌∷◌, ◌++◌, length, All, Bool, true, false, IsTrue, ◌&&◌, if◌then◌else◌, ◌==◌, ◌^◌, ℤ, pos, negsuc, ◌-ℤ◌, Option, Some, None, is_some, slice_get, slice_index, refl, sym, subst, arith, drop, ap, ◌∙◌, append_assoc}
 use Rattle.std.proofs.lemmas.Bool.{ltb-true}
 use Rattle.std.proofs.lemmas.Bool.Decides.{nat_tests}
 use Rattle.std.specs.List.{list_all}
@@ -16,22 +16,24 @@ use Rattle.cw_tmpl.specs.declared.pieces.Target.{Target}
 use Rattle.cw_tmpl.specs.declared.pieces.Target.TheVariants as target
 use Rattle.cw_tmpl.specs.declared.pieces.Coded.{Coded}
 use Rattle.cw_tmpl.specs.declared.pieces.Coded.TheVariants as pieces
-use Rattle.cw_tmpl.specs.Mnemonics.{ax, cx, si, di, at_si, load, store, compare, double, multiply, operate, jump_if_below}
+use Rattle.cw_tmpl.specs.Mnemonics.{ax, cx, si, di, at_si, load, store, compare, double, multiply, operate, jump_if_below, operate_number}
 use Rattle.cw_tmpl.specs.declared.blocks.Use.{Use}
 use Rattle.cw_tmpl.specs.declared.blocks.Use.TheVariants as uses
 use Rattle.cw_tmpl.specs.Pieces.{size_of, target_of, relocation_of, relocation_before, relocations}
 use Rattle.cw_tmpl.specs.Names.{Names, mark_place, label_start, procedure_start, switch_start, landing_size, switch_size, own}
-use Rattle.cw_tmpl.specs.Library.{overflow_entry, address_entry}
+use Rattle.cw_tmpl.specs.Library.{overflow_entry, address_entry, bounds_entry}
 use Rattle.cw_tmpl.specs.declared.blocks.Place.{Place}
 use Rattle.cw_tmpl.specs.declared.blocks.Place.TheVariants as cell
 use Rattle.cw_tmpl.specs.declared.blocks.Element.{Element}
+use Rattle.cw_tmpl.specs.declared.blocks.Test.{Test}
+use Rattle.cw_tmpl.specs.declared.blocks.Test.TheVariants as test
 use Rattle.cw_tmpl.specs.declared.blocks.Simple.{Simple}
 use Rattle.cw_tmpl.specs.declared.blocks.Simple.TheVariants as simple
 use Rattle.cw_tmpl.specs.declared.blocks.Block.{Block}
 use Rattle.cw_tmpl.specs.declared.blocks.Block.TheVariants as block
-use Rattle.cw_tmpl.specs.Blocks.{address_orders, element_orders, operand_orders, zero_word, block_at, orders_left}
-use Rattle.cw_tmpl.proofs.Shapes.{IsBlock, IsNear, OperandIs, shape}
-use Rattle.cw_tmpl.specs.Templates.{template, mark_words, goal_words, landing_pieces, switch_pieces, times_if, times, rescale_if, product_start, product_down, less_bound, plus_word, times_width, based, in_row, element_of_two, block_pieces, block_size, entry_pieces, checked, address_pieces, load_place, store_place, with_operand, product_with, operated, shifted, shifted_up, shifted_down, shifted_down_signed, lowest_if, part_taken, operate_place, change_place, index_added, element_address, call_stop}
+use Rattle.cw_tmpl.specs.Blocks.{address_orders, bounds_orders, element_orders, operand_orders, zero_word, block_at, orders_left}
+use Rattle.cw_tmpl.proofs.Shapes.{IsBlock, IsNear, TestNear, OperandIs, shape}
+use Rattle.cw_tmpl.specs.Templates.{template, mark_words, goal_words, landing_pieces, switch_pieces, times_if, times, rescale_if, product_start, product_down, less_bound, plus_word, times_width, based, in_row, element_of_two, block_pieces, block_size, entry_pieces, checked, address_pieces, load_place, store_place, with_operand, product_with, operated, shifted, shifted_up, shifted_down, shifted_down_signed, lowest_if, part_taken, operate_place, change_place, index_added, index_loaded, from_lower, indexes_between, element_tested, element_address, call_stop}
 use Rattle.cw_tmpl.specs.ReferenceCode.{templates, landings, switches, entry_size, landings_place, switches_place, names_of, pieces_of}
 use Rattle.cw_tmpl.specs.Blanks.{FillsBlank, Rise}
 use Rattle.cw_view.specs.ObjectFormat.{is_blank, has_index}
@@ -248,17 +250,38 @@ module _ (n : ℕ) (fs : List Family) where
   named-there _ (begun line os h r) zero f m e = absurd (cc)
   named-there _ (begun line os h r) (suc k) f m e = named-there os r k f m e
 
-  -- the index of an element, and the word that index 0 names
+  -- the index of an element, and the word that its address begins with
+  abbrev TestNamed : Element → Test → Type 0
+  TestNamed e (test.Address zero) = IsTrue (is_place fs e.family zero)
+  TestNamed e (test.Bounds upper line) = IsTrue (is_place fs e.family e.first)
+
   abbrev ElementNamed : Element → Type 0
-  ElementNamed e = Named e.index × IsTrue (is_place fs e.family e.zero)
+  ElementNamed e = Named e.index × TestNamed e e.test
+
+  loaded-sound : (x : Place) → Named x → Sound (index_loaded x)
+  loaded-sound (cell.Word f k) h = only (is_place fs f k) h
+  loaded-sound (cell.Frame k) h = refl
+
+  lower-sound : (lower : ℤ) → Sound (from_lower lower)
+  lower-sound (pos zero) = refl
+  lower-sound (pos (suc n)) = refl
+  lower-sound (negsuc n) = refl
 
   index-sound : (x : Place) (family offset : ℕ) → Named x → IsTrue (is_place fs family offset) → Sound (index_added x family offset)
   index-sound (cell.Word f k) family offset h z = both (is_place fs family offset) (is_place fs f k && true) z (only (is_place fs f k) h)
   index-sound (cell.Frame k) family offset h z = both (is_place fs family offset) true z refl
 
+  tested-sound : (e : Element) (t : Test) → Named e.index → TestNamed e t → Sound (element_tested e t)
+  tested-sound e (test.Address zero) named h =
+      sound-both (index_added e.index e.family zero) (pieces.Whole (compare si di) ∷ pieces.Whole (jump_if_below 5) ∷ (call_stop address_entry e.line ++ pieces.Whole (double si) ∷ []))
+      (index-sound e.index e.family zero named h) refl
+  tested-sound e (test.Bounds upper line) named h =
+      let compared : List Coded = pieces.Whole (operate_number 7 si (indexes_between (upper -ℤ e.lower))) ∷ pieces.Whole (jump_if_below 5)
+          ∷ (call_stop bounds_entry line ++ pieces.Sum si (target.Word e.family e.first) ∷ pieces.Whole (double si) ∷ []) in
+      sound-both (index_loaded e.index) (from_lower e.lower ++ compared) (loaded-sound e.index named) (sound-both (from_lower e.lower) compared (lower-sound e.lower) (only (is_place fs e.family e.first) h))
+
   element-sound : (e : Element) → ElementNamed e → Sound (element_address e)
-  element-sound e h =
-      sound-both (index_added e.index e.family e.zero) (pieces.Whole (compare si di) ∷ pieces.Whole (jump_if_below 5) ∷ (call_stop address_entry e.line ++ pieces.Whole (double si) ∷ [])) (index-sound e.index e.family e.zero h.0 h.1) refl
+  element-sound e h = tested-sound e e.test h.0 h.1
 
   change-sound : (x : Place) (p : Coded) → IsTrue (is_piece p) → Named x → Sound (address_pieces x ++ operate_place 6 x ∷ p ∷ change_place 6 x ∷ [])
   change-sound (cell.Word f k) p h named = both (is_place fs f k) (is_piece p && (is_place fs f k && true)) named (both (is_piece p) (is_place fs f k && true) h (only (is_place fs f k) named))
@@ -298,24 +321,35 @@ module _ (n : ℕ) (fs : List Family) where
       behind x rest e = named-first x rest (subst Placed (ap (drop 1) e) (first-placed os r))
 
       -- the word that index 0 names is a place where the first word is one
-      zero-named : (e : Element) → IsNear e → IsTrue (is_place fs e.family e.first) → IsTrue (is_place fs e.family e.zero)
-      zero-named e near h =
+      zero-named : (e : Element) (zero : ℕ) → zero_word e.lower e.span e.first ≡ Some zero → IsTrue (is_place fs e.family e.first) → IsTrue (is_place fs e.family zero)
+      zero-named e zero near h =
           let p = parts (is_some (slice_get fs e.family)) (nat_lt e.family 65536 && nat_lt e.first 65536) h in
-          both (is_some (slice_get fs e.family)) (nat_lt e.family 65536 && nat_lt e.zero 65536) p.0 (both (nat_lt e.family 65536) (nat_lt e.zero 65536) (parts (nat_lt e.family 65536) (nat_lt e.first 65536) p.1).0 (lt_true e.zero 65536 (zero-small e.lower e.span e.first e.zero near)))
+          both (is_some (slice_get fs e.family)) (nat_lt e.family 65536 && nat_lt zero 65536) p.0 (both (nat_lt e.family 65536) (nat_lt zero 65536) (parts (nat_lt e.family 65536) (nat_lt e.first 65536) p.1).0 (lt_true zero 65536 (zero-small e.lower e.span e.first zero near)))
 
-      home-at : (x : Place) (f k : ℕ) (l : ℤ) (span line : ℕ) (rest : List Order) → slice_get ((address_orders x ++ order.Load ∷ order.Save ∷ order.Home f k ∷ order.Element l span line ∷ []) ++ rest) 3 ≡ Some (order.Home f k)
-      home-at (cell.Word f' k') f k l span line rest = refl
-      home-at (cell.Frame k') f k l span line rest = refl
+      -- the orders behind the load of an index, whichever test they have
+      index-at : (x : Place) (made rest : List Order) → Placed ((address_orders x ++ order.Load ∷ made) ++ rest) → Named x
+      index-at (cell.Word f' k') made rest h = h
+      index-at (cell.Frame k') made rest h = tt
 
-      index-at : (x : Place) (f k : ℕ) (l : ℤ) (span line : ℕ) (rest : List Order) → Placed ((address_orders x ++ order.Load ∷ order.Save ∷ order.Home f k ∷ order.Element l span line ∷ []) ++ rest) → Named x
-      index-at (cell.Word f' k') f k l span line rest h = h
-      index-at (cell.Frame k') f k l span line rest h = tt
+      home-at : (x : Place) (e : Element) (rest : List Order) → slice_get ((address_orders x ++ order.Load ∷ order.Save ∷ order.Home e.family e.first ∷ order.Element e.lower e.span e.line ∷ []) ++ rest) 3 ≡ Some (order.Home e.family e.first)
+      home-at (cell.Word f' k') e rest = refl
+      home-at (cell.Frame k') e rest = refl
+
+      home-behind : (x : Place) (e : Element) (upper : ℤ) (line : ℕ) (rest : List Order)
+          → slice_get ((address_orders x ++ order.Load ∷ order.InBounds e.lower upper line ∷ order.Save ∷ order.Home e.family e.first ∷ order.Element e.lower e.span e.line ∷ []) ++ rest) 4 ≡ Some (order.Home e.family e.first)
+      home-behind (cell.Word f' k') e upper line rest = refl
+      home-behind (cell.Frame k') e upper line rest = refl
+
+      test-named : (e : Element) (t : Test) (list rest : List Order) → TestNear e t → Fit n fs list
+          → list ≡ (address_orders e.index ++ order.Load ∷ (bounds_orders e.lower t ++ order.Save ∷ order.Home e.family e.first ∷ order.Element e.lower e.span e.line ∷ [])) ++ rest → TestNamed e t
+      test-named e (test.Address zero) list rest near fit is = zero-named e zero near (named-there list fit 3 e.family e.first (ap (λ l. slice_get l 3) is ∙ home-at e.index e rest))
+      test-named e (test.Bounds upper line) list rest near fit is = named-there list fit 4 e.family e.first (ap (λ l. slice_get l 4) is ∙ home-behind e.index e upper line rest)
 
       -- of a list that begins with the orders of an element
       element-named : (e : Element) (list rest : List Order) → IsNear e → Fit n fs list → Placed list → list ≡ element_orders e ++ rest → ElementNamed e
       element-named e list rest near fit placed is = (
-        index-at e.index e.family e.first e.lower e.span e.line rest (subst Placed is placed),
-        zero-named e near (named-there list fit 3 e.family e.first (ap (λ l. slice_get l 3) is ∙ home-at e.index e.family e.first e.lower e.span e.line rest)),
+        index-at e.index (bounds_orders e.lower e.test ++ order.Save ∷ order.Home e.family e.first ∷ order.Element e.lower e.span e.line ∷ []) rest (subst Placed is placed),
+        test-named e e.test list rest near fit is,
       )
 
       simple-behind : (s : Simple) (rest : List Order) → OperandIs s → o ∷ os ≡ order.Save ∷ (operand_orders s ++ rest) → SimpleNamed s
