@@ -25,7 +25,7 @@ address_orders (cell.Frame n) = order.FrameHome n ∷ []
 
 -- those that compare an index with its bounds
 abbrev pub bounds_orders : (lower : ℤ) → Test → List Order
-bounds_orders lower (test.Address zero) = []
+bounds_orders lower (test.Address origin) = []
 bounds_orders lower (test.Bounds upper line) = order.InBounds lower upper line ∷ []
 
 -- those that make the address of an element whose index stands at a place
@@ -123,7 +123,7 @@ zero_word (negsuc n) span first = zero_behind (suc n) span first
 
 abbrev pub address_test : Option ℕ → Option Test
 address_test None = None
-address_test (Some zero) = Some (test.Address zero)
+address_test (Some origin) = Some (test.Address origin)
 
 -- how many words are between the lower bound and the upper one: the first one's is 0
 abbrev pub is_within : (last : ℤ) → (span : ℕ) → Bool
@@ -139,12 +139,21 @@ abbrev pub element_with : Option Test → (index : Place) → (family first : �
 element_with None x f n l s line = None
 element_with (Some t) x f n l s line = Some (record { index = x; family = f; first = n; lower = l; span = s; line = line; test = t })
 
--- the orders behind the load of the index
-abbrev pub element_of : Place → (second third fourth fifth : Option Order) → Option Element
-element_of x (Some order.Save) (Some (order.Home f n)) (Some (order.Element l s line)) _ = element_with (address_test (zero_word l s n)) x f n l s line
-element_of x (Some (order.InBounds l u at)) (Some order.Save) (Some (order.Home f n)) (Some (order.Element begins s line)) =
+-- the orders behind a save of the index, and behind its bounds
+abbrev pub element_addressed : Place → (puts forms : Option Order) → Option Element
+element_addressed x (Some (order.Home f n)) (Some (order.Element l s line)) = element_with (address_test (zero_word l s n)) x f n l s line
+element_addressed x _ _ = None
+
+abbrev pub element_bounded : Place → (lower upper : ℤ) → (at : ℕ) → (saves puts forms : Option Order) → Option Element
+element_bounded x l u at (Some order.Save) (Some (order.Home f n)) (Some (order.Element begins s line)) =
     element_with (bounds_test l u at begins s) x f n begins s line
-element_of x _ _ _ _ = None
+element_bounded x l u at _ _ _ = None
+
+-- those behind the load of the index
+abbrev pub element_of : Place → (second third fourth fifth : Option Order) → Option Element
+element_of x (Some order.Save) third fourth fifth = element_addressed x third fourth
+element_of x (Some (order.InBounds l u at)) third fourth fifth = element_bounded x l u at third fourth fifth
+element_of x _ third fourth fifth = None
 
 -- and from that load on, behind the address of the place where the index stands
 abbrev pub element_loaded : Place → (loads second third fourth fifth : Option Order) → Option Element
@@ -286,8 +295,20 @@ left_at left orders zero = left
 left_at left [] (suc k) = left
 left_at left (o ∷ os) (suc k) = left_at (orders_left (block_at left (o ∷ os))) os k
 
--- the parts of words that blocks name are bits of a word
+-- the indexes between the bounds of an element name words that are known to be in the data area
+abbrev pub TestsWithin : Element → Test → Type 0
+TestsWithin e (test.Address origin) = Unit {0}
+TestsWithin e (test.Bounds upper line) = is_within (upper -ℤ e.lower) e.span ≡ true
+
+abbrev pub OperandWithin : Simple → Type 0
+OperandWithin (simple.Element e) = TestsWithin e e.test
+OperandWithin s = Unit {0}
+
+-- the parts of words that blocks name are bits of a word, and the indexes of their elements are as above
 abbrev pub NamesParts : Block → Type 0
 NamesParts (block.FetchPart x t b is_signed) = is_part t b ≡ true
 NamesParts (block.AssignPart x t b) = is_part t b ≡ true
+NamesParts (block.Operate s u) = OperandWithin s
+NamesParts (block.FetchElement e) = TestsWithin e e.test
+NamesParts (block.AssignElement e) = TestsWithin e e.test
 NamesParts b = Unit {0}

@@ -434,9 +434,9 @@ index_added (cell.Frame n) family offset =
     coded.Whole (load bx (slot base_slot)) ∷ coded.Move si (target.Word family offset) ∷ coded.Whole (operate 0 si (field (2 * n % 65536))) ∷ []
 
 -- the address of an element, doubled, in SI: it is tested, or the index is
-abbrev pub address_tested : Element → (zero : ℕ) → List Coded
-address_tested e zero =
-    index_added e.index e.family zero
+abbrev pub address_tested : Element → (origin : ℕ) → List Coded
+address_tested e origin =
+    index_added e.index e.family origin
     ++ coded.Whole (compare si di) ∷ coded.Whole (jump_if_below 5) ∷ (call_stop address_entry e.line ++ coded.Whole (double si) ∷ [])
 
 abbrev pub index_tested : Element → (upper : ℤ) → (line : ℕ) → List Coded
@@ -447,7 +447,7 @@ index_tested e upper line =
     ∷ (call_stop bounds_entry line ++ coded.Sum si (target.Word e.family e.first) ∷ coded.Whole (double si) ∷ []))
 
 abbrev pub element_tested : Element → Test → List Coded
-element_tested e (test.Address zero) = address_tested e zero
+element_tested e (test.Address origin) = address_tested e origin
 element_tested e (test.Bounds upper line) = index_tested e upper line
 
 abbrev pub element_address : Element → List Coded
@@ -567,7 +567,7 @@ lower_size (pos zero) = 0
 lower_size lower = 4
 
 abbrev pub element_size : Element → Test → ℕ
-element_size e (test.Address zero) = index_size e.index + 11
+element_size e (test.Address origin) = index_size e.index + 11
 element_size e (test.Bounds upper line) = index_size e.index + lower_size e.lower + 14
 
 -- the same, order by order

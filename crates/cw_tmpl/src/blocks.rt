@@ -1,7 +1,7 @@
 //! Blocks: orders that have one piece of code together. The orders before the last only save the top operand, put a word, or make
 //! the address of an element; the code leaves the one where it is, and takes the other from its instruction or from memory.
-ghost use Rattle.std.specs.Prelude.{◌≡◌, ◌<◌, length, drop, slice_get};
-ghost use Rattle.cw_tmpl.specs.Blocks.{address_orders, element_orders, use_of, is_part, NamesParts, zero_word, address_test, bounds_test, element_behind, element_at, with_use, fetched, assigned, is_plain_divisor, exponent_of, halving_places, halved, divided, counted, number_scaled, with_number, saved, place_at, fetched_from, saved_from, element_fetched, element_used, element_saved, fetched_or, saved_or, block_if_saved, block_at, orders_left};
+ghost use Rattle.std.specs.Prelude.{◌≡◌, ◌<◌, ◌+◌, length, drop, slice_get};
+ghost use Rattle.cw_tmpl.specs.Blocks.{address_orders, element_orders, use_of, is_part, NamesParts, zero_word, address_test, bounds_test, element_addressed, element_bounded, element_behind, element_at, with_use, fetched, assigned, is_plain_divisor, exponent_of, halving_places, halved, divided, counted, number_scaled, with_number, saved, place_at, fetched_from, saved_from, element_fetched, element_used, element_saved, fetched_or, saved_or, block_if_saved, block_at, orders_left};
 
 use cw_order::{Comparator, Order};
 
@@ -191,26 +191,13 @@ fn bounds_test(lower: i16, upper: i16, line: u16, begins: i16, span: u16) -> Opt
     }
 }
 
-/// The element whose index stands at a place, where four orders behind its address make the address of one, or five with a test of its bounds.
-fn element_behind(index: Place, orders: &[Order], behind: usize) -> Option<Element>
-    requires { behind < 8 }
-    ensures { result ≡ element_behind index behind orders.now }
+/// The element whose index stands at a place and is saved, where two orders make its address.
+fn element_addressed(index: Place, orders: &[Order], behind: usize) -> Option<Element>
+    requires { behind < 16 }
+    ensures { result ≡ element_addressed index (slice_get orders.now behind) (slice_get orders.now (behind + 1)) }
 {
-    if !matches!(orders.get(behind), Some(Order::Load)) {
-        return None;
-    }
-    match (
-        orders.get(behind + 1),
-        orders.get(behind + 2),
-        orders.get(behind + 3),
-        orders.get(behind + 4),
-    ) {
-        (
-            Some(Order::Save),
-            Some(Order::Home { family, offset }),
-            Some(Order::Element { lower, span, line }),
-            _,
-        ) => {
+    match (orders.get(behind), orders.get(behind + 1)) {
+        (Some(Order::Home { family, offset }), Some(Order::Element { lower, span, line })) => {
             let test = address_test(*lower, *span, *offset)?;
             Some(Element {
                 index,
@@ -222,12 +209,28 @@ fn element_behind(index: Place, orders: &[Order], behind: usize) -> Option<Eleme
                 test,
             })
         }
+        _ => None,
+    }
+}
+
+/// The element whose index stands at a place and is compared with bounds at a line, where three orders save it and make its address.
+fn element_bounded(
+    index: Place,
+    lower: i16,
+    upper: i16,
+    at: u16,
+    orders: &[Order],
+    behind: usize,
+) -> Option<Element>
+    requires { behind < 16 }
+    ensures { result ≡ element_bounded index lower upper at (slice_get orders.now behind) (slice_get orders.now (behind + 1)) (slice_get orders.now (behind + 2)) }
+{
+    match (
+        orders.get(behind),
+        orders.get(behind + 1),
+        orders.get(behind + 2),
+    ) {
         (
-            Some(Order::InBounds {
-                lower,
-                upper,
-                line: at,
-            }),
             Some(Order::Save),
             Some(Order::Home { family, offset }),
             Some(Order::Element {
@@ -236,7 +239,7 @@ fn element_behind(index: Place, orders: &[Order], behind: usize) -> Option<Eleme
                 line,
             }),
         ) => {
-            let test = bounds_test(*lower, *upper, *at, *begins, *span)?;
+            let test = bounds_test(lower, upper, at, *begins, *span)?;
             Some(Element {
                 index,
                 family: *family,
@@ -246,6 +249,23 @@ fn element_behind(index: Place, orders: &[Order], behind: usize) -> Option<Eleme
                 line: *line,
                 test,
             })
+        }
+        _ => None,
+    }
+}
+
+/// The element whose index stands at a place, where four orders behind its address make the address of one, or five with a test of its bounds.
+fn element_behind(index: Place, orders: &[Order], behind: usize) -> Option<Element>
+    requires { behind < 8 }
+    ensures { result ≡ element_behind index behind orders.now }
+{
+    if !matches!(orders.get(behind), Some(Order::Load)) {
+        return None;
+    }
+    match orders.get(behind + 1) {
+        Some(Order::Save) => element_addressed(index, orders, behind + 2),
+        Some(Order::InBounds { lower, upper, line }) => {
+            element_bounded(index, *lower, *upper, *line, orders, behind + 2)
         }
         _ => None,
     }
