@@ -15,7 +15,7 @@ use Rattle.cw_tmpl.specs.declared.blocks.Use.{Use}
 use Rattle.cw_tmpl.specs.declared.blocks.Use.TheVariants as uses
 use Rattle.cw_tmpl.specs.declared.blocks.Block.{Block}
 use Rattle.cw_tmpl.specs.declared.blocks.Block.TheVariants as block
-use Rattle.cw_tmpl.specs.Blocks.{address_orders, element_orders, operand_orders, order_of, count_order, orders_before, last_order, place_at, use_of, zero_word, is_within, address_test, element_with, element_of, element_loaded, element_at, with_use, fetched, fetched_from, assigned, is_part, TestsWithin, OperandWithin, NamesParts, block_at, is_plain_divisor, halving_places, halved, divided, number_scaled, number_used, with_number, saved, saved_from, element_fetched, element_used, element_saved, fetched_or, saved_or, block_if_saved, block_from, block_of}
+use Rattle.cw_tmpl.specs.Blocks.{address_orders, element_orders, operand_orders, order_of, count_order, orders_before, last_order, place_at, use_of, zero_word, is_within, address_test, is_save, is_load, element_addressed, element_bounded, element_with, element_of, element_at, with_use, fetched, fetched_from, assigned, is_part, TestsWithin, OperandWithin, NamesParts, block_at, is_plain_divisor, halving_places, halved, divided, number_scaled, number_used, with_number, saved, saved_from, element_fetched, element_used, element_saved, fetched_or, saved_or, block_if_saved, block_from, block_of}
 
 pub front_is : (list : List Order) (k : ℕ) (o : Order) → slice_get list k ≡ Some o → drop k list ≡ o ∷ drop (suc k) list
 front_is [] k o e = absurd (cc)
@@ -93,6 +93,16 @@ both_bounds (pos m) (negsuc n) e = absurd (cc)
 both_bounds (negsuc m) (pos n) e = absurd (cc)
 both_bounds (negsuc m) (negsuc n) e = let same : m ≡ n = grind (arith, nat_tests) in ap negsuc same
 
+is_a_save : (o : Option Order) → is_save o ≡ true → o ≡ Some order.Save
+is_a_save (Some order.Save) e = refl
+is_a_save None e = absurd (cc)
+is_a_save (Some _) e = absurd (cc)
+
+is_a_load : (o : Option Order) → is_load o ≡ true → o ≡ Some order.Load
+is_a_load (Some order.Load) e = refl
+is_a_load None e = absurd (cc)
+is_a_load (Some _) e = absurd (cc)
+
 -- the orders that make the address of an element
 element_shape : (os : List Order) (e : Element) → element_at (place_at os) os ≡ Some e → IsElement os e
 element_shape os e is = placed (place_at os) refl is
@@ -138,33 +148,52 @@ element_shape os e is = placed (place_at os) refl is
         let k1 : k + n + 1 ≡ k + (n + 1) = omega arith in
         next (k + n) o e ∙ ap (λ m. o ∷ drop m os) k1
 
-    formed : (x : Place) (second third fourth fifth : Option Order) → slice_get os (length (address_orders x) + 1) ≡ second → slice_get os (length (address_orders x) + 2) ≡ third
-        → slice_get os (length (address_orders x) + 3) ≡ fourth → slice_get os (length (address_orders x) + 4) ≡ fifth → os ≡ address_orders x ++ order.Load ∷ drop (length (address_orders x) + 1) os
-        → element_of x second third fourth fifth ≡ Some e → IsElement os e
-    formed x (Some order.Save) (Some (order.Home f n)) (Some (order.Element l s line)) fifth e2 e3 e4 e5 there is =
+    addressed_at : (x : Place) (puts forms : Option Order) → slice_get os (length (address_orders x) + 1) ≡ Some order.Save → slice_get os (length (address_orders x) + 2) ≡ puts
+        → slice_get os (length (address_orders x) + 3) ≡ forms → os ≡ address_orders x ++ order.Load ∷ drop (length (address_orders x) + 1) os
+        → element_addressed x puts forms ≡ Some e → IsElement os e
+    addressed_at x (Some (order.Home f n)) (Some (order.Element l s line)) e2 e3 e4 there is =
         let k = length (address_orders x) in
         addressed x f n l s line (zero_word l s n) refl
         (there ∙ ap (λ r. address_orders x ++ order.Load ∷ r)
         (further k 1 order.Save e2 ∙ ap (λ r. order.Save ∷ r) (further k 2 (order.Home f n) e3 ∙ ap (λ r. order.Home f n ∷ r) (further k 3 (order.Element l s line) e4)))) is
-    formed x (Some (order.InBounds l u at)) (Some order.Save) (Some (order.Home f n)) (Some (order.Element begins s line)) e2 e3 e4 e5 there is =
+    addressed_at x _ _ e2 e3 e4 there is = absurd (cc)
+
+    bounded_at : (x : Place) (puts forms bounds : Option Order) → slice_get os (length (address_orders x) + 1) ≡ bounds → slice_get os (length (address_orders x) + 2) ≡ Some order.Save
+        → slice_get os (length (address_orders x) + 3) ≡ puts → slice_get os (length (address_orders x) + 4) ≡ forms → os ≡ address_orders x ++ order.Load ∷ drop (length (address_orders x) + 1) os
+        → element_bounded x bounds puts forms ≡ Some e → IsElement os e
+    bounded_at x (Some (order.Home f n)) (Some (order.Element begins s line)) (Some (order.InBounds l u at)) e2 e3 e4 e5 there is =
         let k = length (address_orders x) in
         bounded x f n l u at begins s line (int_le l begins && int_le begins l) (is_within (u -ℤ l) s) refl refl
         (there ∙ ap (λ r. address_orders x ++ order.Load ∷ r)
         (further k 1 (order.InBounds l u at) e2 ∙ ap (λ r. order.InBounds l u at ∷ r)
         (further k 2 order.Save e3 ∙ ap (λ r. order.Save ∷ r) (further k 3 (order.Home f n) e4 ∙ ap (λ r. order.Home f n ∷ r) (further k 4 (order.Element begins s line) e5))))) is
-    formed x _ _ _ _ e2 e3 e4 e5 there is = absurd (cc)
+    bounded_at x _ _ _ e2 e3 e4 e5 there is = absurd (cc)
 
-    loaded : (x : Place) (loads : Option Order) → slice_get os (length (address_orders x)) ≡ loads → os ≡ address_orders x ++ drop (length (address_orders x)) os
-        → (let k = length (address_orders x) in element_loaded x loads (slice_get os (k + 1)) (slice_get os (k + 2)) (slice_get os (k + 3)) (slice_get os (k + 4)) ≡ Some e) → IsElement os e
-    loaded x (Some order.Load) e1 there is =
+    formed : (x : Place) (second third : Option Order) (first_saves then_saves : Bool) → slice_get os (length (address_orders x) + 1) ≡ second → slice_get os (length (address_orders x) + 2) ≡ third
+        → is_save second ≡ first_saves → is_save third ≡ then_saves → os ≡ address_orders x ++ order.Load ∷ drop (length (address_orders x) + 1) os
+        → (let k = length (address_orders x) in
+        (if first_saves then element_addressed x third (slice_get os (k + 3)) else if then_saves then element_bounded x second (slice_get os (k + 3)) (slice_get os (k + 4)) else None) ≡ Some e)
+        → IsElement os e
+    formed x second third true then_saves e2 e3 one two there is =
         let k = length (address_orders x) in
-        formed x (slice_get os (k + 1)) (slice_get os (k + 2)) (slice_get os (k + 3)) (slice_get os (k + 4)) refl refl refl refl
-        (there ∙ ap (λ r. address_orders x ++ r) (next k order.Load e1)) is
-    loaded x _ e1 there is = absurd (cc)
+        addressed_at x third (slice_get os (k + 3)) (e2 ∙ is_a_save second one) e3 refl there is
+    formed x second third false true e2 e3 one two there is =
+        let k = length (address_orders x) in
+        bounded_at x (slice_get os (k + 3)) (slice_get os (k + 4)) second e2 (e3 ∙ is_a_save third two) refl refl there is
+    formed x second third false false e2 e3 one two there is = absurd (cc)
+
+    loading : (x : Place) (loads : Bool) → is_load (slice_get os (length (address_orders x))) ≡ loads → os ≡ address_orders x ++ drop (length (address_orders x)) os
+        → (let k = length (address_orders x) in
+        (if loads then element_of x (slice_get os (k + 1)) (slice_get os (k + 2)) (slice_get os (k + 3)) (slice_get os (k + 4)) else None) ≡ Some e) → IsElement os e
+    loading x true e1 there is =
+        let k = length (address_orders x) in
+        formed x (slice_get os (k + 1)) (slice_get os (k + 2)) (is_save (slice_get os (k + 1))) (is_save (slice_get os (k + 2))) refl refl refl refl
+        (there ∙ ap (λ r. address_orders x ++ r) (next k order.Load (is_a_load (slice_get os k) e1))) is
+    loading x false e1 there is = absurd (cc)
 
     placed : (x : Option Place) → place_at os ≡ x → element_at x os ≡ Some e → IsElement os e
     placed None at is = absurd (cc)
-    placed (Some x) at is = loaded x (slice_get os (length (address_orders x))) refl (place_shape os x at) is
+    placed (Some x) at is = loading x (is_load (slice_get os (length (address_orders x)))) refl (place_shape os x at) is
 
 -- an operand, and the order behind it that uses it
 operand_used : (os before : List Order) (last : Order) → os ≡ before ++ drop (length before) os → slice_get os (length before) ≡ Some last

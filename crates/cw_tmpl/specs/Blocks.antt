@@ -7,6 +7,7 @@ use Rattle.cw_order.specs.declared.order.Order.TheVariants as order
 use Rattle.cw_tmpl.specs.declared.blocks.Place.{Place}
 use Rattle.cw_tmpl.specs.declared.blocks.Place.TheVariants as cell
 use Rattle.cw_tmpl.specs.declared.blocks.Element.{Element}
+use Rattle.cw_tmpl.specs.declared.blocks.Bounds.{Bounds}
 use Rattle.cw_tmpl.specs.declared.blocks.Test.{Test}
 use Rattle.cw_tmpl.specs.declared.blocks.Test.TheVariants as test
 use Rattle.cw_tmpl.specs.declared.blocks.Simple.{Simple}
@@ -130,35 +131,49 @@ abbrev pub is_within : (last : ℤ) → (span : ℕ) → Bool
 is_within (pos n) span = nat_lt n span
 is_within (negsuc n) span = false
 
+-- bounds that an order compares an index with
+abbrev pub bounds_at : Option Order → Option Bounds
+bounds_at (Some (order.InBounds l u line)) = Some (record { lower = l; upper = u; line = line })
+bounds_at _ = None
+
 -- An index between its bounds names a word that is known to be in the data area, where the item begins at the lower one.
-abbrev pub bounds_test : (lower upper : ℤ) → (line : ℕ) → (begins : ℤ) → (span : ℕ) → Option Test
-bounds_test lower upper line begins span =
-    if (int_le lower begins && int_le begins lower) && is_within (upper -ℤ lower) span then Some (test.Bounds upper line) else None
+abbrev pub bounds_test : Bounds → (begins : ℤ) → (span : ℕ) → Option Test
+bounds_test b begins span =
+    if (int_le b.lower begins && int_le begins b.lower) && is_within (b.upper -ℤ b.lower) span then Some (test.Bounds b.upper b.line) else None
+
+abbrev pub tested_by : Option Bounds → (begins : ℤ) → (span : ℕ) → Option Test
+tested_by None begins span = None
+tested_by (Some b) begins span = bounds_test b begins span
 
 abbrev pub element_with : Option Test → (index : Place) → (family first : ℕ) → (lower : ℤ) → (span line : ℕ) → Option Element
 element_with None x f n l s line = None
 element_with (Some t) x f n l s line = Some (record { index = x; family = f; first = n; lower = l; span = s; line = line; test = t })
 
--- the orders behind a save of the index, and behind its bounds
+abbrev pub is_save : Option Order → Bool
+is_save (Some order.Save) = true
+is_save _ = false
+
+abbrev pub is_load : Option Order → Bool
+is_load (Some order.Load) = true
+is_load _ = false
+
+-- the orders that make the address, behind a save of the index; and they and its bounds before that
 abbrev pub element_addressed : Place → (puts forms : Option Order) → Option Element
 element_addressed x (Some (order.Home f n)) (Some (order.Element l s line)) = element_with (address_test (zero_word l s n)) x f n l s line
 element_addressed x _ _ = None
 
-abbrev pub element_bounded : Place → (lower upper : ℤ) → (at : ℕ) → (saves puts forms : Option Order) → Option Element
-element_bounded x l u at (Some order.Save) (Some (order.Home f n)) (Some (order.Element begins s line)) =
-    element_with (bounds_test l u at begins s) x f n begins s line
-element_bounded x l u at _ _ _ = None
+abbrev pub element_bounded : Place → (bounds puts forms : Option Order) → Option Element
+element_bounded x bounds (Some (order.Home f n)) (Some (order.Element l s line)) = element_with (tested_by (bounds_at bounds) l s) x f n l s line
+element_bounded x bounds _ _ = None
 
--- those behind the load of the index
+-- the orders behind the load of the index
 abbrev pub element_of : Place → (second third fourth fifth : Option Order) → Option Element
-element_of x (Some order.Save) third fourth fifth = element_addressed x third fourth
-element_of x (Some (order.InBounds l u at)) third fourth fifth = element_bounded x l u at third fourth fifth
-element_of x _ third fourth fifth = None
+element_of x second third fourth fifth =
+    if is_save second then element_addressed x third fourth else if is_save third then element_bounded x second fourth fifth else None
 
 -- and from that load on, behind the address of the place where the index stands
 abbrev pub element_loaded : Place → (loads second third fourth fifth : Option Order) → Option Element
-element_loaded x (Some order.Load) second third fourth fifth = element_of x second third fourth fifth
-element_loaded x _ second third fourth fifth = None
+element_loaded x loads second third fourth fifth = if is_load loads then element_of x second third fourth fifth else None
 
 abbrev pub element_behind : Place → (behind : ℕ) → List Order → Option Element
 element_behind x k os =
