@@ -34,7 +34,7 @@ use Rattle.cw_tmpl.specs.Names.{Names, no_names, mark_place, switch_size}
 use Rattle.cw_tmpl.specs.Blocks.{address_orders, bounds_orders, element_orders, operand_orders, order_of, count_order, element_at, element_fetched, fetched_or, block_of, block_at, orders_left, left_at}
 use Rattle.cw_tmpl.proofs.Shapes.{IsBlock, shape}
 use Rattle.cw_tmpl.specs.Library.{overflow_entry, address_entry, bounds_entry}
-use Rattle.cw_tmpl.specs.Templates.{template, mark_words, goal_words, landing_pieces, switch_pieces, times_if, rescale_if, product_start, product_down, times, less_bound, plus_word, times_width, based, element, in_row, element_of_two, entry, address_pieces, load_place, store_place, pieces_size, operated, block_pieces, block_size, order_size, times_size, width_size, bound_size, word_size, listed_size, size_behind, sizes_behind, listed_sizes, distance, entry_pieces, shifted, shifted_up, shifted_down, shifted_down_signed, lowest_if, part_taken, index_size, lower_size, element_size, store_part, operate_place, change_place, index_added, index_loaded, from_lower, indexes_between, address_tested, index_tested, element_tested, element_address, with_operand, product_with, checked, branch, call_stop, shift_size, lowest_size, part_size, size_in_list, owed}
+use Rattle.cw_tmpl.specs.Templates.{template, mark_words, goal_words, landing_pieces, switch_pieces, times_if, rescale_if, product_start, product_down, times, less_bound, plus_word, times_width, based, element, in_row, element_of_two, entry, address_pieces, load_place, store_place, pieces_size, operated, block_pieces, block_size, order_size, times_size, width_size, bound_size, word_size, listed_size, size_behind, sizes_behind, listed_sizes, distance, entry_pieces, shifted, shifted_up, shifted_down, shifted_down_signed, lowest_if, part_taken, index_size, lower_size, element_size, used_size, store_part, operate_place, change_place, index_added, index_loaded, from_lower, indexes_between, index_below, address_tested, index_tested, element_tested, element_address, with_operand, product_with, checked, branch, call_stop, shift_size, lowest_size, part_size, size_in_list, owed}
 use Rattle.cw_tmpl.specs.ReferenceCode.{templates, landings, switches, places_from, entry_size, order_places, landings_place, switches_place, names_of, mark_starts, pieces_of, switch_sizes, StandsAt}
 use Rattle.cw_tmpl.proofs.Growing.{blanks-append}
 
@@ -406,9 +406,7 @@ address_long_as e origin =
 
 pub index_long_as : (e : Element) (upper : ℤ) (line : ℕ) → length (blanks (index_tested e upper line)) ≡ index_size e.index + lower_size e.lower + 14
 index_long_as e upper line =
-    let tested : List Coded =
-        coded.Whole (operate_number 7 si (indexes_between (upper -ℤ e.lower))) ∷ coded.Whole (jump_if_below 5)
-        ∷ (call_stop bounds_entry line ++ coded.Sum si (target.Word e.family e.first) ∷ coded.Whole (double si) ∷ []) in
+    let tested : List Coded = index_below (indexes_between (upper -ℤ e.lower)) line e.family e.first in
     omega (arith, appended_long (index_loaded e.index) (from_lower e.lower ++ tested), appended_long (from_lower e.lower) tested, loaded_long e.index, lower_long e.lower)
 
 tested_long_as : (e : Element) (t : Test) → length (blanks (element_tested e t)) ≡ element_size e t
@@ -417,6 +415,25 @@ tested_long_as e (test.Bounds upper line) = index_long_as e upper line
 
 pub element_long_as : (e : Element) → length (blanks (element_address e)) ≡ element_size e e.test
 element_long_as e = tested_long_as e e.test
+
+pub element_with_long : (op : ℕ) (e : Element) → length (blanks (with_operand op (simple.Element e))) ≡ element_size e e.test + 2
+element_with_long op e = appended_long (element_address e) (coded.Whole (operate op ax at_si) ∷ []) ∙ ap (λ n. n + 2) (element_long_as e)
+
+pub element_used_long : (e : Element) (u : Use) → block_size (block.Operate (simple.Element e) u) order.Save ≡ element_size e e.test + used_size u
+element_used_long e (uses.Add line) = omega (arith, appended_long (with_operand 0 (simple.Element e)) (checked line), element_with_long 0 e)
+element_used_long e (uses.Subtract line) = omega (arith, appended_long (with_operand 5 (simple.Element e)) (checked line), element_with_long 5 e)
+element_used_long e (uses.Multiply line) =
+    let last : List Coded = coded.Whole (load ax at_si) ∷ coded.Whole (multiply cx) ∷ [] in
+    omega (arith, appended_long (product_with (simple.Element e)) (checked line), appended_long (element_address e) last, element_long_as e)
+element_used_long e uses.Mask = element_with_long 4 e
+element_used_long e uses.Union = element_with_long 1 e
+element_used_long e uses.Differ = element_with_long 6 e
+element_used_long e (uses.Compare c m) =
+    let end : ℕ = 0 + pieces_size (with_operand 7 (simple.Element e)) + 5 in
+    omega (arith, appended_long (with_operand 7 (simple.Element e)) (branch c end (mark_place no_names m)), element_with_long 7 e)
+
+pub element_at_long : (e : Element) (i : Instr) → length (bytes_of i) ≡ 2 → length (blanks (element_address e ++ coded.Whole i ∷ [])) ≡ element_size e e.test + 2
+element_at_long e i two = omega (arith, appended_long (element_address e) (coded.Whole i ∷ []), appended_one i, two, element_long_as e)
 
 -- there is room for it
 address_orders_fit : (x : Place) (f n : ℕ) (l : ℤ) (s line : ℕ) (o : Order) (rest : List Order)
@@ -485,9 +502,6 @@ used_last before (uses.Compare c m) rest = behind_other (Some before) (order.Jum
 operate_element_fits : (e : Element) (u : Use) (rest : List Order) → pieces_size (operated no_names 0 (simple.Element e) u) + listed_sizes rest ≤ listed_sizes (order.Save ∷ (operand_orders (simple.Element e) ++ order_of u ∷ rest))
 operate_element_fits e u rest = element u (used_last order.Load u rest)
   where
-    element_load : (op : ℕ) → length (blanks (with_operand op (simple.Element e))) ≡ element_size e e.test + 2
-    element_load op = appended_long (element_address e) (coded.Whole (operate op ax at_si) ∷ []) ∙ ap (λ n. n + 2) (element_long_as e)
-
     listed_behind : (u : Use) → sizes_behind (Some order.Load) (Some (order_of u)) rest ≡ listed_sizes rest → element_size e e.test + 14 + listed_size (order_of u) + listed_sizes rest ≤ listed_sizes (order.Save ∷ (operand_orders (simple.Element e) ++ order_of u ∷ rest))
     listed_behind u same =
         let A = element_orders e in
@@ -508,17 +522,13 @@ operate_element_fits e u rest = element u (used_last order.Load u rest)
 
     element : (u : Use) → sizes_behind (Some order.Load) (Some (order_of u)) rest ≡ listed_sizes rest
         → pieces_size (operated no_names 0 (simple.Element e) u) + listed_sizes rest ≤ listed_sizes (order.Save ∷ (operand_orders (simple.Element e) ++ order_of u ∷ rest))
-    element (uses.Add line) same = omega (arith, listed_behind (uses.Add line) same, appended_long (with_operand 0 (simple.Element e)) (checked line), element_load 0)
-    element (uses.Subtract line) same = omega (arith, listed_behind (uses.Subtract line) same, appended_long (with_operand 5 (simple.Element e)) (checked line), element_load 5)
-    element (uses.Multiply line) same =
-        let last : List Coded = coded.Whole (load ax at_si) ∷ coded.Whole (multiply cx) ∷ [] in
-        omega (arith, listed_behind (uses.Multiply line) same, appended_long (product_with (simple.Element e)) (checked line), appended_long (element_address e) last, element_long_as e)
-    element uses.Mask same = omega (arith, listed_behind uses.Mask same, element_load 4)
-    element uses.Union same = omega (arith, listed_behind uses.Union same, element_load 1)
-    element uses.Differ same = omega (arith, listed_behind uses.Differ same, element_load 6)
-    element (uses.Compare c m) same =
-        let end : ℕ = 0 + pieces_size (with_operand 7 (simple.Element e)) + 5 in
-        omega (arith, listed_behind (uses.Compare c m) same, appended_long (with_operand 7 (simple.Element e)) (branch c end (mark_place no_names m)), element_load 7)
+    element (uses.Add line) same = omega (arith, listed_behind (uses.Add line) same, element_used_long e (uses.Add line))
+    element (uses.Subtract line) same = omega (arith, listed_behind (uses.Subtract line) same, element_used_long e (uses.Subtract line))
+    element (uses.Multiply line) same = omega (arith, listed_behind (uses.Multiply line) same, element_used_long e (uses.Multiply line))
+    element uses.Mask same = omega (arith, listed_behind uses.Mask same, element_used_long e uses.Mask)
+    element uses.Union same = omega (arith, listed_behind uses.Union same, element_used_long e uses.Union)
+    element uses.Differ same = omega (arith, listed_behind uses.Differ same, element_used_long e uses.Differ)
+    element (uses.Compare c m) same = omega (arith, listed_behind (uses.Compare c m) same, element_used_long e (uses.Compare c m))
 
 operate_fits : (s : Simple) (u : Use) (rest : List Order) → pieces_size (operated no_names 0 s u) + listed_sizes rest ≤ listed_sizes (order.Save ∷ (operand_orders s ++ order_of u ∷ rest))
 operate_fits (simple.Element e) u rest = operate_element_fits e u rest
