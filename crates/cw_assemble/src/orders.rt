@@ -25,7 +25,7 @@ use cw_i86::Instr;
 use cw_order::Order;
 use cw_tmpl::instructions::{
     AT_BX, AX, BX, add, both, copy, double, either, exchange, jump_to, load, negate, nothing,
-    one_of, set_word, store, subtract, with_number,
+    one_of, set_ax, set_word, store, subtract, with_number,
 };
 use cw_tmpl::library::{ADD_STEP, ADDRESS, PUT_VARIABLE, SET_VARIABLE};
 use cw_tmpl::{Assembly, Coded, Names, Target, own};
@@ -34,7 +34,7 @@ use cw_word::NoMemory;
 fn put_const(code: &mut Assembly, word: u16) -> Result<(), NoMemory>
     ensures { OnOk result (Adds code.old (template no_names 0 (order.Const word)) code.new) }
 {
-    code.put_all(&[Coded::Whole(set_word(AX, word))])
+    code.put_all(&[Coded::Whole(set_ax(word))])
 }
 
 fn put_home(code: &mut Assembly, family: u16, offset: u16) -> Result<(), NoMemory>

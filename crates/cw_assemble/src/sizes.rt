@@ -182,6 +182,7 @@ fn order_size(order: &Order) -> Result<u32, NoMemory>
     let size = match order {
         Order::Mark | Order::Drop => 0,
         Order::Save | Order::Start(_) => 1,
+        Order::Const(0) => 2,
         Order::Const(_) | Order::Home { .. } | Order::Jump(_) | Order::GoCommon(_) => 3,
         Order::And | Order::Or | Order::Xor | Order::ReadByte | Order::WriteByte => 3,
         Order::NextBody | Order::Less | Order::Load => 5,

@@ -34,7 +34,7 @@ use Rattle.cw_tmpl.specs.Names.{Names, no_names, mark_place, switch_size}
 use Rattle.cw_tmpl.specs.Blocks.{address_orders, bounds_orders, element_orders, operand_orders, order_of, count_order, element_at, element_fetched, fetched_or, block_of, block_at, orders_left, left_at}
 use Rattle.cw_tmpl.proofs.Shapes.{IsBlock, shape}
 use Rattle.cw_tmpl.specs.Library.{overflow_entry, address_entry, bounds_entry}
-use Rattle.cw_tmpl.specs.Templates.{template, mark_words, goal_words, landing_pieces, switch_pieces, times_if, rescale_if, product_start, product_down, times, less_bound, plus_word, times_width, based, element, in_row, element_of_two, entry, address_pieces, load_place, store_place, pieces_size, operated, block_pieces, block_size, order_size, times_size, width_size, bound_size, word_size, listed_size, size_behind, sizes_behind, listed_sizes, distance, entry_pieces, shifted, shifted_up, shifted_down, shifted_down_signed, lowest_if, part_taken, index_size, lower_size, element_size, used_size, store_part, operate_place, change_place, index_added, index_loaded, from_lower, indexes_between, index_below, address_tested, index_tested, element_tested, element_address, with_operand, product_with, checked, branch, call_stop, shift_size, lowest_size, part_size, size_in_list, owed}
+use Rattle.cw_tmpl.specs.Templates.{template, mark_words, goal_words, landing_pieces, switch_pieces, times_if, rescale_if, product_start, product_down, times, less_bound, plus_word, times_width, based, element, in_row, element_of_two, entry, address_pieces, load_place, store_place, pieces_size, operated, block_pieces, block_size, order_size, times_size, width_size, bound_size, word_size, listed_size, size_behind, sizes_behind, listed_sizes, distance, entry_pieces, shifted, shifted_up, shifted_down, shifted_down_signed, lowest_if, part_taken, index_size, lower_size, element_size, used_size, store_part, operate_place, change_place, index_added, index_loaded, from_lower, indexes_between, index_below, address_tested, index_tested, element_tested, element_address, with_operand, product_with, checked, branch, call_stop, shift_size, lowest_size, part_size, size_in_list, owed, number_size}
 use Rattle.cw_tmpl.specs.ReferenceCode.{templates, landings, switches, places_from, entry_size, order_places, landings_place, switches_place, names_of, mark_starts, pieces_of, switch_sizes, StandsAt}
 use Rattle.cw_tmpl.proofs.Growing.{blanks-append}
 
@@ -313,6 +313,8 @@ entry_long line width word =
     omega (arith, appended_long (times_width line width) rest, appended_long (plus_word line word) (based line), width_long (width == 1) (width == 32768) line width, word_long line word)
 
 pub listed : (o : Order) → order_size o ≡ listed_size o
+listed (order.Const zero) = refl
+listed (order.Const (suc w)) = refl
 listed (order.JumpIf c m) = refl
 listed (order.LoadPart t b is_signed) = omega (arith, part_long t b is_signed)
 listed (order.StorePart t b) = store_part_long t b
@@ -530,18 +532,25 @@ operate_element_fits e u rest = element u (used_last order.Load u rest)
     element uses.Differ same = omega (arith, listed_behind uses.Differ same, element_used_long e uses.Differ)
     element (uses.Compare c m) same = omega (arith, listed_behind (uses.Compare c m) same, element_used_long e (uses.Compare c m))
 
+number_some : (w : ℕ) → 2 ≤ number_size w
+number_some zero = omega arith
+number_some (suc w) = omega arith
+
 operate_fits : (s : Simple) (u : Use) (rest : List Order) → pieces_size (operated no_names 0 s u) + listed_sizes rest ≤ listed_sizes (order.Save ∷ (operand_orders s ++ order_of u ∷ rest))
 operate_fits (simple.Element e) u rest = operate_element_fits e u rest
 operate_fits (simple.Number w) u rest = number u (used_last (order.Const w) u rest)
   where
+    some : 2 ≤ number_size w
+    some = number_some w
+
     number : (u : Use) → sizes_behind (Some (order.Const w)) (Some (order_of u)) rest ≡ listed_sizes rest → pieces_size (operated no_names 0 (simple.Number w) u) + listed_sizes rest ≤ listed_sizes (order.Save ∷ order.Const w ∷ order_of u ∷ rest)
-    number (uses.Add line) e = omega (arith, e)
-    number (uses.Subtract line) e = omega (arith, e)
-    number (uses.Multiply line) e = omega (arith, e)
-    number uses.Mask e = omega (arith, e)
-    number uses.Union e = omega (arith, e)
-    number uses.Differ e = omega (arith, e)
-    number (uses.Compare c m) e = omega (arith, e)
+    number (uses.Add line) e = omega (arith, e, some)
+    number (uses.Subtract line) e = omega (arith, e, some)
+    number (uses.Multiply line) e = omega (arith, e, some)
+    number uses.Mask e = omega (arith, e, some)
+    number uses.Union e = omega (arith, e, some)
+    number uses.Differ e = omega (arith, e, some)
+    number (uses.Compare c m) e = omega (arith, e, some)
 operate_fits (simple.Contents (cell.Word f n)) u rest = word u (used_last order.Load u rest)
   where
     word : (u : Use) → sizes_behind (Some order.Load) (Some (order_of u)) rest ≡ listed_sizes rest

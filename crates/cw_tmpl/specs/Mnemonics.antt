@@ -1,5 +1,5 @@
 -- Registers, the words of an activation record, and short words for the instructions that the templates use.
-use Rattle.std.specs.Prelude.{ℕ, ◌+◌, ◌*◌, true, false, List, [], ◌∷◌, ◌++◌}
+use Rattle.std.specs.Prelude.{ℕ, zero, suc, ◌+◌, ◌*◌, true, false, List, [], ◌∷◌, ◌++◌}
 use Rattle.cw_i86.specs.declared.instr.Instr.{Instr}
 use Rattle.cw_i86.specs.declared.instr.Instr.TheVariants as i86
 use Rattle.cw_i86.specs.declared.instr.Imm.TheVariants as imm
@@ -152,6 +152,11 @@ either to from = i86.AluRm 1 true true to (rms.Reg from)
 
 abbrev pub one_of : ℕ → ℕ → Instr
 one_of to from = i86.AluRm 6 true true to (rms.Reg from)
+
+-- AX becomes a number; 0 has the shorter form
+abbrev pub set_ax : (w : ℕ) → Instr
+set_ax zero = one_of ax ax
+set_ax (suc w) = set_word ax (suc w)
 
 -- an operation of the arithmetic unit, by its number, on a register, which changes, and an operand
 abbrev pub operate : ℕ → ℕ → Rm → Instr

@@ -33,7 +33,7 @@ use Rattle.cw_tmpl.specs.declared.blocks.Use.{Use}
 use Rattle.cw_tmpl.specs.declared.blocks.Use.TheVariants as uses
 use Rattle.cw_tmpl.specs.declared.blocks.Block.{Block}
 use Rattle.cw_tmpl.specs.declared.blocks.Block.TheVariants as block
-use Rattle.cw_tmpl.specs.Mnemonics.{ax, bx, cx, dx, sp, bp, si, di, segment_slot, base_slot, base_record, base_operands, record_depth, slot, argument, at_bx, at_si, field, set_word, load, store, move, add, subtract, compare, exchange, negate, double, both, either, one_of, shift_up, shift_down, shift_down_signed, multiply, divide_signed, jump_to, nothing, jump_if_no_overflow, jump_if_below, jump_if_unequal, jump_if_not_less, jump_if_at_most, operate, change, increase, decrease, shift_up_once, shift_down_once, shift_down_signed_once, operate_number}
+use Rattle.cw_tmpl.specs.Mnemonics.{ax, bx, cx, dx, sp, bp, si, di, segment_slot, base_slot, base_record, base_operands, record_depth, slot, argument, at_bx, at_si, field, set_word, load, store, move, add, subtract, compare, exchange, negate, double, both, either, one_of, shift_up, shift_down, shift_down_signed, multiply, divide_signed, jump_to, nothing, jump_if_no_overflow, jump_if_below, jump_if_unequal, jump_if_not_less, jump_if_at_most, operate, change, increase, decrease, shift_up_once, shift_down_once, shift_down_signed_once, operate_number, set_ax}
 use Rattle.cw_tmpl.specs.Library.{start_entry, overflow_entry, zero_divisor_entry, address_entry, switch_entry, bounds_entry, enter_entry, read_entry, product_entry, quotient_down_entry, quotient_up_entry, set_variable_entry, add_step_entry, put_variable_entry, exhausted_entry}
 use Rattle.cw_tmpl.specs.Pieces.{blanks}
 use Rattle.cw_tmpl.specs.Names.{Names, no_names, mark_place, label_start, procedure_start, switch_start, own}
@@ -318,7 +318,7 @@ landing_pieces names place m = base_jump place (mark_place names m.mark)
 
 abbrev pub template : Names → (place : ℕ) → Order → List Coded
 template names place order.Save = coded.Whole (i86.Push ax) ∷ []
-template names place (order.Const w) = coded.Whole (set_word ax w) ∷ []
+template names place (order.Const w) = coded.Whole (set_ax w) ∷ []
 template names place (order.Home family offset) = coded.Move ax (target.Word family offset) ∷ []
 template names place order.Load = load_top
 template names place order.Store = coded.Whole (move bx ax) ∷ coded.Whole (double bx) ∷ coded.Whole (i86.Pop ax) ∷ coded.Whole (store at_bx ax) ∷ []
@@ -540,6 +540,11 @@ abbrev pub bound_size : ℤ → ℕ
 bound_size (pos zero) = 0
 bound_size lower = 10
 
+-- a number in AX
+abbrev pub number_size : ℕ → ℕ
+number_size zero = 2
+number_size (suc w) = 3
+
 abbrev pub word_size : ℕ → ℕ
 word_size zero = 0
 word_size (suc n) = 10
@@ -585,7 +590,7 @@ used_size (uses.Compare c mark) = 7
 -- the same, order by order
 abbrev pub listed_size : Order → ℕ
 listed_size order.Save = 1
-listed_size (order.Const w) = 3
+listed_size (order.Const w) = number_size w
 listed_size (order.Home family offset) = 3
 listed_size order.Load = 5
 listed_size order.Store = 7

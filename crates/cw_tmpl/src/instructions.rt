@@ -206,6 +206,16 @@ pub fn either(to: u8, from: u8) -> Instr
     }
 }
 
+/// A number in AX: 0 by XOR, which is shorter.
+pub fn set_ax(word: u16) -> Instr
+    ensures { result ≡ mnemonics.set_ax word }
+{
+    match word {
+        0 => one_of(AX, AX),
+        _ => set_word(AX, word),
+    }
+}
+
 /// XOR of registers.
 pub fn one_of(to: u8, from: u8) -> Instr
     ensures { result ≡ mnemonics.one_of to from }
