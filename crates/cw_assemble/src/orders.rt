@@ -25,7 +25,7 @@ use cw_i86::Instr;
 use cw_order::Order;
 use cw_tmpl::instructions::{
     AT_BX, AX, BX, add, both, copy, double, either, exchange, jump_to, load, negate, nothing,
-    one_of, set_ax, set_word, store, subtract, with_number,
+    one_of, set_ax, store, subtract, with_number,
 };
 use cw_tmpl::library::{ADD_STEP, ADDRESS, PUT_VARIABLE, SET_VARIABLE};
 use cw_tmpl::{Assembly, Coded, Names, Target, own};

@@ -519,7 +519,8 @@ module _ (p : OrderProgram) (segment next : ℕ) (value : Filling) (fills : Fill
 
   template_fine : (names : Names) (place : ℕ) (o : Order) → OrderFits o → AllFine value (template names place o)
   template_fine names place order.Save fits = (ax_free, tt)
-  template_fine names place (order.Const w) fits = ((is_ax, fits.0), tt)
+  template_fine names place (order.Const zero) fits = ((lit< tt, is_ax, is_ax), tt)
+  template_fine names place (order.Const (suc w)) fits = ((is_ax, fits.0), tt)
   template_fine names place (order.Home family offset) fits = ((is_ax, home_filled family offset), tt)
   template_fine names place order.Load fits = load_fine
   template_fine names place order.Store fits = ((is_bx, is_ax), ((lit< tt, λ e. omega arith, is_bx), (ax_free, ((is_ax, (lit< tt, λ e. omega arith)), tt))))

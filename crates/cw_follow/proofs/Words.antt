@@ -1,9 +1,10 @@
 -- The steps of orders on words, each of which is a block of its own.
-use Rattle.std.proofs.Common.{◌≡◌, ℕ, ◌+◌, ◌<◌, ◌≤◌, Bool, true, false, not, inl, inr, ℤ, ◌-ℤ◌, List, [], ◌∷◌, Some, None, refl, sym, ap, ◌∙◌, subst, arith, lit<, lit≤}
+use Rattle.std.proofs.Common.{◌≡◌, ℕ, zero, suc, ◌+◌, ◌<◌, ◌≤◌, Bool, true, false, not, inl, inr, ℤ, ◌-ℤ◌, List, [], ◌∷◌, Some, None, refl, sym, ap, ◌∙◌, subst, arith, lit<, lit≤}
 use Rattle.std.proofs.lemmas.Bool.{cases_lt}
 use Rattle.std.proofs.lemmas.List.Elements.{All-head}
 use Rattle.std.specs.List.{All}
 use Rattle.std.specs.Prelude.{slice_get, bit_and, bit_or, bit_xor}
+use Rattle.std.specs.Int.Bits.{xor_self}
 use Rattle.cw_i86.specs.declared.instr.Instr.TheVariants as i86
 use Rattle.cw_i86.specs.declared.instr.Imm.TheVariants as imm
 use Rattle.cw_run86.specs.Views.{Has}
@@ -23,10 +24,10 @@ use Rattle.cw_order.specs.FittingWords.{OperandFits}
 use Rattle.cw_order.specs.OrderMachine.{unrefused, after, carry_out, step}
 use Rattle.cw_tmpl.specs.Library.{overflow_entry, address_entry, bounds_entry, read_entry}
 use Rattle.cw_follow.proofs.Watched.{Watched}
-use Rattle.cw_follow.proofs.Chains.{seen, number}
-use Rattle.cw_follow.proofs.Orders.{Landed, Tells, puts, saves, adds, subtracts, negates, loads, stores, writes}
+use Rattle.cw_follow.proofs.Chains.{seen, number, done}
+use Rattle.cw_follow.proofs.Orders.{Landed, Tells, landed, further, puts, saves, adds, subtracts, negates, loads, stores, writes}
 use Rattle.cw_follow.proofs.States.{Given, Sound, went_on, never_on, not_stuck}
-use Rattle.cw_follow.proofs.Straight.{Both, Either, One}
+use Rattle.cw_follow.proofs.Straight.{Both, Either, One, straight}
 use Rattle.cw_follow.proofs.Operands.{words}
 use Rattle.cw_follow.proofs.Bits.{part, drops, combines, differs, ands, ors, xors, lesses, takes, takes_all, loads_part, stores_part}
 use Rattle.cw_follow.proofs.Shifts.{part_steps, without_steps}
@@ -47,8 +48,20 @@ module _ (known : Given) where
         does known s true 0 (Changed (put z w)) 1 (begins_next known s a o e) (step_is known s (Some o) e ∙ goes_so) (cheap known s o 1 cheap_enough e)
         (puts rows p image g acts (next known s a) x z w value a.landed (λ q ax cx dx bx sp si di overflow stack t. seen there refl (number rows 0 x i t)))
 
+    zero_follows : slice_get s.orders.list place ≡ Some (order.Const 0) → Follow known (at g place false acts w Running) q
+    zero_follows e =
+        let o = order.Const 0 in
+        let l = a.landed in
+        let t = l.stacked in
+        does known s true 0 (Changed (put (signed 0) w)) 1 (begins_next known s a o e) (step_is known s (Some o) e) (cheap known s o 1 (lit≤ tt) e)
+        (further 1 (lit≤ tt) (lit< tt)
+        (straight rows (One 0 0 ∷ []) {n = 0} l.kept.wrote (code known s a o e) (tt, tt) t.is (λ q u.
+        done (landed rows p image g acts true (next known s a) l.top (Word (signed 0) ∷ w.operands) w.memory w.input w.output (behind known s a o e) (xor_self t.ax, l.operands) l.kept u))))
+
     pub const_follows : (n : ℕ) → slice_get s.orders.list place ≡ Some (order.Const n) → Follow known (at g place false acts w Running) q
-    const_follows n e =
+    const_follows zero e = zero_follows e
+    const_follows (suc k) e =
+        let n = suc k in
         let o = order.Const n in
         let small : n < 65536 = coded.constants g place n (order_is known s (Some o) e) in
         put_is o n (signed n) e refl (lit≤ tt) (sym (rows.words.forth n small)) (behind known s a o e) (code known s a o e).0

@@ -1,5 +1,5 @@
 -- The orders of expressions, conditions, references and arguments are short by the tokens of their trees.
-use Rattle.std.proofs.Common.{◌≡◌, ℕ, zero, suc, ◌+◌, ◌*◌, ◌<◌, ◌≤◌, max, ℤ, pos, ◌-ℤ◌, List, [], ◌∷◌, ◌++◌, map, Bool, true, false, not, Option, Some, None, refl, sym, ap, ◌∙◌, subst, arith}
+use Rattle.std.proofs.Common.{◌≡◌, ℕ, zero, suc, ◌+◌, ◌%◌, ◌*◌, ◌<◌, ◌≤◌, max, ℤ, pos, ◌-ℤ◌, List, [], ◌∷◌, ◌++◌, map, Bool, true, false, not, Option, Some, None, refl, sym, ap, ◌∙◌, subst, arith}
 use Rattle.std.proofs.lemmas.Option.{none-some}
 use Rattle.cw_word.specs.Decimal.{decimal_floor}
 use Rattle.cw_word.specs.Word.{unsigned}
@@ -21,7 +21,7 @@ use Rattle.cw_gen_expr.proofs.Layers.{value_layer, value-made, spot-made, refere
 use Rattle.cw_gen_expr.proofs.Layers as made
 use Rattle.cw_tokens.specs.LeastTokens.{separated, part, expression_tokens, argument_tokens, condition_tokens, reference_tokens}
 use Rattle.cw_tmpl.specs.Templates.{listed_size, listed_sizes}
-use Rattle.cw_size.proofs.Short.{one_short, sizes-append, first_short, Short, plainly, both_short, ended_short, eased}
+use Rattle.cw_size.proofs.Short.{word_short, one_short, sizes-append, first_short, Short, plainly, both_short, ended_short, eased}
 use Rattle.cw_size.proofs.OrderSizes.{item-first, item-load, saved-item, saved-table, bounds-short, take-short, load-part-short, element-short, of-two-short, entry-short, rescale-short, rescale-whole, rescale-same, logic-short, product-short, call-short, label-short}
 use Rattle.cw_size.proofs.TokenLayers.{expression_layer, expression-tokens, argument_layer, argument-tokens, condition_layer, condition-tokens, spot_layer, spot-tokens, reference-tokens, separated-within}
 
@@ -269,9 +269,11 @@ module _ (s : Scope) where
 
     computed_short : (x : Expr-F Arg Cond Expr Spot Ref) → expression_size_layer x ≤ n → (f spare : ℕ) → Rescaled (value_layer s x).operand f spare → Short ((made.computed_layer s x).at f) spare (32 * expression_layer x + 5)
     computed_short (layer.Num k) le f spare r =
-        single (number_order (decimal_floor k.whole k.digits k.places f) ∷ []) spare (let z : 3 + 0 + spare ≤ 37 = omega (arith, r) in z)
+        let o = number_order (decimal_floor k.whole k.digits k.places f) in
+        let one = one_short o 3 (word_short (decimal_floor k.whole k.digits k.places f % 65536)) in
+        single (o ∷ []) spare (let z : listed_sizes (o ∷ []) + spare ≤ 37 = omega (arith, one, r) in z)
     computed_short (layer.Const z) le f spare r =
-        let h = first_short (number_order (unsigned z)) (rescale_orders s.line 0 f) 3 (listed_sizes (rescale_orders s.line 0 f)) (let y : 3 ≤ 3 = omega arith in y) (let y : listed_sizes (rescale_orders s.line 0 f) ≤ listed_sizes (rescale_orders s.line 0 f) = omega arith in y) in
+        let h = first_short (number_order (unsigned z)) (rescale_orders s.line 0 f) 3 (listed_sizes (rescale_orders s.line 0 f)) (word_short (unsigned z % 65536)) (let y : listed_sizes (rescale_orders s.line 0 f) ≤ listed_sizes (rescale_orders s.line 0 f) = omega arith in y) in
         single (number_order (unsigned z) ∷ rescale_orders s.line 0 f) spare (let y : listed_sizes (number_order (unsigned z) ∷ rescale_orders s.line 0 f) + spare ≤ 37 = omega (arith, h, r) in y)
     computed_short (layer.Text i) le f spare r =
         let h = item-first s.layout i 0 (rescale_orders s.line 0 f) (listed_sizes (rescale_orders s.line 0 f)) (let y : listed_sizes (rescale_orders s.line 0 f) ≤ listed_sizes (rescale_orders s.line 0 f) = omega arith in y) in
@@ -335,7 +337,7 @@ module _ (s : Scope) where
 
     -- one constant where the value is known
     known_short : (k : Option ℤ) (p : Piece) (spare tokens : ℕ) → spare ≤ 14 → ((z : ℤ) → k ≡ Some z → 1 ≤ tokens) → Short p spare (32 * tokens + 5) → Short (known_or k p) spare (32 * tokens + 5)
-    known_short (Some z) p spare tokens few some h = record { at = λ place next. (let y : 3 + 0 + spare ≤ 32 * tokens + 5 = omega (arith, few, some z refl) in y) }
+    known_short (Some z) p spare tokens few some h = record { at = λ place next. (let o = number_order (unsigned z) in let one = one_short o 3 (word_short (unsigned z % 65536)) in let y : listed_sizes (o ∷ []) + spare ≤ 32 * tokens + 5 = omega (arith, few, some z refl, one) in y) }
     known_short None p spare tokens few some h = h
 
     value_tokens : (x : Expr-F Arg Cond Expr Spot Ref) (f : ℕ) (z : ℤ) → made.known_layer s x f ≡ Some z → 1 ≤ expression_layer x

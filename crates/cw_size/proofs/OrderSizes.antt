@@ -24,7 +24,7 @@ use Rattle.cw_gen_expr.specs.ReferenceEntries.{bound_by, bound_in, bound_order, 
 use Rattle.cw_gen_expr.specs.UnitTables.{label_mark}
 use Rattle.cw_gen_unit.specs.ReferenceStatements.{after_statement_call, from_procedure, own_order, goal_order, keep_orders, number_orders, set_orders, bump_orders}
 use Rattle.cw_tmpl.specs.Templates.{shift_size, lowest_size, part_size, times_size, width_size, bound_size, word_size, listed_size, sizes_behind, listed_sizes}
-use Rattle.cw_size.proofs.Short.{one_short, all-behind, sizes-append, first_short}
+use Rattle.cw_size.proofs.Short.{word_short, one_short, all-behind, sizes-append, first_short}
 
 -- ---- items
 
@@ -284,7 +284,7 @@ goal-short u who (goal.Common d) = omega arith
 
 pub number-short : (y : Layout) (item i : ℕ) → listed_sizes (number_orders y item i) ≤ 10
 number-short y item i =
-    first_short (number_order i) (keep_orders y item 3) 3 7 (let z : 3 ≤ 3 = omega arith in z) (item-keep y item 3 [] 0 (let z : 0 ≤ 0 = omega arith in z))
+    first_short (number_order i) (keep_orders y item 3) 3 7 (word_short (i % 65536)) (item-keep y item 3 [] 0 (let z : 0 ≤ 0 = omega arith in z))
 
 pub set-short : (y : Layout) (line item : ℕ) → listed_sizes (set_orders y line item) ≤ 15
 set-short y line item =

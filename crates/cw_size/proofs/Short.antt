@@ -1,9 +1,9 @@
 -- Pieces whose orders have few bytes, wherever they stand.
-use Rattle.std.proofs.Common.{ℕ, ◌+◌, ◌≤◌, List, [], ◌∷◌, ◌++◌, length, Option, Some, None, refl, ◌≡◌, arith}
+use Rattle.std.proofs.Common.{ℕ, zero, suc, ◌+◌, ◌≤◌, List, [], ◌∷◌, ◌++◌, length, Option, Some, None, refl, ◌≡◌, arith}
 use Rattle.cw_order.specs.declared.order.Order.{Order}
 use Rattle.cw_order.specs.declared.order.Order.TheVariants as order
 use Rattle.cw_gen_expr.specs.Pieces.{Piece, plain, followed_by, with_end, with_labels}
-use Rattle.cw_tmpl.specs.Templates.{listed_size, size_in_list, owed, size_behind, sizes_behind, listed_sizes}
+use Rattle.cw_tmpl.specs.Templates.{number_size, listed_size, size_in_list, owed, size_behind, sizes_behind, listed_sizes}
 
 -- an order takes no more behind others than what these owe
 behind-within : (second first : Option Order) (o : Order) → size_behind second first o ≤ owed first + size_in_list o
@@ -58,6 +58,11 @@ first_short o os m n h k =
     let alone = whole-size o in
     let z : 0 + size_in_list o + sizes_behind None (Some o) os ≤ m + n = omega (arith, h, k, behind, alone) in
     z
+
+-- a number in AX
+pub word_short : (w : ℕ) → number_size w ≤ 3
+word_short zero = omega arith
+word_short (suc w) = omega arith
 
 pub one_short : (o : Order) (most : ℕ) → listed_size o ≤ most → listed_sizes (o ∷ []) ≤ most
 one_short o most h = let alone = whole-size o in let z : 0 + size_in_list o + owed (Some o) ≤ most = omega (arith, h, alone) in z
