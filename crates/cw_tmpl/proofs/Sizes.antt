@@ -388,11 +388,11 @@ pub index_long : (x : Place) (family offset : ℕ) → length (blanks (index_add
 index_long (cell.Word f n) family offset = refl
 index_long (cell.Frame n) family offset = refl
 
-loaded_long : (x : Place) → length (blanks (index_loaded x)) + 3 ≡ index_size x
+pub loaded_long : (x : Place) → length (blanks (index_loaded x)) + 3 ≡ index_size x
 loaded_long (cell.Word f n) = refl
 loaded_long (cell.Frame n) = refl
 
-lower_long : (l : ℤ) → length (blanks (from_lower l)) ≡ lower_size l
+pub lower_long : (l : ℤ) → length (blanks (from_lower l)) ≡ lower_size l
 lower_long (pos zero) = refl
 lower_long (pos (suc n)) = refl
 lower_long (negsuc n) = refl
