@@ -126,7 +126,7 @@ abbrev pub address_test : Option ℕ → Option Test
 address_test None = None
 address_test (Some origin) = Some (test.Address origin)
 
--- how many words are between the lower bound and the upper one: the first one's is 0
+-- whether the word at the upper bound, so many words behind the one at the lower bound, is among those that are known to be in the data area
 abbrev pub is_within : (last : ℤ) → (span : ℕ) → Bool
 is_within (pos n) span = nat_lt n span
 is_within (negsuc n) span = false
@@ -157,7 +157,8 @@ abbrev pub is_load : Option Order → Bool
 is_load (Some order.Load) = true
 is_load _ = false
 
--- the orders that make the address, behind a save of the index; and they and its bounds before that
+-- an element whose index is saved, by the two orders behind the save that make its address; and by those and one before the save, which
+-- compares the index with bounds
 abbrev pub element_addressed : Place → (puts forms : Option Order) → Option Element
 element_addressed x (Some (order.Home f n)) (Some (order.Element l s line)) = element_with (address_test (zero_word l s n)) x f n l s line
 element_addressed x _ _ = None

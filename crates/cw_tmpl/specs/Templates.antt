@@ -424,7 +424,7 @@ from_lower lower = coded.Whole (operate_number 5 si (unsigned lower)) ∷ []
 
 -- how many indexes are between the bounds
 abbrev pub indexes_between : (last : ℤ) → ℕ
-indexes_between (pos n) = suc n
+indexes_between (pos n) = suc n % 65536
 indexes_between (negsuc n) = 0
 
 -- SI with the address of a word of a family and the word at a place added

@@ -1,4 +1,4 @@
-use Rattle.std.proofs.Common.{rules, ◌≡◌, ℕ, zero, suc, ◌+◌, ◌<◌, ℤ, pos, negsuc, ◌+ℤ◌, ◌-ℤ◌, true, Fits, FitsSigned, w16, w32, to_z, of_z, refl, sym, ap, ap₂, ◌∙◌, subst, arith}
+use Rattle.std.proofs.Common.{rules, ◌≡◌, ℕ, suc, ◌+◌, ◌%◌, ◌<◌, ℤ, pos, negsuc, ◌+ℤ◌, ◌-ℤ◌, true, Fits, w16, w32, to_z, of_z, sym, ap, ap₂, ◌∙◌, subst, arith}
 use Rattle.std.proofs.lemmas.Bool.Decides.{nat_tests}
 use Rattle.std.proofs.lemmas.Int.{to_z-of_z, fits_signed_from_abs}
 use Rattle.std.proofs.Math.IntN.{nat_abs}
@@ -14,7 +14,8 @@ counted : (z : ℤ) (span : ℕ) → is_within z span ≡ true → span < 65536 
 counted (pos n) span is lt =
     let below : n < span = grind (arith, nat_tests) in
     let next : n + 1 ≡ suc n = omega arith in
-    (ap (λ y. to_z w32 (of_z w32 (y +ℤ pos 1))) (small n (omega (arith, below, lt))) ∙ ap (λ k. to_z w32 (of_z w32 (pos k))) next ∙ small (suc n) (omega (arith, below, lt)), omega (arith, below, lt))
+    let same : suc n ≡ suc n % 65536 = omega (arith, below, lt) in
+    (ap (λ y. to_z w32 (of_z w32 (y +ℤ pos 1))) (small n (omega (arith, below, lt))) ∙ ap (λ k. to_z w32 (of_z w32 (pos k))) next ∙ small (suc n) (omega (arith, below, lt)) ∙ ap pos same, omega (arith, below, lt))
 counted (negsuc n) span is lt = absurd (cc)
 
 between : (u l a b : ℤ) (span : ℕ) → a ≡ u → b ≡ l → is_within (u -ℤ l) span ≡ true → span < 65536

@@ -1,4 +1,4 @@
-use Rattle.std.proofs.Common.{rules, ◌≡◌, ℕ, ℤ, ◌++◌, ◌-ℤ◌, to_z, of_z, ap, ap₂, ◌∙◌, subst, w16}
+use Rattle.std.proofs.Common.{rules, ◌≡◌, ℕ, ℤ, ◌++◌, ◌-ℤ◌, to_z, of_z, ap₂, ◌∙◌, subst, w16}
 use Rattle.std.proofs.lemmas.Result.{on_ok_weaker}
 use Rattle.cw_tmpl.specs.declared.assembling.Assembly.{Assembly}
 use Rattle.cw_tmpl.specs.declared.blocks.Element.{Element}
