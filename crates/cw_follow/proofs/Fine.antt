@@ -661,9 +661,10 @@ module _ (p : OrderProgram) (segment next : ℕ) (value : Filling) (fills : Fill
   element_tested_fine e (test.Bounds upper line) fits =
       let last_pieces : List Coded = coded.Sum 6 (target.Word e.family e.first) ∷ coded.Whole (double 6) ∷ [] in
       all_fine-append value (index_loaded e.index) _ (loaded_fine e.index)
-      (all_fine-append value (from_lower e.lower) _ (from_lower_fine e.lower fits.0)
-      ((lit< tt, lit< tt, between_small (upper -ℤ e.lower)),
-      ((lit< tt, lit< tt), all_fine-append value (call_stop bounds_entry line) last_pieces (call_stop_fine bounds_entry line (lit< tt) fits.1) ((lit< tt, home_filled e.family e.first), ((lit< tt, λ e. omega arith, lit< tt), tt)))))
+      (all_fine-append value (from_lower e.lower) _ (from_lower_fine e.lower fits.0) (
+        (lit< tt, lit< tt, between_small (upper -ℤ e.lower)),
+        ((lit< tt, lit< tt), all_fine-append value (call_stop bounds_entry line) last_pieces (call_stop_fine bounds_entry line (lit< tt) fits.1) ((lit< tt, home_filled e.family e.first), ((lit< tt, λ e. omega arith, lit< tt), tt))),
+      ))
 
   element_address_fine : (e : Element) → ElementFits e → AllFine value (element_address e)
   element_address_fine e fits = element_tested_fine e e.test fits
