@@ -1,14 +1,14 @@
 //! Code of blocks of several orders.
-ghost use Rattle.std.specs.Prelude.{◌≡◌, ◌≤◌, ◌+◌, ◌<◌, ◌++◌, ◌∷◌, [], length, OnOk};
+ghost use Rattle.std.specs.Prelude.{◌≡◌, ◌≤◌, ◌+◌, ◌-ℤ◌, true, ◌<◌, ◌++◌, ◌∷◌, [], length, OnOk};
 ghost use Rattle.cw_order.specs.HasCode.{HasCode};
 ghost use Rattle.cw_order.specs.declared.order.Order.TheVariants as order;
 ghost use Rattle.cw_tmpl.specs.Assembling.{Adds};
-ghost use Rattle.cw_tmpl.specs.Blocks.{NamesParts};
+ghost use Rattle.cw_tmpl.specs.Blocks.{is_within, TestsWithin, OperandWithin, NamesParts};
 ghost use Rattle.cw_tmpl.specs.Names.{no_names};
 ghost use Rattle.cw_tmpl.specs.Pieces.{IsCoded};
 ghost use Rattle.cw_tmpl.specs.declared.blocks.Block.TheVariants as block;
 ghost use Rattle.cw_tmpl.specs.declared.blocks.Simple.TheVariants as simple;
-ghost use Rattle.cw_tmpl.specs.Templates.{address_pieces, load_place, store_place, operate_place, change_place, index_added, element_address, operation, with_operand, product_with, pieces_size, checked, branch, operated, block_pieces};
+ghost use Rattle.cw_tmpl.specs.Templates.{address_pieces, load_place, store_place, operate_place, change_place, index_added, index_loaded, from_lower, indexes_between, index_below, address_tested, index_tested, element_address, operation, with_operand, product_with, pieces_size, checked, branch, operated, block_pieces};
 
 use crate::arithmetic::put_checked;
 use crate::calling::frame_field;
@@ -20,10 +20,10 @@ use cw_i86::Instr;
 use cw_order::{Comparator, Order};
 use cw_tmpl::instructions::{
     AT_SI, AX, BASE, BX, CX, DI, SI, change, compare, copy, decrease, divide_signed, double,
-    increase, jump_if_below, load, multiply, operate, set_word, store, with_number,
+    increase, jump_if_below, load, multiply, operate, operate_number, set_word, store, with_number,
 };
-use cw_tmpl::library::ADDRESS;
-use cw_tmpl::{Assembly, Block, Coded, Element, Names, Place, Simple, Target, Use};
+use cw_tmpl::library::{ADDRESS, BOUNDS};
+use cw_tmpl::{Assembly, Block, Coded, Element, Names, Place, Simple, Target, Test, Use};
 use cw_word::NoMemory;
 
 /// Adds what is needed before an instruction names a place.
@@ -115,11 +115,11 @@ fn put_index(code: &mut Assembly, index: Place, family: u16, offset: u16) -> Res
     }
 }
 
-/// Adds the address of an element, tested and doubled, in SI.
-fn put_element_address(code: &mut Assembly, element: Element) -> Result<(), NoMemory>
-    ensures { OnOk result (Adds code.old (element_address element) code.new) }
+/// Adds the address of an element, compared with the length of the data area and doubled, in SI. `zero` is the word that index 0 names.
+fn put_address_tested(code: &mut Assembly, element: Element, zero: u16) -> Result<(), NoMemory>
+    ensures { OnOk result (Adds code.old (address_tested element zero) code.new) }
 {
-    put_index(code, element.index, element.family, element.zero)?;
+    put_index(code, element.index, element.family, zero)?;
     code.put_all(&[
         Coded::Whole(compare(SI, DI)),
         Coded::Whole(jump_if_below(5)),
@@ -129,9 +129,98 @@ fn put_element_address(code: &mut Assembly, element: Element) -> Result<(), NoMe
     ])
 }
 
+/// Adds SI from a place.
+fn put_index_loaded(code: &mut Assembly, index: Place) -> Result<(), NoMemory>
+    ensures { OnOk result (Adds code.old (index_loaded index) code.new) }
+{
+    match index {
+        Place::Word { family, offset } => code.put_all(&[Coded::Fetch {
+            reg: SI,
+            target: Target::Bytes { family, offset },
+        }]),
+        Place::Frame(offset) => code.put_all(&[
+            Coded::Whole(load(BX, BASE)),
+            Coded::Whole(load(SI, frame_field(offset))),
+        ]),
+    }
+}
+
+/// Adds SI less a lower bound.
+fn put_from_lower(code: &mut Assembly, lower: i16) -> Result<(), NoMemory>
+    ensures { OnOk result (Adds code.old (from_lower lower) code.new) }
+{
+    if lower == 0 {
+        Ok(())
+    } else {
+        code.put_all(&[Coded::Whole(operate_number(5, SI, lower.cast_unsigned()))])
+    }
+}
+
+/// How many indexes are between the bounds of an element.
+fn indexes_between(lower: i16, upper: i16, span: u16) -> u16
+    requires { is_within (upper -ℤ lower) span ≡ true }
+    ensures { result ≡ indexes_between (upper -ℤ lower) }
+{
+    (i32::from(upper) - i32::from(lower) + 1) as u16
+}
+
+/// Adds the comparison of SI with so many indexes, and the address of the word that SI then counts from, doubled, in SI.
+fn put_index_below(
+    code: &mut Assembly,
+    count: u16,
+    line: u16,
+    family: u16,
+    first: u16,
+) -> Result<(), NoMemory>
+    ensures { OnOk result (Adds code.old (index_below count line family first) code.new) }
+{
+    code.put_all(&[
+        Coded::Whole(operate_number(7, SI, count)),
+        Coded::Whole(jump_if_below(5)),
+        Coded::Call(Target::LibraryAhead(BOUNDS)),
+        Coded::Data(line),
+        Coded::Sum {
+            reg: SI,
+            target: Target::Word {
+                family,
+                offset: first,
+            },
+        },
+        Coded::Whole(double(SI)),
+    ])
+}
+
+/// Adds the address of an element whose index is compared with its bounds, doubled, in SI.
+fn put_index_tested(
+    code: &mut Assembly,
+    element: Element,
+    upper: i16,
+    line: u16,
+) -> Result<(), NoMemory>
+    requires { is_within (upper -ℤ element.lower) element.span ≡ true }
+    ensures { OnOk result (Adds code.old (index_tested element upper line) code.new) }
+{
+    put_index_loaded(code, element.index)?;
+    put_from_lower(code, element.lower)?;
+    let count = indexes_between(element.lower, upper, element.span);
+    put_index_below(code, count, line, element.family, element.first)
+}
+
+/// Adds the address of an element, tested and doubled, in SI.
+fn put_element_address(code: &mut Assembly, element: Element) -> Result<(), NoMemory>
+    requires { TestsWithin element element.test }
+    ensures { OnOk result (Adds code.old (element_address element) code.new) }
+{
+    match element.test {
+        Test::Address { zero } => put_address_tested(code, element, zero),
+        Test::Bounds { upper, line } => put_index_tested(code, element, upper, line),
+    }
+}
+
 /// Adds the address of an element and an instruction behind it.
 fn put_at_element(code: &mut Assembly, element: Element, last: Coded) -> Result<(), NoMemory>
-    requires { IsCoded last }
+    requires last { IsCoded last }
+    requires within { TestsWithin element element.test }
     ensures { OnOk result (Adds code.old (element_address element ++ last ∷ []) code.new) }
 {
     put_element_address(code, element)?;
@@ -199,7 +288,8 @@ fn put_operation_at(code: &mut Assembly, number: u8, place: Place) -> Result<(),
 
 /// Adds an operation on AX and a simple operand.
 fn put_with_operand(code: &mut Assembly, number: u8, operand: Simple) -> Result<(), NoMemory>
-    requires { number < 8 }
+    requires number { number < 8 }
+    requires within { OperandWithin operand }
     ensures { OnOk result (Adds code.old (with_operand number operand) code.new) }
 {
     match operand {
@@ -220,6 +310,7 @@ fn put_product_at(code: &mut Assembly, place: Place) -> Result<(), NoMemory>
 }
 
 fn put_product_of(code: &mut Assembly, element: Element) -> Result<(), NoMemory>
+    requires { TestsWithin element element.test }
     ensures { OnOk result (Adds code.old (product_with (simple.Element element)) code.new) }
 {
     code.put_all(&[Coded::Whole(copy(CX, AX))])?;
@@ -229,6 +320,7 @@ fn put_product_of(code: &mut Assembly, element: Element) -> Result<(), NoMemory>
 
 /// Adds a product of AX and a simple operand.
 fn put_product_with(code: &mut Assembly, operand: Simple) -> Result<(), NoMemory>
+    requires { OperandWithin operand }
     ensures { OnOk result (Adds code.old (product_with operand) code.new) }
 {
     match operand {
@@ -242,7 +334,8 @@ fn put_product_with(code: &mut Assembly, operand: Simple) -> Result<(), NoMemory
 }
 
 fn put_sum(code: &mut Assembly, number: u8, operand: Simple, line: u16) -> Result<(), NoMemory>
-    requires { number < 8 }
+    requires number { number < 8 }
+    requires within { OperandWithin operand }
     ensures { OnOk result (Adds code.old (with_operand number operand ++ checked line) code.new) }
 {
     put_with_operand(code, number, operand)?;
@@ -250,6 +343,7 @@ fn put_sum(code: &mut Assembly, number: u8, operand: Simple, line: u16) -> Resul
 }
 
 fn put_product(code: &mut Assembly, operand: Simple, line: u16) -> Result<(), NoMemory>
+    requires { OperandWithin operand }
     ensures { OnOk result (Adds code.old (product_with operand ++ checked line) code.new) }
 {
     put_product_with(code, operand)?;
@@ -263,6 +357,7 @@ fn put_comparison(
     comparator: Comparator,
     to: u64,
 ) -> Result<(), NoMemory>
+    requires { OperandWithin operand }
     ensures { OnOk result (Adds code.old (with_operand 7 operand ++ branch comparator (length code.old.bytes + pieces_size (with_operand 7 operand) + 5) to) code.new) }
 {
     put_with_operand(code, 7, operand)?;
@@ -283,6 +378,7 @@ fn put_operated(
     with: Use,
     names: &Names,
 ) -> Result<(), NoMemory>
+    requires { OperandWithin operand }
     ensures { OnOk result (Adds code.old (operated names.now (length code.old.bytes) operand with) code.new) }
 {
     match with {

@@ -4,11 +4,12 @@ ghost use Rattle.cw_order.specs.HasCode.{HasCode};
 ghost use Rattle.cw_order.specs.declared.order.Order.TheVariants as order;
 ghost use Rattle.cw_tmpl.specs.Blocks.{NamesParts};
 ghost use Rattle.cw_tmpl.specs.declared.blocks.Block.TheVariants as block;
-ghost use Rattle.cw_tmpl.specs.Templates.{address_pieces, load_place, pieces_size, index_size, shift_size, part_size, times_size, width_size, bound_size, word_size, listed_size, order_size, block_size};
+ghost use Rattle.cw_tmpl.specs.declared.blocks.Simple.TheVariants as simple;
+ghost use Rattle.cw_tmpl.specs.Templates.{address_pieces, load_place, pieces_size, index_size, lower_size, element_size, used_size, shift_size, part_size, times_size, width_size, bound_size, word_size, listed_size, order_size, block_size};
 
 use crate::words::power;
 use cw_order::Order;
-use cw_tmpl::{Block, Place, Simple, Use};
+use cw_tmpl::{Block, Element, Place, Simple, Test, Use};
 use cw_word::NoMemory;
 
 /// How many bytes a multiplication by a number has.
@@ -126,6 +127,53 @@ fn index_size(index: Place) -> u32
     }
 }
 
+/// How many bytes the code of an index less a lower bound has, in SI.
+fn lower_size(lower: i16) -> u32
+    ensures is { result ≡ lower_size lower }
+    ensures small { result ≤ 4 }
+{
+    if lower == 0 { 0 } else { 4 }
+}
+
+/// How many bytes the code of the address of an element has, in SI.
+fn element_size(element: Element) -> u32
+    ensures is { result ≡ element_size element element.test }
+    ensures small { result ≤ 28 }
+{
+    match element.test {
+        Test::Address { .. } => index_size(element.index) + 11,
+        Test::Bounds { .. } => index_size(element.index) + lower_size(element.lower) + 14,
+    }
+}
+
+/// How many bytes an order has behind it that uses the element.
+fn used_size(with: Use) -> u32
+    ensures is { result ≡ used_size with }
+    ensures small { result ≤ 13 }
+{
+    match with {
+        Use::Add(_) | Use::Subtract(_) => 9,
+        Use::Multiply(_) => 13,
+        Use::Mask | Use::Union | Use::Differ => 2,
+        Use::Compare { .. } => 7,
+    }
+}
+
+/// How many bytes the code of an element and an order that uses it has.
+fn element_used_size(element: Element, with: Use) -> u32
+    ensures { result ≡ block_size (block.Operate (simple.Element element) with) order.Save }
+{
+    element_size(element) + used_size(with)
+}
+
+/// How many bytes the code of an element has that is fetched or assigned.
+fn element_moved_size(element: Element) -> u32
+    ensures fetched { result ≡ block_size (block.FetchElement element) order.Save }
+    ensures assigned { result ≡ block_size (block.AssignElement element) order.Save }
+{
+    element_size(element) + 2
+}
+
 /// How many bytes the code of an order alone has.
 fn order_size(order: &Order) -> Result<u32, NoMemory>
     requires { HasCode order.now }
@@ -189,13 +237,7 @@ fn operated_size(operand: Simple, with: Use) -> u32
         (Simple::Contents(Place::Frame(_)), Use::Multiply(_)) => 18,
         (Simple::Contents(Place::Frame(_)), Use::Mask | Use::Union | Use::Differ) => 7,
         (Simple::Contents(Place::Frame(_)), Use::Compare { .. }) => 12,
-        (Simple::Element(element), Use::Add(_) | Use::Subtract(_)) => index_size(element.index)
-            + 20,
-        (Simple::Element(element), Use::Multiply(_)) => index_size(element.index) + 24,
-        (Simple::Element(element), Use::Mask | Use::Union | Use::Differ) => {
-            index_size(element.index) + 13
-        }
-        (Simple::Element(element), Use::Compare { .. }) => index_size(element.index) + 18,
+        (Simple::Element(element), _) => element_used_size(element, with),
     }
 }
 
@@ -239,7 +281,7 @@ pub(crate) fn block_size(block: Block, order: &Order) -> Result<u32, NoMemory>
             ..
         } => shift_size(b) + 14,
         Block::FetchElement(element) | Block::AssignElement(element) => {
-            index_size(element.index) + 13
+            element_moved_size(element)
         }
         Block::Count { .. } => 8,
         Block::Halve { places, .. } => shift_size(places),

@@ -1,19 +1,21 @@
 -- The orders of a block stand at the front of the list that it begins.
 use Rattle.std.proofs.Common.{◌≡◌, ℕ, zero, suc, ◌+◌, ℤ, pos, List, [], ◌∷◌, ◌++◌, length, drop, Bool, true, false, Option, Some, None, refl, sym, ap, ◌∙◌, subst, arith, append_assoc, length-append}
 use Rattle.std.proofs.lemmas.Bool.Decides.{nat_tests}
-use Rattle.std.specs.Prelude.{slice_get, if◌then◌else◌, negsuc, ◌==◌}
+use Rattle.std.specs.Prelude.{slice_get, if◌then◌else◌, negsuc, ◌==◌, ◌&&◌, int_le, ◌-ℤ◌}
 use Rattle.cw_order.specs.declared.order.Order.{Order}
 use Rattle.cw_order.specs.declared.order.Order.TheVariants as order
 use Rattle.cw_tmpl.specs.declared.blocks.Place.{Place}
 use Rattle.cw_tmpl.specs.declared.blocks.Place.TheVariants as cell
 use Rattle.cw_tmpl.specs.declared.blocks.Element.{Element}
+use Rattle.cw_tmpl.specs.declared.blocks.Test.{Test}
+use Rattle.cw_tmpl.specs.declared.blocks.Test.TheVariants as test
 use Rattle.cw_tmpl.specs.declared.blocks.Simple.{Simple}
 use Rattle.cw_tmpl.specs.declared.blocks.Simple.TheVariants as simple
 use Rattle.cw_tmpl.specs.declared.blocks.Use.{Use}
 use Rattle.cw_tmpl.specs.declared.blocks.Use.TheVariants as uses
 use Rattle.cw_tmpl.specs.declared.blocks.Block.{Block}
 use Rattle.cw_tmpl.specs.declared.blocks.Block.TheVariants as block
-use Rattle.cw_tmpl.specs.Blocks.{address_orders, element_orders, operand_orders, order_of, count_order, orders_before, last_order, place_at, use_of, zero_word, element_with, element_of, element_at, with_use, fetched, fetched_from, assigned, is_part, NamesParts, block_at, is_plain_divisor, halving_places, halved, divided, number_scaled, number_used, with_number, saved, saved_from, element_fetched, element_used, element_saved, fetched_or, saved_or, block_if_saved, block_from, block_of}
+use Rattle.cw_tmpl.specs.Blocks.{address_orders, element_orders, operand_orders, order_of, count_order, orders_before, last_order, place_at, use_of, zero_word, is_within, address_test, is_save, is_load, element_addressed, element_bounded, element_with, element_of, element_at, with_use, fetched, fetched_from, assigned, is_part, TestsWithin, OperandWithin, NamesParts, block_at, is_plain_divisor, halving_places, halved, divided, number_scaled, number_used, with_number, saved, saved_from, element_fetched, element_used, element_saved, fetched_or, saved_or, block_if_saved, block_from, block_of}
 
 pub front_is : (list : List Order) (k : ℕ) (o : Order) → slice_get list k ≡ Some o → drop k list ≡ o ∷ drop (suc k) list
 front_is [] k o e = absurd (cc)
@@ -26,7 +28,7 @@ BeginsWith before o os = os ≡ before ++ o ∷ drop (suc (length before)) os
 
 -- the word that index 0 of an element names is known to be in the data area, or all words between its bounds are
 abbrev pub TestNear : Element → Test → Type 0
-TestNear e (test.Address zero) = zero_word e.lower e.span e.first ≡ Some zero
+TestNear e (test.Address origin) = zero_word e.lower e.span e.first ≡ Some origin
 TestNear e (test.Bounds upper line) = is_within (upper -ℤ e.lower) e.span ≡ true
 
 abbrev pub IsNear : Element → Type 0
@@ -80,44 +82,118 @@ use_shape (Some order.Xor) u e = as_used order.Xor uses.Differ u refl e
 use_shape (Some (order.JumpIf c m)) u e = as_used (order.JumpIf c m) (uses.Compare c m) u refl e
 use_shape (Some _) u e = absurd (cc)
 
+-- what is known of an element that the orders at the front of a list make
+abbrev pub IsElement : List Order → Element → Type 0
+IsElement os e = (os ≡ element_orders e ++ drop (length (element_orders e)) os) × IsNear e
+
+-- two bounds of which neither is below the other
+both_bounds : (a b : ℤ) → (int_le a b && int_le b a) ≡ true → a ≡ b
+both_bounds (pos m) (pos n) e = let same : m ≡ n = grind (arith, nat_tests) in ap pos same
+both_bounds (pos m) (negsuc n) e = absurd (cc)
+both_bounds (negsuc m) (pos n) e = absurd (cc)
+both_bounds (negsuc m) (negsuc n) e = let same : m ≡ n = grind (arith, nat_tests) in ap negsuc same
+
+is_a_save : (o : Option Order) → is_save o ≡ true → o ≡ Some order.Save
+is_a_save (Some order.Save) e = refl
+is_a_save None e = absurd (cc)
+is_a_save (Some _) e = absurd (cc)
+
+is_a_load : (o : Option Order) → is_load o ≡ true → o ≡ Some order.Load
+is_a_load (Some order.Load) e = refl
+is_a_load None e = absurd (cc)
+is_a_load (Some _) e = absurd (cc)
+
 -- the orders that make the address of an element
-element_shape : (os : List Order) (e : Element) → element_at (place_at os) os ≡ Some e → (os ≡ element_orders e ++ drop (length (element_orders e)) os) × IsNear e
+element_shape : (os : List Order) (e : Element) → element_at (place_at os) os ≡ Some e → IsElement os e
 element_shape os e is = placed (place_at os) refl is
   where
-    known : (x : Place) (f n : ℕ) (l : ℤ) (s line : ℕ) (z : Option ℕ) → zero_word l s n ≡ z → os ≡ address_orders x ++ order.Load ∷ order.Save ∷ order.Home f n ∷ order.Element l s line ∷ drop (length (address_orders x) + 4) os
-        → element_with z x f n l s line ≡ Some e → (os ≡ element_orders e ++ drop (length (element_orders e)) os) × IsNear e
-    known x f n l s line None near there is = absurd (cc)
-    known x f n l s line (Some z) near there is =
-        let E : Element = record { index = x; family = f; first = n; lower = l; span = s; line = line; zero = z } in
+    behind : (A last : List Order) (n : ℕ) → length last ≡ n → os ≡ A ++ (last ++ drop (length A + n) os) → os ≡ (A ++ last) ++ drop (length (A ++ last)) os
+    behind A last n long there =
+        let all : length (A ++ last) ≡ length A + n = length-append A last ∙ ap (λ k. length A + k) long in
+        there ∙ sym (append_assoc A last (drop (length A + n) os)) ∙ ap (λ k. (A ++ last) ++ drop k os) (sym all)
+
+    known : (E : Element) → Some E ≡ Some e → IsElement os E → IsElement os e
+    known E is h =
         let same : E ≡ e = cc in
-        let A = address_orders x in
-        let last : List Order = order.Load ∷ order.Save ∷ order.Home f n ∷ order.Element l s line ∷ [] in
-        let long : length (A ++ last) ≡ length A + 4 = length-append A last in
-        subst (λ y. (os ≡ element_orders y ++ drop (length (element_orders y)) os) × IsNear y) same
-        (there ∙ sym (append_assoc A last (drop (length A + 4) os)) ∙ ap (λ k. (A ++ last) ++ drop k os) (sym long), near)
+        subst (λ y. IsElement os y) same h
 
-    formed : (x : Place) (loads saves puts forms : Option Order) → slice_get os (length (address_orders x)) ≡ loads → slice_get os (length (address_orders x) + 1) ≡ saves
-        → slice_get os (length (address_orders x) + 2) ≡ puts → slice_get os (length (address_orders x) + 3) ≡ forms → os ≡ address_orders x ++ drop (length (address_orders x)) os
-        → element_of x loads saves puts forms ≡ Some e → (os ≡ element_orders e ++ drop (length (element_orders e)) os) × IsNear e
-    formed x (Some order.Load) (Some order.Save) (Some (order.Home f n)) (Some (order.Element l s line)) e1 e2 e3 e4 there is =
-        let k = length (address_orders x) in
+    addressed : (x : Place) (f n : ℕ) (l : ℤ) (s line : ℕ) (z : Option ℕ) → zero_word l s n ≡ z
+        → os ≡ address_orders x ++ order.Load ∷ order.Save ∷ order.Home f n ∷ order.Element l s line ∷ drop (length (address_orders x) + 4) os
+        → element_with (address_test z) x f n l s line ≡ Some e → IsElement os e
+    addressed x f n l s line None near there is = absurd (cc)
+    addressed x f n l s line (Some z) near there is =
+        known (record { index = x; family = f; first = n; lower = l; span = s; line = line; test = test.Address z }) is
+        (behind (address_orders x) (order.Load ∷ order.Save ∷ order.Home f n ∷ order.Element l s line ∷ []) 4 refl there, near)
+
+    bounded : (x : Place) (f n : ℕ) (l u : ℤ) (at : ℕ) (begins : ℤ) (s line : ℕ) (same within : Bool) → (int_le l begins && int_le begins l) ≡ same → is_within (u -ℤ l) s ≡ within
+        → os ≡ address_orders x ++ order.Load ∷ order.InBounds l u at ∷ order.Save ∷ order.Home f n ∷ order.Element begins s line ∷ drop (length (address_orders x) + 5) os
+        → element_with (if same && within then Some (test.Bounds u at) else None) x f n begins s line ≡ Some e → IsElement os e
+    bounded x f n l u at begins s line true true both near there is =
+        let lowers : l ≡ begins = both_bounds l begins both in
+        let E : Element = record { index = x; family = f; first = n; lower = begins; span = s; line = line; test = test.Bounds u at } in
+        known E is
+        (behind (address_orders x) (order.Load ∷ order.InBounds begins u at ∷ order.Save ∷ order.Home f n ∷ order.Element begins s line ∷ []) 5 refl
+        (there ∙ ap (λ k. address_orders x ++ order.Load ∷ order.InBounds k u at ∷ order.Save ∷ order.Home f n ∷ order.Element begins s line ∷ drop (length (address_orders x) + 5) os) lowers),
+        ap (λ k. is_within (u -ℤ k) s) (sym lowers) ∙ near)
+    bounded x f n l u at begins s line true false both near there is = absurd (cc)
+    bounded x f n l u at begins s line false within both near there is = absurd (cc)
+
+    next : (k : ℕ) (o : Order) → slice_get os k ≡ Some o → drop k os ≡ o ∷ drop (k + 1) os
+    next k o e =
         let k1 : k + 1 ≡ suc k = omega arith in
-        let k2 : k + 2 ≡ suc (k + 1) = omega arith in
-        let k3 : k + 3 ≡ suc (k + 2) = omega arith in
-        let k4 : k + 4 ≡ suc (k + 3) = omega arith in
-        let d1 : drop k os ≡ order.Load ∷ drop (k + 1) os = front_is os k order.Load e1 ∙ ap (λ m. order.Load ∷ drop m os) (sym k1) in
-        let d2 : drop (k + 1) os ≡ order.Save ∷ drop (k + 2) os = front_is os (k + 1) order.Save e2 ∙ ap (λ m. order.Save ∷ drop m os) (sym k2) in
-        let d3 : drop (k + 2) os ≡ order.Home f n ∷ drop (k + 3) os = front_is os (k + 2) (order.Home f n) e3 ∙ ap (λ m. order.Home f n ∷ drop m os) (sym k3) in
-        let d4 : drop (k + 3) os ≡ order.Element l s line ∷ drop (k + 4) os = front_is os (k + 3) (order.Element l s line) e4 ∙ ap (λ m. order.Element l s line ∷ drop m os) (sym k4) in
-        known x f n l s line (zero_word l s n) refl
-        (there ∙ ap (λ r. address_orders x ++ r) (d1 ∙ ap (λ r. order.Load ∷ r) (d2 ∙ ap (λ r. order.Save ∷ r) (d3 ∙ ap (λ r. order.Home f n ∷ r) d4)))) is
-    formed x _ _ _ _ e1 e2 e3 e4 there is = absurd (cc)
+        front_is os k o e ∙ ap (λ m. o ∷ drop m os) (sym k1)
 
-    placed : (x : Option Place) → place_at os ≡ x → element_at x os ≡ Some e → (os ≡ element_orders e ++ drop (length (element_orders e)) os) × IsNear e
-    placed None at is = absurd (cc)
-    placed (Some x) at is =
+    further : (k n : ℕ) (o : Order) → slice_get os (k + n) ≡ Some o → drop (k + n) os ≡ o ∷ drop (k + (n + 1)) os
+    further k n o e =
+        let k1 : k + n + 1 ≡ k + (n + 1) = omega arith in
+        next (k + n) o e ∙ ap (λ m. o ∷ drop m os) k1
+
+    addressed_at : (x : Place) (puts forms : Option Order) → slice_get os (length (address_orders x) + 1) ≡ Some order.Save → slice_get os (length (address_orders x) + 2) ≡ puts
+        → slice_get os (length (address_orders x) + 3) ≡ forms → os ≡ address_orders x ++ order.Load ∷ drop (length (address_orders x) + 1) os
+        → element_addressed x puts forms ≡ Some e → IsElement os e
+    addressed_at x (Some (order.Home f n)) (Some (order.Element l s line)) e2 e3 e4 there is =
         let k = length (address_orders x) in
-        formed x (slice_get os k) (slice_get os (k + 1)) (slice_get os (k + 2)) (slice_get os (k + 3)) refl refl refl refl (place_shape os x at) is
+        addressed x f n l s line (zero_word l s n) refl
+        (there ∙ ap (λ r. address_orders x ++ order.Load ∷ r)
+        (further k 1 order.Save e2 ∙ ap (λ r. order.Save ∷ r) (further k 2 (order.Home f n) e3 ∙ ap (λ r. order.Home f n ∷ r) (further k 3 (order.Element l s line) e4)))) is
+    addressed_at x _ _ e2 e3 e4 there is = absurd (cc)
+
+    bounded_at : (x : Place) (puts forms bounds : Option Order) → slice_get os (length (address_orders x) + 1) ≡ bounds → slice_get os (length (address_orders x) + 2) ≡ Some order.Save
+        → slice_get os (length (address_orders x) + 3) ≡ puts → slice_get os (length (address_orders x) + 4) ≡ forms → os ≡ address_orders x ++ order.Load ∷ drop (length (address_orders x) + 1) os
+        → element_bounded x bounds puts forms ≡ Some e → IsElement os e
+    bounded_at x (Some (order.Home f n)) (Some (order.Element begins s line)) (Some (order.InBounds l u at)) e2 e3 e4 e5 there is =
+        let k = length (address_orders x) in
+        bounded x f n l u at begins s line (int_le l begins && int_le begins l) (is_within (u -ℤ l) s) refl refl
+        (there ∙ ap (λ r. address_orders x ++ order.Load ∷ r)
+        (further k 1 (order.InBounds l u at) e2 ∙ ap (λ r. order.InBounds l u at ∷ r)
+        (further k 2 order.Save e3 ∙ ap (λ r. order.Save ∷ r) (further k 3 (order.Home f n) e4 ∙ ap (λ r. order.Home f n ∷ r) (further k 4 (order.Element begins s line) e5))))) is
+    bounded_at x _ _ _ e2 e3 e4 e5 there is = absurd (cc)
+
+    formed : (x : Place) (second third : Option Order) (first_saves then_saves : Bool) → slice_get os (length (address_orders x) + 1) ≡ second → slice_get os (length (address_orders x) + 2) ≡ third
+        → is_save second ≡ first_saves → is_save third ≡ then_saves → os ≡ address_orders x ++ order.Load ∷ drop (length (address_orders x) + 1) os
+        → (let k = length (address_orders x) in
+        (if first_saves then element_addressed x third (slice_get os (k + 3)) else if then_saves then element_bounded x second (slice_get os (k + 3)) (slice_get os (k + 4)) else None) ≡ Some e)
+        → IsElement os e
+    formed x second third true then_saves e2 e3 one two there is =
+        let k = length (address_orders x) in
+        addressed_at x third (slice_get os (k + 3)) (e2 ∙ is_a_save second one) e3 refl there is
+    formed x second third false true e2 e3 one two there is =
+        let k = length (address_orders x) in
+        bounded_at x (slice_get os (k + 3)) (slice_get os (k + 4)) second e2 (e3 ∙ is_a_save third two) refl refl there is
+    formed x second third false false e2 e3 one two there is = absurd (cc)
+
+    loading : (x : Place) (loads : Bool) → is_load (slice_get os (length (address_orders x))) ≡ loads → os ≡ address_orders x ++ drop (length (address_orders x)) os
+        → (let k = length (address_orders x) in
+        (if loads then element_of x (slice_get os (k + 1)) (slice_get os (k + 2)) (slice_get os (k + 3)) (slice_get os (k + 4)) else None) ≡ Some e) → IsElement os e
+    loading x true e1 there is =
+        let k = length (address_orders x) in
+        formed x (slice_get os (k + 1)) (slice_get os (k + 2)) (is_save (slice_get os (k + 1))) (is_save (slice_get os (k + 2))) refl refl refl refl
+        (there ∙ ap (λ r. address_orders x ++ r) (next k order.Load (is_a_load (slice_get os k) e1))) is
+    loading x false e1 there is = absurd (cc)
+
+    placed : (x : Option Place) → place_at os ≡ x → element_at x os ≡ Some e → IsElement os e
+    placed None at is = absurd (cc)
+    placed (Some x) at is = loading x (is_load (slice_get os (length (address_orders x)))) refl (place_shape os x at) is
 
 -- an operand, and the order behind it that uses it
 operand_used : (os before : List Order) (last : Order) → os ≡ before ++ drop (length before) os → slice_get os (length before) ≡ Some last
@@ -222,7 +298,7 @@ module _ (os : List Order) where
   fetched_or_shape : (other : Block) → IsBlock other os → IsBlock (fetched_or (element_at (place_at os) os) os other) os
   fetched_or_shape other is = cases (element_at (place_at os) os) refl
     where
-      loaded : (e : Element) (o : Option Order) → slice_get os (length (element_orders e)) ≡ o → (os ≡ element_orders e ++ drop (length (element_orders e)) os) × IsNear e → IsBlock (element_fetched e o other) os
+      loaded : (e : Element) (o : Option Order) → slice_get os (length (element_orders e)) ≡ o → IsElement os e → IsBlock (element_fetched e o other) os
       loaded e (Some order.Load) there h = (with_last (element_orders e) os order.Load h.0 there, h.1)
       loaded e _ there h = is
 
@@ -234,14 +310,14 @@ module _ (os : List Order) where
   saved_or_shape other is = cases (element_at (place_at os) os) refl
     where
       taken : (e : Element) (next : Option Order) (u : Option Use) → use_of next ≡ u → slice_get os (length (element_orders e)) ≡ Some order.Load → slice_get os (length (element_orders e) + 1) ≡ next
-          → (os ≡ element_orders e ++ drop (length (element_orders e)) os) × IsNear e → IsBlock (element_used e u other) (order.Save ∷ os)
+          → IsElement os e → IsBlock (element_used e u other) (order.Save ∷ os)
       taken e next None same there behind h = is
       taken e next (Some u) same there behind h =
           let c = operand_used os (element_orders e) order.Load h.0 there in
           used (simple.Element e) next (Some u) h.1 same c.0 (ap (slice_get os) c.1 ∙ behind)
 
       stored : (e : Element) (here next : Option Order) → slice_get os (length (element_orders e)) ≡ here → slice_get os (length (element_orders e) + 1) ≡ next
-          → (os ≡ element_orders e ++ drop (length (element_orders e)) os) × IsNear e → IsBlock (element_saved e here next other) (order.Save ∷ os)
+          → IsElement os e → IsBlock (element_saved e here next other) (order.Save ∷ os)
       stored e (Some order.Load) next there behind h = taken e next (use_of next) refl there behind h
       stored e (Some order.Store) next there behind h = (behind_save (element_orders e) os order.Store (with_last (element_orders e) os order.Store h.0 there), h.1)
       stored e _ next there behind h = is
@@ -262,12 +338,23 @@ shape os = cases (place_at os) refl
     cases None is = if_saved_shape os
     cases (Some x) is = subst (λ y. IsBlock (fetched_or (element_at y os) os (fetched_from y os)) os) is (fetched_or_shape os (fetched_from (place_at os) os) (fetched_shape os))
 
--- the parts that a block names
+-- the parts that a block names, and the indexes between bounds
 pub names_parts : (left : ℕ) (os : List Order) → NamesParts (block_at left os)
 names_parts (suc n) os = tt
 names_parts zero os = cases (block_of os) (shape os)
   where
+    element : (e : Element) (t : Test) → TestNear e t → TestsWithin e t
+    element e (test.Address origin) h = tt
+    element e (test.Bounds upper line) h = h
+
+    operand : (s : Simple) → OperandIs s → OperandWithin s
+    operand (simple.Element e) h = element e e.test h
+    operand _ h = tt
+
     cases : (b : Block) → IsBlock b os → NamesParts b
     cases (block.FetchPart x t b is_signed) h = h.1
     cases (block.AssignPart x t b) h = h.1
+    cases (block.Operate s u) h = operand s h.1
+    cases (block.FetchElement e) h = element e e.test h.1
+    cases (block.AssignElement e) h = element e e.test h.1
     cases _ h = tt

@@ -1,7 +1,7 @@
 -- The sizes of the code, and the places in it.
 use Rattle.std.proofs.Common.{◌≡◌, ℕ, zero, suc, ◌+◌, ◌*◌, ◌≤◌, List, [], ◌∷◌, ◌++◌, length, drop, get_or, Option, Some, None, refl, sym, ap, ap₂, ◌∙◌, subst, arith, append_assoc, length-append}
 use Rattle.std.proofs.lemmas.List.{append-nil}
-use Rattle.std.specs.Prelude.{◌%◌, ◌-◌, ◌^◌, ◌==◌, nat_le, nat_lt, ℤ, pos, negsuc, Bool, true, false, if◌then◌else◌, slice_get, slice_index}
+use Rattle.std.specs.Prelude.{◌%◌, ◌-◌, ◌-ℤ◌, ◌^◌, ◌==◌, nat_le, nat_lt, ℤ, pos, negsuc, Bool, true, false, if◌then◌else◌, slice_get, slice_index}
 use Rattle.cw_order.specs.declared.order.Order.{Order}
 use Rattle.cw_order.specs.declared.order.Order.TheVariants as order
 use Rattle.cw_order.specs.declared.order.Orders.{Orders}
@@ -13,10 +13,13 @@ use Rattle.cw_run86.specs.Views.{with_number}
 use Rattle.cw_word.specs.BitField.{field_mask}
 use Rattle.cw_order.specs.declared.order.Comparator.{Comparator}
 use Rattle.cw_tmpl.specs.declared.pieces.Coded.TheVariants as coded
-use Rattle.cw_tmpl.specs.Mnemonics.{ax, cx, si, di, at_bx, at_si, set_word, move, load, store, compare, double, multiply, operate, change, shift_up, shift_down, shift_down_signed, shift_up_once, shift_down_once, shift_down_signed_once, jump_if_below}
+use Rattle.cw_tmpl.specs.declared.pieces.Target.TheVariants as target
+use Rattle.cw_tmpl.specs.Mnemonics.{ax, cx, si, di, at_bx, at_si, set_word, move, load, store, compare, double, multiply, operate, change, shift_up, shift_down, shift_down_signed, shift_up_once, shift_down_once, shift_down_signed_once, jump_if_below, operate_number}
 use Rattle.cw_tmpl.specs.declared.blocks.Place.{Place}
 use Rattle.cw_tmpl.specs.declared.blocks.Place.TheVariants as cell
 use Rattle.cw_tmpl.specs.declared.blocks.Element.{Element}
+use Rattle.cw_tmpl.specs.declared.blocks.Test.{Test}
+use Rattle.cw_tmpl.specs.declared.blocks.Test.TheVariants as test
 use Rattle.cw_tmpl.specs.declared.blocks.Simple.{Simple}
 use Rattle.cw_tmpl.specs.declared.blocks.Simple.TheVariants as simple
 use Rattle.cw_tmpl.specs.declared.blocks.Use.{Use}
@@ -28,10 +31,10 @@ use Rattle.cw_unit.specs.declared.unit.Goal.TheVariants as goal
 use Rattle.cw_order.specs.declared.order.LabelMark.{LabelMark}
 use Rattle.cw_tmpl.specs.Pieces.{blanks}
 use Rattle.cw_tmpl.specs.Names.{Names, no_names, mark_place, switch_size}
-use Rattle.cw_tmpl.specs.Blocks.{address_orders, element_orders, operand_orders, order_of, count_order, element_at, element_fetched, fetched_or, block_of, block_at, orders_left, left_at}
+use Rattle.cw_tmpl.specs.Blocks.{address_orders, bounds_orders, element_orders, operand_orders, order_of, count_order, element_at, element_fetched, fetched_or, block_of, block_at, orders_left, left_at}
 use Rattle.cw_tmpl.proofs.Shapes.{IsBlock, shape}
-use Rattle.cw_tmpl.specs.Library.{overflow_entry, address_entry}
-use Rattle.cw_tmpl.specs.Templates.{template, mark_words, goal_words, landing_pieces, switch_pieces, times_if, rescale_if, product_start, product_down, times, less_bound, plus_word, times_width, based, element, in_row, element_of_two, entry, address_pieces, load_place, store_place, pieces_size, operated, block_pieces, block_size, order_size, times_size, width_size, bound_size, word_size, listed_size, size_behind, sizes_behind, listed_sizes, distance, entry_pieces, shifted, shifted_up, shifted_down, shifted_down_signed, lowest_if, part_taken, index_size, store_part, operate_place, change_place, index_added, element_address, with_operand, product_with, checked, branch, call_stop, shift_size, lowest_size, part_size, size_in_list, owed}
+use Rattle.cw_tmpl.specs.Library.{overflow_entry, address_entry, bounds_entry}
+use Rattle.cw_tmpl.specs.Templates.{template, mark_words, goal_words, landing_pieces, switch_pieces, times_if, rescale_if, product_start, product_down, times, less_bound, plus_word, times_width, based, element, in_row, element_of_two, entry, address_pieces, load_place, store_place, pieces_size, operated, block_pieces, block_size, order_size, times_size, width_size, bound_size, word_size, listed_size, size_behind, sizes_behind, listed_sizes, distance, entry_pieces, shifted, shifted_up, shifted_down, shifted_down_signed, lowest_if, part_taken, index_size, lower_size, element_size, used_size, store_part, operate_place, change_place, index_added, index_loaded, from_lower, indexes_between, index_below, address_tested, index_tested, element_tested, element_address, with_operand, product_with, checked, branch, call_stop, shift_size, lowest_size, part_size, size_in_list, owed}
 use Rattle.cw_tmpl.specs.ReferenceCode.{templates, landings, switches, places_from, entry_size, order_places, landings_place, switches_place, names_of, mark_starts, pieces_of, switch_sizes, StandsAt}
 use Rattle.cw_tmpl.proofs.Growing.{blanks-append}
 
@@ -386,29 +389,97 @@ pub index_long : (x : Place) (family offset : ℕ) → length (blanks (index_add
 index_long (cell.Word f n) family offset = refl
 index_long (cell.Frame n) family offset = refl
 
-pub element_long_as : (e : Element) → length (blanks (element_address e)) ≡ index_size e.index + 11
-element_long_as e =
-    let tested : List Coded = coded.Whole (compare si di) ∷ coded.Whole (jump_if_below 5) ∷ (call_stop address_entry e.line ++ coded.Whole (double si) ∷ []) in
-    appended_long (index_added e.index e.family e.zero) tested ∙ ap (λ n. n + 11) (index_long e.index e.family e.zero)
+loaded_long : (x : Place) → length (blanks (index_loaded x)) + 3 ≡ index_size x
+loaded_long (cell.Word f n) = refl
+loaded_long (cell.Frame n) = refl
 
-element_orders_fit : (x : Place) (f n : ℕ) (l : ℤ) (s line : ℕ) (o : Order) (rest : List Order)
+lower_long : (l : ℤ) → length (blanks (from_lower l)) ≡ lower_size l
+lower_long (pos zero) = refl
+lower_long (pos (suc n)) = refl
+lower_long (negsuc n) = refl
+
+-- of an element whose address is tested, and of one whose index is
+pub address_long_as : (e : Element) (origin : ℕ) → length (blanks (address_tested e origin)) ≡ index_size e.index + 11
+address_long_as e origin =
+    let tested : List Coded = coded.Whole (compare si di) ∷ coded.Whole (jump_if_below 5) ∷ (call_stop address_entry e.line ++ coded.Whole (double si) ∷ []) in
+    appended_long (index_added e.index e.family origin) tested ∙ ap (λ n. n + 11) (index_long e.index e.family origin)
+
+pub index_long_as : (e : Element) (upper : ℤ) (line : ℕ) → length (blanks (index_tested e upper line)) ≡ index_size e.index + lower_size e.lower + 14
+index_long_as e upper line =
+    let tested : List Coded = index_below (indexes_between (upper -ℤ e.lower)) line e.family e.first in
+    omega (arith, appended_long (index_loaded e.index) (from_lower e.lower ++ tested), appended_long (from_lower e.lower) tested, loaded_long e.index, lower_long e.lower)
+
+tested_long_as : (e : Element) (t : Test) → length (blanks (element_tested e t)) ≡ element_size e t
+tested_long_as e (test.Address origin) = address_long_as e origin
+tested_long_as e (test.Bounds upper line) = index_long_as e upper line
+
+pub element_long_as : (e : Element) → length (blanks (element_address e)) ≡ element_size e e.test
+element_long_as e = tested_long_as e e.test
+
+pub element_with_long : (op : ℕ) (e : Element) → length (blanks (with_operand op (simple.Element e))) ≡ element_size e e.test + 2
+element_with_long op e = appended_long (element_address e) (coded.Whole (operate op ax at_si) ∷ []) ∙ ap (λ n. n + 2) (element_long_as e)
+
+pub element_used_long : (e : Element) (u : Use) → block_size (block.Operate (simple.Element e) u) order.Save ≡ element_size e e.test + used_size u
+element_used_long e (uses.Add line) = omega (arith, appended_long (with_operand 0 (simple.Element e)) (checked line), element_with_long 0 e)
+element_used_long e (uses.Subtract line) = omega (arith, appended_long (with_operand 5 (simple.Element e)) (checked line), element_with_long 5 e)
+element_used_long e (uses.Multiply line) =
+    let last : List Coded = coded.Whole (load ax at_si) ∷ coded.Whole (multiply cx) ∷ [] in
+    omega (arith, appended_long (product_with (simple.Element e)) (checked line), appended_long (element_address e) last, element_long_as e)
+element_used_long e uses.Mask = element_with_long 4 e
+element_used_long e uses.Union = element_with_long 1 e
+element_used_long e uses.Differ = element_with_long 6 e
+element_used_long e (uses.Compare c m) =
+    let end : ℕ = 0 + pieces_size (with_operand 7 (simple.Element e)) + 5 in
+    omega (arith, appended_long (with_operand 7 (simple.Element e)) (branch c end (mark_place no_names m)), element_with_long 7 e)
+
+pub element_at_long : (e : Element) (i : Instr) → length (bytes_of i) ≡ 2 → length (blanks (element_address e ++ coded.Whole i ∷ [])) ≡ element_size e e.test + 2
+element_at_long e i two = omega (arith, appended_long (element_address e) (coded.Whole i ∷ []), appended_one i, two, element_long_as e)
+
+-- there is room for it
+address_orders_fit : (x : Place) (f n : ℕ) (l : ℤ) (s line : ℕ) (o : Order) (rest : List Order)
     → (let list : List Order = address_orders x ++ (order.Load ∷ order.Save ∷ order.Home f n ∷ order.Element l s line ∷ o ∷ rest) in
     let behind : ℕ = size_behind (Some (order.Home f n)) (Some (order.Element l s line)) o + sizes_behind (Some (order.Element l s line)) (Some o) rest in
     (index_size x + 20 + behind ≤ listed_sizes list) × (index_size x + 20 + behind ≤ listed_sizes (order.Save ∷ list)))
-element_orders_fit (cell.Word f' n') f n l s line o rest = (omega arith, omega arith)
-element_orders_fit (cell.Frame n') f n l s line o rest = (omega arith, omega arith)
+address_orders_fit (cell.Word f' n') f n l s line o rest = (omega arith, omega arith)
+address_orders_fit (cell.Frame n') f n l s line o rest = (omega arith, omega arith)
+
+short_lower : (l : ℤ) → lower_size l ≤ 4
+short_lower (pos zero) = omega arith
+short_lower (pos (suc n)) = omega arith
+short_lower (negsuc n) = omega arith
+
+bounds_orders_fit : (x : Place) (f n : ℕ) (l u : ℤ) (at s line : ℕ) (o : Order) (rest : List Order)
+    → (let list : List Order = address_orders x ++ (order.Load ∷ order.InBounds l u at ∷ order.Save ∷ order.Home f n ∷ order.Element l s line ∷ o ∷ rest) in
+    let behind : ℕ = size_behind (Some (order.Home f n)) (Some (order.Element l s line)) o + sizes_behind (Some (order.Element l s line)) (Some o) rest in
+    (index_size x + lower_size l + 23 + behind ≤ listed_sizes list) × (index_size x + lower_size l + 23 + behind ≤ listed_sizes (order.Save ∷ list)))
+bounds_orders_fit (cell.Word f' n') f n l u at s line o rest = (omega (arith, short_lower l), omega (arith, short_lower l))
+bounds_orders_fit (cell.Frame n') f n l u at s line o rest = (omega (arith, short_lower l), omega (arith, short_lower l))
 
 -- an order behind them
 element_last : (e : Element) (o : Order) (rest : List Order)
     → (let behind : ℕ = size_behind (Some (order.Home e.family e.first)) (Some (order.Element e.lower e.span e.line)) o + sizes_behind (Some (order.Element e.lower e.span e.line)) (Some o) rest in
-    (index_size e.index + 20 + behind ≤ listed_sizes (element_orders e ++ o ∷ rest)) × (index_size e.index + 20 + behind ≤ listed_sizes (order.Save ∷ (element_orders e ++ o ∷ rest))))
-element_last e o rest =
-    let A = address_orders e.index in
-    let made : List Order = order.Load ∷ order.Save ∷ order.Home e.family e.first ∷ order.Element e.lower e.span e.line ∷ [] in
-    let same : A ++ (made ++ o ∷ rest) ≡ (A ++ made) ++ o ∷ rest = sym (append_assoc A made (o ∷ rest)) in
-    let behind : ℕ = size_behind (Some (order.Home e.family e.first)) (Some (order.Element e.lower e.span e.line)) o + sizes_behind (Some (order.Element e.lower e.span e.line)) (Some o) rest in
-    subst (λ list. (index_size e.index + 20 + behind ≤ listed_sizes list) × (index_size e.index + 20 + behind ≤ listed_sizes (order.Save ∷ list))) same
-    (element_orders_fit e.index e.family e.first e.lower e.span e.line o rest)
+    (element_size e e.test + 9 + behind ≤ listed_sizes (element_orders e ++ o ∷ rest)) × (element_size e e.test + 9 + behind ≤ listed_sizes (order.Save ∷ (element_orders e ++ o ∷ rest))))
+element_last e o rest = cases e.test
+  where
+    A : List Order
+    A = address_orders e.index
+
+    behind : ℕ
+    behind = size_behind (Some (order.Home e.family e.first)) (Some (order.Element e.lower e.span e.line)) o + sizes_behind (Some (order.Element e.lower e.span e.line)) (Some o) rest
+
+    made : Test → List Order
+    made t = order.Load ∷ (bounds_orders e.lower t ++ order.Save ∷ order.Home e.family e.first ∷ order.Element e.lower e.span e.line ∷ [])
+
+    Fits : Test → List Order → Type 0
+    Fits t list = (element_size e t + 9 + behind ≤ listed_sizes list) × (element_size e t + 9 + behind ≤ listed_sizes (order.Save ∷ list))
+
+    cases : (t : Test) → Fits t ((A ++ made t) ++ o ∷ rest)
+    cases (test.Address origin) =
+        let h = address_orders_fit e.index e.family e.first e.lower e.span e.line o rest in
+        subst (λ list. Fits (test.Address origin) list) (sym (append_assoc A (made (test.Address origin)) (o ∷ rest))) (omega (arith, h.0), omega (arith, h.1))
+    cases (test.Bounds upper line) =
+        let h = bounds_orders_fit e.index e.family e.first e.lower upper line e.span e.line o rest in
+        subst (λ list. Fits (test.Bounds upper line) list) (sym (append_assoc A (made (test.Bounds upper line)) (o ∷ rest))) (omega (arith, h.0), omega (arith, h.1))
 
 fetch_element_fits : (e : Element) (rest : List Order) → pieces_size (element_address e ++ coded.Whole (load ax at_si) ∷ []) + listed_sizes rest ≤ listed_sizes (element_orders e ++ order.Load ∷ rest)
 fetch_element_fits e rest =
@@ -431,10 +502,7 @@ used_last before (uses.Compare c m) rest = behind_other (Some before) (order.Jum
 operate_element_fits : (e : Element) (u : Use) (rest : List Order) → pieces_size (operated no_names 0 (simple.Element e) u) + listed_sizes rest ≤ listed_sizes (order.Save ∷ (operand_orders (simple.Element e) ++ order_of u ∷ rest))
 operate_element_fits e u rest = element u (used_last order.Load u rest)
   where
-    element_load : (op : ℕ) → length (blanks (with_operand op (simple.Element e))) ≡ index_size e.index + 13
-    element_load op = appended_long (element_address e) (coded.Whole (operate op ax at_si) ∷ []) ∙ ap (λ n. n + 2) (element_long_as e) ∙ (omega arith)
-
-    listed_behind : (u : Use) → sizes_behind (Some order.Load) (Some (order_of u)) rest ≡ listed_sizes rest → index_size e.index + 25 + listed_size (order_of u) + listed_sizes rest ≤ listed_sizes (order.Save ∷ (operand_orders (simple.Element e) ++ order_of u ∷ rest))
+    listed_behind : (u : Use) → sizes_behind (Some order.Load) (Some (order_of u)) rest ≡ listed_sizes rest → element_size e e.test + 14 + listed_size (order_of u) + listed_sizes rest ≤ listed_sizes (order.Save ∷ (operand_orders (simple.Element e) ++ order_of u ∷ rest))
     listed_behind u same =
         let A = element_orders e in
         let list : A ++ (order.Load ∷ order_of u ∷ rest) ≡ (A ++ order.Load ∷ []) ++ order_of u ∷ rest = sym (append_assoc A (order.Load ∷ []) (order_of u ∷ rest)) in
@@ -443,7 +511,7 @@ operate_element_fits e u rest = element u (used_last order.Load u rest)
       where
         use_behind : (u : Use) → sizes_behind (Some order.Load) (Some (order_of u)) rest ≡ listed_sizes rest
             → listed_sizes (order.Save ∷ (element_orders e ++ (order.Load ∷ order_of u ∷ rest))) ≡ listed_sizes (order.Save ∷ ((element_orders e ++ order.Load ∷ []) ++ order_of u ∷ rest))
-            → index_size e.index + 25 + listed_size (order_of u) + listed_sizes rest ≤ listed_sizes (order.Save ∷ ((element_orders e ++ order.Load ∷ []) ++ order_of u ∷ rest))
+            → element_size e e.test + 14 + listed_size (order_of u) + listed_sizes rest ≤ listed_sizes (order.Save ∷ ((element_orders e ++ order.Load ∷ []) ++ order_of u ∷ rest))
         use_behind (uses.Add line) same sizes = omega (arith, same, sizes, (element_last e order.Load (order.Add line ∷ rest)).1)
         use_behind (uses.Subtract line) same sizes = omega (arith, same, sizes, (element_last e order.Load (order.Sub line ∷ rest)).1)
         use_behind (uses.Multiply line) same sizes = omega (arith, same, sizes, (element_last e order.Load (order.Mul (pos 0) line ∷ rest)).1)
@@ -454,17 +522,13 @@ operate_element_fits e u rest = element u (used_last order.Load u rest)
 
     element : (u : Use) → sizes_behind (Some order.Load) (Some (order_of u)) rest ≡ listed_sizes rest
         → pieces_size (operated no_names 0 (simple.Element e) u) + listed_sizes rest ≤ listed_sizes (order.Save ∷ (operand_orders (simple.Element e) ++ order_of u ∷ rest))
-    element (uses.Add line) same = omega (arith, listed_behind (uses.Add line) same, appended_long (with_operand 0 (simple.Element e)) (checked line), element_load 0)
-    element (uses.Subtract line) same = omega (arith, listed_behind (uses.Subtract line) same, appended_long (with_operand 5 (simple.Element e)) (checked line), element_load 5)
-    element (uses.Multiply line) same =
-        let last : List Coded = coded.Whole (load ax at_si) ∷ coded.Whole (multiply cx) ∷ [] in
-        omega (arith, listed_behind (uses.Multiply line) same, appended_long (product_with (simple.Element e)) (checked line), appended_long (element_address e) last, element_long_as e)
-    element uses.Mask same = omega (arith, listed_behind uses.Mask same, element_load 4)
-    element uses.Union same = omega (arith, listed_behind uses.Union same, element_load 1)
-    element uses.Differ same = omega (arith, listed_behind uses.Differ same, element_load 6)
-    element (uses.Compare c m) same =
-        let end : ℕ = 0 + pieces_size (with_operand 7 (simple.Element e)) + 5 in
-        omega (arith, listed_behind (uses.Compare c m) same, appended_long (with_operand 7 (simple.Element e)) (branch c end (mark_place no_names m)), element_load 7)
+    element (uses.Add line) same = omega (arith, listed_behind (uses.Add line) same, element_used_long e (uses.Add line))
+    element (uses.Subtract line) same = omega (arith, listed_behind (uses.Subtract line) same, element_used_long e (uses.Subtract line))
+    element (uses.Multiply line) same = omega (arith, listed_behind (uses.Multiply line) same, element_used_long e (uses.Multiply line))
+    element uses.Mask same = omega (arith, listed_behind uses.Mask same, element_used_long e uses.Mask)
+    element uses.Union same = omega (arith, listed_behind uses.Union same, element_used_long e uses.Union)
+    element uses.Differ same = omega (arith, listed_behind uses.Differ same, element_used_long e uses.Differ)
+    element (uses.Compare c m) same = omega (arith, listed_behind (uses.Compare c m) same, element_used_long e (uses.Compare c m))
 
 operate_fits : (s : Simple) (u : Use) (rest : List Order) → pieces_size (operated no_names 0 s u) + listed_sizes rest ≤ listed_sizes (order.Save ∷ (operand_orders s ++ order_of u ∷ rest))
 operate_fits (simple.Element e) u rest = operate_element_fits e u rest

@@ -7,6 +7,7 @@ use Rattle.cw_order.specs.declared.order.Order.TheVariants as order
 use Rattle.cw_tmpl.specs.declared.blocks.Place.{Place}
 use Rattle.cw_tmpl.specs.declared.blocks.Place.TheVariants as cell
 use Rattle.cw_tmpl.specs.declared.blocks.Element.{Element}
+use Rattle.cw_tmpl.specs.declared.blocks.Bounds.{Bounds}
 use Rattle.cw_tmpl.specs.declared.blocks.Test.{Test}
 use Rattle.cw_tmpl.specs.declared.blocks.Test.TheVariants as test
 use Rattle.cw_tmpl.specs.declared.blocks.Simple.{Simple}
@@ -25,7 +26,7 @@ address_orders (cell.Frame n) = order.FrameHome n ∷ []
 
 -- those that compare an index with its bounds
 abbrev pub bounds_orders : (lower : ℤ) → Test → List Order
-bounds_orders lower (test.Address zero) = []
+bounds_orders lower (test.Address origin) = []
 bounds_orders lower (test.Bounds upper line) = order.InBounds lower upper line ∷ []
 
 -- those that make the address of an element whose index stands at a place
@@ -123,33 +124,56 @@ zero_word (negsuc n) span first = zero_behind (suc n) span first
 
 abbrev pub address_test : Option ℕ → Option Test
 address_test None = None
-address_test (Some zero) = Some (test.Address zero)
+address_test (Some origin) = Some (test.Address origin)
 
 -- how many words are between the lower bound and the upper one: the first one's is 0
 abbrev pub is_within : (last : ℤ) → (span : ℕ) → Bool
 is_within (pos n) span = nat_lt n span
 is_within (negsuc n) span = false
 
+-- bounds that an order compares an index with
+abbrev pub bounds_at : Option Order → Option Bounds
+bounds_at (Some (order.InBounds l u line)) = Some (record { lower = l; upper = u; line = line })
+bounds_at _ = None
+
 -- An index between its bounds names a word that is known to be in the data area, where the item begins at the lower one.
-abbrev pub bounds_test : (lower upper : ℤ) → (line : ℕ) → (begins : ℤ) → (span : ℕ) → Option Test
-bounds_test lower upper line begins span =
-    if (int_le lower begins && int_le begins lower) && is_within (upper -ℤ lower) span then Some (test.Bounds upper line) else None
+abbrev pub bounds_test : Bounds → (begins : ℤ) → (span : ℕ) → Option Test
+bounds_test b begins span =
+    if (int_le b.lower begins && int_le begins b.lower) && is_within (b.upper -ℤ b.lower) span then Some (test.Bounds b.upper b.line) else None
+
+abbrev pub tested_by : Option Bounds → (begins : ℤ) → (span : ℕ) → Option Test
+tested_by None begins span = None
+tested_by (Some b) begins span = bounds_test b begins span
 
 abbrev pub element_with : Option Test → (index : Place) → (family first : ℕ) → (lower : ℤ) → (span line : ℕ) → Option Element
 element_with None x f n l s line = None
 element_with (Some t) x f n l s line = Some (record { index = x; family = f; first = n; lower = l; span = s; line = line; test = t })
 
+abbrev pub is_save : Option Order → Bool
+is_save (Some order.Save) = true
+is_save _ = false
+
+abbrev pub is_load : Option Order → Bool
+is_load (Some order.Load) = true
+is_load _ = false
+
+-- the orders that make the address, behind a save of the index; and they and its bounds before that
+abbrev pub element_addressed : Place → (puts forms : Option Order) → Option Element
+element_addressed x (Some (order.Home f n)) (Some (order.Element l s line)) = element_with (address_test (zero_word l s n)) x f n l s line
+element_addressed x _ _ = None
+
+abbrev pub element_bounded : Place → (bounds puts forms : Option Order) → Option Element
+element_bounded x bounds (Some (order.Home f n)) (Some (order.Element l s line)) = element_with (tested_by (bounds_at bounds) l s) x f n l s line
+element_bounded x bounds _ _ = None
+
 -- the orders behind the load of the index
 abbrev pub element_of : Place → (second third fourth fifth : Option Order) → Option Element
-element_of x (Some order.Save) (Some (order.Home f n)) (Some (order.Element l s line)) _ = element_with (address_test (zero_word l s n)) x f n l s line
-element_of x (Some (order.InBounds l u at)) (Some order.Save) (Some (order.Home f n)) (Some (order.Element begins s line)) =
-    element_with (bounds_test l u at begins s) x f n begins s line
-element_of x _ _ _ _ = None
+element_of x second third fourth fifth =
+    if is_save second then element_addressed x third fourth else if is_save third then element_bounded x second fourth fifth else None
 
 -- and from that load on, behind the address of the place where the index stands
 abbrev pub element_loaded : Place → (loads second third fourth fifth : Option Order) → Option Element
-element_loaded x (Some order.Load) second third fourth fifth = element_of x second third fourth fifth
-element_loaded x _ second third fourth fifth = None
+element_loaded x loads second third fourth fifth = if is_load loads then element_of x second third fourth fifth else None
 
 abbrev pub element_behind : Place → (behind : ℕ) → List Order → Option Element
 element_behind x k os =
@@ -286,8 +310,20 @@ left_at left orders zero = left
 left_at left [] (suc k) = left
 left_at left (o ∷ os) (suc k) = left_at (orders_left (block_at left (o ∷ os))) os k
 
--- the parts of words that blocks name are bits of a word
+-- the indexes between the bounds of an element name words that are known to be in the data area
+abbrev pub TestsWithin : Element → Test → Type 0
+TestsWithin e (test.Address origin) = Unit {0}
+TestsWithin e (test.Bounds upper line) = is_within (upper -ℤ e.lower) e.span ≡ true
+
+abbrev pub OperandWithin : Simple → Type 0
+OperandWithin (simple.Element e) = TestsWithin e e.test
+OperandWithin s = Unit {0}
+
+-- the parts of words that blocks name are bits of a word, and the indexes of their elements are as above
 abbrev pub NamesParts : Block → Type 0
 NamesParts (block.FetchPart x t b is_signed) = is_part t b ≡ true
 NamesParts (block.AssignPart x t b) = is_part t b ≡ true
+NamesParts (block.Operate s u) = OperandWithin s
+NamesParts (block.FetchElement e) = TestsWithin e e.test
+NamesParts (block.AssignElement e) = TestsWithin e e.test
 NamesParts b = Unit {0}

@@ -434,20 +434,22 @@ index_added (cell.Frame n) family offset =
     coded.Whole (load bx (slot base_slot)) ∷ coded.Move si (target.Word family offset) ∷ coded.Whole (operate 0 si (field (2 * n % 65536))) ∷ []
 
 -- the address of an element, doubled, in SI: it is tested, or the index is
-abbrev pub address_tested : Element → (zero : ℕ) → List Coded
-address_tested e zero =
-    index_added e.index e.family zero
+abbrev pub address_tested : Element → (origin : ℕ) → List Coded
+address_tested e origin =
+    index_added e.index e.family origin
     ++ coded.Whole (compare si di) ∷ coded.Whole (jump_if_below 5) ∷ (call_stop address_entry e.line ++ coded.Whole (double si) ∷ [])
 
+-- SI, where it is below so many indexes, with the address of a word added and doubled
+abbrev pub index_below : (count line : ℕ) → (family first : ℕ) → List Coded
+index_below count line family first =
+    coded.Whole (operate_number 7 si count) ∷ coded.Whole (jump_if_below 5)
+    ∷ (call_stop bounds_entry line ++ coded.Sum si (target.Word family first) ∷ coded.Whole (double si) ∷ [])
+
 abbrev pub index_tested : Element → (upper : ℤ) → (line : ℕ) → List Coded
-index_tested e upper line =
-    index_loaded e.index
-    ++ (from_lower e.lower
-    ++ coded.Whole (operate_number 7 si (indexes_between (upper -ℤ e.lower))) ∷ coded.Whole (jump_if_below 5)
-    ∷ (call_stop bounds_entry line ++ coded.Sum si (target.Word e.family e.first) ∷ coded.Whole (double si) ∷ []))
+index_tested e upper line = index_loaded e.index ++ (from_lower e.lower ++ index_below (indexes_between (upper -ℤ e.lower)) line e.family e.first)
 
 abbrev pub element_tested : Element → Test → List Coded
-element_tested e (test.Address zero) = address_tested e zero
+element_tested e (test.Address origin) = address_tested e origin
 element_tested e (test.Bounds upper line) = index_tested e upper line
 
 abbrev pub element_address : Element → List Coded
@@ -567,8 +569,18 @@ lower_size (pos zero) = 0
 lower_size lower = 4
 
 abbrev pub element_size : Element → Test → ℕ
-element_size e (test.Address zero) = index_size e.index + 11
+element_size e (test.Address origin) = index_size e.index + 11
 element_size e (test.Bounds upper line) = index_size e.index + lower_size e.lower + 14
+
+-- behind it, an order that uses the element
+abbrev pub used_size : Use → ℕ
+used_size (uses.Add line) = 9
+used_size (uses.Subtract line) = 9
+used_size (uses.Multiply line) = 13
+used_size uses.Mask = 2
+used_size uses.Union = 2
+used_size uses.Differ = 2
+used_size (uses.Compare c mark) = 7
 
 -- the same, order by order
 abbrev pub listed_size : Order → ℕ

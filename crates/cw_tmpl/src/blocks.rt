@@ -1,7 +1,7 @@
 //! Blocks: orders that have one piece of code together. The orders before the last only save the top operand, put a word, or make
 //! the address of an element; the code leaves the one where it is, and takes the other from its instruction or from memory.
-ghost use Rattle.std.specs.Prelude.{◌≡◌, ◌<◌, length, drop, slice_get};
-ghost use Rattle.cw_tmpl.specs.Blocks.{address_orders, element_orders, use_of, is_part, NamesParts, zero_word, address_test, bounds_test, element_behind, element_at, with_use, fetched, assigned, is_plain_divisor, exponent_of, halving_places, halved, divided, counted, number_scaled, with_number, saved, place_at, fetched_from, saved_from, element_fetched, element_used, element_saved, fetched_or, saved_or, block_if_saved, block_at, orders_left};
+ghost use Rattle.std.specs.Prelude.{◌≡◌, ◌<◌, ◌+◌, length, drop, slice_get};
+ghost use Rattle.cw_tmpl.specs.Blocks.{address_orders, element_orders, use_of, is_part, NamesParts, zero_word, address_test, bounds_at, bounds_test, tested_by, is_save, is_load, element_addressed, element_bounded, element_behind, element_at, with_use, fetched, assigned, is_plain_divisor, exponent_of, halving_places, halved, divided, counted, number_scaled, with_number, saved, place_at, fetched_from, saved_from, element_fetched, element_used, element_saved, fetched_or, saved_or, block_if_saved, block_at, orders_left};
 
 use cw_order::{Comparator, Order};
 
@@ -22,6 +22,14 @@ pub enum Test {
     /// The index is compared with its bounds, between which the words are known to be in the data area; elsewhere it stops with Bounds at
     /// this line.
     Bounds { upper: i16, line: u16 },
+}
+
+/// Bounds that an index is compared with, at a line.
+#[derive(Clone, Copy)]
+pub struct Bounds {
+    pub lower: i16,
+    pub upper: i16,
+    pub line: u16,
 }
 
 /// An element of an item whose first word stands in a storage family: its index stands at a place and counts from `lower`, and
@@ -179,10 +187,25 @@ fn address_test(lower: i16, span: u16, first: u16) -> Option<Test>
     Some(Test::Address { zero })
 }
 
-/// The test of an index with bounds, where an element begins at the lower one and all words between them are known to be in the data area.
-fn bounds_test(lower: i16, upper: i16, line: u16, begins: i16, span: u16) -> Option<Test>
-    ensures { result ≡ bounds_test lower upper line begins span }
+/// The bounds that the order at a place compares an index with.
+fn bounds_at(orders: &[Order], place: usize) -> Option<Bounds>
+    ensures { result ≡ bounds_at (slice_get orders.now place) }
 {
+    match orders.get(place) {
+        Some(Order::InBounds { lower, upper, line }) => Some(Bounds {
+            lower: *lower,
+            upper: *upper,
+            line: *line,
+        }),
+        _ => None,
+    }
+}
+
+/// The test of an index with bounds, where an element begins at the lower one and all words between them are known to be in the data area.
+fn bounds_test(bounds: Bounds, begins: i16, span: u16) -> Option<Test>
+    ensures { result ≡ bounds_test bounds begins span }
+{
+    let Bounds { lower, upper, line } = bounds;
     let last = i32::from(upper) - i32::from(lower);
     if lower == begins && 0 <= last && last < i32::from(span) {
         Some(Test::Bounds { upper, line })
@@ -191,26 +214,32 @@ fn bounds_test(lower: i16, upper: i16, line: u16, begins: i16, span: u16) -> Opt
     }
 }
 
-/// The element whose index stands at a place, where four orders behind its address make the address of one, or five with a test of its bounds.
-fn element_behind(index: Place, orders: &[Order], behind: usize) -> Option<Element>
-    requires { behind < 8 }
-    ensures { result ≡ element_behind index behind orders.now }
+/// The same with the bounds at a place.
+fn tested_by(orders: &[Order], place: usize, begins: i16, span: u16) -> Option<Test>
+    ensures { result ≡ tested_by (bounds_at (slice_get orders.now place)) begins span }
 {
-    if !matches!(orders.get(behind), Some(Order::Load)) {
-        return None;
-    }
-    match (
-        orders.get(behind + 1),
-        orders.get(behind + 2),
-        orders.get(behind + 3),
-        orders.get(behind + 4),
-    ) {
-        (
-            Some(Order::Save),
-            Some(Order::Home { family, offset }),
-            Some(Order::Element { lower, span, line }),
-            _,
-        ) => {
+    let bounds = bounds_at(orders, place)?;
+    bounds_test(bounds, begins, span)
+}
+
+fn is_save(orders: &[Order], place: usize) -> bool
+    ensures { result ≡ is_save (slice_get orders.now place) }
+{
+    matches!(orders.get(place), Some(Order::Save))
+}
+
+fn is_load(orders: &[Order], place: usize) -> bool
+    ensures { result ≡ is_load (slice_get orders.now place) }
+{
+    matches!(orders.get(place), Some(Order::Load))
+}
+
+/// The element whose index stands at a place, where the orders at two places make its address.
+fn element_addressed(index: Place, orders: &[Order], puts: usize, forms: usize) -> Option<Element>
+    ensures { result ≡ element_addressed index (slice_get orders.now puts) (slice_get orders.now forms) }
+{
+    match (orders.get(puts), orders.get(forms)) {
+        (Some(Order::Home { family, offset }), Some(Order::Element { lower, span, line })) => {
             let test = address_test(*lower, *span, *offset)?;
             Some(Element {
                 index,
@@ -222,32 +251,50 @@ fn element_behind(index: Place, orders: &[Order], behind: usize) -> Option<Eleme
                 test,
             })
         }
-        (
-            Some(Order::InBounds {
-                lower,
-                upper,
-                line: at,
-            }),
-            Some(Order::Save),
-            Some(Order::Home { family, offset }),
-            Some(Order::Element {
-                lower: begins,
-                span,
-                line,
-            }),
-        ) => {
-            let test = bounds_test(*lower, *upper, *at, *begins, *span)?;
+        _ => None,
+    }
+}
+
+/// The same where an order before them compares the index with bounds.
+fn element_bounded(
+    index: Place,
+    orders: &[Order],
+    bounds: usize,
+    puts: usize,
+    forms: usize,
+) -> Option<Element>
+    ensures { result ≡ element_bounded index (slice_get orders.now bounds) (slice_get orders.now puts) (slice_get orders.now forms) }
+{
+    match (orders.get(puts), orders.get(forms)) {
+        (Some(Order::Home { family, offset }), Some(Order::Element { lower, span, line })) => {
+            let test = tested_by(orders, bounds, *lower, *span)?;
             Some(Element {
                 index,
                 family: *family,
                 first: *offset,
-                lower: *begins,
+                lower: *lower,
                 span: *span,
                 line: *line,
                 test,
             })
         }
         _ => None,
+    }
+}
+
+/// The element whose index stands at a place, where four orders behind its address make the address of one, or five with a test of its bounds.
+fn element_behind(index: Place, orders: &[Order], behind: usize) -> Option<Element>
+    requires { behind < 8 }
+    ensures { result ≡ element_behind index behind orders.now }
+{
+    if !is_load(orders, behind) {
+        None
+    } else if is_save(orders, behind + 1) {
+        element_addressed(index, orders, behind + 2, behind + 3)
+    } else if is_save(orders, behind + 2) {
+        element_bounded(index, orders, behind + 1, behind + 3, behind + 4)
+    } else {
+        None
     }
 }
 
