@@ -173,6 +173,9 @@ over_inside n [] o e = absurd (cc)
 over_inside zero (x ∷ xs) o e = refl
 over_inside (suc n) (x ∷ xs) o e = over_inside n xs o e
 
+many_between : (n : ℕ) → n < 32768 → indexes_between (pos n) ≡ suc n
+many_between n few = omega arith
+
 within_span : (last : ℤ) (span : ℕ) → is_within last span ≡ true → (n : ℕ) × (last ≡ pos n) × (n < span)
 within_span (pos n) span e = (n, refl, ltb-true n span e)
 within_span (negsuc n) span e = absurd (cc)
@@ -580,7 +583,7 @@ module _ (known : Given) where
     between_is : (e : Element) (upper : ℤ) (z : BoundsWords e upper) → indexes_between (upper -ℤ e.lower) ≡ suc z.last
     between_is e upper z =
         let inside = z.inside in
-        ap indexes_between z.last_is ∙ (let small : suc z.last % 65536 ≡ suc z.last = omega arith in small)
+        ap indexes_between z.last_is ∙ many_between z.last (omega arith)
 
     -- the address, where the index is between its bounds
     pub index_addressed : {m : Bool} (l : Before m) (e : Element) (upper : ℤ) (line : ℕ) (tail : List Coded) (z : BoundsWords e upper) (r : IndexRead e.index s.before) (holds : is_between e upper r ≡ true) (at top ax cx : ℕ) (q' : Watched) (a : AtAddress l at top ax cx q')
