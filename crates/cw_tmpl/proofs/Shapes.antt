@@ -131,10 +131,11 @@ element_shape os e is = placed (place_at os) refl is
     bounded x f n l u at begins s line true true both near there is =
         let lowers : l ≡ begins = both_bounds l begins both in
         let E : Element = record { index = x; family = f; first = n; lower = begins; span = s; line = line; test = test.Bounds u at } in
-        known E is
-        (behind (address_orders x) (order.Load ∷ order.InBounds begins u at ∷ order.Save ∷ order.Home f n ∷ order.Element begins s line ∷ []) 5 refl
-        (there ∙ ap (λ k. address_orders x ++ order.Load ∷ order.InBounds k u at ∷ order.Save ∷ order.Home f n ∷ order.Element begins s line ∷ drop (length (address_orders x) + 5) os) lowers),
-        ap (λ k. is_within (u -ℤ k) s) (sym lowers) ∙ near)
+        known E is (
+          behind (address_orders x) (order.Load ∷ order.InBounds begins u at ∷ order.Save ∷ order.Home f n ∷ order.Element begins s line ∷ []) 5 refl
+              (there ∙ ap (λ k. address_orders x ++ order.Load ∷ order.InBounds k u at ∷ order.Save ∷ order.Home f n ∷ order.Element begins s line ∷ drop (length (address_orders x) + 5) os) lowers),
+          ap (λ k. is_within (u -ℤ k) s) (sym lowers) ∙ near,
+        )
     bounded x f n l u at begins s line true false both near there is = absurd (cc)
     bounded x f n l u at begins s line false within both near there is = absurd (cc)
 
