@@ -1,5 +1,5 @@
 -- Blocks of an element whose index is in memory: its word is fetched, assigned or used. Where its address is none of the data area, the order
--- that makes the address stops, and pays for the way to the stop.
+-- that makes the address stops, and pays for the way to the stop; where the index is compared with its bounds, the order that compares it does.
 use Rattle.std.proofs.Common.{◌≡◌, inl, inr, ◌⊎◌, ℕ, zero, suc, ◌+◌, ◌*◌, ◌%◌, ◌<◌, ◌≤◌, Bool, true, false, ℤ, pos, negsuc, ◌+ℤ◌, ◌-ℤ◌, List, [], ◌∷◌, ◌++◌, length, drop, set, Option, Some, None, refl, sym, ap, ◌∙◌, subst, arith, lit<, lit≤, append_assoc}
 use Rattle.std.specs.Prelude.{slice_get, int_le, ◌&&◌}
 use borrow.Author.Tests.{ltb-true}

@@ -1,4 +1,4 @@
--- The address of an element whose index a simple place holds: one sum and one compare.
+-- The address of an element whose index a simple place holds: one sum and one compare, of the sum or of the index.
 use Rattle.std.proofs.Common.{◌≡◌, inl, inr, ◌-◌, ℕ, zero, suc, ◌+◌, ◌*◌, ◌%◌, ◌<◌, ◌≤◌, Bool, true, false, ℤ, pos, negsuc, ◌+ℤ◌, ◌-ℤ◌, List, [], ◌∷◌, ◌++◌, length, Some, None, refl, sym, ap, ap₂, ◌∙◌, subst, arith, lit<, lit≤}
 use Rattle.std.proofs.Math.Nat.{min-eq_left}
 use Rattle.std.proofs.lemmas.Bool.{lt-ltb, le-ltb, false≢true, cases_lt}
