@@ -25,6 +25,8 @@ use Rattle.cw_order.specs.Starting.{starts, started_by}
 use Rattle.cw_tmpl.specs.declared.blocks.Place.{Place}
 use Rattle.cw_tmpl.specs.declared.blocks.Place.TheVariants as cell
 use Rattle.cw_tmpl.specs.declared.blocks.Element.{Element}
+use Rattle.cw_tmpl.specs.declared.blocks.Test.{Test}
+use Rattle.cw_tmpl.specs.declared.blocks.Test.TheVariants as test
 use Rattle.cw_tmpl.specs.declared.blocks.Simple.{Simple}
 use Rattle.cw_tmpl.specs.declared.blocks.Simple.TheVariants as simple
 use Rattle.cw_tmpl.specs.declared.blocks.Block.{Block}
@@ -32,7 +34,7 @@ use Rattle.cw_tmpl.specs.declared.blocks.Block.TheVariants as block
 use Rattle.cw_tmpl.specs.declared.blocks.Use.{Use}
 use Rattle.cw_tmpl.specs.declared.blocks.Use.TheVariants as uses
 use Rattle.cw_tmpl.specs.Mnemonics.{nothing}
-use Rattle.cw_tmpl.specs.Blocks.{address_orders, element_orders, operand_orders, order_of, count_order, block_at, orders_left}
+use Rattle.cw_tmpl.specs.Blocks.{address_orders, bounds_orders, element_orders, operand_orders, order_of, count_order, block_at, orders_left}
 use Rattle.cw_tmpl.specs.Names.{label_start, procedure_start, switch_start}
 use Rattle.cw_tmpl.specs.Templates.{distance}
 use Rattle.cw_tmpl.specs.ReferenceCode.{mark_starts, names_of, order_places}
@@ -78,7 +80,16 @@ place_plain (cell.Word f n) = (refl, tt)
 place_plain (cell.Frame n) = (refl, tt)
 
 element_plain : (e : Element) → Each IsPlain (element_orders e)
-element_plain e = each_of_both IsPlain (address_orders e.index) (order.Load ∷ order.Save ∷ order.Home e.family e.first ∷ order.Element e.lower e.span e.line ∷ []) (place_plain e.index) (refl, (refl, (refl, (refl, tt))))
+element_plain e =
+    each_of_both IsPlain (address_orders e.index) (order.Load ∷ (bounds_orders e.lower e.test ++ behind)) (place_plain e.index)
+    (refl, each_of_both IsPlain (bounds_orders e.lower e.test) behind (bounds_plain e.test) (refl, (refl, (refl, tt))))
+  where
+    behind : List Order
+    behind = order.Save ∷ order.Home e.family e.first ∷ order.Element e.lower e.span e.line ∷ []
+
+    bounds_plain : (t : Test) → Each IsPlain (bounds_orders e.lower t)
+    bounds_plain (test.Address origin) = tt
+    bounds_plain (test.Bounds upper line) = (refl, tt)
 
 operand_plain : (s : Simple) → Each IsPlain (operand_orders s)
 operand_plain (simple.Number w) = (refl, tt)

@@ -1,6 +1,6 @@
 -- The pieces of each template are instructions with the numbers of their rows, and stand where their bytes do.
 use Rattle.std.proofs.Common.{◌≡◌, ◌≢◌, ℕ, zero, suc, ◌+◌, ◌-◌, ◌/◌, ◌%◌, ◌<◌, ◌≤◌, List, [], ◌∷◌, ◌++◌, length, drop, get_or, sym, ap, ◌∙◌, subst, arith, lit<, append_assoc, length-append, Option, Some, None, Bool, true, false, ℤ, pos, negsuc, ◌*◌, ◌^◌, pow_mono, refl}
-use Rattle.std.specs.Prelude.{slice_get, slice_index, slice_index_or, nat_lt, nat_le, ◌==◌, if◌then◌else◌}
+use Rattle.std.specs.Prelude.{slice_get, slice_index, slice_index_or, nat_lt, nat_le, ◌==◌, if◌then◌else◌, ◌-ℤ◌}
 use Rattle.std.proofs.lemmas.List.{get_or_append_left, get_or-append-add}
 use Rattle.cw_i86.specs.Encoding.{bytes_of, word, IsInstr}
 use Rattle.cw_unit.specs.declared.unit.Goal.{Goal}
@@ -20,20 +20,22 @@ use Rattle.cw_tmpl.specs.declared.pieces.Target.TheVariants as target
 use Rattle.cw_tmpl.specs.declared.pieces.Coded.{Coded}
 use Rattle.cw_tmpl.specs.declared.pieces.Coded.TheVariants as coded
 use Rattle.cw_tmpl.specs.Pieces.{Filling, bytes_with, size_of, target_of, relocation_of, word_of, word_before, filled}
-use Rattle.cw_tmpl.specs.Mnemonics.{entry_of_table, change_memory, argument, double, jump_to, jump_if_below, at_bx, at_si, load, store, subtract, both, either, one_of, operate, change, move, add, multiply, shift_up, shift_up_once, shift_down, shift_down_once, shift_down_signed, shift_down_signed_once}
+use Rattle.cw_tmpl.specs.Mnemonics.{entry_of_table, change_memory, operate_number, memory, argument, double, jump_to, jump_if_below, at_bx, at_si, load, store, subtract, both, either, one_of, operate, change, move, add, multiply, shift_up, shift_up_once, shift_down, shift_down_once, shift_down_signed, shift_down_signed_once}
 use Rattle.cw_tmpl.specs.Library.{places_of_entries, entry_place, start_entry, overflow_entry, zero_divisor_entry, address_entry, bounds_entry, switch_entry, enter_entry, read_entry, product_entry, quotient_up_entry, quotient_down_entry, set_variable_entry, add_step_entry, put_variable_entry, exhausted_entry}
 use Rattle.cw_tmpl.specs.Names.{Names, mark_place, label_start, switch_start, procedure_start}
-use Rattle.cw_tmpl.specs.Templates.{template, call_library, call_stop, unless_overflow, checked, call_at_line, on_both, with_word, times, times_if, shifted, shifted_up, shifted_down, shifted_down_signed, lowest_if, taken, part_taken, load_top, store_part, rescale_if, by_routine, product_start, product_down, product, divisor_tested, quotient, in_area, index_by, less_bound, plus_word, times_width, base_kept, based, element, in_row, element_of_two, entry, in_bounds, branch, distance, jump_near, opposite_of, control_out, return_with, operands_dropped, base_jump, number_compared, mark_words, goal_words, loop_way, switch_pieces, address_pieces, load_place, store_place, operate_place, change_place, index_added, element_address, with_operand, product_with, pieces_size, operated, block_pieces, entry_pieces}
+use Rattle.cw_tmpl.specs.Templates.{template, call_library, call_stop, unless_overflow, checked, call_at_line, on_both, with_word, times, times_if, shifted, shifted_up, shifted_down, shifted_down_signed, lowest_if, taken, part_taken, load_top, store_part, rescale_if, by_routine, product_start, product_down, product, divisor_tested, quotient, in_area, index_by, less_bound, plus_word, times_width, base_kept, based, element, in_row, element_of_two, entry, in_bounds, branch, distance, jump_near, opposite_of, control_out, return_with, operands_dropped, base_jump, number_compared, mark_words, goal_words, loop_way, switch_pieces, address_pieces, load_place, store_place, operate_place, change_place, index_added, index_loaded, from_lower, indexes_between, element_tested, element_address, with_operand, product_with, pieces_size, operated, block_pieces, entry_pieces}
 use Rattle.cw_tmpl.specs.declared.blocks.Place.{Place}
 use Rattle.cw_tmpl.specs.declared.blocks.Place.TheVariants as cell
 use Rattle.cw_tmpl.specs.declared.blocks.Element.{Element}
+use Rattle.cw_tmpl.specs.declared.blocks.Test.{Test}
+use Rattle.cw_tmpl.specs.declared.blocks.Test.TheVariants as test
 use Rattle.cw_tmpl.specs.declared.blocks.Simple.{Simple}
 use Rattle.cw_tmpl.specs.declared.blocks.Simple.TheVariants as simple
 use Rattle.cw_tmpl.specs.declared.blocks.Use.{Use}
 use Rattle.cw_tmpl.specs.declared.blocks.Use.TheVariants as uses
 use Rattle.cw_tmpl.specs.declared.blocks.Block.{Block}
 use Rattle.cw_tmpl.specs.declared.blocks.Block.TheVariants as block
-use Rattle.cw_tmpl.specs.Blocks.{address_orders, element_orders, operand_orders, order_of, count_order, block_at}
+use Rattle.cw_tmpl.specs.Blocks.{address_orders, bounds_orders, element_orders, operand_orders, order_of, count_order, block_at}
 use Rattle.cw_tmpl.proofs.Shapes.{IsBlock, shape}
 use Rattle.cw_tmpl.specs.ReferenceCode.{names_of}
 use Rattle.cw_follow.specs.Placing.{Fills, base_of, definition_place}
@@ -45,6 +47,7 @@ use Rattle.cw_follow.proofs.Standing.{HasPiece, HasPieces}
 use Rattle.cw_follow.proofs.Halves.{part_of, few_places}
 use Rattle.cw_i86.specs.declared.instr.Instr.TheVariants as i86
 use Rattle.cw_i86.specs.declared.instr.Imm.TheVariants as imm
+use Rattle.cw_i86.specs.declared.instr.Place.TheVariants as places
 use Rattle.cw_word.specs.FixedPoint.{FitsWord}
 use Rattle.cw_word.specs.Word.{unsigned}
 use Rattle.cw_word.specs.BitField.{field_mask}
@@ -73,6 +76,8 @@ IsFilled value t = (after : ℕ) → word_of value after (relocation_of 0 t) < 6
 abbrev pub IsFine : Filling → Coded → Type 0
 IsFine value (coded.Whole i) = IsInstr i
 IsFine value (coded.Move reg t) = (reg < 8) × IsFilled value t
+IsFine value (coded.Sum reg t) = (reg < 8) × IsFilled value t
+IsFine value (coded.Fetch reg t) = (reg < 8) × IsFilled value t
 IsFine value (coded.Load t) = IsFilled value t
 IsFine value (coded.Store t) = IsFilled value t
 IsFine value (coded.Operate op reg t) = (op < 8) × (reg < 8) × IsFilled value t
@@ -101,6 +106,8 @@ one_piece : (image before behind : List ℕ) (value : Filling) (place : ℕ) (p 
     → image ≡ before ++ (bytes_with (word_before value (place + size_of p) (target_of p)) p ++ behind) → HasPiece image (word_before value (place + size_of p) (target_of p)) place p
 one_piece image before behind value place (coded.Whole i) fine at e = one_there image before behind place i fine at e
 one_piece image before behind value place (coded.Move reg t) fine at e = one_there image before behind place (i86.MovImm reg (imm.Word (word_of value (place + 3) (relocation_of 0 t)))) (fine.0, fine.1 (place + 3)) at e
+one_piece image before behind value place (coded.Sum reg t) fine at e = one_there image before behind place (operate_number 0 reg (word_of value (place + 4) (relocation_of 0 t))) (lit< tt, fine.0, fine.1 (place + 4)) at e
+one_piece image before behind value place (coded.Fetch reg t) fine at e = one_there image before behind place (load reg (memory (places.Direct (word_of value (place + 4) (relocation_of 0 t))))) (fine.0, fine.1 (place + 4)) at e
 one_piece image before behind value place (coded.Load t) fine at e = one_there image before behind place (i86.MovAcc false true false (word_of value (place + 3) (relocation_of 0 t))) (fine (place + 3)) at e
 one_piece image before behind value place (coded.Store t) fine at e = one_there image before behind place (i86.MovAcc false true true (word_of value (place + 3) (relocation_of 0 t))) (fine (place + 3)) at e
 one_piece image before behind value place (coded.Operate op reg t) fine at e = one_there image before behind place (with_memory op reg (word_of value (place + 4) (relocation_of 0 t))) (fine.0, fine.1, fine.2 (place + 4)) at e
@@ -135,10 +142,17 @@ abbrev pub OrderFits : Order → Type 0
 OrderFits o = NumberFits o × HasCode o × (line_of o < 65536)
 
 -- and those in a block
+abbrev pub TestFits : Element → Test → Type 0
+TestFits e (test.Address origin) = e.line < 65536
+TestFits e (test.Bounds upper line) = FitsWord e.lower × (line < 65536)
+
+abbrev pub ElementFits : Element → Type 0
+ElementFits e = TestFits e e.test
+
 abbrev pub SimpleFits : Simple → Type 0
 SimpleFits (simple.Number w) = w < 65536
 SimpleFits (simple.Contents x) = Unit {0}
-SimpleFits (simple.Element e) = e.line < 65536
+SimpleFits (simple.Element e) = ElementFits e
 
 abbrev pub BlockFits : Block → Order → Type 0
 BlockFits block.Single o = OrderFits o
@@ -146,8 +160,8 @@ BlockFits (block.Divide w line) o = w < 65536
 BlockFits (block.Operate s u) o = SimpleFits s × (line_of (order_of u) < 65536)
 BlockFits (block.FetchPart x t b is_signed) o = t + b ≤ 16
 BlockFits (block.AssignPart x t b) o = t + b ≤ 16
-BlockFits (block.FetchElement e) o = e.line < 65536
-BlockFits (block.AssignElement e) o = e.line < 65536
+BlockFits (block.FetchElement e) o = ElementFits e
+BlockFits (block.AssignElement e) o = ElementFits e
 BlockFits (block.Count down line) o = line < 65536
 BlockFits (block.Halve w power places line) o = places ≤ 15
 BlockFits _ o = Unit {0}
@@ -160,17 +174,29 @@ behind_these : (before : List Order) (o : Order) (rest : List Order) → slice_g
 behind_these [] o rest = refl
 behind_these (x ∷ xs) o rest = behind_these xs o rest
 
--- the order that forms the address of an element
+-- the orders that make the address of an element, with such a test, and others behind them
+abbrev made : Element → Test → (more rest : List Order) → List Order
+made e t more rest =
+    ((address_orders e.index ++ order.Load ∷ (bounds_orders e.lower t ++ order.Save ∷ order.Home e.family e.first ∷ order.Element e.lower e.span e.line ∷ [])) ++ more) ++ rest
+
+-- the order that forms it, and the one that compares the index
 forms_there : (x : Place) (a b c d : Order) (more rest : List Order) → slice_get (((address_orders x ++ a ∷ b ∷ c ∷ d ∷ []) ++ more) ++ rest) (length (address_orders x) + 3) ≡ Some d
 forms_there (cell.Word f n) a b c d more rest = refl
 forms_there (cell.Frame n) a b c d more rest = refl
 
-element_there : (e : Element) (more rest : List Order) → slice_get ((element_orders e ++ more) ++ rest) (length (address_orders e.index) + 3) ≡ Some (order.Element e.lower e.span e.line)
-element_there e more rest = forms_there e.index order.Load order.Save (order.Home e.family e.first) (order.Element e.lower e.span e.line) more rest
+compares_there : (x : Place) (a b : Order) (behind more rest : List Order) → slice_get (((address_orders x ++ a ∷ b ∷ behind) ++ more) ++ rest) (length (address_orders x) + 1) ≡ Some b
+compares_there (cell.Word f n) a b behind more rest = refl
+compares_there (cell.Frame n) a b behind more rest = refl
 
--- the same with one order behind it
-element_front : (e : Element) (o : Order) (rest : List Order) → slice_get (element_orders e ++ o ∷ rest) (length (address_orders e.index) + 3) ≡ Some (order.Element e.lower e.span e.line)
-element_front e o rest = ap (λ l. slice_get l (length (address_orders e.index) + 3)) (sym (append_assoc (element_orders e) (o ∷ []) rest)) ∙ element_there e (o ∷ []) rest
+-- where the numbers of all of them fit
+tested_fits : (e : Element) (t : Test) (more rest : List Order) → ((k : ℕ) (x : Order) → slice_get (made e t more rest) k ≡ Some x → OrderFits x) → TestFits e t
+tested_fits e (test.Address origin) more rest each =
+    (each (length (address_orders e.index) + 3) (order.Element e.lower e.span e.line)
+    (forms_there e.index order.Load order.Save (order.Home e.family e.first) (order.Element e.lower e.span e.line) more rest)).2
+tested_fits e (test.Bounds upper line) more rest each =
+    let behind : List Order = order.Save ∷ order.Home e.family e.first ∷ order.Element e.lower e.span e.line ∷ [] in
+    let h = each (length (address_orders e.index) + 1) (order.InBounds e.lower upper line) (compares_there e.index order.Load (order.InBounds e.lower upper line) behind more rest) in
+    (h.1.0, h.2)
 
 count_line : (down : Bool) (line : ℕ) → line_of (count_order down line) ≡ line
 count_line true line = refl
@@ -187,10 +213,11 @@ fits_first o os fits = cases (block_at 0 (o ∷ os)) (shape (o ∷ os))
     simple_fits (simple.Number w) u rest e = (fits_as 1 (order.Const w) _ e refl).0
     simple_fits (simple.Contents x) u rest e = tt
     simple_fits (simple.Element x) u rest e =
-        (fits_as (suc (length (address_orders x.index) + 3)) (order.Element x.lower x.span x.line) _ e (element_there x (order.Load ∷ []) (order_of u ∷ rest))).2
+        tested_fits x x.test (order.Load ∷ []) (order_of u ∷ rest) (λ k y is. fits_as (suc k) y _ e is)
 
-    element_fits : (k : ℕ) (x : Element) (all : List Order) → o ∷ os ≡ all → slice_get all k ≡ Some (order.Element x.lower x.span x.line) → x.line < 65536
-    element_fits k x all e is = (fits_as k (order.Element x.lower x.span x.line) all e is).2
+    -- an element, with one order behind it
+    element_front : (x : Element) (last : Order) (rest : List Order) (k : ℕ) (y : Order) → slice_get (made x x.test (last ∷ []) rest) k ≡ Some y → slice_get (element_orders x ++ last ∷ rest) k ≡ Some y
+    element_front x last rest k y is = ap (λ l. slice_get l k) (sym (append_assoc (element_orders x) (last ∷ []) rest)) ∙ is
 
     cases : (b : Block) → IsBlock b (o ∷ os) → BlockFits b o
     cases (block.Within n) sh = tt
@@ -204,8 +231,12 @@ fits_first o os fits = cases (block_at 0 (o ∷ os)) (shape (o ∷ os))
         (simple_fits s u rest sh.0, (fits_as (suc (length (operand_orders s))) (order_of u) _ sh.0 (behind_these (operand_orders s) (order_of u) rest)).2)
     cases (block.FetchPart x t b is_signed) sh = (part_of t b sh.1).1
     cases (block.AssignPart x t b) sh = (part_of t b sh.1).1
-    cases (block.FetchElement e) sh = element_fits (length (address_orders e.index) + 3) e _ sh.0 (element_front e order.Load (drop (length (element_orders e)) os))
-    cases (block.AssignElement e) sh = element_fits (suc (length (address_orders e.index) + 3)) e _ sh.0 (element_front e order.Store (drop (suc (length (element_orders e))) os))
+    cases (block.FetchElement e) sh =
+        let rest = drop (length (element_orders e)) os in
+        tested_fits e e.test (order.Load ∷ []) rest (λ k y is. fits_as k y _ sh.0 (element_front e order.Load rest k y is))
+    cases (block.AssignElement e) sh =
+        let rest = drop (suc (length (element_orders e))) os in
+        tested_fits e e.test (order.Store ∷ []) rest (λ k y is. fits_as (suc k) y _ sh.0 (element_front e order.Store rest k y is))
     cases (block.Count down line) sh = subst (λ n. n < 65536) (count_line down line) (fits_as 2 (count_order down line) _ sh refl).2
     cases (block.Halve w power places line) sh = few_places w power places sh.1
 
@@ -611,10 +642,33 @@ module _ (p : OrderProgram) (segment next : ℕ) (value : Filling) (fills : Fill
   index_fine (cell.Word f n) family offset = ((lit< tt, home_filled family offset), ((lit< tt, lit< tt, bytes_filled f n), tt))
   index_fine (cell.Frame n) family offset = ((is_bx, (lit< tt, lit< tt)), ((lit< tt, home_filled family offset), ((lit< tt, lit< tt, (lit< tt, field_fine n)), tt)))
 
-  element_address_fine : (e : Element) → e.line < 65536 → AllFine value (element_address e)
-  element_address_fine e small =
-      all_fine-append value (index_added e.index e.family e.zero) _ (index_fine e.index e.family e.zero)
+  loaded_fine : (x : Place) → AllFine value (index_loaded x)
+  loaded_fine (cell.Word f n) = ((lit< tt, bytes_filled f n), tt)
+  loaded_fine (cell.Frame n) = ((is_bx, (lit< tt, lit< tt)), ((lit< tt, (lit< tt, field_fine n)), tt))
+
+  from_lower_fine : (lower : ℤ) → FitsWord lower → AllFine value (from_lower lower)
+  from_lower_fine (pos zero) fl = tt
+  from_lower_fine (pos (suc n)) fl = ((lit< tt, lit< tt, unsigned_small (pos (suc n)) fl), tt)
+  from_lower_fine (negsuc n) fl = ((lit< tt, lit< tt, unsigned_small (negsuc n) fl), tt)
+
+  between_small : (last : ℤ) → indexes_between last < 65536
+  between_small (pos n) = omega arith
+  between_small (negsuc n) = lit< tt
+
+  element_tested_fine : (e : Element) (t : Test) → TestFits e t → AllFine value (element_tested e t)
+  element_tested_fine e (test.Address origin) small =
+      all_fine-append value (index_added e.index e.family origin) _ (index_fine e.index e.family origin)
       ((lit< tt, lit< tt, lit< tt), ((lit< tt, lit< tt), all_fine-append value (call_stop address_entry e.line) (coded.Whole (double 6) ∷ []) (call_stop_fine address_entry e.line (lit< tt) small) ((lit< tt, λ e. omega arith, lit< tt), tt)))
+  element_tested_fine e (test.Bounds upper line) fits =
+      let last_pieces : List Coded = coded.Sum 6 (target.Word e.family e.first) ∷ coded.Whole (double 6) ∷ [] in
+      all_fine-append value (index_loaded e.index) _ (loaded_fine e.index)
+      (all_fine-append value (from_lower e.lower) _ (from_lower_fine e.lower fits.0) (
+        (lit< tt, lit< tt, between_small (upper -ℤ e.lower)),
+        ((lit< tt, lit< tt), all_fine-append value (call_stop bounds_entry line) last_pieces (call_stop_fine bounds_entry line (lit< tt) fits.1) ((lit< tt, home_filled e.family e.first), ((lit< tt, λ e. omega arith, lit< tt), tt))),
+      ))
+
+  element_address_fine : (e : Element) → ElementFits e → AllFine value (element_address e)
+  element_address_fine e fits = element_tested_fine e e.test fits
 
   with_operand_fine : (op : ℕ) (s : Simple) → op < 8 → SimpleFits s → AllFine value (with_operand op s)
   with_operand_fine op (simple.Number w) lt fits = ((lt, fits), tt)

@@ -1,10 +1,10 @@
 -- Orders in their blocks.
 use Rattle.std.proofs.Common.{◌≡◌, ℕ, zero, suc, ◌+◌, List, [], ◌∷◌, ◌++◌, length, drop, Option, Some, None, ◌<◌, ◌≤◌, refl, sym, ap, ◌∙◌, subst, arith, Bool, true, false}
-use Rattle.std.specs.Prelude.{slice_get, ℤ, ◌+ℤ◌, ◌-ℤ◌, min}
+use Rattle.std.specs.Prelude.{slice_get, ℤ, ◌+ℤ◌, ◌-ℤ◌, min, int_le, ◌&&◌}
 use Rattle.cw_word.specs.FixedPoint.{fits_word}
-use Rattle.cw_unit.specs.Words.{Words, Outcome, Changed, Refused, Impossible, Word, Held, Operand, put, put_if, through, is_below, word_at, number_of, with_operands}
-use Rattle.cw_unit.specs.Operation.{Fetch, Indexed, fitting, perform}
-use Rattle.cw_unit.specs.Stop.{StopKind, AddressRange}
+use Rattle.cw_unit.specs.Words.{Words, Outcome, Changed, Refused, Impossible, Word, Held, Operand, put, put_if, through, is_below, word_at, number_of, with_operands, on_one}
+use Rattle.cw_unit.specs.Operation.{Fetch, Indexed, InBounds, fitting, perform}
+use Rattle.cw_unit.specs.Stop.{StopKind, AddressRange, IndexRange}
 use Rattle.cw_word.specs.Word.{signed}
 use Rattle.cw_order.specs.declared.order.Order.{Order}
 use Rattle.cw_order.specs.declared.order.Order.TheVariants as order
@@ -17,6 +17,8 @@ use Rattle.cw_order.specs.OrderMachine.{unrefused}
 use Rattle.cw_tmpl.specs.declared.blocks.Place.{Place}
 use Rattle.cw_tmpl.specs.declared.blocks.Place.TheVariants as cell
 use Rattle.cw_tmpl.specs.declared.blocks.Element.{Element}
+use Rattle.cw_tmpl.specs.declared.blocks.Test.{Test}
+use Rattle.cw_tmpl.specs.declared.blocks.Test.TheVariants as test
 use Rattle.cw_tmpl.specs.declared.blocks.Simple.{Simple}
 use Rattle.cw_tmpl.specs.declared.blocks.Simple.TheVariants as simple
 use Rattle.cw_tmpl.specs.declared.blocks.Use.{Use}
@@ -24,7 +26,7 @@ use Rattle.cw_tmpl.specs.declared.blocks.Use.TheVariants as uses
 use Rattle.cw_tmpl.specs.declared.blocks.Block.{Block}
 use Rattle.cw_tmpl.specs.declared.blocks.Block.TheVariants as block
 use Rattle.cw_follow.specs.Placing.{StandsBehind}
-use Rattle.cw_tmpl.specs.Blocks.{address_orders, element_orders, operand_orders, order_of, count_order, block_at, orders_left, left_at}
+use Rattle.cw_tmpl.specs.Blocks.{address_orders, bounds_orders, element_orders, operand_orders, order_of, count_order, block_at, orders_left, left_at}
 use Rattle.cw_tmpl.proofs.Shapes.{front_is, IsBlock, shape}
 use Rattle.cw_tmpl.proofs.Sizes.{size_to}
 
@@ -89,7 +91,16 @@ place_stands (cell.Word f n) = (tt, tt)
 place_stands (cell.Frame n) = (tt, tt)
 
 element_stands : (e : Element) → Each StandsBehind (element_orders e)
-element_stands e = each_of_both StandsBehind (address_orders e.index) (order.Load ∷ order.Save ∷ order.Home e.family e.first ∷ order.Element e.lower e.span e.line ∷ []) (place_stands e.index) (tt, (tt, (tt, (tt, tt))))
+element_stands e =
+    each_of_both StandsBehind (address_orders e.index) (order.Load ∷ (bounds_orders e.lower e.test ++ behind)) (place_stands e.index)
+    (tt, each_of_both StandsBehind (bounds_orders e.lower e.test) behind (bounds_stand e.test) (tt, (tt, (tt, tt))))
+  where
+    behind : List Order
+    behind = order.Save ∷ order.Home e.family e.first ∷ order.Element e.lower e.span e.line ∷ []
+
+    bounds_stand : (t : Test) → Each StandsBehind (bounds_orders e.lower t)
+    bounds_stand (test.Address origin) = tt
+    bounds_stand (test.Bounds upper line) = (tt, tt)
 
 operand_stands : (s : Simple) → Each StandsBehind (operand_orders s)
 operand_stands (simple.Number w) = (tt, tt)
@@ -183,6 +194,7 @@ module _ (p : OrderProgram) (g : ℕ) (acts : List OrderActivation) where
   puts_word (order.Home f n) w = Changed (put (signed (home_word p.addresses g f n)) w)
   puts_word (order.FrameHome n) w = put_address (frame_word p.limits.area acts n) w
   puts_word order.Load w = unrefused (perform p.limits.area (Fetch None) w)
+  puts_word (order.InBounds lower upper line) w = perform p.limits.area (InBounds lower upper) w
   puts_word (order.Element lower span line) w = from_base p.limits.area (λ base. Indexed base lower) w
   puts_word _ w = Impossible
 
@@ -288,11 +300,21 @@ element_unwritten area lower (Word base ∷ Word i ∷ rest) w v e = cases (fits
     cases true false e = absurd (cc)
     cases false below e = absurd (cc)
 
+bounds_unwritten : (lower upper : ℤ) (operands : List Operand) (w : Words) → Unwritten w (on_one (λ i v. put_if (int_le lower i && int_le i upper) IndexRange i v) operands w)
+bounds_unwritten lower upper [] w v e = absurd (cc)
+bounds_unwritten lower upper (Held c ∷ rest) w v e = absurd (cc)
+bounds_unwritten lower upper (Word i ∷ rest) w v e = cases (int_le lower i && int_le i upper) e
+  where
+    cases : (b : Bool) → put_if b IndexRange i (with_operands w rest) ≡ Changed v → v.output ≡ w.output
+    cases true e = let same : put i (with_operands w rest) ≡ v = cc in ap (λ x. x.output) (sym same)
+    cases false e = absurd (cc)
+
 pub never_writes : (p : OrderProgram) (g : ℕ) (acts : List OrderActivation) (o : Order) (w : Words) → Unwritten w (puts_word p g acts o w)
 never_writes p g acts order.Save w v e = let same : w ≡ v = cc in ap (λ x. x.output) (sym same)
 never_writes p g acts (order.Const n) w v e = let same : put (signed n) w ≡ v = cc in ap (λ x. x.output) (sym same)
 never_writes p g acts (order.Home f n) w v e = let same : put (signed (home_word p.addresses g f n)) w ≡ v = cc in ap (λ x. x.output) (sym same)
 never_writes p g acts (order.FrameHome n) w v e = address_unwritten (frame_word p.limits.area acts n) w v e
 never_writes p g acts order.Load w v e = load_unwritten p.limits.area w.operands w v e
+never_writes p g acts (order.InBounds lower upper line) w v e = bounds_unwritten lower upper w.operands w v e
 never_writes p g acts (order.Element lower span line) w v e = element_unwritten p.limits.area lower w.operands w v e
 never_writes p g acts _ w v e = absurd (cc)

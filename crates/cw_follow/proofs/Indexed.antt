@@ -1,33 +1,39 @@
--- The address of an element whose index a simple place holds: one sum and one compare.
-use Rattle.std.proofs.Common.{◌≡◌, inl, inr, ◌-◌, ℕ, zero, suc, ◌+◌, ◌*◌, ◌%◌, ◌<◌, ◌≤◌, Bool, true, false, ℤ, pos, negsuc, ◌+ℤ◌, ◌-ℤ◌, List, [], ◌∷◌, ◌++◌, Some, None, refl, sym, ap, ap₂, ◌∙◌, subst, arith, lit<, lit≤}
+-- The address of an element whose index a simple place holds: one sum and one compare, of the sum or of the index.
+use Rattle.std.proofs.Common.{◌≡◌, inl, inr, ◌-◌, ℕ, zero, suc, ◌+◌, ◌*◌, ◌%◌, ◌<◌, ◌≤◌, Bool, true, false, ℤ, pos, negsuc, ◌+ℤ◌, ◌-ℤ◌, List, [], ◌∷◌, ◌++◌, length, Some, None, refl, sym, ap, ap₂, ◌∙◌, subst, arith, lit<, lit≤}
 use Rattle.std.proofs.Math.Nat.{min-eq_left}
 use Rattle.std.proofs.lemmas.Bool.{lt-ltb, le-ltb, false≢true, cases_lt}
 use Rattle.std.proofs.lemmas.Bool.Decides.{nat_tests}
 use Rattle.std.proofs.lemmas.Int.{ints}
-use Rattle.std.specs.Prelude.{nat_lt, ◌&&◌, if◌then◌else◌, min}
+use Rattle.std.specs.Prelude.{nat_lt, int_le, ◌&&◌, if◌then◌else◌, min}
 use Rattle.cw_run86.specs.Processor.{Told}
-use Rattle.cw_run86.specs.Views.{View, Has, word_sum, sum_overflows, double_overflows}
+use Rattle.cw_run86.specs.Views.{View, Has, word_sum, word_difference, sum_overflows, difference_overflows, double_overflows}
 use Rattle.cw_word.specs.FixedPoint.{FitsWord, fits_word}
 use Rattle.cw_word.specs.Word.{signed, unsigned}
-use Rattle.cw_unit.specs.Stop.{AddressRange}
+use Rattle.cw_unit.specs.Stop.{AddressRange, IndexRange}
 use Rattle.cw_unit.specs.Words.{Words, Changed, Refused, put, put_if, is_below}
 use Rattle.cw_unit.specs.Operation.{fitting, address_of}
 use Rattle.cw_tmpl.specs.declared.pieces.Coded.{Coded}
 use Rattle.cw_tmpl.specs.declared.pieces.Coded.TheVariants as coded
 use Rattle.cw_tmpl.specs.declared.blocks.Place.{Place}
 use Rattle.cw_tmpl.specs.declared.blocks.Place.TheVariants as cell
+use Rattle.cw_tmpl.specs.declared.blocks.Element.{Element}
+use Rattle.cw_tmpl.specs.declared.blocks.Test.{Test}
+use Rattle.cw_tmpl.specs.declared.blocks.Test.TheVariants as test
+use Rattle.cw_tmpl.specs.declared.pieces.Target.TheVariants as target
 use Rattle.cw_tmpl.specs.Blocks.{zero_word}
-use Rattle.cw_tmpl.specs.Library.{stop_place, address_entry}
-use Rattle.cw_tmpl.specs.Mnemonics.{bx as bx_register, si as si_register, di, field, compare, double, jump_if_below}
-use Rattle.cw_tmpl.specs.Pieces.{Filling}
-use Rattle.cw_tmpl.specs.Templates.{call_stop, index_added}
+use Rattle.cw_tmpl.specs.Library.{stop_place, address_entry, bounds_entry}
+use Rattle.cw_tmpl.specs.Mnemonics.{bx as bx_register, si as si_register, di, field, memory as memory_at, compare, double, jump_if_below, operate_number}
+use Rattle.cw_tmpl.specs.Pieces.{Filling, blanks}
+use Rattle.cw_tmpl.specs.Templates.{call_stop, index_added, index_loaded, from_lower, index_size, lower_size}
 use Rattle.cw_order.specs.OrderState.{OrderActivation}
 use Rattle.cw_follow.proofs.Watched.{Watched, watched_step}
 use Rattle.cw_follow.proofs.Standing.{HasPieces}
-use Rattle.cw_follow.proofs.Chains.{Is, Leads, view, compared, jumps_below, passes_above, number, add_at, double as doubled, more, last, done}
-use Rattle.cw_rows86.specs.Locations.{InData}
-use Rattle.cw_rows86.specs.Operations.{Add}
-use Rattle.cw_rows86.specs.Acts.{Operate}
+use Rattle.cw_follow.proofs.Chains.{Is, IsCompared, Leads, view, compared, compared_more, jumps_below, passes_above, jump_below, pass_above, number, add_at, double as doubled, more, last, done}
+use Rattle.cw_i86.specs.declared.instr.Place.TheVariants as places
+use Rattle.cw_i86.specs.declared.instr.Rm.TheVariants as rms
+use Rattle.cw_rows86.specs.Locations.{InData, InRegister}
+use Rattle.cw_rows86.specs.Operations.{Add, Subtract, Compare}
+use Rattle.cw_rows86.specs.Acts.{Operate, OperateNumberOnto, Into}
 use Rattle.cw_follow.proofs.Acting.{act}
 use Rattle.cw_follow.proofs.Shifts.{leads_then}
 use Rattle.cw_follow.proofs.Straight.{LoadSlot, Number, straight}
@@ -123,10 +129,154 @@ formed_by_one area b d lower i v low small few f less =
     cases true is = refl
     cases false is = sym (ap (λ t. put_if t AddressRange (pos b +ℤ (i +ℤ pos d)) v) (outside_too b d area i f few low is))
 
+-- ---- indexes between bounds
+
+-- where a word stands among all, from the lowest one on
+abbrev rank : ℤ → ℕ
+rank (pos n) = 32768 + n
+rank (negsuc n) = 32767 - n
+
+rank_small : (z : ℤ) → FitsWord z → rank z < 65536
+rank_small (pos n) f = omega (arith, f.sfits)
+rank_small (negsuc n) f = omega arith
+
+rank_is : (z : ℤ) → FitsWord z → unsigned z ≡ (rank z + 32768) % 65536
+rank_is (pos n) f = omega (arith, f.sfits)
+rank_is (negsuc n) f = omega (arith, f.sfits)
+
+rank_true : (x y : ℤ) → FitsWord x → FitsWord y → int_le x y ≡ true → rank x ≤ rank y
+rank_true (pos m) (pos n) f g e = let le : m ≤ n = grind (arith, nat_tests) in omega arith
+rank_true (pos m) (negsuc n) f g e = absurd (cc)
+rank_true (negsuc m) (pos n) f g e = omega arith
+rank_true (negsuc m) (negsuc n) f g e = let le : n ≤ m = grind (arith, nat_tests) in omega (arith, f.sfits, g.sfits)
+
+rank_false : (x y : ℤ) → FitsWord x → FitsWord y → int_le x y ≡ false → rank y < rank x
+rank_false (pos m) (pos n) f g e = let lt : n < m = grind (arith, nat_tests) in omega arith
+rank_false (pos m) (negsuc n) f g e = omega arith
+rank_false (negsuc m) (pos n) f g e = absurd (cc)
+rank_false (negsuc m) (negsuc n) f g e = let lt : m < n = grind (arith, nat_tests) in omega (arith, f.sfits, g.sfits)
+
+rank_differs : (x y : ℤ) (n : ℕ) → FitsWord x → FitsWord y → y -ℤ x ≡ pos n → rank y ≡ rank x + n
+rank_differs (pos m) (pos k) n f g e = omega (arith, ints)
+rank_differs (pos m) (negsuc k) n f g e = omega (arith, ints)
+rank_differs (negsuc m) (pos k) n f g e = omega (arith, ints, f.sfits)
+rank_differs (negsuc m) (negsuc k) n f g e = omega (arith, ints, f.sfits, g.sfits)
+
+ranks_differ : (x y : ℤ) (n : ℕ) → FitsWord x → FitsWord y → rank y ≡ rank x + n → y -ℤ x ≡ pos n
+ranks_differ (pos m) (pos k) n f g e = omega (arith, ints)
+ranks_differ (pos m) (negsuc k) n f g e = omega (arith, ints)
+ranks_differ (negsuc m) (pos k) n f g e = omega (arith, ints, f.sfits)
+ranks_differ (negsuc m) (negsuc k) n f g e = omega (arith, ints, f.sfits, g.sfits)
+
+-- the number of an index from the lower bound on, as a word
+abbrev pub from_word : (lower i : ℤ) → ℕ
+from_word lower i = word_difference (unsigned i) (unsigned lower)
+
+pub record BetweenBounds (lower i : ℤ) (last : ℕ) : Type 0 where
+  pub number : ℕ
+  pub less : i -ℤ lower ≡ pos number
+  pub within : number ≤ last
+  pub is : from_word lower i ≡ number
+
+-- two tests, both of which hold
+both_hold : (b c : Bool) → (b && c) ≡ true → (b ≡ true) × (c ≡ true)
+both_hold true true e = (refl, refl)
+both_hold true false e = absurd (cc)
+both_hold false c e = absurd (cc)
+
+pub between_bounds : (lower upper i : ℤ) (last : ℕ) → FitsWord lower → FitsWord upper → FitsWord i → upper -ℤ lower ≡ pos last → (int_le lower i && int_le i upper) ≡ true → BetweenBounds lower i last
+between_bounds lower upper i last fl fu fi e holds =
+    let both = both_hold (int_le lower i) (int_le i upper) holds in
+    let below = rank_true lower i fl fi both.0 in
+    let above = rank_true i upper fi fu both.1 in
+    let ends = rank_differs lower upper last fl fu e in
+    let il = rank_is lower fl in
+    let ii = rank_is i fi in
+    let sl = rank_small lower fl in
+    let si = rank_small i fi in
+    record { number = rank i - rank lower; less = ranks_differ lower i (rank i - rank lower) fl fi (omega arith); within = omega arith; is = omega arith }
+
+pub past_bounds : (lower upper i : ℤ) (last : ℕ) → FitsWord lower → FitsWord upper → FitsWord i → upper -ℤ lower ≡ pos last → (int_le lower i && int_le i upper) ≡ false → suc last ≤ from_word lower i
+past_bounds lower upper i last fl fu fi e fails = cases (int_le lower i) (int_le i upper) refl refl fails
+  where
+    ends : rank upper ≡ rank lower + last
+    ends = rank_differs lower upper last fl fu e
+
+    cases : (b c : Bool) → int_le lower i ≡ b → int_le i upper ≡ c → (b && c) ≡ false → suc last ≤ from_word lower i
+    cases true true below above off = absurd (cc)
+    cases true false below above off =
+        omega (arith, ends, rank_true lower i fl fi below, rank_false i upper fi fu above, rank_is lower fl, rank_is i fi, rank_small lower fl, rank_small i fi, rank_small upper fu)
+    cases false c below above off =
+        omega (arith, ends, rank_false lower i fl fi below, rank_is lower fl, rank_is i fi, rank_small lower fl, rank_small i fi, rank_small upper fu)
+
+-- what the source does with such an index, where its word is in the area
+pub formed_between : (area b d : ℕ) (lower i : ℤ) (v : Words) → area ≤ 32768 → b + d < area → i -ℤ lower ≡ pos d
+    → fitting (fits_word (i -ℤ lower)) (address_of (min area 32768) (signed b +ℤ (i -ℤ lower)) v) ≡ Changed (put (pos (b + d)) v)
+formed_between area b d lower i v low within less =
+    ap (λ y. fitting (fits_word y) (address_of (min area 32768) (signed b +ℤ y) v)) less
+    ∙ ap₂ (λ m s. fitting (fits_word (pos d)) (address_of m (s +ℤ pos d) v)) (min-eq_left low) signed_is
+    ∙ ap (λ t. fitting t (address_of area (pos b +ℤ pos d) v)) (lt-ltb d 32768 (omega arith))
+    ∙ ap (λ y. put_if (is_below y area) AddressRange y v) same
+    ∙ ap (λ t. put_if t AddressRange (pos (b + d)) v) (lt-ltb (b + d) area within)
+  where
+    signed_is : signed b ≡ pos b
+    signed_is = grind (arith, nat_tests)
+
+    same : pos b +ℤ pos d ≡ pos (b + d)
+    same = omega (arith, ints)
+
 -- how many instructions the sum of a word's address and an index takes
 abbrev pub index_steps : Place → ℕ
 index_steps (cell.Word f n) = 2
 index_steps (cell.Frame n) = 3
+
+-- and the index alone, its bytes, and the difference from a lower bound
+abbrev pub loaded_steps : Place → ℕ
+loaded_steps (cell.Word f n) = 1
+loaded_steps (cell.Frame n) = 2
+
+abbrev pub loaded_size : Place → ℕ
+loaded_size (cell.Word f n) = 4
+loaded_size (cell.Frame n) = 7
+
+abbrev pub lower_steps : ℤ → ℕ
+lower_steps (pos zero) = 0
+lower_steps lower = 1
+
+-- the address of an element
+abbrev pub element_steps : Element → Test → ℕ
+element_steps e (test.Address origin) = index_steps e.index + 3
+element_steps e (test.Bounds upper line) = loaded_steps e.index + lower_steps e.lower + 4
+
+pub few_lower : (lower : ℤ) → lower_steps lower ≤ 1
+few_lower (pos zero) = lit≤ tt
+few_lower (pos (suc n)) = lit≤ tt
+few_lower (negsuc n) = lit≤ tt
+
+pub few_loaded : (x : Place) → loaded_steps x ≤ 2
+few_loaded (cell.Word f n) = lit≤ tt
+few_loaded (cell.Frame n) = lit≤ tt
+
+pub few_index : (x : Place) → index_steps x ≤ 3
+few_index (cell.Word f n) = lit≤ tt
+few_index (cell.Frame n) = lit≤ tt
+
+pub few_element : (e : Element) (t : Test) → element_steps e t ≤ 7
+few_element e (test.Address origin) = omega (arith, few_index e.index)
+few_element e (test.Bounds upper line) = omega (arith, few_loaded e.index, few_lower e.lower)
+
+pub loaded_long : (x : Place) → length (blanks (index_loaded x)) ≡ loaded_size x
+loaded_long (cell.Word f n) = refl
+loaded_long (cell.Frame n) = refl
+
+pub lower_long : (lower : ℤ) → length (blanks (from_lower lower)) ≡ lower_size lower
+lower_long (pos zero) = refl
+lower_long (pos (suc n)) = refl
+lower_long (negsuc n) = refl
+
+pub loaded_index : (x : Place) → loaded_size x + 3 ≡ index_size x
+loaded_index (cell.Word f n) = refl
+loaded_index (cell.Frame n) = refl
 
 -- ---- the code
 
@@ -222,3 +372,105 @@ module _ (c : Setting) (memory : List ℤ) (input output : List ℕ) where
           is = subst (λ b. Is c.image (at + 3 + 3 + 4) (view ax cx dx twice (2 * suc top) (record_of c.acts) b c.program.limits.area (sum_overflows word (cells k)) cells stack left told) (watched_step q))
               (ap₂ word_sum (named (at + 3 + 3)) holds) added.is;
         }))
+
+  -- ---- the index, and its test
+
+  module _ (value : Filling) (rest : List Coded) {p : Watched} {at ax cx dx bx si : ℕ} {overflow : Bool} {cells stack : ℕ → ℕ} {left : List ℕ} {told : Told} (top k : ℕ) (i : ℤ)
+      (low : k < 32768) (holds : cells k ≡ unsigned i) (kept : Kept c.program c.g c.acts memory input output cells stack left told)
+      (s : Is c.image at (view ax cx dx bx (2 * suc top) (record_of c.acts) si c.program.limits.area overflow cells stack left told) p) where
+    -- the index from a word of a family
+    pub index_by_word : (f n : ℕ) → ((after : ℕ) → value 2 f n after ≡ 2 * k) → HasPieces c.image value at (index_loaded (cell.Word f n) ++ rest)
+        → Leads output 1 p (Summed (at + 4) ax cx dx (unsigned i) top cells stack left told)
+    index_by_word f n index h =
+        last c.rows s kept.wrote (record {
+          bx = bx;
+          overflow = overflow;
+          is = subst (λ b. Is c.image (at + 4) (view ax cx dx bx (2 * suc top) (record_of c.acts) b c.program.limits.area overflow cells stack left told) (watched_step p)) holds
+              (act c.rows (Into si_register (memory_at (places.Direct (value 2 f n (at + 4)))) (InData k) (cells k)) refl (lit< tt) h.0 ((refl, refl, low, index (at + 4)), refl) s).is;
+        })
+
+    -- and from a word of the frame of an activation
+    pub index_by_frame : (n : ℕ) (a : OrderActivation) (under : List OrderActivation) → c.acts ≡ a ∷ under → k ≡ a.frame_base + n → HasPieces c.image value at (index_loaded (cell.Frame n) ++ rest)
+        → Leads output 2 p (Summed (at + 3 + 4) ax cx dx (unsigned i) top cells stack left told)
+    index_by_frame n a under acts_are index h =
+        let r = level c.acts in
+        let bp = record_of c.acts in
+        let base : r + 1 < 32768 = omega arith in
+        let slot_base : (bp + 65530) % 65536 ≡ 2 * (r + 1) = omega arith in
+        let twice = 2 * a.frame_base % 65536 in
+        let base_is : base_word c.program c.acts ≡ twice = ap (base_word c.program) acts_are in
+        let address : (twice + 2 * n % 65536) % 65536 ≡ 2 * k = omega arith in
+        leads_then
+        (straight c.rows (LoadSlot bx_register 0xFA (r + 1) twice ∷ []) {n = 0} kept.wrote (h.0, tt) ((base, slot_base, kept.piled.0.base_is ∙ base_is), tt) s
+        (λ q t. done {Target = Is c.image (at + 3) (view ax cx dx twice (2 * suc top) (record_of c.acts) si c.program.limits.area overflow cells stack left told)} t))
+        (λ q t.
+        last c.rows t kept.wrote (record {
+          bx = twice;
+          overflow = overflow;
+          is = subst (λ b. Is c.image (at + 3 + 4) (view ax cx dx twice (2 * suc top) (record_of c.acts) b c.program.limits.area overflow cells stack left told) (watched_step q)) holds
+              (act c.rows (Into si_register (field (2 * n % 65536)) (InData k) (cells k)) refl (lit< tt) h.1.0 ((refl, refl, low, address), refl) t).is;
+        }))
+
+  module _ (value : Filling) (rest : List Coded) {p : Watched} {at ax cx dx bx : ℕ} {overflow : Bool} {cells stack : ℕ → ℕ} {left : List ℕ} {told : Told} (top word : ℕ) (small : word < 65536)
+      (kept : Kept c.program c.g c.acts memory input output cells stack left told)
+      (s : Is c.image at (view ax cx dx bx (2 * suc top) (record_of c.acts) word c.program.limits.area overflow cells stack left told) p) where
+    subtracts : (n : ℕ) → Has c.image at (operate_number 5 si_register n) → Leads output 1 p (Summed (at + 4) ax cx dx (word_difference word n) top cells stack left told)
+    subtracts n h =
+        last c.rows s kept.wrote (record {
+          bx = bx;
+          overflow = difference_overflows word n;
+          is = (act c.rows (OperateNumberOnto Subtract n (rms.Reg si_register) (InRegister si_register) word) refl (lit< tt) h (refl, tt, refl) s).is;
+        })
+
+    -- the lower bound is taken from it
+    pub less_lower : (lower : ℤ) → HasPieces c.image value at (from_lower lower ++ rest) → Leads output (lower_steps lower) p (Summed (at + lower_size lower) ax cx dx (word_difference word (unsigned lower)) top cells stack left told)
+    less_lower (pos zero) h =
+        let same : word ≡ word_difference word 0 = omega (arith, small) in
+        let here : at ≡ at + 0 = omega arith in
+        done (record {
+          bx = bx;
+          overflow = overflow;
+          is = subst (λ n. Is c.image n (view ax cx dx bx (2 * suc top) (record_of c.acts) (word_difference word 0) c.program.limits.area overflow cells stack left told) p) here
+              (subst (λ b. Is c.image at (view ax cx dx bx (2 * suc top) (record_of c.acts) b c.program.limits.area overflow cells stack left told) p) same s);
+        })
+    less_lower (pos (suc n)) h = subtracts (unsigned (pos (suc n))) h.0
+    less_lower (negsuc n) h = subtracts (unsigned (negsuc n)) h.0
+
+  -- the test behind it
+  module _ (value : Filling) (line family first count : ℕ) (rest : List Coded) {p : Watched} {at ax cx dx bx : ℕ} {overflow : Bool} {cells stack : ℕ → ℕ} {left : List ℕ} {told : Told} (top word : ℕ)
+      (kept : Kept c.program c.g c.acts memory input output cells stack left told)
+      (h : HasPieces c.image value at (coded.Whole (operate_number 7 si_register count) ∷ coded.Whole (jump_if_below 5) ∷ (call_stop bounds_entry line ++ coded.Sum si_register (target.Word family first) ∷ coded.Whole (double si_register) ∷ rest)))
+      (s : Is c.image at (view ax cx dx bx (2 * suc top) (record_of c.acts) word c.program.limits.area overflow cells stack left told) p) where
+    abbrev index_there : Bool → (word : ℕ) → View
+    index_there o w = view ax cx dx bx (2 * suc top) (record_of c.acts) w c.program.limits.area o cells stack left told
+
+    abbrev IndexCompared : Watched → Type 0
+    IndexCompared q = IsCompared c.image (at + 4) (index_there (difference_overflows word count) word) word count q
+
+    index_compared : IndexCompared (watched_step p)
+    index_compared =
+        let t = act c.rows (OperateNumberOnto Compare count (rms.Reg si_register) (InRegister si_register) word) refl (lit< tt) h.0 (refl, tt, refl) s in
+        record { is = t.is; flags = c.rows.as_compared word count p.processor.state.flags (watched_step p).processor t.flags }
+
+    pub index_passes : (base k : ℕ) → value 1 family first (at + 4 + 2 + 5 + 4) ≡ base → word < count → word_sum word base ≡ k → k < 32768 → Leads output 4 p (Addressed (at + 4 + 2 + 5 + 4 + 2) ax cx dx k top cells stack left told)
+    index_passes base k named lt sum low =
+        let over = difference_overflows word count in
+        let offset = value 1 family first (at + 4 + 2 + 5 + 4) in
+        let there : at + 4 + 2 + 3 + 2 ≡ at + 4 + 2 + 5 = omega arith in
+        let onward : HasPieces c.image value (at + 4 + 2 + 5) (coded.Sum si_register (target.Word family first) ∷ coded.Whole (double si_register) ∷ rest) =
+        subst (λ n. HasPieces c.image value n (coded.Sum si_register (target.Word family first) ∷ coded.Whole (double si_register) ∷ rest)) there h.1.1.1.1 in
+        let sum_is : word_sum word offset ≡ k = ap (word_sum word) named ∙ sum in
+        compared_more c.rows {Between = IndexCompared} s kept.wrote index_compared (λ q t.
+        more c.rows {to = at + 4 + 2 + 5} {w = index_there over word} t.is kept.wrote (jump_below c.rows 5 lt h.1.0 t) (λ q u.
+        more c.rows {to = at + 4 + 2 + 5 + 4} {w = index_there (sum_overflows word offset) k} u kept.wrote
+        (subst (λ b. Is c.image (at + 4 + 2 + 5 + 4) (index_there (sum_overflows word offset) b) (watched_step q)) sum_is
+        (act c.rows (OperateNumberOnto Add offset (rms.Reg si_register) (InRegister si_register) word) refl (lit< tt) onward.0 (refl, tt, refl) u).is) (λ q v.
+        last c.rows v kept.wrote (record { bx = bx; overflow = double_overflows k; is = doubled c.rows 6 low onward.1.0 v }))))
+
+    pub index_stops : (to : ℕ) (loaded : Bool) → line < 65536 → top < level c.acts → ((k : ℕ) → (k + value 7 bounds_entry 0 k) % 65536 ≡ stop_place IndexRange % 65536) → count ≤ word
+        → DoesHere c memory input output 15 to loaded line p (Refused IndexRange)
+    index_stops to loaded small low_top arrives above =
+        further 15 (lit≤ tt) (lit< tt)
+        (compared_more c.rows {Between = IndexCompared} s kept.wrote index_compared (λ q t.
+        more c.rows {to = at + 4 + 2} {w = index_there (difference_overflows word count) word} t.is kept.wrote (pass_above c.rows 5 above h.1.0 t) (λ q u.
+        calls_stop c memory input output IndexRange top (value 7 bounds_entry 0 (at + 4 + 2 + 3)) line tt small (omega arith) (arrives (at + 4 + 2 + 3)) kept h.1.1.0 h.1.1.1.0 u)))

@@ -1,8 +1,9 @@
 -- Instructions and words that stand one after another in an image, and where those of each order do.
-use Rattle.std.proofs.Common.{◌≡◌, ℕ, suc, ◌+◌, true, false, List, [], ◌∷◌, ◌++◌, length, drop, Some, None, refl, ap, ◌∙◌, subst, arith, length-append}
+use Rattle.std.proofs.Common.{◌≡◌, ℕ, suc, ◌+◌, true, false, List, [], ◌∷◌, ◌++◌, length, drop, Some, None, ap, ◌∙◌, subst, arith, length-append}
 use Rattle.std.specs.Prelude.{slice_get}
 use Rattle.cw_i86.specs.declared.instr.Instr.TheVariants as i86
 use Rattle.cw_i86.specs.declared.instr.Imm.TheVariants as imm
+use Rattle.cw_i86.specs.declared.instr.Place.TheVariants as places
 use Rattle.cw_run86.specs.Views.{Has, with_memory}
 use Rattle.cw_unit.specs.declared.unit.Goal.{Goal}
 use Rattle.cw_order.specs.declared.order.LabelMark.{LabelMark}
@@ -11,16 +12,13 @@ use Rattle.cw_order.specs.declared.order.Orders.{Orders}
 use Rattle.cw_order.specs.OrderProgram.{OrderProgram}
 use Rattle.cw_tmpl.specs.declared.pieces.Coded.{Coded}
 use Rattle.cw_tmpl.specs.declared.pieces.Coded.TheVariants as coded
-use Rattle.cw_tmpl.specs.declared.blocks.Place.{Place}
-use Rattle.cw_tmpl.specs.declared.blocks.Place.TheVariants as cell
-use Rattle.cw_tmpl.specs.declared.blocks.Element.{Element}
 use Rattle.cw_tmpl.specs.Pieces.{Filling, bytes_with, size_of, target_of, word_before, blanks}
-use Rattle.cw_tmpl.specs.Mnemonics.{si, di, entry_of_table, change_memory, compare, double, jump_if_below}
+use Rattle.cw_tmpl.specs.Mnemonics.{entry_of_table, change_memory, operate_number, load, memory}
 use Rattle.cw_tmpl.specs.Names.{landing_start, switch_start}
-use Rattle.cw_tmpl.specs.Library.{entry_place, address_entry}
+use Rattle.cw_tmpl.specs.Library.{entry_place}
 use Rattle.cw_routines.specs.Ways.{HasWord}
 use Rattle.cw_routines.specs.Results.{Stands as LibraryStands}
-use Rattle.cw_tmpl.specs.Templates.{block_pieces, entry_pieces, landing_pieces, switch_pieces, index_added, element_address, call_stop, index_size}
+use Rattle.cw_tmpl.specs.Templates.{block_pieces, entry_pieces, landing_pieces, switch_pieces}
 use Rattle.cw_tmpl.proofs.Growing.{blanks-append}
 use Rattle.cw_tmpl.specs.Blocks.{block_at, left_at}
 use Rattle.cw_tmpl.specs.ReferenceCode.{names_of}
@@ -31,6 +29,8 @@ use Rattle.cw_tmpl.proofs.Sizes.{own_place}
 abbrev pub HasPiece : List ℕ → (word place : ℕ) → Coded → Type 0
 HasPiece code w place (coded.Whole i) = Has code place i
 HasPiece code w place (coded.Move reg t) = Has code place (i86.MovImm reg (imm.Word w))
+HasPiece code w place (coded.Sum reg t) = Has code place (operate_number 0 reg w)
+HasPiece code w place (coded.Fetch reg t) = Has code place (load reg (memory (places.Direct w)))
 HasPiece code w place (coded.Load t) = Has code place (i86.MovAcc false true false w)
 HasPiece code w place (coded.Store t) = Has code place (i86.MovAcc false true true w)
 HasPiece code w place (coded.Operate op reg t) = Has code place (with_memory op reg w)
@@ -56,16 +56,6 @@ stand_both code value at (p ∷ ps) qs h =
     let rest = stand_both code value (at + size_of p) ps qs h.1 in
     let there : at + size_of p + length (blanks ps) ≡ at + length (blanks (p ∷ ps)) = omega (arith, length-append (bytes_with 0 p) (blanks ps)) in
     ((h.0, rest.0), subst (λ n. HasPieces code value n qs) there rest.1)
-
--- the bytes of an element's address
-index_long : (x : Place) (family offset : ℕ) → length (blanks (index_added x family offset)) ≡ index_size x
-index_long (cell.Word f n) family offset = refl
-index_long (cell.Frame n) family offset = refl
-
-pub address_long : (e : Element) → length (blanks (element_address e)) ≡ index_size e.index + 11
-address_long e =
-    let tested : List Coded = coded.Whole (compare si di) ∷ coded.Whole (jump_if_below 5) ∷ (call_stop address_entry e.line ++ coded.Whole (double si) ∷ []) in
-    omega (arith, appended_long (index_added e.index e.family e.zero) tested, index_long e.index e.family e.zero)
 
 -- where the code of the order at a place of the list begins in the image
 abbrev pub order_place : (base : ℕ) → List Order → (place : ℕ) → ℕ

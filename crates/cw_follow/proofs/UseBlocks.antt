@@ -32,7 +32,6 @@ use Rattle.cw_order.specs.OrderCosts.{weight_of}
 use Rattle.cw_order.specs.Loading.{loaded_after}
 use Rattle.cw_tmpl.specs.declared.pieces.Coded.{Coded}
 use Rattle.cw_tmpl.specs.declared.pieces.Coded.TheVariants as pieces
-use Rattle.cw_tmpl.specs.declared.blocks.Place.{Place}
 use Rattle.cw_tmpl.specs.declared.blocks.Place.TheVariants as cell
 use Rattle.cw_tmpl.specs.declared.blocks.Element.{Element}
 use Rattle.cw_tmpl.specs.declared.blocks.Simple.{Simple}
@@ -45,12 +44,12 @@ use Rattle.cw_tmpl.specs.Library.{overflow_entry, stop_place}
 use Rattle.cw_tmpl.specs.Mnemonics.{ax, bx, cx, slot, base_slot, field, at_si, operate, load, move}
 use Rattle.cw_tmpl.specs.Pieces.{Filling, blanks}
 use Rattle.cw_tmpl.specs.Names.{no_names, mark_place}
-use Rattle.cw_tmpl.specs.Templates.{distance, opposite_of, with_operand, checked, branch, pieces_size, index_size, element_address, operated, block_size}
+use Rattle.cw_tmpl.specs.Templates.{distance, opposite_of, with_operand, checked, branch, pieces_size, element_size, element_address, operated, block_size}
 use Rattle.cw_tmpl.specs.ReferenceCode.{names_of, mark_starts}
 use Rattle.cw_routines.specs.Ways.{HasAll}
 use Rattle.cw_follow.specs.Placing.{base_of}
-use Rattle.cw_tmpl.proofs.Sizes.{own_place}
-use Rattle.cw_follow.proofs.Standing.{HasPieces, appended_long, stand_both, address_long, order_place}
+use Rattle.cw_tmpl.proofs.Sizes.{own_place, element_long_as}
+use Rattle.cw_follow.proofs.Standing.{HasPieces, appended_long, stand_both, order_place}
 use Rattle.cw_follow.proofs.Watched.{Watched}
 use Rattle.cw_follow.proofs.Chains.{Is, Leads, view, done, more, load_at, move as moved_to}
 use Rattle.cw_follow.proofs.Straight.{Number, Move, Product, LoadSlot, LoadWord, straight}
@@ -60,7 +59,7 @@ use Rattle.cw_follow.proofs.Operands.{Setting, words, DoesHere}
 use Rattle.cw_follow.proofs.Operating.{Named, number_named, word_named, sum_of, difference_of, mask_of, union_of, difference_in_bits, comparison_of, product_of}
 use Rattle.cw_follow.proofs.Addresses.{product_overflows_is, product_is}
 use Rattle.cw_follow.proofs.Scales.{turned_overflows, turned_is}
-use Rattle.cw_follow.proofs.Indexed.{index_steps}
+use Rattle.cw_follow.proofs.Indexed.{element_steps, few_element}
 use Rattle.cw_follow.proofs.States.{Given, Sound}
 use Rattle.cw_follow.proofs.InBlocks.{chain}
 use Rattle.cw_follow.proofs.Steps.{Follow, setting, weight_is, line_fits, block_code, block_ends, start_place, order_here, last_does, by, calls, start, last_chooses, arrives_at, two_roomy, way_after}
@@ -73,7 +72,7 @@ abbrev pub named_at : Simple → ℕ → ℕ
 named_at (simple.Number x) from = from
 named_at (simple.Contents (cell.Word f n)) from = from
 named_at (simple.Contents (cell.Frame n)) from = from + 3
-named_at (simple.Element e) from = from + (index_size e.index + 11)
+named_at (simple.Element e) from = from + element_size e e.test
 
 abbrev pub named_size : Simple → ℕ
 named_size (simple.Number x) = 3
@@ -99,8 +98,8 @@ offset_at value (simple.Contents (cell.Word f n)) from = value 2 f n (from + 4)
 offset_at value s from = 0
 
 -- the bytes of an operation on AX and an element
-element_operation : (e : Element) (op : ℕ) → length (blanks (with_operand op (simple.Element e))) ≡ index_size e.index + 13
-element_operation e op = omega (arith, appended_long (element_address e) (pieces.Whole (operate op ax at_si) ∷ []), address_long e)
+element_operation : (e : Element) (op : ℕ) → length (blanks (with_operand op (simple.Element e))) ≡ element_size e e.test + 2
+element_operation e op = omega (arith, appended_long (element_address e) (pieces.Whole (operate op ax at_si) ∷ []), element_long_as e)
 
 pub operand_code : (image : List ℕ) (value : Filling) (from : ℕ) (s : Simple) (op : WordOperation) (rest : List Coded) → HasPieces image value from (with_operand (number_of op) s ++ rest)
     → Addressed image value s from × Has image (named_at s from) (naming (offset_at value s from) s op) × HasPieces image value (named_at s from + named_size s) rest
@@ -111,8 +110,8 @@ operand_code image value from (simple.Element e) op rest h =
     let o = number_of op in
     let both = stand_both image value from (with_operand o (simple.Element e)) rest h in
     let address = stand_both image value from (element_address e) (pieces.Whole (operate o ax at_si) ∷ []) both.0 in
-    let size : from + length (blanks (with_operand o (simple.Element e))) ≡ from + (index_size e.index + 11) + 2 = omega (arith, element_operation e o) in
-    (address.0, subst (λ n. Has image (from + n) (operate o ax at_si)) (address_long e) address.1.0, subst (λ n. HasPieces image value n rest) size both.1)
+    let size : from + length (blanks (with_operand o (simple.Element e))) ≡ from + element_size e e.test + 2 = omega (arith, element_operation e o) in
+    (address.0, subst (λ n. Has image (from + n) (operate o ax at_si)) (element_long_as e) address.1.0, subst (λ n. HasPieces image value n rest) size both.1)
 
 -- the same without more behind it
 alone_code : (image : List ℕ) (value : Filling) (from : ℕ) (s : Simple) (op : ℕ) → HasPieces image value from (with_operand op s) → HasPieces image value from (with_operand op s ++ [])
@@ -127,7 +126,7 @@ abbrev pub operand_size : Simple → ℕ
 operand_size (simple.Number x) = 3
 operand_size (simple.Contents (cell.Word f n)) = 4
 operand_size (simple.Contents (cell.Frame n)) = 7
-operand_size (simple.Element e) = index_size e.index + 13
+operand_size (simple.Element e) = element_size e e.test + 2
 
 pub named_end : (s : Simple) (from : ℕ) → named_at s from + named_size s ≡ from + operand_size s
 named_end (simple.Number x) from = refl
@@ -161,7 +160,7 @@ tested_size (simple.Number x) u h = number u h
     number (uses.Compare c m) h = refl
 tested_size (simple.Element e) u h = element u h
   where
-    element : (u : Use) → OneOperation u → block_size (block.Operate (simple.Element e) u) order.Save ≡ index_size e.index + 13 + rest_size u
+    element : (u : Use) → OneOperation u → block_size (block.Operate (simple.Element e) u) order.Save ≡ element_size e e.test + 2 + rest_size u
     element (uses.Multiply line) h = absurd h
     element (uses.Add line) h = omega (arith, appended_long (with_operand 0 (simple.Element e)) (checked line), element_operation e 0)
     element (uses.Subtract line) h = omega (arith, appended_long (with_operand 5 (simple.Element e)) (checked line), element_operation e 5)
@@ -218,18 +217,14 @@ Computes u = Unit {0}
 -- how many instructions come before the operation
 abbrev pub steps_to : Simple → ℕ
 steps_to (simple.Contents (cell.Frame n)) = 1
-steps_to (simple.Element e) = index_steps e.index + 3
+steps_to (simple.Element e) = element_steps e e.test
 steps_to s = 0
 
-pub few_steps : (s : Simple) → steps_to s ≤ 6
+pub few_steps : (s : Simple) → steps_to s ≤ 7
 few_steps (simple.Number x) = lit≤ tt
 few_steps (simple.Contents (cell.Word f n)) = lit≤ tt
 few_steps (simple.Contents (cell.Frame n)) = lit≤ tt
-few_steps (simple.Element e) = few_of e.index
-  where
-    few_of : (x : Place) → index_steps x + 3 ≤ 6
-    few_of (cell.Word f n) = lit≤ tt
-    few_of (cell.Frame n) = lit≤ tt
+few_steps (simple.Element e) = few_element e e.test
 
 pub top_fits : (operands : List Operand) → All OperandFits operands → (x : ℤ) (rest : List Operand) → operands ≡ Word x ∷ rest → FitsWord x
 top_fits operands fits x rest e = All-head OperandFits (Word x) rest (subst (All OperandFits) e fits)
