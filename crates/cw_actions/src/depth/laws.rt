@@ -11,7 +11,9 @@ ghost use Rattle.cw_correct.specs.Results.{BoundsRuns};
 use cw_compile::laws::one_outcome;
 use cw_counted::laws::tokens_counted;
 use cw_deepest::laws::linked::no_depth_stop;
-use cw_sound_calls::laws::{text_units, unit_counted, units_fit};
+use cw_sound::laws::calls::units_fit;
+use cw_sound::laws::texts::text_units;
+use cw_sound::laws::tokens::unit_counted;
 
 /// The procedures of a text's unit have numbers of two bytes: each takes four tokens of the text.
 pub fn few_procedures()
