@@ -2,5 +2,5 @@ pub mod Running
 pub mod Right
 pub mod InOrder
 pub mod Called
-mod Files
-mod Statuses
+pub mod Files
+pub mod Statuses

@@ -1,2 +1,2 @@
-mod Texts
-mod Goes
+pub mod Texts
+pub mod Goes

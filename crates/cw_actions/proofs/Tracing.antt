@@ -1,4 +1,4 @@
-mod Called
-mod Closed
+pub mod Called
+pub mod Closed
 pub mod Kept
-mod OneStatus
+pub mod OneStatus
