@@ -1,3 +1,13 @@
+pub mod Names
+pub mod Items
+pub mod Labels
+pub mod Storage
+pub mod Expressions
+pub mod Statements
+pub mod Ranges
+pub mod Trees
+pub mod Regular
+pub mod Tokens
 pub mod Units
 pub mod Need
 pub mod Ranged
@@ -6,3 +16,4 @@ pub mod Lines
 pub mod Written
 pub mod Front
 pub mod Presets
+pub mod Calls

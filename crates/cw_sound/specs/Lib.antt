@@ -1,3 +1,10 @@
+pub mod Uses
+pub mod Names
+pub mod Items
+pub mod Storage
+pub mod Expressions
+pub mod Statements
+pub mod Ranges
 pub mod Units
 pub mod Ready
 pub mod Lines

@@ -7,7 +7,7 @@ use Rattle.cw_correct.specs.Calls.{Surroundings}
 use Rattle.cw_correct.specs.Correct.{IsCorrectRequest, IsCorrect}
 use Rattle.cw_say.specs.declared.status.Status.{Status}
 use Rattle.cw_say.specs.declared.status.Status.TheVariants.{Ended, Usage, NoMemory}
-use Rattle.cw_go.proofs.Called.{after_line, closes_by}
+use Rattle.cw_actions.proofs.Going.Called.{after_line, closes_by}
 use Rattle.cw_top.specs.Quits.{MayQuit}
 use Rattle.cw_top.proofs.Quits as quits
 

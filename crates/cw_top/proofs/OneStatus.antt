@@ -14,11 +14,11 @@ use Rattle.cw_correct.specs.Results.{MapsRight, DepthsRight, ShowsRight, Compile
 use Rattle.cw_say.specs.declared.status.Status.{Status}
 use Rattle.cw_say.specs.declared.status.Status.TheVariants.{NoMemory, TooLong}
 use Rattle.cw_say.specs.declared.status.Long.TheVariants as long
-use Rattle.cw_go.specs.Laws as going
-use Rattle.cw_go.proofs.Called.{map_twice}
-use Rattle.cw_exec.specs.Laws as executing
-use Rattle.cw_results.specs.OneStatus.{AllowsOneStatus}
-use Rattle.cw_traces.specs.Laws as tracing
+use Rattle.cw_actions.specs.Going.Laws as going
+use Rattle.cw_actions.proofs.Going.Called.{map_twice}
+use Rattle.cw_actions.specs.Executing.Laws as executing
+use Rattle.cw_actions.specs.Resulting.OneStatus.{AllowsOneStatus}
+use Rattle.cw_actions.specs.Tracing.Laws as tracing
 use Rattle.cw_top.proofs.Asked.{behind_first}
 
 -- the same of each action

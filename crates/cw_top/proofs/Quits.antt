@@ -18,10 +18,10 @@ use Rattle.cw_correct.specs.Correct.{DoesNothing, IsCorrectRequest}
 use Rattle.cw_correct.specs.Results.{MapsRight, DepthsRight, ShowsRight, CompilesRight, LibsRight, LinksRight, MigratesRight, HexesRight}
 use Rattle.cw_say.specs.declared.status.Status.{Status}
 use Rattle.cw_say.specs.declared.status.Status.TheVariants.{Usage, NoMemory}
-use Rattle.cw_go.specs.Laws as going
-use Rattle.cw_exec.specs.Laws as executing
-use Rattle.cw_results.specs.Idle.{IsIdle, AllowsIdle}
-use Rattle.cw_traces.specs.Laws as tracing
+use Rattle.cw_actions.specs.Going.Laws as going
+use Rattle.cw_actions.specs.Executing.Laws as executing
+use Rattle.cw_actions.specs.Resulting.Idle.{IsIdle, AllowsIdle}
+use Rattle.cw_actions.specs.Tracing.Laws as tracing
 use Rattle.cw_top.specs.Quits.{MayQuit}
 use Rattle.cw_top.proofs.Asked.{over_any, asked, copies_told, stop_told, no_stop}
 

@@ -2,11 +2,11 @@
 ghost use Rattle.cw_correct.specs.Correct.{HasOneStatus};
 ghost use Rattle.cw_top.specs.Quits.{MayQuit};
 
-use cw_exec::laws as executing;
-use cw_go::laws as going;
-use cw_libraries::laws::{idle_of_libraries, one_status_of_libraries};
-use cw_results::laws as results;
-use cw_traces::laws as tracing;
+use cw_actions::exec::laws as executing;
+use cw_actions::go::laws as going;
+use cw_actions::libraries::laws::{idle_of_libraries, one_status_of_libraries};
+use cw_actions::results::laws as results;
+use cw_actions::trace::laws as tracing;
 use cw_words::laws::copies_told;
 
 /// A call that did nothing for want of memory keeps its promise.

@@ -33,19 +33,19 @@ use Rattle.cw_view.specs.ObjectFormat.{has_base}
 use Rattle.cw_object.specs.Fits.{fits_descriptor}
 use Rattle.cw_object.specs.IsWritable.{is_listed, are_listed}
 use Rattle.cw_writable.proofs.Front.Truth.{lt_true, both, first_of_two, second_of_two}
-use Rattle.cw_sound_names.specs.Items.Derived.{IsRising, declared_token, facts_tokens, HasRisingTokens}
-use Rattle.cw_sound_names.specs.Items.Bases.{BasesStand}
-use Rattle.cw_sound_names.specs.Items.Items.{things_of}
-use Rattle.cw_sound_names.proofs.Items.Lists.{In, at-place, Within, nothing, with, none-within, within-append, rising-within, rising-left}
-use Rattle.cw_sound_names.proofs.Items.Says.{tokens-append, tokens-declares}
-use Rattle.cw_sound_names.proofs.Items.Resolving.{row_tokens}
-use Rattle.cw_sound_names.proofs.Items.ListedData.{placed}
-use Rattle.cw_sound_names.proofs.Items.Numbering.{token_of_thing, row-at}
-use Rattle.cw_sound_names.proofs.Items.Overlaying.{as-many, overlays-are}
-use Rattle.cw_sound_names.proofs.Items.Standing.{things-rise, made}
+use Rattle.cw_sound.specs.Items.Derived.{IsRising, declared_token, facts_tokens, HasRisingTokens}
+use Rattle.cw_sound.specs.Items.Bases.{BasesStand}
+use Rattle.cw_sound.specs.Items.Items.{things_of}
+use Rattle.cw_sound.proofs.Items.Lists.{In, at-place, Within, nothing, with, none-within, within-append, rising-within, rising-left}
+use Rattle.cw_sound.proofs.Items.Says.{tokens-append, tokens-declares}
+use Rattle.cw_sound.proofs.Items.Resolving.{row_tokens}
+use Rattle.cw_sound.proofs.Items.ListedData.{placed}
+use Rattle.cw_sound.proofs.Items.Numbering.{token_of_thing, row-at}
+use Rattle.cw_sound.proofs.Items.Overlaying.{as-many, overlays-are}
+use Rattle.cw_sound.proofs.Items.Standing.{things-rise, made}
 use Rattle.cw_sound.proofs.Front.Lists.{token_in, rises_to, stands_before}
-use Rattle.cw_sound_names.proofs.Names.PartKinds.{is_data}
-use Rattle.cw_sound_names.proofs.Names.ListedParts.{Listed, none, also, used, stored, unlisted, label, switch, procedure, special, communicators_parts}
+use Rattle.cw_sound.proofs.Names.PartKinds.{is_data}
+use Rattle.cw_sound.proofs.Names.ListedParts.{Listed, none, also, used, stored, unlisted, label, switch, procedure, special, communicators_parts}
 
 -- ---- the tokens of what is listed rise
 

@@ -33,15 +33,15 @@ use Rattle.cw_unit.specs.declared.unit.ItemKind.{ItemKind}
 use Rattle.cw_fields.specs.Names.{is_empty}
 use Rattle.cw_view.specs.ObjectFormat.{has_name, is_named}
 use Rattle.cw_obj.specs.ReferenceObject.{name_or_none, is_common, entry_of}
-use Rattle.cw_sound_names.specs.Items.Derived.{IsRising, facts_tokens, HasRisingTokens}
-use Rattle.cw_sound_names.specs.Items.Items.{things_of}
-use Rattle.cw_sound_names.proofs.Items.Lists.{In, in-either, at-place, each-in, within-in, stands-before}
-use Rattle.cw_sound_names.proofs.Items.Says.{tokens-append}
-use Rattle.cw_sound_names.proofs.Items.Naming.{listed-token}
-use Rattle.cw_sound_names.proofs.Items.Resolving.{row_tokens}
-use Rattle.cw_sound_names.proofs.Items.Numbering.{token_of_thing, found-here, found-later, made-of, row-at}
-use Rattle.cw_sound_names.proofs.Items.Trees.{block_stores}
-use Rattle.cw_sound_names.specs.Names.Placed.{tokens}
+use Rattle.cw_sound.specs.Items.Derived.{IsRising, facts_tokens, HasRisingTokens}
+use Rattle.cw_sound.specs.Items.Items.{things_of}
+use Rattle.cw_sound.proofs.Items.Lists.{In, in-either, at-place, each-in, within-in, stands-before}
+use Rattle.cw_sound.proofs.Items.Says.{tokens-append}
+use Rattle.cw_sound.proofs.Items.Naming.{listed-token}
+use Rattle.cw_sound.proofs.Items.Resolving.{row_tokens}
+use Rattle.cw_sound.proofs.Items.Numbering.{token_of_thing, found-here, found-later, made-of, row-at}
+use Rattle.cw_sound.proofs.Items.Trees.{block_stores}
+use Rattle.cw_sound.specs.Names.Placed.{tokens}
 use Rattle.cw_sound.specs.Written.Counts.{Each}
 use Rattle.cw_sound.specs.Written.Identified.{IsIdentified, HasIdentifiers}
 use Rattle.cw_sound.proofs.Front.Lists.{token_in}

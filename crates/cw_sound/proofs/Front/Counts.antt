@@ -27,14 +27,14 @@ use Rattle.cw_scale.specs.Types.{answer_judged}
 use Rattle.cw_data.specs.Specifications.{few, specified_judged, plains_judged, each_specified_judged, spec_judged, specs_judged}
 use Rattle.cw_items.specs.declared.families.Site.{Site}
 use Rattle.cw_judge.specs.Judged.{sites_of, absolute_addresses, citem_judged, citems_judged, communicator_judged, communicators_judged}
-use Rattle.cw_sound_names.specs.Names.Placed.{Placed}
-use Rattle.cw_sound_names.proofs.Names.TypeFaults.{keeps_plain, keeps_plains, keeps_procedure}
-use Rattle.cw_sound_names.proofs.Names.ListedRows.{declared_row}
-use Rattle.cw_sound_names.proofs.Names.ListedNumbers.{declarations_append}
-use Rattle.cw_sound_names.specs.Items.Free.{PartsFree}
-use Rattle.cw_sound_names.specs.Items.Items.{things_of}
-use Rattle.cw_sound_names.proofs.Items.Keeping.{Keeps, keeps-fine, keeps-both, keeps-unless, keeps-specs, parts-free, holds}
-use Rattle.cw_sound_names.proofs.Items.OnBases.{keeps-citems, keeps-communicators}
+use Rattle.cw_sound.specs.Names.Placed.{Placed}
+use Rattle.cw_sound.proofs.Names.TypeFaults.{keeps_plain, keeps_plains, keeps_procedure}
+use Rattle.cw_sound.proofs.Names.ListedRows.{declared_row}
+use Rattle.cw_sound.proofs.Names.ListedNumbers.{declarations_append}
+use Rattle.cw_sound.specs.Items.Free.{PartsFree}
+use Rattle.cw_sound.specs.Items.Items.{things_of}
+use Rattle.cw_sound.proofs.Items.Keeping.{Keeps, keeps-fine, keeps-both, keeps-unless, keeps-specs, parts-free, holds}
+use Rattle.cw_sound.proofs.Items.OnBases.{keeps-citems, keeps-communicators}
 use Rattle.cw_sound.specs.Written.Counts.{Each, HasFewPlain, SpecCounts, DataCounts, CitemCounts, CommCounts, CountsFit}
 
 -- ---- parameters

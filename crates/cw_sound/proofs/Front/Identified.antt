@@ -32,7 +32,7 @@ use Rattle.cw_scope.specs.Resolved.{declarations_step, fact_declarations, text_d
 use Rattle.cw_grammar.specs.Grammar.{a_list, a_name, a_group, an_elem, a_table, a_data, a_param, a_spec, a_citem, an_aitem, a_comm}
 use Rattle.cw_derived.specs.NormalForm as normal
 use Rattle.cw_derived.specs.NormalForm.{IsNormal}
-use Rattle.cw_sound_names.proofs.Names.ListedNumbers.{declarations_append}
+use Rattle.cw_sound.proofs.Names.ListedNumbers.{declarations_append}
 use Rattle.cw_sound.specs.Written.Counts.{Each}
 use Rattle.cw_sound.specs.Written.Identified.{IsIdentified}
 use Rattle.cw_sound.proofs.Written.Titles.{each_both}

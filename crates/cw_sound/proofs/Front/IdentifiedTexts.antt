@@ -35,11 +35,11 @@ use Rattle.cw_derived.specs.NormalForm as normal
 use Rattle.cw_derived.specs.NormalForm.{IsNormal}
 use Rattle.cw_derived.proofs.Statements.{text_normal}
 use Rattle.cw_derived.proofs.Derived.{derived_normal}
-use Rattle.cw_sound_names.specs.Uses.Mentions.{In, Mention, Here, declares, uses, stores, facts_mentions}
-use Rattle.cw_sound_names.proofs.Names.Parts.{Plain, is_plain}
-use Rattle.cw_sound_names.proofs.Names.Rows.{rows_of, rows_in, facts_rows}
-use Rattle.cw_sound_names.proofs.Names.ExpressionUses.{expression_plain, condition_plain, reference_plain, arguments_plain}
-use Rattle.cw_sound_names.proofs.Items.Lists.{Each}
+use Rattle.cw_sound.specs.Uses.Mentions.{In, Mention, Here, declares, uses, stores, facts_mentions}
+use Rattle.cw_sound.proofs.Names.Parts.{Plain, is_plain}
+use Rattle.cw_sound.proofs.Names.Rows.{rows_of, rows_in, facts_rows}
+use Rattle.cw_sound.proofs.Names.ExpressionUses.{expression_plain, condition_plain, reference_plain, arguments_plain}
+use Rattle.cw_sound.proofs.Items.Lists.{Each}
 use Rattle.cw_sound.specs.Written.Counts as counts
 use Rattle.cw_sound.specs.Written.Identified.{IsIdentified, HasIdentifiers}
 use Rattle.cw_sound.proofs.Front.Shapes.{decl_said, form_said, simple_said, decl_says, form_says, simple_says, block_says, proc_says, stmt_says}

@@ -2,8 +2,8 @@
 use Rattle.std.proofs.Common.{◌≡◌, ℕ, zero, suc, ◌<◌, ◌≤◌, List, [], ◌∷◌, map, Some, slice_get, sym, ap, ◌∙◌, arith, inl, inr}
 use Rattle.std.proofs.lemmas.Bool.{cases_order}
 use Rattle.std.proofs.lemmas.Option.{none-some, same_Some}
-use Rattle.cw_sound_names.specs.Items.Derived.{IsRising}
-use Rattle.cw_sound_names.proofs.Items.Lists.{In, at-place, not-below}
+use Rattle.cw_sound.specs.Items.Derived.{IsRising}
+use Rattle.cw_sound.proofs.Items.Lists.{In, at-place, not-below}
 
 module _ {A : Type 0} (token : A → ℕ) where
   pub token_in : (xs : List A) (x : A) → In x xs → In (token x) (map token xs)

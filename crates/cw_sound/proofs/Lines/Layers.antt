@@ -9,8 +9,8 @@ use Rattle.cw_tree.specs.declared.statement.RawStmt.{RawStmt, roll-RawStmt, out-
 use Rattle.cw_tree.specs.declared.statement.RawDecl.TheOpen.{RawForm-F, RawSimple-F, RawBlock-F, RawProc-F, RawStmt-F}
 use Rattle.cw_tree.specs.declared.statement.RawDecl.TheFolds.{para-roll-RawDecl, para-roll-RawForm, para-roll-RawSimple, para-roll-RawBlock, para-roll-RawProc, para-roll-RawStmt}
 use Rattle.cw_tree.specs.declared.statement.RawDecl.TheViews.{roll-out-RawStmt}
-use Rattle.cw_sound_trees.specs.Statements.Bodies.{Body, Bodies}
-use Rattle.cw_sound_trees.specs.Statements.Bodies as bodies
+use Rattle.cw_sound.specs.Statements.Bodies.{Body, Bodies}
+use Rattle.cw_sound.specs.Statements.Bodies as bodies
 use Rattle.cw_macro.specs.Premises.{Each}
 use Rattle.cw_sound.specs.Ready.Lined as lined
 

@@ -8,7 +8,7 @@ use Rattle.cw_grammar.specs.Grammar.{a_raw}
 use Rattle.cw_grammar.specs.Statements.{text}
 use Rattle.cw_grammar.specs.Derives.{Derives}
 use Rattle.cw_macro.specs.Premises.{Each}
-use Rattle.cw_sound_trees.proofs.Expressions.Truth.{le_true}
+use Rattle.cw_sound.proofs.Expressions.Truth.{le_true}
 use Rattle.cw_sound.specs.Ready.Lined.{PositionsFit}
 use Rattle.cw_sound.specs.Lines.Counted.{HasLine}
 use Rattle.cw_sound.proofs.Lines.Good.{Placed, good}

@@ -41,8 +41,8 @@ use Rattle.cw_grammar.specs.Rules.{indexed_name, ref_behind}
 use Rattle.cw_grammar.specs.Statements.{jump, block_tree, stmt_tree, simple_stmt, with_label, proc_tree, raw}
 use Rattle.cw_make_stmt.specs.Made.{ref_position, ref_position_in}
 use Rattle.cw_writable.specs.Back.Ready.{all}
-use Rattle.cw_sound_trees.proofs.Expressions.Truth.{both}
-use Rattle.cw_sound_trees.specs.Statements.Bodies as bodies
+use Rattle.cw_sound.proofs.Expressions.Truth.{both}
+use Rattle.cw_sound.specs.Statements.Bodies as bodies
 use Rattle.cw_macro.specs.Premises.{Each}
 use Rattle.cw_macro.proofs.Lists.{each_append}
 use Rattle.cw_sound.specs.Ready.Lined as lined

@@ -28,9 +28,9 @@ use Rattle.cw_unit.specs.declared.unit.Ref.{Ref}
 use Rattle.cw_unit.specs.declared.unit.Spot.{Spot, roll-Spot}
 use Rattle.cw_unit.specs.declared.unit.Arg.TheOpen as layer
 use Rattle.cw_unit.specs.StackBound.{operand_depth, argument_depth, argument_depths, address_depth, arguments_depth}
-use Rattle.cw_sound_names.specs.Uses.Mentions.{In}
-use Rattle.cw_sound_names.specs.Names.Standing.{FewParameters}
-use Rattle.cw_sound_names.proofs.Names.FoundRows.{at_first, at_later}
+use Rattle.cw_sound.specs.Uses.Mentions.{In}
+use Rattle.cw_sound.specs.Names.Standing.{FewParameters}
+use Rattle.cw_sound.proofs.Names.FoundRows.{at_first, at_later}
 use Rattle.cw_sound.proofs.Need.Nodes.{spot_depth, expression_rolled, spot_rolled, reference_depth, two_within, Given, given_of, value_given, place_given}
 use Rattle.cw_sound.proofs.Need.Rules.{Shallow, ShallowPlace, Each, no_argument_small}
 

@@ -30,8 +30,8 @@ use Rattle.cw_make_stmt.specs.Made as statements
 use Rattle.cw_unit.specs.declared.unit.Cond.{Cond}
 use Rattle.cw_unit.specs.declared.unit.Stmt.{Stmt}
 use Rattle.cw_unit.specs.StackBound.{body_depth}
-use Rattle.cw_sound_trees.specs.Statements.Bodies.{Body, Bodies}
-use Rattle.cw_sound_trees.specs.Statements.Bodies as bodies
+use Rattle.cw_sound.specs.Statements.Bodies.{Body, Bodies}
+use Rattle.cw_sound.specs.Statements.Bodies as bodies
 use Rattle.cw_sound.proofs.Need.Rules.{Shallow, ShallowPlace, Each}
 
 module _ (named : Named) (numbers : Numbers) where

@@ -14,9 +14,9 @@ use Rattle.cw_scope.specs.declared.resolve.Named.{Named}
 use Rattle.cw_make_expr.specs.Parts.{Numbers}
 use Rattle.cw_make_stmt.specs.Made.{statement_of, block_of}
 use Rattle.cw_unit.specs.StackBound.{body_depth}
-use Rattle.cw_sound_names.specs.Uses.Mentions.{In}
-use Rattle.cw_sound_trees.specs.Statements.Bodies.{Body, block_bodies}
-use Rattle.cw_sound_names.specs.Names.Standing.{FewParameters}
+use Rattle.cw_sound.specs.Uses.Mentions.{In}
+use Rattle.cw_sound.specs.Statements.Bodies.{Body, block_bodies}
+use Rattle.cw_sound.specs.Names.Standing.{FewParameters}
 use Rattle.cw_sound.proofs.Need.Rules.{Each}
 use Rattle.cw_sound.proofs.Need.Layers.{Kept}
 use Rattle.cw_sound.proofs.Need.Trees.{test_words, holds}

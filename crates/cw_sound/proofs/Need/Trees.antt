@@ -56,9 +56,9 @@ use Rattle.cw_unit.specs.declared.unit.CompareOp.{CompareOp}
 use Rattle.cw_unit.specs.declared.unit.LogicOp.TheVariants as logic_op
 use Rattle.cw_unit.specs.declared.unit.Arg.TheOpen as node
 use Rattle.cw_unit.specs.StackBound.{operand_depth, argument_depth, arguments_depth, condition_depth, address_depth, body_depth, jump_depth, element_depth, elements_depth, largest, two_depth}
-use Rattle.cw_sound_trees.specs.Statements.Bodies.{Body, Bodies}
-use Rattle.cw_sound_trees.specs.Statements.Bodies as bodies
-use Rattle.cw_sound_names.specs.Names.Standing.{FewParameters}
+use Rattle.cw_sound.specs.Statements.Bodies.{Body, Bodies}
+use Rattle.cw_sound.specs.Statements.Bodies as bodies
+use Rattle.cw_sound.specs.Names.Standing.{FewParameters}
 use Rattle.cw_sound.proofs.Need.Nodes.{expression_rolled, condition_rolled, statement_rolled, part_within}
 use Rattle.cw_sound.proofs.Need.Rules.{Shallow, ShallowPlace, ShallowTest, Each, lifted, no_argument_small, simple_shallow, logic_shallow, term_shallow, sum_shallow, prim_shallow, all_shallow, any_shallow}
 use Rattle.cw_sound.proofs.Need.Calls.{mapped_depths, call_depth, name_shallow, one_shallow, two_shallow, bare_shallow}

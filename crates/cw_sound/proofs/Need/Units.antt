@@ -12,10 +12,10 @@ use Rattle.cw_unit.specs.declared.unit.Param.{Param}
 use Rattle.cw_unit.specs.declared.unit.Proc.{Proc}
 use Rattle.cw_unit.specs.declared.unit.Stmt.{Stmt}
 use Rattle.cw_unit.specs.StackBound.{body_depth, body_need, procedures_need}
-use Rattle.cw_sound_names.specs.Uses.Mentions.{In}
-use Rattle.cw_sound_trees.specs.Statements.Bodies.{Body, Bodies, block_bodies}
-use Rattle.cw_sound_names.proofs.Names.Parts.{Switches, Part, empty, both, plain, items, label, switch, block, procedure, more}
-use Rattle.cw_sound_names.proofs.Names.TreeParts.{block_parts}
+use Rattle.cw_sound.specs.Uses.Mentions.{In}
+use Rattle.cw_sound.specs.Statements.Bodies.{Body, Bodies, block_bodies}
+use Rattle.cw_sound.proofs.Names.Parts.{Switches, Part, empty, both, plain, items, label, switch, block, procedure, more}
+use Rattle.cw_sound.proofs.Names.TreeParts.{block_parts}
 use Rattle.cw_sound.proofs.Need.Rules.{Each}
 use Rattle.cw_sound.proofs.Need.Trees.{each_append}
 

@@ -30,9 +30,9 @@ use Rattle.cw_items.specs.Things.{moved, moved_past, named_things, group_words, 
 use Rattle.cw_judge.specs.Declared.{is_framed, names_framed, groups_framed, places_of, frame_judged, one_kind, presets_judged, declared_judged}
 use Rattle.cw_preset.specs.Strings.{Words, Rows}
 use Rattle.cw_preset.specs.Lists.{named_rows, groups_rows, singles_preset, groups_preset, table_preset, data_rows}
-use Rattle.cw_sound_names.proofs.Items.Lists.{Each, each-append, each-left, each-right, each-in}
-use Rattle.cw_sound_names.proofs.Items.Keeping.{Keeps, keeps-fine, keeps-wrong, keeps-unless, keeps-presets, parts-free, holds}
-use Rattle.cw_sound_names.proofs.Items.Fitting.{RowsFit}
+use Rattle.cw_sound.proofs.Items.Lists.{Each, each-append, each-left, each-right, each-in}
+use Rattle.cw_sound.proofs.Items.Keeping.{Keeps, keeps-fine, keeps-wrong, keeps-unless, keeps-presets, parts-free, holds}
+use Rattle.cw_sound.proofs.Items.Fitting.{RowsFit}
 use Rattle.cw_sound.proofs.Presets.Small.{Small, RowsSmall, data_small}
 
 -- a list with a name

@@ -15,7 +15,7 @@ use Rattle.cw_items.specs.Things.{citem_things, communicator_things, text_things
 use Rattle.cw_judge.specs.Judged.{citem_judged, communicator_judged, communicators_judged, block_judged}
 use Rattle.cw_preset.specs.Strings.{expression_rows, primary_rows, reference_rows, conjunction_rows, comparison_rows, condition_rows, differ_rows, mask_rows, prim_rows, sum_rows, term_rows, union_rows}
 use Rattle.cw_preset.specs.Held.{felem_rows, citem_rows, communicator_rows, held_of}
-use Rattle.cw_sound_names.proofs.Items.Lists.{Each}
+use Rattle.cw_sound.proofs.Items.Lists.{Each}
 use Rattle.cw_sound.specs.Presets.Bytes.{AreBytes}
 use Rattle.cw_sound.proofs.Presets.Small.{RowsSmall}
 use Rattle.cw_sound.proofs.Presets.Frames.{HasName, Told, Held, DataHeld}

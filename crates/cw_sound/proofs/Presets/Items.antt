@@ -23,15 +23,15 @@ use Rattle.cw_unit.specs.declared.unit.Item.{Item}
 use Rattle.cw_unit.specs.declared.unit.Home.TheVariants as home
 use Rattle.cw_unit.specs.Storage.{root_of}
 use Rattle.cw_writable.proofs.Front.Truth.{lt_true, both}
-use Rattle.cw_sound_names.specs.Items.Derived.{HasRisingTokens, IsRising}
-use Rattle.cw_sound_names.specs.Items.Bases.{BasesStand}
-use Rattle.cw_sound_names.specs.Items.Free.{PartsFree}
-use Rattle.cw_sound_names.specs.Items.Items.{things_of}
-use Rattle.cw_sound_names.proofs.Items.Lists.{Each, in-place, from-in}
-use Rattle.cw_sound_names.proofs.Items.Numbering.{tokens_of_things, made-of}
-use Rattle.cw_sound_names.proofs.Items.Room.{room-of, row-found, Orderly, orderly-first, orderly-next, site_at, site-found}
-use Rattle.cw_sound_names.proofs.Items.Storage.{site-root}
-use Rattle.cw_sound_names.proofs.Items.Standing.{things-rise, made}
+use Rattle.cw_sound.specs.Items.Derived.{HasRisingTokens, IsRising}
+use Rattle.cw_sound.specs.Items.Bases.{BasesStand}
+use Rattle.cw_sound.specs.Items.Free.{PartsFree}
+use Rattle.cw_sound.specs.Items.Items.{things_of}
+use Rattle.cw_sound.proofs.Items.Lists.{Each, in-place, from-in}
+use Rattle.cw_sound.proofs.Items.Numbering.{tokens_of_things, made-of}
+use Rattle.cw_sound.proofs.Items.Room.{room-of, row-found, Orderly, orderly-first, orderly-next, site_at, site-found}
+use Rattle.cw_sound.proofs.Items.Storage.{site-root}
+use Rattle.cw_sound.proofs.Items.Standing.{things-rise, made}
 use Rattle.cw_sound.proofs.Presets.Small.{Small}
 use Rattle.cw_sound.proofs.Presets.Frames.{IsApart, in_frame, Told, Held}
 

@@ -27,9 +27,9 @@ use Rattle.cw_judge.specs.Declared.{declared_judged, common_base_judged, common_
 use Rattle.cw_judge.specs.Judged.{citem_judged, citems_judged, communicator_judged, communicators_judged}
 use Rattle.cw_preset.specs.Strings.{expression_rows, condition_rows}
 use Rattle.cw_preset.specs.Held.{citem_rows, citems_rows, communicator_rows, communicators_rows, block_rows}
-use Rattle.cw_sound_names.proofs.Items.Lists.{Each, each-append, each-left, each-right}
-use Rattle.cw_sound_names.proofs.Items.Keeping.{keeps-declared, parts-free}
-use Rattle.cw_sound_names.proofs.Items.OnBases.{keeps-citems, keeps-communicators}
+use Rattle.cw_sound.proofs.Items.Lists.{Each, each-append, each-left, each-right}
+use Rattle.cw_sound.proofs.Items.Keeping.{keeps-declared, parts-free}
+use Rattle.cw_sound.proofs.Items.OnBases.{keeps-citems, keeps-communicators}
 use Rattle.cw_sound.proofs.Presets.Small.{RowsSmall, rows_append}
 use Rattle.cw_sound.proofs.Presets.Frames.{HasName, Told, Held, DataHeld, singles_held, arrays_held, table_held}
 use Rattle.cw_sound.proofs.Presets.Trees.{FormHeld, SimpleHeld, BlockHeld, StmtHeld, empty_held, assign_held, assign_bits_held, goto_held, goto_switch_held, call_held, answer_held, inner_held, if_held, else_held, for_held, labelled_held, form_alone, simple_alone, data_held, overlay_held, switch_held, proc_held, block_held}

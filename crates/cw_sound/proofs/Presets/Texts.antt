@@ -12,11 +12,11 @@ use Rattle.cw_judge.specs.Judged.{sites_of, absolute_addresses}
 use Rattle.cw_number.specs.Listed.{listed_of}
 use Rattle.cw_number.specs.Numbers.{numbers_of}
 use Rattle.cw_preset.specs.Held.{held_of}
-use Rattle.cw_sound_names.specs.Items.Derived.{HasRisingTokens}
-use Rattle.cw_sound_names.specs.Items.Bases.{BasesStand}
-use Rattle.cw_sound_names.specs.Items.Free.{PartsFree}
-use Rattle.cw_sound_names.specs.Items.Items.{things_of}
-use Rattle.cw_sound_names.proofs.Items.Lists.{Each}
+use Rattle.cw_sound.specs.Items.Derived.{HasRisingTokens}
+use Rattle.cw_sound.specs.Items.Bases.{BasesStand}
+use Rattle.cw_sound.specs.Items.Free.{PartsFree}
+use Rattle.cw_sound.specs.Items.Items.{things_of}
+use Rattle.cw_sound.proofs.Items.Lists.{Each}
 use Rattle.cw_sound.specs.Presets.Bytes.{HasBytes}
 use Rattle.cw_sound.proofs.Presets.Frames.{Held}
 use Rattle.cw_sound.proofs.Presets.Good.{IsOfBytes, good}

@@ -44,11 +44,11 @@ use Rattle.cw_judge.specs.Judged.{expression_judged, condition_judged, reference
 use Rattle.cw_preset.specs.Strings.{Rows, joined, expression_rows, condition_rows, reference_rows, argument_rows}
 use Rattle.cw_preset.specs.Held as holds
 use Rattle.cw_preset.specs.Held.{felem_rows, felems_rows}
-use Rattle.cw_sound_names.proofs.Items.Lists.{Each, each-append, each-left, each-right}
-use Rattle.cw_sound_names.proofs.Items.Keeping.{Keeps, keeps-fine, keeps-both, keeps-declared, parts-free}
-use Rattle.cw_sound_names.proofs.Items.KeepingStatements.{keeps-felems, keeps-all, declaration_keeps, simple_keeps, statement_keeps}
-use Rattle.cw_sound_names.proofs.Items.Fitting.{RowsFit, fit-texts}
-use Rattle.cw_sound_names.proofs.Items.FittingExpressions.{expression_fits, condition_fits, reference_fits, arguments_fit}
+use Rattle.cw_sound.proofs.Items.Lists.{Each, each-append, each-left, each-right}
+use Rattle.cw_sound.proofs.Items.Keeping.{Keeps, keeps-fine, keeps-both, keeps-declared, parts-free}
+use Rattle.cw_sound.proofs.Items.KeepingStatements.{keeps-felems, keeps-all, declaration_keeps, simple_keeps, statement_keeps}
+use Rattle.cw_sound.proofs.Items.Fitting.{RowsFit, fit-texts}
+use Rattle.cw_sound.proofs.Items.FittingExpressions.{expression_fits, condition_fits, reference_fits, arguments_fit}
 use Rattle.cw_sound.proofs.Presets.Small.{RowsSmall, rows_append}
 use Rattle.cw_sound.proofs.Presets.Frames.{Told, Held, DataHeld, texts_held}
 

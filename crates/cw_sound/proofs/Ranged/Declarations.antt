@@ -40,14 +40,14 @@ use Rattle.cw_make.specs.Switches as switched
 use Rattle.cw_make.specs.Switches.{Switches, goals_of, declaration_switches, form_switches, simple_switches, block_switches, procedure_switches, statement_switches}
 use Rattle.cw_unit.specs.declared.unit.Switch.{Switch}
 use Rattle.cw_built.specs.Coded.{has_few}
-use Rattle.cw_sound_trees.proofs.Expressions.Truth.{both as both_true, le_of, lt_true}
-use Rattle.cw_sound_trees.proofs.Expressions.Judging.{Keeps, NoFault, keeps_fine, keeps_both, keeps_unless, both_free, holds}
-use Rattle.cw_sound_trees.proofs.Statements.Keeping.{elements_keep, declaration_keeps, statement_keeps, simple_keeps}
-use Rattle.cw_sound_names.proofs.Names.Parts.{Plain, no_switches}
-use Rattle.cw_sound_names.proofs.Names.PlainFacts.{plain_nothing, plain_both, plain_use, plain_loop}
-use Rattle.cw_sound_names.proofs.Names.ExpressionUses.{expression_plain, condition_plain, reference_plain, arguments_plain}
-use Rattle.cw_sound_names.proofs.Names.TreeParts.{facts_decl, facts_form, facts_simple, facts_block, facts_proc, facts_stmt, switches_decl, switches_form, switches_simple, switches_block, switches_proc, switches_stmt, felems_plain}
-use Rattle.cw_sound_names.proofs.Names.TypeFaults.{keeps_params}
+use Rattle.cw_sound.proofs.Expressions.Truth.{both as both_true, le_of, lt_true}
+use Rattle.cw_sound.proofs.Expressions.Judging.{Keeps, NoFault, keeps_fine, keeps_both, keeps_unless, both_free, holds}
+use Rattle.cw_sound.proofs.Statements.Keeping.{elements_keep, declaration_keeps, statement_keeps, simple_keeps}
+use Rattle.cw_sound.proofs.Names.Parts.{Plain, no_switches}
+use Rattle.cw_sound.proofs.Names.PlainFacts.{plain_nothing, plain_both, plain_use, plain_loop}
+use Rattle.cw_sound.proofs.Names.ExpressionUses.{expression_plain, condition_plain, reference_plain, arguments_plain}
+use Rattle.cw_sound.proofs.Names.TreeParts.{facts_decl, facts_form, facts_simple, facts_block, facts_proc, facts_stmt, switches_decl, switches_form, switches_simple, switches_block, switches_proc, switches_stmt, felems_plain}
+use Rattle.cw_sound.proofs.Names.TypeFaults.{keeps_params}
 use Rattle.cw_sound.proofs.Ranged.Facts.{Ranged, nothing_ranged, both_ranged, plain_ranged, declared_ranged, specified_ranged, block_ranged, each_ranged, data_ranged, overlaid_ranged, parameters_ranged, answer_ranged}
 
 -- ---- switches

@@ -14,14 +14,14 @@ use Rattle.cw_scope.specs.declared.resolve.Named.{Named}
 use Rattle.cw_scope.specs.Outcome.{Resolves}
 use Rattle.cw_scale.specs.Kinds.{kind_in}
 use Rattle.cw_items.specs.declared.families.Site.{Site}
-use Rattle.cw_sound_names.specs.Items.Items.{things_of}
+use Rattle.cw_sound.specs.Items.Items.{things_of}
 use Rattle.cw_judge.specs.Judged.{sites_of, absolute_addresses}
 use Rattle.cw_make_expr.specs.Parts.{Numbers}
-use Rattle.cw_sound_names.specs.Uses.Mentions.{In, Mention, Here, declares, uses, stores, facts_mentions}
-use Rattle.cw_sound_names.specs.Items.Free.{PartsFree}
-use Rattle.cw_sound_names.proofs.Names.FoundRows.{at_first, at_later}
-use Rattle.cw_sound_names.proofs.Names.Rows.{rows_of, rows_in, facts_rows}
-use Rattle.cw_sound_trees.specs.Ranges.Declared.{has_ranges, DeclarationsInRange}
+use Rattle.cw_sound.specs.Uses.Mentions.{In, Mention, Here, declares, uses, stores, facts_mentions}
+use Rattle.cw_sound.specs.Items.Free.{PartsFree}
+use Rattle.cw_sound.proofs.Names.FoundRows.{at_first, at_later}
+use Rattle.cw_sound.proofs.Names.Rows.{rows_of, rows_in, facts_rows}
+use Rattle.cw_sound.specs.Ranges.Declared.{has_ranges, DeclarationsInRange}
 use Rattle.cw_sound.proofs.Ranged.Facts.{RangedMention, Ranged, both_ranged, communicators_ranged}
 use Rattle.cw_sound.proofs.Ranged.Declarations.{block_fit}
 

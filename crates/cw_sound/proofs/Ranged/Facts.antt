@@ -42,17 +42,17 @@ use Rattle.cw_judge.specs.Declared.{presets_judged, declared_judged, overlaid_ju
 use Rattle.cw_judge.specs.Judged.{citem_judged, citems_judged, communicator_judged, communicators_judged}
 use Rattle.cw_make_expr.specs.Parts.{Numbers}
 use Rattle.cw_make.specs.Labels.{proc_within}
-use Rattle.cw_sound_names.specs.Uses.Mentions.{In, Mention, Here, here, declares as declared, uses, stores, facts_mentions}
-use Rattle.cw_sound_trees.proofs.Expressions.Truth.{no}
-use Rattle.cw_sound_trees.proofs.Expressions.Judging.{Keeps, NoFault, keeps_both, keeps_unless, both_free, holds}
-use Rattle.cw_sound_names.proofs.Names.Lists.{in_either}
-use Rattle.cw_sound_names.proofs.Names.Parts.{Plain, is_plain}
-use Rattle.cw_sound_names.proofs.Names.PlainFacts.{plain_use, plain_nothing}
-use Rattle.cw_sound_names.proofs.Names.Rows.{mentions_append}
-use Rattle.cw_sound_names.proofs.Names.MentionsOf.{declared_first, specified_first, block_alone}
-use Rattle.cw_sound_names.proofs.Names.TypeFaults.{keeps_second, keeps_each_wrong, keeps_groups, keeps_elements, keeps_presets, keeps_declared, keeps_params}
-use Rattle.cw_sound_names.proofs.Names.FewListed.{keeps_address, keeps_bounds, keeps_aitems, keeps_citems, keeps_communicators}
-use Rattle.cw_sound_trees.specs.Ranges.Declared.{is_size, has_ranges}
+use Rattle.cw_sound.specs.Uses.Mentions.{In, Mention, Here, here, declares as declared, uses, stores, facts_mentions}
+use Rattle.cw_sound.proofs.Expressions.Truth.{no}
+use Rattle.cw_sound.proofs.Expressions.Judging.{Keeps, NoFault, keeps_both, keeps_unless, both_free, holds}
+use Rattle.cw_sound.proofs.Names.Lists.{in_either}
+use Rattle.cw_sound.proofs.Names.Parts.{Plain, is_plain}
+use Rattle.cw_sound.proofs.Names.PlainFacts.{plain_use, plain_nothing}
+use Rattle.cw_sound.proofs.Names.Rows.{mentions_append}
+use Rattle.cw_sound.proofs.Names.MentionsOf.{declared_first, specified_first, block_alone}
+use Rattle.cw_sound.proofs.Names.TypeFaults.{keeps_second, keeps_each_wrong, keeps_groups, keeps_elements, keeps_presets, keeps_declared, keeps_params}
+use Rattle.cw_sound.proofs.Names.FewListed.{keeps_address, keeps_bounds, keeps_aitems, keeps_citems, keeps_communicators}
+use Rattle.cw_sound.specs.Ranges.Declared.{is_size, has_ranges}
 use Rattle.cw_sound.proofs.Ranged.Sizes.{row_good, SmallWidth, size_good, element_good}
 
 abbrev pub RangedMention : Mention → Type 0

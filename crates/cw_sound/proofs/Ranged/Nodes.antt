@@ -25,8 +25,8 @@ use Rattle.cw_gen_unit.specs.ReferenceUnits.{answer_of}
 use Rattle.cw_built.specs.Coded.{is_part}
 use Rattle.cw_writable.specs.Coded.RangedExpressions.{all_ranged, is_ranged_expression, is_ranged_condition, is_ranged_argument, ranged_reference}
 use Rattle.cw_writable.specs.Coded.RangedUnits.{is_line, is_ranged_jump, are_ranged_elements, statement_step, is_ranged_statement}
-use Rattle.cw_sound_trees.specs.Expressions.Levels.{then_levels, reference_levels}
-use Rattle.cw_sound_trees.proofs.Expressions.Truth.{both, lt_of, lt_true}
+use Rattle.cw_sound.specs.Expressions.Levels.{then_levels, reference_levels}
+use Rattle.cw_sound.proofs.Expressions.Truth.{both, lt_of, lt_true}
 use Rattle.cw_sound.proofs.Ranged.Parts.{line_good}
 
 module _ (u : SourceUnit) (who : Option ℕ) where

@@ -28,22 +28,22 @@ use Rattle.cw_unit.specs.declared.unit.Expr.{Expr}
 use Rattle.cw_gen_expr.specs.BuiltExpressions.{most_levels}
 use Rattle.cw_writable.specs.Coded.RangedExpressions.{all_ranged, ranged_value, is_ranged_expression, is_ranged_condition, is_ranged_argument, ranged_reference}
 use Rattle.cw_writable.specs.Coded.RangedUnits.{is_line, is_ranged_jump, is_ranged_element, are_ranged_elements}
-use Rattle.cw_sound_names.specs.Uses.Stands.{FactsStand}
-use Rattle.cw_sound_trees.specs.Expressions.Levels.{largest, then_levels, condition_levels, reference_levels}
-use Rattle.cw_sound_trees.specs.Expressions.Readings.{is_placed}
-use Rattle.cw_sound_trees.specs.Expressions.Regular.{all, is_regular, is_regular_condition, is_regular_reference}
-use Rattle.cw_sound_trees.proofs.Expressions.Truth.{both, parts, le_true, lt_true}
-use Rattle.cw_sound_trees.proofs.Expressions.Judging.{NoFault, keeps_both, both_free}
-use Rattle.cw_sound_trees.proofs.Expressions.Standing.{split}
-use Rattle.cw_sound_trees.proofs.Expressions.Whole.{as_value}
-use Rattle.cw_sound_trees.specs.Ranges.Declared.{DeclarationsInRange}
-use Rattle.cw_sound_trees.proofs.Ranges.Arguments.{call_given}
-use Rattle.cw_sound_trees.proofs.Ranges.Rules.{sounds}
-use Rattle.cw_sound_trees.proofs.Ranges.Trees.{expression_is_right, condition_is_right, reference_is_right}
-use Rattle.cw_sound_trees.proofs.Ranges.Whole.{each_right}
-use Rattle.cw_sound_trees.specs.Statements.Levels.{element_levels}
-use Rattle.cw_sound_trees.specs.Statements.Regular.{is_regular_element}
-use Rattle.cw_sound_trees.proofs.Statements.Keeping.{few_keeps, few_each_keeps, whole_keeps, test_keeps, elements_keep}
+use Rattle.cw_sound.specs.Uses.Stands.{FactsStand}
+use Rattle.cw_sound.specs.Expressions.Levels.{largest, then_levels, condition_levels, reference_levels}
+use Rattle.cw_sound.specs.Expressions.Readings.{is_placed}
+use Rattle.cw_sound.specs.Expressions.Regular.{all, is_regular, is_regular_condition, is_regular_reference}
+use Rattle.cw_sound.proofs.Expressions.Truth.{both, parts, le_true, lt_true}
+use Rattle.cw_sound.proofs.Expressions.Judging.{NoFault, keeps_both, both_free}
+use Rattle.cw_sound.proofs.Expressions.Standing.{split}
+use Rattle.cw_sound.proofs.Expressions.Whole.{as_value}
+use Rattle.cw_sound.specs.Ranges.Declared.{DeclarationsInRange}
+use Rattle.cw_sound.proofs.Ranges.Arguments.{call_given}
+use Rattle.cw_sound.proofs.Ranges.Rules.{sounds}
+use Rattle.cw_sound.proofs.Ranges.Trees.{expression_is_right, condition_is_right, reference_is_right}
+use Rattle.cw_sound.proofs.Ranges.Whole.{each_right}
+use Rattle.cw_sound.specs.Statements.Levels.{element_levels}
+use Rattle.cw_sound.specs.Statements.Regular.{is_regular_element}
+use Rattle.cw_sound.proofs.Statements.Keeping.{few_keeps, few_each_keeps, whole_keeps, test_keeps, elements_keep}
 
 -- ---- lines
 

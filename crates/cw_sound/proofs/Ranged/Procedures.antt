@@ -15,17 +15,17 @@ use Rattle.cw_unit.specs.declared.unit.Stmt.{Stmt}
 use Rattle.cw_unit.specs.Storage.{frame_size}
 use Rattle.cw_gen_unit.specs.ReferenceUnits.{answer_of}
 use Rattle.cw_writable.specs.Coded.RangedUnits.{is_ranged_statement, is_ranged_procedure, are_ranged_procedures}
-use Rattle.cw_sound_names.specs.Uses.Mentions.{In}
-use Rattle.cw_sound_trees.proofs.Expressions.Truth.{both, le_true}
-use Rattle.cw_sound_trees.proofs.Expressions.Judging.{NoFault}
-use Rattle.cw_sound_trees.specs.Ranges.Declared.{DeclarationsInRange}
-use Rattle.cw_sound_trees.specs.Statements.Bodies.{Body, Bodies, block_bodies}
-use Rattle.cw_sound_trees.specs.Statements.Counted.{Counted, BodiesFit}
-use Rattle.cw_sound_trees.proofs.Statements.Parts.{Stood}
-use Rattle.cw_sound_trees.proofs.Statements.InBodies.{bodies_are_right}
-use Rattle.cw_sound_trees.proofs.Statements.SameBodies.{bodies_are_same}
-use Rattle.cw_sound_trees.proofs.Statements.UnitBodies.{made, Paired, paired}
-use Rattle.cw_sound_names.specs.Storage.Frames.{FramesFit}
+use Rattle.cw_sound.specs.Uses.Mentions.{In}
+use Rattle.cw_sound.proofs.Expressions.Truth.{both, le_true}
+use Rattle.cw_sound.proofs.Expressions.Judging.{NoFault}
+use Rattle.cw_sound.specs.Ranges.Declared.{DeclarationsInRange}
+use Rattle.cw_sound.specs.Statements.Bodies.{Body, Bodies, block_bodies}
+use Rattle.cw_sound.specs.Statements.Counted.{Counted, BodiesFit}
+use Rattle.cw_sound.proofs.Statements.Parts.{Stood}
+use Rattle.cw_sound.proofs.Statements.InBodies.{bodies_are_right}
+use Rattle.cw_sound.proofs.Statements.SameBodies.{bodies_are_same}
+use Rattle.cw_sound.proofs.Statements.UnitBodies.{made, Paired, paired}
+use Rattle.cw_sound.specs.Storage.Frames.{FramesFit}
 use Rattle.cw_sound.proofs.Ranged.Trees.{statement_is_right}
 
 module _ (named : Named) (numbers : Numbers) (u : SourceUnit) (declared : DeclarationsInRange named) where

@@ -15,11 +15,11 @@ use Rattle.cw_data.specs.Data.{range_span, fits_area, good_bounds, good_size, si
 use Rattle.cw_data.specs.Presets.{table_words}
 use Rattle.cw_make_expr.specs.Parts.{within, element_word, element_field}
 use Rattle.cw_writable.specs.Coded.RangedExpressions as ranged
-use Rattle.cw_sound_trees.proofs.Expressions.Truth.{no, both as both_true, parts, le_true, le_of, lt_true, lt_of}
-use Rattle.cw_sound_trees.proofs.Expressions.Judging.{Keeps, NoFault, keeps_both, keeps_unless, keeps_int, both_free, holds}
-use Rattle.cw_sound_names.proofs.Names.TypeFaults.{keeps_scale}
-use Rattle.cw_sound_trees.specs.Ranges.Declared.{is_size, is_element, is_row}
-use Rattle.cw_sound_trees.proofs.Ranges.Operands.{within_is, part_of}
+use Rattle.cw_sound.proofs.Expressions.Truth.{no, both as both_true, parts, le_true, le_of, lt_true, lt_of}
+use Rattle.cw_sound.proofs.Expressions.Judging.{Keeps, NoFault, keeps_both, keeps_unless, keeps_int, both_free, holds}
+use Rattle.cw_sound.proofs.Names.TypeFaults.{keeps_scale}
+use Rattle.cw_sound.specs.Ranges.Declared.{is_size, is_element, is_row}
+use Rattle.cw_sound.proofs.Ranges.Operands.{within_is, part_of}
 
 abbrev most_words : ℕ
 most_words = 32768

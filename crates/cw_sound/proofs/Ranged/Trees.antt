@@ -29,23 +29,23 @@ use Rattle.cw_make_stmt.specs.Made as made
 use Rattle.cw_unit.specs.declared.unit.Unit.{Unit as SourceUnit}
 use Rattle.cw_unit.specs.declared.unit.Stmt.{Stmt}
 use Rattle.cw_gen_expr.specs.BuiltExpressions.{most_levels}
-use Rattle.cw_sound_trees.specs.Expressions.Levels.{largest, then_levels, condition_levels, reference_levels}
-use Rattle.cw_sound_trees.specs.Expressions.Readings.{is_placed}
-use Rattle.cw_sound_trees.specs.Expressions.Regular.{all, is_regular, is_regular_condition, is_regular_reference}
-use Rattle.cw_sound_trees.proofs.Expressions.Truth.{parts}
-use Rattle.cw_sound_trees.proofs.Expressions.Judging.{NoFault, keeps_both, both_free}
-use Rattle.cw_sound_trees.proofs.Expressions.Numbers.{name_small}
-use Rattle.cw_sound_trees.specs.Ranges.Declared.{DeclarationsInRange}
-use Rattle.cw_sound_trees.proofs.Ranges.Operands.{bits_are_part}
-use Rattle.cw_sound_trees.specs.Statements.Levels.{element_levels, statement_levels, block_levels}
-use Rattle.cw_sound_trees.specs.Statements.Regular.{is_regular_element, is_regular_statement, is_regular_block}
-use Rattle.cw_sound_trees.proofs.Statements.Keeping.{counted_keeps, whole_keeps, place_keeps}
-use Rattle.cw_sound_trees.proofs.Statements.Parts.{Stood, halves_of, answers_as, place_fit}
+use Rattle.cw_sound.specs.Expressions.Levels.{largest, then_levels, condition_levels, reference_levels}
+use Rattle.cw_sound.specs.Expressions.Readings.{is_placed}
+use Rattle.cw_sound.specs.Expressions.Regular.{all, is_regular, is_regular_condition, is_regular_reference}
+use Rattle.cw_sound.proofs.Expressions.Truth.{parts}
+use Rattle.cw_sound.proofs.Expressions.Judging.{NoFault, keeps_both, both_free}
+use Rattle.cw_sound.proofs.Expressions.Numbers.{name_small}
+use Rattle.cw_sound.specs.Ranges.Declared.{DeclarationsInRange}
+use Rattle.cw_sound.proofs.Ranges.Operands.{bits_are_part}
+use Rattle.cw_sound.specs.Statements.Levels.{element_levels, statement_levels, block_levels}
+use Rattle.cw_sound.specs.Statements.Regular.{is_regular_element, is_regular_statement, is_regular_block}
+use Rattle.cw_sound.proofs.Statements.Keeping.{counted_keeps, whole_keeps, place_keeps}
+use Rattle.cw_sound.proofs.Statements.Parts.{Stood, halves_of, answers_as, place_fit}
 use Rattle.cw_sound.proofs.Ranged.Parts.{jump_ranged, switch_ranged, expression_ranged, test_ranged, place_ranged, call_ranged, elements_ranged}
 use Rattle.cw_sound.proofs.Ranged.Nodes.{Good, GoodRow, no_row, row_more, row_good, marked_good, conditional_good, go_good, call_statement_good, PlaceFit, put_good, put_bits_good, answer_good, repetition_good}
 use Rattle.cw_tree.specs.declared.expression.RawCond.{RawCond}
 use Rattle.cw_tree.specs.declared.statement.RawFelem.{RawFelem}
-use Rattle.cw_sound_trees.proofs.Statements.Induction.{AllGood, no_statement, one_more, Closed, each_statement, each_block}
+use Rattle.cw_sound.proofs.Statements.Induction.{AllGood, no_statement, one_more, Closed, each_statement, each_block}
 
 module _ (named : Named) (numbers : Numbers) (u : SourceUnit) (who : Option ℕ) (declared : DeclarationsInRange named) where
   -- ---- simple statements

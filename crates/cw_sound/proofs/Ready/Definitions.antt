@@ -16,9 +16,9 @@ use Rattle.cw_unit.specs.declared.descriptor.Desc.{Desc}
 use Rattle.cw_writable.proofs.Coded.Fine.{both}
 use Rattle.cw_writable.proofs.Coded.Numbers.{le_true}
 use Rattle.cw_writable.specs.Back.Ready.{are_rising}
-use Rattle.cw_sound_names.specs.Items.Derived.{HasRisingTokens}
-use Rattle.cw_sound_names.proofs.Items.Naming.{few-descriptors}
-use Rattle.cw_sound_names.proofs.Names.ListedParts.{Listed, none, also, used, stored, unlisted, label, switch, procedure, special, communicators_parts}
+use Rattle.cw_sound.specs.Items.Derived.{HasRisingTokens}
+use Rattle.cw_sound.proofs.Items.Naming.{few-descriptors}
+use Rattle.cw_sound.proofs.Names.ListedParts.{Listed, none, also, used, stored, unlisted, label, switch, procedure, special, communicators_parts}
 
 -- a row for each descriptor
 same_length : {fs : List Fact} {rs : List (Row Listing)} {ds : List Desc} → Listed fs rs ds → length rs ≡ length ds

@@ -14,9 +14,9 @@ use Rattle.cw_built.specs.Listed.{are_named}
 use Rattle.cw_writable.proofs.Coded.Fine.{both, parts}
 use Rattle.cw_writable.specs.Back.Ready.{is_goal}
 use Rattle.cw_writable.proofs.Back.Names.{listed}
-use Rattle.cw_sound_names.specs.Uses.Mentions.{Here}
-use Rattle.cw_sound_names.proofs.Names.Picking.{Zip}
-use Rattle.cw_sound_names.proofs.Names.SwitchNumbers.{AllReached, SwitchOf}
+use Rattle.cw_sound.specs.Uses.Mentions.{Here}
+use Rattle.cw_sound.proofs.Names.Picking.{Zip}
+use Rattle.cw_sound.proofs.Names.SwitchNumbers.{AllReached, SwitchOf}
 
 module _ (u : SourceUnit) (named : IsTrue (are_named u.descs)) where
   goals_listed : (who : Option ℕ) (gs : List Goal) → AllReached u who gs → IsTrue (list_all (is_goal (length u.descs)) gs)

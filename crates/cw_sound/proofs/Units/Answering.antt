@@ -11,9 +11,9 @@ use Rattle.cw_make_items.specs.Lookup.{Numbers}
 use Rattle.cw_unit.specs.declared.unit.Unit.{Unit as SourceUnit}
 use Rattle.cw_gen_unit.specs.ReferenceUnits.{answer_of}
 use Rattle.cw_unit.specs.Configuration.{fraction_of_answer}
-use Rattle.cw_sound_names.specs.Uses.Mentions.{In, Mention, here, declares, uses, stores, block_mentions}
-use Rattle.cw_sound_names.specs.Names.Standing.{AnswersFit}
-use Rattle.cw_sound_trees.specs.Statements.Answers.{AnswersAs, MentionAnswers, AnswersStand}
+use Rattle.cw_sound.specs.Uses.Mentions.{In, Mention, here, declares, uses, stores, block_mentions}
+use Rattle.cw_sound.specs.Names.Standing.{AnswersFit}
+use Rattle.cw_sound.specs.Statements.Answers.{AnswersAs, MentionAnswers, AnswersStand}
 
 module _ (named : Named) (numbers : Numbers) (u : SourceUnit) (fit : AnswersFit named numbers u) where
   by_form : (who : Option ℕ) (x : Use) (f : Form) → x.form ≡ f → In (here who (uses x)) (block_mentions numbers named.raw.now) → AnswersAs named u who f x.name

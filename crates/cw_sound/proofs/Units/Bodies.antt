@@ -24,18 +24,18 @@ use Rattle.cw_facts.specs.Facts.{BlockFacts, each_declares, each_uses, data_fact
 use Rattle.cw_scope.specs.declared.resolve.Named.{Named}
 use Rattle.cw_make_items.specs.Lookup.{Numbers}
 use Rattle.cw_unit.specs.declared.unit.Switch.{Switch}
-use Rattle.cw_sound_names.specs.Uses.Mentions.{Mention, Here, declares, uses, stores, facts_mentions}
-use Rattle.cw_sound_names.specs.Names.Standing.{is_own_procedure}
-use Rattle.cw_sound_names.proofs.Names.Parts.{Part, Plain, plain, items, label, switch, procedure_with}
-use Rattle.cw_sound_names.proofs.Names.PartKinds.{procs_in, part_procs, shape, inner_procs, body, within_it}
-use Rattle.cw_sound_names.proofs.Names.Rows.{mentions_append}
-use Rattle.cw_sound_names.proofs.Names.Picking.{pick_append, Zip, zip_both}
-use Rattle.cw_sound_names.proofs.Names.Sorts.{of_kind}
-use Rattle.cw_sound_names.proofs.Names.MentionsOf.{block_alone}
-use Rattle.cw_sound_names.proofs.Names.PlainFacts.{plain_nothing, plain_both, plain_use, plain_loop}
-use Rattle.cw_sound_names.proofs.Names.ExpressionUses.{expression_plain, condition_plain, reference_plain, arguments_plain}
-use Rattle.cw_sound_trees.specs.Statements.Bodies.{Body, Bodies}
-use Rattle.cw_sound_trees.specs.Statements.Bodies as bodies
+use Rattle.cw_sound.specs.Uses.Mentions.{Mention, Here, declares, uses, stores, facts_mentions}
+use Rattle.cw_sound.specs.Names.Standing.{is_own_procedure}
+use Rattle.cw_sound.proofs.Names.Parts.{Part, Plain, plain, items, label, switch, procedure_with}
+use Rattle.cw_sound.proofs.Names.PartKinds.{procs_in, part_procs, shape, inner_procs, body, within_it}
+use Rattle.cw_sound.proofs.Names.Rows.{mentions_append}
+use Rattle.cw_sound.proofs.Names.Picking.{pick_append, Zip, zip_both}
+use Rattle.cw_sound.proofs.Names.Sorts.{of_kind}
+use Rattle.cw_sound.proofs.Names.MentionsOf.{block_alone}
+use Rattle.cw_sound.proofs.Names.PlainFacts.{plain_nothing, plain_both, plain_use, plain_loop}
+use Rattle.cw_sound.proofs.Names.ExpressionUses.{expression_plain, condition_plain, reference_plain, arguments_plain}
+use Rattle.cw_sound.specs.Statements.Bodies.{Body, Bodies}
+use Rattle.cw_sound.specs.Statements.Bodies as bodies
 
 -- a mention declares the procedure of a body
 abbrev pub Declares : Mention → (token : ℕ) → Type 0

@@ -19,16 +19,16 @@ use Rattle.cw_gen_expr.specs.NamedItems.{has_words}
 use Rattle.cw_gen_unit.specs.BuiltStatements.{is_statement}
 use Rattle.cw_gen_unit.specs.BuiltUnits.{items_fit, is_procedure, are_procedures, are_built}
 use Rattle.cw_gen_unit.specs.ReferenceUnits.{answer_of}
-use Rattle.cw_sound_names.specs.Uses.Stands.{kind_specified}
-use Rattle.cw_sound_names.specs.Uses.Mentions.{In}
-use Rattle.cw_sound_names.specs.Names.Placed.{Placed}
-use Rattle.cw_sound_names.specs.Names.Standing.{CountsOwn, FewParameters, ItemsStand}
-use Rattle.cw_sound_names.proofs.Names.Lists.{in_right}
-use Rattle.cw_sound_names.proofs.Names.MentionsOf.{signatures_append}
-use Rattle.cw_sound_names.proofs.Names.Params.{kinds_as_specified}
-use Rattle.cw_sound_names.proofs.Names.TreeParts.{block_parts}
-use Rattle.cw_sound_trees.proofs.Expressions.Truth.{both}
-use Rattle.cw_sound_trees.specs.Statements.Counted.{BodiesBuilt}
+use Rattle.cw_sound.specs.Uses.Stands.{kind_specified}
+use Rattle.cw_sound.specs.Uses.Mentions.{In}
+use Rattle.cw_sound.specs.Names.Placed.{Placed}
+use Rattle.cw_sound.specs.Names.Standing.{CountsOwn, FewParameters, ItemsStand}
+use Rattle.cw_sound.proofs.Names.Lists.{in_right}
+use Rattle.cw_sound.proofs.Names.MentionsOf.{signatures_append}
+use Rattle.cw_sound.proofs.Names.Params.{kinds_as_specified}
+use Rattle.cw_sound.proofs.Names.TreeParts.{block_parts}
+use Rattle.cw_sound.proofs.Expressions.Truth.{both}
+use Rattle.cw_sound.specs.Statements.Counted.{BodiesBuilt}
 use Rattle.cw_sound.proofs.Units.Numbering.{At, From, from_start}
 use Rattle.cw_sound.proofs.Units.Procedures.{ProcOf, row_of, part_has}
 use Rattle.cw_sound.proofs.Units.Parameters.{Within, parameters_fit}

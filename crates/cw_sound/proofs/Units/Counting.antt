@@ -3,10 +3,10 @@ use Rattle.std.proofs.Common.{ℕ, suc, [], ◌∷◌, true, Some, None, sym, ap
 use Rattle.cw_table.specs.Rows.{item_at}
 use Rattle.cw_scope.specs.declared.resolve.Named.{Named}
 use Rattle.cw_make_items.specs.Lookup.{Numbers, proc_in}
-use Rattle.cw_sound_names.specs.Names.Placed.{Placed}
-use Rattle.cw_sound_names.specs.Names.Standing.{CountsOwn}
-use Rattle.cw_sound_trees.specs.Statements.Bodies.{Bodies, block_bodies}
-use Rattle.cw_sound_trees.specs.Statements.Counted.{Counted}
+use Rattle.cw_sound.specs.Names.Placed.{Placed}
+use Rattle.cw_sound.specs.Names.Standing.{CountsOwn}
+use Rattle.cw_sound.specs.Statements.Bodies.{Bodies, block_bodies}
+use Rattle.cw_sound.specs.Statements.Counted.{Counted}
 use Rattle.cw_sound.proofs.Units.Bodies.{BodyOf, block_has}
 use Rattle.cw_sound.proofs.Units.Numbering.{At, From, from_start}
 

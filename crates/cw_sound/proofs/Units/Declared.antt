@@ -19,12 +19,12 @@ use Rattle.cw_number.specs.Numbers.{item_rows, numbers_of}
 use Rattle.cw_make_items.specs.Lookup.{Numbers}
 use Rattle.cw_make.specs.Labels.{proc_within}
 use Rattle.cw_make.specs.Made.{unit_of}
-use Rattle.cw_sound_names.specs.Uses.Mentions.{In, Mention, Here, here, declares, uses, stores, Mentions, mentions_step, fact_mentions, facts_mentions, text_mentions}
-use Rattle.cw_sound_names.specs.Names.Standing as names
-use Rattle.cw_sound_names.specs.Names.Standing.{is_item, IsItemFrom}
-use Rattle.cw_sound_names.proofs.Names.Rows.{row, in_rows, facts_rows}
-use Rattle.cw_sound_names.specs.Items.Bodies.{Stored, AllStored, stored_at, declared_stored, is_other, stored_step, fact_stored, facts_stored}
-use Rattle.cw_sound_names.specs.Items.Items.{ItemsStand, IsThere}
+use Rattle.cw_sound.specs.Uses.Mentions.{In, Mention, Here, here, declares, uses, stores, Mentions, mentions_step, fact_mentions, facts_mentions, text_mentions}
+use Rattle.cw_sound.specs.Names.Standing as names
+use Rattle.cw_sound.specs.Names.Standing.{is_item, IsItemFrom}
+use Rattle.cw_sound.proofs.Names.Rows.{row, in_rows, facts_rows}
+use Rattle.cw_sound.specs.Items.Bodies.{Stored, AllStored, stored_at, declared_stored, is_other, stored_step, fact_stored, facts_stored}
+use Rattle.cw_sound.specs.Items.Items.{ItemsStand, IsThere}
 
 each : {X : Type 0} (P : X → Type 0) (xs : List X) → All P xs → (x : X) → In x xs → P x
 each P [] h x i = absurd i

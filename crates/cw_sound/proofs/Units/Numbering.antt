@@ -9,13 +9,13 @@ use Rattle.cw_number.specs.declared.numbers.Counts.{Counts}
 use Rattle.cw_number.specs.declared.numbered.Numbered.TheVariants as numbered
 use Rattle.cw_number.specs.Numbers.{own_number, none_counted}
 use Rattle.cw_make_items.specs.Lookup.{Numbers}
-use Rattle.cw_sound_names.specs.Uses.Mentions.{In, Mention, Here, here, declares, uses, stores, block_mentions}
-use Rattle.cw_sound_names.specs.Names.Placed.{Placed}
-use Rattle.cw_sound_names.specs.Names.Standing.{is_own_procedure, counted_from, CountsOwn}
-use Rattle.cw_sound_names.proofs.Names.Lists.{in_middle}
-use Rattle.cw_sound_names.proofs.Names.Picking.{pick_append, Zip}
-use Rattle.cw_sound_names.proofs.Names.PartKinds.{procs_in}
-use Rattle.cw_sound_names.proofs.Names.Sorts.{of_kind, few_before, procedures_before}
+use Rattle.cw_sound.specs.Uses.Mentions.{In, Mention, Here, here, declares, uses, stores, block_mentions}
+use Rattle.cw_sound.specs.Names.Placed.{Placed}
+use Rattle.cw_sound.specs.Names.Standing.{is_own_procedure, counted_from, CountsOwn}
+use Rattle.cw_sound.proofs.Names.Lists.{in_middle}
+use Rattle.cw_sound.proofs.Names.Picking.{pick_append, Zip}
+use Rattle.cw_sound.proofs.Names.PartKinds.{procs_in}
+use Rattle.cw_sound.proofs.Names.Sorts.{of_kind, few_before, procedures_before}
 
 numbered_procedure : (k : NameKind) (c : Counts) → IsTrue (is_own_procedure k) → own_number c k ≡ Some (numbered.Proc c.procs)
 numbered_procedure (kind.Single t) c h = absurd (cc)

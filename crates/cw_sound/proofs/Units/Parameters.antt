@@ -18,12 +18,12 @@ use Rattle.cw_unit.specs.declared.unit.Param.{Param}
 use Rattle.cw_unit.specs.declared.unit.Unit.{Unit as SourceUnit}
 use Rattle.cw_gen_expr.specs.NamedItems.{has_words}
 use Rattle.cw_gen_unit.specs.BuiltUnits.{item_fits, items_fit}
-use Rattle.cw_sound_names.specs.Uses.Mentions.{In, Here, here, declares as declared, facts_mentions, listed_mentions, block_mentions}
-use Rattle.cw_sound_names.specs.Names.Standing.{is_item, ItemsStand}
-use Rattle.cw_sound_names.proofs.Names.Lists.{Sub, in_right, sub_left, sub_right}
-use Rattle.cw_sound_names.proofs.Names.Rows.{mentions_append}
-use Rattle.cw_sound_names.proofs.Names.MentionsOf.{declared_first}
-use Rattle.cw_sound_trees.proofs.Expressions.Truth.{both}
+use Rattle.cw_sound.specs.Uses.Mentions.{In, Here, here, declares as declared, facts_mentions, listed_mentions, block_mentions}
+use Rattle.cw_sound.specs.Names.Standing.{is_item, ItemsStand}
+use Rattle.cw_sound.proofs.Names.Lists.{Sub, in_right, sub_left, sub_right}
+use Rattle.cw_sound.proofs.Names.Rows.{mentions_append}
+use Rattle.cw_sound.proofs.Names.MentionsOf.{declared_first}
+use Rattle.cw_sound.proofs.Expressions.Truth.{both}
 
 fit_append : (f : ℕ → Bool) (xs ys : List Param) → IsTrue (items_fit f xs) → IsTrue (items_fit f ys) → IsTrue (items_fit f (xs ++ ys))
 fit_append f [] ys h k = k

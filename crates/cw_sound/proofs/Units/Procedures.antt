@@ -14,15 +14,15 @@ use Rattle.cw_make_items.specs.Lookup.{Numbers}
 use Rattle.cw_make.specs.Procedures.{proc_of}
 use Rattle.cw_unit.specs.declared.unit.Proc.{Proc}
 use Rattle.cw_unit.specs.declared.unit.Switch.{Switch}
-use Rattle.cw_sound_names.specs.Uses.Mentions.{In, Here, facts_mentions, block_mentions}
-use Rattle.cw_sound_names.specs.Names.Standing.{is_own_procedure}
-use Rattle.cw_sound_names.proofs.Names.Lists.{Sub, in_right, sub_left, sub_right}
-use Rattle.cw_sound_names.proofs.Names.Parts.{Part, empty, both, plain, items, label, switch, block, procedure, more, procedure_with}
-use Rattle.cw_sound_names.proofs.Names.PartKinds.{procs_in, part_procs, shape, inner_procs, inner_facts, answers, params, body, within_it, first_mention}
-use Rattle.cw_sound_names.proofs.Names.Rows.{mentions_append}
-use Rattle.cw_sound_names.proofs.Names.Picking.{pick_append, Zip, zip_both}
-use Rattle.cw_sound_names.proofs.Names.Sorts.{of_kind}
-use Rattle.cw_sound_names.proofs.Names.MentionsOf.{block_alone, signatures_append, declared_before, specified_before, signatures_block}
+use Rattle.cw_sound.specs.Uses.Mentions.{In, Here, facts_mentions, block_mentions}
+use Rattle.cw_sound.specs.Names.Standing.{is_own_procedure}
+use Rattle.cw_sound.proofs.Names.Lists.{Sub, in_right, sub_left, sub_right}
+use Rattle.cw_sound.proofs.Names.Parts.{Part, empty, both, plain, items, label, switch, block, procedure, more, procedure_with}
+use Rattle.cw_sound.proofs.Names.PartKinds.{procs_in, part_procs, shape, inner_procs, inner_facts, answers, params, body, within_it, first_mention}
+use Rattle.cw_sound.proofs.Names.Rows.{mentions_append}
+use Rattle.cw_sound.proofs.Names.Picking.{pick_append, Zip, zip_both}
+use Rattle.cw_sound.proofs.Names.Sorts.{of_kind}
+use Rattle.cw_sound.proofs.Names.MentionsOf.{block_alone, signatures_append, declared_before, specified_before, signatures_block}
 use Rattle.cw_sound.proofs.Units.Bodies.{Declares}
 
 module _ (named : Named) (numbers : Numbers) where

@@ -24,11 +24,11 @@ use Rattle.cw_preset.specs.Held.{held_of}
 use Rattle.cw_make.specs.Made.{unit_of}
 use Rattle.cw_unit.specs.declared.unit.Item.{Item}
 use Rattle.cw_unit.specs.declared.unit.Home.TheVariants as home
-use Rattle.cw_sound_names.specs.Items.Derived.{HasRisingTokens}
-use Rattle.cw_sound_names.proofs.Items.Naming.{few-descriptors}
-use Rattle.cw_sound_names.proofs.Items.Numbering.{made-of, row-at}
-use Rattle.cw_sound_names.proofs.Items.Overlaying.{as-many}
-use Rattle.cw_sound_names.specs.Storage.Frames.{FramesOwned, FramesFit}
+use Rattle.cw_sound.specs.Items.Derived.{HasRisingTokens}
+use Rattle.cw_sound.proofs.Items.Naming.{few-descriptors}
+use Rattle.cw_sound.proofs.Items.Numbering.{made-of, row-at}
+use Rattle.cw_sound.proofs.Items.Overlaying.{as-many}
+use Rattle.cw_sound.specs.Storage.Frames.{FramesOwned, FramesFit}
 use Rattle.cw_writable.specs.Front.Front.{HomesFit}
 
 -- ---- addresses are words

@@ -36,11 +36,11 @@ use Rattle.cw_fields.specs.Names.{is_name, is_empty, is_name_or_empty}
 use Rattle.cw_obj.specs.ReferenceObject.{name_or_none, proc_name, owner_name, entry_of}
 use Rattle.cw_writable.specs.Front.Front.{is_titled}
 use Rattle.cw_writable.proofs.Front.Truth.{lt_true, both}
-use Rattle.cw_sound_names.proofs.Names.ListedNumbers.{declarations_append}
-use Rattle.cw_sound_names.proofs.Names.ListedRows.{declared_row}
-use Rattle.cw_sound_names.proofs.Names.Parts.{Switches, Part, procedure_with, empty, both as together, plain, items, label, switch, block, procedure, more}
-use Rattle.cw_sound_names.proofs.Names.TreeParts.{block_parts}
-use Rattle.cw_sound_names.proofs.Items.Numbering.{made-of}
+use Rattle.cw_sound.proofs.Names.ListedNumbers.{declarations_append}
+use Rattle.cw_sound.proofs.Names.ListedRows.{declared_row}
+use Rattle.cw_sound.proofs.Names.Parts.{Switches, Part, procedure_with, empty, both as together, plain, items, label, switch, block, procedure, more}
+use Rattle.cw_sound.proofs.Names.TreeParts.{block_parts}
+use Rattle.cw_sound.proofs.Items.Numbering.{made-of}
 use Rattle.cw_sound.specs.Written.Counts.{Each}
 use Rattle.cw_sound.specs.Written.Identified.{IsIdentified, HasIdentifiers}
 use Rattle.cw_sound.proofs.Written.Segment.{identifier_is_name}

@@ -13,7 +13,7 @@ use Rattle.cw_tree.specs.declared.statement.RawProc.{RawProc, fold-RawProc}
 use Rattle.cw_tree.specs.declared.statement.RawStmt.{RawStmt, fold-RawStmt}
 use Rattle.cw_make_stmt.specs.Made.{ref_position}
 use Rattle.cw_writable.specs.Back.Ready.{all}
-use Rattle.cw_sound_trees.specs.Statements.Bodies.{Body, block_bodies}
+use Rattle.cw_sound.specs.Statements.Bodies.{Body, block_bodies}
 
 abbrev pub is_numbered : Position → Bool
 is_numbered at = nat_le 1 at.line

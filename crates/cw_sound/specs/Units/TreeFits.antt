@@ -2,12 +2,12 @@
 use Rattle.std.specs.Prelude.{◌≤◌, IsTrue}
 use Rattle.cw_tree.specs.declared.segment.Raw.{Raw}
 use Rattle.cw_gen_expr.specs.BuiltExpressions.{most_levels}
-use Rattle.cw_sound_trees.specs.Statements.Bodies.{block_bodies}
-use Rattle.cw_sound_trees.specs.Statements.Counted.{BodiesFit}
-use Rattle.cw_sound_trees.specs.Statements.Levels.{block_levels}
-use Rattle.cw_sound_trees.specs.Statements.Regular.{is_regular_block}
-use Rattle.cw_sound_names.specs.Names.Placed.{Placed}
-use Rattle.cw_sound_names.specs.Items.Derived.{HasRisingTokens, HasPlainProcedures}
+use Rattle.cw_sound.specs.Statements.Bodies.{block_bodies}
+use Rattle.cw_sound.specs.Statements.Counted.{BodiesFit}
+use Rattle.cw_sound.specs.Statements.Levels.{block_levels}
+use Rattle.cw_sound.specs.Statements.Regular.{is_regular_block}
+use Rattle.cw_sound.specs.Names.Placed.{Placed}
+use Rattle.cw_sound.specs.Items.Derived.{HasRisingTokens, HasPlainProcedures}
 
 pub record TreeFits (raw : Raw) : Type 0 where
   -- the segment's body, and those of its procedures

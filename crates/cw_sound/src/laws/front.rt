@@ -22,8 +22,8 @@ ghost use Rattle.cw_sound.specs.Written.Identified.{HasIdentifiers};
 pub fn counts_fit()
     ensures { (n : ℕ) (ts : List Lexeme) (raw : Raw) (named : Named) → length ts ≤ 65535 → Derives n a_raw text (numbered 1 ts) raw → Resolves raw (results.Ok named) → first_type_fault named ≡ None → CountsFit raw.comms }
 {
-    cw_sound_trees::laws::trees::placed();
-    cw_sound_names::laws::items::parts_free();
+    crate::laws::trees::placed();
+    crate::laws::items::parts_free();
 }
 
 /// Each name that a text declares is an identifier.
@@ -36,7 +36,7 @@ pub fn items_called()
     ensures { (n : ℕ) (ts : List Lexeme) (raw : Raw) (named : Named) → length ts ≤ 65535 → Derives n a_raw text (numbered 1 ts) raw → Resolves raw (results.Ok named) → (i : ℕ) (x : Item) → slice_get (unit_of named).items i ≡ Some x → IsTrue (is_named (entry_of (unit_of named) (0, 0) x)) }
 {
     names_identified();
-    cw_sound_trees::laws::trees::items_derived();
+    crate::laws::trees::items_derived();
 }
 
 /// The descriptors of the unit of a text without faults are in the format, and each that is overlaid has its base before it.
@@ -45,6 +45,6 @@ pub fn bases_listed()
 {
     counts_fit();
     crate::laws::written::descriptors_fit();
-    cw_sound_trees::laws::trees::items_derived();
-    cw_sound_names::laws::items::bases_stand();
+    crate::laws::trees::items_derived();
+    crate::laws::items::bases_stand();
 }

@@ -14,13 +14,13 @@ ghost use Rattle.cw_make_expr.specs.Parts.{Numbers};
 ghost use Rattle.cw_make_stmt.specs.Made.{statement_of, block_of};
 ghost use Rattle.cw_make.specs.Made.{unit_of};
 ghost use Rattle.cw_unit.specs.StackBound.{body_depth, unit_need};
-ghost use Rattle.cw_sound_names.specs.Uses.Mentions.{In};
-ghost use Rattle.cw_sound_trees.specs.Statements.Bodies.{Body, block_bodies};
-ghost use Rattle.cw_sound_names.specs.Names.Standing.{FewParameters};
+ghost use Rattle.cw_sound.specs.Uses.Mentions.{In};
+ghost use Rattle.cw_sound.specs.Statements.Bodies.{Body, block_bodies};
+ghost use Rattle.cw_sound.specs.Names.Standing.{FewParameters};
 ghost use Rattle.cw_sound.specs.Units.TreeFits.{TreeFits};
 
-use cw_sound_names::laws::names::few_parameters;
-use cw_sound_trees::laws::statements::bodies;
+use crate::laws::names::few_parameters;
+use crate::laws::statements::bodies;
 
 /// The bodies of a text have at most 72 words in hand for each level that its tokens open, and 7, where its procedures have at most 32 parameters.
 pub fn words_in_hand()

@@ -12,11 +12,11 @@ ghost use Rattle.cw_scope.specs.declared.resolve.Named.{Named};
 ghost use Rattle.cw_scope.specs.Outcome.{Resolves};
 ghost use Rattle.cw_judge.specs.Judged.{first_type_fault};
 ghost use Rattle.cw_make.specs.Made.{unit_of};
-ghost use Rattle.cw_sound_names.specs.Items.Derived.{HasRisingTokens, HasPlainProcedures};
+ghost use Rattle.cw_sound.specs.Items.Derived.{HasRisingTokens, HasPlainProcedures};
 ghost use Rattle.cw_writable.specs.Front.Front.{PresetsFit};
 ghost use Rattle.cw_sound.specs.Presets.Bytes.{AreBytes, HasBytes};
 
-use cw_sound_names::laws::items::{bases_stand, parts_free, unit_storable};
+use crate::laws::items::{bases_stand, parts_free, unit_storable};
 
 /// The items of a text's unit hold words at offsets of their own words, and what stands in a frame holds none, where the text is of bytes.
 pub fn presets_fit()

@@ -21,20 +21,20 @@ ghost use Rattle.cw_gen_expr.specs.BuiltExpressions.{most_levels};
 ghost use Rattle.cw_gen_unit.specs.ReferenceUnits.{answer_of};
 ghost use Rattle.cw_built.specs.Coded.{has_few};
 ghost use Rattle.cw_writable.specs.Coded.RangedUnits.{is_ranged_statement, are_ranged_procedures, is_ranged};
-ghost use Rattle.cw_sound_names.specs.Uses.Stands.{FactsStand};
-ghost use Rattle.cw_sound_trees.specs.Ranges.Declared.{DeclarationsInRange};
-ghost use Rattle.cw_sound_trees.specs.Statements.Answers.{AnswersStand};
-ghost use Rattle.cw_sound_trees.specs.Statements.Bodies.{block_bodies};
-ghost use Rattle.cw_sound_trees.specs.Statements.Counted.{Counted, BodiesFit};
-ghost use Rattle.cw_sound_trees.specs.Statements.Levels.{statement_levels, block_levels};
-ghost use Rattle.cw_sound_trees.specs.Statements.Regular.{is_regular_statement, is_regular_block};
-ghost use Rattle.cw_sound_names.specs.Storage.Frames.{FramesFit};
+ghost use Rattle.cw_sound.specs.Uses.Stands.{FactsStand};
+ghost use Rattle.cw_sound.specs.Ranges.Declared.{DeclarationsInRange};
+ghost use Rattle.cw_sound.specs.Statements.Answers.{AnswersStand};
+ghost use Rattle.cw_sound.specs.Statements.Bodies.{block_bodies};
+ghost use Rattle.cw_sound.specs.Statements.Counted.{Counted, BodiesFit};
+ghost use Rattle.cw_sound.specs.Statements.Levels.{statement_levels, block_levels};
+ghost use Rattle.cw_sound.specs.Statements.Regular.{is_regular_statement, is_regular_block};
+ghost use Rattle.cw_sound.specs.Storage.Frames.{FramesFit};
 ghost use Rattle.cw_sound.specs.Units.TreeFits.{TreeFits};
 
+use crate::laws::items::{items_stand, parts_free};
+use crate::laws::names::all_stand;
+use crate::laws::storage::frames_fit;
 use crate::laws::units::{answers_stand, bodies_counted, items_declared};
-use cw_sound_names::laws::items::{items_stand, parts_free};
-use cw_sound_names::laws::names::all_stand;
-use cw_sound_names::laws::storage::frames_fit;
 
 /// The numbers of what a text declares are in range.
 pub fn declarations()

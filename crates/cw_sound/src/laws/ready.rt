@@ -11,22 +11,22 @@ ghost use Rattle.cw_make.specs.Made.{unit_of};
 ghost use Rattle.cw_unit.specs.declared.unit.Proc.{Proc};
 ghost use Rattle.cw_unit.specs.declared.unit.Switch.{Switch};
 ghost use Rattle.cw_writable.specs.Back.Ready.{has_lines, is_goal, are_rising, IsReady};
-ghost use Rattle.cw_sound_names.specs.Items.Derived.{HasRisingTokens};
-ghost use Rattle.cw_sound_names.specs.Names.Placed.{Placed};
-ghost use Rattle.cw_sound_names.specs.Names.Standing.{ItemsStand};
+ghost use Rattle.cw_sound.specs.Items.Derived.{HasRisingTokens};
+ghost use Rattle.cw_sound.specs.Names.Placed.{Placed};
+ghost use Rattle.cw_sound.specs.Names.Standing.{ItemsStand};
 ghost use Rattle.cw_sound.specs.Units.TreeFits.{TreeFits};
 ghost use Rattle.cw_sound.specs.Ready.Lined.{PositionsFit};
 
+use crate::laws::items::items_stand;
+use crate::laws::names::{counts, descriptors_named, labels, listed, uses_found};
 use crate::laws::units::items_declared;
-use cw_sound_names::laws::items::items_stand;
-use cw_sound_names::laws::names::{counts, descriptors_named, labels, listed, uses_found};
 
 /// Each statement of the unit has a line.
 pub fn lines()
     ensures body { (named : Named) → PositionsFit named.raw.now → IsTrue (has_lines (unit_of named).body) }
     ensures procedures { (named : Named) → PositionsFit named.raw.now → IsTrue (list_all (λ (q : Proc). has_lines q.body) (unit_of named).procs) }
 {
-    cw_sound_trees::laws::statements::bodies();
+    crate::laws::statements::bodies();
 }
 
 /// The descriptors of the unit are few, and what it defines of them stands in their order.

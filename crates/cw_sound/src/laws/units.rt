@@ -10,17 +10,17 @@ ghost use Rattle.cw_number.specs.Numbers.{numbers_of};
 ghost use Rattle.cw_make.specs.Made.{unit_of};
 ghost use Rattle.cw_gen_unit.specs.BuiltUnits.{are_built};
 ghost use Rattle.cw_built.specs.Built.{is_formed};
-ghost use Rattle.cw_sound_trees.specs.Statements.Answers.{AnswersStand};
-ghost use Rattle.cw_sound_trees.specs.Statements.Bodies.{block_bodies};
-ghost use Rattle.cw_sound_trees.specs.Statements.Counted.{Counted};
-ghost use Rattle.cw_sound_names.specs.Names.Placed.{Placed};
-ghost use Rattle.cw_sound_names.specs.Names.Standing.{ItemsStand};
-ghost use Rattle.cw_sound_names.specs.Items.Items.{ItemsStand as StoredItemsStand};
+ghost use Rattle.cw_sound.specs.Statements.Answers.{AnswersStand};
+ghost use Rattle.cw_sound.specs.Statements.Bodies.{block_bodies};
+ghost use Rattle.cw_sound.specs.Statements.Counted.{Counted};
+ghost use Rattle.cw_sound.specs.Names.Placed.{Placed};
+ghost use Rattle.cw_sound.specs.Names.Standing.{ItemsStand};
+ghost use Rattle.cw_sound.specs.Items.Items.{ItemsStand as StoredItemsStand};
 ghost use Rattle.cw_sound.specs.Units.TreeFits.{TreeFits};
 
-use cw_sound_names::laws::items::{items_stand, parts_free};
-use cw_sound_names::laws::names::{all_stand, answers_fit, counts, few_parameters};
-use cw_sound_trees::laws::statements::unit_bodies;
+use crate::laws::items::{items_stand, parts_free};
+use crate::laws::names::{all_stand, answers_fit, counts, few_parameters};
+use crate::laws::statements::unit_bodies;
 
 /// Where what a text stores stands in its unit, its declarations of items stand for them, and its other declarations for no item.
 pub fn items_declared()

@@ -14,9 +14,9 @@ ghost use Rattle.cw_judge.specs.Judged.{first_type_fault};
 ghost use Rattle.cw_number.specs.Numbers.{numbers_of};
 ghost use Rattle.cw_make.specs.Made.{unit_of};
 ghost use Rattle.cw_unit.specs.declared.unit.Item.{Item};
-ghost use Rattle.cw_sound_names.specs.Names.Placed.{Placed};
-ghost use Rattle.cw_sound_names.specs.Names.Standing.{ItemsStand};
-ghost use Rattle.cw_sound_names.specs.Items.Derived.{HasRisingTokens, HasPlainProcedures};
+ghost use Rattle.cw_sound.specs.Names.Placed.{Placed};
+ghost use Rattle.cw_sound.specs.Names.Standing.{ItemsStand};
+ghost use Rattle.cw_sound.specs.Items.Derived.{HasRisingTokens, HasPlainProcedures};
 ghost use Rattle.cw_fields.specs.Names.{is_name};
 ghost use Rattle.cw_object.specs.Fits.{fits_descriptor};
 ghost use Rattle.cw_obj.specs.ReferenceObject.{entry_of};
@@ -24,8 +24,8 @@ ghost use Rattle.cw_writable.specs.Front.Front.{ItemsFit, HomesFit, is_titled};
 ghost use Rattle.cw_sound.specs.Written.Counts.{CountsFit};
 ghost use Rattle.cw_sound.specs.Written.Identified.{HasIdentifiers};
 
-use cw_sound_names::laws::items::unit_storable;
-use cw_sound_names::laws::storage::{frames_fit, frames_owned};
+use crate::laws::items::unit_storable;
+use crate::laws::storage::{frames_fit, frames_owned};
 
 /// The name of a text's segment is a name of the format.
 pub fn segment_named()

@@ -1,6 +1,6 @@
 -- Each base stands before what is overlaid on it.
 use Rattle.std.proofs.Common.{sym, subst}
-use Rattle.cw_sound_names.specs.Items.Derived.{HasRisingTokens}
+use Rattle.cw_sound.specs.Items.Derived.{HasRisingTokens}
 use Rattle.cw_sound.proofs.Front.Based.{bases_listed}
 use Rattle.cw_sound.proofs.laws.front.bases_listed.Goals as goal
 

@@ -1,7 +1,7 @@
 -- The parts of what communicators list are few.
 use Rattle.std.proofs.Common.{sym, subst}
 use Rattle.cw_tree.specs.declared.segment.Raw.{Raw}
-use Rattle.cw_sound_names.specs.Names.Placed.{Placed}
+use Rattle.cw_sound.specs.Names.Placed.{Placed}
 use Rattle.cw_sound.specs.Written.Counts.{CountsFit}
 use Rattle.cw_sound.proofs.Front.Counts.{counts_fit}
 use Rattle.cw_sound.proofs.laws.front.counts_fit.Goals as goal

@@ -9,7 +9,7 @@ use Rattle.std.specs.declared.result.Result.TheVariants as results
 use Rattle.cw_scope.specs.Outcome.{Resolves}
 use Rattle.cw_derived.proofs.Statements.{text_normal}
 use Rattle.cw_derived.proofs.Derived.{derived_normal}
-use Rattle.cw_sound_names.specs.Items.Derived.{HasRisingTokens}
+use Rattle.cw_sound.specs.Items.Derived.{HasRisingTokens}
 use Rattle.cw_sound.specs.Written.Identified.{HasIdentifiers}
 use Rattle.cw_sound.proofs.Front.Called.{items_called}
 use Rattle.cw_sound.proofs.laws.front.items_called.Goals as goal

@@ -8,7 +8,7 @@ use Rattle.cw_grammar.specs.Statements.{text}
 use Rattle.cw_grammar.specs.Derives.{Derives}
 use Rattle.cw_scope.specs.Outcome.{Resolves}
 use Rattle.cw_number.specs.Numbers.{numbers_of}
-use Rattle.cw_sound_names.specs.Names.Placed.{Placed}
+use Rattle.cw_sound.specs.Names.Placed.{Placed}
 use Rattle.cw_sound.proofs.Need.Units.{unit_within}
 use Rattle.cw_sound.proofs.laws.need.need_fits.Goals as goal
 

@@ -1,6 +1,6 @@
 -- What is known of the switches of a text.
 use Rattle.std.proofs.Common.{true, None}
-use Rattle.cw_sound_names.specs.Items.Items.{things_of}
+use Rattle.cw_sound.specs.Items.Items.{things_of}
 use Rattle.cw_judge.specs.Judged.{sites_of}
 use Rattle.cw_number.specs.Numbers.{numbers_of}
 use Rattle.cw_sound.proofs.Ranged.Declarations.{block_fit}

@@ -6,8 +6,8 @@ use Rattle.cw_judge.specs.Judged.{sites_of}
 use Rattle.cw_make.specs.Made.{unit_of}
 use Rattle.cw_unit.specs.declared.unit.Unit.{Unit as SourceUnit}
 use Rattle.cw_writable.specs.Coded.RangedUnits.{is_ranged_statement, are_ranged_procedures}
-use Rattle.cw_sound_names.specs.Items.Items.{things_of}
-use Rattle.cw_sound_trees.proofs.Expressions.Truth.{both}
+use Rattle.cw_sound.specs.Items.Items.{things_of}
+use Rattle.cw_sound.proofs.Expressions.Truth.{both}
 use Rattle.cw_sound.proofs.Units.Own.{own_text, own_tree}
 use Rattle.cw_sound.proofs.Ranged.Declarations.{is_small}
 use Rattle.cw_sound.proofs.laws.ranged.unit_ranged.Goals as goal

@@ -1,9 +1,9 @@
 use Rattle.std.proofs.Common.{refl}
 use Rattle.cw_number.specs.Numbers.{numbers_of}
 use Rattle.cw_make.specs.Made.{unit_of}
-use Rattle.cw_sound_names.specs.Uses.Mentions.{block_mentions}
-use Rattle.cw_sound_names.proofs.Names.SwitchNumbers.{switches_in}
-use Rattle.cw_sound_names.proofs.Names.OwnSwitches.{zipped}
+use Rattle.cw_sound.specs.Uses.Mentions.{block_mentions}
+use Rattle.cw_sound.proofs.Names.SwitchNumbers.{switches_in}
+use Rattle.cw_sound.proofs.Names.OwnSwitches.{zipped}
 use Rattle.cw_sound.proofs.Ready.Goals.{switches_listed}
 use Rattle.cw_sound.proofs.laws.ready.goals.Goals as goal
 

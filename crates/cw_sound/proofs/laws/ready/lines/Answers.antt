@@ -9,7 +9,7 @@ use Rattle.cw_unit.specs.declared.unit.Proc.{Proc}
 use Rattle.cw_unit.specs.declared.unit.Stmt.{Stmt}
 use Rattle.cw_writable.proofs.Coded.Fine.{both, parts}
 use Rattle.cw_writable.specs.Back.Ready.{has_lines}
-use Rattle.cw_sound_trees.specs.Statements.Bodies.{Body, block_bodies}
+use Rattle.cw_sound.specs.Statements.Bodies.{Body, block_bodies}
 use Rattle.cw_sound.specs.Ready.Lined.{is_lined_statement}
 use Rattle.cw_sound.proofs.Ready.Lines.{block_lines, statement_lines}
 use Rattle.cw_sound.proofs.laws.ready.lines.Goals as goal

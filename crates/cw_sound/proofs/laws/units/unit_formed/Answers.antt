@@ -3,7 +3,7 @@ use Rattle.std.proofs.Common.{refl}
 use Rattle.cw_number.specs.Numbers.{numbers_of}
 use Rattle.cw_judge.specs.Judged.{sites_of}
 use Rattle.cw_make.specs.Made.{unit_of}
-use Rattle.cw_sound_names.specs.Items.Items.{things_of}
+use Rattle.cw_sound.specs.Items.Items.{things_of}
 use Rattle.cw_sound.proofs.Units.Own.{own_text, own_tree}
 use Rattle.cw_sound.proofs.laws.units.unit_formed.Goals as goal
 

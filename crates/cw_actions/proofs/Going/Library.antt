@@ -1,0 +1,56 @@
+-- The image of units has code, and no more words than the data area.
+use Rattle.std.proofs.Common.{◌≡◌, ℕ, zero, suc, ◌+◌, ◌<◌, ◌≤◌, List, [], ◌∷◌, map, length, refl, ap, subst, arith, lit<}
+use Rattle.std.specs.Prelude.{nat_eq, true, false, Bool, cond}
+use Rattle.cw_unit.specs.declared.unit.Unit.{Unit as SourceUnit}
+use Rattle.cw_unit.specs.declared.layout.Limits.{Limits}
+use Rattle.cw_tmpl.specs.Library.{library_bytes}
+use Rattle.cw_link.specs.Contents.{Contents}
+use Rattle.cw_link.specs.Presets.{FilledWord}
+use Rattle.cw_link.specs.LinkedImage.{words_from, unless_last_zero, without_last_zeros, code_end, linked_size, linked_presets}
+use Rattle.cw_build.specs.Compiled.{contents_of_units}
+use Rattle.cw_build.specs.Linking.{image_of}
+use Rattle.cw_correct.specs.Going.{names_of}
+
+library_is_some : 0 < length library_bytes
+library_is_some = let size : 338 ≡ length library_bytes = refl in subst (λ n. 0 < n) size (lit< tt)
+
+ends_behind : (start : ℕ) (cs : List Contents) → start ≤ code_end start cs
+ends_behind start [] = omega arith
+ends_behind start (c ∷ cs) = omega (arith, ends_behind (start + length c.code) cs)
+
+pub some_code : (us : List SourceUnit) → 0 < linked_size (contents_of_units us)
+some_code us = at (length library_bytes) library_is_some (ends_behind (length library_bytes) (contents_of_units us))
+  where
+    at : (start : ℕ) → 0 < start → start ≤ code_end start (contents_of_units us) → 0 < code_end start (contents_of_units us)
+    at start some behind = omega (arith, some, behind)
+
+count_of : (a n : ℕ) (ps : List FilledWord) → length (words_from a n ps) ≡ n
+count_of a zero ps = refl
+count_of a (suc n) ps = ap suc (count_of (a + 1) n ps)
+
+last_or_none : (b : Bool) (w : ℕ) → length (cond b [] (w ∷ [])) ≤ 1
+last_or_none true w = omega arith
+last_or_none false w = omega arith
+
+one_more : (w : ℕ) (ws : List ℕ) → length (unless_last_zero w ws) ≤ suc (length ws)
+one_more w [] = last_or_none (nat_eq w 0) w
+one_more w (v ∷ vs) = omega arith
+
+no_longer : (ws : List ℕ) → length (without_last_zeros ws) ≤ length ws
+no_longer [] = omega arith
+no_longer (w ∷ ws) = omega (arith, one_more w (without_last_zeros ws), no_longer ws)
+
+pub few_words : (us : List SourceUnit) (limits : Limits) → length (image_of us limits).words ≤ limits.area
+unfolding image_of
+few_words us limits =
+    let words = words_from 0 limits.area (linked_presets (contents_of_units us)) in
+    omega (arith, no_longer words, count_of 0 limits.area (linked_presets (contents_of_units us)))
+
+all_names : (us : List SourceUnit) → map (λ (c : Contents). c.name) (contents_of_units us) ≡ names_of us
+all_names [] = refl
+all_names (u ∷ us) = ap (λ ns. u.name ∷ ns) (all_names us)
+
+-- the names that an image has of its units
+pub names_are : (us : List SourceUnit) (limits : Limits) → (image_of us limits).names ≡ names_of us
+unfolding image_of
+names_are us limits = all_names us

@@ -1,0 +1,103 @@
+-- What a run of the image of texts shows is what the texts mean, and no more than one thing comes of a text.
+use Rattle.std.proofs.Common.{◌≡◌, ◌≢◌, ℕ, ◌+◌, ◌*◌, ◌<◌, ◌≤◌, List, [], ◌∷◌, length, map, refl, sym, ap, ap₂, ◌∙◌, subst, inr, ⊎_elim, arith}
+use Rattle.std.specs.Prelude.{All, sum}
+use Rattle.std.proofs.lemmas.List.Sums.{sum_by-cons}
+use Rattle.cw_i86.specs.State.{State}
+use Rattle.cw_i86.specs.MachineRun as run
+use Rattle.cw_unit.specs.declared.unit.Unit.{Unit as SourceUnit}
+use Rattle.cw_unit.specs.declared.layout.Limits.{Limits}
+use Rattle.cw_unit.specs.Allocation.{storage_map}
+use Rattle.cw_unit.specs.ValidStorage.{ValidStorageMap}
+use Rattle.cw_track.specs.Tracking.{step_ratio}
+use Rattle.cw_unit.specs.Program.{program_of}
+use Rattle.cw_unit.specs.Stop.{End, Running}
+use Rattle.cw_unit.specs.Behaviour.{observed}
+use Rattle.cw_sim.specs.Preservation.{TellsEnd, IsLoaded, Preserves}
+use Rattle.cw_place.specs.Placement.{IsLimits}
+use Rattle.cw_lex.specs.Lexical.{Lexeme}
+use Rattle.cw_compile.specs.declared.fault.Refusal.{Refusal}
+use Rattle.cw_compile.specs.Texts.{IsRefused}
+use Rattle.cw_compile.specs.Outcomes.{CountsTokens}
+use Rattle.cw_build.specs.Compiled.{IsCompilable}
+use Rattle.cw_build.specs.Linking.{Links, image_of}
+use Rattle.cw_files.specs.Texts.{HasUnit}
+use Rattle.cw_files.specs.Reading.{HaveValues}
+use Rattle.cw_correct.specs.Going.{ExpandTo}
+use Rattle.cw_actions.proofs.Going.Given.{OneOfText, AreCompilable, OnStorage, OnRuns}
+
+-- ---- units of texts
+
+pub valid : AreCompilable → OnStorage → (limits : Limits) (texts : List (List ℕ)) (us : List SourceUnit) → HaveValues HasUnit texts us → Links us limits → ValidStorageMap us limits (storage_map us)
+valid compilable given limits texts us have links = given.map us limits (compilable texts us have) links
+
+-- the tokens of the units are the items to which the texts expand
+pub record Expanded (texts : List (List ℕ)) (us : List SourceUnit) : Type 0 where
+  pub items : List (List Lexeme)
+  pub expand : ExpandTo texts items
+  pub count : sum (map (λ (u : SourceUnit). u.tokens) us) ≡ sum (map (λ (xs : List Lexeme). length xs) items)
+
+pub expanded : CountsTokens → (texts : List (List ℕ)) (us : List SourceUnit) → HaveValues HasUnit texts us → length texts ≤ length us → Expanded texts us
+expanded counts [] [] have few = record { items = []; expand = tt; count = refl }
+expanded counts [] (u ∷ us) have few = absurd have
+expanded counts (t ∷ ts) [] have few = absurd (omega (arith, few))
+expanded counts (t ∷ ts) (u ∷ us) have few =
+    let tree = have.0.is_unit.has.names.tree in
+    let more = expanded counts ts us have.1 (omega (arith, few)) in
+    let first : u.tokens ≡ length tree.expanded = counts t u tree.expanded have.0.is_unit tree.expands in
+    let tokens = map (λ (v : SourceUnit). v.tokens) us in
+    let lengths = map (λ (xs : List Lexeme). length xs) more.items in
+    record {
+      items = tree.expanded ∷ more.items;
+      expand = (tree.expands, more.expand);
+      count = sum_by-cons (λ n. n) u.tokens tokens ∙ ap₂ (λ m n. m + n) first more.count ∙ sym (sum_by-cons (λ n. n) (length tree.expanded) lengths);
+    }
+
+-- ---- runs
+
+-- a run that is over shows the same ever after
+over_stays : (s : State) (input : List ℕ) (k n : ℕ) (o : run.Observed) → k ≤ n → o.end ≢ run.Running → run.Shows s input k o → run.Shows s input n o
+over_stays s input k n o le over shows = record {
+  events = shows.events;
+  fits = shows.fits;
+  output = shows.output;
+  end = ⊎_elim
+      (λ (work : run.IsAtWork s k shows.events o.end). absurd (over work.2))
+      (λ (is : run.IsOver s k shows.events o.end). inr (is.0, is.1, omega (arith, is.2, le), is.3, is.4))
+      shows.end;
+}
+
+-- the 8086 is not running where the meaning is not
+is_over : (e : run.End) (meant : End) → TellsEnd e meant → meant ≢ Running → e ≢ run.Running
+is_over e meant tells over running = over (subst (λ x. TellsEnd x meant) running tells)
+
+module _ (given : OnRuns) (us : List SourceUnit) (limits : Limits) (some : us ≢ []) (most : length us ≤ 200) (all : All IsCompilable us) (within : IsLimits limits) (links : Links us limits) (input : List ℕ) (bytes : All (λ b. b < 256) input)
+    (s : State) (start : run.IsStart (image_of us limits).code (image_of us limits).words s) where
+  loaded : IsLoaded us (storage_map us) limits input s
+  loaded = given.loaded us limits input s some most all within links bytes start
+
+  pub preserves : (k : ℕ) (o : run.Observed) → run.Shows s input k o → Preserves (program_of us limits) input k o
+  preserves k o shows = given.preserves us (storage_map us) limits input s k o loaded shows
+
+  pub never_bad : (k offset : ℕ) (o : run.Observed) → run.Shows s input k o → o.end ≡ run.Bad offset → ⊥
+  never_bad k offset o shows e = subst (λ x. TellsEnd x (observed (program_of us limits) input (preserves k o shows).steps).end) e (preserves k o shows).shows.end
+
+  pub never_divided : (k offset : ℕ) (o : run.Observed) → run.Shows s input k o → o.end ≡ run.Divided offset → ⊥
+  never_divided k offset o shows e = subst (λ x. TellsEnd x (observed (program_of us limits) input (preserves k o shows).steps).end) e (preserves k o shows).shows.end
+
+  -- where the meaning is over in time, so is the run
+  pub never_running : (steps m : ℕ) → step_ratio * (m + 1) ≤ steps → (observed (program_of us limits) input m).end ≢ Running → (o : run.Observed) → run.Shows s input steps o → o.end ≡ run.Running → ⊥
+  never_running steps m soon ends o shows running =
+      let c = given.completes us (storage_map us) limits input s m loaded in
+      let over : c.shown.end ≢ run.Running = is_over c.shown.end (observed (program_of us limits) input m).end c.shows.end ends in
+      let early : c.k ≤ steps = omega (arith, c.pace, soon) in
+      let same : c.shown ≡ o = given.once s input steps c.shown o (over_stays s input c.k steps c.shown early over c.shows_at) shows in
+      over (ap (λ x. x.end) same ∙ running)
+
+-- ---- texts
+
+module _ (given : OneOfText) (text : List ℕ) where
+  pub one_unit : (u v : SourceUnit) → HasUnit text u → HasUnit text v → u ≡ v
+  one_unit u v x y = given.one_unit text u v x.is_unit y.is_unit
+
+  pub not_refused : (u : SourceUnit) (fault : Refusal) → HasUnit text u → IsRefused text fault → ⊥
+  not_refused u fault x y = given.not_both text u fault x.is_unit y

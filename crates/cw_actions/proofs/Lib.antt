@@ -1,0 +1,7 @@
+pub mod Going
+pub mod Executing
+pub mod Resulting
+pub mod Archiving
+pub mod Telling
+pub mod Tracing
+pub mod Making

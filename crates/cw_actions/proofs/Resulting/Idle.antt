@@ -1,0 +1,78 @@
+-- A call that did nothing but say that memory was wanted keeps its promise.
+use Rattle.std.proofs.Common.{ℕ, List, []}
+use Rattle.cw_unit.specs.declared.unit.Unit.{Unit as SourceUnit}
+use Rattle.cw_unit.specs.declared.layout.Limits.{Limits}
+use Rattle.cw_correct.specs.Results.{TellsOfUnits, IsMap, IsDepth, DepthsRight, MapsRight, ShowsRight, CompilesRight, MigratesRight, HexesRight}
+use Rattle.cw_actions.specs.Resulting.Idle.{AllowsIdle}
+use Rattle.cw_actions.proofs.Resulting.Hexes as hexing
+
+told : (IsText : List SourceUnit → Limits → List ℕ → Type 0) → AllowsIdle (TellsOfUnits IsText)
+told IsText c idle = record {
+  texts = [];
+  units = [];
+  text = [];
+  have_texts = tt;
+  have_units = tt;
+  comes = tt;
+  is_text = tt;
+  says = idle.says;
+  writes = idle.unwritten;
+  untouched = idle.untouched;
+  stays = idle.stays;
+  completes = λ told us tell taken links quiet. tt;
+}
+
+pub maps : AllowsIdle MapsRight
+maps = told IsMap
+
+pub depths : AllowsIdle DepthsRight
+depths = told IsDepth
+
+pub shows : AllowsIdle ShowsRight
+shows c idle = record {
+  texts = [];
+  shown = [];
+  have_texts = tt;
+  have_shown = tt;
+  comes = tt;
+  says = idle.says;
+  writes = idle.unwritten;
+  untouched = idle.untouched;
+  stays = idle.stays;
+  completes = λ told shown tell taken quiet. tt;
+}
+
+pub compiles : AllowsIdle CompilesRight
+compiles c idle = record {
+  texts = [];
+  units = [];
+  have_texts = tt;
+  have_units = tt;
+  comes = tt;
+  says = idle.says;
+  writes = idle.stays;
+  untouched = idle.untouched;
+  unwritten = idle.unwritten;
+  completes = λ told us tell taken quiet. tt;
+}
+
+pub migrates : AllowsIdle MigratesRight
+migrates c idle = record {
+  texts = [];
+  objects = [];
+  result = [];
+  have_bytes = tt;
+  have_objects = tt;
+  comes = tt;
+  says = idle.says;
+  migrates = tt;
+  writes = idle.stays;
+  untouched = idle.untouched;
+  unwritten = idle.unwritten;
+  completes = λ told objects tell taken quiet. tt;
+}
+
+pub hexes : AllowsIdle HexesRight
+hexes c x = hexing.idle c x
+
+pub ruleset laws = (maps, depths, shows, compiles, migrates, hexes)

@@ -1,0 +1,105 @@
+-- Parts of the actions: what does not link, and what was written of a result.
+use Rattle.std.proofs.Common.{◌≡◌, ◌≢◌, ℕ, ◌≤◌, List, [], ◌∷◌, ◌++◌, map, length, refl, sym, ap, ◌∙◌, subst}
+use Rattle.std.specs.Prelude.{codes, slice_index_or}
+use Rattle.cw_io.specs.File.{Told, Is}
+use Rattle.cw_unit.specs.declared.unit.Unit.{Unit as SourceUnit}
+use Rattle.cw_unit.specs.declared.layout.Limits.{Limits}
+use Rattle.cw_unit.specs.declared.layout.Map.{Map}
+use Rattle.cw_unit.specs.Allocation.{storage_map}
+use Rattle.cw_unit.specs.Program.{program_at, program_of}
+use Rattle.cw_list.specs.Rows.{program_listing}
+use Rattle.cw_compile.specs.declared.fault.UnitFault.{UnitFault}
+use Rattle.cw_compile.specs.declared.fault.UnitFault.TheVariants as units
+use Rattle.cw_compile.specs.Texts.{text_limit, IsCanonicalOf, IsFaultOf}
+use Rattle.cw_link.specs.declared.fault.LinkFault.{LinkFault}
+use Rattle.cw_link.specs.declared.fault.LinkFault.TheVariants.{SegmentTwice, Differs, DefinedTwice, Undefined, AbsoluteOutside, DataTooBig, ControlTooBig, PresetClash, CodeTooBig, NoMemory as NoMemoryToLink}
+use Rattle.cw_obj.specs.Migration.{IsMigrated}
+use Rattle.cw_build.specs.Linking.{Links, map_text}
+use Rattle.cw_build.specs.Building.{FailsToLink}
+use Rattle.cw_files.specs.Reading.{Counts, HaveBytes, IsUnread}
+use Rattle.cw_correct.specs.Results.{IsMap}
+use Rattle.cw_actions.specs.Resulting.Closed.{Files, Out}
+use Rattle.cw_actions.specs.Resulting.Written.{GivesOut, GivesFile}
+use Rattle.cw_actions.specs.Resulting.Results.{unlinked_status, faulty_status, TellsUnits, MapsUnits, ShowsText, MigratesObject}
+use Rattle.cw_say.specs.declared.status.Status.{Status}
+use Rattle.cw_say.specs.declared.status.Status.TheVariants.{Unlinked, NoMemory}
+use Rattle.cw_actions.proofs.Resulting.Cases.{gives_out, gives_file}
+use Rattle.cw_actions.proofs.Resulting.Told.{told_one}
+
+-- ---- units
+
+pub unlinked_is : (fault : LinkFault) → fault ≢ NoMemoryToLink → Unlinked fault ≡ unlinked_status fault
+unlinked_is NoMemoryToLink other = absurd (other refl)
+unlinked_is (SegmentTwice name) other = refl
+unlinked_is (Differs name first second) other = refl
+unlinked_is (DefinedTwice name first second) other = refl
+unlinked_is (Undefined name) other = refl
+unlinked_is (AbsoluteOutside segment address) other = refl
+unlinked_is (DataTooBig need) other = refl
+unlinked_is (ControlTooBig need) other = refl
+unlinked_is (PresetClash address first second) other = refl
+unlinked_is (CodeTooBig bytes) other = refl
+
+pub map_is : (us : List SourceUnit) (m : Map) (limits : Limits) (text : List ℕ) → m ≡ storage_map us → text ≡ program_listing (program_at us m limits) → text ≡ map_text us limits
+unfolding map_text
+map_is us m limits text is e = e ∙ ap (λ x. program_listing (program_at us x limits)) is
+
+module _ (IsText : List SourceUnit → Limits → List ℕ → Type 0) (us : List SourceUnit) (limits : Limits) where
+  pub tells_of : (out out' : Out) (s : Status) (text : List ℕ) → Links us limits → IsText us limits text → GivesOut text out out' s → TellsUnits IsText us limits out out' s
+  tells_of out out' s text links is gives = gives_out (λ t. TellsUnits IsText us limits out out' t) text out out' (λ x. (text, links, is, x)) (λ x. (text, links, is, x)) (λ x. x) s gives
+
+  -- no text for want of memory
+  pub tells_nothing : (out : Out) → TellsUnits IsText us limits out out NoMemory
+  tells_nothing out = refl
+
+  unlinked_tells_as : (out : Out) (fault : LinkFault) → FailsToLink us limits fault → TellsUnits IsText us limits out out (unlinked_status fault)
+  unlinked_tells_as out NoMemoryToLink x = refl
+  unlinked_tells_as out (SegmentTwice name) x = (x, refl)
+  unlinked_tells_as out (Differs name first second) x = (x, refl)
+  unlinked_tells_as out (DefinedTwice name first second) x = (x, refl)
+  unlinked_tells_as out (Undefined name) x = (x, refl)
+  unlinked_tells_as out (AbsoluteOutside segment address) x = (x, refl)
+  unlinked_tells_as out (DataTooBig need) x = (x, refl)
+  unlinked_tells_as out (ControlTooBig need) x = (x, refl)
+  unlinked_tells_as out (PresetClash address first second) x = (x, refl)
+  unlinked_tells_as out (CodeTooBig bytes) x = (x, refl)
+
+  pub unlinked_tells : (out : Out) (fault : LinkFault) (s : Status) → s ≡ unlinked_status fault → FailsToLink us limits fault → TellsUnits IsText us limits out out s
+  unlinked_tells out fault s e x = subst (λ t. TellsUnits IsText us limits out out t) (sym e) (unlinked_tells_as out fault x)
+
+-- the map of units that link, where its text was written
+pub written_of : (us : List SourceUnit) (limits : Limits) (out out' : Out) (s : Status) → Links us limits → GivesOut (map_text us limits) out out' s → MapsUnits us limits out out' s
+written_of us limits out out' s links gives = tells_of IsMap us limits out out' s (map_text us limits) links refl gives
+
+-- ---- texts
+
+module _ (text : List ℕ) (out out' : Out) where
+  pub shows_of : (s : Status) (shown : List ℕ) → IsCanonicalOf text shown → GivesOut shown out out' s → ShowsText text out out' s
+  shows_of s shown is gives = gives_out (λ t. ShowsText text out out' t) shown out out' (λ x. (shown, is, x)) (λ x. (shown, is, x)) (λ x. x) s gives
+
+faulty_shows_as : (text : List ℕ) (out : Out) (fault : UnitFault) → IsFaultOf text fault → ShowsText text out out (faulty_status fault)
+faulty_shows_as text out (units.Refused refusal) x = (refl, x, refl)
+faulty_shows_as text out units.NoMemory x = refl
+
+pub faulty_shows : (text : List ℕ) (out : Out) (fault : UnitFault) (s : Status) → s ≡ faulty_status fault → IsFaultOf text fault → ShowsText text out out s
+faulty_shows text out fault s e x = subst (λ t. ShowsText text out out t) (sym e) (faulty_shows_as text out fault x)
+
+-- the one file
+module _ (file : List ℕ → Told) (names : List (List ℕ)) (few : length names ≤ 1) (some : 1 ≤ length names) (name : List ℕ) (is_name : name ≡ slice_index_or names 0 []) where
+  one : map file names ≡ file name ∷ []
+  one = told_one file names few some ∙ ap (λ x. file x ∷ []) (sym is_name)
+
+  pub have_one : (bytes text : List ℕ) → text ≡ bytes → Is (file name) bytes → length bytes ≤ text_limit → HaveBytes text_limit (map file names) (text ∷ [])
+  have_one bytes text e is within = subst (λ t. HaveBytes text_limit (map file names) (t ∷ [])) (sym e) (subst (λ files. HaveBytes text_limit files (bytes ∷ [])) (sym one) (is, within, tt))
+
+  pub unread_one : (before after : Counts) (s : Status) → IsUnread text_limit (file name ∷ []) 0 before after s → IsUnread text_limit (map file names) 0 before after s
+  unread_one before after s x = subst (λ files. IsUnread text_limit files 0 before after s) (sym one) x
+
+-- ---- objects
+
+pub migrates_of : (name object result : List ℕ) (files files' : Files) (s : Status) → IsMigrated object result → GivesFile (name ++ codes ".SG2") result files files' s → MigratesObject name object files files' s
+migrates_of name object result files files' s is gives =
+    gives_file (λ t. MigratesObject name object files files' t) (name ++ codes ".SG2") result files files' (λ x. (result, is, x)) (λ x. (result, is, x)) (λ x. x) s gives
+
+pub same_migration : (name other object also : List ℕ) (files files' : Files) (s : Status) → name ≡ other → object ≡ also → MigratesObject name object files files' s → MigratesObject other also files files' s
+same_migration name other object also files files' s e f x = subst (λ o. MigratesObject other o files files' s) f (subst (λ n. MigratesObject n object files files' s) e x)

@@ -1,0 +1,4 @@
+pub mod Called
+pub mod Closed
+pub mod Kept
+pub mod OneStatus

@@ -1,0 +1,92 @@
+-- What the functions of the call answer, in the words of the call.
+use Rattle.std.proofs.Common.{◌≡◌, ◌⊎◌, ℕ, ◌<◌, ◌≤◌, List, [], length, Option, Result, Ok, Err, Bor, sym, subst, arith}
+use Rattle.std.specs.Prelude.{All, nat_eq, map}
+use Rattle.std.specs.List.{IsDistinct}
+use Rattle.std.proofs.lemmas.List.{length-map}
+use Rattle.cw_io.specs.File.{AllStay}
+use Rattle.cw_unit.specs.declared.unit.Unit.{Unit as SourceUnit}
+use Rattle.cw_unit.specs.declared.layout.Limits.{Limits}
+use Rattle.cw_unit.specs.declared.layout.Map.{Map}
+use Rattle.cw_unit.specs.Allocation.{storage_map}
+use Rattle.cw_image.specs.declared.image.Image.{Image}
+use Rattle.cw_place.specs.Placement.{IsLimits}
+use Rattle.cw_build.specs.Compiled.{object_of}
+use Rattle.cw_build.specs.Linking.{Links, image_of, map_text}
+use Rattle.cw_stop.specs.declared.stopping.Stop.{Stop}
+use Rattle.cw_trace.specs.declared.watch.Watch.{Watch}
+use Rattle.cw_watch.specs.Watching.{AnswersWatch}
+use Rattle.cw_watch.specs.declared.fault.WatchFault.{WatchFault}
+use Rattle.cw_watch.specs.declared.fault.WatchFault.TheVariants as faults
+use Rattle.cw_traced.specs.Places.Reported.{MeansInUnits}
+use Rattle.cw_write.specs.Said.{Says}
+use Rattle.cw_say.specs.Closing.{closing_line}
+use Rattle.cw_say.specs.declared.status.Status.{Status}
+use Rattle.cw_say.specs.declared.status.Status.TheVariants.{Ended, NoItem}
+use Rattle.cw_words.specs.declared.action.Action.TheVariants.{Trace}
+use Rattle.cw_correct.specs.Calls.{Surroundings, call_as}
+use Rattle.cw_correct.specs.Going.{names_of}
+use Rattle.cw_correct.specs.Tracing.{named_by}
+use Rattle.cw_actions.specs.Going.Runs.{Streams}
+use Rattle.cw_actions.specs.Going.Goes.{streams_of, StopsReading, StopsLinking, Takes}
+use Rattle.cw_actions.proofs.Going.Called.{after_line, named, closes_by}
+use Rattle.cw_actions.specs.Tracing.Tracing.{fault_status, WatchesRun}
+use Rattle.cw_actions.specs.Tracing.Laws.{IsTraced, KeepsStopped, KeepsFault, KeepsRun}
+
+-- ---- what is meant and run
+
+pub watches_as : (text other : List ℕ) (image meant : Image) (watch : Watch) (steps : ℕ) (a b : Streams) (status : Status) → text ≡ other → image ≡ meant → WatchesRun text image watch steps a b status → WatchesRun other meant watch steps a b status
+watches_as text other image meant watch steps a b status e f runs =
+    let P : List ℕ → Type 0 = λ t. WatchesRun t image watch steps a b status in
+    let Q : Image → Type 0 = λ i. WatchesRun other i watch steps a b status in
+    subst Q f (subst P e runs)
+
+-- the answer of objects and a map is that of the units whose objects and map these are
+pub means_as : (us : List SourceUnit) (limits : Limits) (stop : Stop) (objects : List (List ℕ)) (m : Map) (answer : Result Watch WatchFault) → objects ≡ map object_of us → m ≡ storage_map us → AnswersWatch objects m limits stop answer
+    → MeansInUnits us limits stop answer
+means_as us limits stop objects m answer same is answers =
+    let P : List (List ℕ) → Type 0 = λ os. AnswersWatch os m limits stop answer in
+    subst (λ homes. AnswersWatch (map object_of us) homes limits stop answer) is (subst P same answers)
+
+pub means_fault : (us : List SourceUnit) (limits : Limits) (stop : Stop) (objects : List (List ℕ)) (m : Map) (answer fault : WatchFault) → objects ≡ map object_of us → m ≡ storage_map us → answer ≡ fault → AnswersWatch objects m limits stop (Err answer)
+    → MeansInUnits us limits stop (Err fault)
+means_fault us limits stop objects m answer fault same is e answers = subst (λ f. MeansInUnits us limits stop (Err f)) e (means_as us limits stop objects m (Err answer) same is answers)
+
+-- ---- the call, once it is closed
+
+module _ (stop : Stop) (limits : Limits) (steps : ℕ) (names : List (Bor (List ℕ))) (before between : Surroundings) (say : Option (List ℕ)) (say_faults : ℕ) (within : IsLimits limits) (some : 1 ≤ length names) (few : length names ≤ 200) (stays : AllStay before.files between.files) where
+  some_names : 1 ≤ length (named names)
+  some_names = omega (arith, length-map names (λ (name : Bor (List ℕ)). name.now), some)
+
+  few_names : length (named names) ≤ 200
+  few_names = omega (arith, length-map names (λ (name : Bor (List ℕ)). name.now), few)
+
+  pub closed_stopped : KeepsStopped → (status result : Status) → result ≡ status
+      → StopsReading (call_as Trace limits steps (named names) before between) status ⊎ ((us : List SourceUnit) × Takes (call_as Trace limits steps (named names) before between) us × StopsLinking (call_as Trace limits steps (named names) before between) us status)
+      → Says between.say say between.say_faults say_faults (closing_line (named names) [] status) → (status ≡ Ended → say_faults ≡ between.say_faults) → IsTraced stop (call_as Trace limits steps (named names) before (after_line between say say_faults)) result
+  closed_stopped keeps status result same stops says ended =
+      subst (IsTraced stop (call_as Trace limits steps (named names) before (after_line between say say_faults))) (sym same)
+      (keeps stop Trace limits steps (named names) before between (after_line between say say_faults) status within some_names few_names stays stops (closes_by between say say_faults (named names) [] status says ended))
+
+  pub closed_fault : KeepsFault → (us : List SourceUnit) (fault : WatchFault) (result : Status) → result ≡ fault_status fault → Takes (call_as Trace limits steps (named names) before between) us → Links us limits → MeansInUnits us limits stop (Err fault)
+      → streams_of between ≡ streams_of before → Says between.say say between.say_faults say_faults (closing_line (named_by stop (named names) (fault_status fault)) [] (fault_status fault)) → (fault_status fault ≡ Ended → say_faults ≡ between.say_faults)
+      → IsTraced stop (call_as Trace limits steps (named names) before (after_line between say say_faults)) result
+  closed_fault keeps us fault result same takes links means untouched says ended =
+      subst (IsTraced stop (call_as Trace limits steps (named names) before (after_line between say say_faults))) (sym same)
+      (keeps stop Trace limits steps (named names) before between (after_line between say say_faults) us fault within some_names few_names stays takes links means untouched
+      (closes_by between say say_faults (named_by stop (named names) (fault_status fault)) [] (fault_status fault) says ended))
+
+  pub closed_item : KeepsFault → (us : List SourceUnit) (index number : ℕ) (result : Status) → index ≡ number → result ≡ NoItem number → Takes (call_as Trace limits steps (named names) before between) us → Links us limits
+      → MeansInUnits us limits stop (Err (faults.NoItem index)) → streams_of between ≡ streams_of before → Says between.say say between.say_faults say_faults (closing_line (named_by stop (named names) (NoItem number)) [] (NoItem number))
+      → IsTraced stop (call_as Trace limits steps (named names) before (after_line between say say_faults)) result
+  closed_item keeps us index number result is same takes links means untouched says =
+      closed_fault keeps us (faults.NoItem number) result same takes links (subst (λ n. MeansInUnits us limits stop (Err (faults.NoItem n))) is means) untouched says (λ e. absurd (cc))
+
+  pub closed_run : KeepsRun → (us : List SourceUnit) (watch : Watch) (segments : List (List ℕ)) (status result : Status) → result ≡ status → segments ≡ names_of us → Takes (call_as Trace limits steps (named names) before between) us → Links us limits
+      → MeansInUnits us limits stop (Ok watch) → IsDistinct nat_eq watch.places → All (λ word. word.address < limits.area) watch.words → WatchesRun (map_text us limits) (image_of us limits) watch steps (streams_of before) (streams_of between) status
+      → Says between.say say between.say_faults say_faults (closing_line (named names) segments status) → (status ≡ Ended → say_faults ≡ between.say_faults)
+      → IsTraced stop (call_as Trace limits steps (named names) before (after_line between say say_faults)) result
+  closed_run keeps us watch segments status result same are takes links means once inside runs says ended =
+      let P : List (List ℕ) → Type 0 = λ all. Says between.say say between.say_faults say_faults (closing_line (named names) all status) in
+      subst (IsTraced stop (call_as Trace limits steps (named names) before (after_line between say say_faults))) (sym same)
+      (keeps stop watch Trace limits steps (named names) before between (after_line between say say_faults) us status within some_names few_names stays takes links means once inside runs
+      (closes_by between say say_faults (named names) (names_of us) status (subst P are says) ended))

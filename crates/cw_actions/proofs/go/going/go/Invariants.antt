@@ -1,0 +1,4 @@
+use Rattle.cw_actions.proofs.go.going.go.Given as goal
+
+abbrev pub ghost-link_segments : goal.ghost-link_segments
+ghost-link_segments g a = a.segments.now.units

@@ -1,0 +1,8 @@
+use Rattle.cw_actions.proofs.Going.OneStatus.{one_status_of, one_status}
+use Rattle.cw_actions.proofs.go.laws.one_status_of_texts.Goals as goal
+
+pub returns : goal.returns
+returns c =
+    one_status (one_status_of
+    (record { one_unit = c.one_outcome.ensures.one_unit; one_refusal = c.one_outcome.ensures.one_refusal; not_both = c.one_outcome.ensures.not_both; tokens = c.one_outcome.ensures.tokens })
+    (record { starts = c.one_start.ensures; once = c.one_observation.ensures }))

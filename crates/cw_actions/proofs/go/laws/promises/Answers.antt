@@ -1,0 +1,25 @@
+use Rattle.std.proofs.Common.{[], refl}
+use Rattle.cw_say.specs.declared.status.Status.TheVariants.{NoMemory}
+use Rattle.cw_actions.proofs.Going.Given.{Given}
+use Rattle.cw_correct.specs.Going.{names_of}
+use Rattle.cw_actions.proofs.Going.Promised.{nothing, reading, run_goes, say_failed, keeps}
+use Rattle.cw_actions.proofs.go.laws.promises.Goals as goal
+
+pub returns : goal.returns
+returns c =
+    let given : Given = record {
+      texts = record { one_unit = c.one_outcome.ensures.one_unit; one_refusal = c.one_outcome.ensures.one_refusal; not_both = c.one_outcome.ensures.not_both; tokens = c.one_outcome.ensures.tokens };
+      units = c.compiled_units.ensures;
+      storages = record { map = c.loaded.ensures.valid_storage; frames = c.configurations.ensures.frames };
+      runs = record { loaded = c.loaded.ensures.started; preserves = c.preservation.ensures.preserves; completes = c.preservation.ensures.completes; once = c.one_observation.ensures };
+      sizes = c.linked_units.ensures.size;
+    } in
+    record {
+      keeps = λ telling action limits steps names segments before between after status within some most stays goes closes. keeps given telling action limits steps names before between after segments stays status within some most goes closes;
+      run = λ telling action limits steps names before between after us input s end within some most stays takes links lists start shows closes.
+          run_goes given telling action limits steps names before between after (names_of us) stays within some most us takes.all links refl takes.counts lists s start input end shows closes;
+      listing = λ telling action limits steps names before between after us input within some most stays takes links part closes.
+          (nothing, say_failed given telling action limits steps names before between after (names_of us) stays within some most us takes.all links input part closes);
+      idle = λ telling action limits steps names before after closes.
+          reading given telling action limits steps names before before after [] (λ name. refl) NoMemory (record { stopped = record { texts = []; values = []; have_bytes = tt; have_values = tt; stops = tt }; same = refl }) closes;
+    }

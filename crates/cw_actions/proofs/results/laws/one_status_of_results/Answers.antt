@@ -1,0 +1,16 @@
+use Rattle.cw_actions.proofs.Resulting.Texts.{OneOfText}
+use Rattle.cw_actions.proofs.Resulting.Statuses.{maps_once, depths_once, shows_once, compiles_once, migrates_once}
+use Rattle.cw_actions.proofs.Resulting.Hexes.{once}
+use Rattle.cw_actions.proofs.results.laws.one_status_of_results.Goals as goal
+
+pub returns : goal.returns
+returns c =
+    let given : OneOfText = record { one_unit = c.one_outcome.ensures.one_unit; one_refusal = c.one_outcome.ensures.one_refusal; not_both = c.one_outcome.ensures.not_both; tokens = c.one_outcome.ensures.tokens } in
+    record {
+      map = maps_once given;
+      depth = depths_once given;
+      list = shows_once given;
+      compile = compiles_once given;
+      migrate = migrates_once c.object_format.ensures.fault;
+      hex = once;
+    }

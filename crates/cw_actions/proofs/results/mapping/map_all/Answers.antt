@@ -1,0 +1,31 @@
+use Rattle.std.proofs.Common.{List, ℕ, ◌≤◌, length, arith, rules, refl}
+use Rattle.std.specs.Prelude.{All}
+use Rattle.cw_build.specs.Compiled.{IsCompilable}
+use Rattle.cw_files.specs.Reading.{AreSegmentsOf}
+use Rattle.std.proofs.lemmas.List.{length-map}
+use Rattle.cw_correct.specs.Results.{IsMap}
+use Rattle.cw_actions.proofs.Resulting.Texts.{OneOfText}
+use Rattle.cw_actions.proofs.Resulting.Told.{units_taken, units_stopped}
+use Rattle.cw_actions.proofs.Resulting.Maps.{HasSizes, stopped, written}
+use Rattle.cw_actions.proofs.results.mapping.map_all.Goals as goal
+
+pub map_units-requires : goal.map_units-requires
+map_units-requires g c =
+    let taken = c.in-Ok.ensures.taken in
+    let few : length c.in-Ok.segments.units ≤ 200 = omega (arith, c.requires.few, taken.0.all, length-map c.args.names.now (λ name. g.F.Store.file c.args.files.now name.now)) in
+    let segments : AreSegmentsOf c.in-Ok.segments.units c.in-Ok.segments = taken.1 in
+    let all : All IsCompilable c.in-Ok.segments.units = c.compiled_units.ensures taken.0.texts c.in-Ok.segments.units taken.0.have_values in
+    search (rules, segments, all, few, c.requires.limits)
+
+pub returns-in-Ok : goal.returns-in-Ok
+returns-in-Ok g c = λ steps left input_faults said said' faults faults' closed.
+    let given : OneOfText = record { one_unit = c.one_outcome.ensures.one_unit; one_refusal = c.one_outcome.ensures.one_refusal; not_both = c.one_outcome.ensures.not_both; tokens = c.one_outcome.ensures.tokens } in
+    let sizes : HasSizes = λ texts us have. c.linked_units.ensures.size us c.args.limits.now (c.compiled_units.ensures texts us have) in
+    let us = c.in-Ok.segments.units in
+    written given sizes IsMap _ (record { input = refl; faults = refl }) c.in-Ok.ensures.stay _ closed us (units_taken _ _ us c.in-Ok.ensures.taken.0) c.in-Ok.ensures.taken.2 c.map_units.ensures
+
+pub returns-in-Err : goal.returns-in-Err
+returns-in-Err g c = λ steps left input_faults said said' faults faults' closed.
+    let given : OneOfText = record { one_unit = c.one_outcome.ensures.one_unit; one_refusal = c.one_outcome.ensures.one_refusal; not_both = c.one_outcome.ensures.not_both; tokens = c.one_outcome.ensures.tokens } in
+    let sizes : HasSizes = λ texts us have. c.linked_units.ensures.size us c.args.limits.now (c.compiled_units.ensures texts us have) in
+    stopped given sizes IsMap _ (record { input = refl; faults = refl }) c.in-Err.ensures.stay _ closed (record { out = refl; faults = refl }) (units_stopped _ _ _ _ _ c.in-Err.ensures.taken)

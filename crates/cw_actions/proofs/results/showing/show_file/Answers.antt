@@ -1,0 +1,23 @@
+use Rattle.std.proofs.Common.{List, ℕ, ◌≤◌, length, arith, refl, ap, sym}
+use Rattle.std.proofs.lemmas.List.{length-map}
+use Rattle.cw_actions.proofs.Resulting.Texts.{OneOfText}
+use Rattle.cw_actions.proofs.Resulting.Steps.{have_one, unread_one}
+use Rattle.cw_actions.proofs.Resulting.Shows.{unread_shows, shows}
+use Rattle.cw_actions.proofs.results.showing.show_file.Goals as goal
+
+pub show_text-requires : goal.show_text-requires
+show_text-requires g c = omega (arith, ap length c.as_slice.ensures.value, c.in-Ok.ensures.within)
+
+pub returns-in-Ok : goal.returns-in-Ok
+returns-in-Ok g c = λ steps left input_faults said said' faults faults' closed.
+    let given : OneOfText = record { one_unit = c.one_outcome.ensures.one_unit; one_refusal = c.one_outcome.ensures.one_refusal; not_both = c.one_outcome.ensures.not_both; tokens = c.one_outcome.ensures.tokens } in
+    let names = length-map c.args.names.now (λ name. name.now) in
+    let have = have_one _ _ (omega (arith, c.requires.few, names)) (omega (arith, c.requires.some, names)) _ c.first_name.ensures _ _ c.as_slice.ensures.value c.in-Ok.ensures.whole c.in-Ok.ensures.within in
+    shows given _ (record { input = refl; faults = refl }) c.in-Ok.ensures.stay _ closed c.as_slice.result.now have (omega (arith, c.requires.few, c.requires.some, names)) c.in-Ok.ensures.same c.show_text.ensures
+
+pub returns-in-Err : goal.returns-in-Err
+returns-in-Err g c = λ steps left input_faults said said' faults faults' closed.
+    let given : OneOfText = record { one_unit = c.one_outcome.ensures.one_unit; one_refusal = c.one_outcome.ensures.one_refusal; not_both = c.one_outcome.ensures.not_both; tokens = c.one_outcome.ensures.tokens } in
+    let names = length-map c.args.names.now (λ name. name.now) in
+    unread_shows given _ (record { input = refl; faults = refl }) c.in-Err.ensures.stay _ closed (record { out = refl; faults = refl })
+    (unread_one _ _ (omega (arith, c.requires.few, names)) (omega (arith, c.requires.some, names)) _ c.first_name.ensures _ _ _ c.in-Err.ensures.unread)

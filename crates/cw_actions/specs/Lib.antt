@@ -1,0 +1,5 @@
+pub mod Going
+pub mod Executing
+pub mod Resulting
+pub mod Archiving
+pub mod Tracing

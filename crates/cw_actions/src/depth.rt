@@ -1,0 +1,7 @@
+//! The action `depth`.
+
+pub mod laws;
+mod telling;
+mod text;
+
+pub use telling::depth_files;

@@ -1,0 +1,90 @@
+//! The action `trace`.
+ghost use Rattle.std.specs.Prelude.{◌≡◌, ◌≤◌, [], Some, length, map, slice_index_or};
+ghost use Rattle.cw_place.specs.Placement.{IsLimits};
+ghost use Rattle.cw_stop.specs.Stopping.{stop_in};
+ghost use Rattle.cw_words.specs.declared.action.Action.TheVariants.{Trace};
+ghost use Rattle.cw_correct.specs.Calls.{surroundings_of, call_as};
+ghost use Rattle.cw_correct.specs.Correct.{IsCorrectCall};
+ghost use Rattle.cw_actions.specs.Tracing.Laws.{IsTraced};
+
+use crate::go::{close, compiled_units, link_segments, read_units};
+use crate::trace::closing::{close_no_item, close_no_place};
+use crate::trace::laws::traces;
+use crate::trace::running::watch_segments;
+use cw_build_laws::laws::images::separate_objects;
+use cw_io::{Sink, Source, Store};
+use cw_say::Status;
+use cw_stop::Stop;
+use cw_unit::layout::Limits;
+use cw_watch::{WatchFault, watch_for};
+use std::alloc::Global;
+
+// The same for the names of the texts alone.
+fn trace_texts<F: Store, I: Source, O: Sink, S: Sink>(
+    alloc: Global,
+    names: &[&str],
+    limits: &Limits,
+    steps: u64,
+    stop: &Stop,
+    files: &mut F,
+    input: &mut I,
+    out: &mut O,
+    say: &mut S,
+) -> Status
+    requires few { length names.now ≤ 200 }
+    requires some { 1 ≤ length names.now }
+    requires limits { IsLimits limits.now }
+    ensures { IsTraced stop.now (call_as Trace limits.now steps (map (λ name. name.now) names.now) (surroundings_of (F.file files.old) (F.faults files.old) (F.absences files.old) (I.left input.old) (I.faults input.old) (O.held out.old) (O.faults out.old) (S.held say.old) (S.faults say.old)) (surroundings_of (F.file files.new) (F.faults files.new) (F.absences files.new) (I.left input.new) (I.faults input.new) (O.held out.new) (O.faults out.new) (S.held say.new) (S.faults say.new))) result }
+{
+    traces();
+    compiled_units();
+    separate_objects();
+    let segments = match read_units(alloc, files, names) {
+        Ok(segments) => segments,
+        Err(status) => return close(say, names, &[], status),
+    };
+    let linked = match link_segments(alloc, &segments, limits) {
+        Ok(linked) => linked,
+        Err(status) => return close(say, names, &[], status),
+    };
+    match watch_for(
+        alloc,
+        segments.objects.as_slice(),
+        &linked.map,
+        limits,
+        stop,
+    ) {
+        Ok(watch) => {
+            let status = watch_segments(
+                alloc, &watch, &segments, &linked, limits, steps, input, out, say,
+            );
+            close(say, names, linked.image.names.as_slice(), status)
+        }
+        Err(WatchFault::NoPlace) => close_no_place(say, stop),
+        Err(WatchFault::NoItem { index }) => close_no_item(say, stop, index),
+        Err(WatchFault::NoMemory) => close(say, names, &[], Status::NoMemory),
+    }
+}
+
+/// Reads and compiles the files in order, whose names stand behind the stop word, links their objects, finds what the stop means in them, writes the storage map
+/// to `say`, and runs the image; before each statement that begins at the stop it writes a report to `say`. It closes with the line of the status.
+pub fn trace<F: Store, I: Source, O: Sink, S: Sink>(
+    alloc: Global,
+    names: &[&str],
+    limits: &Limits,
+    steps: u64,
+    stop: &Stop,
+    files: &mut F,
+    input: &mut I,
+    out: &mut O,
+    say: &mut S,
+) -> Status
+    requires few { length names.now ≤ 201 }
+    requires some { 2 ≤ length names.now }
+    requires limits { IsLimits limits.now }
+    requires stop { stop_in (slice_index_or (map (λ name. name.now) names.now) 0 []) ≡ Some stop.now }
+    ensures { IsCorrectCall (call_as Trace limits.now steps (map (λ name. name.now) names.now) (surroundings_of (F.file files.old) (F.faults files.old) (F.absences files.old) (I.left input.old) (I.faults input.old) (O.held out.old) (O.faults out.old) (S.held say.old) (S.faults say.old)) (surroundings_of (F.file files.new) (F.faults files.new) (F.absences files.new) (I.left input.new) (I.faults input.new) (O.held out.new) (O.faults out.new) (S.held say.new) (S.faults say.new))) result }
+{
+    let texts = &names[1..];
+    trace_texts(alloc, texts, limits, steps, stop, files, input, out, say)
+}

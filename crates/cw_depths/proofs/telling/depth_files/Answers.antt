@@ -1,4 +1,0 @@
-use Rattle.cw_depths.proofs.telling.depth_files.Goals as goal
-
-pub returns : goal.returns
-returns g c = λ left input_faults. c.depth_all-status.ensures c.args.steps left input_faults _ _ _ _ c.close.ensures

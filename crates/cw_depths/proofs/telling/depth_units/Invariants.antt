@@ -1,4 +1,0 @@
-use Rattle.cw_depths.proofs.telling.depth_units.Given as goal
-
-abbrev pub ghost-linking : goal.ghost-linking
-ghost-linking g a = g.us

@@ -1,7 +1,0 @@
-//! The action `exec`: the run of what its file tells, an image or a HEX text.
-#![tactic(auto)]
-
-mod executing;
-pub mod laws;
-
-pub use executing::exec;

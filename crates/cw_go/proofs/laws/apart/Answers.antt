@@ -1,8 +1,0 @@
-use Rattle.cw_go.proofs.Apart.{links_what_runs, links_as_migrated}
-use Rattle.cw_go.proofs.laws.apart.Goals as goal
-
-pub returns : goal.returns
-returns c = record {
-  compiled = links_what_runs c.separate_objects.ensures.linked c.separate_objects.ensures.image c.one_link_list.ensures.alone;
-  migrated = links_as_migrated c.separate_objects.ensures.migrated c.one_link_list.ensures.alone;
-}

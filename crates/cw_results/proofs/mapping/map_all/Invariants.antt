@@ -1,4 +1,0 @@
-use Rattle.cw_results.proofs.mapping.map_all.Given as goal
-
-abbrev pub ghost-map_units : goal.ghost-map_units
-ghost-map_units g a = a.segments.now.units

@@ -1,5 +1,0 @@
-use Rattle.cw_results.proofs.Steps.{unlinked_is}
-use Rattle.cw_results.proofs.unlinking.unlinked.Goals as goal
-
-pub returns-in_default : goal.returns-in_default
-returns-in_default c = unlinked_is c.args.fault c.in_default.not-NoMemory

@@ -1,0 +1,291 @@
+-- What is known of each tree of an expression by its first layer: its judgement, the tree that is made of it, and its uses of names.
+use Rattle.std.proofs.Common.{◌≡◌, sym, subst}
+use Rattle.cw_tree.specs.declared.expression.RawExpr.{RawExpr, RawExpr-F, roll-RawExpr, map-RawExpr, fold-roll-RawExpr}
+use Rattle.cw_tree.specs.declared.expression.RawPrimary.{RawPrimary, roll-RawPrimary, map-RawPrimary, fold-roll-RawPrimary}
+use Rattle.cw_tree.specs.declared.expression.RawRef.{RawRef, roll-RawRef, map-RawRef, fold-roll-RawRef}
+use Rattle.cw_tree.specs.declared.expression.RawCand.{RawCand, roll-RawCand, map-RawCand, fold-roll-RawCand}
+use Rattle.cw_tree.specs.declared.expression.RawCmp.{RawCmp, roll-RawCmp, map-RawCmp, fold-roll-RawCmp}
+use Rattle.cw_tree.specs.declared.expression.RawCond.{RawCond, roll-RawCond, map-RawCond, fold-roll-RawCond}
+use Rattle.cw_tree.specs.declared.expression.RawDiffer.{RawDiffer, roll-RawDiffer, map-RawDiffer, fold-roll-RawDiffer}
+use Rattle.cw_tree.specs.declared.expression.RawMask.{RawMask, roll-RawMask, map-RawMask, fold-roll-RawMask}
+use Rattle.cw_tree.specs.declared.expression.RawPrim.{RawPrim, roll-RawPrim, map-RawPrim, fold-roll-RawPrim}
+use Rattle.cw_tree.specs.declared.expression.RawSum.{RawSum, roll-RawSum, map-RawSum, fold-roll-RawSum}
+use Rattle.cw_tree.specs.declared.expression.RawTerm.{RawTerm, roll-RawTerm, map-RawTerm, fold-roll-RawTerm}
+use Rattle.cw_tree.specs.declared.expression.RawUnion.{RawUnion, roll-RawUnion, map-RawUnion, fold-roll-RawUnion}
+use Rattle.cw_tree.specs.declared.expression.RawExpr.TheOpen.{RawPrimary-F, RawRef-F, RawCand-F, RawCmp-F, RawCond-F, RawDiffer-F, RawMask-F, RawPrim-F, RawSum-F, RawTerm-F, RawUnion-F}
+use Rattle.cw_facts.specs.Uses.{Uses}
+use Rattle.cw_facts.specs.Uses as uses
+use Rattle.cw_scope.specs.declared.resolve.Named.{Named}
+use Rattle.cw_scale.specs.TypeRules.{Judged}
+use Rattle.cw_scale.specs.TypeRules as judged
+use Rattle.cw_make_expr.specs.Parts.{Numbers}
+use Rattle.cw_make_expr.specs.Made.{Made, Placed}
+use Rattle.cw_make_expr.specs.Made as made
+use Rattle.cw_unit.specs.declared.unit.Cond.{Cond}
+use Rattle.cw_sound.proofs.Calls.Trees.Parts.{Context, Right, RightTest, RightPlace}
+
+module _ (named : Named) (numbers : Numbers) where
+  abbrev expression_judged_layer : RawExpr-F RawExpr RawPrimary RawRef RawCand RawCmp RawCond RawDiffer RawMask RawPrim RawSum RawTerm RawUnion → Judged
+  expression_judged_layer x = judged.expression_step named (map-RawExpr RawExpr RawPrimary RawRef RawCand RawCmp RawCond RawDiffer RawMask RawPrim RawSum RawTerm RawUnion Judged Judged Judged Judged Judged Judged Judged Judged Judged Judged Judged Judged (judged.expression named) (judged.primary named) (judged.reference named) (judged.conjunction named) (judged.comparison named) (judged.condition named) (judged.differ named) (judged.mask named) (judged.prim named) (judged.sum named) (judged.term named) (judged.union named) x)
+
+  abbrev expression_made_layer : RawExpr-F RawExpr RawPrimary RawRef RawCand RawCmp RawCond RawDiffer RawMask RawPrim RawSum RawTerm RawUnion → Made
+  expression_made_layer x = made.expression_step named numbers (map-RawExpr RawExpr RawPrimary RawRef RawCand RawCmp RawCond RawDiffer RawMask RawPrim RawSum RawTerm RawUnion Made Made Placed Cond Cond Cond Made Made Made Made Made Made (made.expression_made named numbers) (made.primary_made named numbers) (made.reference_made named numbers) (made.conjunction_made named numbers) (made.comparison_made named numbers) (made.condition_made named numbers) (made.differ_made named numbers) (made.mask_made named numbers) (made.prim_made named numbers) (made.sum_made named numbers) (made.term_made named numbers) (made.union_made named numbers) x)
+
+  abbrev expression_uses_layer : RawExpr-F RawExpr RawPrimary RawRef RawCand RawCmp RawCond RawDiffer RawMask RawPrim RawSum RawTerm RawUnion → Uses
+  expression_uses_layer x = uses.expression_step (map-RawExpr RawExpr RawPrimary RawRef RawCand RawCmp RawCond RawDiffer RawMask RawPrim RawSum RawTerm RawUnion Uses Uses Uses Uses Uses Uses Uses Uses Uses Uses Uses Uses uses.expression_uses uses.primary_uses uses.reference_uses uses.conjunction_uses uses.comparison_uses uses.condition_uses uses.differ_uses uses.mask_uses uses.prim_uses uses.sum_uses uses.term_uses uses.union_uses x)
+
+  abbrev primary_judged_layer : RawPrimary-F RawExpr RawPrimary RawRef RawCand RawCmp RawCond RawDiffer RawMask RawPrim RawSum RawTerm RawUnion → Judged
+  primary_judged_layer x = judged.primary_step named (map-RawPrimary RawExpr RawPrimary RawRef RawCand RawCmp RawCond RawDiffer RawMask RawPrim RawSum RawTerm RawUnion Judged Judged Judged Judged Judged Judged Judged Judged Judged Judged Judged Judged (judged.expression named) (judged.primary named) (judged.reference named) (judged.conjunction named) (judged.comparison named) (judged.condition named) (judged.differ named) (judged.mask named) (judged.prim named) (judged.sum named) (judged.term named) (judged.union named) x)
+
+  abbrev primary_made_layer : RawPrimary-F RawExpr RawPrimary RawRef RawCand RawCmp RawCond RawDiffer RawMask RawPrim RawSum RawTerm RawUnion → Made
+  primary_made_layer x = made.primary_step named numbers (map-RawPrimary RawExpr RawPrimary RawRef RawCand RawCmp RawCond RawDiffer RawMask RawPrim RawSum RawTerm RawUnion Made Made Placed Cond Cond Cond Made Made Made Made Made Made (made.expression_made named numbers) (made.primary_made named numbers) (made.reference_made named numbers) (made.conjunction_made named numbers) (made.comparison_made named numbers) (made.condition_made named numbers) (made.differ_made named numbers) (made.mask_made named numbers) (made.prim_made named numbers) (made.sum_made named numbers) (made.term_made named numbers) (made.union_made named numbers) x)
+
+  abbrev primary_uses_layer : RawPrimary-F RawExpr RawPrimary RawRef RawCand RawCmp RawCond RawDiffer RawMask RawPrim RawSum RawTerm RawUnion → Uses
+  primary_uses_layer x = uses.primary_step (map-RawPrimary RawExpr RawPrimary RawRef RawCand RawCmp RawCond RawDiffer RawMask RawPrim RawSum RawTerm RawUnion Uses Uses Uses Uses Uses Uses Uses Uses Uses Uses Uses Uses uses.expression_uses uses.primary_uses uses.reference_uses uses.conjunction_uses uses.comparison_uses uses.condition_uses uses.differ_uses uses.mask_uses uses.prim_uses uses.sum_uses uses.term_uses uses.union_uses x)
+
+  abbrev reference_judged_layer : RawRef-F RawExpr RawPrimary RawRef RawCand RawCmp RawCond RawDiffer RawMask RawPrim RawSum RawTerm RawUnion → Judged
+  reference_judged_layer x = judged.reference_step named (map-RawRef RawExpr RawPrimary RawRef RawCand RawCmp RawCond RawDiffer RawMask RawPrim RawSum RawTerm RawUnion Judged Judged Judged Judged Judged Judged Judged Judged Judged Judged Judged Judged (judged.expression named) (judged.primary named) (judged.reference named) (judged.conjunction named) (judged.comparison named) (judged.condition named) (judged.differ named) (judged.mask named) (judged.prim named) (judged.sum named) (judged.term named) (judged.union named) x)
+
+  abbrev reference_made_layer : RawRef-F RawExpr RawPrimary RawRef RawCand RawCmp RawCond RawDiffer RawMask RawPrim RawSum RawTerm RawUnion → Placed
+  reference_made_layer x = made.reference_step named numbers (map-RawRef RawExpr RawPrimary RawRef RawCand RawCmp RawCond RawDiffer RawMask RawPrim RawSum RawTerm RawUnion Made Made Placed Cond Cond Cond Made Made Made Made Made Made (made.expression_made named numbers) (made.primary_made named numbers) (made.reference_made named numbers) (made.conjunction_made named numbers) (made.comparison_made named numbers) (made.condition_made named numbers) (made.differ_made named numbers) (made.mask_made named numbers) (made.prim_made named numbers) (made.sum_made named numbers) (made.term_made named numbers) (made.union_made named numbers) x)
+
+  abbrev reference_uses_layer : RawRef-F RawExpr RawPrimary RawRef RawCand RawCmp RawCond RawDiffer RawMask RawPrim RawSum RawTerm RawUnion → Uses
+  reference_uses_layer x = uses.reference_step (map-RawRef RawExpr RawPrimary RawRef RawCand RawCmp RawCond RawDiffer RawMask RawPrim RawSum RawTerm RawUnion Uses Uses Uses Uses Uses Uses Uses Uses Uses Uses Uses Uses uses.expression_uses uses.primary_uses uses.reference_uses uses.conjunction_uses uses.comparison_uses uses.condition_uses uses.differ_uses uses.mask_uses uses.prim_uses uses.sum_uses uses.term_uses uses.union_uses x)
+
+  abbrev conjunction_judged_layer : RawCand-F RawExpr RawPrimary RawRef RawCand RawCmp RawCond RawDiffer RawMask RawPrim RawSum RawTerm RawUnion → Judged
+  conjunction_judged_layer x = judged.conjunction_step named (map-RawCand RawExpr RawPrimary RawRef RawCand RawCmp RawCond RawDiffer RawMask RawPrim RawSum RawTerm RawUnion Judged Judged Judged Judged Judged Judged Judged Judged Judged Judged Judged Judged (judged.expression named) (judged.primary named) (judged.reference named) (judged.conjunction named) (judged.comparison named) (judged.condition named) (judged.differ named) (judged.mask named) (judged.prim named) (judged.sum named) (judged.term named) (judged.union named) x)
+
+  abbrev conjunction_made_layer : RawCand-F RawExpr RawPrimary RawRef RawCand RawCmp RawCond RawDiffer RawMask RawPrim RawSum RawTerm RawUnion → Cond
+  conjunction_made_layer x = made.conjunction_step named numbers (map-RawCand RawExpr RawPrimary RawRef RawCand RawCmp RawCond RawDiffer RawMask RawPrim RawSum RawTerm RawUnion Made Made Placed Cond Cond Cond Made Made Made Made Made Made (made.expression_made named numbers) (made.primary_made named numbers) (made.reference_made named numbers) (made.conjunction_made named numbers) (made.comparison_made named numbers) (made.condition_made named numbers) (made.differ_made named numbers) (made.mask_made named numbers) (made.prim_made named numbers) (made.sum_made named numbers) (made.term_made named numbers) (made.union_made named numbers) x)
+
+  abbrev conjunction_uses_layer : RawCand-F RawExpr RawPrimary RawRef RawCand RawCmp RawCond RawDiffer RawMask RawPrim RawSum RawTerm RawUnion → Uses
+  conjunction_uses_layer x = uses.conjunction_step (map-RawCand RawExpr RawPrimary RawRef RawCand RawCmp RawCond RawDiffer RawMask RawPrim RawSum RawTerm RawUnion Uses Uses Uses Uses Uses Uses Uses Uses Uses Uses Uses Uses uses.expression_uses uses.primary_uses uses.reference_uses uses.conjunction_uses uses.comparison_uses uses.condition_uses uses.differ_uses uses.mask_uses uses.prim_uses uses.sum_uses uses.term_uses uses.union_uses x)
+
+  abbrev comparison_judged_layer : RawCmp-F RawExpr RawPrimary RawRef RawCand RawCmp RawCond RawDiffer RawMask RawPrim RawSum RawTerm RawUnion → Judged
+  comparison_judged_layer x = judged.comparison_step named (map-RawCmp RawExpr RawPrimary RawRef RawCand RawCmp RawCond RawDiffer RawMask RawPrim RawSum RawTerm RawUnion Judged Judged Judged Judged Judged Judged Judged Judged Judged Judged Judged Judged (judged.expression named) (judged.primary named) (judged.reference named) (judged.conjunction named) (judged.comparison named) (judged.condition named) (judged.differ named) (judged.mask named) (judged.prim named) (judged.sum named) (judged.term named) (judged.union named) x)
+
+  abbrev comparison_made_layer : RawCmp-F RawExpr RawPrimary RawRef RawCand RawCmp RawCond RawDiffer RawMask RawPrim RawSum RawTerm RawUnion → Cond
+  comparison_made_layer x = made.comparison_step named numbers (map-RawCmp RawExpr RawPrimary RawRef RawCand RawCmp RawCond RawDiffer RawMask RawPrim RawSum RawTerm RawUnion Made Made Placed Cond Cond Cond Made Made Made Made Made Made (made.expression_made named numbers) (made.primary_made named numbers) (made.reference_made named numbers) (made.conjunction_made named numbers) (made.comparison_made named numbers) (made.condition_made named numbers) (made.differ_made named numbers) (made.mask_made named numbers) (made.prim_made named numbers) (made.sum_made named numbers) (made.term_made named numbers) (made.union_made named numbers) x)
+
+  abbrev comparison_uses_layer : RawCmp-F RawExpr RawPrimary RawRef RawCand RawCmp RawCond RawDiffer RawMask RawPrim RawSum RawTerm RawUnion → Uses
+  comparison_uses_layer x = uses.comparison_step (map-RawCmp RawExpr RawPrimary RawRef RawCand RawCmp RawCond RawDiffer RawMask RawPrim RawSum RawTerm RawUnion Uses Uses Uses Uses Uses Uses Uses Uses Uses Uses Uses Uses uses.expression_uses uses.primary_uses uses.reference_uses uses.conjunction_uses uses.comparison_uses uses.condition_uses uses.differ_uses uses.mask_uses uses.prim_uses uses.sum_uses uses.term_uses uses.union_uses x)
+
+  abbrev condition_judged_layer : RawCond-F RawExpr RawPrimary RawRef RawCand RawCmp RawCond RawDiffer RawMask RawPrim RawSum RawTerm RawUnion → Judged
+  condition_judged_layer x = judged.condition_step named (map-RawCond RawExpr RawPrimary RawRef RawCand RawCmp RawCond RawDiffer RawMask RawPrim RawSum RawTerm RawUnion Judged Judged Judged Judged Judged Judged Judged Judged Judged Judged Judged Judged (judged.expression named) (judged.primary named) (judged.reference named) (judged.conjunction named) (judged.comparison named) (judged.condition named) (judged.differ named) (judged.mask named) (judged.prim named) (judged.sum named) (judged.term named) (judged.union named) x)
+
+  abbrev condition_made_layer : RawCond-F RawExpr RawPrimary RawRef RawCand RawCmp RawCond RawDiffer RawMask RawPrim RawSum RawTerm RawUnion → Cond
+  condition_made_layer x = made.condition_step named numbers (map-RawCond RawExpr RawPrimary RawRef RawCand RawCmp RawCond RawDiffer RawMask RawPrim RawSum RawTerm RawUnion Made Made Placed Cond Cond Cond Made Made Made Made Made Made (made.expression_made named numbers) (made.primary_made named numbers) (made.reference_made named numbers) (made.conjunction_made named numbers) (made.comparison_made named numbers) (made.condition_made named numbers) (made.differ_made named numbers) (made.mask_made named numbers) (made.prim_made named numbers) (made.sum_made named numbers) (made.term_made named numbers) (made.union_made named numbers) x)
+
+  abbrev condition_uses_layer : RawCond-F RawExpr RawPrimary RawRef RawCand RawCmp RawCond RawDiffer RawMask RawPrim RawSum RawTerm RawUnion → Uses
+  condition_uses_layer x = uses.condition_step (map-RawCond RawExpr RawPrimary RawRef RawCand RawCmp RawCond RawDiffer RawMask RawPrim RawSum RawTerm RawUnion Uses Uses Uses Uses Uses Uses Uses Uses Uses Uses Uses Uses uses.expression_uses uses.primary_uses uses.reference_uses uses.conjunction_uses uses.comparison_uses uses.condition_uses uses.differ_uses uses.mask_uses uses.prim_uses uses.sum_uses uses.term_uses uses.union_uses x)
+
+  abbrev differ_judged_layer : RawDiffer-F RawExpr RawPrimary RawRef RawCand RawCmp RawCond RawDiffer RawMask RawPrim RawSum RawTerm RawUnion → Judged
+  differ_judged_layer x = judged.differ_step named (map-RawDiffer RawExpr RawPrimary RawRef RawCand RawCmp RawCond RawDiffer RawMask RawPrim RawSum RawTerm RawUnion Judged Judged Judged Judged Judged Judged Judged Judged Judged Judged Judged Judged (judged.expression named) (judged.primary named) (judged.reference named) (judged.conjunction named) (judged.comparison named) (judged.condition named) (judged.differ named) (judged.mask named) (judged.prim named) (judged.sum named) (judged.term named) (judged.union named) x)
+
+  abbrev differ_made_layer : RawDiffer-F RawExpr RawPrimary RawRef RawCand RawCmp RawCond RawDiffer RawMask RawPrim RawSum RawTerm RawUnion → Made
+  differ_made_layer x = made.differ_step named numbers (map-RawDiffer RawExpr RawPrimary RawRef RawCand RawCmp RawCond RawDiffer RawMask RawPrim RawSum RawTerm RawUnion Made Made Placed Cond Cond Cond Made Made Made Made Made Made (made.expression_made named numbers) (made.primary_made named numbers) (made.reference_made named numbers) (made.conjunction_made named numbers) (made.comparison_made named numbers) (made.condition_made named numbers) (made.differ_made named numbers) (made.mask_made named numbers) (made.prim_made named numbers) (made.sum_made named numbers) (made.term_made named numbers) (made.union_made named numbers) x)
+
+  abbrev differ_uses_layer : RawDiffer-F RawExpr RawPrimary RawRef RawCand RawCmp RawCond RawDiffer RawMask RawPrim RawSum RawTerm RawUnion → Uses
+  differ_uses_layer x = uses.differ_step (map-RawDiffer RawExpr RawPrimary RawRef RawCand RawCmp RawCond RawDiffer RawMask RawPrim RawSum RawTerm RawUnion Uses Uses Uses Uses Uses Uses Uses Uses Uses Uses Uses Uses uses.expression_uses uses.primary_uses uses.reference_uses uses.conjunction_uses uses.comparison_uses uses.condition_uses uses.differ_uses uses.mask_uses uses.prim_uses uses.sum_uses uses.term_uses uses.union_uses x)
+
+  abbrev mask_judged_layer : RawMask-F RawExpr RawPrimary RawRef RawCand RawCmp RawCond RawDiffer RawMask RawPrim RawSum RawTerm RawUnion → Judged
+  mask_judged_layer x = judged.mask_step named (map-RawMask RawExpr RawPrimary RawRef RawCand RawCmp RawCond RawDiffer RawMask RawPrim RawSum RawTerm RawUnion Judged Judged Judged Judged Judged Judged Judged Judged Judged Judged Judged Judged (judged.expression named) (judged.primary named) (judged.reference named) (judged.conjunction named) (judged.comparison named) (judged.condition named) (judged.differ named) (judged.mask named) (judged.prim named) (judged.sum named) (judged.term named) (judged.union named) x)
+
+  abbrev mask_made_layer : RawMask-F RawExpr RawPrimary RawRef RawCand RawCmp RawCond RawDiffer RawMask RawPrim RawSum RawTerm RawUnion → Made
+  mask_made_layer x = made.mask_step named numbers (map-RawMask RawExpr RawPrimary RawRef RawCand RawCmp RawCond RawDiffer RawMask RawPrim RawSum RawTerm RawUnion Made Made Placed Cond Cond Cond Made Made Made Made Made Made (made.expression_made named numbers) (made.primary_made named numbers) (made.reference_made named numbers) (made.conjunction_made named numbers) (made.comparison_made named numbers) (made.condition_made named numbers) (made.differ_made named numbers) (made.mask_made named numbers) (made.prim_made named numbers) (made.sum_made named numbers) (made.term_made named numbers) (made.union_made named numbers) x)
+
+  abbrev mask_uses_layer : RawMask-F RawExpr RawPrimary RawRef RawCand RawCmp RawCond RawDiffer RawMask RawPrim RawSum RawTerm RawUnion → Uses
+  mask_uses_layer x = uses.mask_step (map-RawMask RawExpr RawPrimary RawRef RawCand RawCmp RawCond RawDiffer RawMask RawPrim RawSum RawTerm RawUnion Uses Uses Uses Uses Uses Uses Uses Uses Uses Uses Uses Uses uses.expression_uses uses.primary_uses uses.reference_uses uses.conjunction_uses uses.comparison_uses uses.condition_uses uses.differ_uses uses.mask_uses uses.prim_uses uses.sum_uses uses.term_uses uses.union_uses x)
+
+  abbrev prim_judged_layer : RawPrim-F RawExpr RawPrimary RawRef RawCand RawCmp RawCond RawDiffer RawMask RawPrim RawSum RawTerm RawUnion → Judged
+  prim_judged_layer x = judged.prim_step named (map-RawPrim RawExpr RawPrimary RawRef RawCand RawCmp RawCond RawDiffer RawMask RawPrim RawSum RawTerm RawUnion Judged Judged Judged Judged Judged Judged Judged Judged Judged Judged Judged Judged (judged.expression named) (judged.primary named) (judged.reference named) (judged.conjunction named) (judged.comparison named) (judged.condition named) (judged.differ named) (judged.mask named) (judged.prim named) (judged.sum named) (judged.term named) (judged.union named) x)
+
+  abbrev prim_made_layer : RawPrim-F RawExpr RawPrimary RawRef RawCand RawCmp RawCond RawDiffer RawMask RawPrim RawSum RawTerm RawUnion → Made
+  prim_made_layer x = made.prim_step named numbers (map-RawPrim RawExpr RawPrimary RawRef RawCand RawCmp RawCond RawDiffer RawMask RawPrim RawSum RawTerm RawUnion Made Made Placed Cond Cond Cond Made Made Made Made Made Made (made.expression_made named numbers) (made.primary_made named numbers) (made.reference_made named numbers) (made.conjunction_made named numbers) (made.comparison_made named numbers) (made.condition_made named numbers) (made.differ_made named numbers) (made.mask_made named numbers) (made.prim_made named numbers) (made.sum_made named numbers) (made.term_made named numbers) (made.union_made named numbers) x)
+
+  abbrev prim_uses_layer : RawPrim-F RawExpr RawPrimary RawRef RawCand RawCmp RawCond RawDiffer RawMask RawPrim RawSum RawTerm RawUnion → Uses
+  prim_uses_layer x = uses.prim_step (map-RawPrim RawExpr RawPrimary RawRef RawCand RawCmp RawCond RawDiffer RawMask RawPrim RawSum RawTerm RawUnion Uses Uses Uses Uses Uses Uses Uses Uses Uses Uses Uses Uses uses.expression_uses uses.primary_uses uses.reference_uses uses.conjunction_uses uses.comparison_uses uses.condition_uses uses.differ_uses uses.mask_uses uses.prim_uses uses.sum_uses uses.term_uses uses.union_uses x)
+
+  abbrev sum_judged_layer : RawSum-F RawExpr RawPrimary RawRef RawCand RawCmp RawCond RawDiffer RawMask RawPrim RawSum RawTerm RawUnion → Judged
+  sum_judged_layer x = judged.sum_step named (map-RawSum RawExpr RawPrimary RawRef RawCand RawCmp RawCond RawDiffer RawMask RawPrim RawSum RawTerm RawUnion Judged Judged Judged Judged Judged Judged Judged Judged Judged Judged Judged Judged (judged.expression named) (judged.primary named) (judged.reference named) (judged.conjunction named) (judged.comparison named) (judged.condition named) (judged.differ named) (judged.mask named) (judged.prim named) (judged.sum named) (judged.term named) (judged.union named) x)
+
+  abbrev sum_made_layer : RawSum-F RawExpr RawPrimary RawRef RawCand RawCmp RawCond RawDiffer RawMask RawPrim RawSum RawTerm RawUnion → Made
+  sum_made_layer x = made.sum_step named numbers (map-RawSum RawExpr RawPrimary RawRef RawCand RawCmp RawCond RawDiffer RawMask RawPrim RawSum RawTerm RawUnion Made Made Placed Cond Cond Cond Made Made Made Made Made Made (made.expression_made named numbers) (made.primary_made named numbers) (made.reference_made named numbers) (made.conjunction_made named numbers) (made.comparison_made named numbers) (made.condition_made named numbers) (made.differ_made named numbers) (made.mask_made named numbers) (made.prim_made named numbers) (made.sum_made named numbers) (made.term_made named numbers) (made.union_made named numbers) x)
+
+  abbrev sum_uses_layer : RawSum-F RawExpr RawPrimary RawRef RawCand RawCmp RawCond RawDiffer RawMask RawPrim RawSum RawTerm RawUnion → Uses
+  sum_uses_layer x = uses.sum_step (map-RawSum RawExpr RawPrimary RawRef RawCand RawCmp RawCond RawDiffer RawMask RawPrim RawSum RawTerm RawUnion Uses Uses Uses Uses Uses Uses Uses Uses Uses Uses Uses Uses uses.expression_uses uses.primary_uses uses.reference_uses uses.conjunction_uses uses.comparison_uses uses.condition_uses uses.differ_uses uses.mask_uses uses.prim_uses uses.sum_uses uses.term_uses uses.union_uses x)
+
+  abbrev term_judged_layer : RawTerm-F RawExpr RawPrimary RawRef RawCand RawCmp RawCond RawDiffer RawMask RawPrim RawSum RawTerm RawUnion → Judged
+  term_judged_layer x = judged.term_step named (map-RawTerm RawExpr RawPrimary RawRef RawCand RawCmp RawCond RawDiffer RawMask RawPrim RawSum RawTerm RawUnion Judged Judged Judged Judged Judged Judged Judged Judged Judged Judged Judged Judged (judged.expression named) (judged.primary named) (judged.reference named) (judged.conjunction named) (judged.comparison named) (judged.condition named) (judged.differ named) (judged.mask named) (judged.prim named) (judged.sum named) (judged.term named) (judged.union named) x)
+
+  abbrev term_made_layer : RawTerm-F RawExpr RawPrimary RawRef RawCand RawCmp RawCond RawDiffer RawMask RawPrim RawSum RawTerm RawUnion → Made
+  term_made_layer x = made.term_step named numbers (map-RawTerm RawExpr RawPrimary RawRef RawCand RawCmp RawCond RawDiffer RawMask RawPrim RawSum RawTerm RawUnion Made Made Placed Cond Cond Cond Made Made Made Made Made Made (made.expression_made named numbers) (made.primary_made named numbers) (made.reference_made named numbers) (made.conjunction_made named numbers) (made.comparison_made named numbers) (made.condition_made named numbers) (made.differ_made named numbers) (made.mask_made named numbers) (made.prim_made named numbers) (made.sum_made named numbers) (made.term_made named numbers) (made.union_made named numbers) x)
+
+  abbrev term_uses_layer : RawTerm-F RawExpr RawPrimary RawRef RawCand RawCmp RawCond RawDiffer RawMask RawPrim RawSum RawTerm RawUnion → Uses
+  term_uses_layer x = uses.term_step (map-RawTerm RawExpr RawPrimary RawRef RawCand RawCmp RawCond RawDiffer RawMask RawPrim RawSum RawTerm RawUnion Uses Uses Uses Uses Uses Uses Uses Uses Uses Uses Uses Uses uses.expression_uses uses.primary_uses uses.reference_uses uses.conjunction_uses uses.comparison_uses uses.condition_uses uses.differ_uses uses.mask_uses uses.prim_uses uses.sum_uses uses.term_uses uses.union_uses x)
+
+  abbrev union_judged_layer : RawUnion-F RawExpr RawPrimary RawRef RawCand RawCmp RawCond RawDiffer RawMask RawPrim RawSum RawTerm RawUnion → Judged
+  union_judged_layer x = judged.union_step named (map-RawUnion RawExpr RawPrimary RawRef RawCand RawCmp RawCond RawDiffer RawMask RawPrim RawSum RawTerm RawUnion Judged Judged Judged Judged Judged Judged Judged Judged Judged Judged Judged Judged (judged.expression named) (judged.primary named) (judged.reference named) (judged.conjunction named) (judged.comparison named) (judged.condition named) (judged.differ named) (judged.mask named) (judged.prim named) (judged.sum named) (judged.term named) (judged.union named) x)
+
+  abbrev union_made_layer : RawUnion-F RawExpr RawPrimary RawRef RawCand RawCmp RawCond RawDiffer RawMask RawPrim RawSum RawTerm RawUnion → Made
+  union_made_layer x = made.union_step named numbers (map-RawUnion RawExpr RawPrimary RawRef RawCand RawCmp RawCond RawDiffer RawMask RawPrim RawSum RawTerm RawUnion Made Made Placed Cond Cond Cond Made Made Made Made Made Made (made.expression_made named numbers) (made.primary_made named numbers) (made.reference_made named numbers) (made.conjunction_made named numbers) (made.comparison_made named numbers) (made.condition_made named numbers) (made.differ_made named numbers) (made.mask_made named numbers) (made.prim_made named numbers) (made.sum_made named numbers) (made.term_made named numbers) (made.union_made named numbers) x)
+
+  abbrev union_uses_layer : RawUnion-F RawExpr RawPrimary RawRef RawCand RawCmp RawCond RawDiffer RawMask RawPrim RawSum RawTerm RawUnion → Uses
+  union_uses_layer x = uses.union_step (map-RawUnion RawExpr RawPrimary RawRef RawCand RawCmp RawCond RawDiffer RawMask RawPrim RawSum RawTerm RawUnion Uses Uses Uses Uses Uses Uses Uses Uses Uses Uses Uses Uses uses.expression_uses uses.primary_uses uses.reference_uses uses.conjunction_uses uses.comparison_uses uses.condition_uses uses.differ_uses uses.mask_uses uses.prim_uses uses.sum_uses uses.term_uses uses.union_uses x)
+
+module _ (named : Named) (numbers : Numbers) (body : Context named numbers) where
+  right_at : {j k : Judged} {m n : Made} {x y : Uses} → k ≡ j → n ≡ m → y ≡ x → Right named numbers body j m x → Right named numbers body k n y
+  right_at {j = j} {m = m} {n = n} {y = y} ej em ex h =
+      subst (λ (z : Judged). Right named numbers body z n y) (sym ej) (subst (λ (z : Made). Right named numbers body j z y) (sym em) (subst (λ (z : Uses). Right named numbers body j m z) (sym ex) h))
+
+  place_at : {j k : Judged} {m n : Placed} {x y : Uses} → k ≡ j → n ≡ m → y ≡ x → RightPlace named numbers body j m x → RightPlace named numbers body k n y
+  place_at {j = j} {m = m} {n = n} {y = y} ej em ex h =
+      subst (λ (z : Judged). RightPlace named numbers body z n y) (sym ej) (subst (λ (z : Placed). RightPlace named numbers body j z y) (sym em) (subst (λ (z : Uses). RightPlace named numbers body j m z) (sym ex) h))
+
+  test_at : {j k : Judged} {m n : Cond} {x y : Uses} → k ≡ j → n ≡ m → y ≡ x → RightTest named numbers body j m x → RightTest named numbers body k n y
+  test_at {j = j} {m = m} {n = n} {y = y} ej em ex h =
+      subst (λ (z : Judged). RightTest named numbers body z n y) (sym ej) (subst (λ (z : Cond). RightTest named numbers body j z y) (sym em) (subst (λ (z : Uses). RightTest named numbers body j m z) (sym ex) h))
+
+  abbrev pub IsExpressionRight : RawExpr → Type 0
+  IsExpressionRight x = Right named numbers body (judged.expression named x) (made.expression_made named numbers x) (uses.expression_uses x)
+
+  abbrev pub IsExpressionLayerRight : RawExpr-F RawExpr RawPrimary RawRef RawCand RawCmp RawCond RawDiffer RawMask RawPrim RawSum RawTerm RawUnion → Type 0
+  IsExpressionLayerRight x = Right named numbers body (expression_judged_layer named numbers x) (expression_made_layer named numbers x) (expression_uses_layer named numbers x)
+
+  pub expression_rolls : (x : RawExpr-F RawExpr RawPrimary RawRef RawCand RawCmp RawCond RawDiffer RawMask RawPrim RawSum RawTerm RawUnion) → IsExpressionLayerRight x → IsExpressionRight (roll-RawExpr x)
+  expression_rolls x h =
+      right_at (fold-roll-RawExpr Judged Judged Judged Judged Judged Judged Judged Judged Judged Judged Judged Judged (judged.expression_step named) (judged.primary_step named) (judged.reference_step named) (judged.conjunction_step named) (judged.comparison_step named) (judged.condition_step named) (judged.differ_step named) (judged.mask_step named) (judged.prim_step named) (judged.sum_step named) (judged.term_step named) (judged.union_step named) x)
+      (fold-roll-RawExpr Made Made Placed Cond Cond Cond Made Made Made Made Made Made (made.expression_step named numbers) (made.primary_step named numbers) (made.reference_step named numbers) (made.conjunction_step named numbers) (made.comparison_step named numbers) (made.condition_step named numbers) (made.differ_step named numbers) (made.mask_step named numbers) (made.prim_step named numbers) (made.sum_step named numbers) (made.term_step named numbers) (made.union_step named numbers) x)
+      (fold-roll-RawExpr Uses Uses Uses Uses Uses Uses Uses Uses Uses Uses Uses Uses uses.expression_step uses.primary_step uses.reference_step uses.conjunction_step uses.comparison_step uses.condition_step uses.differ_step uses.mask_step uses.prim_step uses.sum_step uses.term_step uses.union_step x) h
+
+  abbrev pub IsPrimaryRight : RawPrimary → Type 0
+  IsPrimaryRight x = Right named numbers body (judged.primary named x) (made.primary_made named numbers x) (uses.primary_uses x)
+
+  abbrev pub IsPrimaryLayerRight : RawPrimary-F RawExpr RawPrimary RawRef RawCand RawCmp RawCond RawDiffer RawMask RawPrim RawSum RawTerm RawUnion → Type 0
+  IsPrimaryLayerRight x = Right named numbers body (primary_judged_layer named numbers x) (primary_made_layer named numbers x) (primary_uses_layer named numbers x)
+
+  pub primary_rolls : (x : RawPrimary-F RawExpr RawPrimary RawRef RawCand RawCmp RawCond RawDiffer RawMask RawPrim RawSum RawTerm RawUnion) → IsPrimaryLayerRight x → IsPrimaryRight (roll-RawPrimary x)
+  primary_rolls x h =
+      right_at (fold-roll-RawPrimary Judged Judged Judged Judged Judged Judged Judged Judged Judged Judged Judged Judged (judged.expression_step named) (judged.primary_step named) (judged.reference_step named) (judged.conjunction_step named) (judged.comparison_step named) (judged.condition_step named) (judged.differ_step named) (judged.mask_step named) (judged.prim_step named) (judged.sum_step named) (judged.term_step named) (judged.union_step named) x)
+      (fold-roll-RawPrimary Made Made Placed Cond Cond Cond Made Made Made Made Made Made (made.expression_step named numbers) (made.primary_step named numbers) (made.reference_step named numbers) (made.conjunction_step named numbers) (made.comparison_step named numbers) (made.condition_step named numbers) (made.differ_step named numbers) (made.mask_step named numbers) (made.prim_step named numbers) (made.sum_step named numbers) (made.term_step named numbers) (made.union_step named numbers) x)
+      (fold-roll-RawPrimary Uses Uses Uses Uses Uses Uses Uses Uses Uses Uses Uses Uses uses.expression_step uses.primary_step uses.reference_step uses.conjunction_step uses.comparison_step uses.condition_step uses.differ_step uses.mask_step uses.prim_step uses.sum_step uses.term_step uses.union_step x) h
+
+  abbrev pub IsReferenceRight : RawRef → Type 0
+  IsReferenceRight x = RightPlace named numbers body (judged.reference named x) (made.reference_made named numbers x) (uses.reference_uses x)
+
+  abbrev pub IsReferenceLayerRight : RawRef-F RawExpr RawPrimary RawRef RawCand RawCmp RawCond RawDiffer RawMask RawPrim RawSum RawTerm RawUnion → Type 0
+  IsReferenceLayerRight x = RightPlace named numbers body (reference_judged_layer named numbers x) (reference_made_layer named numbers x) (reference_uses_layer named numbers x)
+
+  pub reference_rolls : (x : RawRef-F RawExpr RawPrimary RawRef RawCand RawCmp RawCond RawDiffer RawMask RawPrim RawSum RawTerm RawUnion) → IsReferenceLayerRight x → IsReferenceRight (roll-RawRef x)
+  reference_rolls x h =
+      place_at (fold-roll-RawRef Judged Judged Judged Judged Judged Judged Judged Judged Judged Judged Judged Judged (judged.expression_step named) (judged.primary_step named) (judged.reference_step named) (judged.conjunction_step named) (judged.comparison_step named) (judged.condition_step named) (judged.differ_step named) (judged.mask_step named) (judged.prim_step named) (judged.sum_step named) (judged.term_step named) (judged.union_step named) x)
+      (fold-roll-RawRef Made Made Placed Cond Cond Cond Made Made Made Made Made Made (made.expression_step named numbers) (made.primary_step named numbers) (made.reference_step named numbers) (made.conjunction_step named numbers) (made.comparison_step named numbers) (made.condition_step named numbers) (made.differ_step named numbers) (made.mask_step named numbers) (made.prim_step named numbers) (made.sum_step named numbers) (made.term_step named numbers) (made.union_step named numbers) x)
+      (fold-roll-RawRef Uses Uses Uses Uses Uses Uses Uses Uses Uses Uses Uses Uses uses.expression_step uses.primary_step uses.reference_step uses.conjunction_step uses.comparison_step uses.condition_step uses.differ_step uses.mask_step uses.prim_step uses.sum_step uses.term_step uses.union_step x) h
+
+  abbrev pub IsConjunctionRight : RawCand → Type 0
+  IsConjunctionRight x = RightTest named numbers body (judged.conjunction named x) (made.conjunction_made named numbers x) (uses.conjunction_uses x)
+
+  abbrev pub IsConjunctionLayerRight : RawCand-F RawExpr RawPrimary RawRef RawCand RawCmp RawCond RawDiffer RawMask RawPrim RawSum RawTerm RawUnion → Type 0
+  IsConjunctionLayerRight x = RightTest named numbers body (conjunction_judged_layer named numbers x) (conjunction_made_layer named numbers x) (conjunction_uses_layer named numbers x)
+
+  pub conjunction_rolls : (x : RawCand-F RawExpr RawPrimary RawRef RawCand RawCmp RawCond RawDiffer RawMask RawPrim RawSum RawTerm RawUnion) → IsConjunctionLayerRight x → IsConjunctionRight (roll-RawCand x)
+  conjunction_rolls x h =
+      test_at (fold-roll-RawCand Judged Judged Judged Judged Judged Judged Judged Judged Judged Judged Judged Judged (judged.expression_step named) (judged.primary_step named) (judged.reference_step named) (judged.conjunction_step named) (judged.comparison_step named) (judged.condition_step named) (judged.differ_step named) (judged.mask_step named) (judged.prim_step named) (judged.sum_step named) (judged.term_step named) (judged.union_step named) x)
+      (fold-roll-RawCand Made Made Placed Cond Cond Cond Made Made Made Made Made Made (made.expression_step named numbers) (made.primary_step named numbers) (made.reference_step named numbers) (made.conjunction_step named numbers) (made.comparison_step named numbers) (made.condition_step named numbers) (made.differ_step named numbers) (made.mask_step named numbers) (made.prim_step named numbers) (made.sum_step named numbers) (made.term_step named numbers) (made.union_step named numbers) x)
+      (fold-roll-RawCand Uses Uses Uses Uses Uses Uses Uses Uses Uses Uses Uses Uses uses.expression_step uses.primary_step uses.reference_step uses.conjunction_step uses.comparison_step uses.condition_step uses.differ_step uses.mask_step uses.prim_step uses.sum_step uses.term_step uses.union_step x) h
+
+  abbrev pub IsComparisonRight : RawCmp → Type 0
+  IsComparisonRight x = RightTest named numbers body (judged.comparison named x) (made.comparison_made named numbers x) (uses.comparison_uses x)
+
+  abbrev pub IsComparisonLayerRight : RawCmp-F RawExpr RawPrimary RawRef RawCand RawCmp RawCond RawDiffer RawMask RawPrim RawSum RawTerm RawUnion → Type 0
+  IsComparisonLayerRight x = RightTest named numbers body (comparison_judged_layer named numbers x) (comparison_made_layer named numbers x) (comparison_uses_layer named numbers x)
+
+  pub comparison_rolls : (x : RawCmp-F RawExpr RawPrimary RawRef RawCand RawCmp RawCond RawDiffer RawMask RawPrim RawSum RawTerm RawUnion) → IsComparisonLayerRight x → IsComparisonRight (roll-RawCmp x)
+  comparison_rolls x h =
+      test_at (fold-roll-RawCmp Judged Judged Judged Judged Judged Judged Judged Judged Judged Judged Judged Judged (judged.expression_step named) (judged.primary_step named) (judged.reference_step named) (judged.conjunction_step named) (judged.comparison_step named) (judged.condition_step named) (judged.differ_step named) (judged.mask_step named) (judged.prim_step named) (judged.sum_step named) (judged.term_step named) (judged.union_step named) x)
+      (fold-roll-RawCmp Made Made Placed Cond Cond Cond Made Made Made Made Made Made (made.expression_step named numbers) (made.primary_step named numbers) (made.reference_step named numbers) (made.conjunction_step named numbers) (made.comparison_step named numbers) (made.condition_step named numbers) (made.differ_step named numbers) (made.mask_step named numbers) (made.prim_step named numbers) (made.sum_step named numbers) (made.term_step named numbers) (made.union_step named numbers) x)
+      (fold-roll-RawCmp Uses Uses Uses Uses Uses Uses Uses Uses Uses Uses Uses Uses uses.expression_step uses.primary_step uses.reference_step uses.conjunction_step uses.comparison_step uses.condition_step uses.differ_step uses.mask_step uses.prim_step uses.sum_step uses.term_step uses.union_step x) h
+
+  abbrev pub IsConditionRight : RawCond → Type 0
+  IsConditionRight x = RightTest named numbers body (judged.condition named x) (made.condition_made named numbers x) (uses.condition_uses x)
+
+  abbrev pub IsConditionLayerRight : RawCond-F RawExpr RawPrimary RawRef RawCand RawCmp RawCond RawDiffer RawMask RawPrim RawSum RawTerm RawUnion → Type 0
+  IsConditionLayerRight x = RightTest named numbers body (condition_judged_layer named numbers x) (condition_made_layer named numbers x) (condition_uses_layer named numbers x)
+
+  pub condition_rolls : (x : RawCond-F RawExpr RawPrimary RawRef RawCand RawCmp RawCond RawDiffer RawMask RawPrim RawSum RawTerm RawUnion) → IsConditionLayerRight x → IsConditionRight (roll-RawCond x)
+  condition_rolls x h =
+      test_at (fold-roll-RawCond Judged Judged Judged Judged Judged Judged Judged Judged Judged Judged Judged Judged (judged.expression_step named) (judged.primary_step named) (judged.reference_step named) (judged.conjunction_step named) (judged.comparison_step named) (judged.condition_step named) (judged.differ_step named) (judged.mask_step named) (judged.prim_step named) (judged.sum_step named) (judged.term_step named) (judged.union_step named) x)
+      (fold-roll-RawCond Made Made Placed Cond Cond Cond Made Made Made Made Made Made (made.expression_step named numbers) (made.primary_step named numbers) (made.reference_step named numbers) (made.conjunction_step named numbers) (made.comparison_step named numbers) (made.condition_step named numbers) (made.differ_step named numbers) (made.mask_step named numbers) (made.prim_step named numbers) (made.sum_step named numbers) (made.term_step named numbers) (made.union_step named numbers) x)
+      (fold-roll-RawCond Uses Uses Uses Uses Uses Uses Uses Uses Uses Uses Uses Uses uses.expression_step uses.primary_step uses.reference_step uses.conjunction_step uses.comparison_step uses.condition_step uses.differ_step uses.mask_step uses.prim_step uses.sum_step uses.term_step uses.union_step x) h
+
+  abbrev pub IsDifferRight : RawDiffer → Type 0
+  IsDifferRight x = Right named numbers body (judged.differ named x) (made.differ_made named numbers x) (uses.differ_uses x)
+
+  abbrev pub IsDifferLayerRight : RawDiffer-F RawExpr RawPrimary RawRef RawCand RawCmp RawCond RawDiffer RawMask RawPrim RawSum RawTerm RawUnion → Type 0
+  IsDifferLayerRight x = Right named numbers body (differ_judged_layer named numbers x) (differ_made_layer named numbers x) (differ_uses_layer named numbers x)
+
+  pub differ_rolls : (x : RawDiffer-F RawExpr RawPrimary RawRef RawCand RawCmp RawCond RawDiffer RawMask RawPrim RawSum RawTerm RawUnion) → IsDifferLayerRight x → IsDifferRight (roll-RawDiffer x)
+  differ_rolls x h =
+      right_at (fold-roll-RawDiffer Judged Judged Judged Judged Judged Judged Judged Judged Judged Judged Judged Judged (judged.expression_step named) (judged.primary_step named) (judged.reference_step named) (judged.conjunction_step named) (judged.comparison_step named) (judged.condition_step named) (judged.differ_step named) (judged.mask_step named) (judged.prim_step named) (judged.sum_step named) (judged.term_step named) (judged.union_step named) x)
+      (fold-roll-RawDiffer Made Made Placed Cond Cond Cond Made Made Made Made Made Made (made.expression_step named numbers) (made.primary_step named numbers) (made.reference_step named numbers) (made.conjunction_step named numbers) (made.comparison_step named numbers) (made.condition_step named numbers) (made.differ_step named numbers) (made.mask_step named numbers) (made.prim_step named numbers) (made.sum_step named numbers) (made.term_step named numbers) (made.union_step named numbers) x)
+      (fold-roll-RawDiffer Uses Uses Uses Uses Uses Uses Uses Uses Uses Uses Uses Uses uses.expression_step uses.primary_step uses.reference_step uses.conjunction_step uses.comparison_step uses.condition_step uses.differ_step uses.mask_step uses.prim_step uses.sum_step uses.term_step uses.union_step x) h
+
+  abbrev pub IsMaskRight : RawMask → Type 0
+  IsMaskRight x = Right named numbers body (judged.mask named x) (made.mask_made named numbers x) (uses.mask_uses x)
+
+  abbrev pub IsMaskLayerRight : RawMask-F RawExpr RawPrimary RawRef RawCand RawCmp RawCond RawDiffer RawMask RawPrim RawSum RawTerm RawUnion → Type 0
+  IsMaskLayerRight x = Right named numbers body (mask_judged_layer named numbers x) (mask_made_layer named numbers x) (mask_uses_layer named numbers x)
+
+  pub mask_rolls : (x : RawMask-F RawExpr RawPrimary RawRef RawCand RawCmp RawCond RawDiffer RawMask RawPrim RawSum RawTerm RawUnion) → IsMaskLayerRight x → IsMaskRight (roll-RawMask x)
+  mask_rolls x h =
+      right_at (fold-roll-RawMask Judged Judged Judged Judged Judged Judged Judged Judged Judged Judged Judged Judged (judged.expression_step named) (judged.primary_step named) (judged.reference_step named) (judged.conjunction_step named) (judged.comparison_step named) (judged.condition_step named) (judged.differ_step named) (judged.mask_step named) (judged.prim_step named) (judged.sum_step named) (judged.term_step named) (judged.union_step named) x)
+      (fold-roll-RawMask Made Made Placed Cond Cond Cond Made Made Made Made Made Made (made.expression_step named numbers) (made.primary_step named numbers) (made.reference_step named numbers) (made.conjunction_step named numbers) (made.comparison_step named numbers) (made.condition_step named numbers) (made.differ_step named numbers) (made.mask_step named numbers) (made.prim_step named numbers) (made.sum_step named numbers) (made.term_step named numbers) (made.union_step named numbers) x)
+      (fold-roll-RawMask Uses Uses Uses Uses Uses Uses Uses Uses Uses Uses Uses Uses uses.expression_step uses.primary_step uses.reference_step uses.conjunction_step uses.comparison_step uses.condition_step uses.differ_step uses.mask_step uses.prim_step uses.sum_step uses.term_step uses.union_step x) h
+
+  abbrev pub IsPrimRight : RawPrim → Type 0
+  IsPrimRight x = Right named numbers body (judged.prim named x) (made.prim_made named numbers x) (uses.prim_uses x)
+
+  abbrev pub IsPrimLayerRight : RawPrim-F RawExpr RawPrimary RawRef RawCand RawCmp RawCond RawDiffer RawMask RawPrim RawSum RawTerm RawUnion → Type 0
+  IsPrimLayerRight x = Right named numbers body (prim_judged_layer named numbers x) (prim_made_layer named numbers x) (prim_uses_layer named numbers x)
+
+  pub prim_rolls : (x : RawPrim-F RawExpr RawPrimary RawRef RawCand RawCmp RawCond RawDiffer RawMask RawPrim RawSum RawTerm RawUnion) → IsPrimLayerRight x → IsPrimRight (roll-RawPrim x)
+  prim_rolls x h =
+      right_at (fold-roll-RawPrim Judged Judged Judged Judged Judged Judged Judged Judged Judged Judged Judged Judged (judged.expression_step named) (judged.primary_step named) (judged.reference_step named) (judged.conjunction_step named) (judged.comparison_step named) (judged.condition_step named) (judged.differ_step named) (judged.mask_step named) (judged.prim_step named) (judged.sum_step named) (judged.term_step named) (judged.union_step named) x)
+      (fold-roll-RawPrim Made Made Placed Cond Cond Cond Made Made Made Made Made Made (made.expression_step named numbers) (made.primary_step named numbers) (made.reference_step named numbers) (made.conjunction_step named numbers) (made.comparison_step named numbers) (made.condition_step named numbers) (made.differ_step named numbers) (made.mask_step named numbers) (made.prim_step named numbers) (made.sum_step named numbers) (made.term_step named numbers) (made.union_step named numbers) x)
+      (fold-roll-RawPrim Uses Uses Uses Uses Uses Uses Uses Uses Uses Uses Uses Uses uses.expression_step uses.primary_step uses.reference_step uses.conjunction_step uses.comparison_step uses.condition_step uses.differ_step uses.mask_step uses.prim_step uses.sum_step uses.term_step uses.union_step x) h
+
+  abbrev pub IsSumRight : RawSum → Type 0
+  IsSumRight x = Right named numbers body (judged.sum named x) (made.sum_made named numbers x) (uses.sum_uses x)
+
+  abbrev pub IsSumLayerRight : RawSum-F RawExpr RawPrimary RawRef RawCand RawCmp RawCond RawDiffer RawMask RawPrim RawSum RawTerm RawUnion → Type 0
+  IsSumLayerRight x = Right named numbers body (sum_judged_layer named numbers x) (sum_made_layer named numbers x) (sum_uses_layer named numbers x)
+
+  pub sum_rolls : (x : RawSum-F RawExpr RawPrimary RawRef RawCand RawCmp RawCond RawDiffer RawMask RawPrim RawSum RawTerm RawUnion) → IsSumLayerRight x → IsSumRight (roll-RawSum x)
+  sum_rolls x h =
+      right_at (fold-roll-RawSum Judged Judged Judged Judged Judged Judged Judged Judged Judged Judged Judged Judged (judged.expression_step named) (judged.primary_step named) (judged.reference_step named) (judged.conjunction_step named) (judged.comparison_step named) (judged.condition_step named) (judged.differ_step named) (judged.mask_step named) (judged.prim_step named) (judged.sum_step named) (judged.term_step named) (judged.union_step named) x)
+      (fold-roll-RawSum Made Made Placed Cond Cond Cond Made Made Made Made Made Made (made.expression_step named numbers) (made.primary_step named numbers) (made.reference_step named numbers) (made.conjunction_step named numbers) (made.comparison_step named numbers) (made.condition_step named numbers) (made.differ_step named numbers) (made.mask_step named numbers) (made.prim_step named numbers) (made.sum_step named numbers) (made.term_step named numbers) (made.union_step named numbers) x)
+      (fold-roll-RawSum Uses Uses Uses Uses Uses Uses Uses Uses Uses Uses Uses Uses uses.expression_step uses.primary_step uses.reference_step uses.conjunction_step uses.comparison_step uses.condition_step uses.differ_step uses.mask_step uses.prim_step uses.sum_step uses.term_step uses.union_step x) h
+
+  abbrev pub IsTermRight : RawTerm → Type 0
+  IsTermRight x = Right named numbers body (judged.term named x) (made.term_made named numbers x) (uses.term_uses x)
+
+  abbrev pub IsTermLayerRight : RawTerm-F RawExpr RawPrimary RawRef RawCand RawCmp RawCond RawDiffer RawMask RawPrim RawSum RawTerm RawUnion → Type 0
+  IsTermLayerRight x = Right named numbers body (term_judged_layer named numbers x) (term_made_layer named numbers x) (term_uses_layer named numbers x)
+
+  pub term_rolls : (x : RawTerm-F RawExpr RawPrimary RawRef RawCand RawCmp RawCond RawDiffer RawMask RawPrim RawSum RawTerm RawUnion) → IsTermLayerRight x → IsTermRight (roll-RawTerm x)
+  term_rolls x h =
+      right_at (fold-roll-RawTerm Judged Judged Judged Judged Judged Judged Judged Judged Judged Judged Judged Judged (judged.expression_step named) (judged.primary_step named) (judged.reference_step named) (judged.conjunction_step named) (judged.comparison_step named) (judged.condition_step named) (judged.differ_step named) (judged.mask_step named) (judged.prim_step named) (judged.sum_step named) (judged.term_step named) (judged.union_step named) x)
+      (fold-roll-RawTerm Made Made Placed Cond Cond Cond Made Made Made Made Made Made (made.expression_step named numbers) (made.primary_step named numbers) (made.reference_step named numbers) (made.conjunction_step named numbers) (made.comparison_step named numbers) (made.condition_step named numbers) (made.differ_step named numbers) (made.mask_step named numbers) (made.prim_step named numbers) (made.sum_step named numbers) (made.term_step named numbers) (made.union_step named numbers) x)
+      (fold-roll-RawTerm Uses Uses Uses Uses Uses Uses Uses Uses Uses Uses Uses Uses uses.expression_step uses.primary_step uses.reference_step uses.conjunction_step uses.comparison_step uses.condition_step uses.differ_step uses.mask_step uses.prim_step uses.sum_step uses.term_step uses.union_step x) h
+
+  abbrev pub IsUnionRight : RawUnion → Type 0
+  IsUnionRight x = Right named numbers body (judged.union named x) (made.union_made named numbers x) (uses.union_uses x)
+
+  abbrev pub IsUnionLayerRight : RawUnion-F RawExpr RawPrimary RawRef RawCand RawCmp RawCond RawDiffer RawMask RawPrim RawSum RawTerm RawUnion → Type 0
+  IsUnionLayerRight x = Right named numbers body (union_judged_layer named numbers x) (union_made_layer named numbers x) (union_uses_layer named numbers x)
+
+  pub union_rolls : (x : RawUnion-F RawExpr RawPrimary RawRef RawCand RawCmp RawCond RawDiffer RawMask RawPrim RawSum RawTerm RawUnion) → IsUnionLayerRight x → IsUnionRight (roll-RawUnion x)
+  union_rolls x h =
+      right_at (fold-roll-RawUnion Judged Judged Judged Judged Judged Judged Judged Judged Judged Judged Judged Judged (judged.expression_step named) (judged.primary_step named) (judged.reference_step named) (judged.conjunction_step named) (judged.comparison_step named) (judged.condition_step named) (judged.differ_step named) (judged.mask_step named) (judged.prim_step named) (judged.sum_step named) (judged.term_step named) (judged.union_step named) x)
+      (fold-roll-RawUnion Made Made Placed Cond Cond Cond Made Made Made Made Made Made (made.expression_step named numbers) (made.primary_step named numbers) (made.reference_step named numbers) (made.conjunction_step named numbers) (made.comparison_step named numbers) (made.condition_step named numbers) (made.differ_step named numbers) (made.mask_step named numbers) (made.prim_step named numbers) (made.sum_step named numbers) (made.term_step named numbers) (made.union_step named numbers) x)
+      (fold-roll-RawUnion Uses Uses Uses Uses Uses Uses Uses Uses Uses Uses Uses Uses uses.expression_step uses.primary_step uses.reference_step uses.conjunction_step uses.comparison_step uses.condition_step uses.differ_step uses.mask_step uses.prim_step uses.sum_step uses.term_step uses.union_step x) h

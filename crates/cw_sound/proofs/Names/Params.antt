@@ -1,0 +1,187 @@
+-- The control parameters of a procedure, beside their declarations.
+use Rattle.std.proofs.Common.{◌≡◌, ◌⊎◌, inl, inr, ℕ, List, [], ◌∷◌, ◌++◌, map, length, true, false, cond, Option, Some, None, refl, sym, ap, ap₂, subst, subst₂, ◌∙◌, append-nil}
+use Rattle.cw_table.specs.declared.table.Row.{Row}
+use Rattle.cw_tree.specs.declared.leaf.RawName.{RawName}
+use Rattle.cw_tree.specs.declared.leaf.RawType.{RawType}
+use Rattle.cw_tree.specs.declared.leaf.Position.{Position}
+use Rattle.cw_tree.specs.declared.items.RawElem.{RawElem}
+use Rattle.cw_tree.specs.declared.items.RawTable.{RawTable}
+use Rattle.cw_tree.specs.declared.segment.RawIps.{RawIps}
+use Rattle.cw_tree.specs.declared.segment.RawIps.TheVariants as inner
+use Rattle.cw_tree.specs.declared.segment.RawPs.{RawPs}
+use Rattle.cw_tree.specs.declared.segment.RawPs.TheVariants as ps
+use Rattle.cw_tree.specs.declared.statement.RawParam.{RawParam}
+use Rattle.cw_tree.specs.declared.statement.RawParam.TheVariants as raw
+use Rattle.cw_facts.specs.declared.fact.Fact.{Fact}
+use Rattle.cw_facts.specs.declared.fact.Declaration.{Declaration}
+use Rattle.cw_facts.specs.declared.fact.Kind.{Kind as NameKind}
+use Rattle.cw_facts.specs.declared.fact.Kind.TheVariants as kind
+use Rattle.cw_facts.specs.declared.fact.Signature.{Signature}
+use Rattle.cw_facts.specs.Facts.{declares, specifies, each_declares, element_name, elements_facts, table_facts, procedure_parameter_facts, parameter_facts, parameters_facts}
+use Rattle.cw_facts.specs.Signatures.{plain, same_for, flat, flattened}
+use Rattle.cw_scope.specs.Resolved.{text_signatures}
+use Rattle.cw_make_items.specs.Lookup.{Numbers, item_here, control_here}
+use Rattle.cw_make_items.specs.Types.{each_plain_taken, plain_taken, plain_spec}
+use Rattle.cw_make.specs.Procedures.{param_of, each_param, params_in, params_of}
+use Rattle.cw_safety.specs.Kinds.{Kind, WordKind, LabelKind, SwitchKind, ProcedureKind, Taken, taken_by, kind_of_param, control_kinds}
+use Rattle.cw_sound.specs.Uses.Stands.{kind_of_plain, taken_by_plain, kind_specified}
+use Rattle.cw_sound.specs.Uses.Mentions.{In, Mention, Here, here, declares as declared, uses, stores, facts_mentions}
+use Rattle.cw_sound.specs.Names.Standing.{is_control}
+use Rattle.cw_sound.proofs.Names.Lists.{Sub, sub_left, sub_right}
+use Rattle.cw_sound.proofs.Names.Rows.{mentions_append}
+use Rattle.cw_sound.proofs.Names.Picking.{pick, pick_append, Zip, zip_both}
+use Rattle.cw_sound.proofs.Names.Sorts.{of_kind}
+use Rattle.cw_sound.proofs.Names.MentionsOf.{declared_first, specified_first, declared_before, specified_before, signatures_append}
+
+-- ---- what a procedure's parameters take is what they are specified to take
+
+taken_plain : (p : RawIps) → taken_by (plain_taken p) ≡ taken_by_plain p
+unfolding Rattle.cw_unit.specs.declared.descriptor.SpecParam.TheViews.out-SpecParam denote.Hole.Carrier.out
+taken_plain (inner.Value at t) = refl
+taken_plain (inner.Location at t) = refl
+taken_plain (inner.Array t) = refl
+taken_plain (inner.Table at s) = refl
+taken_plain (inner.Label at) = refl
+taken_plain (inner.Switch at) = refl
+
+pub all_taken_plain : (ps : List RawIps) → map taken_by (each_plain_taken ps) ≡ map taken_by_plain ps
+all_taken_plain [] = refl
+all_taken_plain (p ∷ ps) = ap₂ (λ t ts. t ∷ ts) (taken_plain p) (all_taken_plain ps)
+
+map_append : {A B : Type 0} (f : A → B) (xs ys : List A) → map f (xs ++ ys) ≡ map f xs ++ map f ys
+map_append f [] ys = refl
+map_append f (x ∷ xs) ys = ap (λ zs. f x ∷ zs) (map_append f xs ys)
+
+module _ (numbers : Numbers) where
+  value_kinds : (at : Position) (t : RawType) (all ns : List RawName) → map kind_of_param (each_param numbers (raw.Value at t all) ns) ≡ map kind_specified (same_for (inner.Value at t) ns)
+  value_kinds at t all [] = refl
+  value_kinds at t all (n ∷ ns) = ap (λ ks. WordKind ∷ ks) (value_kinds at t all ns)
+
+  location_kinds : (at : Position) (t : RawType) (all ns : List RawName) → map kind_of_param (each_param numbers (raw.Location at t all) ns) ≡ map kind_specified (same_for (inner.Location at t) ns)
+  location_kinds at t all [] = refl
+  location_kinds at t all (n ∷ ns) = ap (λ ks. WordKind ∷ ks) (location_kinds at t all ns)
+
+  array_kinds : (t : RawType) (all ns : List RawName) → map kind_of_param (each_param numbers (raw.Array t all) ns) ≡ map kind_specified (same_for (inner.Array t) ns)
+  array_kinds t all [] = refl
+  array_kinds t all (n ∷ ns) = ap (λ ks. WordKind ∷ ks) (array_kinds t all ns)
+
+  label_kinds : (at : Position) (all ns : List RawName) → map kind_of_param (each_param numbers (raw.Label at all) ns) ≡ map kind_specified (same_for (inner.Label at) ns)
+  label_kinds at all [] = refl
+  label_kinds at all (n ∷ ns) = ap (λ ks. LabelKind ∷ ks) (label_kinds at all ns)
+
+  switch_kinds : (at : Position) (all ns : List RawName) → map kind_of_param (each_param numbers (raw.Switch at all) ns) ≡ map kind_specified (same_for (inner.Switch at) ns)
+  switch_kinds at all [] = refl
+  switch_kinds at all (n ∷ ns) = ap (λ ks. SwitchKind ∷ ks) (switch_kinds at all ns)
+
+  one_kinds : (p : RawParam) → map kind_of_param (params_in numbers p) ≡ map kind_specified (flat p)
+  one_kinds (raw.Value at t ns) = value_kinds at t ns ns
+  one_kinds (raw.Location at t ns) = location_kinds at t ns ns
+  one_kinds (raw.Array t ns) = array_kinds t ns ns
+  one_kinds (raw.Table t) = refl
+  one_kinds (raw.Label at ns) = label_kinds at ns ns
+  one_kinds (raw.Switch at ns) = switch_kinds at ns ns
+  one_kinds (raw.Proc answer at n ps) = ap (λ ts. ProcedureKind ts ∷ []) (all_taken_plain ps)
+
+  pub kinds_as_specified : (params : List RawParam) → map kind_of_param (params_of numbers params) ≡ map kind_specified (flattened params)
+  kinds_as_specified [] = refl
+  kinds_as_specified (p ∷ more) =
+      map_append kind_of_param (params_in numbers p) (params_of numbers more) ∙ ap₂ (λ a b. a ++ b) (one_kinds p) (kinds_as_specified more)
+      ∙ sym (map_append kind_specified (flat p) (flattened more))
+
+  -- ---- control parameters
+
+  control_append : (xs ys : List Kind) → control_kinds (xs ++ ys) ≡ control_kinds xs ++ control_kinds ys
+  control_append [] ys = refl
+  control_append (WordKind ∷ xs) ys = control_append xs ys
+  control_append (LabelKind ∷ xs) ys = ap (λ ks. LabelKind ∷ ks) (control_append xs ys)
+  control_append (SwitchKind ∷ xs) ys = ap (λ ks. SwitchKind ∷ ks) (control_append xs ys)
+  control_append (ProcedureKind ts ∷ xs) ys = ap (λ ks. ProcedureKind ts ∷ ks) (control_append xs ys)
+
+  values_none : (at : Position) (t : RawType) (all ns : List RawName) → control_kinds (map kind_of_param (each_param numbers (raw.Value at t all) ns)) ≡ []
+  values_none at t all [] = refl
+  values_none at t all (n ∷ ns) = values_none at t all ns
+
+  locations_none : (at : Position) (t : RawType) (all ns : List RawName) → control_kinds (map kind_of_param (each_param numbers (raw.Location at t all) ns)) ≡ []
+  locations_none at t all [] = refl
+  locations_none at t all (n ∷ ns) = locations_none at t all ns
+
+  arrays_none : (t : RawType) (all ns : List RawName) → control_kinds (map kind_of_param (each_param numbers (raw.Array t all) ns)) ≡ []
+  arrays_none t all [] = refl
+  arrays_none t all (n ∷ ns) = arrays_none t all ns
+
+  abbrev pub controls : List Here → List Here
+  controls = pick (of_kind is_control)
+
+  no_control : (k : NameKind) (n : RawName) (fs : List Fact) (q : Option ℕ) → is_control k ≡ false → controls (facts_mentions numbers fs q) ≡ [] → controls (facts_mentions numbers (declares n k ∷ fs) q) ≡ []
+  no_control k n fs q e h =
+      ap controls (declared_first numbers n k fs q)
+      ∙ ap (λ b. cond b (here q (declared (record { name = n; kind = k })) ∷ controls (facts_mentions numbers fs q)) (controls (facts_mentions numbers fs q))) e ∙ h
+
+  no_controls : (k : NameKind) (ns : List RawName) (q : Option ℕ) → is_control k ≡ false → controls (facts_mentions numbers (each_declares k ns) q) ≡ []
+  no_controls k [] q e = refl
+  no_controls k (n ∷ ns) q e = no_control k n (each_declares k ns) q e (no_controls k ns q e)
+
+  no_elements : (table : RawName) (es : List RawElem) (q : Option ℕ) → controls (facts_mentions numbers (elements_facts table es) q) ≡ []
+  no_elements table [] q = refl
+  no_elements table (e ∷ es) q = no_control (kind.Element table e) (element_name e) (elements_facts table es) q refl (no_elements table es q)
+
+  module _ (sigs : List (Row Signature)) where
+    abbrev pub ControlOfKind : NameKind → (token : ℕ) → Kind → Type 0
+    ControlOfKind kind.LabelParam t k = k ≡ LabelKind
+    ControlOfKind kind.SwitchParam t k = k ≡ SwitchKind
+    ControlOfKind (kind.ProcParam answer) t k = (params : List RawIps) × (k ≡ ProcedureKind (map taken_by_plain params)) × In (record { token = t; item = record { answer = answer; params = plain params } }) sigs
+    ControlOfKind _ t k = ⊥
+
+    abbrev pub ControlOfMention : Mention → Kind → Type 0
+    ControlOfMention (declared d) k = ControlOfKind d.kind d.name.at.token k
+    ControlOfMention (uses x) k = ⊥
+    ControlOfMention (stores token n) k = ⊥
+
+    abbrev pub ControlOf : Here → Kind → Type 0
+    ControlOf m k = ControlOfMention m.mention k
+
+    abbrev pub HasControls : List Here → List Kind → Type 0
+    HasControls ms ks = Zip ControlOf (controls ms) (control_kinds ks)
+
+    labels_named : (at : Position) (all ns : List RawName) (q : Option ℕ) → HasControls (facts_mentions numbers (each_declares kind.LabelParam ns) q) (map kind_of_param (each_param numbers (raw.Label at all) ns))
+    labels_named at all [] q = tt
+    labels_named at all (n ∷ ns) q =
+        subst (λ ms. HasControls ms (LabelKind ∷ map kind_of_param (each_param numbers (raw.Label at all) ns))) (sym (declared_first numbers n kind.LabelParam (each_declares kind.LabelParam ns) q))
+        (refl, labels_named at all ns q)
+
+    switches_named : (at : Position) (all ns : List RawName) (q : Option ℕ) → HasControls (facts_mentions numbers (each_declares kind.SwitchParam ns) q) (map kind_of_param (each_param numbers (raw.Switch at all) ns))
+    switches_named at all [] q = tt
+    switches_named at all (n ∷ ns) q =
+        subst (λ ms. HasControls ms (SwitchKind ∷ map kind_of_param (each_param numbers (raw.Switch at all) ns))) (sym (declared_first numbers n kind.SwitchParam (each_declares kind.SwitchParam ns) q))
+        (refl, switches_named at all ns q)
+
+    none_here : (ms : List Here) (ks : List Kind) → controls ms ≡ [] → control_kinds ks ≡ [] → HasControls ms ks
+    none_here ms ks e f = subst₂ (Zip ControlOf) (sym e) (sym f) tt
+
+    one_controls : (p : RawParam) (q : Option ℕ) → Sub (text_signatures (parameter_facts p)) sigs → HasControls (facts_mentions numbers (parameter_facts p) q) (map kind_of_param (params_in numbers p))
+    one_controls (raw.Value at t ns) q sub = none_here (facts_mentions numbers (each_declares (kind.Value t) ns) q) (map kind_of_param (each_param numbers (raw.Value at t ns) ns)) (no_controls (kind.Value t) ns q refl) (values_none at t ns ns)
+    one_controls (raw.Location at t ns) q sub = none_here (facts_mentions numbers (each_declares (kind.Location t) ns) q) (map kind_of_param (each_param numbers (raw.Location at t ns) ns)) (no_controls (kind.Location t) ns q refl) (locations_none at t ns ns)
+    one_controls (raw.Array t ns) q sub = none_here (facts_mentions numbers (each_declares (kind.ArrayParam t) ns) q) (map kind_of_param (each_param numbers (raw.Array t ns) ns)) (no_controls (kind.ArrayParam t) ns q refl) (arrays_none t ns ns)
+    one_controls (raw.Table t) q sub =
+        none_here (facts_mentions numbers (table_facts (kind.TableParam t.size) t) q) (map kind_of_param (params_in numbers (raw.Table t)))
+        (no_control (kind.TableParam t.size) t.name (elements_facts t.name t.elems) q refl (no_elements t.name t.elems q)) refl
+    one_controls (raw.Label at ns) q sub = labels_named at ns ns q
+    one_controls (raw.Switch at ns) q sub = switches_named at ns ns q
+    one_controls (raw.Proc answer at n params) q sub =
+        let same = declared_first numbers n (kind.ProcParam answer) (specifies n.at.token answer (plain params) ∷ []) q
+        ∙ ap (λ ms. here q (declared (record { name = n; kind = kind.ProcParam answer })) ∷ ms) (specified_first numbers n.at.token answer (plain params) [] q) in
+        let row = subst (In (record { token = n.at.token; item = record { answer = answer; params = plain params } }))
+        (sym (declared_before n (kind.ProcParam answer) (specifies n.at.token answer (plain params) ∷ []) ∙ specified_before n.at.token answer (plain params) [])) (inl refl) in
+        subst (λ ms. HasControls ms (map kind_of_param (params_in numbers (raw.Proc answer at n params)))) (sym same)
+        ((params, ap ProcedureKind (all_taken_plain params), sub (record { token = n.at.token; item = record { answer = answer; params = plain params } }) row), tt)
+
+    pub all_controls : (params : List RawParam) (q : Option ℕ) → Sub (text_signatures (parameters_facts params)) sigs → HasControls (facts_mentions numbers (parameters_facts params) q) (map kind_of_param (params_of numbers params))
+    all_controls [] q sub = tt
+    all_controls (p ∷ more) q sub =
+        let parts = subst (λ rs. Sub rs sigs) (signatures_append (parameter_facts p) (parameters_facts more)) sub in
+        subst₂ (Zip ControlOf)
+        (sym (ap controls (mentions_append numbers (parameter_facts p) (parameters_facts more) q) ∙ pick_append (of_kind is_control) (facts_mentions numbers (parameter_facts p) q) (facts_mentions numbers (parameters_facts more) q)))
+        (sym (ap control_kinds (map_append kind_of_param (params_in numbers p) (params_of numbers more)) ∙ control_append (map kind_of_param (params_in numbers p)) (map kind_of_param (params_of numbers more))))
+        (zip_both ControlOf (controls (facts_mentions numbers (parameter_facts p) q)) (controls (facts_mentions numbers (parameters_facts more) q)) (control_kinds (map kind_of_param (params_in numbers p))) (control_kinds (map kind_of_param (params_of numbers more)))
+        (one_controls p q (sub_left (text_signatures (parameter_facts p)) (text_signatures (parameters_facts more)) sigs parts))
+        (all_controls more q (sub_right (text_signatures (parameter_facts p)) (text_signatures (parameters_facts more)) sigs parts)))

@@ -1,0 +1,359 @@
+-- Each tree of a block is made of parts that matter to names.
+use Rattle.std.proofs.Common.{◌≡◌, ◌⊎◌, inl, inr, ℕ, suc, arith, List, [], ◌∷◌, ◌++◌, map, length, Bool, true, false, not, cond, if◌then◌else◌, IsTrue, ◌||◌, ◌==◌, nat_eq, Option, Some, None, refl, sym, ap, ap₂, subst, ◌∙◌}
+use Rattle.std.proofs.lemmas.Bool.Decides.{nat_tests}
+use Rattle.cw_table.specs.Rows.{item_at}
+use Rattle.cw_tree.specs.declared.leaf.RawName.{RawName}
+use Rattle.cw_tree.specs.declared.items.RawBase.{RawBase}
+use Rattle.cw_tree.specs.declared.expression.RawExpr.{RawExpr}
+use Rattle.cw_tree.specs.declared.expression.RawRef.{RawRef}
+use Rattle.cw_tree.specs.declared.expression.RawCond.{RawCond}
+use Rattle.cw_tree.specs.declared.statement.RawFelem.{RawFelem}
+use Rattle.cw_tree.specs.declared.statement.RawFelem.TheVariants as felem
+use Rattle.cw_tree.specs.declared.statement.RawDecl.{RawDecl, RawDecl-F, roll-RawDecl, map-RawDecl, fold-RawDecl}
+use Rattle.cw_tree.specs.declared.statement.RawForm.{RawForm, roll-RawForm, map-RawForm}
+use Rattle.cw_tree.specs.declared.statement.RawSimple.{RawSimple, roll-RawSimple, map-RawSimple}
+use Rattle.cw_tree.specs.declared.statement.RawBlock.{RawBlock, roll-RawBlock, map-RawBlock}
+use Rattle.cw_tree.specs.declared.statement.RawProc.{RawProc, roll-RawProc, out-RawProc, map-RawProc, fold-RawProc}
+use Rattle.cw_tree.specs.declared.statement.RawStmt.{RawStmt, roll-RawStmt, map-RawStmt}
+use Rattle.cw_tree.specs.declared.statement.RawDecl.TheOpen as layer
+use Rattle.cw_tree.specs.declared.statement.RawDecl.TheOpen.{RawForm-F, RawSimple-F, RawBlock-F, RawProc-F, RawStmt-F}
+use Rattle.cw_tree.specs.declared.statement.RawDecl.TheViews.{roll-out-RawProc, out-roll-RawProc}
+use Rattle.cw_tree.specs.declared.statement.RawDecl.TheFolds.{fold-roll-RawDecl, fold-roll-RawForm, fold-roll-RawSimple, fold-roll-RawBlock, fold-roll-RawProc, fold-roll-RawStmt, para-roll-RawDecl, para-roll-RawForm, para-roll-RawSimple, para-roll-RawBlock, para-roll-RawProc, para-roll-RawStmt, ind-RawBlock}
+use Rattle.cw_facts.specs.declared.fact.Fact.{Fact}
+use Rattle.cw_facts.specs.declared.fact.Fact.TheVariants as fact
+use Rattle.cw_facts.specs.declared.fact.Form.TheVariants as use_form
+use Rattle.cw_facts.specs.declared.fact.Kind.TheVariants as kind
+use Rattle.cw_facts.specs.declared.fact.Reading.TheVariants as reading
+use Rattle.cw_facts.specs.Uses.{expression_uses, condition_uses, reference_uses, argument_uses, uses_of}
+use Rattle.cw_facts.specs.Facts as said
+use Rattle.cw_facts.specs.Facts.{BlockFacts, declares, each_declares, each_uses, data_facts, base_facts, base_name, felem_facts, felems_facts, enclosed, answer_name, declaration_facts, form_facts, simple_facts, block_facts, procedure_facts, statement_facts}
+use Rattle.cw_scope.specs.declared.resolve.Named.{Named}
+use Rattle.cw_make_items.specs.Lookup.{Numbers, proc_here}
+use Rattle.cw_make_expr.specs.Parts.{label_in, item_here}
+use Rattle.cw_make_expr.specs.Made.{condition_of, reference_of}
+use Rattle.cw_make_stmt.specs.Made as tree
+use Rattle.cw_make_stmt.specs.Made.{labels_of, marked, row, form_of, simple_of, block_of, statement_of}
+use Rattle.cw_make.specs.Switches as switched
+use Rattle.cw_make.specs.Switches.{declaration_switches, form_switches, simple_switches, block_switches, procedure_switches, statement_switches}
+use Rattle.cw_make.specs.Procedures as made
+use Rattle.cw_make.specs.Procedures.{Procs, proc_of, declaration_procs, form_procs, simple_procs, block_procs, procedure_procs, statement_procs}
+use Rattle.cw_unit.specs.declared.unit.Proc.{Proc}
+use Rattle.cw_unit.specs.declared.unit.Cond.{Cond}
+use Rattle.cw_unit.specs.declared.unit.Ref.{Ref}
+use Rattle.cw_unit.specs.declared.unit.Felem.{Felem}
+use Rattle.cw_unit.specs.declared.unit.Stmt.{Stmt, roll-Stmt}
+use Rattle.cw_unit.specs.declared.unit.Stmt.TheFolds.{fold-roll-Stmt}
+use Rattle.cw_unit.specs.declared.unit.Stmt.TheOpen as statement
+use Rattle.cw_unit.specs.LabelContinuation.{has_label}
+use Rattle.cw_safety.specs.WellFormed.{any, sets, sets_step}
+use Rattle.cw_sound.proofs.Names.Parts.{Switches, no_switches, never, Plain, Part, empty, both, plain, items, label, switch, block, procedure, more, procedure_with}
+use Rattle.cw_sound.proofs.Names.PlainFacts.{plain_nothing, plain_both, plain_use, plain_loop}
+use Rattle.cw_sound.proofs.Names.ExpressionUses.{expression_plain, condition_plain, reference_plain, arguments_plain}
+
+-- ---- labels that statements set
+
+or_first : (a b : Bool) → IsTrue a → IsTrue (a || b)
+or_first true b h = refl
+or_first false b h = absurd (cc)
+
+or_second : (a b : Bool) → IsTrue b → IsTrue (a || b)
+or_second true b h = refl
+or_second false b h = h
+
+either : {A : Type 0} → (a b : Bool) → IsTrue (a || b) → (IsTrue a → A) → (IsTrue b → A) → A
+either true b h f g = f refl
+either false b h f g = g h
+
+-- an equality of numbers before others
+label_first : (b c : Bool) → IsTrue (b || c) → IsTrue (if b then true else c)
+label_first true c h = refl
+label_first false c h = h
+
+not_empty : (k : ℕ) → (suc k == 0) ≡ false
+not_empty k = grind (arith, nat_tests)
+
+module _ (numbers : Numbers) where
+  set_behind : (ns : List RawName) (s : Stmt) (l : ℕ) → IsTrue (has_label l (labels_of numbers ns) || sets l s) → IsTrue (sets l (marked numbers ns s))
+  set_behind [] s l h = h
+  set_behind (n ∷ ns) s l h =
+      subst (λ b. IsTrue (sets l (if b then s else tree.mark (labels_of numbers (n ∷ ns)) s))) (sym (not_empty (length ns)))
+      (subst IsTrue (sym (fold-roll-Stmt Bool (sets_step l) (statement.Mark (labels_of numbers (n ∷ ns)) s))) h)
+
+module _ (named : Named) (numbers : Numbers) where
+  abbrev P : List Fact → Switches → List Proc → (ℕ → Bool) → Type 0
+  P = Part named numbers
+
+  like : {fs gs : List Fact} {ws xs : Switches} {ps qs : List Proc} {s t : ℕ → Bool} → gs ≡ fs → xs ≡ ws → qs ≡ ps → ((l : ℕ) → IsTrue (s l) → IsTrue (t l)) → P fs ws ps s → P gs xs qs t
+  like {fs} {gs} {ws} {xs} {ps} {qs} {s} {t} ef ew ep h a = more h (subst (λ f. P f xs qs s) (sym ef) (subst (λ w. P fs w qs s) (sym ew) (subst (λ p. P fs ws p s) (sym ep) a)))
+
+  labels_part : (ns : List RawName) → P (each_declares kind.Label ns) no_switches [] (λ l. has_label l (labels_of numbers ns))
+  labels_part [] = empty
+  labels_part (n ∷ ns) = more (λ l h. label_first (nat_eq l (label_in (item_at numbers n.at.token))) (has_label l (labels_of numbers ns)) h) (both (label n) (labels_part ns))
+
+  -- ---- what is made of each tree
+
+  abbrev DeclPart : RawDecl → Type 0
+  DeclPart d = P (declaration_facts d) (declaration_switches named numbers d) (declaration_procs named numbers d) never
+
+  abbrev FormPart : RawForm → Type 0
+  FormPart f = P (form_facts f) (form_switches named numbers f) (form_procs named numbers f) (λ l. sets l (form_of named numbers f))
+
+  abbrev SimplePart : RawSimple → Type 0
+  SimplePart s = P (simple_facts s) (simple_switches named numbers s) (simple_procs named numbers s) (λ l. sets l (simple_of named numbers s))
+
+  abbrev pub BlockPart : RawBlock → Type 0
+  BlockPart b = (outermost : Bool) → P (block_facts b outermost) (block_switches named numbers b) (block_procs named numbers b) (λ l. sets l (block_of named numbers b))
+
+  abbrev ProcPart : RawProc → Type 0
+  ProcPart p = P (procedure_facts p) (procedure_switches named numbers p) (proc_of named numbers p ∷ procedure_procs named numbers p) never
+
+  abbrev StmtPart : RawStmt → Type 0
+  StmtPart s = P (statement_facts s) (statement_switches named numbers s) (statement_procs named numbers s) (λ l. sets l (statement_of named numbers s))
+
+  -- ---- what each tree comes to, by its layer
+
+  abbrev pub facts_decl : (x : RawDecl-F RawDecl RawForm RawSimple RawBlock RawProc RawStmt) → declaration_facts (roll-RawDecl x) ≡ said.declaration_step (map-RawDecl RawDecl RawForm RawSimple RawBlock RawProc RawStmt (List Fact) (List Fact) (List Fact) BlockFacts (List Fact) (List Fact) declaration_facts form_facts simple_facts block_facts procedure_facts statement_facts x)
+  facts_decl x = fold-roll-RawDecl (List Fact) (List Fact) (List Fact) BlockFacts (List Fact) (List Fact) said.declaration_step said.form_step said.simple_step said.block_step said.procedure_step said.statement_step x
+
+  abbrev pub switches_decl : (x : RawDecl-F RawDecl RawForm RawSimple RawBlock RawProc RawStmt) → declaration_switches named numbers (roll-RawDecl x) ≡ switched.declaration_step named numbers (map-RawDecl RawDecl RawForm RawSimple RawBlock RawProc RawStmt Switches Switches Switches Switches Switches Switches (declaration_switches named numbers) (form_switches named numbers) (simple_switches named numbers) (block_switches named numbers) (procedure_switches named numbers) (statement_switches named numbers) x)
+  switches_decl x = fold-roll-RawDecl Switches Switches Switches Switches Switches Switches (switched.declaration_step named numbers) (switched.form_step named numbers) (switched.simple_step named numbers) (switched.block_step named numbers) (switched.procedure_step named numbers) (switched.statement_step named numbers) x
+
+  abbrev pub facts_form : (x : RawForm-F RawDecl RawForm RawSimple RawBlock RawProc RawStmt) → form_facts (roll-RawForm x) ≡ said.form_step (map-RawForm RawDecl RawForm RawSimple RawBlock RawProc RawStmt (List Fact) (List Fact) (List Fact) BlockFacts (List Fact) (List Fact) declaration_facts form_facts simple_facts block_facts procedure_facts statement_facts x)
+  facts_form x = fold-roll-RawForm (List Fact) (List Fact) (List Fact) BlockFacts (List Fact) (List Fact) said.declaration_step said.form_step said.simple_step said.block_step said.procedure_step said.statement_step x
+
+  abbrev pub switches_form : (x : RawForm-F RawDecl RawForm RawSimple RawBlock RawProc RawStmt) → form_switches named numbers (roll-RawForm x) ≡ switched.form_step named numbers (map-RawForm RawDecl RawForm RawSimple RawBlock RawProc RawStmt Switches Switches Switches Switches Switches Switches (declaration_switches named numbers) (form_switches named numbers) (simple_switches named numbers) (block_switches named numbers) (procedure_switches named numbers) (statement_switches named numbers) x)
+  switches_form x = fold-roll-RawForm Switches Switches Switches Switches Switches Switches (switched.declaration_step named numbers) (switched.form_step named numbers) (switched.simple_step named numbers) (switched.block_step named numbers) (switched.procedure_step named numbers) (switched.statement_step named numbers) x
+
+  abbrev pub facts_simple : (x : RawSimple-F RawDecl RawForm RawSimple RawBlock RawProc RawStmt) → simple_facts (roll-RawSimple x) ≡ said.simple_step (map-RawSimple RawDecl RawForm RawSimple RawBlock RawProc RawStmt (List Fact) (List Fact) (List Fact) BlockFacts (List Fact) (List Fact) declaration_facts form_facts simple_facts block_facts procedure_facts statement_facts x)
+  facts_simple x = fold-roll-RawSimple (List Fact) (List Fact) (List Fact) BlockFacts (List Fact) (List Fact) said.declaration_step said.form_step said.simple_step said.block_step said.procedure_step said.statement_step x
+
+  abbrev pub switches_simple : (x : RawSimple-F RawDecl RawForm RawSimple RawBlock RawProc RawStmt) → simple_switches named numbers (roll-RawSimple x) ≡ switched.simple_step named numbers (map-RawSimple RawDecl RawForm RawSimple RawBlock RawProc RawStmt Switches Switches Switches Switches Switches Switches (declaration_switches named numbers) (form_switches named numbers) (simple_switches named numbers) (block_switches named numbers) (procedure_switches named numbers) (statement_switches named numbers) x)
+  switches_simple x = fold-roll-RawSimple Switches Switches Switches Switches Switches Switches (switched.declaration_step named numbers) (switched.form_step named numbers) (switched.simple_step named numbers) (switched.block_step named numbers) (switched.procedure_step named numbers) (switched.statement_step named numbers) x
+
+  abbrev pub facts_block : (x : RawBlock-F RawDecl RawForm RawSimple RawBlock RawProc RawStmt) → block_facts (roll-RawBlock x) ≡ said.block_step (map-RawBlock RawDecl RawForm RawSimple RawBlock RawProc RawStmt (List Fact) (List Fact) (List Fact) BlockFacts (List Fact) (List Fact) declaration_facts form_facts simple_facts block_facts procedure_facts statement_facts x)
+  facts_block x = fold-roll-RawBlock (List Fact) (List Fact) (List Fact) BlockFacts (List Fact) (List Fact) said.declaration_step said.form_step said.simple_step said.block_step said.procedure_step said.statement_step x
+
+  abbrev pub switches_block : (x : RawBlock-F RawDecl RawForm RawSimple RawBlock RawProc RawStmt) → block_switches named numbers (roll-RawBlock x) ≡ switched.block_step named numbers (map-RawBlock RawDecl RawForm RawSimple RawBlock RawProc RawStmt Switches Switches Switches Switches Switches Switches (declaration_switches named numbers) (form_switches named numbers) (simple_switches named numbers) (block_switches named numbers) (procedure_switches named numbers) (statement_switches named numbers) x)
+  switches_block x = fold-roll-RawBlock Switches Switches Switches Switches Switches Switches (switched.declaration_step named numbers) (switched.form_step named numbers) (switched.simple_step named numbers) (switched.block_step named numbers) (switched.procedure_step named numbers) (switched.statement_step named numbers) x
+
+  abbrev pub facts_proc : (x : RawProc-F RawDecl RawForm RawSimple RawBlock RawProc RawStmt) → procedure_facts (roll-RawProc x) ≡ said.procedure_step (map-RawProc RawDecl RawForm RawSimple RawBlock RawProc RawStmt (List Fact) (List Fact) (List Fact) BlockFacts (List Fact) (List Fact) declaration_facts form_facts simple_facts block_facts procedure_facts statement_facts x)
+  facts_proc x = fold-roll-RawProc (List Fact) (List Fact) (List Fact) BlockFacts (List Fact) (List Fact) said.declaration_step said.form_step said.simple_step said.block_step said.procedure_step said.statement_step x
+
+  abbrev pub switches_proc : (x : RawProc-F RawDecl RawForm RawSimple RawBlock RawProc RawStmt) → procedure_switches named numbers (roll-RawProc x) ≡ switched.procedure_step named numbers (map-RawProc RawDecl RawForm RawSimple RawBlock RawProc RawStmt Switches Switches Switches Switches Switches Switches (declaration_switches named numbers) (form_switches named numbers) (simple_switches named numbers) (block_switches named numbers) (procedure_switches named numbers) (statement_switches named numbers) x)
+  switches_proc x = fold-roll-RawProc Switches Switches Switches Switches Switches Switches (switched.declaration_step named numbers) (switched.form_step named numbers) (switched.simple_step named numbers) (switched.block_step named numbers) (switched.procedure_step named numbers) (switched.statement_step named numbers) x
+
+  abbrev pub facts_stmt : (x : RawStmt-F RawDecl RawForm RawSimple RawBlock RawProc RawStmt) → statement_facts (roll-RawStmt x) ≡ said.statement_step (map-RawStmt RawDecl RawForm RawSimple RawBlock RawProc RawStmt (List Fact) (List Fact) (List Fact) BlockFacts (List Fact) (List Fact) declaration_facts form_facts simple_facts block_facts procedure_facts statement_facts x)
+  facts_stmt x = fold-roll-RawStmt (List Fact) (List Fact) (List Fact) BlockFacts (List Fact) (List Fact) said.declaration_step said.form_step said.simple_step said.block_step said.procedure_step said.statement_step x
+
+  abbrev pub switches_stmt : (x : RawStmt-F RawDecl RawForm RawSimple RawBlock RawProc RawStmt) → statement_switches named numbers (roll-RawStmt x) ≡ switched.statement_step named numbers (map-RawStmt RawDecl RawForm RawSimple RawBlock RawProc RawStmt Switches Switches Switches Switches Switches Switches (declaration_switches named numbers) (form_switches named numbers) (simple_switches named numbers) (block_switches named numbers) (procedure_switches named numbers) (statement_switches named numbers) x)
+  switches_stmt x = fold-roll-RawStmt Switches Switches Switches Switches Switches Switches (switched.declaration_step named numbers) (switched.form_step named numbers) (switched.simple_step named numbers) (switched.block_step named numbers) (switched.procedure_step named numbers) (switched.statement_step named numbers) x
+
+  -- declarations give no statement
+  abbrev pub decl_tree : RawDecl → Stmt
+  decl_tree = fold-RawDecl Stmt Stmt Stmt Stmt Stmt Stmt (tree.declaration_step named numbers) (tree.form_step named numbers) (tree.simple_step named numbers) (tree.block_step named numbers) (tree.procedure_step named numbers) (tree.statement_step named numbers)
+
+  abbrev pub proc_tree : RawProc → Stmt
+  proc_tree = fold-RawProc Stmt Stmt Stmt Stmt Stmt Stmt (tree.declaration_step named numbers) (tree.form_step named numbers) (tree.simple_step named numbers) (tree.block_step named numbers) (tree.procedure_step named numbers) (tree.statement_step named numbers)
+
+  abbrev pub tree_form : (x : RawForm-F RawDecl RawForm RawSimple RawBlock RawProc RawStmt) → form_of named numbers (roll-RawForm x) ≡ tree.form_step named numbers (map-RawForm RawDecl RawForm RawSimple RawBlock RawProc RawStmt Stmt Stmt Stmt Stmt Stmt Stmt decl_tree (form_of named numbers) (simple_of named numbers) (block_of named numbers) proc_tree (statement_of named numbers) x)
+  tree_form x = fold-roll-RawForm Stmt Stmt Stmt Stmt Stmt Stmt (tree.declaration_step named numbers) (tree.form_step named numbers) (tree.simple_step named numbers) (tree.block_step named numbers) (tree.procedure_step named numbers) (tree.statement_step named numbers) x
+
+  abbrev pub tree_simple : (x : RawSimple-F RawDecl RawForm RawSimple RawBlock RawProc RawStmt) → simple_of named numbers (roll-RawSimple x) ≡ tree.simple_step named numbers (map-RawSimple RawDecl RawForm RawSimple RawBlock RawProc RawStmt Stmt Stmt Stmt Stmt Stmt Stmt decl_tree (form_of named numbers) (simple_of named numbers) (block_of named numbers) proc_tree (statement_of named numbers) x)
+  tree_simple x = fold-roll-RawSimple Stmt Stmt Stmt Stmt Stmt Stmt (tree.declaration_step named numbers) (tree.form_step named numbers) (tree.simple_step named numbers) (tree.block_step named numbers) (tree.procedure_step named numbers) (tree.statement_step named numbers) x
+
+  abbrev pub tree_block : (x : RawBlock-F RawDecl RawForm RawSimple RawBlock RawProc RawStmt) → block_of named numbers (roll-RawBlock x) ≡ tree.block_step named numbers (map-RawBlock RawDecl RawForm RawSimple RawBlock RawProc RawStmt Stmt Stmt Stmt Stmt Stmt Stmt decl_tree (form_of named numbers) (simple_of named numbers) (block_of named numbers) proc_tree (statement_of named numbers) x)
+  tree_block x = fold-roll-RawBlock Stmt Stmt Stmt Stmt Stmt Stmt (tree.declaration_step named numbers) (tree.form_step named numbers) (tree.simple_step named numbers) (tree.block_step named numbers) (tree.procedure_step named numbers) (tree.statement_step named numbers) x
+
+  abbrev pub tree_stmt : (x : RawStmt-F RawDecl RawForm RawSimple RawBlock RawProc RawStmt) → statement_of named numbers (roll-RawStmt x) ≡ tree.statement_step named numbers (map-RawStmt RawDecl RawForm RawSimple RawBlock RawProc RawStmt Stmt Stmt Stmt Stmt Stmt Stmt decl_tree (form_of named numbers) (simple_of named numbers) (block_of named numbers) proc_tree (statement_of named numbers) x)
+  tree_stmt x = fold-roll-RawStmt Stmt Stmt Stmt Stmt Stmt Stmt (tree.declaration_step named numbers) (tree.form_step named numbers) (tree.simple_step named numbers) (tree.block_step named numbers) (tree.procedure_step named numbers) (tree.statement_step named numbers) x
+
+  pub procs_decl : (x : RawDecl-F RawDecl RawForm RawSimple RawBlock RawProc RawStmt) → declaration_procs named numbers (roll-RawDecl x) ≡ made.declaration_step named numbers (map-RawDecl RawDecl RawForm RawSimple RawBlock RawProc RawStmt (RawDecl × Procs) (RawForm × Procs) (RawSimple × Procs) (RawBlock × Procs) (RawProc × Procs) (RawStmt × Procs) (λ x. (x, declaration_procs named numbers x)) (λ x. (x, form_procs named numbers x)) (λ x. (x, simple_procs named numbers x)) (λ x. (x, block_procs named numbers x)) (λ x. (x, procedure_procs named numbers x)) (λ x. (x, statement_procs named numbers x)) x)
+  unfolding declaration_procs form_procs simple_procs block_procs procedure_procs statement_procs
+  procs_decl x = para-roll-RawDecl Procs Procs Procs Procs Procs Procs (made.declaration_step named numbers) (made.form_step named numbers) (made.simple_step named numbers) (made.block_step named numbers) (made.procedure_step named numbers) (made.statement_step named numbers) x
+
+  pub procs_form : (x : RawForm-F RawDecl RawForm RawSimple RawBlock RawProc RawStmt) → form_procs named numbers (roll-RawForm x) ≡ made.form_step named numbers (map-RawForm RawDecl RawForm RawSimple RawBlock RawProc RawStmt (RawDecl × Procs) (RawForm × Procs) (RawSimple × Procs) (RawBlock × Procs) (RawProc × Procs) (RawStmt × Procs) (λ x. (x, declaration_procs named numbers x)) (λ x. (x, form_procs named numbers x)) (λ x. (x, simple_procs named numbers x)) (λ x. (x, block_procs named numbers x)) (λ x. (x, procedure_procs named numbers x)) (λ x. (x, statement_procs named numbers x)) x)
+  unfolding declaration_procs form_procs simple_procs block_procs procedure_procs statement_procs
+  procs_form x = para-roll-RawForm Procs Procs Procs Procs Procs Procs (made.declaration_step named numbers) (made.form_step named numbers) (made.simple_step named numbers) (made.block_step named numbers) (made.procedure_step named numbers) (made.statement_step named numbers) x
+
+  pub procs_simple : (x : RawSimple-F RawDecl RawForm RawSimple RawBlock RawProc RawStmt) → simple_procs named numbers (roll-RawSimple x) ≡ made.simple_step named numbers (map-RawSimple RawDecl RawForm RawSimple RawBlock RawProc RawStmt (RawDecl × Procs) (RawForm × Procs) (RawSimple × Procs) (RawBlock × Procs) (RawProc × Procs) (RawStmt × Procs) (λ x. (x, declaration_procs named numbers x)) (λ x. (x, form_procs named numbers x)) (λ x. (x, simple_procs named numbers x)) (λ x. (x, block_procs named numbers x)) (λ x. (x, procedure_procs named numbers x)) (λ x. (x, statement_procs named numbers x)) x)
+  unfolding declaration_procs form_procs simple_procs block_procs procedure_procs statement_procs
+  procs_simple x = para-roll-RawSimple Procs Procs Procs Procs Procs Procs (made.declaration_step named numbers) (made.form_step named numbers) (made.simple_step named numbers) (made.block_step named numbers) (made.procedure_step named numbers) (made.statement_step named numbers) x
+
+  pub procs_block : (x : RawBlock-F RawDecl RawForm RawSimple RawBlock RawProc RawStmt) → block_procs named numbers (roll-RawBlock x) ≡ made.block_step named numbers (map-RawBlock RawDecl RawForm RawSimple RawBlock RawProc RawStmt (RawDecl × Procs) (RawForm × Procs) (RawSimple × Procs) (RawBlock × Procs) (RawProc × Procs) (RawStmt × Procs) (λ x. (x, declaration_procs named numbers x)) (λ x. (x, form_procs named numbers x)) (λ x. (x, simple_procs named numbers x)) (λ x. (x, block_procs named numbers x)) (λ x. (x, procedure_procs named numbers x)) (λ x. (x, statement_procs named numbers x)) x)
+  unfolding declaration_procs form_procs simple_procs block_procs procedure_procs statement_procs
+  procs_block x = para-roll-RawBlock Procs Procs Procs Procs Procs Procs (made.declaration_step named numbers) (made.form_step named numbers) (made.simple_step named numbers) (made.block_step named numbers) (made.procedure_step named numbers) (made.statement_step named numbers) x
+
+  pub procs_proc : (x : RawProc-F RawDecl RawForm RawSimple RawBlock RawProc RawStmt) → procedure_procs named numbers (roll-RawProc x) ≡ made.procedure_step named numbers (map-RawProc RawDecl RawForm RawSimple RawBlock RawProc RawStmt (RawDecl × Procs) (RawForm × Procs) (RawSimple × Procs) (RawBlock × Procs) (RawProc × Procs) (RawStmt × Procs) (λ x. (x, declaration_procs named numbers x)) (λ x. (x, form_procs named numbers x)) (λ x. (x, simple_procs named numbers x)) (λ x. (x, block_procs named numbers x)) (λ x. (x, procedure_procs named numbers x)) (λ x. (x, statement_procs named numbers x)) x)
+  unfolding declaration_procs form_procs simple_procs block_procs procedure_procs statement_procs
+  procs_proc x = para-roll-RawProc Procs Procs Procs Procs Procs Procs (made.declaration_step named numbers) (made.form_step named numbers) (made.simple_step named numbers) (made.block_step named numbers) (made.procedure_step named numbers) (made.statement_step named numbers) x
+
+  pub procs_stmt : (x : RawStmt-F RawDecl RawForm RawSimple RawBlock RawProc RawStmt) → statement_procs named numbers (roll-RawStmt x) ≡ made.statement_step named numbers (map-RawStmt RawDecl RawForm RawSimple RawBlock RawProc RawStmt (RawDecl × Procs) (RawForm × Procs) (RawSimple × Procs) (RawBlock × Procs) (RawProc × Procs) (RawStmt × Procs) (λ x. (x, declaration_procs named numbers x)) (λ x. (x, form_procs named numbers x)) (λ x. (x, simple_procs named numbers x)) (λ x. (x, block_procs named numbers x)) (λ x. (x, procedure_procs named numbers x)) (λ x. (x, statement_procs named numbers x)) x)
+  unfolding declaration_procs form_procs simple_procs block_procs procedure_procs statement_procs
+  procs_stmt x = para-roll-RawStmt Procs Procs Procs Procs Procs Procs (made.declaration_step named numbers) (made.form_step named numbers) (made.simple_step named numbers) (made.block_step named numbers) (made.procedure_step named numbers) (made.statement_step named numbers) x
+
+  -- ---- trees with what is made of them
+
+  abbrev D : Type 0
+  D = (d : RawDecl) × DeclPart d
+
+  abbrev F : Type 0
+  F = (f : RawForm) × FormPart f
+
+  abbrev S : Type 0
+  S = (s : RawSimple) × SimplePart s
+
+  abbrev B : Type 0
+  B = (b : RawBlock) × BlockPart b
+
+  abbrev Q : Type 0
+  Q = (p : RawProc) × ProcPart p
+
+  abbrev T : Type 0
+  T = (s : RawStmt) × StmtPart s
+
+  abbrev decl_x : RawDecl-F D F S B Q T → RawDecl-F RawDecl RawForm RawSimple RawBlock RawProc RawStmt
+  decl_x = map-RawDecl D F S B Q T RawDecl RawForm RawSimple RawBlock RawProc RawStmt (λ e. e.0) (λ e. e.0) (λ e. e.0) (λ e. e.0) (λ e. e.0) (λ e. e.0)
+
+  abbrev form_x : RawForm-F D F S B Q T → RawForm-F RawDecl RawForm RawSimple RawBlock RawProc RawStmt
+  form_x = map-RawForm D F S B Q T RawDecl RawForm RawSimple RawBlock RawProc RawStmt (λ e. e.0) (λ e. e.0) (λ e. e.0) (λ e. e.0) (λ e. e.0) (λ e. e.0)
+
+  abbrev simple_x : RawSimple-F D F S B Q T → RawSimple-F RawDecl RawForm RawSimple RawBlock RawProc RawStmt
+  simple_x = map-RawSimple D F S B Q T RawDecl RawForm RawSimple RawBlock RawProc RawStmt (λ e. e.0) (λ e. e.0) (λ e. e.0) (λ e. e.0) (λ e. e.0) (λ e. e.0)
+
+  abbrev block_x : RawBlock-F D F S B Q T → RawBlock-F RawDecl RawForm RawSimple RawBlock RawProc RawStmt
+  block_x = map-RawBlock D F S B Q T RawDecl RawForm RawSimple RawBlock RawProc RawStmt (λ e. e.0) (λ e. e.0) (λ e. e.0) (λ e. e.0) (λ e. e.0) (λ e. e.0)
+
+  abbrev proc_x : RawProc-F D F S B Q T → RawProc-F RawDecl RawForm RawSimple RawBlock RawProc RawStmt
+  proc_x = map-RawProc D F S B Q T RawDecl RawForm RawSimple RawBlock RawProc RawStmt (λ e. e.0) (λ e. e.0) (λ e. e.0) (λ e. e.0) (λ e. e.0) (λ e. e.0)
+
+  abbrev stmt_x : RawStmt-F D F S B Q T → RawStmt-F RawDecl RawForm RawSimple RawBlock RawProc RawStmt
+  stmt_x = map-RawStmt D F S B Q T RawDecl RawForm RawSimple RawBlock RawProc RawStmt (λ e. e.0) (λ e. e.0) (λ e. e.0) (λ e. e.0) (λ e. e.0) (λ e. e.0)
+
+  -- ---- rules of the grammar
+
+  decl_part : (y : RawDecl-F D F S B Q T) → DeclPart (roll-RawDecl (decl_x y))
+  decl_part (layer.Data d) = like (facts_decl (layer.Data d)) (switches_decl (layer.Data d)) (procs_decl (layer.Data d)) (λ l h. h) (items d)
+  decl_part (layer.Overlay at b d) =
+      like (facts_decl (layer.Overlay at b d)) (switches_decl (layer.Overlay at b d)) (procs_decl (layer.Overlay at b d)) (λ l h. h)
+      (both (plain (plain_use numbers (record { name = base_name b; form = use_form.Base }) [] (plain_nothing numbers))) (items d))
+  decl_part (layer.Switch at n labels) =
+      like (facts_decl (layer.Switch at n labels)) (switches_decl (layer.Switch at n labels)) (procs_decl (layer.Switch at n labels)) (λ l h. h) (switch n labels)
+  decl_part (layer.Proc p) = like (facts_decl (layer.Proc p.0)) (switches_decl (layer.Proc p.0)) (procs_decl (layer.Proc p.0)) (λ l h. h) p.1
+
+  set_if : (line : ℕ) (c : Cond) (a b : Stmt) (l : ℕ) → IsTrue (sets l a || sets l b) → IsTrue (sets l (tree.conditional line c a b))
+  set_if line c a b l h = subst IsTrue (sym (fold-roll-Stmt Bool (sets_step l) (statement.If line c a b))) h
+
+  set_for : (line item : ℕ) (r : Ref) (es : List Felem) (s : Stmt) (l : ℕ) → IsTrue (sets l s) → IsTrue (sets l (tree.repetition line item r es s))
+  set_for line item r es s l h = subst IsTrue (sym (fold-roll-Stmt Bool (sets_step l) (statement.For line item r es s))) h
+
+  set_row : (ss : List Stmt) (l : ℕ) → IsTrue (any (map (sets l) ss)) → IsTrue (sets l (row ss))
+  set_row ss l h = subst IsTrue (sym (fold-roll-Stmt Bool (sets_step l) (statement.Seq ss))) h
+
+  felem_plain : (e : RawFelem) → Plain numbers (felem_facts e)
+  felem_plain (felem.One e) = expression_plain numbers e reading.Value
+  felem_plain (felem.While e c) = plain_both numbers (expression_uses e reading.Value) (condition_uses c reading.Value) (expression_plain numbers e reading.Value) (condition_plain numbers c reading.Value)
+  felem_plain (felem.Step a b c) =
+      plain_both numbers (expression_uses a reading.Value) (expression_uses b reading.Value ++ expression_uses c reading.Value) (expression_plain numbers a reading.Value)
+      (plain_both numbers (expression_uses b reading.Value) (expression_uses c reading.Value) (expression_plain numbers b reading.Value) (expression_plain numbers c reading.Value))
+
+  pub felems_plain : (es : List RawFelem) → Plain numbers (felems_facts es)
+  felems_plain [] = plain_nothing numbers
+  felems_plain (e ∷ es) = plain_both numbers (felem_facts e) (felems_facts es) (felem_plain e) (felems_plain es)
+
+  either_set : (ns : List RawName) (a b : Stmt) (l : ℕ) → IsTrue (has_label l (labels_of numbers ns) || (sets l a || sets l b)) → IsTrue (sets l (marked numbers ns a) || sets l b)
+  either_set ns a b l h =
+      either (has_label l (labels_of numbers ns)) (sets l a || sets l b) h
+      (λ k. or_first (sets l (marked numbers ns a)) (sets l b) (set_behind numbers ns a l (or_first (has_label l (labels_of numbers ns)) (sets l a) k)))
+      (λ k. either (sets l a) (sets l b) k
+      (λ j. or_first (sets l (marked numbers ns a)) (sets l b) (set_behind numbers ns a l (or_second (has_label l (labels_of numbers ns)) (sets l a) j)))
+      (λ j. or_second (sets l (marked numbers ns a)) (sets l b) j))
+
+  form_part : (y : RawForm-F D F S B Q T) → FormPart (roll-RawForm (form_x y))
+  form_part (layer.Simple s) =
+      like (facts_form (layer.Simple s.0)) (switches_form (layer.Simple s.0)) (procs_form (layer.Simple s.0)) (λ l h. subst (λ z. IsTrue (sets l z)) (sym (tree_form (layer.Simple s.0))) h) s.1
+  form_part (layer.If at test labels first None) =
+      like (facts_form (layer.If at test labels first.0 None)) (switches_form (layer.If at test labels first.0 None)) (procs_form (layer.If at test labels first.0 None))
+      (λ l h. subst (λ z. IsTrue (sets l z)) (sym (tree_form (layer.If at test labels first.0 None)))
+      (set_if (tree.line_of at) (condition_of named numbers test) (marked numbers labels (simple_of named numbers first.0)) (row []) l
+      (either_set labels (simple_of named numbers first.0) (row []) l (missing l (has_label l (labels_of numbers labels)) (sets l (simple_of named numbers first.0)) h))))
+      (both (plain (condition_plain numbers test reading.Value)) (both (labels_part labels) (both first.1 empty)))
+    where
+      missing : (l : ℕ) (a b : Bool) → IsTrue (a || (b || false)) → IsTrue (a || (b || sets l (row [])))
+      missing l true b h = refl
+      missing l false true h = refl
+      missing l false false h = absurd (cc)
+  form_part (layer.If at test labels first (Some second)) =
+      like (facts_form (layer.If at test labels first.0 (Some second.0))) (switches_form (layer.If at test labels first.0 (Some second.0))) (procs_form (layer.If at test labels first.0 (Some second.0)))
+      (λ l h. subst (λ z. IsTrue (sets l z)) (sym (tree_form (layer.If at test labels first.0 (Some second.0))))
+      (set_if (tree.line_of at) (condition_of named numbers test) (marked numbers labels (simple_of named numbers first.0)) (statement_of named numbers second.0) l
+      (either_set labels (simple_of named numbers first.0) (statement_of named numbers second.0) l h)))
+      (both (plain (condition_plain numbers test reading.Value)) (both (labels_part labels) (both first.1 second.1)))
+  form_part (layer.For at variable elems body) =
+      like (facts_form (layer.For at variable elems body.0)) (switches_form (layer.For at variable elems body.0)) (procs_form (layer.For at variable elems body.0))
+      (λ l h. subst (λ z. IsTrue (sets l z)) (sym (tree_form (layer.For at variable elems body.0)))
+      (set_for (tree.line_of at) (item_here numbers at.token) (reference_of named numbers variable) (map (tree.felem_of named numbers) elems) (statement_of named numbers body.0) l h))
+      (both (plain (plain_loop numbers at (reference_uses variable reading.Whole) (reference_plain numbers variable reading.Whole))) (both (plain (felems_plain elems)) body.1))
+
+  simple_part : (y : RawSimple-F D F S B Q T) → SimplePart (roll-RawSimple (simple_x y))
+  simple_part layer.Empty = like (facts_simple layer.Empty) (switches_simple layer.Empty) (procs_simple layer.Empty) (λ l h. absurd (cc)) empty
+  simple_part (layer.Assign r e) =
+      like (facts_simple (layer.Assign r e)) (switches_simple (layer.Assign r e)) (procs_simple (layer.Assign r e)) (λ l h. absurd (cc))
+      (plain (plain_both numbers (reference_uses r reading.Target) (expression_uses e reading.Value) (reference_plain numbers r reading.Target) (expression_plain numbers e reading.Value)))
+  simple_part (layer.AssignBits bits r e) =
+      like (facts_simple (layer.AssignBits bits r e)) (switches_simple (layer.AssignBits bits r e)) (procs_simple (layer.AssignBits bits r e)) (λ l h. absurd (cc))
+      (plain (plain_both numbers (reference_uses r reading.Whole) (expression_uses e reading.Value) (reference_plain numbers r reading.Whole) (expression_plain numbers e reading.Value)))
+  simple_part (layer.Goto at n) =
+      like (facts_simple (layer.Goto at n)) (switches_simple (layer.Goto at n)) (procs_simple (layer.Goto at n)) (λ l h. absurd (cc))
+      (plain (plain_use numbers (record { name = n; form = use_form.Goto }) [] (plain_nothing numbers)))
+  simple_part (layer.GotoSwitch at n e) =
+      like (facts_simple (layer.GotoSwitch at n e)) (switches_simple (layer.GotoSwitch at n e)) (procs_simple (layer.GotoSwitch at n e)) (λ l h. absurd (cc))
+      (plain (plain_use numbers (record { name = n; form = use_form.GotoSwitch }) (expression_uses e reading.Value) (expression_plain numbers e reading.Value)))
+  simple_part (layer.Call n es) =
+      like (facts_simple (layer.Call n es)) (switches_simple (layer.Call n es)) (procs_simple (layer.Call n es)) (λ l h. absurd (cc))
+      (plain (plain_use numbers (record { name = n; form = use_form.Call }) (argument_uses es) (arguments_plain numbers es)))
+  simple_part (layer.Answer at e) =
+      like (facts_simple (layer.Answer at e)) (switches_simple (layer.Answer at e)) (procs_simple (layer.Answer at e)) (λ l h. absurd (cc))
+      (plain (plain_use numbers (record { name = answer_name at; form = use_form.Answer }) (expression_uses e reading.Value) (expression_plain numbers e reading.Value)))
+  simple_part (layer.Block b) =
+      like (facts_simple (layer.Block b.0)) (switches_simple (layer.Block b.0)) (procs_simple (layer.Block b.0)) (λ l h. subst (λ z. IsTrue (sets l z)) (sym (tree_simple (layer.Block b.0))) h) (b.1 false)
+
+  decls_part : (ds : List D) → P (said.joined (map declaration_facts (map (λ e. e.0) ds))) (switched.joined (map (declaration_switches named numbers) (map (λ e. e.0) ds))) (made.joined (map (λ d. (d, declaration_procs named numbers d)) (map (λ e. e.0) ds))) never
+  decls_part [] = empty
+  decls_part (d ∷ ds) = both d.1 (decls_part ds)
+
+  stmts_part : (ss : List T) → P (said.joined (map statement_facts (map (λ e. e.0) ss))) (switched.joined (map (statement_switches named numbers) (map (λ e. e.0) ss))) (made.joined (map (λ s. (s, statement_procs named numbers s)) (map (λ e. e.0) ss))) (λ l. any (map (sets l) (map (statement_of named numbers) (map (λ e. e.0) ss))))
+  stmts_part [] = empty
+  stmts_part (s ∷ ss) = both s.1 (stmts_part ss)
+
+  enclosed_part : (b : Bool) {fs : List Fact} {ws : Switches} {ps : List Proc} {s : ℕ → Bool} → P fs ws ps s → P (enclosed b fs) ws ps s
+  enclosed_part true a = block a
+  enclosed_part false a = a
+
+  block_part : (y : RawBlock-F D F S B Q T) → BlockPart (roll-RawBlock (block_x y))
+  block_part y outermost =
+      like (ap (λ f. f outermost) (facts_block (block_x y))) (switches_block (block_x y)) (procs_block (block_x y))
+      (λ l h. subst (λ z. IsTrue (sets l z)) (sym (tree_block (block_x y))) (set_row (map (statement_of named numbers) (map (λ e. e.0) y.stmts)) l h))
+      (enclosed_part (outermost || not (length (map declaration_facts (map (λ e. e.0) y.decls)) == 0)) (both (decls_part y.decls) (stmts_part y.stmts)))
+
+  proc_part : (y : RawProc-F D F S B Q T) → ProcPart (roll-RawProc (proc_x y))
+  proc_part y =
+      let p : RawProc = roll-RawProc (proc_x y) in
+      like (ap procedure_facts (sym (roll-out-RawProc p)) ∙ facts_proc (out-RawProc p)) (ap (procedure_switches named numbers) (sym (roll-out-RawProc p)) ∙ switches_proc (out-RawProc p))
+      (ap (λ ps. proc_of named numbers p ∷ ps) (ap (procedure_procs named numbers) (sym (roll-out-RawProc p)) ∙ procs_proc (out-RawProc p))) (λ l h. h)
+      (procedure p (subst (λ z. StmtPart z.body) (sym (out-roll-RawProc (proc_x y))) y.body.1))
+
+  stmt_part : (y : RawStmt-F D F S B Q T) → StmtPart (roll-RawStmt (stmt_x y))
+  stmt_part y =
+      like (facts_stmt (stmt_x y)) (switches_stmt (stmt_x y)) (procs_stmt (stmt_x y))
+      (λ l h. subst (λ z. IsTrue (sets l z)) (sym (tree_stmt (stmt_x y))) (set_behind numbers y.labels (form_of named numbers y.form.0) l h))
+      (both (labels_part y.labels) y.form.1)
+
+  pub block_parts : (b : RawBlock) → BlockPart b
+  block_parts =
+      ind-RawBlock DeclPart FormPart SimplePart BlockPart ProcPart StmtPart
+      (λ x y is. subst (λ z. DeclPart (roll-RawDecl z)) is (decl_part y))
+      (λ x y is. subst (λ z. FormPart (roll-RawForm z)) is (form_part y))
+      (λ x y is. subst (λ z. SimplePart (roll-RawSimple z)) is (simple_part y))
+      (λ x y is. subst (λ z. BlockPart (roll-RawBlock z)) is (block_part y))
+      (λ x y is. subst (λ z. ProcPart (roll-RawProc z)) is (proc_part y))
+      (λ x y is. subst (λ z. StmtPart (roll-RawStmt z)) is (stmt_part y))

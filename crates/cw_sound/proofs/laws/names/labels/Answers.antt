@@ -1,0 +1,10 @@
+use Rattle.std.proofs.Common.{refl}
+use Rattle.cw_number.specs.Numbers.{numbers_of}
+use Rattle.cw_make.specs.Made.{unit_of}
+use Rattle.cw_sound.proofs.Names.OwnDeclarations.{labels_stand}
+use Rattle.cw_sound.proofs.laws.names.labels.Goals as goal
+
+pub returns : goal.returns
+returns c named resolves placed items =
+    labels_stand named (numbers_of named) (unit_of named) resolves placed (c.counts.ensures named resolves placed items)
+    (record { procs = refl; labels = refl; switches = refl; body = refl })

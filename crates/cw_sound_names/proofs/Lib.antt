@@ -1,4 +1,0 @@
-pub mod Names
-pub mod Items
-pub mod Labels
-pub mod Storage

@@ -1,4 +1,0 @@
-pub mod Uses
-pub mod Names
-pub mod Items
-pub mod Storage

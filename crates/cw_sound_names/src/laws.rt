@@ -1,5 +1,0 @@
-//! The laws, by what they speak of: each is a function without a body, whose contract is the law.
-pub mod items;
-pub mod labels;
-pub mod names;
-pub mod storage;

@@ -1,6 +1,0 @@
--- Where the names of a text stand.
-use Rattle.cw_sound_trees.proofs.Trees.Standing.{placed}
-use Rattle.cw_sound_trees.proofs.laws.trees.placed.Goals as goal
-
-pub returns : goal.returns
-returns c n ts raw few d = placed n ts raw few d

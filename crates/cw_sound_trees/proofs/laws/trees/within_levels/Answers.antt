@@ -1,6 +1,0 @@
--- The levels of a text.
-use Rattle.cw_sound_trees.proofs.Trees.Tall.{within_levels}
-use Rattle.cw_sound_trees.proofs.laws.trees.within_levels.Goals as goal
-
-pub returns : goal.returns
-returns c = within_levels

@@ -1,4 +1,0 @@
-mod Called
-mod Closed
-pub mod Kept
-mod OneStatus

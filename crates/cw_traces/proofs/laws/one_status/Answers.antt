@@ -1,9 +1,0 @@
-use Rattle.cw_go.proofs.OneStatus.{one_status_of}
-use Rattle.cw_traces.proofs.OneStatus.{one_status}
-use Rattle.cw_traces.proofs.laws.one_status.Goals as goal
-
-pub returns : goal.returns
-returns c =
-    one_status (one_status_of
-    (record { one_unit = c.one_outcome.ensures.one_unit; one_refusal = c.one_outcome.ensures.one_refusal; not_both = c.one_outcome.ensures.not_both; tokens = c.one_outcome.ensures.tokens })
-    (record { starts = c.one_start.ensures; once = c.one_observation.ensures }))

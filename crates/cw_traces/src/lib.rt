@@ -1,9 +1,0 @@
-//! The action `trace`: texts run as by `go`, and reports of what the source begins at a stop.
-#![tactic(auto)]
-
-mod closing;
-pub mod laws;
-mod running;
-mod tracing;
-
-pub use tracing::trace;
