@@ -277,7 +277,7 @@ module _ (n : ℕ) (fs : List Family) where
       (index-sound e.index e.family zero named h) refl
   tested-sound e (test.Bounds upper line) named h =
       let compared : List Coded = pieces.Whole (operate_number 7 si (indexes_between (upper -ℤ e.lower))) ∷ pieces.Whole (jump_if_below 5)
-          ∷ (call_stop bounds_entry line ++ pieces.Sum si (target.Word e.family e.first) ∷ pieces.Whole (double si) ∷ []) in
+      ∷ (call_stop bounds_entry line ++ pieces.Sum si (target.Word e.family e.first) ∷ pieces.Whole (double si) ∷ []) in
       sound-both (index_loaded e.index) (from_lower e.lower ++ compared) (loaded-sound e.index named) (sound-both (from_lower e.lower) compared (lower-sound e.lower) (only (is_place fs e.family e.first) h))
 
   element-sound : (e : Element) → ElementNamed e → Sound (element_address e)
