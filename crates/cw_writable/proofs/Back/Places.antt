@@ -64,7 +64,7 @@ place-ends (cell.Word f n) = refl
 place-ends (cell.Frame n) = refl
 
 test-ends : (e : Element) (t : Test) → All-end (order.Load ∷ (bounds_orders e.lower t ++ order.Save ∷ order.Home e.family e.first ∷ order.Element e.lower e.span e.line ∷ []))
-test-ends e (test.Address zero) = refl
+test-ends e (test.Address origin) = refl
 test-ends e (test.Bounds upper line) = refl
 
 element-ends : (e : Element) → All-end (element_orders e)

@@ -252,7 +252,7 @@ module _ (n : ℕ) (fs : List Family) where
 
   -- the index of an element, and the word that its address begins with
   abbrev TestNamed : Element → Test → Type 0
-  TestNamed e (test.Address zero) = IsTrue (is_place fs e.family zero)
+  TestNamed e (test.Address origin) = IsTrue (is_place fs e.family origin)
   TestNamed e (test.Bounds upper line) = IsTrue (is_place fs e.family e.first)
 
   abbrev ElementNamed : Element → Type 0
@@ -272,9 +272,9 @@ module _ (n : ℕ) (fs : List Family) where
   index-sound (cell.Frame k) family offset h z = both (is_place fs family offset) true z refl
 
   tested-sound : (e : Element) (t : Test) → Named e.index → TestNamed e t → Sound (element_tested e t)
-  tested-sound e (test.Address zero) named h =
-      sound-both (index_added e.index e.family zero) (pieces.Whole (compare si di) ∷ pieces.Whole (jump_if_below 5) ∷ (call_stop address_entry e.line ++ pieces.Whole (double si) ∷ []))
-      (index-sound e.index e.family zero named h) refl
+  tested-sound e (test.Address origin) named h =
+      sound-both (index_added e.index e.family origin) (pieces.Whole (compare si di) ∷ pieces.Whole (jump_if_below 5) ∷ (call_stop address_entry e.line ++ pieces.Whole (double si) ∷ []))
+      (index-sound e.index e.family origin named h) refl
   tested-sound e (test.Bounds upper line) named h =
       let compared : List Coded = pieces.Whole (operate_number 7 si (indexes_between (upper -ℤ e.lower))) ∷ pieces.Whole (jump_if_below 5)
       ∷ (call_stop bounds_entry line ++ pieces.Sum si (target.Word e.family e.first) ∷ pieces.Whole (double si) ∷ []) in
@@ -321,10 +321,10 @@ module _ (n : ℕ) (fs : List Family) where
       behind x rest e = named-first x rest (subst Placed (ap (drop 1) e) (first-placed os r))
 
       -- the word that index 0 names is a place where the first word is one
-      zero-named : (e : Element) (zero : ℕ) → zero_word e.lower e.span e.first ≡ Some zero → IsTrue (is_place fs e.family e.first) → IsTrue (is_place fs e.family zero)
-      zero-named e zero near h =
+      zero-named : (e : Element) (origin : ℕ) → zero_word e.lower e.span e.first ≡ Some origin → IsTrue (is_place fs e.family e.first) → IsTrue (is_place fs e.family origin)
+      zero-named e origin near h =
           let p = parts (is_some (slice_get fs e.family)) (nat_lt e.family 65536 && nat_lt e.first 65536) h in
-          both (is_some (slice_get fs e.family)) (nat_lt e.family 65536 && nat_lt zero 65536) p.0 (both (nat_lt e.family 65536) (nat_lt zero 65536) (parts (nat_lt e.family 65536) (nat_lt e.first 65536) p.1).0 (lt_true zero 65536 (zero-small e.lower e.span e.first zero near)))
+          both (is_some (slice_get fs e.family)) (nat_lt e.family 65536 && nat_lt origin 65536) p.0 (both (nat_lt e.family 65536) (nat_lt origin 65536) (parts (nat_lt e.family 65536) (nat_lt e.first 65536) p.1).0 (lt_true origin 65536 (zero-small e.lower e.span e.first origin near)))
 
       -- the orders behind the load of an index, whichever test they have
       index-at : (x : Place) (made rest : List Order) → Placed ((address_orders x ++ order.Load ∷ made) ++ rest) → Named x
@@ -342,7 +342,7 @@ module _ (n : ℕ) (fs : List Family) where
 
       test-named : (e : Element) (t : Test) (list rest : List Order) → TestNear e t → Fit n fs list
           → list ≡ (address_orders e.index ++ order.Load ∷ (bounds_orders e.lower t ++ order.Save ∷ order.Home e.family e.first ∷ order.Element e.lower e.span e.line ∷ [])) ++ rest → TestNamed e t
-      test-named e (test.Address zero) list rest near fit is = zero-named e zero near (named-there list fit 3 e.family e.first (ap (λ l. slice_get l 3) is ∙ home-at e.index e rest))
+      test-named e (test.Address origin) list rest near fit is = zero-named e origin near (named-there list fit 3 e.family e.first (ap (λ l. slice_get l 3) is ∙ home-at e.index e rest))
       test-named e (test.Bounds upper line) list rest near fit is = named-there list fit 4 e.family e.first (ap (λ l. slice_get l 4) is ∙ home-behind e.index e upper line rest)
 
       -- of a list that begins with the orders of an element
