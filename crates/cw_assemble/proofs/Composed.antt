@@ -22,7 +22,7 @@ use Rattle.cw_tmpl.specs.Names.{Names, no_names, own, switch_size}
 use Rattle.cw_tmpl.specs.Blocks.{block_at, orders_left}
 use Rattle.cw_tmpl.specs.Pieces.{blanks, relocations}
 use Rattle.cw_order.specs.declared.order.Order.TheVariants as order
-use Rattle.cw_tmpl.specs.Templates.{template, back_jump, distance, number_compared, goal_words, mark_words, loop_way, switch_pieces, in_bounds, block_pieces, block_size, entry_pieces}
+use Rattle.cw_tmpl.specs.Templates.{template, back_jump, distance, number_compared, goal_words, mark_words, loop_way, switch_pieces, with_both_bounds, block_pieces, block_size, entry_pieces}
 use Rattle.cw_tmpl.specs.ReferenceCode.{templates, landings, switches, places_from, entry_size, landings_place, switches_place, names_of, pieces_of}
 use Rattle.cw_tmpl.proofs.Sizes.{size_everywhere, size_of_switch, size_of_templates, size_of_landings, landings_at}
 use Rattle.cw_tmpl.proofs.Growing.{adds_then, Coming, coming_more}
@@ -140,12 +140,12 @@ special_added old one new k line i1 i2 t a e1 e2 et b =
 pub bounds_added : (old new : Assembly) (line low high : ℕ) (lower upper : ℤ) (i1 i2 i3 i4 : Instr) → low ≡ unsigned lower → high ≡ unsigned upper
     → i1 ≡ with_number 7 low → i2 ≡ jump_if_not_less 5 → i3 ≡ with_number 7 high → i4 ≡ jump_if_at_most 5
     → Adds old (coded.Whole i1 ∷ coded.Whole i2 ∷ coded.Call (target.LibraryAhead bounds_entry) ∷ coded.Data line ∷ coded.Whole i3 ∷ coded.Whole i4 ∷ coded.Call (target.LibraryAhead bounds_entry) ∷ coded.Data line ∷ []) new
-    → Adds old (in_bounds line lower upper) new
+    → Adds old (with_both_bounds line lower upper) new
 bounds_added old new line low high lower upper i1 i2 i3 i4 el eh e1 e2 e3 e4 a =
     let S = coded.Call (target.LibraryAhead bounds_entry) in
     let D = coded.Data line in
     let same : coded.Whole i1 ∷ coded.Whole i2 ∷ S ∷ D ∷ coded.Whole i3 ∷ coded.Whole i4 ∷ S ∷ D ∷ []
     ≡ coded.Whole (with_number 7 low) ∷ coded.Whole (jump_if_not_less 5) ∷ S ∷ D ∷ coded.Whole (with_number 7 high) ∷ coded.Whole (jump_if_at_most 5) ∷ S ∷ D ∷ [] = cc in
-    let words : coded.Whole (with_number 7 low) ∷ coded.Whole (jump_if_not_less 5) ∷ S ∷ D ∷ coded.Whole (with_number 7 high) ∷ coded.Whole (jump_if_at_most 5) ∷ S ∷ D ∷ [] ≡ in_bounds line lower upper =
+    let words : coded.Whole (with_number 7 low) ∷ coded.Whole (jump_if_not_less 5) ∷ S ∷ D ∷ coded.Whole (with_number 7 high) ∷ coded.Whole (jump_if_at_most 5) ∷ S ∷ D ∷ [] ≡ with_both_bounds line lower upper =
     ap₂ (λ x y. coded.Whole (with_number 7 x) ∷ coded.Whole (jump_if_not_less 5) ∷ S ∷ D ∷ coded.Whole (with_number 7 y) ∷ coded.Whole (jump_if_at_most 5) ∷ S ∷ D ∷ []) el eh in
-    as_pieces old new _ (in_bounds line lower upper) (same ∙ words) a
+    as_pieces old new _ (with_both_bounds line lower upper) (same ∙ words) a

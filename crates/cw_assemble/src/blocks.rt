@@ -3,15 +3,18 @@ ghost use Rattle.std.specs.Prelude.{◌≡◌, ◌≤◌, ◌+◌, ◌-ℤ◌, t
 ghost use Rattle.cw_order.specs.HasCode.{HasCode};
 ghost use Rattle.cw_order.specs.declared.order.Order.TheVariants as order;
 ghost use Rattle.cw_tmpl.specs.Assembling.{Adds};
-ghost use Rattle.cw_tmpl.specs.Blocks.{is_within, TestsWithin, OperandWithin, NamesParts};
+ghost use Rattle.cw_tmpl.specs.Blocks.{is_within, form_within, TestsWithin, OperandWithin, NamesParts};
 ghost use Rattle.cw_tmpl.specs.Names.{no_names};
 ghost use Rattle.cw_tmpl.specs.Pieces.{IsCoded};
+ghost use Rattle.cw_tmpl.specs.declared.pieces.Target.TheVariants as target;
+ghost use Rattle.cw_tmpl.specs.declared.pieces.Coded.TheVariants as coded;
 ghost use Rattle.cw_tmpl.specs.declared.blocks.Block.TheVariants as block;
 ghost use Rattle.cw_tmpl.specs.declared.blocks.Simple.TheVariants as simple;
-ghost use Rattle.cw_tmpl.specs.Templates.{address_pieces, load_place, store_place, operate_place, change_place, index_added, index_loaded, from_lower, indexes_between, index_below, address_tested, index_tested, element_address, operation, with_operand, product_with, pieces_size, checked, branch, operated, block_pieces};
+ghost use Rattle.cw_tmpl.specs.Templates.{address_pieces, load_place, store_place, operate_place, change_place, index_added, index_loaded, from_lower, indexes_between, index_below, address_tested, index_tested, element_address, operation, with_operand, product_with, pieces_size, checked, branch, operated, top_from_lower, times_entry, formed, bounded_address, block_pieces};
 
 use crate::arithmetic::put_checked;
 use crate::calling::frame_field;
+use crate::indexes::{indexes_to, put_top_below};
 use crate::jumping::{distance, opposite};
 use crate::orders::put_order;
 use crate::parts::{put_part_taken, put_shifted_down_signed, put_shifted_up};
@@ -23,7 +26,9 @@ use cw_tmpl::instructions::{
     increase, jump_if_below, load, multiply, operate, operate_number, set_word, store, with_number,
 };
 use cw_tmpl::library::{ADDRESS, BOUNDS};
-use cw_tmpl::{Assembly, Block, Coded, Element, Names, Place, Simple, Target, Test, Use};
+use cw_tmpl::{
+    Assembly, Block, Bounded, Bounds, Coded, Element, Form, Names, Place, Simple, Target, Test, Use,
+};
 use cw_word::NoMemory;
 
 /// Adds what is needed before an instruction names a place.
@@ -394,6 +399,103 @@ fn put_operated(
     }
 }
 
+/// Adds AX less a lower bound.
+fn put_top_from_lower(code: &mut Assembly, lower: i16) -> Result<(), NoMemory>
+    ensures { OnOk result (Adds code.old (top_from_lower lower) code.new) }
+{
+    if lower == 0 {
+        Ok(())
+    } else {
+        code.put_all(&[Coded::Whole(with_number(5, lower.cast_unsigned()))])
+    }
+}
+
+/// Adds AX, which counts entries, times their words.
+fn put_times_entry(code: &mut Assembly, width: u16) -> Result<(), NoMemory>
+    ensures { OnOk result (Adds code.old (times_entry width) code.new) }
+{
+    if width == 1 {
+        Ok(())
+    } else {
+        code.put_all(&[
+            Coded::Whole(set_word(BX, width)),
+            Coded::Whole(multiply(BX)),
+        ])
+    }
+}
+
+/// Adds the address of a word of the entry whose number is in AX.
+fn put_entry_formed(
+    code: &mut Assembly,
+    family: u16,
+    first: u16,
+    width: u16,
+    word: u16,
+) -> Result<(), NoMemory>
+    requires { first + word < 65536 }
+    ensures { OnOk result (Adds code.old (times_entry width ++ coded.Sum 0 (target.Word family (first + word)) ∷ []) code.new) }
+{
+    put_times_entry(code, width)?;
+    code.put_all(&[Coded::Sum {
+        reg: AX,
+        target: Target::Word {
+            family,
+            offset: first + word,
+        },
+    }])
+}
+
+/// Adds the address that is formed of an index in AX.
+fn put_formed(
+    code: &mut Assembly,
+    bounds: Bounds,
+    family: u16,
+    first: u16,
+    form: Form,
+) -> Result<(), NoMemory>
+    requires { form_within bounds first form ≡ true }
+    ensures { OnOk result (Adds code.old (formed family first form) code.new) }
+{
+    match form {
+        Form::Element { .. } => code.put_all(&[Coded::Sum {
+            reg: AX,
+            target: Target::Word {
+                family,
+                offset: first,
+            },
+        }]),
+        Form::Entry { width, word, .. } => put_entry_formed(code, family, first, width, word),
+    }
+}
+
+/// How many indexes are between the bounds of one of which an address is formed.
+fn indexes_formed(bounds: Bounds, first: u16, form: Form) -> u16
+    requires { form_within bounds first form ≡ true }
+    ensures { result ≡ indexes_between (bounds.upper -ℤ bounds.lower) }
+{
+    match form {
+        Form::Element { span, .. } => indexes_between(bounds.lower, bounds.upper, span),
+        Form::Entry { .. } => indexes_to(bounds.upper),
+    }
+}
+
+/// Adds the comparison of an index with its bounds, and the address that is formed of it.
+fn put_bounded(code: &mut Assembly, bounded: Bounded) -> Result<(), NoMemory>
+    requires { form_within bounded.bounds bounded.first bounded.form ≡ true }
+    ensures { OnOk result (Adds code.old (bounded_address bounded) code.new) }
+{
+    let Bounded {
+        bounds,
+        family,
+        first,
+        form,
+    } = bounded;
+    let count = indexes_formed(bounds, first, form);
+    put_top_from_lower(code, bounds.lower)?;
+    put_top_below(code, bounds.line, count)?;
+    put_formed(code, bounds, family, first, form)
+}
+
 /// Adds the code of a quotient by a number in the processor's own division.
 fn put_divided_by(code: &mut Assembly, number: u16) -> Result<(), NoMemory>
     ensures { OnOk result (Adds code.old (block_pieces no_names 0 (block.Divide number 0) order.Save) code.new) }
@@ -439,5 +541,6 @@ pub(crate) fn put_block(
         }
         Block::Count { down, line } => put_count(code, down, line),
         Block::Halve { places, .. } => put_shifted_down_signed(code, places),
+        Block::Bounded(bounded) => put_bounded(code, bounded),
     }
 }

@@ -1,11 +1,11 @@
 //! Code of indexes and addresses.
-ghost use Rattle.std.specs.Prelude.{◌<◌, ◌++◌, ◌∷◌, [], OnOk};
+ghost use Rattle.std.specs.Prelude.{◌≡◌, ◌<◌, ◌++◌, ◌∷◌, [], OnOk};
 ghost use Rattle.cw_i86.specs.declared.instr.Instr.TheVariants as i86;
 ghost use Rattle.cw_tmpl.specs.declared.pieces.Coded.TheVariants as coded;
 ghost use Rattle.cw_tmpl.specs.Assembling.{Adds};
 ghost use Rattle.cw_tmpl.specs.Library.{address_entry};
 ghost use Rattle.cw_tmpl.specs.Mnemonics.{move};
-ghost use Rattle.cw_tmpl.specs.Templates.{index_by, less_bound, plus_word, times, times_width, base_kept, based, element, in_row, element_of_two, entry, in_area, call_at_line, in_bounds};
+ghost use Rattle.cw_tmpl.specs.Templates.{index_by, less_bound, plus_word, times, times_width, base_kept, based, element, in_row, element_of_two, entry, in_area, call_at_line, indexes_between, top_below, with_both_bounds, in_bounds};
 
 use crate::arithmetic::put_times;
 use cw_i86::Instr;
@@ -174,6 +174,30 @@ pub(crate) fn put_call_at_line(code: &mut Assembly, entry: u16, line: u16) -> Re
     ])
 }
 
+/// Adds the comparison of the top operand with so many indexes from 0 on.
+pub(crate) fn put_top_below(code: &mut Assembly, line: u16, count: u16) -> Result<(), NoMemory>
+    ensures { OnOk result (Adds code.old (top_below line count) code.new) }
+{
+    code.put_all(&[
+        Coded::Whole(with_number(7, count)),
+        Coded::Whole(jump_if_below(5)),
+        Coded::Call(Target::LibraryAhead(BOUNDS)),
+        Coded::Data(line),
+    ])
+}
+
+/// How many indexes there are from 0 to an upper bound.
+pub(crate) fn indexes_to(upper: i16) -> u16
+    ensures { result ≡ indexes_between upper }
+{
+    if upper < 0 {
+        0
+    } else {
+        upper.unsigned_abs() + 1
+    }
+}
+
+/// Adds the comparison of the top operand with both bounds.
 pub(crate) fn put_in_bounds(
     code: &mut Assembly,
     line: u16,
@@ -181,6 +205,22 @@ pub(crate) fn put_in_bounds(
     upper: i16,
 ) -> Result<(), NoMemory>
     ensures { OnOk result (Adds code.old (in_bounds line lower upper) code.new) }
+{
+    if lower == 0 {
+        put_top_below(code, line, indexes_to(upper))
+    } else {
+        put_with_both_bounds(code, line, lower, upper)
+    }
+}
+
+/// The same with each of them.
+fn put_with_both_bounds(
+    code: &mut Assembly,
+    line: u16,
+    lower: i16,
+    upper: i16,
+) -> Result<(), NoMemory>
+    ensures { OnOk result (Adds code.old (with_both_bounds line lower upper) code.new) }
 {
     code.put_all(&[
         Coded::Whole(with_number(7, lower.cast_unsigned())),

@@ -5,11 +5,11 @@ ghost use Rattle.cw_order.specs.declared.order.Order.TheVariants as order;
 ghost use Rattle.cw_tmpl.specs.Blocks.{NamesParts};
 ghost use Rattle.cw_tmpl.specs.declared.blocks.Block.TheVariants as block;
 ghost use Rattle.cw_tmpl.specs.declared.blocks.Simple.TheVariants as simple;
-ghost use Rattle.cw_tmpl.specs.Templates.{address_pieces, load_place, pieces_size, index_size, lower_size, element_size, used_size, shift_size, part_size, times_size, width_size, bound_size, word_size, listed_size, order_size, block_size};
+ghost use Rattle.cw_tmpl.specs.Templates.{address_pieces, load_place, pieces_size, index_size, lower_size, element_size, used_size, shift_size, part_size, times_size, width_size, bound_size, word_size, bounds_size, top_lower_size, formed_size, listed_size, order_size, block_size};
 
 use crate::words::power;
 use cw_order::Order;
-use cw_tmpl::{Block, Element, Place, Simple, Test, Use};
+use cw_tmpl::{Block, Bounded, Element, Form, Place, Simple, Test, Use};
 use cw_word::NoMemory;
 
 /// How many bytes a multiplication by a number has.
@@ -146,6 +146,39 @@ fn element_size(element: Element) -> u32
     }
 }
 
+/// How many bytes the comparison of an index with both bounds has.
+fn bounds_size(lower: i16) -> u32
+    ensures { result ≡ bounds_size lower }
+{
+    if lower == 0 { 10 } else { 20 }
+}
+
+/// How many bytes the code of an index less a lower bound has, in AX.
+fn top_lower_size(lower: i16) -> u32
+    ensures is { result ≡ top_lower_size lower }
+    ensures small { result ≤ 3 }
+{
+    if lower == 0 { 0 } else { 3 }
+}
+
+/// How many bytes the address has that is formed of an index.
+fn formed_size(form: Form) -> u32
+    ensures is { result ≡ formed_size form }
+    ensures small { result ≤ 9 }
+{
+    match form {
+        Form::Element { .. } => 4,
+        Form::Entry { width, .. } => { if width == 1 { 4 } else { 9 } }
+    }
+}
+
+/// How many bytes the code of an index has that is compared with its bounds, and of an address that is formed of it.
+fn bounded_size(bounded: Bounded) -> u32
+    ensures { result ≡ block_size (block.Bounded bounded) order.Save }
+{
+    top_lower_size(bounded.bounds.lower) + 10 + formed_size(bounded.form)
+}
+
 /// How many bytes an order has behind it that uses the element.
 fn used_size(with: Use) -> u32
     ensures is { result ≡ used_size with }
@@ -203,7 +236,7 @@ fn order_size(order: &Order) -> Result<u32, NoMemory>
         Order::GoMain(_) => 15,
         Order::LoadPart { t, b, signed } => part_size(*t, *b, *signed) + 5,
         Order::GoSpecial(_) => 17,
-        Order::InBounds { .. } => 20,
+        Order::InBounds { lower, .. } => bounds_size(*lower),
         Order::Div { .. } => 25,
         Order::StorePart { b, .. } => shift_size(*b) + 12,
         Order::Rescale { from, to, .. } => rescale_size(*from, *to),
@@ -286,6 +319,7 @@ pub(crate) fn block_size(block: Block, order: &Order) -> Result<u32, NoMemory>
         }
         Block::Count { .. } => 8,
         Block::Halve { places, .. } => shift_size(places),
+        Block::Bounded(bounded) => bounded_size(bounded),
     };
     Ok(size)
 }

@@ -56,6 +56,7 @@ ends_block order.Store = true
 ends_block (order.LoadPart t b is_signed) = true
 ends_block (order.StorePart t b) = true
 ends_block (order.Element lower span line) = true
+ends_block (order.Entry width word span line) = true
 ends_block (order.InBounds lower upper line) = true
 ends_block (order.Add line) = true
 ends_block (order.Sub line) = true

@@ -15,14 +15,15 @@ use Rattle.cw_run86.specs.Views.{Has, compare as compare_of, word_difference, di
 use Rattle.cw_word.specs.FixedPoint.{FitsWord, fits_word}
 use Rattle.cw_word.specs.Word.{unsigned, low_word}
 use Rattle.cw_unit.specs.Stop.{StopKind, AddressRange, IndexRange}
-use Rattle.cw_unit.specs.Words.{Operand, Words, Outcome, Changed, put, put_if, is_below, number_of}
+use Rattle.cw_unit.specs.Words.{Operand, Words, Outcome, Changed, Refused, put, put_if, is_below, number_of}
 use Rattle.cw_unit.specs.Operation.{Form, Taken, InBounds, perform}
 use Rattle.cw_order.specs.FittingWords.{OperandFits}
 use Rattle.cw_order.specs.OrderChanges.{put_index, index}
 use Rattle.cw_tmpl.specs.Library.{stop_place}
+use Rattle.cw_tmpl.specs.Templates.{indexes_between}
 use Rattle.cw_routines.specs.Ways.{HasWord}
 use Rattle.cw_follow.proofs.Rows.{Rows}
-use Rattle.cw_follow.proofs.Chains.{Is, IsCompared, Leads, view, seen, compare_number, compared, compared_jumps, compared_passes, compared_more, jumps_below, passes_above, more, last, done}
+use Rattle.cw_follow.proofs.Chains.{Is, IsCompared, Leads, view, seen, compare_number, compared, compared_jumps, compared_passes, compared_more, jump_below, pass_above, jumps_below, passes_above, more, last, done}
 use Rattle.cw_follow.proofs.Straight.{Number, Difference, Negative, Product, straight}
 use Rattle.cw_follow.proofs.Routines.{HasLine, leads_on}
 use Rattle.cw_follow.proofs.Stacks.{level, record_of}
@@ -31,6 +32,7 @@ use Rattle.cw_order.specs.OrderState.{operand_words}
 use Rattle.cw_follow.proofs.Operands.{Setting, words, allowed, One, result, LandedWith, DoesHere, taking_one, calls_stop}
 use Rattle.cw_follow.proofs.Called.{Then, parts}
 use Rattle.cw_follow.proofs.Numbers.{left, right, overflows_same, difference_overflows_is, difference_is, fits_tested, unsigned_pos}
+use Rattle.cw_follow.proofs.Indexed.{below_count, past_count}
 use Rattle.cw_follow.proofs.Facts.{low_is, top_overflows, top_low, not_below}
 
 -- a test for an overflow, and something more behind it
@@ -180,6 +182,40 @@ module _ (c : Setting) (memory : List ℤ) (input output : List ℕ) where
 
   abbrev pub BoundsCode : ℕ → (lower upper : ℤ) → (by1 by2 line : ℕ) → Type 0
   BoundsCode at lower upper by1 by2 line = BoundCode (unsigned lower) 13 by1 line (BoundCode (unsigned upper) 14 by2 line (λ k. Unit {0})) at
+
+  -- AX is compared with so many indexes from 0 on
+  module _ {p : Watched} {at word cx dx bx si : ℕ} {overflow : Bool} {cells stack : ℕ → ℕ} {left : List ℕ} {told : Told} (T : ℕ → Type 0) (by line n count : ℕ)
+      (k : Kept c.program c.g c.acts memory input output cells stack left told) (i : BoundCode count 2 by line T at)
+      (s : Is c.image at (view word cx dx bx (2 * suc n) (record_of c.acts) si c.program.limits.area overflow cells stack left told) p) where
+    abbrev Between : Watched → Type 0
+    Between = IsCompared c.image (at + 3) (view word cx dx bx (2 * suc n) (record_of c.acts) si c.program.limits.area (difference_overflows word count) cells stack left told) word count
+
+    pub count_passes : word < count → Leads output 2 p (Is c.image (at + 3 + 2 + 5) (view word cx dx bx (2 * suc n) (record_of c.acts) si c.program.limits.area (difference_overflows word count) cells stack left told))
+    count_passes lt = compared_more c.rows {Between = Between} s k.wrote (compare_number c.rows count i.0 s) (λ q t. last c.rows t.is k.wrote (jump_below c.rows 5 lt i.1.0 t))
+
+    pub count_stops : (to : ℕ) (loaded : Bool) → line < 65536 → n < level c.acts → (at + 3 + 2 + 3 + by) % 65536 ≡ stop_place IndexRange % 65536 → count ≤ word → DoesHere c memory input output 15 to loaded line p (Refused IndexRange)
+    count_stops to loaded small low arrives above =
+        further 15 (lit≤ tt) (lit< tt)
+        (compared_more c.rows {Between = Between} s k.wrote (compare_number c.rows count i.0 s) (λ q t.
+        more c.rows t.is k.wrote (pass_above c.rows 5 above i.1.0 t) (λ q u.
+        calls_stop c memory input output IndexRange n by line tt small (omega arith) arrives k i.1.1.0 i.1.1.1.0 u)))
+
+  -- the order that does so where the lower bound is 0
+  pub bounds_from_zero : {p : Watched} {at : ℕ} (to by line : ℕ) (upper : ℤ) (operands : List Operand) → line < 65536 → at + 10 ≡ to
+      → (at + 3 + 2 + 3 + by) % 65536 ≡ stop_place IndexRange % 65536 → FitsWord upper → operand_words operands < level c.acts → All OperandFits operands
+      → BoundCode (indexes_between upper) 2 by line (λ k. Unit {0}) at → LandedWith c memory input output at true operands p
+      → DoesHere c memory input output 15 to true line p (perform c.program.limits.area (InBounds (pos 0) upper) (words operands memory input output))
+  bounds_from_zero {p} {at} to by line upper operands small e arrives fu roomy fits i =
+      taking_one c memory input output 15 to true line (λ x v. put_if (int_le (pos 0) x && int_le x upper) IndexRange x v) (λ x rest fx l. tested x rest fx l (int_le (pos 0) x && int_le x upper) refl) operands roomy fits
+    where
+      tested : (x : ℤ) (rest : List Operand) → FitsWord x → One c memory input output at x rest p → (b : Bool) → (int_le (pos 0) x && int_le x upper) ≡ b
+          → DoesHere c memory input output 15 to true line p (put_if b IndexRange x (words rest memory input output))
+      tested x rest fx l true is =
+          let end : at + 3 + 2 + 5 ≡ to = omega arith in
+          further 2 (lit≤ tt) (lit< tt)
+          (leads_on (λ r u. result c memory input output to (suc l.top) x rest end refl l.under l.kept u)
+          (count_passes (λ k. Unit {0}) by line l.top (indexes_between upper) l.kept i l.is (below_count upper x fu fx is)))
+      tested x rest fx l false is = count_stops (λ k. Unit {0}) by line l.top (indexes_between upper) l.kept i l.is to true small l.low arrives (past_count upper x fu fx is)
 
   compares_as : (cmp : Comparison) (x y : ℤ) → FitsWord x → FitsWord y → words_compare cmp (unsigned x) (unsigned y) ≡ compares cmp x y
   compares_as cmp x y fx fy = ap₂ (compares cmp) (left c.rows.words x y fx fy) (right c.rows.words x y fx fy)

@@ -1,5 +1,5 @@
 -- The processor follows the machine of the orders.
-use Rattle.std.proofs.Common.{◌≡◌, inl, inr, ℕ, zero, ◌+◌, ◌≤◌, Bool, true, false, pos, List, [], ◌∷◌, ◌++◌, length, drop, Option, Some, None, refl, sym, ap, ◌∙◌, subst, arith, lit<, lit≤}
+use Rattle.std.proofs.Common.{◌≡◌, inl, inr, ℕ, zero, ◌+◌, ◌≤◌, Bool, true, false, ℤ, pos, List, [], ◌∷◌, ◌++◌, length, drop, Option, Some, None, refl, sym, ap, ◌∙◌, subst, arith, lit<, lit≤}
 use Rattle.std.specs.Prelude.{slice_get, slice_index}
 use Rattle.std.proofs.lemmas.Bool.{true≢false, false≢true}
 use Rattle.cw_track.specs.Watching.{watched}
@@ -31,10 +31,12 @@ use Rattle.cw_tmpl.specs.declared.blocks.Simple.{Simple}
 use Rattle.cw_tmpl.specs.declared.blocks.Simple.TheVariants as simple
 use Rattle.cw_tmpl.specs.declared.blocks.Block.{Block}
 use Rattle.cw_tmpl.specs.declared.blocks.Block.TheVariants as block
+use Rattle.cw_tmpl.specs.declared.blocks.Form.{Form}
+use Rattle.cw_tmpl.specs.declared.blocks.Form.TheVariants as form
 use Rattle.cw_tmpl.specs.declared.blocks.Use.{Use}
 use Rattle.cw_tmpl.specs.declared.blocks.Use.TheVariants as uses
 use Rattle.cw_tmpl.specs.Mnemonics.{nothing}
-use Rattle.cw_tmpl.specs.Blocks.{address_orders, bounds_orders, element_orders, operand_orders, order_of, count_order, block_at, orders_left}
+use Rattle.cw_tmpl.specs.Blocks.{address_orders, bounds_orders, element_orders, orders_to_form, form_order, operand_orders, order_of, count_order, block_at, orders_left}
 use Rattle.cw_tmpl.specs.Names.{label_start, procedure_start, switch_start}
 use Rattle.cw_tmpl.specs.Templates.{distance}
 use Rattle.cw_tmpl.specs.ReferenceCode.{mark_starts, names_of, order_places}
@@ -63,6 +65,7 @@ use Rattle.cw_follow.proofs.Words.{save_follows, const_follows, home_follows, lo
 use Rattle.cw_follow.proofs.BlockOrders.{fetch_follows, assign_follows, divide_number_follows, within_block, write_top_follows}
 use Rattle.cw_follow.proofs.UseBlocks.{operand_follows}
 use Rattle.cw_follow.proofs.ElementBlocks.{fetch_element_follows, assign_element_follows, operate_element_follows}
+use Rattle.cw_follow.proofs.BoundedBlocks.{bounded_follows}
 use Rattle.cw_follow.proofs.PartBlocks.{fetch_part_follows, assign_part_follows}
 use Rattle.cw_follow.proofs.NumberBlocks.{count_follows, halve_follows}
 
@@ -108,6 +111,10 @@ use_plain uses.Mask = refl
 use_plain uses.Union = refl
 use_plain uses.Differ = refl
 use_plain (uses.Compare c m) = refl
+
+form_plain : (lower : ℤ) (f : Form) → IsPlain (form_order lower f)
+form_plain lower (form.Element span line) = refl
+form_plain lower (form.Entry width word span line) = refl
 
 quiet_parts : {O E : Type 0} (a b : O) (o : O × List E) → Quiet (a, []) (b, []) o → Unnoted (Quiet a b) o
 quiet_parts a b o (inl e) = (inl (ap (λ x. x.0) e), ap (λ x. x.1) e)
@@ -354,6 +361,8 @@ module _ (known : Given) where
         several (block.Count down line) (order.Save ∷ order.Const 1 ∷ []) (count_order down line) _ o e sh is refl (refl, (refl, tt)) (count_plain down line) (count_follows known s down line _ sh is)
     follow_block (block.Halve x power places line) o e is sh =
         several (block.Halve x power places line) (order.Save ∷ order.Const x ∷ []) (order.Mul power line) _ o e sh.0 is refl (refl, (refl, tt)) refl (halve_follows known s x power places line _ sh.0 sh.1 is)
+    follow_block (block.Bounded x) o e is sh =
+        several (block.Bounded x) (orders_to_form x) (form_order x.bounds.lower x.form) _ o e sh.0 is refl (refl, (refl, (refl, tt))) (form_plain x.bounds.lower x.form) (bounded_follows known s x _ sh.0 sh.1 is)
 
     follow_place : (o : Option Order) → slice_get s.orders.list place ≡ o → Noting (at g place loaded acts w Running) q
     follow_place None e = absurd (stuck_here known s (step_is known s None e))

@@ -163,20 +163,20 @@ module _ (e : Element) where
   fetched_many (cell.Frame n) (test.Bounds upper line) = refl
 
 -- the orders behind the first one of a block have no code, and end it
-none_inside : (n : ℕ) (os : List Order) → size_to n os n ≡ 0
+pub none_inside : (n : ℕ) (os : List Order) → size_to n os n ≡ 0
 none_inside zero os = refl
 none_inside (suc n) [] = refl
 none_inside (suc n) (o ∷ os) = omega (arith, none_inside n os)
 
-over_inside : (n : ℕ) (os : List Order) (o : Order) → slice_get os n ≡ Some o → left_at (suc n) os (suc n) ≡ 0
+pub over_inside : (n : ℕ) (os : List Order) (o : Order) → slice_get os n ≡ Some o → left_at (suc n) os (suc n) ≡ 0
 over_inside n [] o e = absurd (cc)
 over_inside zero (x ∷ xs) o e = refl
 over_inside (suc n) (x ∷ xs) o e = over_inside n xs o e
 
-many_between : (n : ℕ) → n < 32768 → indexes_between (pos n) ≡ suc n
+pub many_between : (n : ℕ) → n < 32768 → indexes_between (pos n) ≡ suc n
 many_between n few = omega arith
 
-within_span : (last : ℤ) (span : ℕ) → is_within last span ≡ true → (n : ℕ) × (last ≡ pos n) × (n < span)
+pub within_span : (last : ℤ) (span : ℕ) → is_within last span ≡ true → (n : ℕ) × (last ≡ pos n) × (n < span)
 within_span (pos n) span e = (n, refl, ltb-true n span e)
 within_span (negsuc n) span e = absurd (cc)
 
@@ -264,7 +264,7 @@ module _ (known : Given) where
     KnownTest e (test.Address origin) = ZeroWord e origin
     KnownTest e (test.Bounds upper line) = BoundsWords e upper
 
-    order_there : (k : ℕ) (o : Order) (os : List Order) → drop s.from s.orders.list ≡ os → slice_get os k ≡ Some o → order_at p g (s.from + k) ≡ Some o
+    pub order_there : (k : ℕ) (o : Order) (os : List Order) → drop s.from s.orders.list ≡ os → slice_get os k ≡ Some o → order_at p g (s.from + k) ≡ Some o
     order_there k o os e is = ap (λ u. order_in u (s.from + k)) s.unit ∙ sym (slice_drop s.orders.list s.from k) ∙ ap (λ l. slice_get l k) e ∙ is
 
     known_there : (e : Element) (t : Test) (pre behind : List Order) → HasElement e t pre behind → (k : ℕ) → slice_get (pre ++ formed_list e t behind) k ≡ Some (order.Home e.family e.first)
@@ -700,7 +700,7 @@ module _ (known : Given) where
       pub stands : HasPieces image (all.stands g s.orders s.unit).value at (element_tested e t ++ tail)
 
     -- an order that may stop, with the way to the stop where it does
-    stops_follow : (o : Order) (line k : ℕ) (os : List Order) (b : Block) → 20 ≤ weight_of o → s.done ≡ k → drop s.from s.orders.list ≡ os → slice_get os k ≡ Some o
+    pub stops_follow : (o : Order) (line k : ℕ) (os : List Order) (b : Block) → 20 ≤ weight_of o → s.done ≡ k → drop s.from s.orders.list ≡ os → slice_get os k ≡ Some o
         → ((m : Bool) → carry_action p (action_of p g acts o) g place m acts w ≡ after p.room line (puts_word p g acts o w) g place m acts w)
         → ((m : Bool) (kind : StopKind) → puts_word p g acts o w ≡ Refused kind → Does p image (weight_of o) 0 g m line acts s.before.output q (Refused kind))
         → block_at 0 (drop s.from s.orders.list) ≡ b → suc k ≤ orders_left b → Follow known (at_order g place loaded acts w Running) q

@@ -20,10 +20,10 @@ use Rattle.cw_tmpl.specs.declared.pieces.Target.TheVariants as target
 use Rattle.cw_tmpl.specs.declared.pieces.Coded.{Coded}
 use Rattle.cw_tmpl.specs.declared.pieces.Coded.TheVariants as coded
 use Rattle.cw_tmpl.specs.Pieces.{Filling, bytes_with, size_of, target_of, relocation_of, word_of, word_before, filled}
-use Rattle.cw_tmpl.specs.Mnemonics.{entry_of_table, change_memory, operate_number, memory, argument, double, jump_to, jump_if_below, at_bx, at_si, load, store, subtract, both, either, one_of, operate, change, move, add, multiply, shift_up, shift_up_once, shift_down, shift_down_once, shift_down_signed, shift_down_signed_once}
+use Rattle.cw_tmpl.specs.Mnemonics.{entry_of_table, change_memory, operate_number, memory, argument, double, jump_to, jump_if_below, set_word, at_bx, at_si, load, store, subtract, both, either, one_of, operate, change, move, add, multiply, shift_up, shift_up_once, shift_down, shift_down_once, shift_down_signed, shift_down_signed_once}
 use Rattle.cw_tmpl.specs.Library.{places_of_entries, entry_place, start_entry, overflow_entry, zero_divisor_entry, address_entry, bounds_entry, switch_entry, enter_entry, read_entry, product_entry, quotient_up_entry, quotient_down_entry, set_variable_entry, add_step_entry, put_variable_entry, exhausted_entry}
 use Rattle.cw_tmpl.specs.Names.{Names, mark_place, label_start, switch_start, procedure_start}
-use Rattle.cw_tmpl.specs.Templates.{template, call_library, call_stop, unless_overflow, checked, call_at_line, on_both, with_word, times, times_if, shifted, shifted_up, shifted_down, shifted_down_signed, lowest_if, taken, part_taken, load_top, store_part, rescale_if, by_routine, product_start, product_down, product, divisor_tested, quotient, in_area, index_by, less_bound, plus_word, times_width, base_kept, based, element, in_row, element_of_two, entry, in_bounds, branch, distance, jump_near, opposite_of, control_out, return_with, operands_dropped, base_jump, number_compared, mark_words, goal_words, loop_way, switch_pieces, address_pieces, load_place, store_place, operate_place, change_place, index_added, index_loaded, from_lower, indexes_between, element_tested, element_address, with_operand, product_with, pieces_size, operated, block_pieces, entry_pieces}
+use Rattle.cw_tmpl.specs.Templates.{template, call_library, call_stop, unless_overflow, checked, call_at_line, on_both, with_word, times, times_if, shifted, shifted_up, shifted_down, shifted_down_signed, lowest_if, taken, part_taken, load_top, store_part, rescale_if, by_routine, product_start, product_down, product, divisor_tested, quotient, in_area, index_by, less_bound, plus_word, times_width, base_kept, based, element, in_row, element_of_two, entry, top_below, with_both_bounds, in_bounds, branch, distance, jump_near, opposite_of, control_out, return_with, operands_dropped, base_jump, number_compared, mark_words, goal_words, loop_way, switch_pieces, address_pieces, load_place, store_place, operate_place, change_place, index_added, index_loaded, from_lower, indexes_between, element_tested, element_address, with_operand, product_with, pieces_size, operated, top_from_lower, times_entry, formed, block_pieces, entry_pieces}
 use Rattle.cw_tmpl.specs.declared.blocks.Place.{Place}
 use Rattle.cw_tmpl.specs.declared.blocks.Place.TheVariants as cell
 use Rattle.cw_tmpl.specs.declared.blocks.Element.{Element}
@@ -31,11 +31,13 @@ use Rattle.cw_tmpl.specs.declared.blocks.Test.{Test}
 use Rattle.cw_tmpl.specs.declared.blocks.Test.TheVariants as test
 use Rattle.cw_tmpl.specs.declared.blocks.Simple.{Simple}
 use Rattle.cw_tmpl.specs.declared.blocks.Simple.TheVariants as simple
+use Rattle.cw_tmpl.specs.declared.blocks.Form.{Form}
+use Rattle.cw_tmpl.specs.declared.blocks.Form.TheVariants as form
 use Rattle.cw_tmpl.specs.declared.blocks.Use.{Use}
 use Rattle.cw_tmpl.specs.declared.blocks.Use.TheVariants as uses
 use Rattle.cw_tmpl.specs.declared.blocks.Block.{Block}
 use Rattle.cw_tmpl.specs.declared.blocks.Block.TheVariants as block
-use Rattle.cw_tmpl.specs.Blocks.{address_orders, bounds_orders, element_orders, operand_orders, order_of, count_order, block_at}
+use Rattle.cw_tmpl.specs.Blocks.{address_orders, bounds_orders, element_orders, form_order, operand_orders, order_of, count_order, block_at}
 use Rattle.cw_tmpl.proofs.Shapes.{IsBlock, shape}
 use Rattle.cw_tmpl.specs.ReferenceCode.{names_of}
 use Rattle.cw_follow.specs.Placing.{Fills, base_of, definition_place}
@@ -154,6 +156,10 @@ SimpleFits (simple.Number w) = w < 65536
 SimpleFits (simple.Contents x) = Unit {0}
 SimpleFits (simple.Element e) = ElementFits e
 
+abbrev pub FormFits : Form → Type 0
+FormFits (form.Element span line) = Unit {0}
+FormFits (form.Entry width word span line) = width < 65536
+
 abbrev pub BlockFits : Block → Order → Type 0
 BlockFits block.Single o = OrderFits o
 BlockFits (block.Divide w line) o = w < 65536
@@ -164,6 +170,7 @@ BlockFits (block.FetchElement e) o = ElementFits e
 BlockFits (block.AssignElement e) o = ElementFits e
 BlockFits (block.Count down line) o = line < 65536
 BlockFits (block.Halve w power places line) o = places ≤ 15
+BlockFits (block.Bounded b) o = FitsWord b.bounds.lower × (b.bounds.line < 65536) × FormFits b.form
 BlockFits _ o = Unit {0}
 
 -- the numbers of all orders of a list
@@ -202,6 +209,10 @@ count_line : (down : Bool) (line : ℕ) → line_of (count_order down line) ≡ 
 count_line true line = refl
 count_line false line = refl
 
+form_fits : (lower : ℤ) (f : Form) → OrderFits (form_order lower f) → FormFits f
+form_fits lower (form.Element span line) h = tt
+form_fits lower (form.Entry width word span line) h = let most = h.1.0 in omega arith
+
 fits_first : (o : Order) (os : List Order) → AllFit (o ∷ os) → BlockFits (block_at 0 (o ∷ os)) o
 fits_first o os fits = cases (block_at 0 (o ∷ os)) (shape (o ∷ os))
   where
@@ -239,6 +250,9 @@ fits_first o os fits = cases (block_at 0 (o ∷ os)) (shape (o ∷ os))
         tested_fits e e.test (order.Store ∷ []) rest (λ k y is. fits_as (suc k) y _ sh.0 (element_front e order.Store rest k y is))
     cases (block.Count down line) sh = subst (λ n. n < 65536) (count_line down line) (fits_as 2 (count_order down line) _ sh refl).2
     cases (block.Halve w power places line) sh = few_places w power places sh.1
+    cases (block.Bounded b) sh =
+        let h = fits_as 0 (order.InBounds b.bounds.lower b.bounds.upper b.bounds.line) _ sh.0 refl in
+        (h.1.0, h.2, form_fits b.bounds.lower b.form (fits_as 3 (form_order b.bounds.lower b.form) _ sh.0 refl))
 
 fits_front : (left : ℕ) (o : Order) (os : List Order) → AllFit (o ∷ os) → BlockFits (block_at left (o ∷ os)) o
 fits_front zero o os fits = fits_first o os fits
@@ -458,8 +472,15 @@ module _ (p : OrderProgram) (segment next : ℕ) (value : Filling) (fills : Fill
       base_kept_fine _ (all_fine-append value (times_width line width) (plus_word line word ++ based line) (width_fine (width == 1) line width small most)
       (all_fine-append value (plus_word line word) (based line) (plus_fine line small word lt) (based_fine line small)))
 
-  bounds_fine : (line : ℕ) → line < 65536 → (lower upper : ℤ) → FitsWord lower → FitsWord upper → AllFine value (in_bounds line lower upper)
-  bounds_fine line small lower upper fl fu = (
+  between_small : (last : ℤ) → indexes_between last < 65536
+  between_small (pos n) = omega arith
+  between_small (negsuc n) = lit< tt
+
+  below_fine : (line count : ℕ) → line < 65536 → count < 65536 → AllFine value (top_below line count)
+  below_fine line count small lt = ((lit< tt, lt), ((lit< tt, lit< tt), call_stop_fine bounds_entry line (lit< tt) small))
+
+  both_bounds_fine : (line : ℕ) → line < 65536 → (lower upper : ℤ) → FitsWord lower → FitsWord upper → AllFine value (with_both_bounds line lower upper)
+  both_bounds_fine line small lower upper fl fu = (
     (lit< tt, unsigned_small lower fl),
     (
       (lit< tt, lit< tt),
@@ -469,6 +490,11 @@ module _ (p : OrderProgram) (segment next : ℕ) (value : Filling) (fills : Fill
       ),
     ),
   )
+
+  bounds_fine : (line : ℕ) → line < 65536 → (lower upper : ℤ) → FitsWord lower → FitsWord upper → AllFine value (in_bounds line lower upper)
+  bounds_fine line small (pos zero) upper fl fu = below_fine line (indexes_between upper) small (between_small upper)
+  bounds_fine line small (pos (suc n)) upper fl fu = both_bounds_fine line small (pos (suc n)) upper fl fu
+  bounds_fine line small (negsuc n) upper fl fu = both_bounds_fine line small (negsuc n) upper fl fu
 
   branch_fine : (c : Comparator) (end to : ℕ) → AllFine value (branch c end to)
   branch_fine c end to = ((condition_small c, lit< tt), (distance_small end to, tt))
@@ -651,10 +677,6 @@ module _ (p : OrderProgram) (segment next : ℕ) (value : Filling) (fills : Fill
   from_lower_fine (pos (suc n)) fl = ((lit< tt, lit< tt, unsigned_small (pos (suc n)) fl), tt)
   from_lower_fine (negsuc n) fl = ((lit< tt, lit< tt, unsigned_small (negsuc n) fl), tt)
 
-  between_small : (last : ℤ) → indexes_between last < 65536
-  between_small (pos n) = omega arith
-  between_small (negsuc n) = lit< tt
-
   element_tested_fine : (e : Element) (t : Test) → TestFits e t → AllFine value (element_tested e t)
   element_tested_fine e (test.Address origin) small =
       all_fine-append value (index_added e.index e.family origin) _ (index_fine e.index e.family origin)
@@ -693,6 +715,21 @@ module _ (p : OrderProgram) (segment next : ℕ) (value : Filling) (fills : Fill
       let end = place + pieces_size (with_operand 7 s) + 5 in
       all_fine-append value (with_operand 7 s) (branch c end (mark_place names mark)) (with_operand_fine 7 s (lit< tt) fits) (branch_fine c end (mark_place names mark))
 
+  -- an address that is formed of an index in AX
+  top_lower_fine : (lower : ℤ) → FitsWord lower → AllFine value (top_from_lower lower)
+  top_lower_fine (pos zero) fl = tt
+  top_lower_fine (pos (suc n)) fl = ((lit< tt, unsigned_small (pos (suc n)) fl), tt)
+  top_lower_fine (negsuc n) fl = ((lit< tt, unsigned_small (negsuc n) fl), tt)
+
+  times_entry_fine : (one : Bool) (width : ℕ) → width < 65536 → AllFine value (if one then [] else coded.Whole (set_word 3 width) ∷ coded.Whole (multiply 3) ∷ [])
+  times_entry_fine true width small = tt
+  times_entry_fine false width small = ((is_bx, small), ((lit< tt, lit< tt, is_bx), tt))
+
+  formed_fine : (family first : ℕ) (f : Form) → FormFits f → AllFine value (formed family first f)
+  formed_fine family first (form.Element span line) fits = ((is_ax, home_filled family first), tt)
+  formed_fine family first (form.Entry width word span line) fits =
+      all_fine-append value (times_entry width) (coded.Sum 0 (target.Word family (first + word)) ∷ []) (times_entry_fine (width == 1) width fits) ((is_ax, home_filled family (first + word)), tt)
+
   pub block_fine : (names : Names) (place : ℕ) (b : Block) (o : Order) → BlockFits b o → AllFine value (block_pieces names place b o)
   block_fine names place (block.Within n) o fits = tt
   block_fine names place block.Single o fits = template_fine names place o fits
@@ -711,3 +748,8 @@ module _ (p : OrderProgram) (segment next : ℕ) (value : Filling) (fills : Fill
   block_fine names place (block.Count true line) o fits = (is_ax, checked_fine line fits)
   block_fine names place (block.Count false line) o fits = (is_ax, checked_fine line fits)
   block_fine names place (block.Halve w power places line) o fits = down_signed_fine places (omega arith)
+  block_fine names place (block.Bounded b) o fits =
+      let test : List Coded = top_below b.bounds.line (indexes_between (b.bounds.upper -ℤ b.bounds.lower)) in
+      let last : List Coded = formed b.family b.first b.form in
+      all_fine-append value (top_from_lower b.bounds.lower) (test ++ last) (top_lower_fine b.bounds.lower fits.0)
+      (all_fine-append value test last (below_fine b.bounds.line _ fits.1 (between_small (b.bounds.upper -ℤ b.bounds.lower))) (formed_fine b.family b.first b.form fits.2))

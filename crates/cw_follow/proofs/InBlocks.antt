@@ -21,12 +21,14 @@ use Rattle.cw_tmpl.specs.declared.blocks.Test.{Test}
 use Rattle.cw_tmpl.specs.declared.blocks.Test.TheVariants as test
 use Rattle.cw_tmpl.specs.declared.blocks.Simple.{Simple}
 use Rattle.cw_tmpl.specs.declared.blocks.Simple.TheVariants as simple
+use Rattle.cw_tmpl.specs.declared.blocks.Form.{Form}
+use Rattle.cw_tmpl.specs.declared.blocks.Form.TheVariants as form
 use Rattle.cw_tmpl.specs.declared.blocks.Use.{Use}
 use Rattle.cw_tmpl.specs.declared.blocks.Use.TheVariants as uses
 use Rattle.cw_tmpl.specs.declared.blocks.Block.{Block}
 use Rattle.cw_tmpl.specs.declared.blocks.Block.TheVariants as block
 use Rattle.cw_follow.specs.Placing.{StandsBehind}
-use Rattle.cw_tmpl.specs.Blocks.{address_orders, bounds_orders, element_orders, operand_orders, order_of, count_order, block_at, orders_left, left_at}
+use Rattle.cw_tmpl.specs.Blocks.{address_orders, bounds_orders, element_orders, form_order, operand_orders, order_of, count_order, block_at, orders_left, left_at}
 use Rattle.cw_tmpl.proofs.Shapes.{front_is, IsBlock, shape}
 use Rattle.cw_tmpl.proofs.Sizes.{size_to}
 
@@ -111,6 +113,10 @@ count_stands : (down : Bool) (line : ℕ) → StandsBehind (count_order down lin
 count_stands true line = tt
 count_stands false line = tt
 
+form_stands : (lower : ℤ) (f : Form) → StandsBehind (form_order lower f)
+form_stands lower (form.Element span line) = tt
+form_stands lower (form.Entry width word span line) = tt
+
 use_stands : (u : Use) → StandsBehind (order_of u)
 use_stands (uses.Add line) = tt
 use_stands (uses.Subtract line) = tt
@@ -152,6 +158,7 @@ first_ends o os = cases (block_at 0 (o ∷ os)) (shape (o ∷ os))
     cases (block.AssignElement e) sh = ends_so (suc (length (element_orders e))) _ sh.0 (ends_with (element_orders e) order.Store (drop (suc (length (element_orders e))) os) (element_stands e) tt)
     cases (block.Count down line) sh = ends_so 2 _ sh (tt, (count_stands down line, tt))
     cases (block.Halve w power places line) sh = ends_so 2 _ sh.0 (tt, (tt, tt))
+    cases (block.Bounded b) sh = ends_so 3 _ sh.0 (tt, (tt, (form_stands b.bounds.lower b.form, tt)))
 
 next_ends : (left : ℕ) (o : Order) (os : List Order) → AllEnd left (o ∷ os) → AllEnd (orders_left (block_at left (o ∷ os))) os
 next_ends zero o os h = first_ends o os

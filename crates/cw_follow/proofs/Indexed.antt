@@ -24,7 +24,7 @@ use Rattle.cw_tmpl.specs.Blocks.{zero_word}
 use Rattle.cw_tmpl.specs.Library.{stop_place, address_entry, bounds_entry}
 use Rattle.cw_tmpl.specs.Mnemonics.{bx as bx_register, si as si_register, di, field, memory as memory_at, compare, double, jump_if_below, operate_number}
 use Rattle.cw_tmpl.specs.Pieces.{Filling, blanks}
-use Rattle.cw_tmpl.specs.Templates.{call_stop, index_added, index_loaded, from_lower, index_size, lower_size}
+use Rattle.cw_tmpl.specs.Templates.{call_stop, index_added, index_loaded, indexes_between, from_lower, index_size, lower_size}
 use Rattle.cw_order.specs.OrderState.{OrderActivation}
 use Rattle.cw_follow.proofs.Watched.{Watched, watched_step}
 use Rattle.cw_follow.proofs.Standing.{HasPieces}
@@ -179,7 +179,7 @@ pub record BetweenBounds (lower i : ℤ) (last : ℕ) : Type 0 where
   pub is : from_word lower i ≡ number
 
 -- two tests, both of which hold
-both_hold : (b c : Bool) → (b && c) ≡ true → (b ≡ true) × (c ≡ true)
+pub both_hold : (b c : Bool) → (b && c) ≡ true → (b ≡ true) × (c ≡ true)
 both_hold true true e = (refl, refl)
 both_hold true false e = absurd (cc)
 both_hold false c e = absurd (cc)
@@ -208,6 +208,19 @@ past_bounds lower upper i last fl fu fi e fails = cases (int_le lower i) (int_le
         omega (arith, ends, rank_true lower i fl fi below, rank_false i upper fi fu above, rank_is lower fl, rank_is i fi, rank_small lower fl, rank_small i fi, rank_small upper fu)
     cases false c below above off =
         omega (arith, ends, rank_false lower i fl fi below, rank_is lower fl, rank_is i fi, rank_small lower fl, rank_small i fi, rank_small upper fu)
+
+-- an index from 0 on is below their count, as a number without a sign
+pub below_count : (upper x : ℤ) → FitsWord upper → FitsWord x → (int_le (pos 0) x && int_le x upper) ≡ true → unsigned x < indexes_between upper
+below_count (pos n) (pos i) fu fx is = let le : i ≤ n = grind (arith, nat_tests) in omega (arith, fu.sfits, fx.sfits)
+below_count (pos n) (negsuc i) fu fx is = absurd (cc)
+below_count (negsuc n) (pos i) fu fx is = absurd (false≢true (both_hold (int_le (pos 0) (pos i)) (int_le (pos i) (negsuc n)) is).1)
+below_count (negsuc n) (negsuc i) fu fx is = absurd (cc)
+
+-- and any other is not
+pub past_count : (upper x : ℤ) → FitsWord upper → FitsWord x → (int_le (pos 0) x && int_le x upper) ≡ false → indexes_between upper ≤ unsigned x
+past_count (pos n) (pos i) fu fx is = let lt : n < i = grind (arith, nat_tests) in omega (arith, fu.sfits, fx.sfits)
+past_count (pos n) (negsuc i) fu fx is = omega (arith, fu.sfits, fx.sfits)
+past_count (negsuc n) x fu fx is = omega arith
 
 -- what the source does with such an index, where its word is in the area
 pub formed_between : (area b d : ℕ) (lower i : ℤ) (v : Words) → area ≤ 32768 → b + d < area → i -ℤ lower ≡ pos d

@@ -37,6 +37,7 @@ pub mod FrameBlocks
 pub mod BlockOrders
 pub mod UseBlocks
 pub mod ElementBlocks
+pub mod BoundedBlocks
 pub mod PartBlocks
 pub mod NumberBlocks
 pub mod Bodies

@@ -96,7 +96,7 @@ module _ (c : Setting) (memory : List ℤ) (input output : List ℕ) where
     pub under : StackIs c.program c.acts stack (suc (suc top)) rest
     pub kept : Kept c.program c.g c.acts memory input output cells stack left told
 
-  one_there : {p : Watched} {at : ℕ} (x : ℤ) (rest : List Operand) → operand_words (Word x ∷ rest) < level c.acts → LandedWith at true (Word x ∷ rest) p → One at x rest p
+  pub one_there : {p : Watched} {at : ℕ} (x : ℤ) (rest : List Operand) → operand_words (Word x ∷ rest) < level c.acts → LandedWith at true (Word x ∷ rest) p → One at x rest p
   one_there {p} {at} x rest room l = from l.top refl
     where
       from : (top : ℕ) → l.top ≡ top → One at x rest p

@@ -1,5 +1,5 @@
 -- The steps of orders on words, each of which is a block of its own.
-use Rattle.std.proofs.Common.{◌≡◌, ℕ, zero, suc, ◌+◌, ◌<◌, ◌≤◌, Bool, true, false, not, inl, inr, ℤ, ◌-ℤ◌, List, [], ◌∷◌, Some, None, refl, sym, ap, ◌∙◌, subst, arith, lit<, lit≤}
+use Rattle.std.proofs.Common.{◌≡◌, ℕ, zero, suc, ◌+◌, ◌<◌, ◌≤◌, Bool, true, false, not, inl, inr, ℤ, pos, negsuc, ◌-ℤ◌, List, [], ◌∷◌, Some, None, refl, sym, ap, ◌∙◌, subst, arith, lit<, lit≤}
 use Rattle.std.proofs.lemmas.Bool.{cases_lt}
 use Rattle.std.proofs.lemmas.List.Elements.{All-head}
 use Rattle.std.specs.List.{All}
@@ -31,7 +31,7 @@ use Rattle.cw_follow.proofs.Straight.{Both, Either, One, straight}
 use Rattle.cw_follow.proofs.Operands.{words}
 use Rattle.cw_follow.proofs.Bits.{part, drops, combines, differs, ands, ors, xors, lesses, takes, takes_all, loads_part, stores_part}
 use Rattle.cw_follow.proofs.Shifts.{part_steps, without_steps}
-use Rattle.cw_follow.proofs.Addresses.{indexes_less, in_areas, bounds_kept}
+use Rattle.cw_follow.proofs.Addresses.{indexes_less, in_areas, BoundsCode, bounds_kept, bounds_from_zero}
 use Rattle.cw_follow.proofs.Inputs.{reads}
 use Rattle.cw_follow.proofs.Steps.{Follow, Alone, leads_to, onward, few_segments, order_is, step_is, sound_at, does, tells, by, calls, setting, cheap, has_code, line_fits, low_room, here, next, code, behind, begins_next, silent}
 
@@ -253,12 +253,25 @@ module _ (known : Given) where
         (in_areas (setting known s) w.memory w.input w.output (next known s a) (by known s address_entry c) line w.operands (line_fits known s o e) (behind known s a o e)
         (calls known s address_entry c (lit< tt)) (low_room known s) s.fits.operands (code known s a o e) a.landed)
 
-    pub in_bounds_follows : (lower upper : ℤ) (line : ℕ) → slice_get s.orders.list place ≡ Some (order.InBounds lower upper line) → Follow known (at g place true acts w Running) q
-    in_bounds_follows lower upper line e =
+    -- with both bounds, and with one number where the lower one is 0
+    between_follows : (lower upper : ℤ) (line : ℕ) → slice_get s.orders.list place ≡ Some (order.InBounds lower upper line) → here known s a + 20 ≡ next known s a
+        → BoundsCode (setting known s) w.memory w.input w.output (here known s a) lower upper (by known s bounds_entry (here known s a + 3 + 2 + 3)) (by known s bounds_entry (here known s a + 3 + 2 + 3 + 2 + 3 + 2 + 3)) line
+        → Follow known (at g place true acts w Running) q
+    between_follows lower upper line e ends i =
         let o = order.InBounds lower upper line in
         let h = has_code known s o e in
         let first = here known s a + 3 + 2 + 3 in
         let second = first + 2 + 3 + 2 + 3 in
         does known s true line (perform p.limits.area (InBounds lower upper) w) 17 (begins_next known s a o e) (step_is known s (Some o) e) (cheap known s o 17 (lit≤ tt) e)
         (bounds_kept (setting known s) w.memory w.input w.output (next known s a) (by known s bounds_entry first) (by known s bounds_entry second) line lower upper w.operands (line_fits known s o e)
-        (behind known s a o e) (calls known s bounds_entry first (lit< tt)) (calls known s bounds_entry second (lit< tt)) h.0 h.1 (low_room known s) s.fits.operands (code known s a o e) a.landed)
+        ends (calls known s bounds_entry first (lit< tt)) (calls known s bounds_entry second (lit< tt)) h.0 h.1 (low_room known s) s.fits.operands i a.landed)
+
+    pub in_bounds_follows : (lower upper : ℤ) (line : ℕ) → slice_get s.orders.list place ≡ Some (order.InBounds lower upper line) → Follow known (at g place true acts w Running) q
+    in_bounds_follows (pos zero) upper line e =
+        let o = order.InBounds (pos 0) upper line in
+        let stop = here known s a + 3 + 2 + 3 in
+        does known s true line (perform p.limits.area (InBounds (pos 0) upper) w) 15 (begins_next known s a o e) (step_is known s (Some o) e) (cheap known s o 15 (lit≤ tt) e)
+        (bounds_from_zero (setting known s) w.memory w.input w.output (next known s a) (by known s bounds_entry stop) line upper w.operands (line_fits known s o e)
+        (behind known s a o e) (calls known s bounds_entry stop (lit< tt)) (has_code known s o e).1 (low_room known s) s.fits.operands (code known s a o e) a.landed)
+    in_bounds_follows (pos (suc n)) upper line e = let o = order.InBounds (pos (suc n)) upper line in between_follows (pos (suc n)) upper line e (behind known s a o e) (code known s a o e)
+    in_bounds_follows (negsuc n) upper line e = let o = order.InBounds (negsuc n) upper line in between_follows (negsuc n) upper line e (behind known s a o e) (code known s a o e)

@@ -104,6 +104,7 @@ StandsBehind order.Store = Unit {0}
 StandsBehind (order.LoadPart t b is_signed) = Unit {0}
 StandsBehind (order.StorePart t b) = Unit {0}
 StandsBehind (order.Element lower span line) = Unit {0}
+StandsBehind (order.Entry width word span line) = Unit {0}
 StandsBehind (order.InBounds lower upper line) = Unit {0}
 StandsBehind (order.Add line) = Unit {0}
 StandsBehind (order.Sub line) = Unit {0}

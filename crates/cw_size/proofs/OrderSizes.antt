@@ -137,7 +137,9 @@ pub store-part-short : (t b : ℕ) → listed_size (order.StorePart t b) ≤ 26
 store-part-short t b = let h = shift-short b in let z : shift_size b + 12 ≤ 26 = omega (arith, h) in z
 
 pub bounds-short : (c : Bool) (line : ℕ) (l h : ℤ) → listed_sizes (bounds_orders c line l h) ≤ 20
-bounds-short true line l h = omega arith
+bounds-short true line (pos zero) h = omega arith
+bounds-short true line (pos (suc l)) h = omega arith
+bounds-short true line (negsuc l) h = omega arith
 bounds-short false line l h = omega arith
 
 pub store-short : (o : Option Field) → listed_sizes (store_orders o) ≤ 26

@@ -11,11 +11,15 @@ use Rattle.cw_tmpl.specs.declared.blocks.Test.{Test}
 use Rattle.cw_tmpl.specs.declared.blocks.Test.TheVariants as test
 use Rattle.cw_tmpl.specs.declared.blocks.Simple.{Simple}
 use Rattle.cw_tmpl.specs.declared.blocks.Simple.TheVariants as simple
+use Rattle.cw_tmpl.specs.declared.blocks.Bounds.{Bounds}
+use Rattle.cw_tmpl.specs.declared.blocks.Form.{Form}
+use Rattle.cw_tmpl.specs.declared.blocks.Form.TheVariants as form
+use Rattle.cw_tmpl.specs.declared.blocks.Bounded.{Bounded}
 use Rattle.cw_tmpl.specs.declared.blocks.Use.{Use}
 use Rattle.cw_tmpl.specs.declared.blocks.Use.TheVariants as uses
 use Rattle.cw_tmpl.specs.declared.blocks.Block.{Block}
 use Rattle.cw_tmpl.specs.declared.blocks.Block.TheVariants as block
-use Rattle.cw_tmpl.specs.Blocks.{address_orders, element_orders, operand_orders, order_of, count_order, orders_before, last_order, place_at, use_of, zero_word, is_within, address_test, is_save, is_load, element_addressed, element_bounded, element_with, element_of, element_at, with_use, fetched, fetched_from, assigned, is_part, TestsWithin, OperandWithin, NamesParts, block_at, is_plain_divisor, halving_places, halved, divided, number_scaled, number_used, with_number, saved, saved_from, element_fetched, element_used, element_saved, fetched_or, saved_or, block_if_saved, block_from, block_of}
+use Rattle.cw_tmpl.specs.Blocks.{address_orders, element_orders, operand_orders, order_of, count_order, orders_before, last_order, place_at, use_of, zero_word, is_within, address_test, is_save, is_load, element_addressed, element_bounded, element_with, element_of, element_at, with_use, fetched, fetched_from, assigned, is_part, TestsWithin, OperandWithin, NamesParts, block_at, is_plain_divisor, halving_places, halved, divided, number_scaled, number_used, with_number, saved, saved_from, element_fetched, element_used, element_saved, fetched_or, saved_or, orders_to_form, form_order, form_of, form_within, bounded_as, behind_bounds, block_if_saved, block_from, block_of}
 
 pub front_is : (list : List Order) (k : ℕ) (o : Order) → slice_get list k ≡ Some o → drop k list ≡ o ∷ drop (suc k) list
 front_is [] k o e = absurd (cc)
@@ -50,6 +54,7 @@ IsBlock (block.AssignElement e) os = BeginsWith (order.Save ∷ element_orders e
 IsBlock (block.Operate s u) os = BeginsWith (order.Save ∷ operand_orders s) (order_of u) os × OperandIs s
 IsBlock (block.FetchPart x t b is_signed) os = BeginsWith (address_orders x) (order.LoadPart t b is_signed) os × (is_part t b ≡ true)
 IsBlock (block.AssignPart x t b) os = BeginsWith (order.Save ∷ address_orders x) (order.StorePart t b) os × (is_part t b ≡ true)
+IsBlock (block.Bounded b) os = BeginsWith (orders_to_form b) (form_order b.bounds.lower b.form) os × (form_within b.bounds b.first b.form ≡ true)
 IsBlock b os = BeginsWith (orders_before b) (last_order b) os
 
 with_last : (before os : List Order) (o : Order) → os ≡ before ++ drop (length before) os → slice_get os (length before) ≡ Some o → BeginsWith before o os
@@ -327,9 +332,48 @@ module _ (os : List Order) where
       cases None at = is
       cases (Some e) at = stored e (slice_get os (length (element_orders e))) (slice_get os (length (element_orders e) + 1)) refl refl (element_shape os e at)
 
+-- behind the comparison of an index with bounds
+form_shape : (lower : ℤ) (o : Option Order) (w : Form) → form_of lower o ≡ Some w → o ≡ Some (form_order lower w)
+form_shape lower None w is = absurd (cc)
+form_shape lower (Some (order.Element l span line)) w is = cases (int_le lower l && int_le l lower) refl is
+  where
+    cases : (same : Bool) → (int_le lower l && int_le l lower) ≡ same → (if same then Some (form.Element span line) else None) ≡ Some w → Some (order.Element l span line) ≡ Some (form_order lower w)
+    cases true both is =
+        let made : form.Element span line ≡ w = cc in
+        let lowers : lower ≡ l = both_bounds lower l both in
+        ap (λ k. Some (order.Element k span line)) (sym lowers) ∙ ap (λ y. Some (form_order lower y)) made
+    cases false both is = absurd (cc)
+form_shape lower (Some (order.Entry width word span line)) w is =
+    let made : form.Entry width word span line ≡ w = cc in
+    ap (λ y. Some (form_order lower y)) made
+form_shape lower (Some _) w is = absurd (cc)
+
+bounded_shape : (os : List Order) (b : Bounds) (saves puts forms : Option Order) → slice_get os 0 ≡ saves → slice_get os 1 ≡ puts → slice_get os 2 ≡ forms
+    → IsBlock (behind_bounds b saves puts forms) (order.InBounds b.lower b.upper b.line ∷ os)
+bounded_shape os b (Some order.Save) (Some (order.Home f n)) forms e0 e1 e2 = cases (form_of b.lower forms) refl
+  where
+    first : os ≡ order.Save ∷ order.Home f n ∷ drop 2 os
+    first = front_is os 0 order.Save e0 ∙ ap (λ l. order.Save ∷ l) (front_is os 1 (order.Home f n) e1)
+
+    within : (B : Bounded) (i : Bool) → form_within B.bounds B.first B.form ≡ i → BeginsWith (orders_to_form B) (form_order B.bounds.lower B.form) (order.InBounds b.lower b.upper b.line ∷ os)
+        → IsBlock (if i then block.Bounded B else block.Single) (order.InBounds b.lower b.upper b.line ∷ os)
+    within B true is e = (e, is)
+    within B false is e = tt
+
+    cases : (w : Option Form) → form_of b.lower forms ≡ w → IsBlock (bounded_as b f n w) (order.InBounds b.lower b.upper b.line ∷ os)
+    cases None is = tt
+    cases (Some w) is =
+        let B : Bounded = record { bounds = b; family = f; first = n; form = w } in
+        within B (form_within b n w) refl
+        (ap (λ l. order.InBounds b.lower b.upper b.line ∷ l)
+        (first ∙ ap (λ l. order.Save ∷ order.Home f n ∷ l) (front_is os 2 (form_order b.lower w) (e2 ∙ form_shape b.lower forms w is))))
+bounded_shape os b _ _ forms e0 e1 e2 = tt
+
 if_saved_shape : (os : List Order) → IsBlock (block_if_saved os) os
 if_saved_shape [] = tt
 if_saved_shape (order.Save ∷ os) = saved_or_shape os (saved_from (place_at os) os) (saved_shape os)
+if_saved_shape (order.InBounds l u line ∷ os) =
+    bounded_shape os (record { lower = l; upper = u; line = line }) (slice_get os 0) (slice_get os 1) (slice_get os 2) refl refl refl
 if_saved_shape (_ ∷ os) = tt
 
 pub shape : (os : List Order) → IsBlock (block_of os) os
@@ -358,4 +402,5 @@ names_parts zero os = cases (block_of os) (shape os)
     cases (block.Operate s u) h = operand s h.1
     cases (block.FetchElement e) h = element e e.test h.1
     cases (block.AssignElement e) h = element e e.test h.1
+    cases (block.Bounded b) h = h.1
     cases _ h = tt

@@ -13,7 +13,7 @@ use Rattle.cw_run86.specs.Views.{with_number}
 use Rattle.cw_word.specs.BitField.{field_mask}
 use Rattle.cw_order.specs.declared.order.Comparator.{Comparator}
 use Rattle.cw_tmpl.specs.declared.pieces.Coded.TheVariants as coded
-use Rattle.cw_tmpl.specs.Mnemonics.{ax, cx, si, di, at_bx, at_si, set_word, move, load, store, compare, double, multiply, operate, change, shift_up, shift_down, shift_down_signed, shift_up_once, shift_down_once, shift_down_signed_once, jump_if_below}
+use Rattle.cw_tmpl.specs.Mnemonics.{ax, bx, cx, si, di, at_bx, at_si, set_word, move, load, store, compare, double, multiply, operate, change, shift_up, shift_down, shift_down_signed, shift_up_once, shift_down_once, shift_down_signed_once, jump_if_below}
 use Rattle.cw_tmpl.specs.declared.blocks.Place.{Place}
 use Rattle.cw_tmpl.specs.declared.blocks.Place.TheVariants as cell
 use Rattle.cw_tmpl.specs.declared.blocks.Element.{Element}
@@ -21,19 +21,23 @@ use Rattle.cw_tmpl.specs.declared.blocks.Test.{Test}
 use Rattle.cw_tmpl.specs.declared.blocks.Test.TheVariants as test
 use Rattle.cw_tmpl.specs.declared.blocks.Simple.{Simple}
 use Rattle.cw_tmpl.specs.declared.blocks.Simple.TheVariants as simple
+use Rattle.cw_tmpl.specs.declared.blocks.Form.{Form}
+use Rattle.cw_tmpl.specs.declared.blocks.Form.TheVariants as form
+use Rattle.cw_tmpl.specs.declared.blocks.Bounded.{Bounded}
 use Rattle.cw_tmpl.specs.declared.blocks.Use.{Use}
 use Rattle.cw_tmpl.specs.declared.blocks.Use.TheVariants as uses
 use Rattle.cw_tmpl.specs.declared.blocks.Block.{Block}
 use Rattle.cw_tmpl.specs.declared.blocks.Block.TheVariants as block
+use Rattle.cw_tmpl.specs.declared.pieces.Target.TheVariants as target
 use Rattle.cw_unit.specs.declared.unit.Goal.{Goal}
 use Rattle.cw_unit.specs.declared.unit.Goal.TheVariants as goal
 use Rattle.cw_order.specs.declared.order.LabelMark.{LabelMark}
 use Rattle.cw_tmpl.specs.Pieces.{blanks}
 use Rattle.cw_tmpl.specs.Names.{Names, no_names, mark_place, switch_size}
-use Rattle.cw_tmpl.specs.Blocks.{address_orders, bounds_orders, element_orders, operand_orders, order_of, count_order, element_at, element_fetched, fetched_or, block_of, block_at, orders_left, left_at}
+use Rattle.cw_tmpl.specs.Blocks.{address_orders, bounds_orders, element_orders, orders_to_form, form_order, operand_orders, order_of, count_order, element_at, element_fetched, fetched_or, block_of, block_at, orders_left, left_at}
 use Rattle.cw_tmpl.proofs.Shapes.{IsBlock, shape}
 use Rattle.cw_tmpl.specs.Library.{overflow_entry, address_entry}
-use Rattle.cw_tmpl.specs.Templates.{template, mark_words, goal_words, landing_pieces, switch_pieces, times_if, rescale_if, product_start, product_down, times, less_bound, plus_word, times_width, based, element, in_row, element_of_two, entry, address_pieces, load_place, store_place, pieces_size, operated, block_pieces, block_size, order_size, times_size, width_size, bound_size, word_size, listed_size, size_behind, sizes_behind, listed_sizes, distance, entry_pieces, shifted, shifted_up, shifted_down, shifted_down_signed, lowest_if, part_taken, index_size, lower_size, element_size, used_size, store_part, operate_place, change_place, index_added, index_loaded, from_lower, indexes_between, index_below, address_tested, index_tested, element_tested, element_address, with_operand, product_with, checked, branch, call_stop, shift_size, lowest_size, part_size, size_in_list, owed, number_size}
+use Rattle.cw_tmpl.specs.Templates.{template, mark_words, goal_words, landing_pieces, switch_pieces, times_if, rescale_if, product_start, product_down, times, less_bound, plus_word, times_width, based, element, in_row, element_of_two, entry, address_pieces, load_place, store_place, pieces_size, operated, block_pieces, block_size, order_size, times_size, width_size, bound_size, word_size, listed_size, size_behind, sizes_behind, listed_sizes, distance, entry_pieces, shifted, shifted_up, shifted_down, shifted_down_signed, lowest_if, part_taken, index_size, lower_size, element_size, used_size, store_part, operate_place, change_place, index_added, index_loaded, from_lower, indexes_between, index_below, address_tested, index_tested, element_tested, element_address, with_operand, product_with, checked, branch, call_stop, shift_size, lowest_size, part_size, size_in_list, owed, number_size, bounds_size, top_lower_size, formed_size, top_from_lower, top_below, formed}
 use Rattle.cw_tmpl.specs.ReferenceCode.{templates, landings, switches, places_from, entry_size, order_places, landings_place, switches_place, names_of, mark_starts, pieces_of, switch_sizes, StandsAt}
 use Rattle.cw_tmpl.proofs.Growing.{blanks-append}
 
@@ -83,6 +87,7 @@ size_everywhere names place (block.FetchElement e) o = refl
 size_everywhere names place (block.AssignElement e) o = refl
 size_everywhere names place (block.Count down line) o = refl
 size_everywhere names place (block.Halve w power places line) o = refl
+size_everywhere names place (block.Bounded b) o = refl
 
 -- ---- the code before a place of the list
 
@@ -324,6 +329,9 @@ listed (order.Mul (pos (suc n)) line) = product_scaled_long (2 ^ suc n == 32768)
 listed (order.Mul (negsuc n) line) = product_down_long (nat_lt n 15) line n
 listed (order.Div (pos n) line) = refl
 listed (order.Div (negsuc n) line) = refl
+listed (order.InBounds (pos zero) upper line) = refl
+listed (order.InBounds (pos (suc n)) upper line) = refl
+listed (order.InBounds (negsuc n) upper line) = refl
 listed (order.LoopWay marks) = loop_way_long no_names 0 marks
 listed (order.Element lower span line) = element_long line lower
 listed (order.ElementOfTwo lower second width span line) = element_of_two_long line lower second width
@@ -449,12 +457,17 @@ short_lower (pos zero) = omega arith
 short_lower (pos (suc n)) = omega arith
 short_lower (negsuc n) = omega arith
 
+bounds_some : (l : ℤ) → top_lower_size l + 10 ≤ bounds_size l
+bounds_some (pos zero) = omega arith
+bounds_some (pos (suc n)) = omega arith
+bounds_some (negsuc n) = omega arith
+
 bounds_orders_fit : (x : Place) (f n : ℕ) (l u : ℤ) (at s line : ℕ) (o : Order) (rest : List Order)
     → (let list : List Order = address_orders x ++ (order.Load ∷ order.InBounds l u at ∷ order.Save ∷ order.Home f n ∷ order.Element l s line ∷ o ∷ rest) in
     let behind : ℕ = size_behind (Some (order.Home f n)) (Some (order.Element l s line)) o + sizes_behind (Some (order.Element l s line)) (Some o) rest in
     (index_size x + lower_size l + 23 + behind ≤ listed_sizes list) × (index_size x + lower_size l + 23 + behind ≤ listed_sizes (order.Save ∷ list)))
-bounds_orders_fit (cell.Word f' n') f n l u at s line o rest = (omega (arith, short_lower l), omega (arith, short_lower l))
-bounds_orders_fit (cell.Frame n') f n l u at s line o rest = (omega (arith, short_lower l), omega (arith, short_lower l))
+bounds_orders_fit (cell.Word f' n') f n l u at s line o rest = (omega (arith, short_lower l, bounds_some l), omega (arith, short_lower l, bounds_some l))
+bounds_orders_fit (cell.Frame n') f n l u at s line o rest = (omega (arith, short_lower l, bounds_some l), omega (arith, short_lower l, bounds_some l))
 
 -- an order behind them
 element_last : (e : Element) (o : Order) (rest : List Order)
@@ -573,6 +586,39 @@ operate_fits (simple.Contents (cell.Frame n)) u rest = word u (used_last order.L
     word uses.Differ e = omega (arith, e)
     word (uses.Compare c m) e = omega (arith, e)
 
+-- an index that is compared with bounds, and the address that is formed of it
+top_lower_long : (l : ℤ) → length (blanks (top_from_lower l)) ≡ top_lower_size l
+top_lower_long (pos zero) = refl
+top_lower_long (pos (suc n)) = refl
+top_lower_long (negsuc n) = refl
+
+formed_long : (f n : ℕ) (w : Form) → length (blanks (formed f n w)) ≡ formed_size w
+formed_long f n (form.Element span line) = refl
+formed_long f n (form.Entry width word span line) = cases (width == 1)
+  where
+    cases : (one : Bool) → length (blanks ((if one then [] else coded.Whole (set_word bx width) ∷ coded.Whole (multiply bx) ∷ []) ++ coded.Sum ax (target.Word f (n + word)) ∷ [])) ≡ (if one then 4 else 9)
+    cases true = refl
+    cases false = refl
+
+pub bounded_long : (b : Bounded) → block_size (block.Bounded b) order.Save ≡ top_lower_size b.bounds.lower + 10 + formed_size b.form
+bounded_long b =
+    let test : List Coded = top_below b.bounds.line (indexes_between (b.bounds.upper -ℤ b.bounds.lower)) in
+    let last : List Coded = formed b.family b.first b.form in
+    omega (arith, appended_long (top_from_lower b.bounds.lower) (test ++ last), appended_long test last, top_lower_long b.bounds.lower, formed_long b.family b.first b.form)
+
+bounded_fits : (b : Bounded) (rest : List Order) → top_lower_size b.bounds.lower + 10 + formed_size b.form + listed_sizes rest ≤ listed_sizes (orders_to_form b ++ form_order b.bounds.lower b.form ∷ rest)
+bounded_fits b rest = cases b.form
+  where
+    one : (i : Bool) → (if i then 4 else 9) ≤ 9
+    one true = omega arith
+    one false = omega arith
+
+    cases : (w : Form) → top_lower_size b.bounds.lower + 10 + formed_size w + listed_sizes rest ≤ listed_sizes (orders_to_form b ++ form_order b.bounds.lower w ∷ rest)
+    cases (form.Element span line) =
+        omega (arith, bounds_some b.bounds.lower, behind_other (Some (order.Home b.family b.first)) (order.Element b.bounds.lower span line) tt (λ x. refl) refl rest)
+    cases (form.Entry width word span line) =
+        omega (arith, one (width == 1), bounds_some b.bounds.lower, behind_other (Some (order.Home b.family b.first)) (order.Entry width word span line) tt (λ x. refl) refl rest)
+
 -- a block, and the orders behind it
 abbrev FromBlock : Block → Order → List Order → Type 0
 FromBlock b o os = block_size b o + listed_sizes (drop (orders_left b) os) ≤ listed_sizes (o ∷ os)
@@ -597,6 +643,7 @@ block_fits o os = cases (block_of (o ∷ os)) refl (shape (o ∷ os))
     cases (block.AssignElement e) is sh = omega (arith, assign_element_fits e (drop (suc (length (element_orders e))) os), ap listed_sizes sh.0)
     cases (block.Count down line) is sh = omega (arith, ap listed_sizes sh, count_fits down line (drop 2 os), count_long down line)
     cases (block.Halve w power places line) is sh = omega (arith, ap listed_sizes sh.0, halve_fits w power places line (drop 2 os))
+    cases (block.Bounded b) is sh = omega (arith, ap listed_sizes sh.0, bounded_long b, bounded_fits b (drop 3 os))
 
 whole_within : (names : Names) (place left : ℕ) (os : List Order) → length (blanks (templates names place left os)) ≤ listed_sizes (drop left os)
 whole_within names place zero [] = omega arith

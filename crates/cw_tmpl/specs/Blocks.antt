@@ -1,7 +1,8 @@
 -- How the orders of a list stand in blocks. A block has one piece of code. Its orders but the last only save the top operand, put a word, or
 -- make the address of an element; the code leaves that operand where it is, and takes the word from its own instruction or from memory. The
--- address of an element may stop. A mark stands at the first order of a block alone.
-use Rattle.std.specs.Prelude.{◌≡◌, ℕ, zero, suc, ◌+◌, ◌-◌, ◌==◌, ◌&&◌, if◌then◌else◌, nat_lt, nat_le, int_le, ◌-ℤ◌, ℤ, pos, negsuc, Bool, true, false, List, [], ◌∷◌, ◌++◌, length, Option, Some, None, slice_get}
+-- address of an element may stop. A mark stands at the first order of a block alone. Where a block begins with the comparison of an index with
+-- bounds, that index is the top operand.
+use Rattle.std.specs.Prelude.{◌≡◌, ℕ, zero, suc, ◌+◌, ◌*◌, ◌-◌, ◌==◌, ◌&&◌, if◌then◌else◌, nat_lt, nat_le, int_le, ◌-ℤ◌, ℤ, pos, negsuc, Bool, true, false, List, [], ◌∷◌, ◌++◌, length, Option, Some, None, slice_get}
 use Rattle.cw_order.specs.declared.order.Order.{Order}
 use Rattle.cw_order.specs.declared.order.Order.TheVariants as order
 use Rattle.cw_tmpl.specs.declared.blocks.Place.{Place}
@@ -12,6 +13,9 @@ use Rattle.cw_tmpl.specs.declared.blocks.Test.{Test}
 use Rattle.cw_tmpl.specs.declared.blocks.Test.TheVariants as test
 use Rattle.cw_tmpl.specs.declared.blocks.Simple.{Simple}
 use Rattle.cw_tmpl.specs.declared.blocks.Simple.TheVariants as simple
+use Rattle.cw_tmpl.specs.declared.blocks.Form.{Form}
+use Rattle.cw_tmpl.specs.declared.blocks.Form.TheVariants as form
+use Rattle.cw_tmpl.specs.declared.blocks.Bounded.{Bounded}
 use Rattle.cw_tmpl.specs.declared.blocks.Use.{Use}
 use Rattle.cw_tmpl.specs.declared.blocks.Use.TheVariants as uses
 use Rattle.cw_tmpl.specs.declared.blocks.Block.{Block}
@@ -34,6 +38,15 @@ abbrev pub element_orders : Element → List Order
 element_orders e =
     address_orders e.index
     ++ order.Load ∷ (bounds_orders e.lower e.test ++ order.Save ∷ order.Home e.family e.first ∷ order.Element e.lower e.span e.line ∷ [])
+
+-- those from the comparison of an index with bounds to the order that forms an address of it
+abbrev pub orders_to_form : Bounded → List Order
+orders_to_form b = order.InBounds b.bounds.lower b.bounds.upper b.bounds.line ∷ order.Save ∷ order.Home b.family b.first ∷ []
+
+-- and that order
+abbrev pub form_order : (lower : ℤ) → Form → Order
+form_order lower (form.Element span line) = order.Element lower span line
+form_order lower (form.Entry width word span line) = order.Entry width word span line
 
 -- those that put a simple operand
 abbrev pub operand_orders : Simple → List Order
@@ -66,6 +79,7 @@ orders_before (block.FetchElement e) = element_orders e
 orders_before (block.AssignElement e) = order.Save ∷ element_orders e
 orders_before (block.Count down line) = order.Save ∷ order.Const 1 ∷ []
 orders_before (block.Halve w power places line) = order.Save ∷ order.Const w ∷ []
+orders_before (block.Bounded b) = orders_to_form b
 
 -- one more, and one less
 abbrev pub count_order : (down : Bool) → (line : ℕ) → Order
@@ -87,6 +101,7 @@ last_order (block.FetchElement e) = order.Load
 last_order (block.AssignElement e) = order.Store
 last_order (block.Count down line) = count_order down line
 last_order (block.Halve w power places line) = order.Mul power line
+last_order (block.Bounded b) = form_order b.bounds.lower b.form
 
 -- how many orders follow in the block
 abbrev pub orders_left : Block → ℕ
@@ -288,10 +303,42 @@ abbrev pub saved_or : Option Element → List Order → (other : Block) → Bloc
 saved_or None os other = other
 saved_or (Some e) os other = element_saved e (slice_get os (length (element_orders e))) (slice_get os (length (element_orders e) + 1)) other
 
--- the block that begins with the first order of a list
+-- what an order forms of an index that has been compared with bounds from a lower one, where an element counts from that one too
+abbrev pub form_of : (lower : ℤ) → Option Order → Option Form
+form_of lower (Some (order.Element l span line)) = if int_le lower l && int_le l lower then Some (form.Element span line) else None
+form_of lower (Some (order.Entry width word span line)) = Some (form.Entry width word span line)
+form_of lower _ = None
+
+-- whether a word of each entry from 0 to the upper bound is among those that are known to be in the data area
+abbrev pub entries_within : (lower upper : ℤ) → (width word span : ℕ) → Bool
+entries_within (pos zero) (pos n) width word span = nat_lt (n * width + word) span
+entries_within lower upper width word span = false
+
+-- whether all indexes between the bounds name words that are known to be in the data area
+abbrev pub form_within : Bounds → (first : ℕ) → Form → Bool
+form_within b first (form.Element span line) = is_within (b.upper -ℤ b.lower) span
+form_within b first (form.Entry width word span line) = entries_within b.lower b.upper width word span && nat_lt (first + word) 65536
+
+abbrev pub bounded_if : Bounded → Block
+bounded_if b = if form_within b.bounds b.first b.form then block.Bounded b else block.Single
+
+abbrev pub bounded_as : Bounds → (family first : ℕ) → Option Form → Block
+bounded_as b f n None = block.Single
+bounded_as b f n (Some w) = bounded_if (record { bounds = b; family = f; first = n; form = w })
+
+-- behind the comparison of an index with bounds
+abbrev pub behind_bounds : Bounds → (saves puts forms : Option Order) → Block
+behind_bounds b (Some order.Save) (Some (order.Home f n)) forms = bounded_as b f n (form_of b.lower forms)
+behind_bounds b _ _ forms = block.Single
+
+abbrev pub at_bounds : (bounds : Option Bounds) → (saves puts forms : Option Order) → Block
+at_bounds None saves puts forms = block.Single
+at_bounds (Some b) saves puts forms = behind_bounds b saves puts forms
+
+-- the block that begins with the first order of a list, where it is no address
 abbrev pub block_if_saved : List Order → Block
 block_if_saved (order.Save ∷ os) = saved_or (element_at (place_at os) os) os (saved_from (place_at os) os)
-block_if_saved os = block.Single
+block_if_saved os = at_bounds (bounds_at (slice_get os 0)) (slice_get os 1) (slice_get os 2) (slice_get os 3)
 
 abbrev pub block_from : Option Place → List Order → Block
 block_from None os = block_if_saved os
@@ -320,11 +367,12 @@ abbrev pub OperandWithin : Simple → Type 0
 OperandWithin (simple.Element e) = TestsWithin e e.test
 OperandWithin s = Unit {0}
 
--- the parts of words that blocks name are bits of a word, and the indexes of their elements are as above
+-- the parts of words that blocks name are bits of a word, and the indexes of their elements and entries are as above
 abbrev pub NamesParts : Block → Type 0
 NamesParts (block.FetchPart x t b is_signed) = is_part t b ≡ true
 NamesParts (block.AssignPart x t b) = is_part t b ≡ true
 NamesParts (block.Operate s u) = OperandWithin s
 NamesParts (block.FetchElement e) = TestsWithin e e.test
 NamesParts (block.AssignElement e) = TestsWithin e e.test
+NamesParts (block.Bounded b) = form_within b.bounds b.first b.form ≡ true
 NamesParts b = Unit {0}

@@ -29,6 +29,9 @@ use Rattle.cw_tmpl.specs.declared.blocks.Test.{Test}
 use Rattle.cw_tmpl.specs.declared.blocks.Test.TheVariants as test
 use Rattle.cw_tmpl.specs.declared.blocks.Simple.{Simple}
 use Rattle.cw_tmpl.specs.declared.blocks.Simple.TheVariants as simple
+use Rattle.cw_tmpl.specs.declared.blocks.Form.{Form}
+use Rattle.cw_tmpl.specs.declared.blocks.Form.TheVariants as form
+use Rattle.cw_tmpl.specs.declared.blocks.Bounded.{Bounded}
 use Rattle.cw_tmpl.specs.declared.blocks.Use.{Use}
 use Rattle.cw_tmpl.specs.declared.blocks.Use.TheVariants as uses
 use Rattle.cw_tmpl.specs.declared.blocks.Block.{Block}
@@ -205,11 +208,24 @@ element_of_two line lower second width =
 abbrev pub entry : (line width word : ℕ) → List Coded
 entry line width word = base_kept ++ (times_width line width ++ (plus_word line word ++ based line))
 
--- the top operand is compared with both bounds
-abbrev pub in_bounds : (line : ℕ) → (lower upper : ℤ) → List Coded
-in_bounds line lower upper =
+-- how many indexes are between the bounds, from how far they are apart
+abbrev pub indexes_between : (last : ℤ) → ℕ
+indexes_between (pos n) = suc n % 65536
+indexes_between (negsuc n) = 0
+
+-- the top operand is compared with so many indexes from 0 on: any other is, as a number without a sign, not below their count
+abbrev pub top_below : (line count : ℕ) → List Coded
+top_below line count = coded.Whole (with_number 7 count) ∷ coded.Whole (jump_if_below 5) ∷ call_stop bounds_entry line
+
+-- the same with both bounds: where the lower one is 0, as above
+abbrev pub with_both_bounds : (line : ℕ) → (lower upper : ℤ) → List Coded
+with_both_bounds line lower upper =
     coded.Whole (with_number 7 (unsigned lower)) ∷ coded.Whole (jump_if_not_less 5) ∷ (call_stop bounds_entry line
     ++ coded.Whole (with_number 7 (unsigned upper)) ∷ coded.Whole (jump_if_at_most 5) ∷ call_stop bounds_entry line)
+
+abbrev pub in_bounds : (line : ℕ) → (lower upper : ℤ) → List Coded
+in_bounds line (pos zero) upper = top_below line (indexes_between upper)
+in_bounds line lower upper = with_both_bounds line lower upper
 
 -- how far it is from the end of an instruction to a place of the same code
 abbrev pub distance : (from to : ℕ) → ℕ
@@ -422,11 +438,6 @@ abbrev pub from_lower : (lower : ℤ) → List Coded
 from_lower (pos zero) = []
 from_lower lower = coded.Whole (operate_number 5 si (unsigned lower)) ∷ []
 
--- how many indexes are between the bounds
-abbrev pub indexes_between : (last : ℤ) → ℕ
-indexes_between (pos n) = suc n % 65536
-indexes_between (negsuc n) = 0
-
 -- SI with the address of a word of a family and the word at a place added
 abbrev pub index_added : (index : Place) → (family offset : ℕ) → List Coded
 index_added (cell.Word f n) family offset = coded.Move si (target.Word family offset) ∷ coded.Operate 0 si (target.Bytes f n) ∷ []
@@ -477,6 +488,26 @@ abbrev pub counted : (down : Bool) → Instr
 counted true = decrease ax
 counted false = increase ax
 
+-- the top operand less a lower bound
+abbrev pub top_from_lower : (lower : ℤ) → List Coded
+top_from_lower (pos zero) = []
+top_from_lower lower = coded.Whole (with_number 5 (unsigned lower)) ∷ []
+
+-- AX, which counts entries, times their words
+abbrev pub times_entry : (width : ℕ) → List Coded
+times_entry width = if width == 1 then [] else coded.Whole (set_word bx width) ∷ coded.Whole (multiply bx) ∷ []
+
+-- the address that is formed of an index in AX, which counts from the first word or entry
+abbrev pub formed : (family first : ℕ) → Form → List Coded
+formed family first (form.Element span line) = coded.Sum ax (target.Word family first) ∷ []
+formed family first (form.Entry width word span line) = times_entry width ++ coded.Sum ax (target.Word family (first + word)) ∷ []
+
+-- the index in AX is compared with bounds, and the address is formed without a test
+abbrev pub bounded_address : Bounded → List Coded
+bounded_address b =
+    top_from_lower b.bounds.lower
+    ++ (top_below b.bounds.line (indexes_between (b.bounds.upper -ℤ b.bounds.lower)) ++ formed b.family b.first b.form)
+
 -- ---- blocks
 
 -- the bytes of pieces
@@ -512,6 +543,7 @@ block_pieces names place (block.FetchElement e) o = element_address e ++ coded.W
 block_pieces names place (block.AssignElement e) o = element_address e ++ coded.Whole (store at_si ax) ∷ []
 block_pieces names place (block.Count down line) o = coded.Whole (counted down) ∷ checked line
 block_pieces names place (block.Halve w power places line) o = shifted_down_signed places
+block_pieces names place (block.Bounded b) o = bounded_address b
 
 -- what the code of a segment begins with: the base record is made
 abbrev pub entry_pieces : List Coded
@@ -539,6 +571,11 @@ width_size width = if width == 1 then 0 else times_size width
 abbrev pub bound_size : ℤ → ℕ
 bound_size (pos zero) = 0
 bound_size lower = 10
+
+-- the comparison of an index with both bounds: with one number where the lower one is 0
+abbrev pub bounds_size : ℤ → ℕ
+bounds_size (pos zero) = 10
+bounds_size lower = 20
 
 -- a number in AX
 abbrev pub number_size : ℕ → ℕ
@@ -577,7 +614,16 @@ abbrev pub element_size : Element → Test → ℕ
 element_size e (test.Address origin) = index_size e.index + 11
 element_size e (test.Bounds upper line) = index_size e.index + lower_size e.lower + 14
 
--- behind it, an order that uses the element
+-- an index in AX less a lower bound, and the address that is formed of one
+abbrev pub top_lower_size : ℤ → ℕ
+top_lower_size (pos zero) = 0
+top_lower_size lower = 3
+
+abbrev pub formed_size : Form → ℕ
+formed_size (form.Element span line) = 4
+formed_size (form.Entry width word span line) = if width == 1 then 4 else 9
+
+-- behind the address of an element, an order that uses it
 abbrev pub used_size : Use → ℕ
 used_size (uses.Add line) = 9
 used_size (uses.Subtract line) = 9
@@ -615,7 +661,7 @@ listed_size (order.Element lower span line) = bound_size lower + 21
 listed_size (order.ElementOfTwo lower second width span line) = bound_size second + bound_size lower + times_size width + 33
 listed_size (order.Entry width word span line) = width_size width + word_size word + 21
 listed_size (order.InArea line) = 9
-listed_size (order.InBounds lower upper line) = 20
+listed_size (order.InBounds lower upper line) = bounds_size lower
 listed_size order.ReadByte = 3
 listed_size order.WriteByte = 3
 listed_size order.NextBody = 5

@@ -1,7 +1,7 @@
 //! Blocks: orders that have one piece of code together. The orders before the last only save the top operand, put a word, or make
 //! the address of an element; the code leaves the one where it is, and takes the other from its instruction or from memory.
-ghost use Rattle.std.specs.Prelude.{◌≡◌, ◌<◌, ◌+◌, length, drop, slice_get};
-ghost use Rattle.cw_tmpl.specs.Blocks.{address_orders, element_orders, use_of, is_part, NamesParts, zero_word, address_test, bounds_at, bounds_test, tested_by, is_save, is_load, element_addressed, element_bounded, element_behind, element_at, with_use, fetched, assigned, is_plain_divisor, exponent_of, halving_places, halved, divided, counted, number_scaled, with_number, saved, place_at, fetched_from, saved_from, element_fetched, element_used, element_saved, fetched_or, saved_or, block_if_saved, block_at, orders_left};
+ghost use Rattle.std.specs.Prelude.{◌≡◌, ◌<◌, ◌+◌, ◌-ℤ◌, length, drop, slice_get};
+ghost use Rattle.cw_tmpl.specs.Blocks.{address_orders, element_orders, use_of, is_part, NamesParts, zero_word, address_test, bounds_at, bounds_test, tested_by, is_save, is_load, element_addressed, element_bounded, element_behind, element_at, with_use, fetched, assigned, is_plain_divisor, exponent_of, halving_places, halved, divided, counted, number_scaled, with_number, saved, place_at, fetched_from, saved_from, element_fetched, element_used, element_saved, fetched_or, saved_or, is_within, form_of, entries_within, form_within, bounded_if, behind_bounds, at_bounds, block_if_saved, block_at, orders_left};
 
 use cw_order::{Comparator, Order};
 
@@ -43,6 +43,33 @@ pub struct Element {
     pub span: u16,
     pub line: u16,
     pub test: Test,
+}
+
+/// What is formed of an index that has been compared with bounds: so many words from the first one on are in the data area (`span`).
+#[derive(Clone, Copy)]
+pub enum Form {
+    /// The address of an element, which counts from the lower bound.
+    Element {
+        span: u16,
+        line: u16,
+    },
+    /// That of a word of an entry of so many words, counted from 0.
+    Entry {
+        width: u16,
+        word: u16,
+        span: u16,
+        line: u16,
+    },
+}
+
+/// An address that is formed of an index behind its bounds, between which the words are known to be in the data area: its item begins
+/// with a word of a storage family.
+#[derive(Clone, Copy)]
+pub struct Bounded {
+    pub bounds: Bounds,
+    pub family: u16,
+    pub first: u16,
+    pub form: Form,
 }
 
 /// An operand that an instruction names.
@@ -122,6 +149,8 @@ pub enum Block {
         places: u8,
         line: u16,
     },
+    /// First of four: the top operand is compared with bounds, and an address is formed of it.
+    Bounded(Bounded),
 }
 
 /// How many orders put the address of a place.
@@ -528,13 +557,122 @@ fn element_or_saved(orders: &[Order]) -> Block
     }
 }
 
-/// The block that begins with a `Save`.
+/// What the order at a place forms of an index that has been compared with bounds from a lower one.
+fn form_at(orders: &[Order], place: usize, lower: i16) -> Option<Form>
+    ensures { result ≡ form_of lower (slice_get orders.now place) }
+{
+    match orders.get(place) {
+        Some(
+            Order::Element {
+                lower: begins,
+                span,
+                line,
+            },
+        ) if *begins == lower => Some(Form::Element {
+            span: *span,
+            line: *line,
+        }),
+        Some(
+            Order::Entry {
+                width,
+                word,
+                span,
+                line,
+            },
+        ) => Some(Form::Entry {
+            width: *width,
+            word: *word,
+            span: *span,
+            line: *line,
+        }),
+        _ => None,
+    }
+}
+
+/// Whether the word at the upper bound, counted from the lower one, is among so many.
+fn is_within(lower: i16, upper: i16, span: u16) -> bool
+    ensures { result ≡ is_within (upper -ℤ lower) span }
+{
+    let last = i32::from(upper) - i32::from(lower);
+    0 <= last && last < i32::from(span)
+}
+
+/// Whether a word of each entry from 0 to the upper bound is among so many.
+fn entries_within(lower: i16, upper: i16, width: u16, word: u16, span: u16) -> bool
+    ensures { result ≡ entries_within lower upper width word span }
+{
+    lower == 0
+        && 0 <= upper
+        && u32::from(upper.unsigned_abs()) * u32::from(width) + u32::from(word) < u32::from(span)
+}
+
+/// Whether all indexes between the bounds name words that are known to be in the data area.
+fn form_within(bounds: Bounds, first: u16, form: Form) -> bool
+    ensures { result ≡ form_within bounds first form }
+{
+    let Bounds { lower, upper, .. } = bounds;
+    match form {
+        Form::Element { span, .. } => is_within(lower, upper, span),
+        Form::Entry {
+            width,
+            word,
+            span,
+            ..
+        } => {
+            entries_within(lower, upper, width, word, span)
+                && u32::from(first) + u32::from(word) < 65_536
+        }
+    }
+}
+
+fn bounded_if(bounded: Bounded) -> Block
+    ensures { result ≡ bounded_if bounded }
+{
+    if form_within(bounded.bounds, bounded.first, bounded.form) {
+        Block::Bounded(bounded)
+    } else {
+        Block::Single
+    }
+}
+
+/// The block behind the comparison of an index with bounds, which is the first order.
+fn behind_bounds(bounds: Bounds, orders: &[Order]) -> Block
+    ensures { result ≡ behind_bounds bounds (slice_get orders.now 1) (slice_get orders.now 2) (slice_get orders.now 3) }
+{
+    match (
+        orders.get(1),
+        orders.get(2),
+        form_at(orders, 3, bounds.lower),
+    ) {
+        (Some(Order::Save), Some(Order::Home { family, offset }), Some(form)) => {
+            bounded_if(Bounded {
+                bounds,
+                family: *family,
+                first: *offset,
+                form,
+            })
+        }
+        _ => Block::Single,
+    }
+}
+
+/// The block that begins with the comparison of an index with bounds, where that is the first order.
+fn at_bounds(orders: &[Order]) -> Block
+    ensures { result ≡ at_bounds (bounds_at (slice_get orders.now 0)) (slice_get orders.now 1) (slice_get orders.now 2) (slice_get orders.now 3) }
+{
+    match bounds_at(orders, 0) {
+        Some(bounds) => behind_bounds(bounds, orders),
+        None => Block::Single,
+    }
+}
+
+/// The block that begins with no address.
 fn block_if_saved(orders: &[Order]) -> Block
     ensures { result ≡ block_if_saved orders.now }
 {
     match orders {
         [Order::Save, rest @ ..] => element_or_saved(rest),
-        _ => Block::Single,
+        _ => at_bounds(orders),
     }
 }
 
@@ -577,6 +715,7 @@ pub fn orders_left(block: Block) -> u8
         Block::Write => 1,
         Block::Divide { .. } => 2,
         Block::Count { .. } | Block::Halve { .. } => 2,
+        Block::Bounded(_) => 3,
         Block::Fetch(place) | Block::FetchPart { place, .. } => orders_of_address(place) as u8,
         Block::Assign(place) | Block::AssignPart { place, .. } => {
             orders_of_address(place) as u8 + 1

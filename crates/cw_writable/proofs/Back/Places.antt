@@ -1,5 +1,5 @@
 -- Places in the code of a unit: where statements begin, and where what is defined begins.
-use Rattle.std.proofs.Common.{◌≡◌, ℕ, zero, suc, ◌+◌, ◌*◌, ◌<◌, ◌≤◌, nat_eq, nat_le, nat_lt, List, [], ◌∷◌, ◌++◌, map, length, Bool, true, false, IsTrue, ◌&&◌, ◌||◌, if◌then◌else◌, pos, Option, Some, None, slice_get, slice_index, refl, sym, ap, ◌∙◌, subst, arith, length-append, drop}
+use Rattle.std.proofs.Common.{◌≡◌, ℕ, zero, suc, ◌+◌, ◌*◌, ◌<◌, ◌≤◌, nat_eq, nat_le, nat_lt, List, [], ◌∷◌, ◌++◌, map, length, Bool, true, false, IsTrue, ◌&&◌, ◌||◌, if◌then◌else◌, ℤ, pos, Option, Some, None, slice_get, slice_index, refl, sym, ap, ◌∙◌, subst, arith, length-append, drop}
 use Rattle.std.proofs.lemmas.Bool.{eqb-true}
 use Rattle.std.proofs.lemmas.Option.{slice_get_within}
 use Rattle.std.specs.List.{list_all}
@@ -16,6 +16,8 @@ use Rattle.cw_unit.specs.declared.layout.Family.{Family}
 use Rattle.cw_tmpl.specs.declared.blocks.Place.{Place}
 use Rattle.cw_tmpl.specs.declared.blocks.Place.TheVariants as cell
 use Rattle.cw_tmpl.specs.declared.blocks.Element.{Element}
+use Rattle.cw_tmpl.specs.declared.blocks.Form.{Form}
+use Rattle.cw_tmpl.specs.declared.blocks.Form.TheVariants as form
 use Rattle.cw_tmpl.specs.declared.blocks.Test.{Test}
 use Rattle.cw_tmpl.specs.declared.blocks.Test.TheVariants as test
 use Rattle.cw_tmpl.specs.declared.blocks.Simple.{Simple}
@@ -26,7 +28,7 @@ use Rattle.cw_tmpl.specs.declared.blocks.Block.{Block}
 use Rattle.cw_tmpl.specs.declared.blocks.Block.TheVariants as block
 use Rattle.cw_tmpl.specs.Pieces.{blanks}
 use Rattle.cw_tmpl.specs.Names.{mark_place, way_to_label, landing_start, switch_size}
-use Rattle.cw_tmpl.specs.Blocks.{address_orders, element_orders, operand_orders, order_of, count_order, block_at, orders_left, bounds_orders}
+use Rattle.cw_tmpl.specs.Blocks.{address_orders, element_orders, operand_orders, order_of, count_order, block_at, orders_left, bounds_orders, form_order}
 use Rattle.cw_tmpl.proofs.Shapes.{IsBlock, shape}
 use Rattle.cw_tmpl.specs.Templates.{block_size, entry_pieces}
 use Rattle.cw_tmpl.specs.ReferenceCode.{templates, landings, switches, entry_size, order_places, switch_places, switch_sizes, landings_place, switches_place, names_of, mark_starts, label_starts, statement_at, statements_from, orders_code}
@@ -94,6 +96,10 @@ count-ends : (down : Bool) (line : ℕ) → IsTrue (ends_block (count_order down
 count-ends true line = refl
 count-ends false line = refl
 
+form-ends : (lower : ℤ) (x : Form) → IsTrue (ends_block (form_order lower x))
+form-ends lower (form.Element span line) = refl
+form-ends lower (form.Entry width word span line) = refl
+
 -- where the first order begins the block
 left-behind : (xs : List Order) (last : Order) (rest : List Order) → All-end xs → IsTrue (ends_block last) → IsTrue (left_over (length xs) (drop 1 (xs ++ last ∷ rest)))
 left-behind [] last rest h k = refl
@@ -118,6 +124,8 @@ left-first o os = cases (block_at 0 (o ∷ os)) (shape (o ∷ os))
     cases (block.AssignElement e) sh = left-so (suc (length (element_orders e))) _ sh.0 (left-before (element_orders e) order.Store (drop (suc (length (element_orders e))) os) (element-ends e) refl)
     cases (block.Count down line) sh = left-so 2 _ sh (left-before (order.Const 1 ∷ []) (count_order down line) (drop 2 os) refl (count-ends down line))
     cases (block.Halve w power places line) sh = left-so 2 _ sh.0 refl
+    cases (block.Bounded b) sh =
+        left-so 3 _ sh.0 (left-before (order.Save ∷ order.Home b.family b.first ∷ []) (form_order b.bounds.lower b.form) (drop 3 os) refl (form-ends b.bounds.lower b.form))
     cases (block.Operate s u) sh = left-so (suc (length (operand_orders s))) _ sh.0 (left-before (operand_orders s) (order_of u) (drop (suc (length (operand_orders s))) os) (operand-ends s) (use-ends u))
 
 left-next : (left : ℕ) (o : Order) (os : List Order) → IsTrue (left_over left (o ∷ os)) → IsTrue (left_over (orders_left (block_at left (o ∷ os))) os)

@@ -16,7 +16,7 @@ use Rattle.cw_tmpl.specs.declared.pieces.Target.{Target}
 use Rattle.cw_tmpl.specs.declared.pieces.Target.TheVariants as target
 use Rattle.cw_tmpl.specs.declared.pieces.Coded.{Coded}
 use Rattle.cw_tmpl.specs.declared.pieces.Coded.TheVariants as pieces
-use Rattle.cw_tmpl.specs.Mnemonics.{ax, cx, si, di, at_si, load, store, compare, double, multiply, operate, jump_if_below, operate_number}
+use Rattle.cw_tmpl.specs.Mnemonics.{ax, bx, cx, si, di, at_si, load, store, set_word, compare, double, multiply, operate, jump_if_below, operate_number}
 use Rattle.cw_tmpl.specs.declared.blocks.Use.{Use}
 use Rattle.cw_tmpl.specs.declared.blocks.Use.TheVariants as uses
 use Rattle.cw_tmpl.specs.Pieces.{size_of, target_of, relocation_of, relocation_before, relocations}
@@ -27,13 +27,17 @@ use Rattle.cw_tmpl.specs.declared.blocks.Place.TheVariants as cell
 use Rattle.cw_tmpl.specs.declared.blocks.Element.{Element}
 use Rattle.cw_tmpl.specs.declared.blocks.Test.{Test}
 use Rattle.cw_tmpl.specs.declared.blocks.Test.TheVariants as test
+use Rattle.cw_tmpl.specs.declared.blocks.Bounds.{Bounds}
+use Rattle.cw_tmpl.specs.declared.blocks.Bounded.{Bounded}
+use Rattle.cw_tmpl.specs.declared.blocks.Form.{Form}
+use Rattle.cw_tmpl.specs.declared.blocks.Form.TheVariants as form
 use Rattle.cw_tmpl.specs.declared.blocks.Simple.{Simple}
 use Rattle.cw_tmpl.specs.declared.blocks.Simple.TheVariants as simple
 use Rattle.cw_tmpl.specs.declared.blocks.Block.{Block}
 use Rattle.cw_tmpl.specs.declared.blocks.Block.TheVariants as block
-use Rattle.cw_tmpl.specs.Blocks.{address_orders, bounds_orders, element_orders, operand_orders, zero_word, block_at, orders_left}
+use Rattle.cw_tmpl.specs.Blocks.{address_orders, bounds_orders, form_within, entries_within, element_orders, operand_orders, zero_word, block_at, orders_left}
 use Rattle.cw_tmpl.proofs.Shapes.{IsBlock, IsNear, TestNear, OperandIs, shape}
-use Rattle.cw_tmpl.specs.Templates.{template, mark_words, goal_words, landing_pieces, switch_pieces, times_if, times, rescale_if, product_start, product_down, less_bound, plus_word, times_width, based, in_row, element_of_two, block_pieces, block_size, entry_pieces, checked, address_pieces, load_place, store_place, with_operand, product_with, operated, shifted, shifted_up, shifted_down, shifted_down_signed, lowest_if, part_taken, operate_place, change_place, index_added, index_loaded, from_lower, indexes_between, element_tested, element_address, call_stop}
+use Rattle.cw_tmpl.specs.Templates.{template, mark_words, goal_words, landing_pieces, switch_pieces, times_if, times, rescale_if, product_start, product_down, less_bound, plus_word, times_width, based, in_row, element_of_two, block_pieces, block_size, entry_pieces, checked, address_pieces, load_place, store_place, with_operand, product_with, operated, shifted, shifted_up, shifted_down, shifted_down_signed, lowest_if, part_taken, operate_place, change_place, index_added, index_loaded, from_lower, indexes_between, top_from_lower, top_below, times_entry, formed, bounded_address, element_tested, element_address, call_stop}
 use Rattle.cw_tmpl.specs.ReferenceCode.{templates, landings, switches, entry_size, landings_place, switches_place, names_of, pieces_of}
 use Rattle.cw_tmpl.specs.Blanks.{FillsBlank, Rise}
 use Rattle.cw_view.specs.ObjectFormat.{is_blank, has_index}
@@ -183,6 +187,9 @@ module _ (n : ℕ) (fs : List Family) where
   template-sound names place (order.Mul (negsuc k) line) h = down-sound line (nat_lt k 15) k
   template-sound names place (order.Div (pos k) line) h = refl
   template-sound names place (order.Div (negsuc k) line) h = refl
+  template-sound names place (order.InBounds (pos zero) upper line) h = refl
+  template-sound names place (order.InBounds (pos (suc k)) upper line) h = refl
+  template-sound names place (order.InBounds (negsuc k) upper line) h = refl
   template-sound names place (order.Element lower span line) h = sound-both (less_bound line lower) (based line) (bound-sound line lower) refl
   template-sound names place (order.ElementOfTwo lower second width span line) h = of-two-sound line lower second width
   template-sound names place (order.Entry width word span line) h =
@@ -283,6 +290,33 @@ module _ (n : ℕ) (fs : List Family) where
   element-sound : (e : Element) → ElementNamed e → Sound (element_address e)
   element-sound e h = tested-sound e e.test h.0 h.1
 
+  -- the address that is formed of a compared index: its first word has a place, and so has the word of an entry
+  top-lower-sound : (lower : ℤ) → Sound (top_from_lower lower)
+  top-lower-sound (pos zero) = refl
+  top-lower-sound (pos (suc n)) = refl
+  top-lower-sound (negsuc n) = refl
+
+  times-entry-sound : (one : Bool) (width : ℕ) → Sound (if one then [] else pieces.Whole (set_word bx width) ∷ pieces.Whole (multiply bx) ∷ [])
+  times-entry-sound true width = refl
+  times-entry-sound false width = refl
+
+  word-named : (f first word : ℕ) → IsTrue (is_place fs f first) → IsTrue (nat_lt (first + word) 65536) → IsTrue (is_place fs f (first + word))
+  word-named f first word h few =
+      let p = parts (is_some (slice_get fs f)) (nat_lt f 65536 && nat_lt first 65536) h in
+      both (is_some (slice_get fs f)) (nat_lt f 65536 && nat_lt (first + word) 65536) p.0 (both (nat_lt f 65536) (nat_lt (first + word) 65536) (parts (nat_lt f 65536) (nat_lt first 65536) p.1).0 few)
+
+  formed-sound : (b : Bounds) (f first : ℕ) (x : Form) → IsTrue (is_place fs f first) → IsTrue (form_within b first x) → Sound (formed f first x)
+  formed-sound b f first (form.Element span line) h within = only (is_place fs f first) h
+  formed-sound b f first (form.Entry width word span line) h within =
+      sound-both (times_entry width) (pieces.Sum ax (target.Word f (first + word)) ∷ []) (times-entry-sound (width == 1) width)
+      (only (is_place fs f (first + word)) (word-named f first word h (parts (entries_within b.lower b.upper width word span) (nat_lt (first + word) 65536) within).1))
+
+  bounded-sound : (b : Bounded) → IsTrue (is_place fs b.family b.first) → IsTrue (form_within b.bounds b.first b.form) → Sound (bounded_address b)
+  bounded-sound b h within =
+      let below = top_below b.bounds.line (indexes_between (b.bounds.upper -ℤ b.bounds.lower)) in
+      sound-both (top_from_lower b.bounds.lower) (below ++ formed b.family b.first b.form) (top-lower-sound b.bounds.lower)
+      (sound-both below (formed b.family b.first b.form) refl (formed-sound b.bounds b.family b.first b.form h within))
+
   change-sound : (x : Place) (p : Coded) → IsTrue (is_piece p) → Named x → Sound (address_pieces x ++ operate_place 6 x ∷ p ∷ change_place 6 x ∷ [])
   change-sound (cell.Word f k) p h named = both (is_place fs f k) (is_piece p && (is_place fs f k && true)) named (both (is_piece p) (is_place fs f k && true) h (only (is_place fs f k) named))
   change-sound (cell.Frame k) p h named = both (is_piece p) true h refl
@@ -373,6 +407,7 @@ module _ (n : ℕ) (fs : List Family) where
       cases (block.Count true line) sh = refl
       cases (block.Count false line) sh = refl
       cases (block.Halve w power places line) sh = signed-sound places
+      cases (block.Bounded b) sh = bounded-sound b (named-there (o ∷ os) (next o os h r) 2 b.family b.first (ap (λ l. slice_get l 2) sh.0)) sh.1
 
   block-sound : (names : Names) (place left : ℕ) (o : Order) (os : List Order) → IsTrue (names_well n fs o) → Fit n fs os → Sound (block_pieces names place (block_at left (o ∷ os)) o)
   block-sound names place (suc left) o os h r = refl

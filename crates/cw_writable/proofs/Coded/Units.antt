@@ -139,6 +139,7 @@ begins-enter order.Save h = no h
 begins-enter (order.LoadPart t b is_signed) h = no h
 begins-enter (order.StorePart t b) h = no h
 begins-enter (order.Element lower span line) h = no h
+begins-enter (order.Entry width word span line) h = no h
 begins-enter (order.InBounds lower upper line) h = no h
 begins-enter _ h = refl
 

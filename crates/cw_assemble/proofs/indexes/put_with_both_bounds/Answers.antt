@@ -3,7 +3,7 @@ use Rattle.std.proofs.lemmas.Int.{to_z-of_z}
 use Rattle.std.proofs.lemmas.Result.{on_ok_weaker}
 use Rattle.cw_word.specs.Word.{unsigned}
 use Rattle.cw_assemble.proofs.Composed.{bounds_added}
-use Rattle.cw_assemble.proofs.indexes.put_in_bounds.Goals as goal
+use Rattle.cw_assemble.proofs.indexes.put_with_both_bounds.Goals as goal
 
 pub returns : goal.returns
 returns c =
