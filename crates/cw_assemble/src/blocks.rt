@@ -27,7 +27,7 @@ use cw_tmpl::instructions::{
 };
 use cw_tmpl::library::{ADDRESS, BOUNDS};
 use cw_tmpl::{
-    Assembly, Block, Bounded, Bounds, Coded, Element, Form, Names, Place, Simple, Target, Test, Use,
+    Assembly, Block, Bounded, Bounds, Coded, Element, Form, Names, Simple, Target, Test, Use,
 };
 use cw_word::NoMemory;
 

@@ -9,7 +9,7 @@ ghost use Rattle.cw_tmpl.specs.Templates.{address_pieces, load_place, pieces_siz
 
 use crate::words::power;
 use cw_order::Order;
-use cw_tmpl::{Block, Bounded, Element, Form, Place, Simple, Test, Use};
+use cw_tmpl::{Block, Bounded, Element, Form, Simple, Test, Use};
 use cw_word::NoMemory;
 
 /// How many bytes a multiplication by a number has.

@@ -17,8 +17,8 @@ use Rattle.cw_order.specs.OrderState.{OrderActivation, at, operand_words, stack_
 use Rattle.cw_order.specs.Loading.{loaded_after}
 use Rattle.cw_order.specs.OrderActions.{home_word, action_of}
 use Rattle.cw_order.specs.OrderMachine.{unrefused, go_on, after, act, carry_with, step, weight}
-use Rattle.cw_tmpl.specs.declared.blocks.Place.{Place}
-use Rattle.cw_tmpl.specs.declared.blocks.Place.TheVariants as cell
+use Rattle.cw_order.specs.declared.order.Place.{Place}
+use Rattle.cw_order.specs.declared.order.Place.TheVariants as cell
 use Rattle.cw_tmpl.specs.declared.blocks.Simple.{Simple}
 use Rattle.cw_tmpl.specs.declared.blocks.Simple.TheVariants as simple
 use Rattle.cw_tmpl.specs.declared.blocks.Block.{Block}

@@ -22,8 +22,8 @@ use Rattle.cw_order.specs.OrderState.{OrderActivation, OrderState, at}
 use Rattle.cw_order.specs.OrderMachine.{step, weight, shown, order_machine}
 use Rattle.cw_order.specs.OrderProgram.{defined_at}
 use Rattle.cw_order.specs.Starting.{starts, started_by}
-use Rattle.cw_tmpl.specs.declared.blocks.Place.{Place}
-use Rattle.cw_tmpl.specs.declared.blocks.Place.TheVariants as cell
+use Rattle.cw_order.specs.declared.order.Place.{Place}
+use Rattle.cw_order.specs.declared.order.Place.TheVariants as cell
 use Rattle.cw_tmpl.specs.declared.blocks.Element.{Element}
 use Rattle.cw_tmpl.specs.declared.blocks.Test.{Test}
 use Rattle.cw_tmpl.specs.declared.blocks.Test.TheVariants as test

@@ -20,8 +20,8 @@ use Rattle.cw_order.specs.OrderLines.{line_of}
 use Rattle.cw_order.specs.OrderMachine.{unrefused, act as carry_action, after, carry_with, step, weight}
 use Rattle.cw_order.specs.OrderProgram.{order_in, order_at}
 use Rattle.cw_order.specs.OrderState.{OrderActivation, at as at_order, operand_words, frame_word}
-use Rattle.cw_tmpl.specs.declared.blocks.Place.{Place}
-use Rattle.cw_tmpl.specs.declared.blocks.Place.TheVariants as cell
+use Rattle.cw_order.specs.declared.order.Place.{Place}
+use Rattle.cw_order.specs.declared.order.Place.TheVariants as cell
 use Rattle.cw_tmpl.specs.declared.blocks.Element.{Element}
 use Rattle.cw_tmpl.specs.declared.blocks.Test.{Test}
 use Rattle.cw_tmpl.specs.declared.blocks.Test.TheVariants as test

@@ -23,8 +23,8 @@ use Rattle.cw_order.specs.OrderActions.{home_word}
 use Rattle.cw_order.specs.OrderChanges.{put_address}
 use Rattle.cw_order.specs.OrderState.{OrderActivation, at, frame_word}
 use Rattle.cw_order.specs.OrderMachine.{unrefused, weight}
-use Rattle.cw_tmpl.specs.declared.blocks.Place.{Place}
-use Rattle.cw_tmpl.specs.declared.blocks.Place.TheVariants as cell
+use Rattle.cw_order.specs.declared.order.Place.{Place}
+use Rattle.cw_order.specs.declared.order.Place.TheVariants as cell
 use Rattle.cw_tmpl.specs.declared.blocks.Block.TheVariants as block
 use Rattle.cw_tmpl.specs.declared.pieces.Coded.{Coded}
 use Rattle.cw_tmpl.specs.declared.pieces.Coded.TheVariants as pieces

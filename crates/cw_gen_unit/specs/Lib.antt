@@ -3,3 +3,4 @@ pub mod BuiltStatements
 pub mod ReferenceUnits
 pub mod BuiltUnits
 pub mod LabelPlaces
+pub mod SimpleLoops

@@ -1,7 +1,12 @@
 -- The orders of statements.
-use Rattle.std.specs.Prelude.{ℕ, ◌+◌, List, [], ◌∷◌, ◌++◌, map, length, true, false, Option, Some, None, slice_get}
+use Rattle.std.specs.Prelude.{ℕ, zero, suc, ◌+◌, ℤ, pos, negsuc, List, [], ◌∷◌, ◌++◌, map, length, true, false, Option, Some, None, slice_get, if◌then◌else◌}
 use Rattle.cw_order.specs.declared.order.Order.{Order}
 use Rattle.cw_order.specs.declared.order.Order.TheVariants as order
+use Rattle.cw_order.specs.declared.order.Place.{Place}
+use Rattle.cw_order.specs.declared.order.Place.TheVariants as cell
+use Rattle.cw_order.specs.declared.order.Comparator.TheVariants as comparator
+use Rattle.cw_word.specs.Word.{unsigned}
+use Rattle.cw_unit.specs.Operation.{is_past}
 use Rattle.cw_unit.specs.declared.layout.Layout.{Layout}
 use Rattle.cw_unit.specs.declared.unit.Unit.{Unit as SourceUnit}
 use Rattle.cw_unit.specs.declared.unit.Label.{Label}
@@ -21,6 +26,10 @@ use Rattle.cw_unit.specs.declared.unit.Stmt.TheOpen as statement
 use Rattle.cw_gen_expr.specs.Pieces.{Piece, plain, followed_by, sequence, with_end, with_labels}
 use Rattle.cw_gen_expr.specs.ReferenceExpressions.{Scope, at_line, saved, argument_words, control_place, item_order, store_orders, choice_piece, number_order, call_order, condition_piece, argument_piece, reference_of, expression_piece}
 use Rattle.cw_gen_expr.specs.UnitTables.{label_mark}
+use Rattle.cw_gen_unit.specs.declared.simple.Simple.{Simple}
+use Rattle.cw_gen_unit.specs.declared.simple.Simple.TheVariants as simple
+use Rattle.cw_gen_unit.specs.declared.simple.SimpleStep.{SimpleStep}
+use Rattle.cw_gen_unit.specs.SimpleLoops.{simple_step}
 
 -- the start of a statement
 abbrev pub begin_orders : ℕ → List Order
@@ -94,6 +103,54 @@ way_mark (element.One e) n = n
 way_mark (element.While e c) n = n
 way_mark (element.Step a b d) n = n + 1
 
+-- the one STEP element of a FOR that has no other
+abbrev pub only_step : List Felem → Option (Expr × Expr × Expr)
+only_step (element.Step a b d ∷ []) = Some (a, b, d)
+only_step _ = None
+
+-- the place whose address an order puts
+abbrev pub place_put : Order → Place
+place_put (order.Home f n) = cell.Word f n
+place_put (order.FrameHome n) = cell.Frame n
+place_put _ = cell.Word 0 0
+
+-- the words of a loop
+abbrev pub loop_place : Layout → (item : ℕ) → Place
+loop_place y item = place_put (item_order y item 0)
+
+-- ---- a beginning without the library
+
+abbrev pub value_orders : Layout → Simple → List Order
+value_orders y (simple.Number z) = number_order (unsigned z) ∷ []
+value_orders y (simple.Item i) = item_order y i 0 ∷ order.Load ∷ []
+
+-- the control variable is compared with the limit
+abbrev pub limit_orders : Layout → (item variable : ℕ) → Order → List Order
+limit_orders y item j past = item_order y j 0 ∷ order.Load ∷ order.Save ∷ item_order y item 2 ∷ order.Load ∷ past ∷ []
+
+-- by the sign of the step
+abbrev pub past_orders : Layout → (item variable : ℕ) → (step : ℤ) → (end : ℕ) → List Order
+past_orders y item j (pos zero) end = []
+past_orders y item j (pos (suc n)) end = limit_orders y item j (order.JumpIf comparator.Greater end)
+past_orders y item j (negsuc n) end = limit_orders y item j (order.JumpIf comparator.Less end)
+
+-- the first turn, which goes to the end where the first value is past the limit: of two numbers this is known
+abbrev pub turn_orders : Layout → (item variable : ℕ) → (first : Simple) → (step : ℤ) → (limit : Simple) → (end : ℕ) → List Order
+turn_orders y item j (simple.Number a) s (simple.Number d) end = if is_past s a d then (order.Jump end ∷ []) else []
+turn_orders y item j (simple.Number a) s (simple.Item i) end = past_orders y item j s end
+turn_orders y item j (simple.Item i) s d end = past_orders y item j s end
+
+-- word 0, the number of the element, the control variable, the step and the limit, and the first turn
+abbrev pub simple_orders : Layout → (item : ℕ) → SimpleStep → List Order
+simple_orders y item x =
+    item_order y x.variable 0 ∷ (keep_orders y item 0
+    ++ (number_orders y item 1
+    ++ (value_orders y x.first
+    ++ (keep_orders y x.variable 0 ++ number_order (unsigned x.step) ∷ (keep_orders y item 1 ++ (value_orders y x.limit ++ keep_orders y item 2))))))
+
+abbrev pub simple_beginning : Layout → (item : ℕ) → SimpleStep → (end : ℕ) → List Order
+simple_beginning y item x end = simple_orders y item x ++ turn_orders y item x.variable x.first x.step x.limit end
+
 module _ (s : Scope) where
   -- the value of a WHILE element, and its test, behind which the body begins
   abbrev pub while_values : (item scale body next number : ℕ) → Expr → Cond → Piece
@@ -141,10 +198,35 @@ module _ (s : Scope) where
       place
       next
 
+  -- the values of the one STEP element of a FOR, and its first turn, which goes to the end where the first value is past the limit
+  abbrev pub first_turn : (item scale : ℕ) → (first step limit : Expr) → (end : ℕ) → Piece
+  first_turn item f a b d end =
+      followed_by (plain (number_orders s.layout item 1))
+      (followed_by (expression_piece s a f)
+      (followed_by (plain (set_orders s.layout s.line item))
+      (followed_by (expression_piece s b f)
+      (followed_by (plain (keep_orders s.layout item 1))
+      (followed_by (expression_piece s d f)
+      (plain (keep_orders s.layout item 2 ++ item_order s.layout item 0 ∷ order.PutVariable s.line ∷ order.Exhausted end ∷ [])))))))
+
+  -- a FOR of one STEP element: how it begins, the body, and the step; the marks of the end and of the body are numbered first
+  abbrev pub stepped_piece : (item : ℕ) → (beginning : ℕ → Piece) → (body : Piece) → Piece
+  stepped_piece item beginning body =
+      with_end
+      (λ end.
+      with_middle (λ start. beginning end) (λ start. followed_by body (plain (order.NextStep (loop_place s.layout item) s.line start ∷ []))))
+
+  abbrev pub elements_loop : Option (Expr × Expr × Expr) → (item scale : ℕ) → List Felem → Piece → Piece
+  elements_loop None item f es body = ring_piece item f es body
+  elements_loop (Some e) item f es body = stepped_piece item (first_turn item f e.0 e.1 e.2) body
+
+  abbrev pub begun_loop : Option SimpleStep → (item : ℕ) → Ref → List Felem → Piece → Piece
+  begun_loop None item r es body =
+      followed_by (reference_of s r).address (followed_by (plain (keep_orders s.layout item 0)) (elements_loop (only_step es) item (out-Ref r).f es body))
+  begun_loop (Some x) item r es body = stepped_piece item (λ end. plain (simple_beginning s.layout item x end)) body
+
   abbrev pub loop_piece : (item : ℕ) → Ref → List Felem → Piece → Piece
-  loop_piece item r es body =
-      followed_by (plain (begin_orders s.line))
-      (followed_by (reference_of s r).address (followed_by (plain (keep_orders s.layout item 0)) (ring_piece item (out-Ref r).f es body)))
+  loop_piece item r es body = followed_by (plain (begin_orders s.line)) (begun_loop (simple_step s.layout item r es) item r es body)
 
 -- ---- statements
 

@@ -5,6 +5,7 @@ mod elements;
 mod labels;
 mod loops;
 mod procedures;
+mod simple;
 mod statements;
 mod unit;
 

@@ -56,6 +56,7 @@ HasCode (order.GoSwitchSpecial k line) = k < 256
 -- an element's number is a word with a sign
 HasCode (order.LoopWay marks) = length marks < 32768
 HasCode (order.Exhausted m) = Unit {0}
+HasCode (order.NextStep x line m) = Unit {0}
 HasCode (order.SetVariable line) = Unit {0}
 HasCode (order.AddStep line) = Unit {0}
 HasCode (order.PutVariable line) = Unit {0}

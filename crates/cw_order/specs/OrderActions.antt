@@ -6,14 +6,16 @@ use Rattle.cw_unit.specs.declared.layout.Map.{Map}
 use Rattle.cw_unit.specs.Words.{Control, LabelControl, SwitchControl, ProcedureControl, Words, Outcome, is_below, number_of}
 use Rattle.cw_unit.specs.Operation.{Operation, Constant, Rescale, Fetch, Store, StoreBits, Add, Subtract, Negate, Multiply, Divide, Combine, Extract, Form, Taken, Indexed, Indexed2, Scaled, InBounds, ReadByte, WriteByte, holds}
 use Rattle.cw_unit.specs.Step.{switch_of_def, procedure_of_def, label_of_def, with_label_owner, with_switch_owner, as_procedure, held}
+use Rattle.cw_order.specs.declared.order.Place.{Place}
+use Rattle.cw_order.specs.declared.order.Place.TheVariants as cell
 use Rattle.cw_order.specs.declared.order.Order.{Order}
 use Rattle.cw_order.specs.declared.order.Order.TheVariants as order
 use Rattle.cw_order.specs.OrderProgram.{OrderProgram, defined_at}
 use Rattle.cw_order.specs.OrderState.{OrderActivation, argument_at, control_at, frame_word}
-use Rattle.cw_order.specs.OrderChanges.{index, from_base, difference, without_top, put_address, bind, Way, ToMark, way_of_one, way_of_two, to_mark_if, to_mark_in, comparison, set_variable, add_step, put_variable, way_past_limit, mark_of_number}
+use Rattle.cw_order.specs.OrderChanges.{index, from_base, difference, without_top, put_address, bind, Way, ToMark, way_of_one, way_of_two, to_mark_if, to_mark_in, comparison, set_variable, add_step, put_variable, way_past_limit, next_step, mark_of_number}
 
 -- Perform does an operation, which may stop at a line. Access does one that never stops, or not on an address that has been tested or is
--- that of an item. Alter changes the words, and may stop; AlterWithin changes them and never stops. Branch goes on here or there. GoMain
+-- that of an item. Alter changes the words, and may stop; AlterWithin changes them and never stops. Branch goes on here or there, or stops at a line. GoMain
 -- goes to a label of the segment's body, GoLabel to a label, GoSwitch through a switch. EndBody goes on with the next segment's body
 pub data Action : Type 0 where
   Perform : (line : ℕ) → Operation → Action
@@ -21,7 +23,7 @@ pub data Action : Type 0 where
   Alter : (line : ℕ) → (Words → Outcome) → Action
   AlterWithin : (Words → Outcome) → Action
   Pass : Action
-  Branch : (Words → Way) → Action
+  Branch : (line : ℕ) → (Words → Way) → Action
   GoMain : (mark : ℕ) → Action
   GoLabel : Option Control → Action
   GoSwitch : (line : ℕ) → Option Control → Action
@@ -35,6 +37,11 @@ abbrev pub home_word : Map → (segment family offset : ℕ) → ℕ
 home_word m g family offset = (slice_index (slice_index_or m.homes g []) family + offset) % 65536
 
 module _ (p : OrderProgram) where
+  -- the address of a place, where it has one
+  abbrev pub address_of : (segment : ℕ) → List OrderActivation → Place → Option ℕ
+  address_of g acts (cell.Word family offset) = Some (home_word p.addresses g family offset)
+  address_of g acts (cell.Frame n) = frame_word p.limits.area acts n
+
   -- the label, the switch or the procedure of a descriptor
   abbrev pub common_label : (segment owner descriptor : ℕ) → Option Control
   common_label g owner d = with_label_owner owner (label_of_def (defined_at p g d))
@@ -80,11 +87,12 @@ module _ (p : OrderProgram) where
   action_of g acts (order.AddStep line) = Alter line (add_step p.limits.area)
   action_of g acts (order.PutVariable line) = Alter line (put_variable p.limits.area)
   -- ways within a body
-  action_of g acts (order.Jump m) = Branch (ToMark m)
-  action_of g acts (order.JumpIf c m) = Branch (way_of_two (λ x y v. to_mark_if (holds (comparison c) x y) m v))
+  action_of g acts (order.Jump m) = Branch 0 (ToMark m)
+  action_of g acts (order.JumpIf c m) = Branch 0 (way_of_two (λ x y v. to_mark_if (holds (comparison c) x y) m v))
   action_of g acts (order.Exhausted m) =
-      Branch (way_of_two (λ x a v. way_past_limit (is_below a (p.limits.area - 2)) m x (number_of a) v))
-  action_of g acts (order.LoopWay marks) = Branch (λ w. way_of_one (λ i v. to_mark_in (mark_of_number marks i) v) w.operands w)
+      Branch 0 (way_of_two (λ x a v. way_past_limit (is_below a (p.limits.area - 2)) m x (number_of a) v))
+  action_of g acts (order.NextStep x line m) = Branch line (next_step p.limits.area m (address_of g acts x))
+  action_of g acts (order.LoopWay marks) = Branch 0 (λ w. way_of_one (λ i v. to_mark_in (mark_of_number marks i) v) w.operands w)
   action_of g acts order.Mark = Pass
   action_of g acts (order.Start n) = Pass
   action_of g acts order.NextBody = EndBody

@@ -1,11 +1,11 @@
 -- What orders do to words beyond the operations of the source semantics, and how they choose the way on.
-use Rattle.std.specs.Prelude.{ℕ, zero, suc, ◌+◌, ◌-◌, min, ℤ, pos, negsuc, List, ◌∷◌, set, Bool, true, false, Option, Some, None, slice_get}
+use Rattle.std.specs.Prelude.{ℕ, zero, suc, ◌+◌, ◌-◌, nat_eq, nat_lt, min, ℤ, pos, negsuc, List, ◌∷◌, set, Bool, true, false, not, Option, Some, None, slice_get}
 use Rattle.cw_word.specs.FixedPoint.{fits_word}
 use Rattle.cw_word.specs.Word.{signed, unsigned, word_difference}
 use Rattle.cw_unit.specs.declared.unit.CompareOp.{CompareOp}
 use Rattle.cw_unit.specs.declared.unit.CompareOp.TheVariants as compare
-use Rattle.cw_unit.specs.Stop.{AddressRange}
-use Rattle.cw_unit.specs.Words.{Operand, Word, Words, Outcome, Changed, Impossible, with_operands, with_memory, put, put_if, is_below, number_of, on_one, on_two, word_at, at_address}
+use Rattle.cw_unit.specs.Stop.{StopKind, AddressRange}
+use Rattle.cw_unit.specs.Words.{Operand, Word, Words, Outcome, Changed, Refused, Impossible, with_operands, with_memory, put, put_if, is_below, number_of, on_one, on_two, word_at, at_address}
 use Rattle.cw_unit.specs.Operation.{Addressing, form_address, SetVariable, AddStep, perform, is_past}
 use Rattle.cw_order.specs.declared.order.Comparator.{Comparator}
 use Rattle.cw_order.specs.declared.order.Comparator.TheVariants as comparator
@@ -64,10 +64,11 @@ put_variable area w =
 
 -- ---- ways on
 
--- at the next place, at a mark, or nowhere
+-- at the next place, at a mark, to a stop, or nowhere
 pub data Way : Type 0 where
   Onward : Words → Way
   ToMark : (mark : ℕ) → Words → Way
+  Barred : StopKind → Way
   Nowhere : Way
 
 abbrev pub way_of_one : (ℤ → Words → Way) → List Operand → Words → Way
@@ -97,6 +98,37 @@ comparison comparator.Unequal = compare.Unequal
 abbrev pub way_past_limit : Bool → (mark : ℕ) → (variable : ℤ) → (loop : ℕ) → Words → Way
 way_past_limit true m x a w = to_mark_if (is_past (word_at w.memory (a + 1)) x (word_at w.memory (a + 2))) m w
 way_past_limit false m x a w = Nowhere
+
+-- behind an operation
+abbrev pub way_behind : Outcome → (Words → Way) → Way
+way_behind (Changed v) f = f v
+way_behind (Refused kind) f = Barred kind
+way_behind Impossible f = Nowhere
+
+-- at the mark where the control variable, through word 0 of a loop, is not past its limit, by words 1 and 2
+abbrev pub turn_if : Bool → (mark loop : ℕ) → Words → Way
+turn_if true m a w = to_mark_if (not (is_past (word_at w.memory (a + 1)) (word_at w.memory (number_of (word_at w.memory a))) (word_at w.memory (a + 2)))) m w
+turn_if false m a w = Barred AddressRange
+
+abbrev pub turned : (area mark loop : ℕ) → Words → Way
+turned area m a w = turn_if (is_below (word_at w.memory a) area) m a w
+
+-- where word 3 is the number of the one element, the step is added before
+abbrev pub stepped_if : Bool → (area mark loop : ℕ) → Words → Way
+stepped_if true area m a w = way_behind (perform area (AddStep a) w) (turned area m a)
+stepped_if false area m a w = Onward w
+
+abbrev pub stepped : (area mark loop : ℕ) → Words → Way
+stepped area m a w = stepped_if (nat_eq (number_of (word_at w.memory (a + 3))) 1) area m a w
+
+-- by the four words of a loop, which are in the area
+abbrev pub stepped_inside : Bool → (area mark loop : ℕ) → Words → Way
+stepped_inside true area m a w = stepped area m a w
+stepped_inside false area m a w = Nowhere
+
+abbrev pub next_step : (area mark : ℕ) → Option ℕ → Words → Way
+next_step area m None w = Nowhere
+next_step area m (Some a) w = stepped_inside (nat_lt (a + 3) area) area m a w
 
 -- numbers count from 1
 abbrev pub mark_of_number : List ℕ → ℤ → Option ℕ

@@ -59,6 +59,8 @@ weight_of (order.SetVariable line) = 24
 weight_of (order.PutVariable line) = 24
 -- and the sum
 weight_of (order.AddStep line) = 30
+-- the number of the element, the address twice, the sum and the limit
+weight_of (order.NextStep x line m) = 48
 -- the number is tested, and the way found in a table
 weight_of (order.LoopWay marks) = 12
 weight_of order.Mark = 0

@@ -13,7 +13,7 @@ use Rattle.cw_order.specs.declared.order.Orders.{Orders}
 use Rattle.cw_order.specs.OrderProgram.{LabelEntry, ProcedureEntry, OrderProgram, order_at, place_of, label_at, procedure_at, switch_at, label_of}
 use Rattle.cw_order.specs.OrderState.{OrderActivation, OrderState, at, operand_words, stack_words, frame_end}
 use Rattle.cw_order.specs.OrderCosts.{weight_at}
-use Rattle.cw_order.specs.OrderChanges.{Way, Onward, ToMark, Nowhere}
+use Rattle.cw_order.specs.OrderChanges.{Way, Onward, ToMark, Barred, Nowhere}
 use Rattle.cw_order.specs.Loading.{loaded_after}
 use Rattle.cw_order.specs.OrderActions.{Action, Perform, Access, Alter, AlterWithin, Pass, Branch, GoMain, GoLabel, GoSwitch, Call, Enter, Return, EndBody, action_of}
 
@@ -92,10 +92,11 @@ next_body None g place loaded w = at g place loaded [] w Ended
 next_body (Some u) g place loaded w = at (g + 1) u.entry loaded [] (with_operands w []) Running
 
 module _ (p : OrderProgram) where
-  abbrev pub branch : Way → (segment place : ℕ) → (loaded : Bool) → List OrderActivation → Words → OrderState
-  branch (Onward v) g place loaded acts w = at g (place + 1) loaded acts v Running
-  branch (ToMark m v) g place loaded acts w = go_at (place_of p g m) g place loaded acts w v
-  branch Nowhere g place loaded acts w = at g place loaded acts w Stuck
+  abbrev pub branch : (line : ℕ) → Way → (segment place : ℕ) → (loaded : Bool) → List OrderActivation → Words → OrderState
+  branch line (Onward v) g place loaded acts w = at g (place + 1) loaded acts v Running
+  branch line (ToMark m v) g place loaded acts w = go_at (place_of p g m) g place loaded acts w v
+  branch line (Barred kind) g place loaded acts w = at g place loaded acts w (Stopped kind (g + 1) line)
+  branch line Nowhere g place loaded acts w = at g place loaded acts w Stuck
 
   abbrev pub go_to_entry : Option LabelEntry → (to owner : ℕ) → (segment place : ℕ) → (loaded : Bool) → List OrderActivation → Words → OrderState
   go_to_entry None to owner g place loaded acts w = at g place loaded acts w Stuck
@@ -150,7 +151,7 @@ module _ (p : OrderProgram) where
   act (Alter line f) g place loaded acts w = after p.room line (f w) g place loaded acts w
   act (AlterWithin f) g place loaded acts w = after p.room 0 (unrefused (f w)) g place loaded acts w
   act Pass g place loaded acts w = at g (place + 1) loaded acts w Running
-  act (Branch f) g place loaded acts w = branch (f w) g place loaded acts w
+  act (Branch line f) g place loaded acts w = branch line (f w) g place loaded acts w
   act (GoMain m) g place loaded acts w = leave_for (place_of p g m) g (length acts) g place loaded acts w
   act (GoLabel c) g place loaded acts w = go_to c g place loaded acts w
   act (GoSwitch line c) g place loaded acts w = go_through line c g place loaded acts w

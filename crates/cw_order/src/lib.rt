@@ -4,4 +4,4 @@
 pub mod laws;
 mod order;
 
-pub use order::{Comparator, LabelMark, Order, Orders};
+pub use order::{Comparator, LabelMark, Order, Orders, Place};

@@ -22,6 +22,15 @@ pub enum Comparator {
     Unequal,
 }
 
+/// The place of a word of memory.
+#[derive(Clone, Copy)]
+pub enum Place {
+    /// A word of a storage family.
+    Word { family: u16, offset: u16 },
+    /// A word of the frame of the activation.
+    Frame(u16),
+}
+
 /// One order. "Takes" removes operands from the top of the stack, "puts" adds one; words of memory stay where nothing
 /// is said of them.
 #[derive(Drop)]
@@ -148,6 +157,14 @@ pub enum Order {
     /// Puts the value of the control variable below the address of a loop's words, which stays on top; stops with Address
     /// as `SetVariable` does.
     PutVariable(u16),
+    /// Behind the body of a loop of one STEP element, whose words begin at this place: where word 3 is 1, adds the step, word 1,
+    /// to the control variable as `AddStep` does, and goes on at the mark where that is not past the limit. Stops with Address
+    /// where word 0 is no address of the data area, before the sum or behind it, and with Overflow where the sum does not fit.
+    NextStep {
+        looped: Place,
+        line: u16,
+        mark: u32,
+    },
     /// Takes the number of a loop's element, from 1, and goes on at the mark of that number; further on where it has
     /// none.
     LoopWay(List<u32>),

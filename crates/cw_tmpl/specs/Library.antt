@@ -7,7 +7,7 @@ use Rattle.cw_i86.specs.declared.instr.Instr.TheVariants as i86
 use Rattle.cw_i86.specs.declared.instr.Rm.TheVariants as rms
 use Rattle.cw_run86.specs.Views.{with_number}
 use Rattle.cw_unit.specs.Stop.{StopKind, Overflow, ZeroDivisor, SwitchRange, AddressRange, FramesFull, DepthReached, IndexRange}
-use Rattle.cw_tmpl.specs.Mnemonics.{ax, bx, cx, dx, sp, bp, si, di, al, ah, segment_slot, calls_slot, rest_slot, slot, at_bx, at_si, near_field, code_at_bx, code_at_si, code_behind_si, set_word, set_byte, load, store, move, add, add_number, add_word, subtract, subtract_word, compare, one_of, either, negate, double, exchange, shift_up, shift_down, shift_down_signed, multiply, divide, jump_to, jump_if_overflow, jump_if_below, jump_if_not_below, jump_if_equal, jump_if_unequal, jump_if_at_most, bytes_of_all}
+use Rattle.cw_tmpl.specs.Mnemonics.{ax, bx, cx, dx, sp, bp, si, di, al, ah, segment_slot, calls_slot, rest_slot, slot, at_bx, at_si, near_field, code_at_bx, code_at_si, code_behind_si, set_word, set_byte, load, store, move, add, add_number, add_word, subtract, subtract_word, compare, compare_word, one_of, either, negate, double, exchange, shift_up, shift_down, shift_down_signed, multiply, divide, jump_to, jump_if_overflow, jump_if_below, jump_if_not_below, jump_if_equal, jump_if_unequal, jump_if_sign, jump_if_at_most, bytes_of_all}
 
 -- ---- the end, and the entries of earlier libraries
 
@@ -212,16 +212,72 @@ quotient_end =
     compare dx bx ∷ jump_if_not_below 0xC5 ∷ divide bx ∷ set_word dx 32768 ∷ subtract dx si ∷ compare ax dx ∷ jump_if_not_below 0xBA
     ∷ one_of ax si ∷ subtract ax si ∷ either ax ax ∷ i86.Ret ∷ []
 
+-- ---- the step of a loop
+--
+-- What follows the body of a loop of one STEP element. BX is twice the address of the loop's words, and DX has the line. It comes back with LE
+-- where the body follows, and with its opposite where the loop is left: where word 3 is not the number of the element, or the control variable
+-- with its step is past the limit. Where word 0 is no address of the data area, or the sum fits no word, it stops.
+
+abbrev pub next_step_place : ℕ
+next_step_place = 338
+
+abbrev pub next_step_test : List Instr
+next_step_test = i86.AluShort 7 (near_field 6) 1 ∷ jump_if_unequal 0x1D ∷ []
+
+-- a positive step, where the control variable is not word 0 of the loop
+abbrev pub stepped_place : ℕ
+stepped_place = 344
+
+abbrev pub stepped : List Instr
+stepped =
+    load si at_bx ∷ compare si di ∷ jump_if_not_below 0x42 ∷ double si ∷ compare si bx ∷ jump_if_equal 0x16
+    ∷ load ax (near_field 2) ∷ either ax ax ∷ jump_if_at_most 0x0F
+    ∷ add_word ax at_si ∷ jump_if_overflow 0x36 ∷ store at_si ax ∷ compare_word ax (near_field 4) ∷ i86.Ret ∷ []
+
+abbrev pub left_place : ℕ
+left_place = 373
+
+abbrev pub left : List Instr
+left = set_byte al 1 ∷ i86.AluRm 1 false true al (rms.Reg al) ∷ i86.Ret ∷ []
+
+-- any step: what the store may have changed is read again
+abbrev pub stepped_any_place : ℕ
+stepped_any_place = 378
+
+abbrev pub stepped_any : List Instr
+stepped_any = load ax at_si ∷ add_word ax (near_field 2) ∷ jump_if_overflow 0x24 ∷ store at_si ax ∷ []
+
+abbrev pub turned_place : ℕ
+turned_place = 387
+
+abbrev pub turned : List Instr
+turned =
+    load si at_bx ∷ compare si di ∷ jump_if_not_below 0x17 ∷ double si ∷ load cx at_si ∷ load ax (near_field 2) ∷ either ax ax
+    ∷ jump_if_sign 6 ∷ jump_if_equal 3 ∷ compare_word cx (near_field 4) ∷ i86.Ret
+    ∷ load ax (near_field 4) ∷ compare ax cx ∷ i86.Ret ∷ []
+
+-- the stops of these, which are too far from the others for a short jump
+abbrev pub far_stop : (kind back : ℕ) → List Instr
+far_stop kind back = set_byte al kind ∷ i86.Jump back ∷ []
+
+abbrev pub far_address_place : ℕ
+far_address_place = 416
+
+abbrev pub far_sum_place : ℕ
+far_sum_place = 421
+
 -- ---- the whole
 
--- the stops with the line behind their call, and then those with the line in DX: address and sum of the routines of loops, switch, depth, frames
+-- the stops with the line behind their call, and then those with the line in DX: address and sum of the routines of loops, switch, depth, frames;
+-- the step of a loop is last
 abbrev pub routines : List (List Instr)
 routines =
     start_routine
     ∷ stop_routine 1 12 ∷ stop_routine 2 8 ∷ stop_routine 4 4 ∷ stop_routine 7 0 ∷ line_taken ∷ tell
     ∷ told_stop 4 0xEC ∷ told_stop 1 0xE8 ∷ told_stop 3 0xE4 ∷ told_stop 6 0xE0 ∷ told_stop 5 0xDC
     ∷ enter_routine ∷ read_routine ∷ set_variable_routine ∷ add_step_routine ∷ put_variable_routine ∷ exhausted_routine
-    ∷ product_routine ∷ too_large ∷ quotient_down_routine ∷ quotient_up_routine ∷ quotient_end ∷ []
+    ∷ product_routine ∷ too_large ∷ quotient_down_routine ∷ quotient_up_routine ∷ quotient_end
+    ∷ next_step_test ∷ stepped ∷ left ∷ stepped_any ∷ turned ∷ far_stop 4 65170 ∷ far_stop 1 65165 ∷ []
 
 abbrev pub joined : List (List Instr) → List Instr
 joined [] = []
@@ -283,13 +339,16 @@ exhausted_entry = 32
 abbrev pub enter_entry : ℕ
 enter_entry = 33
 
+abbrev pub next_step_entry : ℕ
+next_step_entry = 34
+
 abbrev pub places_of_entries : List ℕ
 places_of_entries =
     end_place ∷ retired_place ∷ retired_place ∷ retired_place ∷ retired_place ∷ retired_place ∷ retired_place ∷ retired_place ∷ retired_place
     ∷ retired_place ∷ retired_place ∷ retired_place ∷ retired_place ∷ retired_place ∷ retired_place ∷ retired_place ∷ retired_place ∷ retired_place
     ∷ start_place ∷ stop_place Overflow ∷ stop_place ZeroDivisor ∷ stop_place AddressRange ∷ stop_place IndexRange ∷ stop_place SwitchRange
     ∷ retired_place ∷ read_place ∷ product_place ∷ quotient_down_place ∷ quotient_up_place
-    ∷ set_variable_place ∷ add_step_place ∷ put_variable_place ∷ exhausted_place ∷ enter_place ∷ []
+    ∷ set_variable_place ∷ add_step_place ∷ put_variable_place ∷ exhausted_place ∷ enter_place ∷ next_step_place ∷ []
 
 -- the place of a routine
 abbrev pub library_entry : ℕ → Option ℕ

@@ -141,6 +141,9 @@ subtract to from = i86.AluRm 5 true true to (rms.Reg from)
 abbrev pub compare : ℕ → ℕ → Instr
 compare left right = i86.AluRm 7 true true left (rms.Reg right)
 
+abbrev pub compare_word : ℕ → Rm → Instr
+compare_word left rm = i86.AluRm 7 true true left rm
+
 abbrev pub negate : ℕ → Instr
 negate reg = i86.Unary 3 true (rms.Reg reg)
 
@@ -241,6 +244,9 @@ jump_if_equal by = i86.JumpIf 4 by
 
 abbrev pub jump_if_unequal : ℕ → Instr
 jump_if_unequal by = i86.JumpIf 5 by
+
+abbrev pub jump_if_sign : ℕ → Instr
+jump_if_sign by = i86.JumpIf 8 by
 
 abbrev pub jump_if_not_less : ℕ → Instr
 jump_if_not_less by = i86.JumpIf 13 by

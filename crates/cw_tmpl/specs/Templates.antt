@@ -22,8 +22,8 @@ use Rattle.cw_tmpl.specs.declared.pieces.Target.{Target}
 use Rattle.cw_tmpl.specs.declared.pieces.Target.TheVariants as target
 use Rattle.cw_tmpl.specs.declared.pieces.Coded.{Coded}
 use Rattle.cw_tmpl.specs.declared.pieces.Coded.TheVariants as coded
-use Rattle.cw_tmpl.specs.declared.blocks.Place.{Place}
-use Rattle.cw_tmpl.specs.declared.blocks.Place.TheVariants as cell
+use Rattle.cw_order.specs.declared.order.Place.{Place}
+use Rattle.cw_order.specs.declared.order.Place.TheVariants as cell
 use Rattle.cw_tmpl.specs.declared.blocks.Element.{Element}
 use Rattle.cw_tmpl.specs.declared.blocks.Test.{Test}
 use Rattle.cw_tmpl.specs.declared.blocks.Test.TheVariants as test
@@ -37,7 +37,7 @@ use Rattle.cw_tmpl.specs.declared.blocks.Use.TheVariants as uses
 use Rattle.cw_tmpl.specs.declared.blocks.Block.{Block}
 use Rattle.cw_tmpl.specs.declared.blocks.Block.TheVariants as block
 use Rattle.cw_tmpl.specs.Mnemonics.{ax, bx, cx, dx, sp, bp, si, di, segment_slot, base_slot, base_record, base_operands, record_depth, slot, argument, at_bx, at_si, field, set_word, load, store, move, add, subtract, compare, exchange, negate, double, both, either, one_of, shift_up, shift_down, shift_down_signed, multiply, divide_signed, jump_to, nothing, jump_if_no_overflow, jump_if_below, jump_if_unequal, jump_if_not_less, jump_if_at_most, operate, change, increase, decrease, shift_up_once, shift_down_once, shift_down_signed_once, operate_number, set_ax}
-use Rattle.cw_tmpl.specs.Library.{start_entry, overflow_entry, zero_divisor_entry, address_entry, switch_entry, bounds_entry, enter_entry, read_entry, product_entry, quotient_down_entry, quotient_up_entry, set_variable_entry, add_step_entry, put_variable_entry, exhausted_entry}
+use Rattle.cw_tmpl.specs.Library.{start_entry, overflow_entry, zero_divisor_entry, address_entry, switch_entry, bounds_entry, enter_entry, read_entry, product_entry, quotient_down_entry, quotient_up_entry, set_variable_entry, add_step_entry, put_variable_entry, exhausted_entry, next_step_entry}
 use Rattle.cw_tmpl.specs.Pieces.{blanks}
 use Rattle.cw_tmpl.specs.Names.{Names, no_names, mark_place, label_start, procedure_start, switch_start, own}
 
@@ -320,6 +320,34 @@ loop_way names place marks =
     number_compared (length marks) ++ (coded.Whole (jump_if_below 3) ∷ jump_near (place + 13) (place + 20 + 2 * length marks)
     ∷ coded.Whole (double bx) ∷ coded.Way (own (place + 20)) ∷ mark_words names marks)
 
+-- the same of one mark
+abbrev pub one_way : Names → (place mark : ℕ) → List Coded
+one_way names place m = coded.Whole (decrease ax) ∷ coded.Whole (jump_if_unequal 3) ∷ jump_near (place + 6) (mark_place names m) ∷ []
+
+abbrev pub loop_ways : Names → (place : ℕ) → List ℕ → List Coded
+loop_ways names place [] = loop_way names place []
+loop_ways names place (m ∷ []) = one_way names place m
+loop_ways names place (m ∷ n ∷ ms) = loop_way names place (m ∷ n ∷ ms)
+
+abbrev pub loop_ways_size : List ℕ → ℕ
+loop_ways_size [] = 20
+loop_ways_size (m ∷ []) = 6
+loop_ways_size (m ∷ n ∷ ms) = 20 + 2 * length (m ∷ n ∷ ms)
+
+-- twice the address of a place in BX
+abbrev pub place_doubled : Place → List Coded
+place_doubled (cell.Word family offset) = coded.Move bx (target.Bytes family offset) ∷ []
+place_doubled (cell.Frame n) = coded.Whole (load bx (slot base_slot)) ∷ coded.Whole (operate_number 0 bx (2 * n % 65536)) ∷ []
+
+abbrev pub doubled_size : Place → ℕ
+doubled_size (cell.Word family offset) = 3
+doubled_size (cell.Frame n) = 7
+
+-- the step of a loop, by its words at a place; where its body follows the routine comes back with LE. The code stands at a place of the segment
+abbrev pub step_taken : Place → (line place to : ℕ) → List Coded
+step_taken x line place to =
+    place_doubled x ++ (call_at_line next_step_entry line ++ branch comparator.LessEqual (place + (doubled_size x + 11)) to)
+
 -- A switch takes its index in AX, the line in DX, and the record of the activation that owns its labels in SI.
 abbrev pub switch_pieces : Names → (place : ℕ) → List Goal → List Coded
 switch_pieces names place goals =
@@ -368,7 +396,8 @@ template names place (order.Exhausted mark) = past_limit place (mark_place names
 template names place (order.SetVariable line) = call_at_line set_variable_entry line
 template names place (order.AddStep line) = call_at_line add_step_entry line
 template names place (order.PutVariable line) = call_at_line put_variable_entry line
-template names place (order.LoopWay marks) = loop_way names place marks
+template names place (order.NextStep x line mark) = step_taken x line place (mark_place names mark)
+template names place (order.LoopWay marks) = loop_ways names place marks
 -- calls
 template names place (order.CallProc q line) = call_near line place (procedure_start names q)
 template names place (order.CallCommon d line) = coded.Whole (set_word dx line) ∷ coded.Call (target.DefinitionAhead d) ∷ []
@@ -672,7 +701,8 @@ listed_size (order.Exhausted mark) = 6
 listed_size (order.SetVariable line) = 6
 listed_size (order.AddStep line) = 6
 listed_size (order.PutVariable line) = 6
-listed_size (order.LoopWay marks) = 20 + 2 * length marks
+listed_size (order.NextStep x line mark) = doubled_size x + 11
+listed_size (order.LoopWay marks) = loop_ways_size marks
 listed_size (order.CallProc q line) = 6
 listed_size (order.CallCommon d line) = 6
 listed_size (order.CallSpecial k line) = 13

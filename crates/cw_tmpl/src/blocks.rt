@@ -3,16 +3,7 @@
 ghost use Rattle.std.specs.Prelude.{◌≡◌, ◌<◌, ◌+◌, ◌-ℤ◌, length, drop, slice_get};
 ghost use Rattle.cw_tmpl.specs.Blocks.{address_orders, element_orders, use_of, is_part, NamesParts, zero_word, address_test, bounds_at, bounds_test, tested_by, is_save, is_load, element_addressed, element_bounded, element_behind, element_at, with_use, fetched, assigned, is_plain_divisor, exponent_of, halving_places, halved, divided, counted, number_scaled, with_number, saved, place_at, fetched_from, saved_from, element_fetched, element_used, element_saved, fetched_or, saved_or, is_within, form_of, entries_within, form_within, bounded_if, behind_bounds, at_bounds, block_if_saved, block_at, orders_left};
 
-use cw_order::{Comparator, Order};
-
-/// A word of memory whose address the first orders of a block put.
-#[derive(Clone, Copy)]
-pub enum Place {
-    /// A word of a storage family.
-    Word { family: u16, offset: u16 },
-    /// A word of the frame of the activation.
-    Frame(u16),
-}
+use cw_order::{Comparator, Order, Place};
 
 /// How it is found out whether there is an element.
 #[derive(Clone, Copy)]

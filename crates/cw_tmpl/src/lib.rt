@@ -11,7 +11,7 @@ mod pieces;
 
 pub use assembling::{Assembly, Code};
 pub use blocks::{
-    Block, Bounded, Bounds, Element, Form, Place, Simple, Test, Use, block_in, orders_left,
+    Block, Bounded, Bounds, Element, Form, Simple, Test, Use, block_in, orders_left,
 };
 pub use library::{base_code, base_entry};
 pub use names::{LANDING, Names, own};

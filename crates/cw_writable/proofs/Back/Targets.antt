@@ -22,8 +22,8 @@ use Rattle.cw_tmpl.specs.declared.blocks.Use.TheVariants as uses
 use Rattle.cw_tmpl.specs.Pieces.{size_of, target_of, relocation_of, relocation_before, relocations}
 use Rattle.cw_tmpl.specs.Names.{Names, mark_place, label_start, procedure_start, switch_start, landing_size, switch_size, own}
 use Rattle.cw_tmpl.specs.Library.{overflow_entry, address_entry, bounds_entry}
-use Rattle.cw_tmpl.specs.declared.blocks.Place.{Place}
-use Rattle.cw_tmpl.specs.declared.blocks.Place.TheVariants as cell
+use Rattle.cw_order.specs.declared.order.Place.{Place}
+use Rattle.cw_order.specs.declared.order.Place.TheVariants as cell
 use Rattle.cw_tmpl.specs.declared.blocks.Element.{Element}
 use Rattle.cw_tmpl.specs.declared.blocks.Test.{Test}
 use Rattle.cw_tmpl.specs.declared.blocks.Test.TheVariants as test

@@ -4,7 +4,7 @@ use Rattle.cw_i86.specs.declared.instr.Instr.{Instr}
 use Rattle.cw_run86.specs.Views.{with_number}
 use Rattle.cw_word.specs.BitField.{field_mask}
 use Rattle.cw_tmpl.specs.declared.assembling.Assembly.{Assembly}
-use Rattle.cw_tmpl.specs.declared.blocks.Place.{Place}
+use Rattle.cw_order.specs.declared.order.Place.{Place}
 use Rattle.cw_tmpl.specs.declared.pieces.Coded.{Coded}
 use Rattle.cw_tmpl.specs.declared.pieces.Coded.TheVariants as coded
 use Rattle.cw_tmpl.specs.Assembling.{Adds}
