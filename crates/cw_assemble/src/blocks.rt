@@ -20,7 +20,7 @@ use crate::orders::put_order;
 use crate::parts::{put_part_taken, put_shifted_down_signed, put_shifted_up};
 use crate::words::mask;
 use cw_i86::Instr;
-use cw_order::{Comparator, Order};
+use cw_order::{Comparator, Order, Place};
 use cw_tmpl::instructions::{
     AT_SI, AX, BASE, BX, CX, DI, SI, change, compare, copy, decrease, divide_signed, double,
     increase, jump_if_below, load, multiply, operate, operate_number, set_word, store, with_number,

@@ -8,7 +8,7 @@ ghost use Rattle.cw_tmpl.specs.declared.blocks.Simple.TheVariants as simple;
 ghost use Rattle.cw_tmpl.specs.Templates.{address_pieces, load_place, pieces_size, index_size, lower_size, element_size, used_size, shift_size, part_size, times_size, width_size, bound_size, word_size, bounds_size, top_lower_size, formed_size, listed_size, order_size, block_size};
 
 use crate::words::power;
-use cw_order::Order;
+use cw_order::{Order, Place};
 use cw_tmpl::{Block, Bounded, Element, Form, Simple, Test, Use};
 use cw_word::NoMemory;
 

@@ -22,9 +22,9 @@ use Rattle.cw_order.specs.declared.order.Order.TheVariants as order
 use Rattle.cw_order.specs.declared.order.Orders.{Orders}
 use Rattle.cw_order.specs.OrderProgram.{LabelEntry, ProcedureEntry, OrderProgram, order_at, place_of, label_at, procedure_at, switch_at, label_of}
 use Rattle.cw_order.specs.OrderState.{OrderActivation, OrderState, at, operand_words, stack_words, argument_behind, argument_at, frame_word, frame_end, control_at}
-use Rattle.cw_order.specs.OrderChanges.{put_index, from_base, put_address, bind, if_inside, Way, Onward, ToMark, Nowhere, way_of_one, way_of_two, to_mark_if, to_mark_in, way_past_limit, mark_of_number, comparison}
+use Rattle.cw_order.specs.OrderChanges.{put_index, from_base, put_address, bind, if_inside, Way, Onward, ToMark, Barred, Nowhere, way_of_one, way_of_two, to_mark_if, to_mark_in, way_past_limit, way_behind, turn_if, turned, stepped_if, stepped_inside, next_step, mark_of_number, comparison}
 use Rattle.cw_order.specs.Loading.{loaded_after}
-use Rattle.cw_order.specs.OrderActions.{Action, Perform, Access, Alter, AlterWithin, Pass, Branch, GoMain, GoLabel, GoSwitch, Call, Enter, Return, EndBody, home_word, common_label, common_switch, common_procedure, action_of}
+use Rattle.cw_order.specs.OrderActions.{Action, Perform, Access, Alter, AlterWithin, Pass, Branch, GoMain, GoLabel, GoSwitch, Call, Enter, Return, EndBody, home_word, common_label, common_switch, common_procedure, place_address, action_of}
 use Rattle.cw_order.specs.OrderMachine.{go_on, go_at, after, unrefused, leave_for, dropped_by, called, call_at, enter_with, return_with, next_body, branch, go_to_entry, go_to, go_to_goal, go_by_list, go_through, call_entry, call, enter, come_back, end_body, act, carry_with, carry_out, step}
 use Rattle.cw_order.specs.FittingWords.{OperandFits, WordsFit, ActivationFits, StateFits}
 
@@ -288,6 +288,7 @@ argument-fits (a ∷ acts) n all = let f = All-head ActivationFits a acts all in
 abbrev WayFits : Way → Type 0
 WayFits (Onward w) = WordsFit w
 WayFits (ToMark m w) = WordsFit w
+WayFits (Barred kind) = Unit {0}
 WayFits Nowhere = Unit {0}
 
 abbrev Leads : (Words → Way) → Type 0
@@ -319,6 +320,28 @@ way_past_limit-fits : (b : Bool) (m : ℕ) (x : ℤ) (a : ℕ) → Leads (way_pa
 way_past_limit-fits true m x a w fits = to_mark_if-fits _ m w fits
 way_past_limit-fits false m x a w fits = tt
 
+way_behind-fits : (o : Outcome) (f : Words → Way) → OutcomeFits o → Leads f → WayFits (way_behind o f)
+way_behind-fits (Changed v) f h leads = leads v h
+way_behind-fits (Refused kind) f h leads = tt
+way_behind-fits Impossible f h leads = tt
+
+turned-fits : (b : Bool) (m a : ℕ) → Leads (turn_if b m a)
+turned-fits true m a w fits = to_mark_if-fits _ m w fits
+turned-fits false m a w fits = tt
+
+stepped-fits : (b : Bool) (area m a : ℕ) → Leads (stepped_if b area m a)
+stepped-fits true area m a w fits =
+    way_behind-fits (perform area (AddStep a) w) (turned area m a) (step-added-fits area a w fits) (λ v fv. turned-fits (is_below (word_at v.memory a) area) m a v fv)
+stepped-fits false area m a w fits = fits
+
+inside-fits : (b : Bool) (area m a : ℕ) → Leads (stepped_inside b area m a)
+inside-fits true area m a w fits = stepped-fits (nat_eq (number_of (word_at w.memory (a + 3))) 1) area m a w fits
+inside-fits false area m a w fits = tt
+
+next_step-fits : (area m : ℕ) (a : Option ℕ) → Leads (next_step area m a)
+next_step-fits area m None w fits = tt
+next_step-fits area m (Some a) w fits = inside-fits (nat_lt (a + 3) area) area m a w fits
+
 bounded-fits : (b : Bool) (z : ℤ) → FitsWord z → Keeps (put_if b IndexRange z)
 bounded-fits true z h w fits = put-fits z h w fits
 bounded-fits false z h w fits = tt
@@ -330,7 +353,7 @@ ActionFits area (Perform line op) = Keeps (perform area op)
 ActionFits area (Access op) = Keeps (perform area op)
 ActionFits area (Alter line f) = Keeps f
 ActionFits area (AlterWithin f) = Keeps f
-ActionFits area (Branch f) = Leads f
+ActionFits area (Branch line f) = Leads f
 ActionFits area _ = Unit {0}
 
 constant-fits : (area n : ℕ) → Keeps (perform area (Constant (signed n)))
@@ -370,6 +393,7 @@ action-fits p g acts (order.InBounds lower upper line) all =
 action-fits p g acts (order.Jump m) all = λ w fits. fits
 action-fits p g acts (order.JumpIf c m) all = way_of_two-fits (λ x y v. to_mark_if (holds (comparison c) x y) m v) (λ x y. to_mark_if-fits (holds (comparison c) x y) m)
 action-fits p g acts (order.Exhausted m) all = way_of_two-fits (λ x a v. way_past_limit (is_below a (p.limits.area - 2)) m x (number_of a) v) (λ x a. way_past_limit-fits (is_below a (p.limits.area - 2)) m x (number_of a))
+action-fits p g acts (order.NextStep x line m) all = next_step-fits p.limits.area m (place_address p g acts x)
 action-fits p g acts (order.SetVariable line) all =
     on_top-fits (λ a v. if_inside (is_below a p.limits.area) (perform p.limits.area (SetVariable (number_of a)) v))
     (λ a fa. if_inside-fits (is_below a p.limits.area) (perform p.limits.area (SetVariable (number_of a))) (variable-fits p.limits.area (number_of a)))
@@ -467,11 +491,12 @@ next_body-fits None g place loaded w fits = record { words = fits; activations =
 next_body-fits (Some u) g place loaded w fits = record { words = no_operands-fit w fits; activations = All-nil ActivationFits }
 
 module _ (p : OrderProgram) where
-  branch-fits : (x : Way) (g place : ℕ) (loaded : Bool) (acts : List OrderActivation) (w : Words) → All ActivationFits acts → WordsFit w → WayFits x → StateFits (branch p x g place loaded acts w)
-  branch-fits (Onward v) g place loaded acts w all fits h = record { words = h; activations = all }
-  branch-fits (ToMark m v) g place loaded acts w all fits h =
+  branch-fits : (line : ℕ) (x : Way) (g place : ℕ) (loaded : Bool) (acts : List OrderActivation) (w : Words) → All ActivationFits acts → WordsFit w → WayFits x → StateFits (branch p line x g place loaded acts w)
+  branch-fits line (Onward v) g place loaded acts w all fits h = record { words = h; activations = all }
+  branch-fits line (ToMark m v) g place loaded acts w all fits h =
       go_at-fits (place_of p g m) g place loaded acts w v all fits h
-  branch-fits Nowhere g place loaded acts w all fits h = record { words = fits; activations = all }
+  branch-fits line (Barred kind) g place loaded acts w all fits h = record { words = fits; activations = all }
+  branch-fits line Nowhere g place loaded acts w all fits h = record { words = fits; activations = all }
 
   go_to_entry-fits : (l : Option LabelEntry) (to owner g place : ℕ) (loaded : Bool) (acts : List OrderActivation) (w : Words) → All ActivationFits acts → WordsFit w → StateFits (go_to_entry p l to owner g place loaded acts w)
   go_to_entry-fits None to owner g place loaded acts w all fits = record { words = fits; activations = all }
@@ -534,7 +559,7 @@ module _ (p : OrderProgram) where
   act-fits (Alter line f) g place loaded acts w h all fits = after-fits p.room line (f w) g place loaded acts w all fits (h w fits)
   act-fits (AlterWithin f) g place loaded acts w h all fits = after-fits p.room 0 (unrefused (f w)) g place loaded acts w all fits (unrefused-fits (f w) (h w fits))
   act-fits Pass g place loaded acts w h all fits = record { words = fits; activations = all }
-  act-fits (Branch f) g place loaded acts w h all fits = branch-fits (f w) g place loaded acts w all fits (h w fits)
+  act-fits (Branch line f) g place loaded acts w h all fits = branch-fits line (f w) g place loaded acts w all fits (h w fits)
   act-fits (GoMain m) g place loaded acts w h all fits = leave_for-fits (place_of p g m) g (length acts) g place loaded acts w all fits
   act-fits (GoLabel c) g place loaded acts w h all fits = go_to-fits c g place loaded acts w all fits
   act-fits (GoSwitch line c) g place loaded acts w h all fits = go_through-fits line c g place loaded acts w all fits

@@ -21,9 +21,9 @@ use Rattle.cw_order.specs.declared.order.Order.TheVariants as order
 use Rattle.cw_order.specs.declared.order.Orders.{Orders}
 use Rattle.cw_order.specs.OrderProgram.{LabelEntry, ProcedureEntry, OrderProgram, order_at, place_of, label_at, procedure_at, switch_at, label_of, defined_at}
 use Rattle.cw_order.specs.OrderState.{OrderActivation, OrderState, at, operand_words, stack_words, argument_behind, argument_at, frame_word, frame_end, control_in, control_at}
-use Rattle.cw_order.specs.OrderChanges.{put_index, from_base, put_address, bind, if_inside, Way, Onward, ToMark, Nowhere, way_of_one, way_of_two, to_mark_if, to_mark_in, way_past_limit, mark_of_number, comparison}
+use Rattle.cw_order.specs.OrderChanges.{put_index, from_base, put_address, bind, if_inside, Way, Onward, ToMark, Barred, Nowhere, way_of_one, way_of_two, to_mark_if, to_mark_in, way_past_limit, way_behind, turn_if, turned, stepped_if, stepped_inside, next_step, mark_of_number, comparison}
 use Rattle.cw_order.specs.Loading.{loaded_after}
-use Rattle.cw_order.specs.OrderActions.{Action, Perform, Access, Alter, AlterWithin, Pass, Branch, GoMain, GoLabel, GoSwitch, Call, Enter, Return, EndBody, home_word, common_label, common_switch, common_procedure, action_of}
+use Rattle.cw_order.specs.OrderActions.{Action, Perform, Access, Alter, AlterWithin, Pass, Branch, GoMain, GoLabel, GoSwitch, Call, Enter, Return, EndBody, home_word, common_label, common_switch, common_procedure, place_address, action_of}
 use Rattle.cw_order.specs.OrderMachine.{go_on, go_at, after, unrefused, leave_for, dropped_by, called, call_at, enter_with, return_with, next_body, branch, go_to_entry, go_to, go_to_goal, go_by_list, go_through, call_entry, call, enter, come_back, end_body, act, carry_with, carry_out, step}
 use Rattle.cw_order.specs.Activations.{segment_below, IsThere, OwnsLabel, ControlStands, OperandStands, ActivationsStand, Beginning, LastStands, StateStands, Callable}
 
@@ -206,6 +206,7 @@ module _ (P : Operand → Type 0) (plain : (z : ℤ) → P (Word z)) where
   abbrev WayStands : ℕ → Way → Type 0
   WayStands n (Onward w) = Less n w.operands
   WayStands n (ToMark m w) = Less n w.operands
+  WayStands n (Barred kind) = Unit {0}
   WayStands n Nowhere = Unit {0}
 
   abbrev Leads : (Words → Way) → Type 0
@@ -234,6 +235,44 @@ module _ (P : Operand → Type 0) (plain : (z : ℤ) → P (Word z)) where
   way_past_limit-stands true m x a n w l = to_mark_if-stands _ m n w l
   way_past_limit-stands false m x a n w l = tt
 
+  -- the step leaves the operands as they are
+  abbrev OutcomeLess : ℕ → Outcome → Type 0
+  OutcomeLess n (Changed v) = Less n v.operands
+  OutcomeLess n (Refused kind) = Unit {0}
+  OutcomeLess n Impossible = Unit {0}
+
+  stored-less : (b : Bool) (i : ℕ) (z : ℤ) (n : ℕ) (w : Words) → Less n w.operands → OutcomeLess n (store_sum b i z w)
+  stored-less true i z n w l = l
+  stored-less false i z n w l = tt
+
+  added-less : (b : Bool) (loop n : ℕ) (w : Words) → Less n w.operands
+      → OutcomeLess n (through b (λ i v. store_sum (fits_word (word_at v.memory i +ℤ word_at v.memory (loop + 1))) i (word_at v.memory i +ℤ word_at v.memory (loop + 1)) v) (word_at w.memory loop) w)
+  added-less true loop n w l = stored-less _ _ _ n w l
+  added-less false loop n w l = tt
+
+  way_behind-stands : (o : Outcome) (f : Words → Way) (n : ℕ) → OutcomeLess n o → Leads f → WayStands n (way_behind o f)
+  way_behind-stands (Changed v) f n h leads = leads n v h
+  way_behind-stands (Refused kind) f n h leads = tt
+  way_behind-stands Impossible f n h leads = tt
+
+  turned-stands : (b : Bool) (m a : ℕ) → Leads (turn_if b m a)
+  turned-stands true m a n w l = to_mark_if-stands _ m n w l
+  turned-stands false m a n w l = tt
+
+  stepped-stands : (b : Bool) (area m a : ℕ) → Leads (stepped_if b area m a)
+  stepped-stands true area m a n w l =
+      way_behind-stands (perform area (AddStep a) w) (turned area m a) n (added-less (is_below (word_at w.memory a) area) a n w l)
+      (λ k v lv. turned-stands (is_below (word_at v.memory a) area) m a k v lv)
+  stepped-stands false area m a n w l = l
+
+  inside-stands : (b : Bool) (area m a : ℕ) → Leads (stepped_inside b area m a)
+  inside-stands true area m a n w l = stepped-stands (nat_eq (number_of (word_at w.memory (a + 3))) 1) area m a n w l
+  inside-stands false area m a n w l = tt
+
+  next_step-stands : (area m : ℕ) (a : Option ℕ) → Leads (next_step area m a)
+  next_step-stands area m None n w l = tt
+  next_step-stands area m (Some a) n w l = inside-stands (nat_lt (a + 3) area) area m a n w l
+
   -- ---- actions
 
   abbrev ActionStands : (area : ℕ) → Action → Type 0
@@ -241,7 +280,7 @@ module _ (P : Operand → Type 0) (plain : (z : ℤ) → P (Word z)) where
   ActionStands area (Access op) = Keeps (perform area op)
   ActionStands area (Alter line f) = Keeps f
   ActionStands area (AlterWithin f) = Keeps f
-  ActionStands area (Branch f) = Leads f
+  ActionStands area (Branch line f) = Leads f
   ActionStands area _ = Unit {0}
 
   unrefused-stands : (o : Outcome) → OutcomeStands o → OutcomeStands (unrefused o)
@@ -366,6 +405,7 @@ module _ (p : OrderProgram) where
       action-stands (order.Jump m) = λ n w l. l
       action-stands (order.JumpIf c m) = way_of_two-stands P plain (λ x y v. to_mark_if (holds (comparison c) x y) m v) (λ x y. to_mark_if-stands P plain (holds (comparison c) x y) m)
       action-stands (order.Exhausted m) = way_of_two-stands P plain (λ x a v. way_past_limit (is_below a (p.limits.area - 2)) m x (number_of a) v) (λ x a. way_past_limit-stands P plain (is_below a (p.limits.area - 2)) m x (number_of a))
+      action-stands (order.NextStep x line m) = next_step-stands P plain p.limits.area m (place_address p g acts x)
       action-stands (order.SetVariable line) =
           top-stands P plain (λ a v. if_inside (is_below a p.limits.area) (perform p.limits.area (SetVariable (number_of a)) v))
           (λ a. if_inside-stands P plain (is_below a p.limits.area) (perform p.limits.area (SetVariable (number_of a))) (variable-stands P plain p.limits.area (number_of a)))
@@ -429,10 +469,11 @@ module _ (p : OrderProgram) where
       go_at-stands None v l = tt
       go_at-stands (Some q) v l = on_at q v l
 
-      branch-stands : (x : Way) → WayStands (OperandStands p g acts) (λ z. tt) (operand_words w.operands) x → StateStands p (branch p x g place loaded acts w)
-      branch-stands (Onward v) l = on_at (place + 1) v l
-      branch-stands (ToMark m v) l = go_at-stands (place_of p g m) v l
-      branch-stands Nowhere l = tt
+      branch-stands : (line : ℕ) (x : Way) → WayStands (OperandStands p g acts) (λ z. tt) (operand_words w.operands) x → StateStands p (branch p line x g place loaded acts w)
+      branch-stands line (Onward v) l = on_at (place + 1) v l
+      branch-stands line (ToMark m v) l = go_at-stands (place_of p g m) v l
+      branch-stands line (Barred kind) l = tt
+      branch-stands line Nowhere l = tt
 
       leave_for-stands : (q : Option ℕ) (to n : ℕ) → StateStands p (leave_for q to n g place loaded acts w)
       leave_for-stands None to n = tt
@@ -538,7 +579,7 @@ module _ (p : OrderProgram) where
       act-stands (Alter line f) h = after-stands g place loaded acts w room working operands line (f w) (h w operands)
       act-stands (AlterWithin f) h = after-stands g place loaded acts w room working operands 0 (unrefused (f w)) (unrefused-stands (OperandStands p g acts) (λ z. tt) (f w) (h w operands))
       act-stands Pass h = record { room = room; last = last_of g (place + 1) acts w.operands working; operands = operands }
-      act-stands (Branch f) h = branch-stands g place loaded acts w room working operands (f w) (h (operand_words w.operands) w (record { stand = operands; words = omega arith }))
+      act-stands (Branch line f) h = branch-stands g place loaded acts w room working operands line (f w) (h (operand_words w.operands) w (record { stand = operands; words = omega arith }))
       act-stands (GoMain m) h = leave_for-stands g place loaded acts w room working operands (place_of p g m) g (length acts)
       act-stands (GoLabel c) h = go_to-stands g place loaded acts w room working operands c
       act-stands (GoSwitch line c) h = go_through-stands g place loaded acts w room working operands line c

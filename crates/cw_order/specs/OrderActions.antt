@@ -38,9 +38,9 @@ home_word m g family offset = (slice_index (slice_index_or m.homes g []) family 
 
 module _ (p : OrderProgram) where
   -- the address of a place, where it has one
-  abbrev pub address_of : (segment : ℕ) → List OrderActivation → Place → Option ℕ
-  address_of g acts (cell.Word family offset) = Some (home_word p.addresses g family offset)
-  address_of g acts (cell.Frame n) = frame_word p.limits.area acts n
+  abbrev pub place_address : (segment : ℕ) → List OrderActivation → Place → Option ℕ
+  place_address g acts (cell.Word family offset) = Some (home_word p.addresses g family offset)
+  place_address g acts (cell.Frame n) = frame_word p.limits.area acts n
 
   -- the label, the switch or the procedure of a descriptor
   abbrev pub common_label : (segment owner descriptor : ℕ) → Option Control
@@ -91,7 +91,7 @@ module _ (p : OrderProgram) where
   action_of g acts (order.JumpIf c m) = Branch 0 (way_of_two (λ x y v. to_mark_if (holds (comparison c) x y) m v))
   action_of g acts (order.Exhausted m) =
       Branch 0 (way_of_two (λ x a v. way_past_limit (is_below a (p.limits.area - 2)) m x (number_of a) v))
-  action_of g acts (order.NextStep x line m) = Branch line (next_step p.limits.area m (address_of g acts x))
+  action_of g acts (order.NextStep x line m) = Branch line (next_step p.limits.area m (place_address g acts x))
   action_of g acts (order.LoopWay marks) = Branch 0 (λ w. way_of_one (λ i v. to_mark_in (mark_of_number marks i) v) w.operands w)
   action_of g acts order.Mark = Pass
   action_of g acts (order.Start n) = Pass
