@@ -1,6 +1,7 @@
 -- What the routines of the library do, and short pieces of the code of segments.
 use Rattle.std.specs.Prelude.{◌≡◌, ℕ, suc, ◌+◌, ◌-◌, ◌*◌, ◌%◌, ◌<◌, ◌≤◌, ◌==◌, if◌then◌else◌, ℤ, List, [], ◌∷◌, length, drop, Bool, true, false, nat_lt, nat_le, All}
 use Rattle.cw_i86.specs.Sums.{logic_flags}
+use Rattle.cw_i86.specs.Effect.{holds}
 use Rattle.cw_i86.specs.declared.flags.Flags.{Flags}
 use Rattle.cw_i86.specs.declared.instr.Instr.{Instr}
 use Rattle.cw_i86.specs.declared.instr.Instr.TheVariants as i86
@@ -10,6 +11,7 @@ use Rattle.cw_word.specs.Word.{unsigned}
 use Rattle.cw_unit.specs.Stop.{StopKind, AddressRange, DepthReached, FramesFull}
 use Rattle.cw_unit.specs.Words.{Words, put, Outcome, Changed, Refused, Impossible, word_at, number_of, is_below}
 use Rattle.cw_unit.specs.Operation.{SetVariable, AddStep, perform, is_past}
+use Rattle.cw_order.specs.OrderChanges.{Way, Onward, ToMark, Barred, Nowhere, stepped}
 use Rattle.cw_tmpl.specs.Mnemonics as short
 use Rattle.cw_tmpl.specs.Library.{library_bytes, front, joined, routines}
 use Rattle.cw_routines.specs.Ways.{view, At, HasAll, HasWord, Within, Leads, Back, Over}
@@ -154,11 +156,15 @@ ReadRoutine Silent code place bound =
 --
 -- AX has the address of the loop's words, DX the line, DI the words of the area, and the stack the way back.
 
--- it comes back with the memory that the source has
-pub record Returns (code : List ℕ) (area to sp bp : ℕ) (stack : ℕ → ℕ) (input : List ℕ) (told : Told) (w : Words) (p : Processor) : Type 0 where
+-- it comes back with the memory that the source has, and an answer
+pub record Answered (code : List ℕ) (area to sp bp : ℕ) (stack : ℕ → ℕ) (input : List ℕ) (told : Told) (w : Words) (Answers : ℕ → Flags → Type 0) (p : Processor) : Type 0 where
   pub cells : ℕ → ℕ
   pub holds_words : Holds area w.memory cells
-  pub back : Back code to sp bp area cells stack input told (λ ax f. Unit {0}) p
+  pub back : Back code to sp bp area cells stack input told Answers p
+
+-- or with none
+abbrev pub Returns : (code : List ℕ) → (area to sp bp : ℕ) → (stack : ℕ → ℕ) → (input : List ℕ) → Told → Words → Processor → Type 0
+Returns code area to sp bp stack input told w p = Answered code area to sp bp stack input told w (λ ax f. Unit {0}) p
 
 -- the words become those of an operation, or it stops
 abbrev pub Ends : (code output : List ℕ) → (area to sp bp segment line : ℕ) → (stack : ℕ → ℕ) → (input : List ℕ) → Told → Outcome → Processor → Type 0
@@ -218,6 +224,25 @@ ExhaustedRoutine Silent code place bound =
     → At code place (view a cx dx bx (2 * n) bp si area cells stack input told) flags p
     → Within Silent code told.output bound p
     (Back code (if is_past (word_at memory (a + 1)) x (word_at memory (a + 2)) then back else back + 3) (2 * suc (suc n)) bp area cells stack input told (λ ax f. Unit {0}))
+
+-- whether the flags are those of a comparison with a left side that is at most the right one
+abbrev pub AtMost : Bool → ℕ → Flags → Type 0
+AtMost b ax f = holds f 14 ≡ b
+
+-- a loop goes on with its body, is left, or a stop ends the run
+abbrev pub GoesOn : (code output : List ℕ) → (area to sp bp segment line : ℕ) → (stack : ℕ → ℕ) → (input : List ℕ) → Told → Way → Processor → Type 0
+GoesOn code output area to sp bp segment line stack input told (ToMark m w) p = Answered code area to sp bp stack input told w (AtMost true) p
+GoesOn code output area to sp bp segment line stack input told (Onward w) p = Answered code area to sp bp stack input told w (AtMost false) p
+GoesOn code output area to sp bp segment line stack input told (Barred kind) p = Over output kind segment line p
+GoesOn code output area to sp bp segment line stack input told Nowhere p = ⊥
+
+-- What follows the body of a loop of one STEP element: BX is twice the address of its words.
+abbrev pub NextStepRoutine : (Silent : ℕ → Type 0) → (code : List ℕ) → (place bound : ℕ) → Type 0
+NextStepRoutine Silent code place bound =
+    (area a m line bp n r segment back ax cx si : ℕ) (flags : Flags) (cells stack : ℕ → ℕ) (input : List ℕ) (told : Told) (w : Words) (p : Processor)
+    → a + 3 < area → Holds area w.memory cells → line < 65536 → n < 32767 → stack n ≡ back → back < 65536 → Tells stack bp r segment
+    → At code place (view ax cx line (2 * a) (2 * n) bp si area cells stack input told) flags p
+    → Within Silent code told.output bound p (GoesOn code told.output area back (2 * suc n) bp segment line stack input told (stepped area m a w))
 
 -- ---- products and quotients
 

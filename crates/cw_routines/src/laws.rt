@@ -9,9 +9,9 @@ ghost use Rattle.cw_i86.specs.MachineRun.{Bad};
 ghost use Rattle.cw_i86.specs.declared.instr.Instr.TheVariants as i86;
 ghost use Rattle.cw_unit.specs.Stop.{Overflow, ZeroDivisor, SwitchRange, AddressRange, IndexRange};
 ghost use Rattle.cw_tmpl.specs.Mnemonics.{nothing, divide_signed};
-ghost use Rattle.cw_tmpl.specs.Library.{library_bytes, retired_place, start_place, stop_place, enter_place, read_place, set_variable_place, add_step_place, put_variable_place, exhausted_place, product_place, quotient_down_place, quotient_up_place};
+ghost use Rattle.cw_tmpl.specs.Library.{library_bytes, retired_place, start_place, stop_place, enter_place, read_place, set_variable_place, add_step_place, put_variable_place, exhausted_place, next_step_place, product_place, quotient_down_place, quotient_up_place};
 ghost use Rattle.cw_routines.specs.Ways.{HasAll, QuietAll};
-ghost use Rattle.cw_routines.specs.Results.{Stands, Quiet, InLibrary, StartRoutine, StopRoutine, ToldStop, EnterRoutine, leave, Leaving, ReadRoutine, SetRoutine, StepRoutine, PutRoutine, ExhaustedRoutine, WordRoutine, divisor_test, DivisorTest};
+ghost use Rattle.cw_routines.specs.Results.{Stands, Quiet, InLibrary, StartRoutine, StopRoutine, ToldStop, EnterRoutine, leave, Leaving, ReadRoutine, SetRoutine, StepRoutine, PutRoutine, ExhaustedRoutine, NextStepRoutine, WordRoutine, divisor_test, DivisorTest};
 
 use cw_run86::laws::fetching;
 use cw_word::laws::{many_places, products, quotients, readings, scaling, sums};
@@ -69,13 +69,14 @@ pub fn numbers()
     many_places();
 }
 
-/// The routines of loops: the control variable is set, the step is added to it, its value is put on the stack, and a value is compared with the
-/// limit.
+/// The routines of loops: the control variable is set, the step is added to it, its value is put on the stack, a value is compared with the
+/// limit, and what follows the body of a loop of one STEP element.
 pub fn loops()
     ensures set_variable { (quiet : ℕ → Bool) (code : List ℕ) → Stands code → InLibrary quiet → SetRoutine (Quiet quiet) code set_variable_place 16 }
     ensures add_step { (quiet : ℕ → Bool) (code : List ℕ) → Stands code → InLibrary quiet → StepRoutine (Quiet quiet) code add_step_place 19 }
     ensures put_variable { (quiet : ℕ → Bool) (code : List ℕ) → Stands code → InLibrary quiet → PutRoutine (Quiet quiet) code put_variable_place 16 }
     ensures exhausted { (quiet : ℕ → Bool) (code : List ℕ) → Stands code → InLibrary quiet → ExhaustedRoutine (Quiet quiet) code exhausted_place 15 }
+    ensures next_step { (quiet : ℕ → Bool) (code : List ℕ) → Stands code → InLibrary quiet → NextStepRoutine (Quiet quiet) code next_step_place 30 }
 {
     fetching();
     readings();
