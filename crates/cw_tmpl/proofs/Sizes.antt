@@ -37,7 +37,7 @@ use Rattle.cw_tmpl.specs.Names.{Names, no_names, mark_place, switch_size}
 use Rattle.cw_tmpl.specs.Blocks.{address_orders, bounds_orders, element_orders, orders_to_form, form_order, operand_orders, order_of, count_order, element_at, element_fetched, fetched_or, block_of, block_at, orders_left, left_at}
 use Rattle.cw_tmpl.proofs.Shapes.{IsBlock, shape}
 use Rattle.cw_tmpl.specs.Library.{overflow_entry, address_entry}
-use Rattle.cw_tmpl.specs.Templates.{template, mark_words, goal_words, landing_pieces, switch_pieces, times_if, rescale_if, product_start, product_down, times, less_bound, plus_word, times_width, based, element, in_row, element_of_two, entry, address_pieces, load_place, store_place, pieces_size, operated, block_pieces, block_size, order_size, times_size, width_size, bound_size, word_size, listed_size, size_behind, sizes_behind, listed_sizes, distance, entry_pieces, shifted, shifted_up, shifted_down, shifted_down_signed, lowest_if, part_taken, index_size, lower_size, element_size, used_size, store_part, operate_place, change_place, index_added, index_loaded, from_lower, indexes_between, index_below, address_tested, index_tested, element_tested, element_address, with_operand, product_with, checked, branch, call_stop, shift_size, lowest_size, part_size, size_in_list, owed, number_size, bounds_size, top_lower_size, formed_size, top_from_lower, top_below, formed}
+use Rattle.cw_tmpl.specs.Templates.{template, mark_words, goal_words, landing_pieces, switch_pieces, times_if, rescale_if, product_start, product_down, times, less_bound, plus_word, times_width, based, element, in_row, element_of_two, entry, address_pieces, load_place, store_place, pieces_size, operated, block_pieces, block_size, order_size, times_size, width_size, bound_size, word_size, listed_size, size_behind, sizes_behind, listed_sizes, distance, entry_pieces, shifted, shifted_up, shifted_down, shifted_down_signed, lowest_if, part_taken, index_size, lower_size, element_size, used_size, store_part, operate_place, change_place, index_added, index_loaded, from_lower, indexes_between, index_below, address_tested, index_tested, element_tested, element_address, with_operand, product_with, checked, branch, call_stop, shift_size, lowest_size, part_size, size_in_list, owed, number_size, bounds_size, top_lower_size, formed_size, top_from_lower, top_below, formed, loop_ways_size, doubled_size}
 use Rattle.cw_tmpl.specs.ReferenceCode.{templates, landings, switches, places_from, entry_size, order_places, landings_place, switches_place, names_of, mark_starts, pieces_of, switch_sizes, StandsAt}
 use Rattle.cw_tmpl.proofs.Growing.{blanks-append}
 
@@ -51,8 +51,14 @@ size_of_goals names [] = refl
 size_of_goals names (goal.Own l ∷ gs) = omega (arith, size_of_goals names gs)
 size_of_goals names (goal.Common d ∷ gs) = omega (arith, size_of_goals names gs)
 
-loop_way_long : (names : Names) (place : ℕ) (marks : List ℕ) → length (blanks (template names place (order.LoopWay marks))) ≡ 20 + 2 * length marks
-loop_way_long names place marks = omega (arith, size_of_marks names marks)
+loop_way_long : (names : Names) (place : ℕ) (marks : List ℕ) → length (blanks (template names place (order.LoopWay marks))) ≡ loop_ways_size marks
+loop_way_long names place [] = refl
+loop_way_long names place (m ∷ []) = refl
+loop_way_long names place (m ∷ n ∷ ms) = omega (arith, size_of_marks names (m ∷ n ∷ ms))
+
+step_taken_long : (names : Names) (place : ℕ) (x : Place) (line m : ℕ) → length (blanks (template names place (order.NextStep x line m))) ≡ doubled_size x + 11
+step_taken_long names place (cell.Word f n) line m = refl
+step_taken_long names place (cell.Frame n) line m = refl
 
 -- a comparison with an element, and the jumps behind it
 element_compared_long : (names : Names) (place : ℕ) (e : Element) (c : Comparator) (m : ℕ) → length (blanks (operated names place (simple.Element e) (uses.Compare c m))) ≡ length (blanks (operated no_names 0 (simple.Element e) (uses.Compare c m)))
@@ -66,6 +72,7 @@ pub size_everywhere : (names : Names) (place : ℕ) (b : Block) (o : Order) → 
 size_everywhere names place (block.Within n) o = refl
 size_everywhere names place block.Single (order.JumpIf c mark) = refl
 size_everywhere names place block.Single (order.LoopWay marks) = loop_way_long names place marks ∙ sym (loop_way_long no_names 0 marks)
+size_everywhere names place block.Single (order.NextStep x line m) = step_taken_long names place x line m ∙ sym (step_taken_long no_names 0 x line m)
 size_everywhere names place block.Single _ = refl
 size_everywhere names place (block.Fetch x) o = refl
 size_everywhere names place (block.Assign x) o = refl
@@ -332,6 +339,7 @@ listed (order.Div (negsuc n) line) = refl
 listed (order.InBounds (pos zero) upper line) = refl
 listed (order.InBounds (pos (suc n)) upper line) = refl
 listed (order.InBounds (negsuc n) upper line) = refl
+listed (order.NextStep x line m) = step_taken_long no_names 0 x line m
 listed (order.LoopWay marks) = loop_way_long no_names 0 marks
 listed (order.Element lower span line) = element_long line lower
 listed (order.ElementOfTwo lower second width span line) = element_of_two_long line lower second width

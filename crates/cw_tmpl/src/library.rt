@@ -40,8 +40,11 @@ pub const EXHAUSTED: u16 = 32;
 /// The entry that begins an activation.
 pub const ENTER: u16 = 33;
 
-const CODE: [u8; 338] = [
-    0xE9, 0x4F, 0x01, // JMP past the library
+/// The entry that does what follows the body of a loop of one element with a step.
+pub const NEXT_STEP: u16 = 34;
+
+const CODE: [u8; 426] = [
+    0xE9, 0xA7, 0x01, // JMP past the library
     0xF4, // end: HLT
     0xCC, // earlier entries: no instruction
     0x5E, // start: POP SI
@@ -210,11 +213,52 @@ const CODE: [u8; 338] = [
     0x2B, 0xC6, // SUB AX,SI
     0x0B, 0xC0, // OR AX,AX
     0xC3, // RET
+    0x83, 0x7F, 0x06, 0x01, // next step: CMP WORD [BX+6],1
+    0x75, 0x1D, // JNZ left
+    0x8B, 0x37, // MOV SI,[BX]
+    0x3B, 0xF7, // CMP SI,DI
+    0x73, 0x42, // JNB far address
+    0xD1, 0xE6, // SHL SI,1
+    0x3B, 0xF3, // CMP SI,BX
+    0x74, 0x16, // JZ any step
+    0x8B, 0x47, 0x02, // MOV AX,[BX+2]
+    0x0B, 0xC0, // OR AX,AX
+    0x7E, 0x0F, // JLE any step
+    0x03, 0x04, // ADD AX,[SI]
+    0x70, 0x36, // JO far sum
+    0x89, 0x04, // MOV [SI],AX
+    0x3B, 0x47, 0x04, // CMP AX,[BX+4]
+    0xC3, // RET
+    0xB0, 0x01, // left: MOV AL,1
+    0x0A, 0xC0, // OR AL,AL
+    0xC3, // RET
+    0x8B, 0x04, // any step: MOV AX,[SI]
+    0x03, 0x47, 0x02, // ADD AX,[BX+2]
+    0x70, 0x24, // JO far sum
+    0x89, 0x04, // MOV [SI],AX
+    0x8B, 0x37, // turn: MOV SI,[BX]
+    0x3B, 0xF7, // CMP SI,DI
+    0x73, 0x17, // JNB far address
+    0xD1, 0xE6, // SHL SI,1
+    0x8B, 0x0C, // MOV CX,[SI]
+    0x8B, 0x47, 0x02, // MOV AX,[BX+2]
+    0x0B, 0xC0, // OR AX,AX
+    0x78, 0x06, // JS down
+    0x74, 0x03, // JZ turned
+    0x3B, 0x4F, 0x04, // CMP CX,[BX+4]
+    0xC3, // turned: RET
+    0x8B, 0x47, 0x04, // down: MOV AX,[BX+4]
+    0x3B, 0xC1, // CMP AX,CX
+    0xC3, // RET
+    0xB0, 0x04, // far address: MOV AL,4
+    0xE9, 0x92, 0xFE, // JMP tell
+    0xB0, 0x01, // far sum: MOV AL,1
+    0xE9, 0x8D, 0xFE, // JMP tell
 ];
 
-const ENTRIES: [u16; 34] = [
+const ENTRIES: [u16; 35] = [
     3, 4, 4, 4, 4, 4, 4, 4, 4, 4, 4, 4, 4, 4, 4, 4, 4, 4, 5, 35, 39, 43, 47, 79, 4, 130, 236, 266,
-    289, 145, 163, 185, 203, 91,
+    289, 145, 163, 185, 203, 91, 338,
 ];
 
 /// The code of the run-time library, which begins with a jump to its own end. It has no relocated word.
@@ -224,11 +268,11 @@ pub fn base_code() -> &'static [u8]
     &CODE
 }
 
-/// The place in the library of an entry. 0 is the end of the program; 1 to 17 were entries of earlier libraries, and lead
-/// to a byte with which no instruction begins; 18 makes the base record of a segment, 19 to 23 stop with Overflow,
-/// ZeroDivisor, Address, Bounds and Switch, 24 begins an activation, 25 reads a byte, 26 is a product, 27 and 28 are
-/// quotients, 29 to 31 set, step and put the control variable of a loop, and 32 tests whether a loop is exhausted. None
-/// for every number past the last one.
+/// The place in the library of an entry. 0 is the end of the program; 1 to 17 and 24 were entries of earlier libraries, and
+/// lead to a byte with which no instruction begins; 18 makes the base record of a segment, 19 to 23 stop with Overflow,
+/// ZeroDivisor, Address, Bounds and Switch, 25 reads a byte, 26 is a product, 27 and 28 are quotients, 29 to 31 set, step
+/// and put the control variable of a loop, 32 tests whether a loop is exhausted, 33 begins an activation, and 34 does what
+/// follows the body of a loop of one element with a step. None for every number past the last one.
 pub fn base_entry(k: u16) -> Option<u16>
     ensures { result ≡ library_entry k }
 {
