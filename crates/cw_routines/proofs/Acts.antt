@@ -152,6 +152,16 @@ module _ (finds : Finds) {code : List ℕ} {at : ℕ} {v : View} {f : Flags} {p 
       (once_set _ _ r _ _ s.sees.registers (ap (λ a. (a + sign_extended b + 0) % 65536) (one r) ∙ plain_sum (register v r) (sign_extended b)))
       (past_it _ at 3 s.sees.place) (ap (λ a. sum_flags 32768 a (sign_extended b) false) (one r)) refl refl
 
+  -- of a word and a byte that is sign-extended
+  pub comparison_short : (src : Source) (b : ℕ) → 0 < length (bytes_of (i86.AluShort 7 (rm_of src) b)) → length (bytes_of (i86.AluShort 7 (rm_of src) b)) ≤ 7
+      → Has code at (i86.AluShort 7 (rm_of src) b) → SourceNeeds code src v
+      → At code (at + length (bytes_of (i86.AluShort 7 (rm_of src) b))) v (difference_flags 32768 (value_of src v) (sign_extended b) false) (processor_step p)
+  unfolding operated alu_flags
+  comparison_short src b some short h n =
+      let i = i86.AluShort 7 (rm_of src) b in
+      arrives finds {w = v} i some short h s refl (held s) refl s.sees.registers (past_it _ at (length (bytes_of i)) s.sees.place)
+      (ap (λ a. difference_flags 32768 a (sign_extended b) false) (read src i n)) refl refl
+
   -- of AX and a number
   pub difference_number : (w : ℕ) → Has code at (i86.AluAcc 5 (imm.Word w))
       → At code (at + 3) (with_register 0 (word_difference (register v 0) w) v) (difference_flags 32768 (register v 0) w false) (processor_step p)
@@ -188,6 +198,16 @@ module _ (finds : Finds) {code : List ℕ} {at : ℕ} {v : View} {f : Flags} {p 
   unfolding tested operand sized_register
   test_low h = arrives finds {w = v} (i86.TestRm false 0 (rms.Reg 0)) (omega arith) (omega arith) h s refl (held s) refl s.sees.registers (past_it _ at 2 s.sees.place)
       (ap₂ (λ a f. logic_flags 128 (bit_and (a % 256) (a % 256)) f) (one 0) s.flags) refl refl
+
+  pub or_low : Has code at (i86.AluRm 1 false true 0 (rms.Reg 0))
+      → At code (at + 2) (with_register 0 (register v 0 / 256 * 256 + bit_or (register v 0 % 256) (register v 0 % 256)) v)
+      (logic_flags 128 (bit_or (register v 0 % 256) (register v 0 % 256)) f) (processor_step p)
+  unfolding operated with_operand with_sized_register alu_value alu_flags operand sized_register
+  or_low h =
+      arrives finds {w = with_register 0 (register v 0 / 256 * 256 + bit_or (register v 0 % 256) (register v 0 % 256)) v} (i86.AluRm 1 false true 0 (rms.Reg 0)) (omega arith)
+      (omega arith) h s refl (held s) refl
+      (ap (λ rs. slice_set rs 0 (slice_index rs 0 / 256 * 256 + bit_or (slice_index rs 0 % 256) (slice_index rs 0 % 256))) s.sees.registers)
+      (past_it _ at 2 s.sees.place) (ap₂ (λ a f. logic_flags 128 (bit_or (a % 256) (a % 256)) f) (one 0) s.flags) refl refl
 
   pub add_low : Has code at (i86.AluRm 0 false true 0 (rms.Reg 0))
       → At code (at + 2) (with_register 0 (register v 0 / 256 * 256 + (register v 0 % 256 + register v 0 % 256 + 0) % 256) v)
@@ -332,6 +352,9 @@ module _ (finds : Finds) {code : List ℕ} {at : ℕ} {v : View} {f : Flags} {p 
   pub short : (by : ℕ) → Has code at (i86.JumpShort by) → At code (at + 2 + sign_extended by) v f (processor_step p)
   short by h = arrives finds {w = v} (i86.JumpShort by) (omega arith) (omega arith) h s refl (held s) refl s.sees.registers
       (past_by _ at 2 (sign_extended by) s.sees.place) s.flags refl refl
+
+  pub near : (by : ℕ) → Has code at (i86.Jump by) → At code (at + 3 + by) v f (processor_step p)
+  near by h = arrives finds {w = v} (i86.Jump by) (omega arith) (omega arith) h s refl (held s) refl s.sees.registers (past_by _ at 3 by s.sees.place) s.flags refl refl
 
   pub jump_to : (r to : ℕ) → Has code at (i86.JumpRm (rms.Reg r)) → register v r ≡ to % 65536 → At code to v f (processor_step p)
   unfolding operand sized_register

@@ -36,11 +36,13 @@ pub data Act : Type 0 where
   Either : (r : ℕ) → Source → Act
   One : (r : ℕ) → Source → Act
   Comparison : (r : ℕ) → Source → Act
+  ComparisonShort : Source → (b : ℕ) → Act
   SumShort : (r b : ℕ) → Act
   DifferenceNumber ComparisonNumber : (w : ℕ) → Act
   LessOne : (r : ℕ) → Act
   Negative : (r : ℕ) → Act
   TestLow : Act
+  OrLow : Act
   AddLow : Act
   Double : (r : ℕ) → Act
   DoubleWord : (r : ℕ) → Act
@@ -67,12 +69,14 @@ instruction (Difference r src) = i86.AluRm 5 true true r (rm_of src)
 instruction (Either r src) = i86.AluRm 1 true true r (rm_of src)
 instruction (One r src) = i86.AluRm 6 true true r (rm_of src)
 instruction (Comparison r src) = i86.AluRm 7 true true r (rm_of src)
+instruction (ComparisonShort src b) = i86.AluShort 7 (rm_of src) b
 instruction (SumShort r b) = i86.AluShort 0 (rms.Reg r) b
 instruction (DifferenceNumber w) = i86.AluAcc 5 (imm.Word w)
 instruction (ComparisonNumber w) = i86.AluAcc 7 (imm.Word w)
 instruction (LessOne r) = i86.Dec r
 instruction (Negative r) = i86.Unary 3 true (rms.Reg r)
 instruction TestLow = i86.TestRm false 0 (rms.Reg 0)
+instruction OrLow = i86.AluRm 1 false true 0 (rms.Reg 0)
 instruction AddLow = i86.AluRm 0 false true 0 (rms.Reg 0)
 instruction (Double r) = i86.Shift 4 true false (rms.Reg r)
 instruction (DoubleWord r) = i86.Shift 4 true false (rms.Reg r)
@@ -103,6 +107,7 @@ Needs code (Difference r src) v = SourceNeeds code src v
 Needs code (Either r src) v = SourceNeeds code src v
 Needs code (One r src) v = SourceNeeds code src v
 Needs code (Comparison r src) v = SourceNeeds code src v
+Needs code (ComparisonShort src b) v = SourceNeeds code src v
 Needs code (Double r) v = register v r < 32768
 Needs code (Up r) v = register v r < 65536
 Needs code (DownSigned r) v = register v r < 65536
@@ -125,12 +130,14 @@ after (Difference r src) v = with_register r (word_difference (register v r) (va
 after (Either r src) v = with_register r (bit_or (register v r) (value_of src v)) v
 after (One r src) v = with_register r (bit_xor (register v r) (value_of src v)) v
 after (Comparison r src) v = v
+after (ComparisonShort src b) v = v
 after (SumShort r b) v = with_register r (word_sum (register v r) (sign_extended b)) v
 after (DifferenceNumber w) v = with_register 0 (word_difference (register v 0) w) v
 after (ComparisonNumber w) v = v
 after (LessOne r) v = with_register r (word_difference (register v r) 1) v
 after (Negative r) v = with_register r (word_difference 0 (register v r)) v
 after TestLow v = v
+after OrLow v = with_register 0 (register v 0 / 256 * 256 + bit_or (register v 0 % 256) (register v 0 % 256)) v
 after AddLow v = with_register 0 (register v 0 / 256 * 256 + (register v 0 % 256 + register v 0 % 256 + 0) % 256) v
 after (Double r) v = with_register r (2 * register v r) v
 after (DoubleWord r) v = with_register r (2 * register v r % 65536) v
@@ -151,12 +158,14 @@ flags_after (Difference r src) v f = difference_flags 32768 (register v r) (valu
 flags_after (Either r src) v f = logic_flags 32768 (bit_or (register v r) (value_of src v)) f
 flags_after (One r src) v f = logic_flags 32768 (bit_xor (register v r) (value_of src v)) f
 flags_after (Comparison r src) v f = difference_flags 32768 (register v r) (value_of src v) false
+flags_after (ComparisonShort src b) v f = difference_flags 32768 (value_of src v) (sign_extended b) false
 flags_after (SumShort r b) v f = sum_flags 32768 (register v r) (sign_extended b) false
 flags_after (DifferenceNumber w) v f = difference_flags 32768 (register v 0) w false
 flags_after (ComparisonNumber w) v f = difference_flags 32768 (register v 0) w false
 flags_after (LessOne r) v f = keeping_carry f (difference_flags 32768 (register v r) 1 false)
 flags_after (Negative r) v f = difference_flags 32768 0 (register v r) false
 flags_after TestLow v f = logic_flags 128 (bit_and (register v 0 % 256) (register v 0 % 256)) f
+flags_after OrLow v f = logic_flags 128 (bit_or (register v 0 % 256) (register v 0 % 256)) f
 flags_after AddLow v f = sum_flags 128 (register v 0 % 256) (register v 0 % 256) false
 flags_after (Double r) v f = shift_flags Shl 32768 (register v r) 1 f
 flags_after (DoubleWord r) v f = shift_flags Shl 32768 (register v r) 1 f
@@ -216,12 +225,14 @@ module _ (finds : Finds) where
   step (Either r src) short h n s = acts.either finds s r src short.0 short.1 h n
   step (One r src) short h n s = acts.one_of finds s r src short.0 short.1 h n
   step (Comparison r src) short h n s = acts.comparison finds s r src short.0 short.1 h n
+  step (ComparisonShort src b) short h n s = acts.comparison_short finds s src b short.0 short.1 h n
   step (SumShort r b) short h n s = acts.sum_short finds s r b h
   step (DifferenceNumber w) short h n s = acts.difference_number finds s w h
   step (ComparisonNumber w) short h n s = acts.comparison_number finds s w h
   step (LessOne r) short h n s = acts.less_one finds s r h
   step (Negative r) short h n s = acts.negative finds s r h
   step TestLow short h n s = acts.test_low finds s h
+  step OrLow short h n s = acts.or_low finds s h
   step AddLow short h n s = acts.add_low finds s h
   step (Double r) short h n s = acts.double finds s r h n
   step (DoubleWord r) short h n s = acts.double_word finds s r h
@@ -249,6 +260,10 @@ quiets_of code (a ∷ list) {at} v quiet_all needs =
 module _ (Quiet : ℕ → Type 0) (code output : List ℕ) where
   pub done : {p : Processor} {T : Processor → Type 0} → T p → Leads Quiet code output 0 p T
   done {p} t = record { reached = p; way = stay refl refl; there = t }
+
+  -- where what they lead to is more than what is asked for
+  pub onward : {n : ℕ} {p : Processor} {T U : Processor → Type 0} → ((q : Processor) → T q → U q) → Leads Quiet code output n p T → Leads Quiet code output n p U
+  onward f l = record { reached = l.reached; way = l.way; there = f l.reached l.there }
 
   join : {m : ℕ} {q r : Processor} (n t : ℕ) (p : Processor) → t ≡ n + m → Way Quiet code output n p q → Way Quiet code output m q r → Way Quiet code output t p r
   join {m} {q} {r} n t p e (stay same z) w =

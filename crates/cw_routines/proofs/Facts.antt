@@ -1,6 +1,6 @@
 -- What flags tell of words, words of numbers, and the words of the data area.
-use Rattle.std.proofs.Common.{◌≡◌, ◌≢◌, ℕ, ◌+◌, ◌-◌, ◌%◌, ◌<◌, ◌≤◌, true, false, not, ℤ, pos, negsuc, ◌+ℤ◌, ◌-ℤ◌, List, length, set, sym, ap, ap₂, subst, ◌∙◌, arith, length-set, get_or-set_same, get_or-set_other, inl, inr}
-use Rattle.std.specs.Prelude.{◌⊎◌, nat_lt, nat_le, ◌==◌, ◌||◌, int_le, bit_or, if◌then◌else◌}
+use Rattle.std.proofs.Common.{◌≡◌, ◌≢◌, ℕ, ◌+◌, ◌-◌, ◌*◌, ◌/◌, ◌%◌, ◌<◌, ◌≤◌, Bool, true, false, not, ℤ, pos, negsuc, ◌+ℤ◌, ◌-ℤ◌, List, length, set, refl, sym, ap, ap₂, subst, ◌∙◌, arith, length-set, get_or-set_same, get_or-set_other, inl, inr}
+use Rattle.std.specs.Prelude.{◌⊎◌, nat_lt, nat_le, ◌==◌, ◌||◌, ◌&&◌, int_lt, int_le, bit_or, if◌then◌else◌}
 use Rattle.std.specs.Int.Bits.{or_self}
 use Rattle.std.specs.Bool.{beq}
 use Rattle.std.proofs.lemmas.Bool.{lt-ltb, le-ltb, cases_eq, ltb-true}
@@ -74,6 +74,25 @@ pub tested_not_zero : (n : ℕ) (f : Flags) → meets (logic_flags 32768 (bit_or
 unfolding meets
 tested_not_zero n f = ap (λ m. not (m == 0)) (or_self n)
 
+tests_at_most : (n : ℕ) → ((n == 0) || not (beq (nat_le 32768 n) false)) ≡ not (nat_lt 0 n && nat_lt n 32768)
+tests_at_most n = grind (arith, nat_tests)
+
+pub tested_at_most : (n : ℕ) (f : Flags) → meets (logic_flags 32768 (bit_or n n) f) 14 ≡ not (nat_lt 0 n && nat_lt n 32768)
+unfolding meets
+tested_at_most n f = ap (λ m. (m == 0) || not (beq (nat_le 32768 m) false)) (or_self n) ∙ tests_at_most n
+
+pub tested_sign : (n : ℕ) (f : Flags) → meets (logic_flags 32768 (bit_or n n) f) 8 ≡ nat_le 32768 n
+unfolding meets
+tested_sign n f = ap (nat_le 32768) (or_self n)
+
+one_low : (ax : ℕ) → (ax / 256 * 256 + 1) % 256 ≡ 1
+one_low ax = omega arith
+
+-- 1 in AL is greater than 0
+pub never_at_most : (ax : ℕ) (f : Flags) → meets (logic_flags 128 (bit_or ((ax / 256 * 256 + 1) % 256) ((ax / 256 * 256 + 1) % 256)) f) 14 ≡ false
+unfolding meets
+never_at_most ax f = ap (λ m. (m == 0) || not (beq (nat_le 128 m) false)) (or_self ((ax / 256 * 256 + 1) % 256) ∙ one_low ax)
+
 -- ---- words
 
 -- what the laws of words tell
@@ -103,6 +122,29 @@ positive_fits n f = grind (arith, ints, nat_tests)
 
 pub negative_fits : (n : ℕ) → FitsWord (negsuc n) → n < 32768
 negative_fits n f = grind (arith, ints, nat_tests)
+
+pub twice_positive : (y : ℤ) → int_lt (pos 0) y ≡ true → int_lt (pos 0) (y +ℤ y) ≡ true
+twice_positive (pos n) e = let some : 0 < n = ltb-true 0 n e in lt-ltb 0 (n + n) (omega arith)
+twice_positive (negsuc n) e = absurd (cc)
+
+no_more : (b : Bool) → not (b && false) ≡ true
+no_more true = refl
+no_more false = refl
+
+all_of : (b : Bool) → not (b && true) ≡ not b
+all_of true = refl
+all_of false = refl
+
+-- whether a word is that of a positive number
+pub not_positive : (z : ℤ) → FitsWord z → not (nat_lt 0 (unsigned z) && nat_lt (unsigned z) 32768) ≡ not (int_lt (pos 0) z)
+not_positive (pos m) f =
+    let lt = positive_fits m f in
+    let e = unsigned_pos m (omega arith) in
+    ap (λ n. not (nat_lt 0 n && nat_lt n 32768)) e ∙ ap (λ b. not (nat_lt 0 m && b)) (lt-ltb m 32768 lt) ∙ all_of (nat_lt 0 m)
+not_positive (negsuc m) f =
+    let lt = negative_fits m f in
+    let high : 32768 ≤ 65535 - m = omega arith in
+    ap (λ n. not (nat_lt 0 n && nat_lt n 32768)) (unsigned_negative m lt) ∙ ap (λ b. not (nat_lt 0 (65535 - m) && b)) (le-ltb (65535 - m) 32768 high) ∙ no_more (nat_lt 0 (65535 - m))
 
 module _ (laws : WordLaws) where
   pub signed_back : (z : ℤ) → FitsWord z → signed 32768 (unsigned z) ≡ z

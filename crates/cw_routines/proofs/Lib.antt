@@ -6,6 +6,7 @@ pub mod Facts
 pub mod Places
 pub mod Stops
 pub mod Loops
+pub mod NextStep
 pub mod Begins
 pub mod Numbers
 pub mod Quotients

@@ -5,7 +5,7 @@ use Rattle.cw_i86.specs.declared.flags.Flags.{Flags}
 use Rattle.cw_i86.specs.declared.instr.Instr.{Instr}
 use Rattle.cw_run86.specs.Processor.{Processor}
 use Rattle.cw_run86.specs.Views.{View, Sees}
-use Rattle.cw_tmpl.specs.Library.{routines, joined, start_routine, stop_routine, line_taken, tell, told_stop, enter_routine, read_routine, set_variable_routine, add_step_routine, put_variable_routine, exhausted_routine, product_routine, too_large, quotient_down_routine, quotient_up_routine, quotient_end}
+use Rattle.cw_tmpl.specs.Library.{routines, joined, start_routine, stop_routine, line_taken, tell, told_stop, enter_routine, read_routine, set_variable_routine, add_step_routine, put_variable_routine, exhausted_routine, product_routine, too_large, quotient_down_routine, quotient_up_routine, quotient_end, next_step_test, stepped, left, stepped_any, turned, far_stop}
 use Rattle.cw_routines.specs.Ways.{At, HasAll}
 use Rattle.cw_routines.specs.Results.{Stands}
 
@@ -165,3 +165,45 @@ module _ (code : List ℕ) (stands : Stands code) where
 
   pub quotient_stands : HasAll code 316 quotient_end
   quotient_stands = has_front code 316 quotient_end (joined (drop 23 routines)) from_22
+
+  from_23 : HasAll code 338 (joined (drop 23 routines))
+  from_23 = has_back code 316 quotient_end (joined (drop 23 routines)) from_22
+
+  pub next_step_stands : HasAll code 338 next_step_test
+  next_step_stands = has_front code 338 next_step_test (joined (drop 24 routines)) from_23
+
+  from_24 : HasAll code 344 (joined (drop 24 routines))
+  from_24 = has_back code 338 next_step_test (joined (drop 24 routines)) from_23
+
+  pub stepped_stands : HasAll code 344 stepped
+  stepped_stands = has_front code 344 stepped (joined (drop 25 routines)) from_24
+
+  from_25 : HasAll code 373 (joined (drop 25 routines))
+  from_25 = has_back code 344 stepped (joined (drop 25 routines)) from_24
+
+  pub left_stands : HasAll code 373 left
+  left_stands = has_front code 373 left (joined (drop 26 routines)) from_25
+
+  from_26 : HasAll code 378 (joined (drop 26 routines))
+  from_26 = has_back code 373 left (joined (drop 26 routines)) from_25
+
+  pub stepped_any_stands : HasAll code 378 stepped_any
+  stepped_any_stands = has_front code 378 stepped_any (joined (drop 27 routines)) from_26
+
+  from_27 : HasAll code 387 (joined (drop 27 routines))
+  from_27 = has_back code 378 stepped_any (joined (drop 27 routines)) from_26
+
+  pub turned_stands : HasAll code 387 turned
+  turned_stands = has_front code 387 turned (joined (drop 28 routines)) from_27
+
+  from_28 : HasAll code 416 (joined (drop 28 routines))
+  from_28 = has_back code 387 turned (joined (drop 28 routines)) from_27
+
+  pub far_address_stands : HasAll code 416 (far_stop 4 65170)
+  far_address_stands = has_front code 416 (far_stop 4 65170) (joined (drop 29 routines)) from_28
+
+  from_29 : HasAll code 421 (joined (drop 29 routines))
+  from_29 = has_back code 416 (far_stop 4 65170) (joined (drop 29 routines)) from_28
+
+  pub far_sum_stands : HasAll code 421 (far_stop 1 65165)
+  far_sum_stands = has_front code 421 (far_stop 1 65165) (joined (drop 30 routines)) from_29

@@ -2,6 +2,7 @@ use Rattle.std.proofs.Common.{◌+◌, ◌<◌, ℕ, arith}
 use Rattle.cw_routines.specs.Results.{Quiet}
 use Rattle.cw_routines.proofs.Facts.{WordLaws}
 use Rattle.cw_routines.proofs.Loops.{sets, adds, puts, exhausts}
+use Rattle.cw_routines.proofs.NextStep.{goes_on}
 use Rattle.cw_routines.proofs.laws.loops.Goals as goal
 
 first_inside : (a area : ℕ) → a + 1 < area → a < area
@@ -27,4 +28,6 @@ returns c =
           puts finds words (Quiet quiet) code stands library area a line bp n r segment back stack input told small line_small way back_small n_low record_is memory h s;
       exhausted = λ quiet code stands library area a bp n back cx dx bx si x flags cells stack input told memory p fx small h n_low way value back_small s.
           exhausts finds words (Quiet quiet) code stands library area a bp n back cells stack input told memory x fx small h n_low way value back_small s;
+      next_step = λ quiet code stands library area a m line bp n r segment back ax cx si flags cells stack input told w p small h line_small n_low way back_small record_is s.
+          goes_on finds words (Quiet quiet) code stands library area a m line bp n r segment back stack input told small line_small n_low way back_small record_is w h s;
     }
