@@ -1,8 +1,10 @@
 -- Instructions, one after another.
-use Rattle.std.proofs.Common.{◌≡◌, ℕ, suc, ◌+◌, ◌*◌, ◌%◌, ◌<◌, ◌≤◌, Bool, true, false, ℤ, pos, unsigned_abs, int_rem, List, [], ◌∷◌, length, refl, ap, ap₂, ◌∙◌, subst, arith}
+use Rattle.std.proofs.Common.{◌≡◌, ℕ, suc, ◌+◌, ◌*◌, ◌%◌, ◌<◌, ◌≤◌, Bool, true, false, not, ℤ, pos, unsigned_abs, int_rem, List, [], ◌∷◌, length, refl, ap, ap₂, ◌∙◌, subst, arith}
 use Rattle.cw_track.proofs.Paths.{Path, stay, next}
+use Rattle.cw_i86.specs.Effect.{holds}
 use Rattle.cw_i86.specs.Encoding.{bytes_of}
 use Rattle.cw_i86.specs.State.{sign_extended}
+use Rattle.cw_i86.specs.declared.flags.Flags.{Flags}
 use Rattle.cw_i86.specs.declared.instr.Instr.{Instr}
 use Rattle.cw_i86.specs.declared.instr.Instr.TheVariants as i86
 use Rattle.cw_i86.specs.declared.instr.Imm.TheVariants as imm
@@ -93,6 +95,15 @@ seen {image} {at} {to} {v} {w} {p} ea ev s = subst (λ n. Is image n w p) ea (su
 
 pub to_place : {image : List ℕ} {at to : ℕ} {v : View} {p : Watched} → at % 65536 ≡ to % 65536 → Is image at v p → Is image to v p
 to_place {image} {at} {to} {v} {p} e s = record { sees = subst (λ n. Sees image (with_place n v) p.processor) e s.sees; ignores = s.ignores; silent = s.silent }
+
+-- the conditions of JNZ and JNLE are the opposites of those of JZ and JLE
+pub not_zero : (f : Flags) → holds f 5 ≡ not (holds f 4)
+unfolding holds
+not_zero f = refl
+
+pub not_at_most : (f : Flags) → holds f 15 ≡ not (holds f 14)
+unfolding holds
+not_at_most f = refl
 
 module _ (rows : Rows) where
   pub number : {image : List ℕ} {at : ℕ} {v : View} {p : Watched} (r w : ℕ) → Has image at (i86.MovImm r (imm.Word w)) → Is image at v p → Is image (at + 3) (with_register r w v) (watched_step p)
@@ -290,6 +301,22 @@ module _ (rows : Rows) where
       let i = i86.JumpIf 2 by in
       let here = has i (omega arith) h s.is in
       moved at i v refl here s.is (rows.passes_above image (placed at v) by a b p.processor here le s.is.sees s.flags)
+
+  pub jump_if : {image : List ℕ} {at : ℕ} {v : View} {p : Watched} (condition by : ℕ) → holds p.processor.state.flags condition ≡ true → Has image at (i86.JumpIf condition by) → Is image at v p
+      → Is image (at + 2 + sign_extended by) v (watched_step p)
+  jump_if {image} {at} {v} {p} condition by is h s =
+      let i = i86.JumpIf condition by in
+      let x = sign_extended by in
+      let e : (at % 65536 + 2 + x) % 65536 ≡ (at + 2 + x) % 65536 = omega arith in
+      let here = has i (omega arith) h s in
+      went i refl here s (subst (λ n. Sees image (with_place n v) (processor_step p.processor)) e (rows.jumps_if image (placed at v) condition by p.processor here s.sees is).0)
+
+  pub pass_if : {image : List ℕ} {at : ℕ} {v : View} {p : Watched} (condition by : ℕ) → holds p.processor.state.flags condition ≡ false → Has image at (i86.JumpIf condition by) → Is image at v p
+      → Is image (at + 2) v (watched_step p)
+  pass_if {image} {at} {v} {p} condition by is h s =
+      let i = i86.JumpIf condition by in
+      let here = has i (omega arith) h s in
+      moved at i v refl here s (rows.passes_if image (placed at v) condition by p.processor here s.sees is).0
 
   pub jumps_below : {image : List ℕ} {at : ℕ} {v : View} {p : Watched} (r q by : ℕ) → register v r < register v q
       → Has image at (compare_of r q) → Has image (at + 2) (i86.JumpIf 2 by) → Is image at v p → Is image (at + 2 + 2 + sign_extended by) (with_overflow (difference_overflows (register v r) (register v q)) v) (watched_step (watched_step p))

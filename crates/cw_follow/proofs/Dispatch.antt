@@ -55,7 +55,7 @@ use Rattle.cw_follow.proofs.States.{Given, Sound, Matches, left}
 use Rattle.cw_follow.proofs.Steps.{Follow, order_is, step_is, weight_is, stuck_here, wrong_way, sound_at, start, chosen, Alone, alone, code, behind, begins_next, silent, two_roomy}
 use Rattle.cw_follow.proofs.Bodies.{ends_or_not}
 use Rattle.cw_follow.proofs.Beginning.{begins_activation}
-use Rattle.cw_follow.proofs.Loops.{set_follows, step_follows, put_follows, limit_follows, loop_follows}
+use Rattle.cw_follow.proofs.Loops.{set_follows, step_follows, put_follows, limit_follows, loop_follows, turn_follows}
 use Rattle.cw_follow.proofs.Calling.{calls_own, calls_common, controls_own, owned, labels_common, switches_common, procedures_common, goes_to_main}
 use Rattle.cw_follow.proofs.Jumping.{goes_common}
 use Rattle.cw_follow.proofs.Switching.{switches_own, switches_by_descriptor}
@@ -192,7 +192,7 @@ module _ (known : Given) where
     follow_order loaded s a order.Mark e = silent known s a order.Mark loaded w e (step_is known s (Some order.Mark) e) s.room refl (λ at l. l)
     follow_order loaded s a (order.Jump m) e =
         let own = own_place s.orders.list place in
-        chosen known s loaded (ToMark m w) 1 (begins_next known s a (order.Jump m) e) s.room (step_is known s (Some (order.Jump m)) e) (weight_is known s (order.Jump m) e)
+        chosen known s loaded 0 (ToMark m w) 1 (begins_next known s a (order.Jump m) e) s.room (step_is known s (Some (order.Jump m)) e) (weight_is known s (order.Jump m) e)
         (jumps rows p image g acts (start known s m) (distance (own + 3) (mark_starts s.orders m)) loaded w (jump_arrives (base_of p g) own 3 (mark_starts s.orders m)) (code known s a (order.Jump m) e).0 a.landed)
     follow_order loaded s a (order.Start n) e =
         let goes : step p (at g place loaded acts w Running) ≡ at g (place + 1) loaded acts w Running = step_is known s (Some (order.Start n)) e in
@@ -276,7 +276,7 @@ module _ (known : Given) where
     follow_order true s a (order.JumpIf c m) e =
         let own = own_place s.orders.list place in
         let paid : 4 ≤ weight p (at g place true acts w Running) = let x = weight_is known s (order.JumpIf c m) e in omega arith in
-        chosen known s false (way_of_two (λ x y v. to_mark_if (holds (comparison c) x y) m v) w) 4 (begins_next known s a (order.JumpIf c m) e) (two_roomy acts p.room m c w.operands w s.room) (step_is known s (Some (order.JumpIf c m)) e) paid
+        chosen known s false 0 (way_of_two (λ x y v. to_mark_if (holds (comparison c) x y) m v) w) 4 (begins_next known s a (order.JumpIf c m) e) (two_roomy acts p.room m c w.operands w s.room) (step_is known s (Some (order.JumpIf c m)) e) paid
         (chooses rows p image g acts (order_place (base_of p g) s.orders.list (place + 1)) (distance (own + 8) (mark_starts s.orders m)) (start known s) c m w.operands w.memory w.input w.output (behind known s a (order.JumpIf c m) e)
         (jump_arrives (base_of p g) own 8 (mark_starts s.orders m)) s.fits.operands (code known s a (order.JumpIf c m) e) a.landed)
     follow_order false s a (order.JumpIf c m) e = absurd (wrong_way known s (order.JumpIf c m) e refl)
@@ -288,6 +288,8 @@ module _ (known : Given) where
     follow_order false s a (order.AddStep line) e = absurd (wrong_way known s (order.AddStep line) e refl)
     follow_order true s a (order.PutVariable line) e = put_follows known s a line e
     follow_order false s a (order.PutVariable line) e = absurd (wrong_way known s (order.PutVariable line) e refl)
+    follow_order false s a (order.NextStep x line m) e = turn_follows known s a x line m e
+    follow_order true s a (order.NextStep x line m) e = absurd (wrong_way known s (order.NextStep x line m) e refl)
     follow_order true s a (order.LoopWay marks) e = loop_follows known s a marks e
     follow_order false s a (order.LoopWay marks) e = absurd (wrong_way known s (order.LoopWay marks) e refl)
     follow_order false s a order.NextBody e = ends_or_not known s a e acts refl

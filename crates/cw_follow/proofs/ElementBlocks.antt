@@ -1223,9 +1223,9 @@ module _ (known : Given) where
         let y = word_at s.before.memory made.at in
         let t = address_there e (uses.Compare c m) tt code in
         let d = UseBlocks.compares_with known s (simple.Element e) c m y (memory_fits made.at made.within) ends.behind code (word_from_element e t.tail before.landed made.at made.within made.leads t.stands) in
-        chosen known s false (UseBlocks.way_of known s c m w) 10 ends.begins (two_roomy acts p.room m c w.operands w s.room) (step_in known s true (order.JumpIf c m) before.now here) paid
-        (subst (λ v. Chooses p image 10 (code_end known s) (start known s) g false acts w.output q (UseBlocks.way_of known s c m v)) (sym made.is)
-        (subst (λ o. Chooses p image 10 (code_end known s) (start known s) g false acts o q (UseBlocks.way_of known s c m (put y s.before))) s.wrote d))
+        chosen known s false 0 (UseBlocks.way_of known s c m w) 10 ends.begins (two_roomy acts p.room m c w.operands w s.room) (step_in known s true (order.JumpIf c m) before.now here) paid
+        (subst (λ v. Chooses p image 10 (code_end known s) (start known s) g false 0 acts w.output q (UseBlocks.way_of known s c m v)) (sym made.is)
+        (subst (λ o. Chooses p image 10 (code_end known s) (start known s) g false 0 acts o q (UseBlocks.way_of known s c m (put y s.before))) s.wrote d))
 
     pub operate_element_follows : (e : Element) (u : Use) (rest : List Order) → drop s.from s.orders.list ≡ order.Save ∷ (operand_orders (simple.Element e) ++ order_of u ∷ rest) → IsNear e
         → block_at 0 (drop s.from s.orders.list) ≡ block.Operate (simple.Element e) u → Follow known (at_order g place loaded acts w Running) q

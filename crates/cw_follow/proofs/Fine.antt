@@ -21,9 +21,9 @@ use Rattle.cw_tmpl.specs.declared.pieces.Coded.{Coded}
 use Rattle.cw_tmpl.specs.declared.pieces.Coded.TheVariants as coded
 use Rattle.cw_tmpl.specs.Pieces.{Filling, bytes_with, size_of, target_of, relocation_of, word_of, word_before, filled}
 use Rattle.cw_tmpl.specs.Mnemonics.{entry_of_table, change_memory, operate_number, memory, argument, double, jump_to, jump_if_below, set_word, at_bx, at_si, load, store, subtract, both, either, one_of, operate, change, move, add, multiply, shift_up, shift_up_once, shift_down, shift_down_once, shift_down_signed, shift_down_signed_once}
-use Rattle.cw_tmpl.specs.Library.{places_of_entries, entry_place, start_entry, overflow_entry, zero_divisor_entry, address_entry, bounds_entry, switch_entry, enter_entry, read_entry, product_entry, quotient_up_entry, quotient_down_entry, set_variable_entry, add_step_entry, put_variable_entry, exhausted_entry}
+use Rattle.cw_tmpl.specs.Library.{places_of_entries, entry_place, start_entry, overflow_entry, zero_divisor_entry, address_entry, bounds_entry, switch_entry, enter_entry, read_entry, product_entry, quotient_up_entry, quotient_down_entry, set_variable_entry, add_step_entry, put_variable_entry, exhausted_entry, next_step_entry}
 use Rattle.cw_tmpl.specs.Names.{Names, mark_place, label_start, switch_start, procedure_start}
-use Rattle.cw_tmpl.specs.Templates.{template, call_library, call_stop, unless_overflow, checked, call_at_line, on_both, with_word, times, times_if, shifted, shifted_up, shifted_down, shifted_down_signed, lowest_if, taken, part_taken, load_top, store_part, rescale_if, by_routine, product_start, product_down, product, divisor_tested, quotient, in_area, index_by, less_bound, plus_word, times_width, base_kept, based, element, in_row, element_of_two, entry, top_below, with_both_bounds, in_bounds, branch, distance, jump_near, opposite_of, control_out, return_with, operands_dropped, base_jump, number_compared, mark_words, goal_words, loop_way, switch_pieces, address_pieces, load_place, store_place, operate_place, change_place, index_added, index_loaded, from_lower, indexes_between, element_tested, element_address, with_operand, product_with, pieces_size, operated, top_from_lower, times_entry, formed, block_pieces, entry_pieces}
+use Rattle.cw_tmpl.specs.Templates.{template, call_library, call_stop, unless_overflow, checked, call_at_line, on_both, with_word, times, times_if, shifted, shifted_up, shifted_down, shifted_down_signed, lowest_if, taken, part_taken, load_top, store_part, rescale_if, by_routine, product_start, product_down, product, divisor_tested, quotient, in_area, index_by, less_bound, plus_word, times_width, base_kept, based, element, in_row, element_of_two, entry, top_below, with_both_bounds, in_bounds, branch, distance, jump_near, opposite_of, control_out, return_with, operands_dropped, base_jump, number_compared, mark_words, goal_words, loop_way, loop_ways, place_doubled, doubled_size, step_taken, switch_pieces, address_pieces, load_place, store_place, operate_place, change_place, index_added, index_loaded, from_lower, indexes_between, element_tested, element_address, with_operand, product_with, pieces_size, operated, top_from_lower, times_entry, formed, block_pieces, entry_pieces}
 use Rattle.cw_order.specs.declared.order.Place.{Place}
 use Rattle.cw_order.specs.declared.order.Place.TheVariants as cell
 use Rattle.cw_tmpl.specs.declared.blocks.Element.{Element}
@@ -568,6 +568,24 @@ module _ (p : OrderProgram) (segment next : ℕ) (value : Filling) (fills : Fill
       ((lit< tt, lit< tt), (distance_small (place + 13) (place + 20 + 2 * length marks), ((lit< tt, λ e. omega arith, is_bx), (place_filled ((place + 20) % 65536), mark_words_fine names marks)))) in
       all_fine-append value (number_compared (length marks)) rest (number_fine (length marks) lt) fine
 
+  loops_fine : (names : Names) (place : ℕ) (marks : List ℕ) → length marks < 65536 → AllFine value (loop_ways names place marks)
+  loops_fine names place [] lt = loop_fine names place [] lt
+  loops_fine names place (m ∷ []) lt = (is_ax, ((lit< tt, lit< tt), (distance_small (place + 6) (mark_place names m), tt)))
+  loops_fine names place (m ∷ n ∷ ms) lt = loop_fine names place (m ∷ n ∷ ms) lt
+
+  -- the step of a loop
+  doubled_fine : (x : Place) → AllFine value (place_doubled x)
+  doubled_fine (cell.Word f n) = ((is_bx, bytes_filled f n), tt)
+  doubled_fine (cell.Frame n) =
+      let small : 2 * n % 65536 < 65536 = omega arith in
+      ((is_bx, (lit< tt, lit< tt)), ((lit< tt, is_bx, small), tt))
+
+  step_fine : (x : Place) (line place to : ℕ) → line < 65536 → AllFine value (step_taken x line place to)
+  step_fine x line place to small =
+      let end = place + (doubled_size x + 11) in
+      all_fine-append value (place_doubled x) (call_at_line next_step_entry line ++ branch comparator.LessEqual end to) (doubled_fine x)
+      (all_fine-append value (call_at_line next_step_entry line) (branch comparator.LessEqual end to) (at_line_fine next_step_entry line (lit< tt) small) (branch_fine comparator.LessEqual end to))
+
   few_more : (k : ℕ) → k < 256 → k < 257
   few_more k lt = omega arith
 
@@ -610,7 +628,8 @@ module _ (p : OrderProgram) (segment next : ℕ) (value : Filling) (fills : Fill
   template_fine names place (order.SetVariable line) fits = at_line_fine set_variable_entry line (lit< tt) fits.2
   template_fine names place (order.AddStep line) fits = at_line_fine add_step_entry line (lit< tt) fits.2
   template_fine names place (order.PutVariable line) fits = at_line_fine put_variable_entry line (lit< tt) fits.2
-  template_fine names place (order.LoopWay marks) fits = loop_fine names place marks (let f = fits.1 in omega arith)
+  template_fine names place (order.NextStep x line mark) fits = step_fine x line place (mark_place names mark) fits.2
+  template_fine names place (order.LoopWay marks) fits = loops_fine names place marks (let f = fits.1 in omega arith)
   template_fine names place (order.CallProc q line) fits = ((dx_register, fits.2), (distance_small (place + 6) (procedure_start names q), tt))
   template_fine names place (order.CallCommon d line) fits = ((dx_register, fits.2), (ahead_filled d, tt))
   template_fine names place (order.CallSpecial k line) fits =

@@ -46,6 +46,7 @@ pub mod Leaving
 pub mod Tables
 pub mod Variables
 pub mod Limits
+pub mod NextSteps
 pub mod Naming
 pub mod Calling
 pub mod Activities

@@ -39,7 +39,7 @@ module _ (c : Setting) (memory : List ℤ) (input output : List ℕ) where
         → Leading output bound q (LandedWith c memory input output to false rest)
     returns b is to bound le comes i =
         runs c memory input output 0 15 bound le
-        (reaches c memory input output exhausted_place by ((at + 3) % 65536) (pos n) (Word x ∷ rest) l.top room there refl i.0 l.operands.1 l.kept (with_ax l.operands.0 l.stacked.is)) (λ q r.
+        (reaches c memory input output exhausted_place by ((at + 3) % 65536) (Word x ∷ rest) l.top (omega arith) there refl i.0 l.operands.1 l.kept (with_ax l.operands.0 l.stacked.is)) (λ q r.
         let low = r.low in
         let area_low = c.low in
         let back = (at + 3) % 65536 in (
@@ -50,7 +50,7 @@ module _ (c : Setting) (memory : List ℤ) (input output : List ℕ) where
             U = _;
             law =
                 subst (λ b. Within (Quiet (quiet_in q.places)) c.image r.told.output 15 q.processor (Back c.image (if b then back else (back + 3)) (2 * suc (suc r.top)) (record_of c.acts) c.program.limits.area r.cells r.stack r.left r.told (λ ax f. Unit {0}))) is
-                (c.rows.routines.exhausted (quiet_in q.places) c.image c.library (quiet_library r.is.ignores) c.program.limits.area n (record_of c.acts) r.top back r.cx l.stacked.dx r.bx r.si x
+                (c.rows.routines.exhausted (quiet_in q.places) c.image c.library (quiet_library r.is.ignores) c.program.limits.area n (record_of c.acts) r.top back r.cx l.stacked.dx l.stacked.bx r.si x
                 (flags_of q) r.cells r.stack r.left r.told memory q.processor
                 fx within (holds c memory input output all r.kept) (omega arith) r.way r.under.0 (omega arith) (arrives (with_ax (unsigned_pos n (omega arith)) r.is)));
             means = λ u e. landed c.rows c.program c.image c.g c.acts false to (suc (suc r.top)) rest memory input output refl r.under.1 r.kept (to_place comes (returned q r.is.ignores e.is));
@@ -58,7 +58,7 @@ module _ (c : Setting) (memory : List ℤ) (input output : List ℕ) where
         ))
 
     chooses : (b : Bool) → past ≡ b → (to way m : ℕ) (start : ℕ → ℕ) → at + 6 ≡ to → (at + 6 + way) % 65536 ≡ start m % 65536 → LimitCode at by way
-        → Chooses c.program c.image 17 to start c.g false c.acts output q (to_mark_if b m (words rest memory input output))
+        → Chooses c.program c.image 17 to start c.g false 0 c.acts output q (to_mark_if b m (words rest memory input output))
     chooses true is to way m start e goes i =
         let l = returns true is (at + 3) 16 (lit≤ tt) (omega arith) (i.0, tt) in
         let within = l.within in
@@ -70,7 +70,7 @@ module _ (c : Setting) (memory : List ℤ) (input output : List ℕ) where
   pub exhausts : {q : Watched} {at : ℕ} (to by way m : ℕ) (start : ℕ → ℕ) (operands : List Operand) → at + 6 ≡ to → (at + 3 + by) % 65536 ≡ exhausted_place % 65536
       → (at + 6 + way) % 65536 ≡ start m % 65536 → operand_words operands < level c.acts → All OperandFits operands → All FitsWord memory
       → LimitCode at by way → LandedWith c memory input output at true operands q
-      → Chooses c.program c.image 17 to start c.g false c.acts output q (way_of_two (λ x a v. way_past_limit (is_below a (c.program.limits.area - 2)) m x (number_of a) v) (words operands memory input output))
+      → Chooses c.program c.image 17 to start c.g false 0 c.acts output q (way_of_two (λ x a v. way_past_limit (is_below a (c.program.limits.area - 2)) m x (number_of a) v) (words operands memory input output))
   exhausts to by way m start [] e there goes room fits all i l = tt
   exhausts to by way m start (Held d ∷ rest) e there goes room fits all i l = tt
   exhausts to by way m start (Word a ∷ []) e there goes room fits all i l = tt
@@ -78,7 +78,7 @@ module _ (c : Setting) (memory : List ℤ) (input output : List ℕ) where
   exhausts to by way m start (Word (negsuc n) ∷ Word x ∷ rest) e there goes room fits all i l = tt
   exhausts {q} {at} to by way m start (Word (pos n) ∷ Word x ∷ rest) e there goes room fits all i l = cases (is_below (pos n) (c.program.limits.area - 2)) refl
     where
-      cases : (b : Bool) → is_below (pos n) (c.program.limits.area - 2) ≡ b → Chooses c.program c.image 17 to start c.g false c.acts output q (way_past_limit b m x n (words rest memory input output))
+      cases : (b : Bool) → is_below (pos n) (c.program.limits.area - 2) ≡ b → Chooses c.program c.image 17 to start c.g false 0 c.acts output q (way_past_limit b m x n (words rest memory input output))
       cases false is = tt
       cases true is =
           let less : n < c.program.limits.area - 2 = ltb-true n (c.program.limits.area - 2) is in

@@ -1,15 +1,19 @@
 -- Control variables, tests and ways of loops.
-use Rattle.std.proofs.Common.{◌≡◌, ℕ, ◌+◌, ◌-◌, ◌*◌, ◌%◌, ◌<◌, ◌≤◌, Bool, true, false, ℤ, List, [], ◌∷◌, length, Option, Some, None, subst, arith, lit<, lit≤}
+use Rattle.std.proofs.Common.{◌≡◌, ℕ, ◌+◌, ◌-◌, ◌*◌, ◌%◌, ◌<◌, ◌≤◌, Bool, true, false, ℤ, List, [], ◌∷◌, length, Option, Some, None, refl, sym, subst, arith, lit<, lit≤}
 use Rattle.std.specs.Prelude.{slice_get}
 use Rattle.cw_follow.proofs.Watched.{Watched}
 use Rattle.cw_unit.specs.Stop.{Running}
 use Rattle.cw_unit.specs.Operation.{is_past}
 use Rattle.cw_unit.specs.Words.{Operand, Word, Held, Words, with_operands, word_at, is_below, number_of}
+use Rattle.cw_order.specs.declared.order.Order.{Order}
 use Rattle.cw_order.specs.declared.order.Order.TheVariants as order
-use Rattle.cw_order.specs.OrderChanges.{set_variable, add_step, put_variable, way_of_one, to_mark_in, mark_of_number, way_of_two, way_past_limit}
-use Rattle.cw_order.specs.OrderState.{OrderActivation, at, stack_words}
-use Rattle.cw_tmpl.specs.Library.{set_variable_entry, add_step_entry, put_variable_entry, exhausted_entry}
-use Rattle.cw_tmpl.specs.Templates.{order_size, distance, mark_words}
+use Rattle.cw_order.specs.declared.order.Place.{Place}
+use Rattle.cw_order.specs.declared.order.Place.TheVariants as cell
+use Rattle.cw_order.specs.OrderActions.{home_word}
+use Rattle.cw_order.specs.OrderChanges.{Way, Onward, ToMark, Barred, Nowhere, set_variable, add_step, put_variable, way_of_one, to_mark_in, mark_of_number, way_of_two, way_past_limit, next_step}
+use Rattle.cw_order.specs.OrderState.{OrderActivation, at, stack_words, frame_word}
+use Rattle.cw_tmpl.specs.Library.{set_variable_entry, add_step_entry, put_variable_entry, exhausted_entry, next_step_entry}
+use Rattle.cw_tmpl.specs.Templates.{order_size, distance, mark_words, loop_way}
 use Rattle.cw_tmpl.specs.ReferenceCode.{mark_starts, names_of}
 use Rattle.cw_follow.specs.Placing.{base_of}
 use Rattle.cw_tmpl.proofs.Sizes.{own_place, jump_arrives, listed as size_listed}
@@ -18,9 +22,12 @@ use Rattle.cw_follow.proofs.Standing.{HasPieces}
 use Rattle.cw_follow.proofs.Stacks.{words_split}
 use Rattle.cw_follow.proofs.States.{Given, Sound}
 use Rattle.cw_follow.proofs.Steps.{Follow, step_is, line_fits, has_code, start, chosen, does, by, calls, setting, cheap, low_room, Alone, here, next, code, behind, begins_next, Roomy, if_roomy}
-use Rattle.cw_follow.proofs.Tables.{mark_word_is, loops}
+use Rattle.cw_follow.proofs.Orders.{Chooses}
+use Rattle.cw_follow.proofs.Operands.{Setting}
+use Rattle.cw_follow.proofs.Tables.{mark_word_is, loops, loops_once}
 use Rattle.cw_follow.proofs.Variables.{sets_variable, adds_step, puts_variable}
 use Rattle.cw_follow.proofs.Limits.{exhausts}
+use Rattle.cw_follow.proofs.NextSteps.{Turns, next_turns, doubles_word, doubles_frame, takes_step}
 
 -- the words on the ways
 past_roomy : (acts : List OrderActivation) (room m : ℕ) (b : Bool) (x : ℤ) (a : ℕ) (v : Words) → stack_words v.operands acts ≤ room → Roomy acts room (way_past_limit b m x a v)
@@ -41,6 +48,14 @@ limit_roomy acts room m area (Word y ∷ Word x ∷ rest) w le =
 mark_roomy : (acts : List OrderActivation) (room : ℕ) (x : Option ℕ) (v : Words) → stack_words v.operands acts ≤ room → Roomy acts room (to_mark_in x v)
 mark_roomy acts room None v le = le
 mark_roomy acts room (Some m) v le = le
+
+-- the operands stay
+turned_roomy : (c : Setting) (memory : List ℤ) (input output : List ℕ) (acts : List OrderActivation) (room m : ℕ) (operands : List Operand) (way : Way) → Turns c memory input output operands m way
+    → stack_words operands acts ≤ room → Roomy acts room way
+turned_roomy c memory input output acts room m operands (Onward v) keeps le = subst (λ u. stack_words u.operands acts ≤ room) (sym keeps) le
+turned_roomy c memory input output acts room m operands (ToMark k v) keeps le = subst (λ u. stack_words u.operands acts ≤ room) (sym keeps.1) le
+turned_roomy c memory input output acts room m operands (Barred kind) keeps le = tt
+turned_roomy c memory input output acts room m operands Nowhere keeps le = tt
 
 loop_roomy : (acts : List OrderActivation) (room : ℕ) (marks : List ℕ) (operands : List Operand) (w : Words) → stack_words operands acts ≤ room
     → Roomy acts room (way_of_one (λ i v. to_mark_in (mark_of_number marks i) v) operands w)
@@ -87,24 +102,24 @@ module _ (known : Given) where
         let o = order.Exhausted m in
         let own = own_place s.orders.list place in
         let after = here known s a + 3 in
-        chosen known s false (way_of_two (λ x y v. way_past_limit (is_below y (p.limits.area - 2)) m x (number_of y) v) w) 17 (begins_next known s a o e)
+        chosen known s false 0 (way_of_two (λ x y v. way_past_limit (is_below y (p.limits.area - 2)) m x (number_of y) v) w) 17 (begins_next known s a o e)
         (limit_roomy acts p.room m (p.limits.area - 2) w.operands w s.room) (step_is known s (Some o) e)
         (cheap known s o 17 (lit≤ tt) e)
         (exhausts (setting known s) w.memory w.input w.output (next known s a) (by known s exhausted_entry after) (distance (own + 6) (mark_starts s.orders m)) m (start known s) w.operands
         (behind known s a o e) (calls known s exhausted_entry after (lit< tt))
         (jump_arrives (base_of p g) own 6 (mark_starts s.orders m)) (low_room known s) s.fits.operands s.fits.memory (code known s a o e) a.landed)
 
-    pub loop_follows : (marks : List ℕ) → slice_get s.orders.list place ≡ Some (order.LoopWay marks) → Follow known (at g place true acts w Running) q
-    loop_follows marks e =
+    -- by a table
+    by_table : (marks : List ℕ) → slice_get s.orders.list place ≡ Some (order.LoopWay marks) → order_size (order.LoopWay marks) ≡ 20 + 2 * length marks
+        → HasPieces image (all.stands g s.orders s.unit).value (here known s a) (loop_way (names_of s.orders) (own_place s.orders.list place) marks) → Follow known (at g place true acts w Running) q
+    by_table marks e size i =
         let o = order.LoopWay marks in
         let n = length marks in
         let here = here known s a in
         let own = own_place s.orders.list place in
         let st = all.stands g s.orders s.unit in
-        let i = code known s a o e in
         let by = distance (own + 13) (own + 20 + 2 * n) in
         let meets = jump_arrives (base_of p g) own 13 (own + 20 + 2 * n) in
-        let size : order_size o ≡ 20 + 2 * n = size_listed o in
         let ends = behind known s a o e in
         let to = next known s a in
         let arrives : (here + 13 + by) % 65536 ≡ to % 65536 = omega arith in
@@ -118,8 +133,61 @@ module _ (known : Given) where
         let x : st.value 3 0 (mark_starts s.orders m % 65536) (here + 20 + 2 * k + 2) ≡ (base_of p g + mark_starts s.orders m) % 65536 = omega arith in
         x in
         let short : n < 32768 = has_code known s o e in
-        chosen known s false (way_of_one (λ x v. to_mark_in (mark_of_number marks x) v) w.operands w) 6 (begins_next known s a o e) (loop_roomy acts p.room marks w.operands w s.room)
+        chosen known s false 0 (way_of_one (λ x v. to_mark_in (mark_of_number marks x) v) w.operands w) 6 (begins_next known s a o e) (loop_roomy acts p.room marks w.operands w s.room)
         (step_is known s (Some o) e) (cheap known s o 6 (lit≤ tt) e)
         (loops rows p image g acts to by table (start known s) marks w.operands w.memory w.input w.output short table_is arrives
         (λ k m is. subst (HasWord image (here + 20 + 2 * k)) (start_word k m) (mark_word_is image st.value (names_of s.orders) (here + 20) marks k m words is))
         s.fits.operands (i.0, (i.1.0, (i.1.1.0, (i.1.1.1.0, (i.1.1.1.1.0, (i.1.1.1.1.1.0, (i.1.1.1.1.1.1.0, tt))))))) a.landed)
+
+    pub loop_follows : (marks : List ℕ) → slice_get s.orders.list place ≡ Some (order.LoopWay marks) → Follow known (at g place true acts w Running) q
+    loop_follows [] e = by_table [] e (size_listed (order.LoopWay [])) (code known s a (order.LoopWay []) e)
+    loop_follows (m ∷ []) e =
+        let o = order.LoopWay (m ∷ []) in
+        let own = own_place s.orders.list place in
+        chosen known s false 0 (way_of_one (λ x v. to_mark_in (mark_of_number (m ∷ []) x) v) w.operands w) 3 (begins_next known s a o e) (loop_roomy acts p.room (m ∷ []) w.operands w s.room)
+        (step_is known s (Some o) e) (cheap known s o 3 (lit≤ tt) e)
+        (loops_once rows p image g acts (next known s a) (distance (own + 6) (mark_starts s.orders m)) (start known s) m w.operands w.memory w.input w.output (behind known s a o e)
+        (jump_arrives (base_of p g) own 6 (mark_starts s.orders m)) s.fits.operands (code known s a o e) a.landed)
+    loop_follows (m ∷ n ∷ ms) e = by_table (m ∷ n ∷ ms) e (size_listed (order.LoopWay (m ∷ n ∷ ms))) (code known s a (order.LoopWay (m ∷ n ∷ ms)) e)
+
+  module _ {q : Watched} {g place : ℕ} {acts : List OrderActivation} {w : Words} (s : Sound p image g place false acts w q) (a : Alone p image g place false acts w q s.orders.list) where
+    next_roomy : (m : ℕ) (x : Option ℕ) → Roomy acts p.room (next_step p.limits.area m x w)
+    next_roomy m x =
+        let c = setting known s in
+        turned_roomy c w.memory w.input w.output acts p.room m w.operands (next_step p.limits.area m x w) (next_turns c w.memory w.input w.output m x w.operands) s.room
+
+    -- by the words of a loop in a storage family, and in the frame
+    pub turn_follows : (x : Place) (line m : ℕ) → slice_get s.orders.list place ≡ Some (order.NextStep x line m) → Follow known (at g place false acts w Running) q
+    turn_follows (cell.Word f n) line m e =
+        let o = order.NextStep (cell.Word f n) line m in
+        let own = own_place s.orders.list place in
+        let here = here known s a in
+        let st = all.stands g s.orders s.unit in
+        let i = code known s a o e in
+        let home = home_word p.addresses g f n in
+        let word = st.value 2 f n (here + 3) in
+        let filled : word ≡ 2 * home % 65536 = st.fills.bytes f n (here + 3) in
+        let ends : here + 14 ≡ next known s a = behind known s a o e in
+        let arrives : (here + 14 + distance (own + 14) (mark_starts s.orders m)) % 65536 ≡ start known s m % 65536 = jump_arrives (base_of p g) own 14 (mark_starts s.orders m) in
+        chosen known s false line (next_step p.limits.area m (Some home) w) 32 (begins_next known s a o e) (next_roomy m (Some home)) (step_is known s (Some o) e) (cheap known s o 32 (lit≤ tt) e)
+        (takes_step (setting known s) w.memory w.input w.output 1 (next known s a) (by known s next_step_entry (here + 3 + 3 + 3)) (distance (own + 14) (mark_starts s.orders m)) line home m (start known s)
+        w.operands (lit≤ tt) (omega arith) (calls known s next_step_entry (here + 3 + 3 + 3) (lit< tt)) (omega arith) (line_fits known s o e) s.fits.memory (low_room known s) i.1
+        (λ inside. doubles_word (setting known s) w.memory w.input w.output home word w.operands (omega arith) i.0 a.landed))
+    turn_follows (cell.Frame n) line m e =
+        chosen known s false line (next_step p.limits.area m (frame_word p.limits.area acts n) w) 32 (begins_next known s a o e) (next_roomy m (frame_word p.limits.area acts n)) (step_is known s (Some o) e)
+        (cheap known s o 32 (lit≤ tt) e) (takes (frame_word p.limits.area acts n) refl)
+      where
+        o : Order
+        o = order.NextStep (cell.Frame n) line m
+
+        takes : (x : Option ℕ) → frame_word p.limits.area acts n ≡ x → Chooses p image 32 (next known s a) (start known s) g false line acts w.output q (next_step p.limits.area m x w)
+        takes None is = tt
+        takes (Some k) is =
+            let own = own_place s.orders.list place in
+            let here = here known s a in
+            let i = code known s a o e in
+            let ends : here + 18 ≡ next known s a = behind known s a o e in
+            let arrives : (here + 18 + distance (own + 18) (mark_starts s.orders m)) % 65536 ≡ start known s m % 65536 = jump_arrives (base_of p g) own 18 (mark_starts s.orders m) in
+            takes_step (setting known s) w.memory w.input w.output 2 (next known s a) (by known s next_step_entry (here + 3 + 4 + 3 + 3)) (distance (own + 18) (mark_starts s.orders m)) line k m (start known s)
+            w.operands (lit≤ tt) (omega arith) (calls known s next_step_entry (here + 3 + 4 + 3 + 3) (lit< tt)) (omega arith) (line_fits known s o e) s.fits.memory (low_room known s) i.1.1
+            (λ inside. doubles_frame (setting known s) w.memory w.input w.output n k w.operands is (i.0, (i.1.0, tt)) a.landed)

@@ -23,7 +23,7 @@ use Rattle.cw_order.specs.declared.order.Comparator.{Comparator}
 use Rattle.cw_order.specs.FittingWords.{OperandFits}
 use Rattle.cw_order.specs.OrderProgram.{OrderProgram}
 use Rattle.cw_order.specs.OrderState.{OrderActivation, operand_words}
-use Rattle.cw_order.specs.OrderChanges.{Way, Onward, ToMark, Nowhere, way_of_two, to_mark_if, comparison}
+use Rattle.cw_order.specs.OrderChanges.{Way, Onward, ToMark, Barred, Nowhere, way_of_two, to_mark_if, comparison}
 use Rattle.cw_order.specs.OrderMachine.{unrefused}
 use Rattle.cw_tmpl.specs.Mnemonics.{at_bx, nothing}
 use Rattle.cw_tmpl.specs.Library.{stop_place}
@@ -163,7 +163,7 @@ later prog image limit to g loaded line acts n bound Impossible le l on = tt
 pub further : {output : List ℕ} {limit : ℕ} {p : Watched} {Target : Watched → Type 0} (n : ℕ) → n ≤ limit → 0 < n → Leads output n p Target → Leading output limit p Target
 further n le some l = record { spent = n; some = some; within = le; leads = l }
 
-with_bx : {image : List ℕ} {at ax bx x cx dx sp bp si di : ℕ} {overflow : Bool} {cells stack : ℕ → ℕ} {input : List ℕ} {told : Told} {p : Watched} → bx ≡ x
+pub with_bx : {image : List ℕ} {at ax bx x cx dx sp bp si di : ℕ} {overflow : Bool} {cells stack : ℕ → ℕ} {input : List ℕ} {told : Told} {p : Watched} → bx ≡ x
     → Is image at (view ax cx dx bx sp bp si di overflow cells stack input told) p → Is image at (view ax cx dx x sp bp si di overflow cells stack input told) p
 with_bx {image} {at} {ax} {bx} {x} {cx} {dx} {sp} {bp} {si} {di} {overflow} {cells} {stack} {input} {told} {p} e s =
     subst (λ b. Is image at (view ax cx dx b sp bp si di overflow cells stack input told) p) e s
@@ -173,11 +173,12 @@ with_overflow : {image : List ℕ} {at ax bx cx dx sp bp si di : ℕ} {o o' : Bo
 with_overflow {image} {at} {ax} {bx} {cx} {dx} {sp} {bp} {si} {di} {o} {o'} {cells} {stack} {input} {told} {p} e s =
     subst (λ b. Is image at (view ax cx dx bx sp bp si di b cells stack input told) p) e s
 
--- an order leads within so many instructions on its way: to the next order, or to where the code of a mark starts
-abbrev pub Chooses : (prog : OrderProgram) (image : List ℕ) (limit to : ℕ) (start : ℕ → ℕ) (g : ℕ) (loaded : Bool) (acts : List OrderActivation) (output : List ℕ) (p : Watched) → Way → Type 0
-Chooses prog image limit to start g loaded acts output p (Onward v) = Leading output limit p (Landed prog image to g loaded acts v)
-Chooses prog image limit to start g loaded acts output p (ToMark m v) = Leading output limit p (Landed prog image (start m) g loaded acts v)
-Chooses prog image limit to start g loaded acts output p Nowhere = Unit {0}
+-- an order leads within so many instructions on its way: to the next order, to where the code of a mark starts, or to a stop at a line
+abbrev pub Chooses : (prog : OrderProgram) (image : List ℕ) (limit to : ℕ) (start : ℕ → ℕ) (g : ℕ) (loaded : Bool) (line : ℕ) (acts : List OrderActivation) (output : List ℕ) (p : Watched) → Way → Type 0
+Chooses prog image limit to start g loaded line acts output p (Onward v) = Leading output limit p (Landed prog image to g loaded acts v)
+Chooses prog image limit to start g loaded line acts output p (ToMark m v) = Leading output limit p (Landed prog image (start m) g loaded acts v)
+Chooses prog image limit to start g loaded line acts output p (Barred kind) = Leading output limit p (Over (record { output = output; end = Stopped kind (g + 1) line }))
+Chooses prog image limit to start g loaded line acts output p Nowhere = Unit {0}
 
 -- what an order does that writes: on its way the old output is shown and then the new one
 pub record Telling (before after : List ℕ) (limit : ℕ) (p : Watched) (Target : Watched → Type 0) : Type 0 where
@@ -206,10 +207,11 @@ further_on {p = p} n limit bound le l on =
       leads = record { reached = d.leads.reached; path = join _ watched_machine n d.spent (n + d.spent) p l.reached d.leads.reached refl l.path d.leads.path; there = d.leads.there };
     }
 
-pub sooner : (prog : OrderProgram) (image : List ℕ) (limit to : ℕ) (start : ℕ → ℕ) (g : ℕ) (loaded : Bool) (acts : List OrderActivation) {output : List ℕ} {p : Watched} {T : Watched → Type 0} (n bound : ℕ) (way : Way) → n + limit ≤ bound → Leads output n p T → ((q : Watched) → T q → Chooses prog image limit to start g loaded acts output q way) → Chooses prog image bound to start g loaded acts output p way
-sooner prog image limit to start g loaded acts n bound (Onward v) le l on = further_on n limit bound le l on
-sooner prog image limit to start g loaded acts n bound (ToMark m v) le l on = further_on n limit bound le l on
-sooner prog image limit to start g loaded acts n bound Nowhere le l on = tt
+pub sooner : (prog : OrderProgram) (image : List ℕ) (limit to : ℕ) (start : ℕ → ℕ) (g : ℕ) (loaded : Bool) (line : ℕ) (acts : List OrderActivation) {output : List ℕ} {p : Watched} {T : Watched → Type 0} (n bound : ℕ) (way : Way) → n + limit ≤ bound → Leads output n p T → ((q : Watched) → T q → Chooses prog image limit to start g loaded line acts output q way) → Chooses prog image bound to start g loaded line acts output p way
+sooner prog image limit to start g loaded line acts n bound (Onward v) le l on = further_on n limit bound le l on
+sooner prog image limit to start g loaded line acts n bound (ToMark m v) le l on = further_on n limit bound le l on
+sooner prog image limit to start g loaded line acts n bound (Barred kind) le l on = further_on n limit bound le l on
+sooner prog image limit to start g loaded line acts n bound Nowhere le l on = tt
 
 -- the tops of the stack
 pub top_whole : (top : ℕ) → top < 32764 → 2 * top ≡ 2 * top % 65536
@@ -598,7 +600,7 @@ module _ (rows : Rows) (prog : OrderProgram) (image : List ℕ) (g : ℕ) (acts 
       → at + 2 + 3 ≡ to → (at + 2 + 3 + by) % 65536 ≡ start m % 65536 → FitsWord x → FitsWord y → a ≡ unsigned x → b ≡ unsigned y
       → StackIs prog acts stack top operands → Kept prog g acts memory input output cells stack left told → HasAll image at (i86.JumpIf (condition_of (opposite_of c)) 3 ∷ i86.Jump by ∷ [])
       → IsCompared image at (view ax cx dx bx (2 * top) (record_of acts) si prog.limits.area overflow cells stack left told) a b p
-      → Chooses prog image 2 to start g false acts output p (to_mark_if (holds (comparison c) x y) m (record { operands = operands; memory = memory; input = input; output = output }))
+      → Chooses prog image 2 to start g false 0 acts output p (to_mark_if (holds (comparison c) x y) m (record { operands = operands; memory = memory; input = input; output = output }))
   branches {p} {at} {ax} {cx} {dx} {bx} {si} {a} {b} {overflow} {cells} {stack} {left} {told} to top by start c m x y operands memory input output e arrives fx fy ea eb h k i s = cases (holds (comparison c) x y) refl
     where
       V : View
@@ -613,7 +615,7 @@ module _ (rows : Rows) (prog : OrderProgram) (image : List ℕ) (g : ℕ) (acts 
       turned : words_compare (opposite_of c) a b ≡ not (holds (comparison c) x y)
       turned = ap₂ (words_compare (opposite_of c)) ea eb ∙ opposite_is rows.words x y fx fy c
 
-      cases : (t : Bool) → holds (comparison c) x y ≡ t → Chooses prog image 2 to start g false acts output p (to_mark_if t m (record { operands = operands; memory = memory; input = input; output = output }))
+      cases : (t : Bool) → holds (comparison c) x y ≡ t → Chooses prog image 2 to start g false 0 acts output p (to_mark_if t m (record { operands = operands; memory = memory; input = input; output = output }))
       cases true t =
           further 2 (lit≤ tt) (lit< tt)
           (more rows {to = at + 2} {w = V} s.is k.wrote (compared_passes rows (opposite_of c) 3 la lb (turned ∙ ap not t) i.0 s) (λ q u.
@@ -623,7 +625,7 @@ module _ (rows : Rows) (prog : OrderProgram) (image : List ℕ) (g : ℕ) (acts 
   pub chooses : {p : Watched} {at : ℕ} (to by : ℕ) (start : ℕ → ℕ) (c : Comparator) (m : ℕ) (operands : List Operand) (memory : List ℤ) (input output : List ℕ) → at + 8 ≡ to → (at + 8 + by) % 65536 ≡ start m % 65536
       → All OperandFits operands → HasAll image at (i86.Pop 3 ∷ with_other 7 3 0 ∷ i86.JumpIf (condition_of (opposite_of c)) 3 ∷ i86.Jump by ∷ [])
       → Landed prog image at g true acts (record { operands = operands; memory = memory; input = input; output = output }) p
-      → Chooses prog image 4 to start g false acts output p (way_of_two (λ x y v. to_mark_if (holds (comparison c) x y) m v) (record { operands = operands; memory = memory; input = input; output = output }))
+      → Chooses prog image 4 to start g false 0 acts output p (way_of_two (λ x y v. to_mark_if (holds (comparison c) x y) m v) (record { operands = operands; memory = memory; input = input; output = output }))
   chooses to by start c m [] memory input output e arrives fits i l = tt
   chooses to by start c m (Held d ∷ rest) memory input output e arrives fits i l = tt
   chooses to by start c m (Word y ∷ []) memory input output e arrives fits i l = tt
@@ -640,7 +642,7 @@ module _ (rows : Rows) (prog : OrderProgram) (image : List ℕ) (g : ℕ) (acts 
       let e' : at + 1 + 2 + 2 + 3 ≡ to = omega arith in
       let a' : (at + 1 + 2 + 2 + 3 + by) % 65536 ≡ start m % 65536 = omega arith in
       let Between : Watched → Type 0 = IsCompared image (at + 1 + 2) (view s.ax s.cx s.dx n (2 * suc l.top) (record_of acts) s.si prog.limits.area (difference_overflows n s.ax) l.cells l.stack l.input l.told) n s.ax in
-      sooner prog image 2 to start g false acts {T = Between} 2 4 (to_mark_if (holds (comparison c) x y) m (record { operands = rest; memory = memory; input = input; output = output })) (lit≤ tt)
+      sooner prog image 2 to start g false 0 acts {T = Between} 2 4 (to_mark_if (holds (comparison c) x y) m (record { operands = rest; memory = memory; input = input; output = output })) (lit≤ tt)
       (more rows {to = at + 1} {w = view s.ax s.cx s.dx n (2 * suc l.top) (record_of acts) s.si prog.limits.area s.overflow l.cells l.stack l.input l.told} s.is k.wrote (pop_bx l.top lt i.0 s.is) (λ q u.
       compared_more rows {Between = Between} u k.wrote (compare rows 3 0 i.1.0 u) (λ q u. done u)))
       (λ q u. branches to (suc l.top) by start c m x y rest memory input output e' a' fx fy h.1.0 h.0 h.1.1 k i.1.1 u)

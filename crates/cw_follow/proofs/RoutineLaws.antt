@@ -2,9 +2,9 @@
 use Rattle.std.specs.Prelude.{◌≢◌, ◌≤◌, ◌<◌, ℕ, suc, ℤ, pos, negsuc, Bool, List}
 use Rattle.cw_word.specs.FixedPoint.{FitsWord, scaled_product, scaled_quotient}
 use Rattle.cw_unit.specs.Stop.{Overflow, ZeroDivisor, SwitchRange, AddressRange, IndexRange}
-use Rattle.cw_tmpl.specs.Library.{start_place, stop_place, enter_place, read_place, set_variable_place, add_step_place, put_variable_place, exhausted_place, product_place, quotient_down_place, quotient_up_place}
+use Rattle.cw_tmpl.specs.Library.{start_place, stop_place, enter_place, read_place, set_variable_place, add_step_place, put_variable_place, exhausted_place, next_step_place, product_place, quotient_down_place, quotient_up_place}
 use Rattle.cw_routines.specs.Ways.{HasAll, QuietAll}
-use Rattle.cw_routines.specs.Results.{Stands, Quiet, InLibrary, StartRoutine, StopRoutine, ToldStop, EnterRoutine, leave, Leaving, ReadRoutine, SetRoutine, StepRoutine, PutRoutine, ExhaustedRoutine, WordRoutine, divisor_test, DivisorTest}
+use Rattle.cw_routines.specs.Results.{Stands, Quiet, InLibrary, StartRoutine, StopRoutine, ToldStop, EnterRoutine, leave, Leaving, ReadRoutine, SetRoutine, StepRoutine, PutRoutine, ExhaustedRoutine, NextStepRoutine, WordRoutine, divisor_test, DivisorTest}
 
 pub record RoutineLaws : Type 0 where
   pub start : (quiet : ℕ → Bool) (code : List ℕ) → Stands code → InLibrary quiet → StartRoutine (Quiet quiet) code start_place 10
@@ -23,4 +23,5 @@ pub record RoutineLaws : Type 0 where
   pub add_step : (quiet : ℕ → Bool) (code : List ℕ) → Stands code → InLibrary quiet → StepRoutine (Quiet quiet) code add_step_place 19
   pub put_variable : (quiet : ℕ → Bool) (code : List ℕ) → Stands code → InLibrary quiet → PutRoutine (Quiet quiet) code put_variable_place 16
   pub exhausted : (quiet : ℕ → Bool) (code : List ℕ) → Stands code → InLibrary quiet → ExhaustedRoutine (Quiet quiet) code exhausted_place 15
+  pub next_step : (quiet : ℕ → Bool) (code : List ℕ) → Stands code → InLibrary quiet → NextStepRoutine (Quiet quiet) code next_step_place 26
   pub divisor : (quiet : ℕ → Bool) (code : List ℕ) (at by : ℕ) → QuietAll (Quiet quiet) at (divisor_test by) → HasAll code at (divisor_test by) → by < 128 → DivisorTest (Quiet quiet) code at by

@@ -1,6 +1,6 @@
 -- What the instructions of the templates and of the library do to a view, as the laws of cw_run86 say, and those of Fields.
-use Rattle.std.proofs.Common.{◌≡◌, ℕ, suc, ◌+◌, ◌*◌, ◌%◌, ◌<◌, ◌≤◌, true, false, ℤ, pos, unsigned_abs, int_rem, List, length}
-use Rattle.std.specs.Prelude.{bit_and, bit_or, bit_xor, slice_index}
+use Rattle.std.proofs.Common.{◌≡◌, ℕ, suc, ◌+◌, ◌*◌, ◌%◌, ◌<◌, ◌≤◌, Bool, true, false, ℤ, pos, unsigned_abs, int_rem, List, length}
+use Rattle.std.specs.Prelude.{◌==◌, bit_and, bit_or, bit_xor, slice_index}
 use Rattle.cw_i86.specs.State.{State, sign_extended}
 use Rattle.cw_i86.specs.MachineRun.{IsStart, Running, end_told}
 use Rattle.cw_i86.specs.declared.instr.Instr.TheVariants as i86
@@ -11,9 +11,11 @@ use Rattle.cw_run86.specs.Processor.{Processor, processor_step, processor_start,
 use Rattle.cw_run86.specs.Views.{View, Sees, Has, Goes, IsTop, starting_view, register, on, with_place, with_register, with_result, with_cell, with_stack, with_told, sum_overflows, difference_overflows, word_sum, word_difference, with_other, with_memory, with_number, Compared, Compares, Comparison, condition_of, words_compare, word_down_signed, shift_overflow, product_low, product_high, product_overflows, with_pair, double_overflows, with_overflow, sign_of}
 use Rattle.cw_word.specs.FixedPoint.{FitsWord, scaled_quotient}
 use Rattle.cw_word.specs.Word.{unsigned}
+use Rattle.cw_i86.specs.Effect.{holds}
 use Rattle.cw_i86.specs.Encoding.{bytes_of}
 use Rattle.cw_i86.specs.declared.flags.Flags.{Flags}
-use Rattle.cw_rows86.specs.Operations.{Compare, flags_after}
+use Rattle.cw_rows86.specs.Locations.{Lands}
+use Rattle.cw_rows86.specs.Operations.{Compare, flags_after, counted_to, flags_counted}
 use Rattle.cw_rows86.specs.Acts.{Act, instruction, Needs, after, flags_of}
 use Rattle.cw_follow.proofs.WordLaws.{WordLaws}
 use Rattle.cw_follow.proofs.RoutineLaws.{RoutineLaws}
@@ -79,6 +81,12 @@ pub record Rows : Type 0 where
   pub jumps_below : (code : List ℕ) (v : View) (by a b : ℕ) (p : Processor) → Has code v.place (i86.JumpIf 2 by) → a < b → Sees code v p → Compared a b p → Sees code (with_place ((v.place + 2 + sign_extended by) % 65536) v) (processor_step p)
   pub passes_above : (code : List ℕ) (v : View) (by a b : ℕ) (p : Processor) → Has code v.place (i86.JumpIf 2 by) → b ≤ a → Sees code v p → Compared a b p → Sees code (on (i86.JumpIf 2 by) v) (processor_step p)
   pub as_compared : (a b : ℕ) (flags : Flags) (p : Processor) → p.state.flags ≡ flags_after Compare a b flags → Compared a b p
+  -- jumps on any condition of the flags
+  pub counted_zero : (down : Bool) (a : ℕ) (flags : Flags) → holds (flags_counted down a flags) 4 ≡ (counted_to down a == 0)
+  pub jumps_if : (code : List ℕ) (v : View) (condition by : ℕ) (p : Processor) → Has code v.place (i86.JumpIf condition by) → Sees code v p → holds p.state.flags condition ≡ true
+      → Lands code (with_place ((v.place + 2 + sign_extended by) % 65536) v) p
+  pub passes_if : (code : List ℕ) (v : View) (condition by : ℕ) (p : Processor) → Has code v.place (i86.JumpIf condition by) → Sees code v p → holds p.state.flags condition ≡ false
+      → Lands code (on (i86.JumpIf condition by) v) p
   -- acts: any operation over any operand
   pub acts : (code : List ℕ) (a : Act) (n : ℕ) (v : View) (p : Processor) → Has code n (instruction a) → Needs code a v → Sees code (with_place n v) p
       → Sees code (with_place ((n + length (bytes_of (instruction a))) % 65536) (after a v)) (processor_step p) × ((processor_step p).state.flags ≡ flags_of a v p.state.flags)

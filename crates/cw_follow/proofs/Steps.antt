@@ -17,7 +17,7 @@ use Rattle.cw_order.specs.declared.order.Comparator.{Comparator}
 use Rattle.cw_order.specs.declared.order.Order.{Order}
 use Rattle.cw_order.specs.HasCode.{HasCode}
 use Rattle.cw_order.specs.OrderProgram.{OrderProgram, order_in, order_at, mark_in}
-use Rattle.cw_order.specs.OrderChanges.{Way, Onward, ToMark, Nowhere, way_of_two, to_mark_if, comparison}
+use Rattle.cw_order.specs.OrderChanges.{Way, Onward, ToMark, Barred, Nowhere, way_of_two, to_mark_if, comparison}
 use Rattle.cw_order.specs.OrderState.{OrderActivation, OrderState, at, operand_words, stack_words}
 use Rattle.cw_order.specs.OrderCosts.{weight_of, weight_at}
 use Rattle.cw_order.specs.Loading.{loaded_after}
@@ -85,6 +85,7 @@ pub record Alone (p : OrderProgram) (image : List ℕ) (g place : ℕ) (loaded :
 abbrev pub Roomy : List OrderActivation → ℕ → Way → Type 0
 Roomy acts room (Onward v) = stack_words v.operands acts ≤ room
 Roomy acts room (ToMark m v) = stack_words v.operands acts ≤ room
+Roomy acts room (Barred kind) = Unit {0}
 Roomy acts room Nowhere = Unit {0}
 
 pub if_roomy : (acts : List OrderActivation) (room m : ℕ) (b : Bool) (v : Words) → stack_words v.operands acts ≤ room → Roomy acts room (to_mark_if b m v)
@@ -397,10 +398,10 @@ module _ (known : Given) where
     ]
 
     -- the way on that an order chooses
-    pub chosen : (l : Bool) (way : Way) (limit : ℕ) → left_at 0 s.orders.list (place + 1) ≡ 0 → Roomy acts p.room way → step p (at g place loaded acts w Running) ≡ branch p way g place l acts w → limit ≤ weight p (at g place loaded acts w Running)
-        → Chooses p image limit (order_place (base_of p g) s.orders.list (place + 1)) start g l acts w.output q way → Follow (at g place loaded acts w Running) q
-    chosen l (Onward v) limit begins room e paid d = leads_to g place loaded acts w (at g (place + 1) l acts v Running) limit e paid (onward (λ r t. inl (sound_at (place + 1) l v r begins room e t)) d)
-    chosen l (ToMark m v) limit begins room e paid d = cases (slice_get s.orders.marks m) refl
+    pub chosen : (l : Bool) (line : ℕ) (way : Way) (limit : ℕ) → left_at 0 s.orders.list (place + 1) ≡ 0 → Roomy acts p.room way → step p (at g place loaded acts w Running) ≡ branch p line way g place l acts w → limit ≤ weight p (at g place loaded acts w Running)
+        → Chooses p image limit (order_place (base_of p g) s.orders.list (place + 1)) start g l line acts w.output q way → Follow (at g place loaded acts w Running) q
+    chosen l line (Onward v) limit begins room e paid d = leads_to g place loaded acts w (at g (place + 1) l acts v Running) limit e paid (onward (λ r t. inl (sound_at (place + 1) l v r begins room e t)) d)
+    chosen l line (ToMark m v) limit begins room e paid d = cases (slice_get s.orders.marks m) refl
       where
         goes : (k : Option ℕ) → slice_get s.orders.marks m ≡ k → step p (at g place loaded acts w Running) ≡ go_at k g place l acts w v
         goes k is = e ∙ ap (λ x. go_at x g place l acts w v) (ap (λ u. mark_in u m) s.unit ∙ is)
@@ -411,15 +412,16 @@ module _ (known : Given) where
             let there : start m ≡ order_place (base_of p g) s.orders.list to = ap (λ n. base_of p g + n) (mark_start s.orders m to is (goes_within to l v (goes (Some to) is))) in
             leads_to g place loaded acts w (at g to l acts v Running) limit (goes (Some to) is) paid
             (onward (λ r t. inl (sound_at to l v r (mark_begins m to is) room (goes (Some to) is) (subst (λ a. Landed p image a g l acts v r) there t))) d)
-    chosen l Nowhere limit begins room e paid d = absurd (not_stuck p g place l acts w (never_next (at g place l acts w Stuck) e))
+    chosen l line (Barred kind) limit begins room e paid d = leads_to g place loaded acts w (at g place l acts w (Stopped kind (g + 1) line)) limit e paid d
+    chosen l line Nowhere limit begins room e paid d = absurd (not_stuck p g place l acts w (never_next (at g place l acts w Stuck) e))
 
-    pub last_chooses : (l : Bool) (f : Words → Way) (limit n : ℕ) (os : List Order) → s.done ≡ n → drop s.from s.orders.list ≡ os → left_at 0 s.orders.list (place + 1) ≡ 0 → Roomy acts p.room (f w)
-        → step p (at g place loaded acts w Running) ≡ branch p (f w) g place l acts w → limit ≤ weight p (at g place loaded acts w Running)
-        → Chooses p image limit (order_place (base_of p g) s.orders.list (place + 1)) start g l acts s.before.output q (way_after (silently p g acts n os s.before) f) → Follow (at g place loaded acts w Running) q
-    last_chooses l f limit n os is_done e begins room goes paid d =
-        chosen l (f w) limit begins room goes paid
-        (subst (λ o. Chooses p image limit (order_place (base_of p g) s.orders.list (place + 1)) start g l acts o q (f w)) s.wrote
-        (subst (λ x. Chooses p image limit (order_place (base_of p g) s.orders.list (place + 1)) start g l acts s.before.output q (way_after x f)) (did_as n os is_done e) d))
+    pub last_chooses : (l : Bool) (line : ℕ) (f : Words → Way) (limit n : ℕ) (os : List Order) → s.done ≡ n → drop s.from s.orders.list ≡ os → left_at 0 s.orders.list (place + 1) ≡ 0 → Roomy acts p.room (f w)
+        → step p (at g place loaded acts w Running) ≡ branch p line (f w) g place l acts w → limit ≤ weight p (at g place loaded acts w Running)
+        → Chooses p image limit (order_place (base_of p g) s.orders.list (place + 1)) start g l line acts s.before.output q (way_after (silently p g acts n os s.before) f) → Follow (at g place loaded acts w Running) q
+    last_chooses l line f limit n os is_done e begins room goes paid d =
+        chosen l line (f w) limit begins room goes paid
+        (subst (λ o. Chooses p image limit (order_place (base_of p g) s.orders.list (place + 1)) start g l line acts o q (f w)) s.wrote
+        (subst (λ x. Chooses p image limit (order_place (base_of p g) s.orders.list (place + 1)) start g l line acts s.before.output q (way_after x f)) (did_as n os is_done e) d))
 
     pub low_room : operand_words w.operands < level acts
     low_room = let room = s.room in let most = coded.room in let split = words_split w.operands acts in omega arith

@@ -1,16 +1,19 @@
 -- What the code of a loop's way and of switches does: a number is compared, and the way is found in a table of the code.
-use Rattle.std.proofs.Common.{◌≡◌, ℕ, zero, suc, ◌+◌, ◌*◌, ◌%◌, ◌<◌, ◌≤◌, Bool, true, false, ℤ, pos, negsuc, List, [], ◌∷◌, length, drop, Option, Some, None, refl, ap, ◌∙◌, subst, arith, lit<, lit≤}
-use Rattle.std.specs.Prelude.{slice_get}
+use Rattle.std.proofs.Common.{◌≡◌, ℕ, zero, suc, ◌+◌, ◌*◌, ◌%◌, ◌<◌, ◌≤◌, Bool, true, false, not, ℤ, pos, negsuc, List, [], ◌∷◌, length, drop, Option, Some, None, refl, ap, ◌∙◌, subst, arith, lit<, lit≤}
+use Rattle.std.specs.Prelude.{slice_get, ◌==◌}
+use Rattle.std.proofs.lemmas.Bool.Decides.{nat_tests}
 use Rattle.std.specs.List.{All}
 use Rattle.std.proofs.lemmas.Int.{ints}
 use Rattle.std.proofs.lemmas.List.Elements.{All-head}
 use Rattle.std.proofs.lemmas.Option.{slice_get_within}
+use Rattle.cw_i86.specs.Effect.{holds}
 use Rattle.cw_i86.specs.declared.instr.Instr.TheVariants as i86
 use Rattle.cw_i86.specs.declared.instr.Imm.TheVariants as imm
 use Rattle.cw_i86.specs.declared.instr.Rm.TheVariants as rms
 use Rattle.cw_run86.specs.Processor.{Told}
-use Rattle.cw_follow.proofs.Watched.{Watched}
+use Rattle.cw_follow.proofs.Watched.{Watched, watched_step}
 use Rattle.cw_run86.specs.Views.{View, put_word, with_number, word_difference, difference_overflows, double_overflows}
+use Rattle.cw_rows86.specs.Acts.{Count}
 use Rattle.cw_word.specs.FixedPoint.{FitsWord}
 use Rattle.cw_word.specs.Word.{unsigned}
 use Rattle.cw_unit.specs.declared.unit.Goal.{Goal}
@@ -31,7 +34,8 @@ use Rattle.cw_routines.specs.Ways.{HasAll, HasWord}
 use Rattle.cw_routines.specs.Results.{Stands}
 use Rattle.cw_follow.proofs.Standing.{HasPieces}
 use Rattle.cw_follow.proofs.Rows.{Rows}
-use Rattle.cw_follow.proofs.Chains.{Is, IsCompared, Leads, view, seen, to_place, call, near, compare_number, jump_below, pass_above, through_table, more, compared_more, last}
+use Rattle.cw_follow.proofs.Chains.{Is, IsCompared, Leads, view, seen, to_place, call, near, compare_number, jump_below, pass_above, not_zero, jump_if, pass_if, through_table, more, compared_more, last}
+use Rattle.cw_follow.proofs.Acting.{act}
 use Rattle.cw_follow.proofs.Straight.{Move, Double, DifferenceNumber, straight}
 use Rattle.cw_follow.proofs.Routines.{Over, with_ax, quiet_in, quiet_library, flags_of, arrives, lifted, over}
 use Rattle.cw_follow.proofs.Stacks.{level, record_of}
@@ -52,6 +56,9 @@ less_is_far n fits = omega (arith, ints)
 
 pub number_fits : (n : ℕ) → FitsWord (pos (suc n)) → suc n < 65536
 number_fits n fits = omega (arith, ints)
+
+some_left : (n : ℕ) → 0 < n → (n == 0) ≡ false
+some_left n lt = grind (arith, nat_tests)
 
 pub not_within : {A : Type 0} (xs : List A) (k : ℕ) → slice_get xs k ≡ None → length xs ≤ k
 not_within [] k e = omega arith
@@ -169,7 +176,7 @@ module _ (rows : Rows) (prog : OrderProgram) (image : List ℕ) where
       → length marks < 32768 → table ≡ (at + 20) % 65536 → (at + 13 + by) % 65536 ≡ to % 65536
       → ((k m : ℕ) → slice_get marks k ≡ Some m → HasWord image (at + 20 + 2 * k) (start m % 65536)) → All OperandFits operands → LoopCode at (length marks) by table
       → Landed prog image at g true acts (record { operands = operands; memory = memory; input = input; output = output }) q
-      → Chooses prog image 6 to start g false acts output q (way_of_one (λ i v. to_mark_in (mark_of_number marks i) v) operands (record { operands = operands; memory = memory; input = input; output = output }))
+      → Chooses prog image 6 to start g false 0 acts output q (way_of_one (λ i v. to_mark_in (mark_of_number marks i) v) operands (record { operands = operands; memory = memory; input = input; output = output }))
   loops g acts to by table start marks [] memory input output short table_is arrives words fits i l = tt
   loops g acts to by table start marks (Held c ∷ rest) memory input output short table_is arrives words fits i l = tt
   loops g acts to by table start marks (Word (pos zero) ∷ rest) memory input output short table_is arrives words fits i l =
@@ -179,13 +186,64 @@ module _ (rows : Rows) (prog : OrderProgram) (image : List ℕ) where
       further 5 (lit≤ tt) (lit< tt) (loop_past g acts (length marks) by table i (negsuc n) rest memory input output l to (omega arith) arrives)
   loops {q} {at} g acts to by table start marks (Word (pos (suc k)) ∷ rest) memory input output short table_is arrives words fits i l = cases (slice_get marks k) refl
     where
-      cases : (m : Option ℕ) → slice_get marks k ≡ m → Chooses prog image 6 to start g false acts output q (to_mark_in m (record { operands = rest; memory = memory; input = input; output = output }))
+      cases : (m : Option ℕ) → slice_get marks k ≡ m → Chooses prog image 6 to start g false 0 acts output q (to_mark_in m (record { operands = rest; memory = memory; input = input; output = output }))
       cases (Some m) is = further 6 (lit≤ tt) (lit< tt) (loop_to g acts (length marks) by table i (pos (suc k)) rest memory input output l (start m) k refl (slice_get_within marks k m is) short table_is (words k m is))
       cases None none =
           let small = number_fits k (All-head OperandFits (Word (pos (suc k))) rest fits) in
           let e = from_zero k small in
           let long = not_within marks k none in
           further 5 (lit≤ tt) (lit< tt) (loop_past g acts (length marks) by table i (pos (suc k)) rest memory input output l to (omega arith) arrives)
+
+  -- ---- the way of a loop of one element
+
+  -- the number in AX is counted down: where nothing is left the way is that of the one mark
+  module _ {q : Watched} {at : ℕ} (g : ℕ) (acts : List OrderActivation) (by : ℕ) (i : HasAll image at (i86.Dec 0 ∷ i86.JumpIf 5 3 ∷ i86.Jump by ∷ [])) (z : ℤ) (rest : List Operand) (memory : List ℤ) (input output : List ℕ)
+      (l : Landed prog image at g true acts (record { operands = Word z ∷ rest; memory = memory; input = input; output = output }) q) where
+    abbrev counted : View
+    counted =
+        view (word_difference (unsigned z) 1) l.stacked.cx l.stacked.dx l.stacked.bx (2 * l.top) (record_of acts) l.stacked.si prog.limits.area (difference_overflows (unsigned z) 1) l.cells l.stack l.input l.told
+
+    -- whether nothing is left
+    abbrev Counted : Bool → Watched → Type 0
+    Counted b r = Is image (at + 1) counted r × (holds r.processor.state.flags 5 ≡ not b)
+
+    counts : (b : Bool) → (word_difference (unsigned z) 1 == 0) ≡ b → Counted b (watched_step q)
+    counts b is =
+        let a = act rows (Count true 0) refl (lit< tt) i.0 tt (with_ax l.operands.0 l.stacked.is) in
+        (a.is, not_zero (watched_step q).processor.state.flags ∙ ap (λ f. not (holds f 4)) a.flags ∙ ap not (rows.counted_zero true (unsigned z) q.processor.state.flags ∙ is))
+
+    one_to : (to : ℕ) → (word_difference (unsigned z) 1 == 0) ≡ true → (at + 6 + by) % 65536 ≡ to % 65536
+        → Leads output 3 q (Landed prog image to g false acts (record { operands = rest; memory = memory; input = input; output = output }))
+    one_to to is arrives =
+        let there : (at + 1 + 2 + 3 + by) % 65536 ≡ to % 65536 = omega arith in
+        compared_more rows {Between = Counted true} l.stacked.is l.kept.wrote (counts true is) (λ r t.
+        more rows {to = at + 1 + 2} {w = counted} t.0 l.kept.wrote (pass_if rows 5 3 t.1 i.1.0 t.0) (λ r u.
+        last rows u l.kept.wrote (landed rows prog image g acts false to l.top rest memory input output refl l.operands.1 l.kept (to_place there (near rows by i.1.1.0 u)))))
+
+    one_past : (to : ℕ) → (word_difference (unsigned z) 1 == 0) ≡ false → at + 6 ≡ to
+        → Leads output 2 q (Landed prog image to g false acts (record { operands = rest; memory = memory; input = input; output = output }))
+    one_past to is e =
+        let ends : at + 1 + 2 + 3 ≡ to = omega arith in
+        compared_more rows {Between = Counted false} l.stacked.is l.kept.wrote (counts false is) (λ r t.
+        last rows t.0 l.kept.wrote (landed rows prog image g acts false to l.top rest memory input output ends l.operands.1 l.kept (jump_if rows 5 3 t.1 i.1.0 t.0)))
+
+  pub loops_once : {q : Watched} {at : ℕ} (g : ℕ) (acts : List OrderActivation) (to by : ℕ) (start : ℕ → ℕ) (m : ℕ) (operands : List Operand) (memory : List ℤ) (input output : List ℕ)
+      → at + 6 ≡ to → (at + 6 + by) % 65536 ≡ start m % 65536 → All OperandFits operands → HasAll image at (i86.Dec 0 ∷ i86.JumpIf 5 3 ∷ i86.Jump by ∷ [])
+      → Landed prog image at g true acts (record { operands = operands; memory = memory; input = input; output = output }) q
+      → Chooses prog image 3 to start g false 0 acts output q (way_of_one (λ i v. to_mark_in (mark_of_number (m ∷ []) i) v) operands (record { operands = operands; memory = memory; input = input; output = output }))
+  loops_once g acts to by start m [] memory input output e arrives fits i l = tt
+  loops_once g acts to by start m (Held c ∷ rest) memory input output e arrives fits i l = tt
+  loops_once g acts to by start m (Word (pos zero) ∷ rest) memory input output e arrives fits i l =
+      further 2 (lit≤ tt) (lit< tt) (one_past g acts by i (pos zero) rest memory input output l to refl e)
+  loops_once g acts to by start m (Word (pos (suc zero)) ∷ rest) memory input output e arrives fits i l =
+      further 3 (lit≤ tt) (lit< tt) (one_to g acts by i (pos 1) rest memory input output l (start m) refl arrives)
+  loops_once g acts to by start m (Word (pos (suc (suc k))) ∷ rest) memory input output e arrives fits i l =
+      let small = number_fits (suc k) (All-head OperandFits (Word (pos (suc (suc k)))) rest fits) in
+      let left = from_zero (suc k) small in
+      further 2 (lit≤ tt) (lit< tt) (one_past g acts by i (pos (suc (suc k))) rest memory input output l to (some_left _ (omega arith)) e)
+  loops_once g acts to by start m (Word (negsuc n) ∷ rest) memory input output e arrives fits i l =
+      let far = less_is_far n (All-head OperandFits (Word (negsuc n)) rest fits) in
+      further 2 (lit≤ tt) (lit< tt) (one_past g acts by i (negsuc n) rest memory input output l to (some_left _ (omega arith)) e)
 
   -- ---- switches
 

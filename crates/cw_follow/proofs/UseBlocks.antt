@@ -301,15 +301,15 @@ module _ (c : Setting) (memory : List ℤ) (input output : List ℕ) where
     -- a comparison
     compare_used : (by : ℕ) (start : ℕ → ℕ) (k : Comparator) (m : ℕ) → named_at s at + named_size s + 5 ≡ to → (named_at s at + named_size s + 5 + by) % 65536 ≡ start m % 65536 → Has c.image (named_at s at) (naming w s Compare)
         → HasAll c.image (named_at s at + named_size s) (i86.JumpIf (condition_of (opposite_of k)) 3 ∷ i86.Jump by ∷ [])
-        → Chooses c.program c.image 10 to start c.g false c.acts output p (way_of_two (λ x y v. to_mark_if (holds (comparison k) x y) m v) (put y (words operands memory input output)))
+        → Chooses c.program c.image 10 to start c.g false 0 c.acts output p (way_of_two (λ x y v. to_mark_if (holds (comparison k) x y) m v) (put y (words operands memory input output)))
     compare_used by start k m e arrives h i = cases operands refl
       where
-        cases : (xs : List Operand) → operands ≡ xs → Chooses c.program c.image 10 to start c.g false c.acts output p (way_of_two (λ x y v. to_mark_if (holds (comparison k) x y) m v) (put y (words xs memory input output)))
+        cases : (xs : List Operand) → operands ≡ xs → Chooses c.program c.image 10 to start c.g false 0 c.acts output p (way_of_two (λ x y v. to_mark_if (holds (comparison k) x y) m v) (put y (words xs memory input output)))
         cases [] is = tt
         cases (Held d ∷ rest) is = tt
         cases (Word x ∷ rest) is =
             let few = few_steps s in
-            sooner c.program c.image 3 to start c.g false c.acts (steps_to s) 10 (to_mark_if (holds (comparison k) x y) m (words rest memory input output)) (omega arith) (named x rest is)
+            sooner c.program c.image 3 to start c.g false 0 c.acts (steps_to s) 10 (to_mark_if (holds (comparison k) x y) m (words rest memory input output)) (omega arith) (named x rest is)
             (λ q r. comparison_of c memory input output to by start k m x y rest (top_fits operands fits x rest is) fy e arrives h i r)
 
 -- ---- what each operand is
@@ -452,12 +452,12 @@ module _ (known : Given) where
         cases true is = let b = below_area rows.words p.limits.area a low small is in each (number_in (signed a)) b.within b.same
 
     fetched_chooses : (a limit : ℕ) (f : Words → Way) → a < 65536
-        → ((k : ℕ) → k < p.limits.area → k ≡ a → Chooses p image limit block_end (start known s) g false acts s.before.output q (f (put (word_at s.before.memory k) s.before)))
-        → Chooses p image limit block_end (start known s) g false acts s.before.output q (way_after (chain (unrefused (perform p.limits.area (Fetch None) (put (signed a) s.before))) Changed) f)
+        → ((k : ℕ) → k < p.limits.area → k ≡ a → Chooses p image limit block_end (start known s) g false 0 acts s.before.output q (f (put (word_at s.before.memory k) s.before)))
+        → Chooses p image limit block_end (start known s) g false 0 acts s.before.output q (way_after (chain (unrefused (perform p.limits.area (Fetch None) (put (signed a) s.before))) Changed) f)
     fetched_chooses a limit f small each = cases (is_below (signed a) p.limits.area) refl
       where
         cases : (b : Bool) → is_below (signed a) p.limits.area ≡ b
-            → Chooses p image limit block_end (start known s) g false acts s.before.output q (way_after (chain (unrefused (through b (λ i v. Changed (put (word_at v.memory i) v)) (signed a) s.before)) Changed) f)
+            → Chooses p image limit block_end (start known s) g false 0 acts s.before.output q (way_after (chain (unrefused (through b (λ i v. Changed (put (word_at v.memory i) v)) (signed a) s.before)) Changed) f)
         cases false is = tt
         cases true is = let b = below_area rows.words p.limits.area a low small is in each (number_in (signed a)) b.within b.same
 
@@ -669,7 +669,7 @@ module _ (known : Given) where
     -- ---- comparisons
 
     abbrev pub Chosen : Way → Type 0
-    Chosen way = Chooses p image 10 block_end (start known s) g false acts s.before.output q way
+    Chosen way = Chooses p image 10 block_end (start known s) g false 0 acts s.before.output q way
 
     abbrev pub way_of : Comparator → ℕ → Words → Way
     way_of c m v = way_of_two (λ x y t. to_mark_if (holds (comparison c) x y) m t) v
@@ -720,7 +720,7 @@ module _ (known : Given) where
         let ends = block_ends known s b order.Save os 2 is_done e is refl refl in
         let before = saved known s true 1 os is_done e refl in
         let paid : 10 ≤ weight p (at g place loaded acts w Running) = let y = weight_is known s (order.JumpIf c m) here in omega arith in
-        last_chooses known s false (way_of c m) 10 2 _ is_done e ends.begins (two_roomy acts p.room m c w.operands w s.room) (step_in known s true (order.JumpIf c m) before.now here) paid
+        last_chooses known s false 0 (way_of c m) 10 2 _ is_done e ends.begins (two_roomy acts p.room m c w.operands w s.room) (step_in known s true (order.JumpIf c m) before.now here) paid
         (number_chooses n c m (number_small known s n (order.JumpIf c m ∷ rest) e) ends.behind (block_code known s b order.Save os e is) before.landed)
     compares_last (simple.Contents (cell.Word f n)) c m rest without is_done e is =
         let os = order.Home f n ∷ order.Load ∷ order.JumpIf c m ∷ rest in
@@ -734,7 +734,7 @@ module _ (known : Given) where
         let word = home_word p.addresses g f n in
         let offset = st.fills.bytes f n (here_at + 4) in
         let paid : 10 ≤ weight p (at g place loaded acts w Running) = let y = weight_is known s (order.JumpIf c m) here in omega arith in
-        last_chooses known s false (way_of c m) 10 3 _ is_done e ends.begins (two_roomy acts p.room m c w.operands w s.room) (step_in known s true (order.JumpIf c m) before.now here) paid
+        last_chooses known s false 0 (way_of c m) 10 3 _ is_done e ends.begins (two_roomy acts p.room m c w.operands w s.room) (step_in known s true (order.JumpIf c m) before.now here) paid
         (fetched_chooses word 10 (way_of c m) (omega arith)
         (λ k within same.
         compares_with o c m (word_at v.memory k) (memory_word k within) ends.behind (block_code known s b order.Save os e is)
@@ -747,7 +747,7 @@ module _ (known : Given) where
         let ends = block_ends known s b order.Save os 3 is_done e is refl refl in
         let before = saved known s true 2 os is_done e refl in
         let paid : 10 ≤ weight p (at g place loaded acts w Running) = let y = weight_is known s (order.JumpIf c m) here in omega arith in
-        last_chooses known s false (way_of c m) 10 3 _ is_done e ends.begins (two_roomy acts p.room m c w.operands w s.room) (step_in known s true (order.JumpIf c m) before.now here) paid
+        last_chooses known s false 0 (way_of c m) 10 3 _ is_done e ends.begins (two_roomy acts p.room m c w.operands w s.room) (step_in known s true (order.JumpIf c m) before.now here) paid
         (frame_chooses n c m ends.behind (block_code known s b order.Save os e is) before.landed)
 
     -- the orders of a block that uses a simple operand whose address is not formed

@@ -36,11 +36,10 @@ module _ (c : Setting) (memory : List ℤ) (input output : List ℕ) where
   pub holds : {cells stack : ℕ → ℕ} {left : List ℕ} {told : Told} → All FitsWord memory → Kept c.program c.g c.acts memory input output cells stack left told → Holds c.program.limits.area memory cells
   holds all k = record { low = c.low; long = k.long; fit = all; words = k.words }
 
-  -- before a routine: the address of a loop's words is in AX, the line in DX where one is wanted, and the way back on the stack, above it the
-  -- other operands
-  pub record AtRoutine (place back line : ℕ) (a : ℤ) (rest : List Operand) (q : Watched) : Type 0 where
+  -- before a routine: these words are in AX and BX, the line in DX where one is wanted, and the way back on the stack, above it the other
+  -- operands
+  pub record AtRoutine (place back line ax bx : ℕ) (rest : List Operand) (q : Watched) : Type 0 where
     pub cx : ℕ
-    pub bx : ℕ
     pub si : ℕ
     pub overflow : Bool
     pub top : ℕ
@@ -49,18 +48,18 @@ module _ (c : Setting) (memory : List ℤ) (input output : List ℕ) where
     pub left : List ℕ
     pub told : Told
     pub low : top < level c.acts
-    pub is : Is c.image place (view (unsigned a) cx line bx (2 * top) (record_of c.acts) si c.program.limits.area overflow cells stack left told) q
+    pub is : Is c.image place (view ax cx line bx (2 * top) (record_of c.acts) si c.program.limits.area overflow cells stack left told) q
     pub way : stack top ≡ back
     pub under : StackIs c.program c.acts stack (suc top) rest
     pub kept : Kept c.program c.g c.acts memory input output cells stack left told
 
-  pub reaches : {p : Watched} {at cx line bx si : ℕ} {overflow : Bool} {cells stack : ℕ → ℕ} {left : List ℕ} {told : Told} (place by back : ℕ) (a : ℤ) (rest : List Operand) (top : ℕ)
-      → operand_words (Word a ∷ rest) < level c.acts → (at + 3 + by) % 65536 ≡ place % 65536 → (at + 3) % 65536 ≡ back → Has c.image at (i86.Call by)
+  pub reaches : {p : Watched} {at ax cx line bx si : ℕ} {overflow : Bool} {cells stack : ℕ → ℕ} {left : List ℕ} {told : Told} (place by back : ℕ) (rest : List Operand) (top : ℕ)
+      → operand_words rest < level c.acts → (at + 3 + by) % 65536 ≡ place % 65536 → (at + 3) % 65536 ≡ back → Has c.image at (i86.Call by)
       → StackIs c.program c.acts stack top rest → Kept c.program c.g c.acts memory input output cells stack left told
-      → Is c.image at (view (unsigned a) cx line bx (2 * top) (record_of c.acts) si c.program.limits.area overflow cells stack left told) p
-      → Leads output 1 p (AtRoutine place back line a rest)
-  reaches {stack = stack} place by back a rest zero room there behind i under kept s = let t = top_is c.program c.acts stack zero rest under in absurd (omega arith)
-  reaches {p} {at} {cx} {line} {bx} {si} {overflow} {cells} {stack} {left} {told} place by back a rest (suc n) room there behind i under kept s =
+      → Is c.image at (view ax cx line bx (2 * top) (record_of c.acts) si c.program.limits.area overflow cells stack left told) p
+      → Leads output 1 p (AtRoutine place back line ax bx rest)
+  reaches {stack = stack} place by back rest zero room there behind i under kept s = let t = top_is c.program c.acts stack zero rest under in absurd (omega arith)
+  reaches {p} {at} {ax} {cx} {line} {bx} {si} {overflow} {cells} {stack} {left} {told} place by back rest (suc n) room there behind i under kept s =
       let t = top_is c.program c.acts stack (suc n) rest under in
       let low : n < level c.acts = omega arith in
       let lt : n < 32768 = omega arith in
@@ -68,7 +67,6 @@ module _ (c : Setting) (memory : List ℤ) (input output : List ℕ) where
       last c.rows s kept.wrote
       (record {
         cx = cx;
-        bx = bx;
         si = si;
         overflow = overflow;
         top = n;
@@ -89,11 +87,11 @@ module _ (c : Setting) (memory : List ℤ) (input output : List ℕ) where
 
   reaches_at_line : {p : Watched} {at : ℕ} (to place by line : ℕ) (a : ℤ) (rest : List Operand) → at + 6 ≡ to → (at + 3 + 3 + by) % 65536 ≡ place % 65536 → operand_words (Word a ∷ rest) < level c.acts
       → LineCode at line by
-      → LandedWith c memory input output at true (Word a ∷ rest) p → Leads output 2 p (AtRoutine place (to % 65536) line a rest)
+      → (l : LandedWith c memory input output at true (Word a ∷ rest) p) → Leads output 2 p (AtRoutine place (to % 65536) line (unsigned a) l.stacked.bx rest)
   reaches_at_line {p} {at} to place by line a rest e there room i l =
       let behind : (at + 3 + 3) % 65536 ≡ to % 65536 = omega arith in
       straight c.rows (Number 2 line ∷ []) {n = 1} l.kept.wrote (i.0, tt) (tt, tt) (with_ax l.operands.0 l.stacked.is) (λ q t.
-      reaches place by (to % 65536) a rest l.top room there behind i.1.0 l.operands.1 l.kept t)
+      reaches place by (to % 65536) rest l.top (omega arith) there behind i.1.0 l.operands.1 l.kept t)
 
   -- what a routine does from here on, and what that means for the processor that is watched
   pub record Runs (o : List ℕ) (limit : ℕ) (q : Watched) (V : Watched → Type 0) : Type 1 where
@@ -121,7 +119,7 @@ module _ (c : Setting) (memory : List ℤ) (input output : List ℕ) where
   -- ---- what comes of it
 
   -- an outcome that changes memory alone
-  abbrev Stores : List Operand → Outcome → Type 0
+  abbrev pub Stores : List Operand → Outcome → Type 0
   Stores rest (Changed v) = v ≡ words rest v.memory input output
   Stores rest (Refused kind) = Unit {0}
   Stores rest Impossible = Unit {0}
@@ -135,18 +133,24 @@ module _ (c : Setting) (memory : List ℤ) (input output : List ℕ) where
   stores_sum true k z rest = refl
   stores_sum false k z rest = tt
 
+  pub step_stores : (n : ℕ) (rest : List Operand) → Stores rest (perform c.program.limits.area (AddStep n) (words rest memory input output))
+  step_stores n rest =
+      let z = word_at memory n in
+      let f : ℕ → Words → Outcome = λ k v. store_sum (fits_word (word_at v.memory k +ℤ word_at v.memory (n + 1))) k (word_at v.memory k +ℤ word_at v.memory (n + 1)) v in
+      stores_through (is_below z c.program.limits.area) f z rest (λ k. stores_sum (fits_word (word_at memory k +ℤ word_at memory (n + 1))) k (word_at memory k +ℤ word_at memory (n + 1)) rest)
+
   -- what a routine leaves that changes memory, and comes back or stops at the line
-  record Stored (to line limit : ℕ) (rest : List Operand) (o : Outcome) {place : ℕ} {a : ℤ} {operands : List Operand} {q : Watched} (r : AtRoutine place (to % 65536) line a operands q) : Type 0 where
+  record Stored (to line limit : ℕ) (rest : List Operand) (o : Outcome) {place ax bx : ℕ} {operands : List Operand} {q : Watched} (r : AtRoutine place (to % 65536) line ax bx operands q) : Type 0 where
     top : ℕ
     under : StackIs c.program c.acts r.stack top rest
     law :
         Within (Quiet (quiet_in q.places)) c.image r.told.output limit q.processor
         (Ends c.image r.told.output c.program.limits.area (to % 65536) (2 * top) (record_of c.acts) (c.g + 1) line r.stack r.left r.told o)
 
-  stored : {p : Watched} {place : ℕ} {a : ℤ} {operands : List Operand} (to line limit bound : ℕ) (rest : List Operand) (o : Outcome) → Stores rest o → 2 + limit ≤ bound
-      → Leads output 2 p (AtRoutine place (to % 65536) line a operands) → ((q : Watched) (r : AtRoutine place (to % 65536) line a operands q) → Stored to line limit rest o r)
+  stored : {p : Watched} {place ax bx : ℕ} {operands : List Operand} (to line limit bound : ℕ) (rest : List Operand) (o : Outcome) → Stores rest o → 2 + limit ≤ bound
+      → Leads output 2 p (AtRoutine place (to % 65536) line ax bx operands) → ((q : Watched) (r : AtRoutine place (to % 65536) line ax bx operands q) → Stored to line limit rest o r)
       → DoesHere c memory input output bound to false line p o
-  stored {a = a} {operands = operands} to line limit bound rest (Changed v) keeps le l each =
+  stored to line limit bound rest (Changed v) keeps le l each =
       runs 1 limit bound le l (λ q r.
       let t = each q r in
       let k = r.kept in (
@@ -218,7 +222,7 @@ module _ (c : Setting) (memory : List ℤ) (input output : List ℕ) where
             under = r.under.1;
             law =
                 c.rows.routines.set_variable (quiet_in q.places) c.image c.library (quiet_library r.is.ignores) c.program.limits.area n line (record_of c.acts) r.top (level c.acts + 3) (c.g + 1)
-                (to % 65536) r.cx r.bx r.si x (flags_of q) r.cells r.stack r.left r.told
+                (to % 65536) r.cx l.stacked.bx r.si x (flags_of q) r.cells r.stack r.left r.told
                 (words rest memory input output) q.processor fx within (holds all r.kept) small (omega arith) r.way r.under.0 (omega arith) (tells c memory input output r.kept)
                 (arrives (with_ax same r.is));
           })
@@ -232,10 +236,7 @@ module _ (c : Setting) (memory : List ℤ) (input output : List ℕ) where
   adds_step {p} to by line (Word a ∷ rest) e there small all room i l =
       let area_low = c.low in
       at_loop p 21 to (c.program.limits.area - 1) line false (λ n. perform c.program.limits.area (AddStep n) (words rest memory input output)) a (omega arith) (λ n within same.
-      let z = word_at memory n in
-      let f : ℕ → Words → Outcome = λ k v. store_sum (fits_word (word_at v.memory k +ℤ word_at v.memory (n + 1))) k (word_at v.memory k +ℤ word_at v.memory (n + 1)) v in
-      stored to line 19 21 rest (perform c.program.limits.area (AddStep n) (words rest memory input output))
-      (stores_through (is_below z c.program.limits.area) f z rest (λ k. stores_sum (fits_word (word_at memory k +ℤ word_at memory (n + 1))) k (word_at memory k +ℤ word_at memory (n + 1)) rest)) (lit≤ tt)
+      stored to line 19 21 rest (perform c.program.limits.area (AddStep n) (words rest memory input output)) (step_stores n rest) (lit≤ tt)
       (reaches_at_line to add_step_place by line a rest e there room i l) (λ q r.
       let low = r.low in
       record {
@@ -243,7 +244,7 @@ module _ (c : Setting) (memory : List ℤ) (input output : List ℕ) where
         under = r.under;
         law =
             c.rows.routines.add_step (quiet_in q.places) c.image c.library (quiet_library r.is.ignores) c.program.limits.area n line (record_of c.acts) r.top (level c.acts + 3) (c.g + 1) (to % 65536)
-            r.cx r.bx r.si (flags_of q) r.cells r.stack r.left r.told
+            r.cx l.stacked.bx r.si (flags_of q) r.cells r.stack r.left r.told
             (words rest memory input output) q.processor (omega arith) (holds all r.kept) small (omega arith) r.way (omega arith) (tells c memory input output r.kept) (arrives (with_ax same r.is));
       }))
 
@@ -265,7 +266,7 @@ module _ (c : Setting) (memory : List ℤ) (input output : List ℕ) where
       area = c.program.limits.area
 
       At : Watched → Type 0
-      At = AtRoutine put_variable_place (to % 65536) line a rest
+      At = AtRoutine put_variable_place (to % 65536) line (unsigned a) l.stacked.bx rest
 
       -- what it leaves where the address of the variable is of the area or not
       Left : (n : ℕ) → Bool → {q : Watched} → At q → Processor → Type 0
@@ -276,7 +277,7 @@ module _ (c : Setting) (memory : List ℤ) (input output : List ℕ) where
       law n within same b is q r =
           let low = r.low in
           subst (λ x. Within (Quiet (quiet_in q.places)) c.image r.told.output 16 q.processor (Left n x r)) is
-          (c.rows.routines.put_variable (quiet_in q.places) c.image c.library (quiet_library r.is.ignores) area n line (record_of c.acts) r.top (level c.acts + 3) (c.g + 1) (to % 65536) r.cx r.bx r.si
+          (c.rows.routines.put_variable (quiet_in q.places) c.image c.library (quiet_library r.is.ignores) area n line (record_of c.acts) r.top (level c.acts + 3) (c.g + 1) (to % 65536) r.cx l.stacked.bx r.si
           (flags_of q) r.cells r.stack r.left r.told
           memory q.processor within (holds all r.kept) small (omega arith) r.way (omega arith) (tells c memory input output r.kept) (arrives (with_ax same r.is)))
 

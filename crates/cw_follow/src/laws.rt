@@ -19,7 +19,7 @@ use cw_order::laws::{activations, words};
 use cw_routines::laws::{
     bodies, calls, loops, numbers as products_and_quotients, pieces, standing,
 };
-use cw_rows86::laws::{acting, conditions};
+use cw_rows86::laws::{acting, conditions, jumping};
 use cw_run86::laws::{
     arithmetic, comparing, comparing_below, fetching, fields as stack_fields, jumps, logic, memory,
     moves, multiplying, numbers, offsets, ports, shifting, stacking, starting, tables,
@@ -62,6 +62,7 @@ pub fn code_follows_orders()
     conditions();
     acting();
     jumps();
+    jumping();
     tables();
     ports();
     bodies();

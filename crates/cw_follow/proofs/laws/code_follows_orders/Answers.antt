@@ -53,6 +53,7 @@ returns c =
       add_step = c.loops.ensures.add_step;
       put_variable = c.loops.ensures.put_variable;
       exhausted = c.loops.ensures.exhausted;
+      next_step = c.loops.ensures.next_step;
       divisor = c.pieces.ensures.divisor;
     } in
     let rows : Rows = record {
@@ -105,6 +106,9 @@ returns c =
       compared_jumps = c.comparing.ensures.jumps;
       compared_passes = c.comparing.ensures.passes;
       as_compared = c.conditions.ensures.as_compared;
+      counted_zero = c.conditions.ensures.counted_zero;
+      jumps_if = c.jumping.ensures.jumps;
+      passes_if = c.jumping.ensures.passes;
       acts = c.acting.ensures.one;
       out = c.ports.ensures.out;
       halts = c.ports.ensures.halts;
