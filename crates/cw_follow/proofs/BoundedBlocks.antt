@@ -57,7 +57,8 @@ use Rattle.cw_follow.proofs.Operands.{Setting, One, one_there, LandedWith, DoesH
 use Rattle.cw_follow.proofs.Numbers.{fits_tested, unsigned_pos}
 use Rattle.cw_follow.proofs.Addresses.{product_is, count_passes, count_stops}
 use Rattle.cw_follow.proofs.Indexed.{BetweenBounds, both_hold, from_word, between_bounds, past_bounds, formed_between, lower_steps, few_lower}
-use Rattle.cw_follow.proofs.ElementBlocks.{many_between, within_span, stops_follow, order_there}
+use Rattle.cw_follow.proofs.ElementTests.{many_between, within_span, order_there}
+use Rattle.cw_follow.proofs.ElementOrders.{stops_follow}
 use Rattle.cw_follow.proofs.InBlocks.{silently, puts_word, chain}
 use Rattle.cw_follow.proofs.States.{Given, Sound}
 use Rattle.cw_follow.proofs.Steps.{Follow, setting, calls, by, order_here, weight_is, wrong_way, moded_as, did_as, block_code, block_ends, start_place, does}

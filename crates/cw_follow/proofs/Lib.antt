@@ -36,6 +36,8 @@ pub mod Operating
 pub mod FrameBlocks
 pub mod BlockOrders
 pub mod UseBlocks
+pub mod ElementTests
+pub mod ElementOrders
 pub mod ElementBlocks
 pub mod BoundedBlocks
 pub mod PartBlocks

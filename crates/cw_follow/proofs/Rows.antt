@@ -81,7 +81,7 @@ pub record Rows : Type 0 where
   pub jumps_below : (code : List ℕ) (v : View) (by a b : ℕ) (p : Processor) → Has code v.place (i86.JumpIf 2 by) → a < b → Sees code v p → Compared a b p → Sees code (with_place ((v.place + 2 + sign_extended by) % 65536) v) (processor_step p)
   pub passes_above : (code : List ℕ) (v : View) (by a b : ℕ) (p : Processor) → Has code v.place (i86.JumpIf 2 by) → b ≤ a → Sees code v p → Compared a b p → Sees code (on (i86.JumpIf 2 by) v) (processor_step p)
   pub as_compared : (a b : ℕ) (flags : Flags) (p : Processor) → p.state.flags ≡ flags_after Compare a b flags → Compared a b p
-  -- jumps on any condition of the flags
+  -- the zero flag behind INC or DEC, and jumps on any condition of the flags
   pub counted_zero : (down : Bool) (a : ℕ) (flags : Flags) → holds (flags_counted down a flags) 4 ≡ (counted_to down a == 0)
   pub jumps_if : (code : List ℕ) (v : View) (condition by : ℕ) (p : Processor) → Has code v.place (i86.JumpIf condition by) → Sees code v p → holds p.state.flags condition ≡ true
       → Lands code (with_place ((v.place + 2 + sign_extended by) % 65536) v) p
