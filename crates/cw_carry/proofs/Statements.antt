@@ -2,6 +2,8 @@ pub mod Shapes
 pub mod Sites
 pub mod Statements
 pub mod Rings
+pub mod StepLoops
+pub mod SimpleLoops
 pub mod Labels
 pub mod Loops
 pub mod Gotos

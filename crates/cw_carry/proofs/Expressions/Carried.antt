@@ -8,6 +8,7 @@ use Rattle.cw_unit.specs.declared.unit.Dest.TheVariants as dest
 use Rattle.cw_unit.specs.declared.unit.Target.{Target}
 use Rattle.cw_unit.specs.declared.unit.Target.TheVariants as target
 use Rattle.cw_unit.specs.declared.unit.Spot.{out-Spot}
+use Rattle.cw_unit.specs.declared.unit.Ref.{Ref}
 use Rattle.cw_unit.specs.declared.unit.Arg.TheOpen as layer
 use Rattle.cw_unit.specs.declared.unit.Arg.TheOpen.{Spot-F}
 use Rattle.cw_unit.specs.declared.layout.Layout.{Layout}
@@ -139,7 +140,8 @@ takes_number _ = true
 -- ---- works
 
 -- what is left to the crates that know statements: where a statement stands, before which place, and with room for so many levels in
--- it; where a jump stands; and where a loop's parts stand, the loop ending before a place
+-- it; where a jump stands; where a loop's parts stand, the loop ending before a place; and where the orders of the whole beginning of a loop
+-- stand, from the address of its control variable on
 pub record Places : Type 1 where
   pub StatementAt : (q : ℕ) → Stmt → (levels next : ℕ) → Type 0
   pub JumpAt : (line q : ℕ) → Dest → Type 0
@@ -147,6 +149,7 @@ pub record Places : Type 1 where
   pub TurnAt : (q number : ℕ) → Loop → (next : ℕ) → Type 0
   pub BumpAt : (q number : ℕ) → Loop → (next : ℕ) → Type 0
   pub OnAt : (q : ℕ) → Loop → (next : ℕ) → Type 0
+  pub BeginningAt : (q : ℕ) → Ref → Loop → (next : ℕ) → Type 0
 
 module _ (places : Places) (code : List Order) (marks : List ℕ) (scope : Scope) (has_words : (item words : ℕ) → Bool) where
   -- as far as any way goes
@@ -236,7 +239,10 @@ module _ (us : List SourceUnit) (m : Map) (limits : Limits) (orders_for : Source
   Calls s _ _ = ⊥
 
   -- a configuration and a state of the orders that belong together: the words are the same, the code carries out the work, and each call
-  -- comes back; once the run is over both rest, and show the same
+  -- comes back. Where a loop begins as a whole, what carries it out is known together with what follows the loop. Once the run is over
+  -- both rest, and show the same
   pub data Together : Configuration → OrderState → Type 0 where
     going : {s q : ℕ} {l : Bool} {k : Work} {acts : List Activation} {bs : List OrderActivation} {w : Words} (u : SourceUnit) → slice_get us (segment_of s acts) ≡ Some u → (r : Bool) → Ready limits.area r w.operands → CarriedIn (segment_of s acts) u (who_of acts) q l r k → Calls s acts bs → Together (configuration s k acts w Running) (state (segment_of s acts) q l bs w Running)
+    beginning : {s q : ℕ} {acts : List Activation} {bs : List OrderActivation} {w : Words} (u : SourceUnit) → slice_get us (segment_of s acts) ≡ Some u → (a : Ref) (c : Loop) (k : Work) (next n : ℕ) → (places (segment_of s acts) u (who_of acts)).BeginningAt q a c next → suc n ≤ most_levels
+        → Via (orders_for u).list (orders_for u).marks n next false (λ x m. CarriedIn (segment_of s acts) u (who_of acts) x m false k) → Calls s acts bs → Together (configuration s (Address a c.line (KeepAt 0 c (Element 1 c k))) acts w Running) (state (segment_of s acts) q false bs w Running)
     over : {s g q : ℕ} {l : Bool} {k : Work} {acts : List Activation} {bs : List OrderActivation} {v w : Words} {e : End} → is_running (record { output = w.output; end = e }) ≡ false → v.output ≡ w.output → Together (configuration s k acts w e) (state g q l bs v e)

@@ -152,13 +152,13 @@ module _ (c : Compiled) (t : Moment c) where
       jumped : (b : Bool) → holds op x y ≡ b → is_same when b ≡ true → Leads_to c t to false false (pick b pass fail) → Steps c t (Choose op line pass fail) q true w
       jumped b is same carried =
           acts_once c t (Choose op line pass fail) (pick b pass fail) (order.JumpIf (comparator_for when op) mark) q to true false false w v (λ g x. refl) h refl (omega arith) (omega arith) (steps b is)
-          (ap (λ z. branch (target c) (to_mark_if z mark v) (here_in c t) q false t.calls_below w) (compared when op x y ∙ ap (is_same when) is ∙ same) ∙ ap (λ o. go_at o (here_in c t) q false t.calls_below w v) (mark_here c t.segment t.acts t.calls_below t.unit t.unit_is mark to to_is))
+          (ap (λ z. branch (target c) 0 (to_mark_if z mark v) (here_in c t) q false t.calls_below w) (compared when op x y ∙ ap (is_same when) is ∙ same) ∙ ap (λ o. go_at o (here_in c t) q false t.calls_below w v) (mark_here c t.segment t.acts t.calls_below t.unit t.unit_is mark to to_is))
           tt carried
 
       went_on : (b : Bool) → holds op x y ≡ b → is_same when b ≡ false → Leads_to c t (q + 1) false false (pick b pass fail) → Steps c t (Choose op line pass fail) q true w
       went_on b is same carried =
           acts_once c t (Choose op line pass fail) (pick b pass fail) (order.JumpIf (comparator_for when op) mark) q (q + 1) true false false w v (λ g x. refl) h refl (omega arith) (omega arith) (steps b is)
-          (ap (λ z. branch (target c) (to_mark_if z mark v) (here_in c t) q false t.calls_below w) (compared when op x y ∙ ap (is_same when) is ∙ same))
+          (ap (λ z. branch (target c) 0 (to_mark_if z mark v) (here_in c t) q false t.calls_below w) (compared when op x y ∙ ap (is_same when) is ∙ same))
           tt carried
 
       by_both : (b when' : Bool) → when ≡ when' → holds op x y ≡ b → On when' (q + 1) pass fail → To when' to pass fail → Steps c t (Choose op line pass fail) q true w

@@ -34,7 +34,7 @@ use Rattle.cw_carry.proofs.Expressions.Standing.{Made}
 use Rattle.cw_carry.proofs.Expressions.Operations.{then_changed}
 use Rattle.cw_carry.proofs.Expressions.Carried.{Via, Ready}
 use Rattle.cw_carry.proofs.Expressions.Stepping.{Compiled, A, source}
-use Rattle.cw_carry.proofs.Expressions.Moments.{both, IsLight, Moment, scope, layout, has_words, code, marks, At, Leads_to, Steps, Leap, Comes, config, next, Facts, leaps_by, item_light, item_silent, item_loads, item_tells}
+use Rattle.cw_carry.proofs.Expressions.Moments.{both, IsLight, Moment, scope, layout, has_words, code, marks, At, Leads_to, Steps, Leap, Comes, Goes, config, next, Facts, leaps_by, item_light, item_silent, item_loads, item_tells}
 use Rattle.cw_carry.proofs.Expressions.Addresses.{item_and, built_spot, address_follows, addresses}
 use Rattle.cw_carry.proofs.Expressions.Values.{number-is, constant-is, narrowed, at_most, built_of, wide, evaluates, light_order, evaluation_follows}
 use Rattle.cw_carry.proofs.Expressions.Results.{of_one, of_two, sum_fits, difference_fits, negative_fits, rescaled_fits, product_fits, quotient_fits, sum_put, difference_put, negative_put, rescaled_put, product_put, quotient_put, combined_put, bits_put, compared_put, Above, from_above, of_count, inside_is, element_found, entry_found, element_of_two_found}
@@ -42,14 +42,14 @@ use Rattle.cw_carry.proofs.Expressions.Results.{of_one, of_two, sum_fits, differ
 module _ (c : Compiled) (t : Moment c) where
   -- ---- ways of the source
 
-  then_come : (a b k : Work) (w v x : Words) → v.output ≡ w.output → Comes c t a b w v → Comes c t b k v x → Comes c t a k w x
+  pub then_come : (a b k : Work) (w v x : Words) → v.output ≡ w.output → Comes c t a b w v → Comes c t b k v x → Comes c t a k w x
   then_come a b k w v x same way behind = silent_ways (A c) begins way (ap (λ o. record { output = o; end = Running }) same) behind
 
   module _ (line : ℕ) where
     abbrev sc : Scope
     sc = at_line line (scope c t)
 
-    done : (op : Operation) (k : Work) (w v : Words) → perform c.limits.area op w ≡ Changed v → Comes c t (Do op line k) k w v
+    pub done : (op : Operation) (k : Work) (w v : Words) → perform c.limits.area op w ≡ Changed v → Comes c t (Do op line k) k w v
     done op k w v e = only_step (ap (λ o. source_after o t.segment line (Do op line k) k t.acts w) e) refl
 
     -- ---- values
@@ -173,11 +173,11 @@ module _ (c : Compiled) (t : Moment c) where
     all_below zero d lt g = absurd (omega (arith, lt))
     all_below (suc n) d lt g = next_below n (all_below n) d lt g
 
-    evaluated : (e : Expr) (f : ℕ) → Evaluated e f
+    pub evaluated : (e : Expr) (f : ℕ) → Evaluated e f
     evaluated e f = all_below (suc (expression_size e)) e (let z : expression_size e < suc (expression_size e) = omega arith in z) f
 
     -- what is known fits a word
-    fits_known : (x : Expr-F Arg Cond Expr Spot Ref) (f levels : ℕ) (z : ℤ) → IsTrue ((built_value_layer t.unit (has_words c t) x).at f levels) → known_layer sc x f ≡ Some z → fits_word z ≡ true
+    pub fits_known : (x : Expr-F Arg Cond Expr Spot Ref) (f levels : ℕ) (z : ℤ) → IsTrue ((built_value_layer t.unit (has_words c t) x).at f levels) → known_layer sc x f ≡ Some z → fits_word z ≡ true
     fits_known (layer.Num m) f levels z b known =
         let v = decimal_floor m.whole m.digits m.places f in subst (λ y. fits_word y ≡ true) (sym (number-is v b) ∙ same_Some (signed (v % 65536)) z known) b
     fits_known (layer.Const y) f levels z b known = rescaled_fits 0 f y z known
@@ -313,18 +313,15 @@ module _ (c : Compiled) (t : Moment c) where
 
     -- ---- as the relation has it
 
-    abbrev pub Goes : Work → (q : ℕ) → (l : Bool) → Words → Type 0
-    Goes k q l w = Steps c t k q l w ⊎ Leap c t k q l w
-
     pub evaluation_goes : (e : Expr) (f : ℕ) (k : Work) (q n levels j free last : ℕ) (w : Words) → IsTrue (is_expression t.unit (has_words c t) e f levels) → Made (code c t) (marks c t) (expression_piece sc e f q free) q n free last → j + levels ≤ most_levels
-        → Via (code c t) (marks c t) j n true (λ y m. At c t y m false k) → Facts c t (Eval e f line k) w → Goes (Eval e f line k) q false w
+        → Via (code c t) (marks c t) j n true (λ y m. At c t y m false k) → Facts c t (Eval e f line k) w → Goes c t (Eval e f line k) q false w
     evaluation_goes e f k q n levels j free end w b made le via facts =
         by (known_layer sc (out-Expr e) f) refl (subst (λ p. Made (code c t) (marks c t) (p q free) q n free end) (ap (λ v. v.at f) (value-made sc e)) made)
       where
         bs : IsTrue (nat_le f 15) × IsTrue ((built_of c t e).at f levels)
         bs = both (nat_le f 15) ((built_of c t e).at f levels) b
 
-        by : (x : Option ℤ) → known_layer sc (out-Expr e) f ≡ x → Made (code c t) (marks c t) (known_or x ((computed_layer sc (out-Expr e)).at f) q free) q n free end → Goes (Eval e f line k) q false w
+        by : (x : Option ℤ) → known_layer sc (out-Expr e) f ≡ x → Made (code c t) (marks c t) (known_or x ((computed_layer sc (out-Expr e)).at f) q free) q n free end → Goes c t (Eval e f line k) q false w
         by None is made' = inl (evaluation_follows c t e f line k q n levels j free end w b made' le via facts)
         by (Some z) is made' =
             let o = number_order (unsigned z) in
@@ -334,17 +331,17 @@ module _ (c : Compiled) (t : Moment c) where
             (leaps_by c t (Eval e f line k) k line q n false true (o ∷ []) w (put z w) false made'.0 (light_order c t line false true o refl (omega arith) (omega arith) tt refl) facts (evaluated e f levels k w z bs.0 bs.1 known)
             (ap (λ y. Changed (put y w)) (constant-is z fits)) tt (wide c t j n true false k (let y : j ≤ 64 = omega (arith, le) in y) via))
 
-    one_light : (i n : ℕ) → IsLight line false true (item_order (layout c t) i n ∷ [])
+    pub one_light : (i n : ℕ) → IsLight line false true (item_order (layout c t) i n ∷ [])
     one_light i n =
         let w = item_light (layout c t) i n in
         light_order c t line false true (item_order (layout c t) i n) (item_silent (layout c t) i n) w.0 (let z : weight_of (item_order (layout c t) i n) ≤ 150 = omega (arith, w.1) in z) (item_tells line (layout c t) i n) (item_loads (layout c t) i n)
 
     pub address_goes : (a : Ref) (k : Work) (q n free last : ℕ) (w : Words) → IsTrue (built_reference t.unit (has_words c t) a).good → Made (code c t) (marks c t) ((reference_of sc a).address q free) q n free last → Leads_to c t n true true k → Facts c t (Address a line k) w
-        → Goes (Address a line k) q false w
+        → Goes c t (Address a line k) q false w
     address_goes a k q n free end w b made carried facts =
         by (word_layer sc (out-Spot (out-Ref a).at)) refl (subst (λ p. Made (code c t) (marks c t) (p q free) q n free end) (ap (λ r. r.address) (reference-made sc a) ∙ spot-made sc (out-Ref a).at) made)
       where
-        by : (m : Option ℕ) → word_layer sc (out-Spot (out-Ref a).at) ≡ m → Made (code c t) (marks c t) (named_or (layout c t) (word_item sc (out-Spot (out-Ref a).at)) m (indexed_layer sc (out-Spot (out-Ref a).at)) q free) q n free end → Goes (Address a line k) q false w
+        by : (m : Option ℕ) → word_layer sc (out-Spot (out-Ref a).at) ≡ m → Made (code c t) (marks c t) (named_or (layout c t) (word_item sc (out-Spot (out-Ref a).at)) m (indexed_layer sc (out-Spot (out-Ref a).at)) q free) q n free end → Goes c t (Address a line k) q false w
         by None is made' = inl (address_follows c t a line k q n free end w b made' carried facts)
         by (Some m) is made' =
             let x = out-Spot (out-Ref a).at in

@@ -1,5 +1,5 @@
 -- A moment of a run at which source and orders belong together, and the facts of the step from it.
-use Rattle.std.proofs.Common.{◌≡◌, inl, ℕ, ◌+◌, ◌*◌, ◌<◌, ◌≤◌, List, length, Bool, true, false, Option, Some, None, refl, ap, ◌∙◌, arith}
+use Rattle.std.proofs.Common.{◌≡◌, ◌⊎◌, inl, ℕ, ◌+◌, ◌*◌, ◌<◌, ◌≤◌, List, length, Bool, true, false, Option, Some, None, refl, ap, ◌∙◌, arith}
 use Rattle.std.specs.Prelude.{slice_get, slice_index_or, IsTrue, ◌&&◌}
 use Rattle.std.proofs.lemmas.Bool.{false≢true}
 use Rattle.cw_unit.specs.declared.unit.Unit.{Unit as SourceUnit}
@@ -30,7 +30,7 @@ use Rattle.cw_order.specs.FittingWords.{WordsFit}
 use Rattle.cw_gen_expr.specs.ReferenceExpressions.{Scope, placed_by, placed_in, item_order}
 use Rattle.cw_gen_expr.specs.BuiltExpressions.{most_levels}
 use Rattle.cw_carry.proofs.Expressions.Standing.{Stands}
-use Rattle.cw_carry.proofs.Expressions.Effects.{IsPossible, BeginsNone, is_silent, all_silent, total_weight, TellsLine, OnLine, loaded_through, carried_out, run_orders}
+use Rattle.cw_carry.proofs.Expressions.Effects.{IsPossible, BeginsNone, is_silent, all_silent, total_weight, TellsLine, OnLine, loaded_through, total_growth, growth_within, carried_out, run_orders, Ran, run_through}
 use Rattle.cw_carry.proofs.Expressions.Carried.{here, saved, Via, wider, Ready, who_of}
 use Rattle.cw_gen_expr.specs.ReferenceEntries.{scope_of}
 use Rattle.cw_carry.proofs.Expressions.Operations.{ItemsStand}
@@ -164,9 +164,15 @@ module _ (c : Compiled) where
     abbrev pub run : List Order → Words → Outcome
     run = run_orders (target c) here_in t.calls_below
 
-    -- the words fit, the control stack has room for what an operation needs, and the source is not stuck
+    -- by one step of the source, or by several
+    abbrev pub Goes : Work → (q : ℕ) → (l : Bool) → Words → Type 0
+    Goes k q l w = Steps k q l w ⊎ Leap k q l w
+
+    -- the words fit, the memory is the whole data area, the control stack has room for what an operation needs, and the source is not
+    -- stuck
     pub record Facts (k : Work) (w : Words) : Type 0 where
       pub fits : WordsFit w
+      pub memory : length w.memory ≡ c.limits.area
       pub room : 24 + stack_words w.operands t.calls_below ≤ c.room
       pub sane : IsSane (next k w)
 
@@ -205,6 +211,13 @@ module _ (c : Compiled) where
     pub leaps_by : (now k : Work) (line q n : ℕ) (l m : Bool) (os : List Order) (w v : Words) (r : Bool) → Stands code q os n → IsLight line l m os → Facts now w → Comes now k w v → run os w ≡ Changed v → Ready c.limits.area r v.operands → Leads_to n m r k → Leap now q l w
     leaps_by now k line q n l m os w v r stands light facts comes runs ready carried =
         leapt c t.segment t.acts t.calls_below t.unit t.unit_is t.calls now k line q n l m os w r stands light.quiet light.at light.turns light.light light.some (let z : 2 * length os + stack_words w.operands t.calls_below ≤ c.room = omega (arith, light.short, facts.room) in z) v comes runs ready carried
+
+    -- orders that stand at a place run on
+    pub ran_on : (line : ℕ) (os : List Order) (q m : ℕ) (l l' : Bool) (w : Words) → Stands code q os m → IsTrue (all_silent os) → OnLine line os → loaded_through os l ≡ Some l' → 2 * length os + stack_words w.operands t.calls_below ≤ c.room
+        → Ran (target c) here_in t.calls_below line q m l l' os w (run os w)
+    ran_on line os q m l l' w stands quiet at turns roomy =
+        run_through (target c) here_in t.calls_below code (order_here c t.segment t.acts t.calls_below t.unit t.unit_is) line os q m l l' w stands quiet at turns
+        (let z : total_growth os + stack_words w.operands t.calls_below ≤ c.room = omega (arith, roomy, growth_within os) in z)
 
     -- one order, whatever it does, where no statement begins
     pub one_order : (o : Order) (q : ℕ) (l m : Bool) (w : Words) (u : OrderState) → BeginsNone o → slice_get code q ≡ Some o → loaded_after o l ≡ Some m → act (target c) (action_of (target c) here_in t.calls_below o) here_in q m t.calls_below w ≡ u → Path (Seen c t.segment t.acts t.calls_below t.unit t.unit_is w) (B c) (weight_of o) (state here_in q l t.calls_below w Running) u

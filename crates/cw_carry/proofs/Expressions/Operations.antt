@@ -37,6 +37,7 @@ use Rattle.cw_order.specs.FittingWords.{OperandFits, WordsFit}
 use Rattle.cw_gen_expr.specs.ReferenceExpressions.{item_order, item_span, table_orders, table_span, form_orders, narrow}
 use Rattle.cw_gen_expr.specs.BuiltExpressions.{whole, built_value}
 use Rattle.cw_gen_expr.proofs.Layers.{built_spot_layer}
+use Rattle.cw_gen_unit.specs.SimpleLoops.{are_apart}
 use Rattle.cw_carry.proofs.Expressions.Effects.{then_do, IsPossible, effect, run_orders}
 use Rattle.cw_carry.proofs.Expressions.Carried.{Ready, OperationFits, operation_orders, keep_orders, set_orders, bump_orders}
 
@@ -184,6 +185,8 @@ module _ (p : OrderProgram) (g : ℕ) (bs : List OrderActivation) where
       pub within : (i n k : ℕ) → IsTrue (has_words i k) → n < k → address i + n < area
       -- also those behind an item that are known to be in the data area
       pub reaches : (i n : ℕ) (w : Words) → IsTrue (has_words i 1) → n < item_span y i → (effect p g bs (item_order y i n) w ≡ Changed (put (pos (address i + n)) w)) × (address i + n < area)
+      -- an item of a family of the unit's own, and one of another family, outside of frames, share no word
+      pub apart : (i j n m k l : ℕ) → IsTrue (has_words i k) → IsTrue (has_words j l) → n < k → m < l → IsTrue (are_apart y i j) → address i + n ≡ address j + m → ⊥
 
     module _ (in_words : area ≤ 32768) (stand : ItemsStand) where
       some : 0 < 1

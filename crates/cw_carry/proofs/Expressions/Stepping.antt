@@ -232,6 +232,24 @@ module _ (c : Compiled) where
             progress = inl (let z : 0 < spent + on.0 = omega (arith, some) in z);
           }
 
+      -- a stop, at the last of several steps of the source
+      pub leap_stops : (now last : Work) (q p : ℕ) (l m : Bool) (w v u : Words) (kind : StopKind) (line spent : ℕ) → SilentWay A begins (configuration s now acts w Running) (configuration s last acts v (Stopped kind (g + 1) line))
+          → Path (Seen w) B spent (state g q l bs w Running) (state g p m bs u (Stopped kind (g + 1) line)) → u.output ≡ v.output → spent ≤ 224 → 0 < spent → Leaps (configuration s now acts w Running) (state g q l bs w Running)
+      leap_stops now last q p l m w v u kind line spent way path same le some =
+          let before = shown (configuration s now acts w Running) in
+          let behind = shown (configuration s last acts v (Stopped kind (g + 1) line)) in
+          let t = state g p m bs u (Stopped kind (g + 1) line) in
+          record {
+            to = configuration s last acts v (Stopped kind (g + 1) line);
+            way = way;
+            spent = spent;
+            reached = t;
+            path = weaken (Seen w) (Quiet before behind) B spent (state g q l bs w Running) t (λ o h. (inl h.0, h.1)) path;
+            within = le;
+            belongs = over refl same;
+            progress = inl some;
+          }
+
       -- by no order
       pub silent : (now k : Work) (q : ℕ) (l r : Bool) (w : Words) → A.step (configuration s now acts w Running) ≡ configuration s k acts w Running → Ready c.limits.area r w.operands → Leading q l r k → work_size k < work_size now → From now q l w
       silent now k q l r w e ready carried less = lands now k q q l l r w w 0 e (stay refl refl) (let z : 0 ≤ 159 = omega arith in z) ready carried (inr less)

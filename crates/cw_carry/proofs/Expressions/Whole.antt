@@ -15,6 +15,7 @@ use Rattle.cw_unit.specs.declared.unit.Param.{Param}
 use Rattle.cw_unit.specs.declared.unit.Stmt.{Stmt}
 use Rattle.cw_unit.specs.declared.unit.Dest.{Dest}
 use Rattle.cw_unit.specs.declared.unit.Spot.{out-Spot}
+use Rattle.cw_unit.specs.declared.unit.Ref.{Ref}
 use Rattle.cw_unit.specs.declared.unit.Target.{Target}
 use Rattle.cw_unit.specs.declared.unit.Target.TheVariants as target_of
 use Rattle.cw_unit.specs.Storage.{layout_of}
@@ -36,13 +37,15 @@ use Rattle.cw_order.specs.OrderMachine.{act, call, next_body as order_next_body,
 use Rattle.cw_order.specs.Starting.{started_by, starts}
 use Rattle.cw_order.specs.FittingWords.{WordsFit, StateFits}
 use Rattle.cw_gen_expr.specs.ReferenceExpressions.{at_line, argument_words, control_place, call_order}
+use Rattle.cw_gen_expr.specs.BuiltExpressions.{most_levels}
 use Rattle.cw_carry.proofs.Expressions.Standing.{Stands}
 use Rattle.cw_carry.proofs.Expressions.Effects.{BeginsNone, effect}
-use Rattle.cw_carry.proofs.Expressions.Carried.{Via, Ready, after_call, answered, takes_index, takes_number, who_of, CarriedIn, going, over}
+use Rattle.cw_carry.proofs.Expressions.Carried.{Via, Ready, after_call, answered, takes_index, takes_number, who_of, CarriedIn, going, beginning, over}
 use Rattle.cw_gen_expr.specs.ReferenceEntries.{parameters_of}
 use Rattle.cw_carry.proofs.Expressions.Operations.{ItemsStand}
 use Rattle.cw_carry.proofs.Expressions.Stepping.{Compiled, source, target, orders, A, B, AllCalls, Belong, Goes, GoesNoting, Leaps, quietly, IsSane, work_size, rank}
-use Rattle.cw_carry.proofs.Expressions.Moments.{Moment, here_in, scope, code, marks, At, Leads_to, Steps, StepsNoting, next, Facts}
+use Rattle.cw_carry.proofs.Expressions.Moments.{Moment, here_in, scope, code, marks, At, Leads_to, Steps, StepsNoting, Leap, next, Facts}
+use Rattle.cw_carry.proofs.Expressions.Moments
 use Rattle.cw_carry.proofs.Expressions.Addresses.{operation, address_formed}
 use Rattle.cw_carry.proofs.Expressions.Knowing.{evaluation_goes, address_goes}
 use Rattle.cw_carry.proofs.Expressions.Conditions.{test_follows, choice_follows}
@@ -58,9 +61,11 @@ module _ (c : Compiled) where
     pub statement : (t : Moment c) (s : Stmt) (k : Work) (q n levels j : ℕ) (w : Words) → (c.places (here_in c t) t.unit (who_of t.acts)).StatementAt q s levels n → j + levels ≤ 64 → Via (code c t) (marks c t) j n false (λ x m. At c t x m false k) → Facts c t (Run s k) w → StepsNoting c t (Run s k) q false w
     pub jump : (t : Moment c) (d : Dest) (line q : ℕ) (w : Words) → (c.places (here_in c t) t.unit (who_of t.acts)).JumpAt line q d → Facts c t (Jump d line) w → JumpSound c t.segment t.acts w d → Steps c t (Jump d line) q (takes_number d) w
     pub element : (t : Moment c) (i : ℕ) (x : Loop) (k : Work) (q n j : ℕ) (w : Words) → (c.places (here_in c t) t.unit (who_of t.acts)).ElementAt q i x n → suc j ≤ 64 → Via (code c t) (marks c t) j n false (λ y m. At c t y m false k) → Facts c t (Element i x k) w → Steps c t (Element i x k) q false w
-    pub turn : (t : Moment c) (i : ℕ) (x : Loop) (k : Work) (q n j : ℕ) (w : Words) → (c.places (here_in c t) t.unit (who_of t.acts)).TurnAt q i x n → suc j ≤ 64 → Via (code c t) (marks c t) j n false (λ y m. At c t y m false k) → Facts c t (Turn i x k) w → Steps c t (Turn i x k) q false w
+    pub beginning : (t : Moment c) (a : Ref) (x : Loop) (k : Work) (q n j : ℕ) (w : Words) → (c.places (here_in c t) t.unit (who_of t.acts)).BeginningAt q a x n → suc j ≤ 64 → Via (code c t) (marks c t) j n false (λ y m. At c t y m false k)
+        → Facts c t (Address a x.line (KeepAt 0 x (Element 1 x k))) w → Leap c t (Address a x.line (KeepAt 0 x (Element 1 x k))) q false w
+    pub turn : (t : Moment c) (i : ℕ) (x : Loop) (k : Work) (q n j : ℕ) (w : Words) → (c.places (here_in c t) t.unit (who_of t.acts)).TurnAt q i x n → suc j ≤ 64 → Via (code c t) (marks c t) j n false (λ y m. At c t y m false k) → Facts c t (Turn i x k) w → Moments.Goes c t (Turn i x k) q false w
     pub bump : (t : Moment c) (i : ℕ) (x : Loop) (k : Work) (q n j : ℕ) (w : Words) → (c.places (here_in c t) t.unit (who_of t.acts)).BumpAt q i x n → suc j ≤ 64 → Via (code c t) (marks c t) j n false (λ y m. At c t y m false k) → Facts c t (Bump i x k) w → Steps c t (Bump i x k) q false w
-    pub on : (t : Moment c) (x : Loop) (k : Work) (q n j : ℕ) (w : Words) → (c.places (here_in c t) t.unit (who_of t.acts)).OnAt q x n → suc j ≤ 64 → Via (code c t) (marks c t) j n false (λ y m. At c t y m false k) → Facts c t (On x k) w → Steps c t (On x k) q false w
+    pub on : (t : Moment c) (x : Loop) (k : Work) (q n j : ℕ) (w : Words) → (c.places (here_in c t) t.unit (who_of t.acts)).OnAt q x n → suc j ≤ 64 → Via (code c t) (marks c t) j n false (λ y m. At c t y m false k) → Facts c t (On x k) w → Moments.Goes c t (On x k) q false w
     pub begins : (g : ℕ) (v : SourceUnit) → slice_get c.units g ≡ Some v → CarriedIn c.units c.addresses c.limits c.orders_for c.places c.has_words g v None (c.orders_for v).entry false false (Run v.body Nothing)
     pub procedures : (h p : ℕ) (v : SourceUnit) (proc : Proc) → slice_get c.units h ≡ Some v → slice_get v.procs p ≡ Some proc → ProcedureAt c h v p proc
 
@@ -87,10 +92,11 @@ module _ (c : Compiled) where
   roomy s xs acts bs calls h = subst (λ n. 24 + n ≤ c.room) (sym (words_held s xs acts bs calls)) h
 
   -- what must hold of a configuration of the run, whatever records of calls stand for its activations: the next step is not stuck, the
-  -- control stack has room for 24 words more, items stand where they are said to, at a call there are its arguments, the labels
+  -- memory is the whole data area, the control stack has room for 24 words more, items stand where they are said to, at a call there are its arguments, the labels
   -- that a jump names have their owners, and a body ends with nothing in hand
   pub record Sound (s : ℕ) (k : Work) (acts : List Activation) (w : Words) : Type 0 where
     pub sane : IsSane ((A c).step (configuration s k acts w Running))
+    pub memory : length w.memory ≡ c.limits.area
     pub room : 24 + held_words w.operands acts ≤ c.room
     pub stand : (bs : List OrderActivation) (u : SourceUnit) → AllCalls c s acts bs → slice_get c.units (segment_of s acts) ≡ Some u → ItemsStand (target c) (segment_of s acts) bs (source c) s acts (layout_of u) (c.has_words (segment_of s acts) u (who_of acts))
     pub binds : (bs : List OrderActivation) (h p : ℕ) (v : SourceUnit) → AllCalls c s acts bs → slice_get c.units h ≡ Some v → (proc : Proc) → slice_get v.procs p ≡ Some proc → frame_top (source c) acts + frame_size_of (source c) h p ≤ c.limits.area → (b : OrderActivation) (j i : ℕ) (z : ℤ) (x : Words) → b.frame_base ≡ frame_top (source c) acts → IsTrue (c.has_words h v (Some p) i 1) → argument_behind j b.arguments ≡ Some (Word z) → effect (target c) h (b ∷ bs) (bound_order (layout_of v) j i) x ≡ Changed (with_memory x (set x.memory (item_address (source c) h i (frame_top (source c) acts)) z))
@@ -293,7 +299,7 @@ module _ (c : Compiled) where
 
       facts_of : (k : Work) (sound : Sound s k acts w) → Facts c (moment k sound) k w
       unfolding moment
-      facts_of k sound = record { fits = fits; room = roomy s w.operands acts bs calls sound.room; sane = sound.sane }
+      facts_of k sound = record { fits = fits; memory = sound.memory; room = roomy s w.operands acts bs calls sound.room; sane = sound.sane }
 
       abbrev Carried : (q : ℕ) → (l r : Bool) → Work → Type 0
       Carried q l r k = CarriedIn c.units c.addresses c.limits c.orders_for c.places c.has_words (segment_of s acts) u (who_of acts) q l r k
@@ -337,9 +343,15 @@ module _ (c : Compiled) where
       goes_on (SetVar x k) q l r ready (n, b, stands, same, carried) sound =
           turned_to (SetVar x k) q l true same (singly (variable_set c (moment (SetVar x k) sound) x k q n w b stands carried (facts_of (SetVar x k) sound)) refl)
       goes_on (Element i x k) q l r ready (n, j, at, le, same, via) sound = turned_to (Element i x k) q l false same (singly (rules.element (moment (Element i x k) sound) i x k q n j w at le via (facts_of (Element i x k) sound)) refl)
-      goes_on (Turn i x k) q l r ready (n, j, at, le, same, via) sound = turned_to (Turn i x k) q l false same (singly (rules.turn (moment (Turn i x k) sound) i x k q n j w at le via (facts_of (Turn i x k) sound)) refl)
+      goes_on (Turn i x k) q l r ready (n, j, at, le, same, via) sound = turned_to (Turn i x k) q l false same (⊎_elim (λ goes. singly goes refl) (λ leaps. inr leaps) (rules.turn (moment (Turn i x k) sound) i x k q n j w at le via (facts_of (Turn i x k) sound)))
       goes_on (Bump i x k) q l r ready (n, j, at, le, same, via) sound = turned_to (Bump i x k) q l false same (singly (rules.bump (moment (Bump i x k) sound) i x k q n j w at le via (facts_of (Bump i x k) sound)) refl)
-      goes_on (On x k) q l r ready (n, j, at, le, same, via) sound = turned_to (On x k) q l false same (singly (rules.on (moment (On x k) sound) x k q n j w at le via (facts_of (On x k) sound)) refl)
+      goes_on (On x k) q l r ready (n, j, at, le, same, via) sound = turned_to (On x k) q l false same (⊎_elim (λ goes. singly goes refl) (λ leaps. inr leaps) (rules.on (moment (On x k) sound) x k q n j w at le via (facts_of (On x k) sound)))
+
+      begins_on : (a : Ref) (x : Loop) (k : Work) (q n j : ℕ) → (c.places (segment_of s acts) u (who_of acts)).BeginningAt q a x n → suc j ≤ most_levels → Via (c.orders_for u).list (c.orders_for u).marks j n false (λ y m. Carried y m false k) → Sound s (Address a x.line (KeepAt 0 x (Element 1 x k))) acts w
+          → Noting (Address a x.line (KeepAt 0 x (Element 1 x k))) q false
+      unfolding moment
+      begins_on a x k q n j at le via sound =
+          let now = Address a x.line (KeepAt 0 x (Element 1 x k)) in inr (rules.beginning (moment now sound) a x k q n j w at le via (facts_of now sound))
 
     -- ---- whole runs
 
@@ -364,10 +376,13 @@ module _ (c : Compiled) where
       going_on : (x : Configuration) (t : OrderState) → Belong c x t → is_running ((A c).shown x) ≡ true → StateFits t → AllSound x → GoesNoting c x t ⊎ Leaps c x t
       going_on x t (going {s = s} {q = q} {l = l} {k = k} {acts = acts} {bs = bs} {w = w} u unit_is r ready carried calls) on fits sound =
           goes_on s acts bs u unit_is calls w fits.words k q l r ready carried (sound 0)
+      going_on x t (beginning {s = s} {q = q} {acts = acts} {bs = bs} {w = w} u unit_is a y k n j at le via calls) on fits sound =
+          begins_on s acts bs u unit_is calls w fits.words a y k q n j at le via (sound 0)
       going_on x t (over off same) on fits sound = absurd (true≢false (sym on ∙ off))
 
       agrees : (x : Configuration) (t : OrderState) → Belong c x t → (orders c).shown t ≡ (A c).shown x
       agrees x t (going u unit_is r ready carried calls) = refl
+      agrees x t (beginning u unit_is a y k n j at le via calls) = refl
       agrees x t (over {e = e} off same) = ap (λ o. record { output = o; end = e }) same
 
       still : (s : ℕ) (k : Work) (acts : List Activation) (g q : ℕ) (l : Bool) (bs : List OrderActivation) (v w : Words) (e : End) → is_running (record { output = w.output; end = e }) ≡ false → ((A c).step (configuration s k acts w e) ≡ configuration s k acts w e) × ((orders c).step (state g q l bs v e) ≡ state g q l bs v e)
@@ -378,6 +393,7 @@ module _ (c : Compiled) where
 
       rests : (x : Configuration) (t : OrderState) → Belong c x t → is_running ((A c).shown x) ≡ false → ((A c).step x ≡ x) × ((orders c).step t ≡ t)
       rests x t (going u unit_is r ready carried calls) off = absurd (true≢false off)
+      rests x t (beginning u unit_is a y k n j at le via calls) off = absurd (true≢false off)
       rests x t (over {s = s} {g = g} {q = q} {l = l} {k = k} {acts = acts} {bs = bs} {v = v} {w = w} {e = e} h same) off = still s k acts g q l bs v w e h
 
       none-begun : (s : ℕ) (k : Work) (acts : List Activation) (w : Words) (e : End) → is_running (record { output = w.output; end = e }) ≡ false → begins (configuration s k acts w e) ≡ []
@@ -395,6 +411,7 @@ module _ (c : Compiled) where
 
       idle : (x : Configuration) (t : OrderState) → Belong c x t → is_running ((A c).shown x) ≡ false → (begins x ≡ []) × (starts (target c) t ≡ [])
       idle x t (going u unit_is r ready carried calls) off = absurd (true≢false off)
+      idle x t (beginning u unit_is a y k n j at le via calls) off = absurd (true≢false off)
       idle x t (over {s = s} {g = g} {q = q} {l = l} {k = k} {acts = acts} {bs = bs} {v = v} {w = w} {e = e} h same) off = (none-begun s k acts w e h, none-started g q l bs v w e h)
 
       -- what is behind a sound configuration is sound

@@ -1,6 +1,6 @@
 -- What holds of the orders of every statement, procedure and unit, by the same properties.
-use Rattle.std.proofs.Common.{◌≡◌, ℕ, zero, suc, ◌+◌, ◌<◌, ◌≤◌, List, [], ◌∷◌, ◌++◌, map, true, false, Option, Some, None, sym, subst, arith}
-use Rattle.std.specs.Prelude.{slice_get, slice_index_or}
+use Rattle.std.proofs.Common.{◌≡◌, ℕ, zero, suc, ◌+◌, ◌<◌, ◌≤◌, ℤ, pos, negsuc, List, [], ◌∷◌, ◌++◌, map, Bool, true, false, Option, Some, None, sym, subst, arith}
+use Rattle.std.specs.Prelude.{slice_get, slice_index_or, if◌then◌else◌}
 use Rattle.cw_unit.specs.declared.layout.Layout.{Layout}
 use Rattle.cw_unit.specs.declared.layout.Family.{Family}
 use Rattle.cw_unit.specs.declared.layout.Sort.{Sort}
@@ -21,16 +21,23 @@ use Rattle.cw_unit.specs.declared.unit.Felem.{Felem}
 use Rattle.cw_unit.specs.declared.unit.Felem.TheVariants as element
 use Rattle.cw_unit.specs.declared.unit.Expr.{Expr}
 use Rattle.cw_unit.specs.declared.unit.Cond.{Cond}
-use Rattle.cw_unit.specs.declared.unit.Ref.{out-Ref}
+use Rattle.cw_unit.specs.declared.unit.Ref.{Ref, out-Ref}
 use Rattle.cw_unit.specs.declared.unit.Stmt.{Stmt, Stmt-F, out-Stmt, map-Stmt, fold-Stmt, fold_out-Stmt}
 use Rattle.cw_unit.specs.declared.unit.Stmt.TheOpen as statement
 use Rattle.cw_unit.specs.Storage.{layout_of}
+use Rattle.cw_order.specs.declared.order.Order.{Order}
 use Rattle.cw_order.specs.declared.order.Order.TheVariants as order
 use Rattle.cw_gen_expr.specs.Pieces.{Piece, plain, followed_by, sequence, with_end, with_labels}
-use Rattle.cw_gen_expr.specs.ReferenceExpressions.{Scope, at_line, item_order, store_orders, call_order, condition_piece, expression_piece, control_place, argument_words}
+use Rattle.cw_gen_expr.specs.ReferenceExpressions.{Scope, at_line, item_order, number_order, store_orders, call_order, condition_piece, expression_piece, control_place, argument_words}
 use Rattle.cw_gen_expr.specs.ReferenceEntries.{scope_of, bound_by, bound_in, bound_order, bind_orders}
 use Rattle.cw_gen_expr.proofs.Layers.{total}
-use Rattle.cw_gen_unit.specs.ReferenceStatements.{begin_orders, after_statement_call, own_order, goal_order, jump_piece, with_middle, keep_orders, number_orders, set_orders, bump_orders, turn_piece, while_values, step_values, element_piece, elements_piece, element_ways, ring_piece, statement_piece}
+use Rattle.cw_gen_unit.specs.ReferenceStatements.{begin_orders, after_statement_call, own_order, goal_order, jump_piece, with_middle, keep_orders, number_orders, set_orders, bump_orders, turn_piece, while_values, step_values, element_piece, elements_piece, element_ways, ring_piece, only_step, loop_place, value_orders, past_orders, turn_orders, simple_orders, simple_beginning, first_turn, stepped_piece, elements_loop, begun_loop, statement_piece}
+use Rattle.cw_gen_unit.specs.declared.simple.Simple.{Simple}
+use Rattle.cw_gen_unit.specs.declared.simple.Simple.TheVariants as simple
+use Rattle.cw_gen_unit.specs.declared.simple.SimpleStep.{SimpleStep}
+use Rattle.cw_gen_unit.specs.SimpleLoops.{simple_step}
+use Rattle.cw_unit.specs.Operation.{is_past}
+use Rattle.cw_word.specs.Word.{unsigned}
 use Rattle.cw_gen_unit.specs.ReferenceUnits.{answer_of, entry_orders, procedure_piece, procedures_piece, unit_piece}
 use Rattle.cw_carry.proofs.Statements.Shapes.{statement_layer, statement-made}
 use Rattle.cw_carry.proofs.Runs.Generated.{IsPlain, ArePlain, ListProperty, Holds, lists, constant_first, both, ended, saves, chosen, item_plain, call_plain, value_holds, condition_holds, reference_holds, arguments_hold}
@@ -173,6 +180,74 @@ module _ (s : Scope) (c : ListProperty s.layout) where
           next;
     }
 
+    -- ---- a FOR of one STEP element
+
+    stepped_holds : (beginning : ℕ → Piece) (body : Piece) → ((end : ℕ) → Holds c (beginning end)) → Holds c body → Holds c (stepped_piece s item beginning body)
+    stepped_holds beginning body h b =
+        let on = λ (start : ℕ). order.NextStep (loop_place s.layout item) s.line start ∷ [] in
+        ended c (λ end. with_middle (λ start. beginning end) (λ start. followed_by body (plain (on start))))
+        (λ k. middle (λ start. beginning k) (λ start. followed_by body (plain (on start))) (ended c (λ start. beginning k) (λ j. h k)) (λ j. both c b (lists c (on j) (tt, tt))))
+
+    first_turn_holds : (f : ℕ) (a b d : Expr) (end : ℕ) → Holds c (first_turn s item f a b d end)
+    first_turn_holds f a b d end =
+        both c (number_holds 1)
+        (both c (value_holds s c a f)
+        (both c set_holds
+        (both c (value_holds s c b f)
+        (both c (keep_holds 1)
+        (both c (value_holds s c d f)
+        (lists c (keep_orders s.layout item 2 ++ item_order s.layout item 0 ∷ order.PutVariable s.line ∷ order.Exhausted end ∷ []) (tt, (item_plain s.layout item 2, (tt, (item_plain s.layout item 0, (tt, (tt, tt)))))))))))) 
+
+    plainly : (os : List Order) → ArePlain os → c.holds os
+    plainly os h = (lists c os h).at 0 0
+
+    numbered : (n : ℕ) (os : List Order) → c.holds os → c.holds (number_order n ∷ os)
+    numbered n os h = c.joined (number_order n ∷ []) os ((constant_first c n [] tt).at 0 0) h
+
+    kept : (i n : ℕ) (os : List Order) → c.holds os → c.holds (keep_orders s.layout i n ++ os)
+    kept i n os h = c.joined (keep_orders s.layout i n) os (plainly (keep_orders s.layout i n) (tt, (item_plain s.layout i n, (tt, tt)))) h
+
+    value_put : (x : Simple) (os : List Order) → c.holds os → c.holds (value_orders s.layout x ++ os)
+    value_put (simple.Number z) os h = numbered (unsigned z) os h
+    value_put (simple.Item i) os h = c.joined (item_order s.layout i 0 ∷ order.Load ∷ []) os (plainly (item_order s.layout i 0 ∷ order.Load ∷ []) (item_plain s.layout i 0, (tt, tt))) h
+
+    past_plain : (j : ℕ) (z : ℤ) (end : ℕ) → ArePlain (past_orders s.layout item j z end)
+    past_plain j (pos zero) end = tt
+    past_plain j (pos (suc n)) end = (item_plain s.layout j 0, (tt, (tt, (item_plain s.layout item 2, (tt, (tt, tt))))))
+    past_plain j (negsuc n) end = (item_plain s.layout j 0, (tt, (tt, (item_plain s.layout item 2, (tt, (tt, tt))))))
+
+    known_plain : (b : Bool) (end : ℕ) → ArePlain (if b then (order.Jump end ∷ []) else [])
+    known_plain true end = (tt, tt)
+    known_plain false end = tt
+
+    turn_plain : (j : ℕ) (a : Simple) (z : ℤ) (d : Simple) (end : ℕ) → ArePlain (turn_orders s.layout item j a z d end)
+    turn_plain j (simple.Number a) z (simple.Number d) end = known_plain (is_past z a d) end
+    turn_plain j (simple.Number a) z (simple.Item i) end = past_plain j z end
+    turn_plain j (simple.Item i) z d end = past_plain j z end
+
+    simple_holds : (x : SimpleStep) (end : ℕ) → Holds c (plain (simple_beginning s.layout item x end))
+    simple_holds x end =
+        let y = s.layout in
+        let v5 = value_orders y x.limit ++ keep_orders y item 2 in
+        let v4 = keep_orders y item 1 ++ v5 in
+        let v3 = keep_orders y x.variable 0 ++ number_order (unsigned x.step) ∷ v4 in
+        let v2 = value_orders y x.first ++ v3 in
+        let v1 = number_orders y item 1 ++ v2 in
+        let h5 : c.holds v5 = value_put x.limit (keep_orders y item 2) (plainly (keep_orders y item 2) (tt, (item_plain y item 2, (tt, tt)))) in
+        let h3 : c.holds v3 = kept x.variable 0 (number_order (unsigned x.step) ∷ v4) (numbered (unsigned x.step) v4 (kept item 1 v5 h5)) in
+        let h1 : c.holds v1 = numbered 1 (keep_orders y item 3 ++ v2) (kept item 3 v2 (value_put x.first v3 h3)) in
+        let all : c.holds (simple_orders y item x) = c.joined (item_order y x.variable 0 ∷ []) (keep_orders y item 0 ++ v1) (plainly (item_order y x.variable 0 ∷ []) (item_plain y x.variable 0, tt)) (kept item 0 v1 h1) in
+        let turn = turn_orders y item x.variable x.first x.step x.limit end in
+        record { at = λ place next. c.joined (simple_orders y item x) turn all (plainly turn (turn_plain x.variable x.first x.step x.limit end)) }
+
+    elements_loop_holds : (o : Option (Expr × Expr × Expr)) (f : ℕ) (es : List Felem) (body : Piece) → Holds c body → Holds c (elements_loop s o item f es body)
+    elements_loop_holds None f es body h = ring_holds f es body h
+    elements_loop_holds (Some e) f es body h = stepped_holds (first_turn s item f e.0 e.1 e.2) body (first_turn_holds f e.0 e.1 e.2) h
+
+    begun_holds : (o : Option SimpleStep) (r : Ref) (es : List Felem) (body : Piece) → Holds c body → Holds c (begun_loop s o item r es body)
+    begun_holds None r es body h = both c (reference_holds s c r) (both c (keep_holds 0) (elements_loop_holds (only_step es) (out-Ref r).f es body h))
+    begun_holds (Some x) r es body h = stepped_holds (λ end. plain (simple_beginning s.layout item x end)) body (simple_holds x) h
+
   -- ---- jumps
 
   jump_piece_holds : (who : Option ℕ) (d : Dest) → Holds c (jump_piece s who d)
@@ -213,9 +288,7 @@ module _ (s : Scope) (c : ListProperty s.layout) (who : Option ℕ) (answer : �
       (chosen c (condition_piece (at_line line s) d) (statement_piece s who answer a) (statement_piece s who answer b) (λ m. condition_holds (at_line line s) c d false m) (below a (let z : depth a < n = omega (arith, le) in z)) (below b (let z : depth b < n = omega (arith, le) in z)))
   layer n below (statement.For line item r es t) le =
       let h = at_line line s in
-      both c (begun line)
-      (both c (reference_holds h c r)
-      (both c (keep_holds h c item 0) (ring_holds h c item (out-Ref r).f es (statement_piece s who answer t) (below t (let z : depth t < n = omega (arith, le) in z)))))
+      both c (begun line) (begun_holds h c item (simple_step s.layout item r es) r es (statement_piece s who answer t) (below t (let z : depth t < n = omega (arith, le) in z)))
   layer n below (statement.Seq ss) le = list n below ss (let z : total (map depth ss) < n = omega (arith, le) in z)
   layer n below (statement.Mark ls t) le =
       both c {p = with_labels ls} (record { at = λ place next. c.alone order.Mark tt }) (below t (let z : depth t < n = omega (arith, le) in z))

@@ -1,6 +1,7 @@
 -- The orders that put and bind items find them where a valid storage map says.
 use Rattle.std.proofs.Common.{◌≡◌, ℕ, zero, suc, ◌+◌, ◌-◌, ◌<◌, ◌≤◌, ℤ, pos, List, [], ◌∷◌, map, set, true, false, IsTrue, Option, Some, None, refl, sym, ap, ap₂, ◌∙◌, subst, arith, nat_le, leb-true}
-use Rattle.std.specs.Prelude.{◌%◌, slice_get, slice_index, slice_index_or, if◌then◌else◌}
+use Rattle.std.proofs.lemmas.Bool.Decides.{nat_tests}
+use Rattle.std.specs.Prelude.{◌%◌, ◌==◌, not, ◌&&◌, slice_get, slice_index, slice_index_or, if◌then◌else◌}
 use Rattle.std.proofs.lemmas.Bool.{lt-ltb}
 use Rattle.std.proofs.lemmas.Int.{ints}
 use Rattle.std.proofs.lemmas.Option.{none-some, same_Some}
@@ -14,7 +15,8 @@ use Rattle.cw_unit.specs.declared.layout.Map.{Map}
 use Rattle.cw_unit.specs.declared.layout.Sort.{Sort}
 use Rattle.cw_unit.specs.declared.layout.Sort.TheVariants as sort
 use Rattle.cw_unit.specs.Storage.{root_of, family_of, family_offset, positions_from, frame_size, frame_sizes_from, layout_of}
-use Rattle.cw_unit.specs.ValidStorage.{StoredItem, sort_in, owner_in, sort_of_family, as_stored, IsInFrame, frame_size_in, InPlace, ValidStorageMap}
+use Rattle.cw_unit.specs.ValidStorage.{StoredItem, key_of, sort_in, owner_in, sort_of_family, as_stored, word_of, IsAbsolute, IsInFrame, frame_size_in, InPlace, ValidStorageMap}
+use Rattle.cw_unit.specs.Allocation.{Name, Private, storage_of}
 use Rattle.cw_unit.specs.Program.{Program, no_layout, is_frame_family, item_address}
 use Rattle.cw_unit.specs.Words.{Operand, Word, Words, Changed, with_memory, put, through}
 use Rattle.cw_unit.specs.Configuration.{frame_size_of}
@@ -25,6 +27,7 @@ use Rattle.cw_order.specs.OrderChanges.{bind, put_address}
 use Rattle.cw_order.specs.OrderMachine.{unrefused}
 use Rattle.cw_gen_expr.specs.ReferenceExpressions.{placed_by, placed_in, item_order, item_span}
 use Rattle.cw_gen_expr.specs.ReferenceEntries.{bound_by, bound_in, bound_order}
+use Rattle.cw_gen_unit.specs.SimpleLoops.{is_own, is_static, are_apart}
 use Rattle.cw_gen_expr.specs.NamedItems.{is_same_procedure, may_name, item_has, has_words}
 use Rattle.cw_safety.proofs.Truth.{no, both, nat_same}
 use Rattle.cw_carry.proofs.Expressions.Effects.{effect}
@@ -287,3 +290,75 @@ module _ (us : List SourceUnit) (m : Map) (limits : Limits) (room : ℕ) where
             let word : word_of_area limits.area (b.frame_base + (d + o) % 65536) ≡ Some (item_address (source c) g i base) = word-there limits.area (b.frame_base + (d + o) % 65536) (item_address (source c) g i base) at below in
             ap (λ y. effect (target c) g (b ∷ bs) y x) (binds j)
             ∙ bound-at (word_of_area limits.area (b.frame_base + (d + o) % 65536)) (item_address (source c) g i base) z x (argument_behind j b.arguments) arg-is word below
+
+    -- ---- items that share no word
+
+    own_is : (x : Option Family) → IsTrue (is_own x) → sort_in x ≡ sort.Own
+    own_is None h = no h
+    own_is (Some x) h = by_sort x.sort h
+      where
+        by_sort : (s : Sort) → IsTrue (elim s [ sort.Own ↦ true | _ ↦ false ]) → s ≡ sort.Own
+        by_sort sort.Own h = refl
+        by_sort (sort.Frame d) h = no h
+        by_sort (sort.Common d) h = no h
+        by_sort (sort.Absolute a) h = no h
+
+    static_is : (x : Option Family) → IsTrue (is_static x) → ¬ IsInFrame (sort_in x)
+    static_is None h = λ e. e
+    static_is (Some x) h = by_sort x.sort h
+      where
+        by_sort : (s : Sort) → IsTrue (elim s [ sort.Frame d ↦ false | _ ↦ true ]) → ¬ IsInFrame s
+        by_sort sort.Own h = λ e. e
+        by_sort (sort.Frame d) h = no h
+        by_sort (sort.Common d) h = λ e. e
+        by_sort (sort.Absolute a) h = λ e. e
+
+    other_is : (a b : ℕ) → IsTrue (not (a == b)) → a ≡ b → ⊥
+    other_is a b h e = grind (arith, nat_tests)
+
+    key-apart : (g a b : ℕ) (names : List Name) (s : Sort) → (a ≡ b → ⊥) → Private g a ≡ key_of g names b s → ⊥
+    key-apart g a b names (sort.Common d) other e = cc
+    key-apart g a b names sort.Own other e = let same : a ≡ b = cc in other same
+    key-apart g a b names (sort.Absolute n) other e = let same : a ≡ b = cc in other same
+    key-apart g a b names (sort.Frame n) other e = let same : a ≡ b = cc in other same
+
+    static-address : (g : ℕ) (u : SourceUnit) (who : Option ℕ) (base i k : ℕ) (u-is : slice_get us g ≡ Some u) (h : IsTrue (has_words u who i k)) → ¬ IsInFrame (sort_of_family u (family_of u i)) → item_address (source c) g i base ≡ family_start g (family_of u i) + family_offset u i
+    static-address g u who base i k u-is h away =
+        let none : 0 + (family_start g (family_of u i) + family_offset u i) ≡ family_start g (family_of u i) + family_offset u i = omega arith in
+        address g u who base i k u-is h ∙ ap (λ b. (if b then base else 0) + (family_start g (family_of u i) + family_offset u i)) (family-elsewhere (slice_get (layout_of u).families (family_of u i)) away) ∙ none
+
+    -- an item of a family of the unit's own, and one of another family that stands in no frame
+    own-apart : (g : ℕ) (u : SourceUnit) (who : Option ℕ) (base i j n1 n2 k1 k2 : ℕ) → slice_get us g ≡ Some u → IsTrue (has_words u who i k1) → IsTrue (has_words u who j k2) → n1 < k1 → n2 < k2
+        → sort_of_family u (family_of u i) ≡ sort.Own → ¬ IsInFrame (sort_of_family u (family_of u j)) → (family_of u i ≡ family_of u j → ⊥) → item_address (source c) g i base + n1 ≡ item_address (source c) g j base + n2 → ⊥
+    own-apart g u who base i j n1 n2 k1 k2 u-is h1 h2 lt1 lt2 own away other same =
+        let x1 = named-item u who i k1 h1 in
+        let x2 = named-item u who j k2 h2 in
+        let homes = slice_index_or m.homes g [] in
+        let s1 = as_stored g u homes i x1.item in
+        let s2 = as_stored g u homes j x2.item in
+        let pair = valid.pairs s1 s2 (g, i, u, x1.item, u-is, x1.found, refl) (g, j, u, x2.item, u-is, x2.found, refl) in
+        let own-away : ¬ IsInFrame (sort_of_family u (family_of u i)) = λ e. subst IsInFrame own e in
+        let a1 = static-address g u who base i k1 u-is h1 own-away in
+        let a2 = static-address g u who base j k2 u-is h2 away in
+        let names = (storage_of u).names in
+        let keys : s1.family ≡ s2.family → ⊥ = λ e. key-apart g (family_of u i) (family_of u j) names (sort_of_family u (family_of u j)) other (sym (ap (key_of g names (family_of u i)) own) ∙ e) in
+        let words : word_of s1 n1 ≡ word_of s2 n2 = omega (arith, a1, a2, same) in
+        let absolute = (pair.apart keys own-away away n1 n2 (let z : n1 < x1.item.words = omega (arith, lt1, x1.words) in z) (let z : n2 < x2.item.words = omega (arith, lt2, x2.words) in z) words).0 in
+        subst IsAbsolute own absolute
+
+    -- as the generator tells
+    pub items-apart : (g : ℕ) (u : SourceUnit) (who : Option ℕ) (base i j n1 n2 k1 k2 : ℕ) → slice_get us g ≡ Some u → IsTrue (has_words u who i k1) → IsTrue (has_words u who j k2) → n1 < k1 → n2 < k2
+        → IsTrue (are_apart (layout_of u) i j) → item_address (source c) g i base + n1 ≡ item_address (source c) g j base + n2 → ⊥
+    items-apart g u who base i j n1 n2 k1 k2 u-is h1 h2 lt1 lt2 told same =
+        let y = layout_of u in
+        let p1 = ap (λ r. r.0) (at_map g u who base i k1 u-is h1) in
+        let p2 = ap (λ r. r.0) (at_map g u who base j k2 u-is h2) in
+        let f1 = (slice_index_or y.homes i (0, 0)).0 in
+        let f2 = (slice_index_or y.homes j (0, 0)).0 in
+        let t1 = both (is_own (slice_get y.families f1)) (is_static (slice_get y.families f2) && not (f1 == f2)) told in
+        let t2 = both (is_static (slice_get y.families f2)) (not (f1 == f2)) t1.1 in
+        own-apart g u who base i j n1 n2 k1 k2 u-is h1 h2 lt1 lt2
+        (subst (λ f. sort_in (slice_get y.families f) ≡ sort.Own) p1 (own_is (slice_get y.families f1) t1.0))
+        (subst (λ f. ¬ IsInFrame (sort_in (slice_get y.families f))) p2 (static_is (slice_get y.families f2) t2.0))
+        (λ e. other_is f1 f2 t2.1 (p1 ∙ e ∙ sym p2))
+        same

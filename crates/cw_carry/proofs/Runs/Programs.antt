@@ -1,5 +1,5 @@
 -- The machine of the orders of well-formed units tracks their meaning, at each storage map and limits that suit them.
-use Rattle.std.proofs.Common.{◌≡◌, ◌≢◌, ℕ, zero, suc, ◌+◌, ◌<◌, ◌≤◌, List, [], ◌∷◌, map, IsTrue, Option, Some, None, is_some, refl, sym, ap, ◌∙◌, subst, arith}
+use Rattle.std.proofs.Common.{◌≡◌, ◌≢◌, ℕ, zero, suc, ◌+◌, ◌<◌, ◌≤◌, List, [], ◌∷◌, map, length, IsTrue, Option, Some, None, is_some, refl, sym, ap, ◌∙◌, subst, arith}
 use Rattle.std.specs.Prelude.{All, slice_get}
 use Rattle.std.proofs.lemmas.Option.{none-some, same_Some}
 use Rattle.cw_track.specs.Tracking.{Tracks}
@@ -17,7 +17,7 @@ use Rattle.cw_unit.specs.Program.{Program, program_at}
 use Rattle.cw_unit.specs.Stop.{Running, Ended, Stopped, Stuck}
 use Rattle.cw_unit.specs.Words.{Operand, Word, Held, Words}
 use Rattle.cw_unit.specs.Work.{Work, Jump}
-use Rattle.cw_unit.specs.Configuration.{Configuration, at as configuration, Activation, FramesApart, activations_of, segment_of, base_of, procedure_in, frame_size_of, frame_top}
+use Rattle.cw_unit.specs.Configuration.{Configuration, at as configuration, Activation, FramesApart, activations_of, words_of, segment_of, base_of, procedure_in, frame_size_of, frame_top}
 use Rattle.cw_unit.specs.StackBound.{control_need}
 use Rattle.cw_unit.specs.Step.{kept, step, steps}
 use Rattle.cw_unit.specs.Behaviour.{is_running, shown, initial_configuration, configuration_after, observed}
@@ -44,7 +44,7 @@ use Rattle.cw_gen_unit.specs.ReferenceUnits.{meaning, orders_program, first_orde
 use Rattle.cw_gen_unit.specs.BuiltUnits.{AllBuilt, Suits}
 use Rattle.cw_carry.proofs.Statements.Following.{orders_track}
 use Rattle.cw_carry.proofs.Runs.FirstWords.{memory-fits}
-use Rattle.cw_carry.proofs.Runs.ItemPlaces.{c, frame-size, FrameHere, item-put, item-reached, item-bound}
+use Rattle.cw_carry.proofs.Runs.ItemPlaces.{c, frame-size, FrameHere, item-put, item-reached, item-bound, items-apart}
 use Rattle.cw_carry.proofs.Runs.Spans.{items}
 
 -- ---- words that are held
@@ -137,9 +137,10 @@ module _ (us : List SourceUnit) (m : Map) (limits : Limits) (room : ℕ) (suits 
 
   -- ---- configurations
 
-  sound : (s : ℕ) (k : Work) (acts : List Activation) (w : Words) → Coherent p s k acts w → stack_words p w.operands acts + 72 ≤ control_need us limits.depth → FramesApart p acts → IsSane (step p (configuration s k acts w Running)) → Sound (c us m limits room) s k acts w
-  sound s k acts w known words apart not_stuck = record {
+  sound : (s : ℕ) (k : Work) (acts : List Activation) (w : Words) → Coherent p s k acts w → stack_words p w.operands acts + 72 ≤ control_need us limits.depth → FramesApart p acts → length w.memory ≡ limits.area → IsSane (step p (configuration s k acts w Running)) → Sound (c us m limits room) s k acts w
+  sound s k acts w known words apart whole not_stuck = record {
     sane = not_stuck;
+    memory = whole;
     room = (let less = words-within w.operands acts in let z : 24 + held_words (c us m limits room) w.operands acts ≤ room = omega (arith, words, suits.has_room, less) in z);
     stand = λ bs u calls u-is.
         let frame = frame-here s k acts w bs calls apart known in
@@ -148,6 +149,7 @@ module _ (us : List SourceUnit) (m : Map) (limits : Limits) (room : ℕ) (suits 
           puts = λ i n j x h lt. (put i n j x h lt).0;
           within = λ i n j h lt. (put i n j w h lt).1;
           reaches = λ i n x h lt. item-reached us m limits room suits.valid suits.area (segment_of s acts) u (who_of acts) (base_of acts) bs i n x u-is h (items us m limits room suits (segment_of s acts) u u-is i) lt;
+          apart = λ i j n1 n2 k1 k2 h1 h2 lt1 lt2 told same. items-apart us m limits room suits.valid suits.area (segment_of s acts) u (who_of acts) (base_of acts) i j n1 n2 k1 k2 u-is h1 h2 lt1 lt2 told same;
         };
     binds = λ bs h q v calls v-is proc proc-is fits b j i z x base-is has arg-is.
         item-bound us m limits room suits.valid suits.area h v (Some q) (frame_top p acts) b bs j i z x v-is (frame-next h q v proc (frame_top p acts) b bs v-is proc-is fits base-is) has arg-is;
@@ -156,16 +158,16 @@ module _ (us : List SourceUnit) (m : Map) (limits : Limits) (room : ℕ) (suits 
     ends = known.ends;
   }
 
-  sound-at : (x : Configuration) → IsCoherent p x → words_held p x + 72 ≤ control_need us limits.depth → FramesApart p (activations_of x) → IsSane (step p x) → SoundAt (c us m limits room) x
-  sound-at (configuration s k acts w Running) known words apart not_stuck = sound s k acts w known words apart not_stuck
-  sound-at (configuration s k acts w Ended) known words apart not_stuck = tt
-  sound-at (configuration s k acts w (Stopped kind g line)) known words apart not_stuck = tt
-  sound-at (configuration s k acts w Stuck) known words apart not_stuck = tt
+  sound-at : (x : Configuration) → IsCoherent p x → words_held p x + 72 ≤ control_need us limits.depth → FramesApart p (activations_of x) → length (words_of x).memory ≡ limits.area → IsSane (step p x) → SoundAt (c us m limits room) x
+  sound-at (configuration s k acts w Running) known words apart whole not_stuck = sound s k acts w known words apart whole not_stuck
+  sound-at (configuration s k acts w Ended) known words apart whole not_stuck = tt
+  sound-at (configuration s k acts w (Stopped kind g line)) known words apart whole not_stuck = tt
+  sound-at (configuration s k acts w Stuck) known words apart whole not_stuck = tt
 
-  module _ (input : List ℕ) (not_stuck : (n : ℕ) → (observed p input n).end ≢ Stuck) (known : (n : ℕ) → IsCoherent p (configuration_after p input n)) (words : (n : ℕ) → words_held p (configuration_after p input n) + 72 ≤ control_need us limits.depth) (apart : (n : ℕ) → FramesApart p (activations_of (configuration_after p input n))) where
+  module _ (input : List ℕ) (not_stuck : (n : ℕ) → (observed p input n).end ≢ Stuck) (known : (n : ℕ) → IsCoherent p (configuration_after p input n)) (words : (n : ℕ) → words_held p (configuration_after p input n) + 72 ≤ control_need us limits.depth) (apart : (n : ℕ) → FramesApart p (activations_of (configuration_after p input n))) (whole : (n : ℕ) → length (words_of (configuration_after p input n)).memory ≡ limits.area) where
     all-sound : (n : ℕ) → SoundAt (c us m limits room) (steps p n (initial_configuration p input))
     all-sound n =
-        sound-at (configuration_after p input n) (known n) (words n) (apart n)
+        sound-at (configuration_after p input n) (known n) (words n) (apart n) (whole n)
         (subst IsSane (sym (steps-later p n (initial_configuration p input))) (sane (configuration_after p input (suc n)) (not_stuck (suc n))))
 
     some-units : IsTrue (is_some (slice_get us 0)) → us ≢ []

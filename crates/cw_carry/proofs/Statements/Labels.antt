@@ -24,12 +24,13 @@ use Rattle.cw_carry.proofs.Expressions.Standing.{Made, both_made, choice_made}
 use Rattle.cw_carry.proofs.Expressions.Carried.{Leads, here, past, over, Via, CarriesOut}
 use Rattle.cw_gen_expr.specs.ReferenceEntries.{scope_of}
 use Rattle.cw_carry.proofs.Expressions.Moments.{both}
-use Rattle.cw_gen_unit.specs.ReferenceStatements.{keep_orders, begin_orders, jump_piece, ring_piece, statement_piece}
+use Rattle.cw_gen_unit.specs.ReferenceStatements.{begin_orders, jump_piece, begun_loop, statement_piece}
+use Rattle.cw_gen_unit.specs.SimpleLoops.{simple_step}
 use Rattle.cw_gen_unit.specs.BuiltStatements.{all_within, is_statement, are_elements}
 use Rattle.cw_carry.proofs.Statements.Shapes.{statement_layer, statement-made, built_layer, statement-built}
 use Rattle.cw_carry.proofs.Statements.Sites.{sites}
 use Rattle.cw_gen_unit.specs.ReferenceUnits.{answer_of}
-use Rattle.cw_carry.proofs.Statements.Rings.{ring_whole}
+use Rattle.cw_carry.proofs.Statements.Rings.{loop_whole}
 use Rattle.cw_gen_unit.specs.ReferenceUnits.{place_if, place_of}
 
 -- ---- the place of a label among those of a piece
@@ -192,19 +193,15 @@ module _ (orders_for : SourceUnit → Orders) (u : SourceUnit) (who : Option ℕ
         let b4 = both (are_elements u has_words who answer f es) (within levels (λ m. true) && good s most_levels) b3.1 in
         let b5 = both (within levels (λ m. true)) (good s most_levels) b4.1 in
         let level = a_level levels (λ m. true) b5.0 in
-        let keep = keep_orders scope.layout item 0 in
-        let ring = ring_piece (at_line line scope) item f es (piece s) in
-        let at = begun line (followed_by (reference_of (at_line line scope) r).address (followed_by (plain keep) ring)) q next free last made in
-        let address = both_made code marks (reference_of (at_line line scope) r).address (followed_by (plain keep) ring) at.0 next at.1 last at.2 in
-        let kept = both_made code marks (plain keep) ring address.0 next address.1 last address.3 in
-        let whole = ring_whole orders_for u who has_words line item r es s kept.0 next kept.1 last b2.0 (ltb-true (length es) 32767 b3.0) b4.0 b5.1 kept.3 in
-        let site = whole.0 in
+        let at = begun line (begun_loop (at_line line scope) (simple_step scope.layout item r es) item r es (piece s)) q next free last made in
+        let whole = loop_whole orders_for u who has_words line item r es s next b2.0 (ltb-true (length es) 32767 b3.0) b4.0 b5.1 at.0 at.1 last b1.0 at.2 in
+        let body = whole.1 in
         let x = loop_of line item r es s in
         subst (λ t. Reaches (place_of label (statement_layer scope who answer (statement.For line item r es s) q free).labels) (label_continuation label t k)) (sym (stmt.rolls-For line item r es s))
         (subst (Reaches (place_of label (statement_layer scope who answer (statement.For line item r es s) q free).labels)) (sym (in-loop label line item r es s k))
-        (subst (λ ls. Reaches (place_of label ls) (label_continuation label s (On x k))) (sym (at.3 ∙ address.4 ∙ ap₂ (λ l m. l ++ m) (reference_unlabelled (at_line line scope) r at.0 at.1) (kept.4 ∙ whole.2)))
-        (below s (On x k) (site.head + 1) site.on site.body_at.0 site.body_at.1 64 0 small site.body_at.2 site.body_at.3 (let l : 0 + 64 ≤ most_levels = omega arith in l)
-        (site.on, false, here refl refl, (next, n, (site, refl), (let v : suc n ≤ most_levels = omega (arith, le, level.1) in v), refl, after)))))
+        (subst (λ ls. Reaches (place_of label ls) (label_continuation label s (On x k))) (sym (at.3 ∙ body.labels_are))
+        (below s (On x k) (body.head + 1) body.on body.body_at.0 body.body_at.1 64 0 small body.body_at.2 body.body_at.3 (let l : 0 + 64 ≤ most_levels = omega arith in l)
+        (body.on, false, here refl refl, (next, n, body.goes_on, (let v : suc n ≤ most_levels = omega (arith, le, level.1) in v), refl, after)))))
 
     marked_reached : (ls : List ℕ) (t : Stmt) → depth t < size → IsTrue (built_layer u has_words who answer (statement.Mark ls t) levels) → Made code marks (statement_layer scope who answer (statement.Mark ls t) q free) q next free last → Reached (statement.Mark ls t) k q free
     marked_reached ls t small b made =

@@ -35,7 +35,7 @@ use Rattle.cw_carry.proofs.Expressions.Carried.{Leads, here, past, over as leap,
 use Rattle.cw_carry.proofs.Expressions.Operations.{keeps, bumps, behind_word, variable_put}
 use Rattle.cw_carry.proofs.Expressions.Stepping.{Quiet, Compiled, source, target, B, work_size, Seen, order_here, mark_here, lands, silent, stops}
 use Rattle.cw_carry.proofs.Expressions.Addresses.{item_and}
-use Rattle.cw_carry.proofs.Expressions.Moments.{both, item_silent, item_light, item_loads, item_tells, IsLight, silent_and, Moment, here_in, layout, scope, has_words, code, marks, At, Leads_to, at_close, Steps, config, next, run, Facts, at_once, done_by, one_order}
+use Rattle.cw_carry.proofs.Expressions.Moments.{both, item_silent, item_light, item_loads, item_tells, IsLight, silent_and, Moment, here_in, layout, scope, has_words, code, marks, At, Leads_to, at_close, Steps, config, next, run, Facts, at_once, done_by, one_order, ran_on}
 use Rattle.cw_gen_unit.specs.ReferenceStatements.{keep_orders, number_orders, set_orders, bump_orders, element_piece, way_mark}
 use Rattle.cw_gen_unit.specs.BuiltStatements.{is_element, are_elements}
 use Rattle.cw_carry.proofs.Statements.Sites.{LoopSite, ElementSite, TurnSite, BumpSite, OnSite, sites}
@@ -65,7 +65,7 @@ element_past (e ∷ es) (suc (suc n)) one le h =
 
 -- ---- where the parts of a STEP element stand
 
-module _ (code : List Order) (marks : List ℕ) (s : Scope) (who : Option ℕ) (answer : ℕ) (item f : ℕ) (a b d : Expr) (i : ℕ) where
+module _ (code : List Order) (marks : List ℕ) (s : Scope) (who : Option ℕ) (answer : ℕ) (item f : ℕ) (a b d : Expr) (i : ℕ) (tail : List Order) where
   abbrev pa : Piece
   pa = expression_piece s a f
 
@@ -78,31 +78,29 @@ module _ (code : List Order) (marks : List ℕ) (s : Scope) (who : Option ℕ) (
   abbrev keep1 : List Order
   keep1 = keep_orders s.layout item 1
 
-  abbrev keep2 : ℕ → List Order
-  keep2 turn = keep_orders s.layout item 2 ++ order.Jump turn ∷ []
+  -- the limit is kept, and what follows it
+  abbrev keep2 : List Order
+  keep2 = keep_orders s.layout item 2 ++ tail
 
-  abbrev step_turn : (body mark : ℕ) → List Order
-  step_turn body mark = item_order s.layout item 0 ∷ order.PutVariable s.line ∷ order.Exhausted mark ∷ order.Jump body ∷ []
+  abbrev after_keep1 : Piece
+  after_keep1 = followed_by pd (plain keep2)
 
-  abbrev after_keep1 : ℕ → Piece
-  after_keep1 turn = followed_by pd (plain (keep2 turn))
+  abbrev after_b : Piece
+  after_b = followed_by (plain keep1) after_keep1
 
-  abbrev after_b : ℕ → Piece
-  after_b turn = followed_by (plain keep1) (after_keep1 turn)
+  abbrev after_set : Piece
+  after_set = followed_by pb after_b
 
-  abbrev after_set : ℕ → Piece
-  after_set turn = followed_by pb (after_b turn)
+  abbrev after_a : Piece
+  after_a = followed_by (plain (set_orders s.layout s.line item)) after_set
 
-  abbrev after_a : ℕ → Piece
-  after_a turn = followed_by (plain (set_orders s.layout s.line item)) (after_set turn)
+  abbrev after_number : Piece
+  after_number = followed_by pa after_a
 
-  abbrev after_number : ℕ → Piece
-  after_number turn = followed_by pa (after_a turn)
+  abbrev pub first_piece : Piece
+  first_piece = followed_by (plain (number_orders s.layout item i)) after_number
 
-  abbrev first_piece : ℕ → Piece
-  first_piece turn = followed_by (plain (number_orders s.layout item i)) (after_number turn)
-
-  pub record FirstMade (turn q n free last : ℕ) : Type 0 where
+  pub record FirstMade (q n free last : ℕ) : Type 0 where
     pub n1 : ℕ
     pub numbers : Stands code q (number_orders s.layout item i) n1
     pub m1 : ℕ
@@ -121,22 +119,33 @@ module _ (code : List Order) (marks : List ℕ) (s : Scope) (who : Option ℕ) (
     pub n6 : ℕ
     pub m6 : ℕ
     pub d_made : Made code marks (pd n5 m5) n5 n6 m5 m6
-    pub keeps2 : Stands code n6 (keep2 turn) n
+    pub keeps2 : Stands code n6 keep2 n
 
-  first_made : (turn q n free last : ℕ) → Made code marks (first_piece turn q free) q n free last → FirstMade turn q n free last
-  first_made turn q n free last made =
-      let p1 = both_made code marks (plain (number_orders s.layout item i)) (after_number turn) q n free last made in
-      let p2 = both_made code marks pa (after_a turn) p1.0 n p1.1 last p1.3 in
-      let p3 = both_made code marks (plain (set_orders s.layout s.line item)) (after_set turn) p2.0 n p2.1 last p2.3 in
-      let p4 = both_made code marks pb (after_b turn) p3.0 n p3.1 last p3.3 in
-      let p5 = both_made code marks (plain keep1) (after_keep1 turn) p4.0 n p4.1 last p4.3 in
-      let p6 = one_made code marks pd (keep2 turn) p5.0 n p5.1 last p5.3 in
+  pub first_made : (q n free last : ℕ) → Made code marks (first_piece q free) q n free last → FirstMade q n free last
+  first_made q n free last made =
+      let p1 = both_made code marks (plain (number_orders s.layout item i)) after_number q n free last made in
+      let p2 = both_made code marks pa after_a p1.0 n p1.1 last p1.3 in
+      let p3 = both_made code marks (plain (set_orders s.layout s.line item)) after_set p2.0 n p2.1 last p2.3 in
+      let p4 = both_made code marks pb after_b p3.0 n p3.1 last p3.3 in
+      let p5 = both_made code marks (plain keep1) after_keep1 p4.0 n p4.1 last p4.3 in
+      let p6 = one_made code marks pd keep2 p5.0 n p5.1 last p5.3 in
       record { n1 = p1.0; numbers = p1.2.0; m1 = p1.1; n2 = p2.0; m2 = p2.1; a_made = p2.2; n3 = p3.0; sets = p3.2.0; m3 = p3.1; n4 = p4.0; m4 = p4.1; b_made = p4.2; n5 = p5.0; keeps1 = p5.2.0; m5 = p5.1; n6 = p6.0; m6 = p6.1; d_made = p6.2; keeps2 = p6.3 }
+
+module _ (code : List Order) (marks : List ℕ) (s : Scope) (who : Option ℕ) (answer : ℕ) (item f : ℕ) (a b d : Expr) (i : ℕ) where
+  abbrev step_turn : (body mark : ℕ) → List Order
+  step_turn body mark = item_order s.layout item 0 ∷ order.PutVariable s.line ∷ order.Exhausted mark ∷ order.Jump body ∷ []
+
+  -- the values, behind which the turn is some jumps away
+  abbrev to_turn : ℕ → List Order
+  to_turn turn = order.Jump turn ∷ []
+
+  abbrev values : ℕ → Piece
+  values turn = first_piece code marks s who answer item f a b d i (to_turn turn)
 
   pub record StepMade (body q n free last : ℕ) : Type 0 where
     pub bump : ℕ
     pub first_last : ℕ
-    pub first : FirstMade free q bump (free + 1 + 1) first_last
+    pub first : FirstMade code marks s who answer item f a b d i (to_turn free) q bump (free + 1 + 1) first_last
     pub bump_is : slice_get marks (free + 1) ≡ Some bump
     pub bump_marks : slice_get code bump ≡ Some order.Mark
     pub bump_start : ℕ
@@ -156,17 +165,17 @@ module _ (code : List Order) (marks : List ℕ) (s : Scope) (who : Option ℕ) (
 
   step_made : (set body q n free last : ℕ) → Made code marks (element_piece s item f set body i (element.Step a b d) q free) q n free last → StepMade body q n free last
   step_made set body q n free last made =
-      let middle = λ (turn : ℕ). followed_by (with_end (λ bump. first_piece turn)) (plain (bump_orders s.layout s.line item)) in
+      let middle = λ (turn : ℕ). followed_by (with_end (λ bump. values turn)) (plain (bump_orders s.layout s.line item)) in
       let second = λ (mark : ℕ). plain (step_turn body mark) in
       let whole = both_made code marks (with_end middle) (with_end second) q n free last made in
       let turn = end_made code marks middle q whole.0 free whole.1 whole.2 in
-      let halves = both_made code marks (with_end (λ bump. first_piece free)) (plain (bump_orders s.layout s.line item)) q turn.0 (free + 1) whole.1 turn.1 in
-      let bumped = end_made code marks (λ bump. first_piece free) q halves.0 (free + 1) halves.1 halves.2 in
+      let halves = both_made code marks (with_end (λ bump. values free)) (plain (bump_orders s.layout s.line item)) q turn.0 (free + 1) whole.1 turn.1 in
+      let bumped = end_made code marks (λ bump. values free) q halves.0 (free + 1) halves.1 halves.2 in
       let end = end_made code marks second whole.0 n whole.1 last whole.3 in
       record {
         bump = bumped.0;
         first_last = halves.1;
-        first = first_made free q bumped.0 (free + 1 + 1) halves.1 bumped.1;
+        first = first_made code marks s who answer item f a b d i (to_turn free) q bumped.0 (free + 1 + 1) halves.1 bumped.1;
         bump_is = bumped.4;
         bump_marks = bumped.2;
         bump_start = halves.0;
@@ -185,16 +194,16 @@ module _ (code : List Order) (marks : List ℕ) (s : Scope) (who : Option ℕ) (
         end_next = end.3;
       }
 
-two_of_four : 2 < 4
+pub two_of_four : 2 < 4
 two_of_four = omega arith
 
-one_of_four : 1 < 4
+pub one_of_four : 1 < 4
 one_of_four = omega arith
 
-three_of_four : 3 < 4
+pub three_of_four : 3 < 4
 three_of_four = omega arith
 
-none_of_four : 0 < 4
+pub none_of_four : 0 < 4
 none_of_four = omega arith
 
 module _ (c : Compiled) (at_sites : (g : ℕ) (u : Rattle.cw_unit.specs.declared.unit.Unit.Unit) (who : Option ℕ) → c.places g u who ≡ sites c.orders_for u who (c.has_words g u who)) (t : Moment c) (x : Loop) (k : Work) (n j : ℕ) (fits_in : suc j ≤ 64) (after : Via (code c t) (marks c t) j n false (λ y m. At c t y m false k)) where
@@ -212,16 +221,16 @@ module _ (c : Compiled) (at_sites : (g : ℕ) (u : Rattle.cw_unit.specs.declared
 
   -- what the parts of the loop carry out
   element_carried : (q i : ℕ) → ElementSite c.orders_for t.unit who (has_words c t) q i x n → At c t q false false (Element i x k)
-  element_carried q i site = (n, j, subst (λ p. p.ElementAt q i x n) (sym (at_sites (here_in c t) t.unit who)) site, fits_in, refl, after)
+  element_carried q i site = (n, j, subst (λ p. p.ElementAt q i x n) (sym (at_sites (here_in c t) t.unit who)) (inl site), fits_in, refl, after)
 
   turn_carried : (q i : ℕ) → TurnSite c.orders_for t.unit who (has_words c t) q i x n → At c t q false false (Turn i x k)
-  turn_carried q i site = (n, j, subst (λ p. p.TurnAt q i x n) (sym (at_sites (here_in c t) t.unit who)) site, fits_in, refl, after)
+  turn_carried q i site = (n, j, subst (λ p. p.TurnAt q i x n) (sym (at_sites (here_in c t) t.unit who)) (inl site), fits_in, refl, after)
 
   bump_carried : (q i : ℕ) → BumpSite c.orders_for t.unit who (has_words c t) q i x n → At c t q false false (Bump i x k)
   bump_carried q i site = (n, j, subst (λ p. p.BumpAt q i x n) (sym (at_sites (here_in c t) t.unit who)) site, fits_in, refl, after)
 
   on_carried : (q : ℕ) → OnSite c.orders_for t.unit who (has_words c t) q x n → At c t q false false (On x k)
-  on_carried q site = (n, j, subst (λ p. p.OnAt q x n) (sym (at_sites (here_in c t) t.unit who)) site, fits_in, refl, after)
+  on_carried q site = (n, j, subst (λ p. p.OnAt q x n) (sym (at_sites (here_in c t) t.unit who)) (inl site), fits_in, refl, after)
 
   -- the body, behind its mark
   body_start : (site : Site) → At c t (site.head + 1) false false (Run x.body (On x k))
@@ -277,7 +286,7 @@ module _ (c : Compiled) (at_sites : (g : ℕ) (u : Rattle.cw_unit.specs.declared
         progress = goes.progress;
       }
 
-  begins_element : (i : ℕ) (e : Felem) (q m : ℕ) (w : Words) → IsTrue (has_words c t x.item 4) → i < 32768 → element_at x.elements i ≡ Some e → Stands (code c t) q (number_orders (layout c t) x.item i) m → At c t m false false (element_work e i x k) → Facts c t (Element i x k) w → Steps c t (Element i x k) q false w
+  pub begins_element : (i : ℕ) (e : Felem) (q m : ℕ) (w : Words) → IsTrue (has_words c t x.item 4) → i < 32768 → element_at x.elements i ≡ Some e → Stands (code c t) q (number_orders (layout c t) x.item i) m → At c t m false false (element_work e i x k) → Facts c t (Element i x k) w → Steps c t (Element i x k) q false w
   begins_element i e q m w words small is stands carried facts =
       done_by c t (Element i x k) (element_work e i x k) x.line q m false false (number_orders (layout c t) x.item i) w false (Changed (with_memory w (set w.memory (address_at (source c) t.segment t.acts x.item + 3) (pos i)))) stands (number_light i) facts
       (ap (λ o. element_step (source c) o t.segment i x k t.acts w) is)
@@ -287,6 +296,30 @@ module _ (c : Compiled) (at_sites : (g : ℕ) (u : Rattle.cw_unit.specs.declared
 
   value_at : (e : Expr) (q m free last : ℕ) (k' : Work) → IsTrue (is_expression t.unit (has_words c t) e x.scale most_levels) → Made (code c t) (marks c t) (expression_piece here_scope e x.scale q free) q m free last → At c t m true false k' → At c t q false false (Eval e x.scale x.line k')
   value_at e q m free last k' b made carried = (m, 64, 0, free, last, b, made, (let z : 0 + 64 ≤ 64 = omega arith in z), refl, at_close c t m true false k' carried)
+
+  -- the values of a STEP element, behind which the turn stands
+  module _ (words : IsTrue (has_words c t x.item 4)) (i : ℕ) (a b d : Expr) (tail : List Order) (q m free last : ℕ) (made : FirstMade (code c t) (marks c t) here_scope who answer x.item x.scale a b d i tail q m free last)
+      (behind : (y : ℕ) → Stands (code c t) y tail m → Leads_to c t y false false (Turn i x k)) (built : IsTrue (is_element t.unit (has_words c t) who answer x.scale (element.Step a b d))) where
+    abbrev keep_limit : Work
+    keep_limit = KeepAt 2 x (Turn i x k)
+
+    abbrev keep_step : Work
+    keep_step = KeepAt 1 x (Eval d x.scale x.line keep_limit)
+
+    at_limit : At c t made.n6 true false keep_limit
+    at_limit = (made.n6 + 1 + 1 + 1, words, two_of_four, (made.keeps2.0, (made.keeps2.1.0, (made.keeps2.1.1.0, refl))), refl, behind (made.n6 + 1 + 1 + 1) made.keeps2.1.1.1)
+
+    at_step : IsTrue (is_expression t.unit (has_words c t) d x.scale most_levels) → At c t made.n4 true false keep_step
+    at_step bd = (made.n5, words, one_of_four, made.keeps1, refl, at_once c t made.n5 false false (Eval d x.scale x.line keep_limit) (value_at d made.n5 made.n6 made.m5 made.m6 keep_limit bd made.d_made at_limit))
+
+    at_set : IsTrue (is_expression t.unit (has_words c t) b x.scale most_levels) → IsTrue (is_expression t.unit (has_words c t) d x.scale most_levels) → At c t made.n2 true false (SetVar x (Eval b x.scale x.line keep_step))
+    at_set bb bd = (made.n3, words, made.sets, refl, at_once c t made.n3 false false (Eval b x.scale x.line keep_step) (value_at b made.n3 made.n4 made.m3 made.m4 keep_step bb made.b_made (at_step bd)))
+
+    pub step_carried : At c t made.n1 false false (element_work (element.Step a b d) i x k)
+    step_carried =
+        let b1 = both (is_expression t.unit (has_words c t) a x.scale most_levels) (is_expression t.unit (has_words c t) b x.scale most_levels && is_expression t.unit (has_words c t) d x.scale most_levels) built in
+        let b2 = both (is_expression t.unit (has_words c t) b x.scale most_levels) (is_expression t.unit (has_words c t) d x.scale most_levels) b1.1 in
+        value_at a made.n1 made.n2 made.m1 made.m2 (SetVar x (Eval b x.scale x.line keep_step)) b1.0 made.a_made (at_set b2.0 b2.1)
 
   -- where the way on leads, for an element of each kind: at its way mark
   abbrev Way : Site → ℕ → Felem → Type 0
@@ -361,33 +394,16 @@ module _ (c : Compiled) (at_sites : (g : ℕ) (u : Rattle.cw_unit.specs.declared
       at_bump : At c t made.bump_start false false (Bump i x k)
       at_bump = bump_carried made.bump_start i bumping
 
-      abbrev keep_limit : Work
-      keep_limit = KeepAt 2 x (Turn i x k)
-
-      abbrev keep_step : Work
-      keep_step = KeepAt 1 x (Eval d x.scale x.line keep_limit)
-
-      at_limit : At c t made.first.n6 true false keep_limit
-      at_limit = (made.first.n6 + 1 + 1 + 1, site.words, two_of_four, (made.first.keeps2.0, (made.first.keeps2.1.0, (made.first.keeps2.1.1.0, refl))), refl, (made.turn_start, false, leap made.first.keeps2.1.1.1.0 made.turn_is (let z : 64 ≡ suc 63 = refl in z) (past made.turn_marks (here made.turn_next refl)), at_turn))
-
-      at_step : IsTrue (is_expression t.unit (has_words c t) d x.scale most_levels) → At c t made.first.n4 true false keep_step
-      at_step bd = (made.first.n5, site.words, one_of_four, made.first.keeps1, refl, at_once c t made.first.n5 false false (Eval d x.scale x.line keep_limit) (value_at d made.first.n5 made.first.n6 made.first.m5 made.first.m6 keep_limit bd made.first.d_made at_limit))
-
-      at_set : IsTrue (is_expression t.unit (has_words c t) b x.scale most_levels) → IsTrue (is_expression t.unit (has_words c t) d x.scale most_levels) → At c t made.first.n2 true false (SetVar x (Eval b x.scale x.line keep_step))
-      at_set bb bd = (made.first.n3, site.words, made.first.sets, refl, at_once c t made.first.n3 false false (Eval b x.scale x.line keep_step) (value_at b made.first.n3 made.first.n4 made.first.m3 made.first.m4 keep_step bb made.first.b_made (at_step bd)))
-
-      at_first : IsTrue (is_expression t.unit (has_words c t) a x.scale most_levels) → IsTrue (is_expression t.unit (has_words c t) b x.scale most_levels) → IsTrue (is_expression t.unit (has_words c t) d x.scale most_levels) → At c t made.first.n1 false false (element_work (element.Step a b d) i x k)
-      at_first ba bb bd = value_at a made.first.n1 made.first.n2 made.first.m1 made.first.m2 (SetVar x (Eval b x.scale x.line keep_step)) ba made.first.a_made (at_set bb bd)
+      to_turning : (y : ℕ) → Stands (code c t) y (order.Jump (site.free i) ∷ []) made.bump → Leads_to c t y false false (Turn i x k)
+      to_turning y stands = (made.turn_start, false, leap stands.0 made.turn_is (let z : 64 ≡ suc 63 = refl in z) (past made.turn_marks (here made.turn_next refl)), at_turn)
 
       step_way : Way site i (element.Step a b d)
       step_way = (made.bump, made.bump_is, (made.bump_start, false, past made.bump_marks (here made.bump_next refl), at_bump))
 
     of_step : (a b d : Expr) → element_at x.elements i ≡ Some (element.Step a b d) → IsTrue (is_expression t.unit (has_words c t) a x.scale most_levels && (is_expression t.unit (has_words c t) b x.scale most_levels && is_expression t.unit (has_words c t) d x.scale most_levels)) → Begin site i (element.Step a b d) × Way site i (element.Step a b d)
     of_step a b d is built =
-        let b1 = both (is_expression t.unit (has_words c t) a x.scale most_levels) (is_expression t.unit (has_words c t) b x.scale most_levels && is_expression t.unit (has_words c t) d x.scale most_levels) built in
-        let b2 = both (is_expression t.unit (has_words c t) b x.scale most_levels) (is_expression t.unit (has_words c t) d x.scale most_levels) b1.1 in
         let made = step_made (code c t) (marks c t) here_scope who answer x.item x.scale a b d i site.set site.body (site.place i) (site.place (i + 1)) (site.free i) (site.free (i + 1)) (site.each i (element.Step a b d) is) in (
-          λ w facts. begins_element i (element.Step a b d) (site.place i) made.first.n1 w site.words small is made.first.numbers (at_first a b d made b1.0 b2.0 b2.1) facts,
+          λ w facts. begins_element i (element.Step a b d) (site.place i) made.first.n1 w site.words small is made.first.numbers (step_carried site.words i a b d (order.Jump (site.free i) ∷ []) (site.place i) made.bump (site.free i + 1 + 1) made.first_last made.first (to_turning a b d made) built) facts,
           step_way a b d made,
         )
 
@@ -432,10 +448,6 @@ module _ (c : Compiled) (at_sites : (g : ℕ) (u : Rattle.cw_unit.specs.declared
   abbrev at_state : (q : ℕ) → (l : Bool) → Words → OrderState
   at_state q l w = state g q l t.calls_below w Running
 
-  run_on : (os : List Order) (q m : ℕ) (l l' : Bool) (w : Words) → Stands (code c t) q os m → IsTrue (all_silent os) → OnLine x.line os → loaded_through os l ≡ Some l' → 2 * length os + stack_words w.operands t.calls_below ≤ c.room → Ran (target c) g t.calls_below x.line q m l l' os w (run c t os w)
-  run_on os q m l l' w stands quiet at turns roomy =
-      run_through (target c) g t.calls_below (code c t) (order_here c t.segment t.acts t.calls_below t.unit t.unit_is) x.line os q m l l' w stands quiet at turns (let z : total_growth os + stack_words w.operands t.calls_below ≤ c.room = omega (arith, roomy, growth_within os) in z)
-
   abbrev loop_word : (n : ℕ) → Words → ℤ
   loop_word i w = word_at w.memory (address_at (source c) t.segment t.acts x.item + i)
 
@@ -470,7 +482,7 @@ module _ (c : Compiled) (at_sites : (g : ℕ) (u : Rattle.cw_unit.specs.declared
       read_on : Path (Seen c t.segment t.acts t.calls_below t.unit t.unit_is w) (B c) weight (at_state site.on false w) (at_state p true v)
       read_on =
           (subst (Ran (target c) g t.calls_below x.line site.on p false true (item_order (layout c t) x.item 3 ∷ order.Load ∷ []) w) read
-          (run_on (item_order (layout c t) x.item 3 ∷ order.Load ∷ []) site.on p false true w (site.goes_on.0, (site.goes_on.1.0, refl)) (silent_and (is_silent (item_order (layout c t) x.item 3)) true (item_silent (layout c t) x.item 3) refl) (item_tells x.line (layout c t) x.item 3, (tt, tt)) (ap (λ y. through_all y (order.Load ∷ [])) (item_loads (layout c t) x.item 3)) (let y : 2 * 2 + stack_words w.operands t.calls_below ≤ c.room = omega (arith, facts.room) in y))).0
+          (ran_on c t x.line (item_order (layout c t) x.item 3 ∷ order.Load ∷ []) site.on p false true w (site.goes_on.0, (site.goes_on.1.0, refl)) (silent_and (is_silent (item_order (layout c t) x.item 3)) true (item_silent (layout c t) x.item 3) refl) (item_tells x.line (layout c t) x.item 3, (tt, tt)) (ap (λ y. through_all y (order.Load ∷ [])) (item_loads (layout c t) x.item 3)) (let y : 2 * 2 + stack_words w.operands t.calls_below ≤ c.room = omega (arith, facts.room) in y))).0
 
       goes : (y : ℕ) (k' : Work) → next_element (element_at x.elements i) i x k ≡ k' → act (target c) (action_of (target c) g t.calls_below (order.LoopWay site.ways)) g p false t.calls_below v ≡ at_state y false w → Leads_to c t y false false k' → Steps c t (On x k) site.on false w
       goes y k' e f carried =
@@ -482,8 +494,8 @@ module _ (c : Compiled) (at_sites : (g : ℕ) (u : Rattle.cw_unit.specs.declared
           (weaken seen (Quiet (shown (config c t (On x k) w)) (shown (configuration t.segment k' t.acts w Running))) (B c) (weight + 12) (at_state site.on false w) (at_state y false w) (λ o h. (inl h.0, h.1)) all)
           (let y' : weight + 12 ≤ 159 = omega (arith, heavy.1) in y') tt carried (inl (let y' : 0 < weight + 12 = omega arith in y'))
 
-      way : (o : Option ℕ) → mark_of_number site.ways (pos i) ≡ o → act (target c) (action_of (target c) g t.calls_below (order.LoopWay site.ways)) g p false t.calls_below v ≡ branch (target c) (to_mark_in o w) g p false t.calls_below v
-      way o e = ap (λ m. branch (target c) (to_mark_in m w) g p false t.calls_below v) (same_way site.ways z ∙ e)
+      way : (o : Option ℕ) → mark_of_number site.ways (pos i) ≡ o → act (target c) (action_of (target c) g t.calls_below (order.LoopWay site.ways)) g p false t.calls_below v ≡ branch (target c) 0 (to_mark_in o w) g p false t.calls_below v
+      way o e = ap (λ m. branch (target c) 0 (to_mark_in m w) g p false t.calls_below v) (same_way site.ways z ∙ e)
 
       by_element : (e : Option Felem) → element_at x.elements i ≡ e → Steps c t (On x k) site.on false w
       by_element None is =
@@ -513,7 +525,7 @@ module _ (c : Compiled) (at_sites : (g : ℕ) (u : Rattle.cw_unit.specs.declared
       p = q + 1 + 1
 
       ran : Ran (target c) g t.calls_below x.line q p false true os w (run c t os w)
-      ran = run_on os q p false true w (stands.0, (stands.1.0, refl))
+      ran = ran_on c t x.line os q p false true w (stands.0, (stands.1.0, refl))
           (silent_and (is_silent (item_order (layout c t) x.item 0)) true (item_silent (layout c t) x.item 0) refl)
           (item_tells x.line (layout c t) x.item 0, (refl, tt)) (ap (λ y'. through_all y' (order.PutVariable x.line ∷ [])) (item_loads (layout c t) x.item 0))
           (let y' : 2 * 2 + stack_words w.operands t.calls_below ≤ c.room = omega (arith, facts.room) in y')
@@ -559,8 +571,8 @@ module _ (c : Compiled) (at_sites : (g : ℕ) (u : Rattle.cw_unit.specs.declared
           (weaken seen (Quiet (shown (config c t (Turn i x k) w)) (shown (configuration t.segment k' t.acts w Running))) (B c) (cost + 20) (at_state q false w) (at_state y' false w) (λ o h. (inl h.0, h.1)) all)
           light tt carried (inl (let v : 0 < cost + 20 = omega arith in v))
 
-      chooses : (b : Bool) → is_past (word_at w.memory (a + 1)) value (word_at w.memory (a + 2)) ≡ b → act (target c) (action_of (target c) g t.calls_below (order.Exhausted mark)) g p false t.calls_below u ≡ branch (target c) (to_mark_if b mark w) g p false t.calls_below u
-      chooses b e = ap (λ d. branch (target c) (way_past_limit d mark value a w) g p false t.calls_below u) in_area ∙ ap (λ d. branch (target c) (to_mark_if d mark w) g p false t.calls_below u) e
+      chooses : (b : Bool) → is_past (word_at w.memory (a + 1)) value (word_at w.memory (a + 2)) ≡ b → act (target c) (action_of (target c) g t.calls_below (order.Exhausted mark)) g p false t.calls_below u ≡ branch (target c) 0 (to_mark_if b mark w) g p false t.calls_below u
+      chooses b e = ap (λ d. branch (target c) 0 (way_past_limit d mark value a w) g p false t.calls_below u) in_area ∙ ap (λ d. branch (target c) 0 (to_mark_if d mark w) g p false t.calls_below u) e
 
       picks : (b : Bool) → is_below z c.limits.area ≡ true → is_past (word_at w.memory (a + 1)) value (word_at w.memory (a + 2)) ≡ b → next c t (Turn i x k) w ≡ config c t (pick b next_on body_on) w
       picks b is e = ap (λ d. turn_step (source c) d t.segment a i x (Turn i x k) k t.acts w) is ∙ ap (λ d. config c t (pick d next_on body_on) w) e

@@ -1,25 +1,31 @@
 -- The parts of a FOR stand where its orders do.
-use Rattle.std.proofs.Common.{◌≡◌, ℕ, zero, suc, ◌+◌, ◌<◌, pos, List, [], ◌∷◌, ◌++◌, length, Bool, false, Option, Some, None, refl, sym, ap, ap₂, ◌∙◌, subst, arith, append-nil}
-use Rattle.std.specs.Prelude.{slice_get, IsTrue}
+use Rattle.std.proofs.Common.{◌≡◌, ◌⊎◌, inl, inr, ℕ, zero, suc, ◌+◌, ◌<◌, ◌≤◌, pos, List, [], ◌∷◌, ◌++◌, length, Bool, true, false, Option, Some, None, refl, sym, ap, ap₂, ◌∙◌, subst, arith, append-nil}
+use Rattle.std.specs.Prelude.{slice_get, IsTrue, ◌&&◌}
+use Rattle.std.proofs.lemmas.Bool.{false≢true}
 use Rattle.std.proofs.lemmas.Option.{none-some, same_Some}
 use Rattle.cw_unit.specs.declared.unit.Unit.{Unit as SourceUnit}
 use Rattle.cw_unit.specs.declared.unit.Felem.{Felem}
 use Rattle.cw_unit.specs.declared.unit.Felem.TheVariants as element
+use Rattle.cw_unit.specs.declared.unit.Expr.{Expr}
 use Rattle.cw_unit.specs.declared.unit.Ref.{Ref, out-Ref}
+use Rattle.cw_unit.specs.declared.layout.Layout.{Layout}
 use Rattle.cw_unit.specs.declared.unit.Stmt.{Stmt}
-use Rattle.cw_unit.specs.Work.{loop_of, element_at}
+use Rattle.cw_unit.specs.Work.{Loop, loop_of, element_at}
 use Rattle.cw_order.specs.declared.order.Order.{Order}
 use Rattle.cw_order.specs.declared.order.Order.TheVariants as order
 use Rattle.cw_order.specs.declared.order.Orders.{Orders}
 use Rattle.cw_order.specs.OrderChanges.{mark_of_number}
-use Rattle.cw_gen_expr.specs.Pieces.{plain, followed_by, with_end}
-use Rattle.cw_gen_expr.specs.ReferenceExpressions.{at_line, Scope, item_order}
-use Rattle.cw_gen_expr.proofs.NoLabels.{value_unlabelled, condition_unlabelled}
+use Rattle.cw_gen_expr.specs.Pieces.{Piece, plain, followed_by, with_end}
+use Rattle.cw_gen_expr.specs.ReferenceExpressions.{at_line, Scope, item_order, reference_of}
+use Rattle.cw_gen_expr.specs.BuiltExpressions.{built_reference}
+use Rattle.cw_gen_expr.proofs.NoLabels.{value_unlabelled, condition_unlabelled, reference_unlabelled}
 use Rattle.cw_carry.proofs.Expressions.Standing.{Stands, ends_at, Made, both_made, end_made}
 use Rattle.cw_gen_expr.specs.ReferenceEntries.{scope_of}
-use Rattle.cw_gen_unit.specs.ReferenceStatements.{set_orders, element_piece, elements_piece, element_ways, way_mark, with_middle, ring_piece, statement_piece}
-use Rattle.cw_gen_unit.specs.BuiltStatements.{is_statement, are_elements}
-use Rattle.cw_carry.proofs.Statements.Sites.{LoopSite}
+use Rattle.cw_gen_unit.specs.ReferenceStatements.{set_orders, element_piece, elements_piece, element_ways, way_mark, with_middle, ring_piece, keep_orders, only_step, loop_place, simple_beginning, first_turn, stepped_piece, elements_loop, begun_loop, statement_piece}
+use Rattle.cw_gen_unit.specs.declared.simple.SimpleStep.{SimpleStep}
+use Rattle.cw_gen_unit.specs.SimpleLoops.{simple_step}
+use Rattle.cw_gen_unit.specs.BuiltStatements.{is_statement, is_element, are_elements}
+use Rattle.cw_carry.proofs.Statements.Sites.{StatementSite, LoopSite, ElementSite, OnSite, SteppedSite, FirstSite, NextSite, BeginningSite}
 use Rattle.cw_gen_unit.specs.ReferenceUnits.{answer_of}
 
 nothing : {a b : List (ℕ × ℕ)} → a ≡ [] → b ≡ [] → a ++ b ≡ []
@@ -188,7 +194,136 @@ module _ (orders_for : SourceUnit → Orders) (u : SourceUnit) (who : Option ℕ
         s2.4 ∙ ap₂ (λ a b. a ++ b) (nothing (nothing (elements_unlabelled (at_line line scope) who answer item f set start 1 es _ _) refl) refl) (append-nil (stmt s2.0 s2.1).labels) ∙ ap (λ x. (stmt x s2.1).labels) (sym s3.3),
       )
 
-  pub ring_site : (line item : ℕ) (r : Ref) (es : List Felem) (b : Stmt) (q n free last : ℕ) → IsTrue (has_words item 4) → length es < 32767 → IsTrue (are_elements u has_words who answer (out-Ref r).f es) → IsTrue (is_statement u has_words who answer b 64) → Made code marks (ring_piece (at_line line scope) item (out-Ref r).f es (statement_piece scope who answer b) q free) q n free last → (site : LoopSite orders_for u who has_words (loop_of line item r es b) n) × (q ≡ site.place 1)
-  ring_site line item r es b q n free last words few built body_built made =
-      let x = ring_whole line item r es b q n free last words few built body_built made in
-      (x.0, x.1)
+  -- ---- a FOR of one STEP element
+
+  only_is : (es : List Felem) (e : Expr × Expr × Expr) → only_step es ≡ Some e → es ≡ element.Step e.0 e.1 e.2 ∷ []
+  only_is [] e h = absurd (none-some e h)
+  only_is (element.One a ∷ es) e h = absurd (none-some e h)
+  only_is (element.While a d ∷ es) e h = absurd (none-some e h)
+  only_is (element.Step a b d ∷ []) e h = ap (λ x. element.Step x.0 x.1 x.2 ∷ []) (same_Some (a, b, d) e h)
+  only_is (element.Step a b d ∷ x ∷ es) e h = absurd (none-some e h)
+
+  simple_only : (y : Layout) (item : ℕ) (r : Ref) (es : List Felem) (x : SimpleStep) → simple_step y item r es ≡ Some x → (e : Expr × Expr × Expr) × (only_step es ≡ Some e)
+  simple_only y item r [] x h = absurd (none-some x h)
+  simple_only y item r (element.One a ∷ es) x h = absurd (none-some x h)
+  simple_only y item r (element.While a d ∷ es) x h = absurd (none-some x h)
+  simple_only y item r (element.Step a b d ∷ []) x h = ((a, b, d), refl)
+  simple_only y item r (element.Step a b d ∷ e ∷ es) x h = absurd (none-some x h)
+
+  first_unlabelled : (h : Scope) (item f : ℕ) (a b d : Expr) (end q free : ℕ) → (first_turn h item f a b d end q free).labels ≡ []
+  first_unlabelled h item f a b d end q free = nothing (value_unlabelled h a f _ _) (nothing (value_unlabelled h b f _ _) (nothing (value_unlabelled h d f _ _) refl))
+
+  both_true : (a b : Bool) → IsTrue (a && b) → IsTrue a
+  both_true true b h = refl
+  both_true false b h = absurd (false≢true h)
+
+  -- the body, and what stands behind it
+  pub record BodyStands (x : Loop) (next : ℕ) (labels : List (ℕ × ℕ)) : Type 0 where
+    pub head : ℕ
+    pub on : ℕ
+    pub body_at : StatementSite orders_for u who has_words (head + 1) x.body 64 on
+    pub goes_on : OnSite orders_for u who has_words on x next ⊎ NextSite orders_for u who has_words on x next
+    pub labels_are : labels ≡ (statement_piece scope who answer x.body (head + 1) body_at.0).labels
+
+  -- the address of the control variable, which is kept, and the elements
+  abbrev pub ByAddress : Ref → Loop → (q free next : ℕ) → Type 0
+  ByAddress r x q free next =
+      (y : ℕ) × (m : ℕ) × (z : ℕ) × Made code marks ((reference_of (at_line x.line scope) r).address q free) q y free m × Stands code y (keep_orders scope.layout x.item 0) z × (ElementSite orders_for u who has_words z 1 x next ⊎ FirstSite orders_for u who has_words z 1 x next)
+
+  module _ (line item : ℕ) (r : Ref) (es : List Felem) (b : Stmt) (n : ℕ) (words : IsTrue (has_words item 4)) (few : length es < 32767) (built : IsTrue (are_elements u has_words who answer (out-Ref r).f es)) (body_built : IsTrue (is_statement u has_words who answer b 64)) where
+    abbrev x : Loop
+    x = loop_of line item r es b
+
+    abbrev here_scope : Scope
+    here_scope = at_line line scope
+
+    abbrev stmt : Piece
+    stmt = statement_piece scope who answer b
+
+    stepped_whole : (beginning : ℕ → Piece) (e : Expr × Expr × Expr) (q free last : ℕ) → only_step es ≡ Some e → ((end q' free' : ℕ) → (beginning end q' free').labels ≡ []) → Made code marks (stepped_piece here_scope item beginning stmt q free) q n free last
+        → (site : SteppedSite orders_for u who has_words x n) × (e ≡ (site.first, site.step, site.limit)) × (y : ℕ) × (z : ℕ) × Made code marks (beginning site.end q y) q site.head y z × BodyStands x n (stepped_piece here_scope item beginning stmt q free).labels
+    stepped_whole beginning e q free last only none made =
+        let start = free + 1 in
+        let on = λ (mark : ℕ). order.NextStep (loop_place scope.layout item) line mark ∷ [] in
+        let second = λ (mark : ℕ). followed_by stmt (plain (on mark)) in
+        let s1 = end_made code marks (λ end. with_middle (λ mark. beginning end) second) q n free last made in
+        let s2 = both_made code marks (with_end (λ mark. beginning free)) (second start) q s1.0 start last s1.1 in
+        let s3 = end_made code marks (λ mark. beginning free) q s2.0 start s2.1 s2.2 in
+        let s4 = both_made code marks stmt (plain (on start)) s2.0 s1.0 s2.1 last s2.3 in
+        let one = only_is es e only in
+        let all = subst (λ l. IsTrue (are_elements u has_words who answer (out-Ref r).f l)) one built in
+        let body_at : StatementSite orders_for u who has_words (s3.0 + 1) b 64 s4.0 = (s2.1, s4.1, body_built, subst (λ z. Made code marks (stmt z s2.1) z s4.0 s2.1 s4.1) (sym s3.3) s4.2) in
+        let site : SteppedSite orders_for u who has_words x n = record {
+          first = e.0;
+          step = e.1;
+          limit = e.2;
+          elements = one;
+          words = words;
+          built = both_true (is_element u has_words who answer (out-Ref r).f (element.Step e.0 e.1 e.2)) true all;
+          body = start;
+          end = free;
+          head = s3.0;
+          head_is = s3.4;
+          head_marks = s3.2;
+          on = s4.0;
+          body_at = body_at;
+          out = s1.0;
+          goes_on = s4.3.0;
+          end_is = s1.4;
+          out_marks = s1.2;
+          next_is = s1.3;
+        } in (
+          site,
+          refl,
+          start + 1,
+          s2.1,
+          s3.1,
+          record {
+            head = s3.0;
+            on = s4.0;
+            body_at = body_at;
+            goes_on = inr (site, refl);
+            labels_are = s2.4 ∙ ap₂ (λ l m. l ++ m) (none free q (start + 1)) (append-nil (stmt s2.0 s2.1).labels) ∙ ap (λ z. (stmt z s2.1).labels) (sym s3.3);
+          },
+        )
+
+    -- from its elements on
+    elements_whole : (o : Option (Expr × Expr × Expr)) (q free last : ℕ) → only_step es ≡ o → Made code marks (elements_loop here_scope o item (out-Ref r).f es stmt q free) q n free last
+        → (ElementSite orders_for u who has_words q 1 x n ⊎ FirstSite orders_for u who has_words q 1 x n) × BodyStands x n (elements_loop here_scope o item (out-Ref r).f es stmt q free).labels
+    elements_whole None q free last only made =
+        let ring = ring_whole line item r es b q n free last words few built body_built made in
+        let site = ring.0 in
+        (inl (site, ring.1, (let z : 1 ≤ 1 = omega arith in z), (let z : 1 ≤ length es + 1 = omega arith in z)), record { head = site.head; on = site.on; body_at = site.body_at; goes_on = inl (site, refl); labels_are = ring.2 })
+    elements_whole (Some e) q free last only made =
+        let f = (out-Ref r).f in
+        let whole = stepped_whole (first_turn here_scope item f e.0 e.1 e.2) e q free last only (first_unlabelled here_scope item f e.0 e.1 e.2) made in
+        let site = whole.0 in
+        (inr (site, refl, whole.2, whole.3, subst (λ d. Made code marks (first_turn here_scope item f d.0 d.1 d.2 site.end q whole.2) q site.head whole.2 whole.3) whole.1 whole.4), whole.5)
+
+    begun_whole : (o : Option SimpleStep) (q free last : ℕ) → simple_step scope.layout item r es ≡ o → IsTrue (built_reference u has_words r).good → Made code marks (begun_loop here_scope o item r es stmt q free) q n free last
+        → (BeginningSite orders_for u who has_words q r x n ⊎ ByAddress r x q free n) × BodyStands x n (begun_loop here_scope o item r es stmt q free).labels
+    begun_whole None q free last is good made =
+        let f = (out-Ref r).f in
+        let keep = keep_orders scope.layout item 0 in
+        let elements = elements_loop here_scope (only_step es) item f es stmt in
+        let address = both_made code marks (reference_of here_scope r).address (followed_by (plain keep) elements) q n free last made in
+        let kept = both_made code marks (plain keep) elements address.0 n address.1 last address.3 in
+        let whole = elements_whole (only_step es) kept.0 kept.1 last refl kept.3 in
+        let body = whole.1 in (
+          inr (address.0, address.1, kept.0, address.2, kept.2.0, whole.0),
+          record {
+            head = body.head;
+            on = body.on;
+            body_at = body.body_at;
+            goes_on = body.goes_on;
+            labels_are = address.4 ∙ ap₂ (λ l m. l ++ m) (reference_unlabelled here_scope r q free) (kept.4 ∙ body.labels_are);
+          },
+        )
+    begun_whole (Some y) q free last is good made =
+        let e = simple_only scope.layout item r es y is in
+        let whole = stepped_whole (λ end. plain (simple_beginning scope.layout item y end)) e.0 q free last e.1 (λ end q' free'. refl) made in
+        (inl (whole.0, y, good, refl, is, whole.4.0), whole.5)
+
+    pub loop_whole : (q free last : ℕ) → IsTrue (built_reference u has_words r).good → Made code marks (begun_loop here_scope (simple_step scope.layout item r es) item r es stmt q free) q n free last
+        → (BeginningSite orders_for u who has_words q r x n ⊎ ByAddress r x q free n) × BodyStands x n (begun_loop here_scope (simple_step scope.layout item r es) item r es stmt q free).labels
+    loop_whole q free last good made = begun_whole (simple_step scope.layout item r es) q free last refl good made

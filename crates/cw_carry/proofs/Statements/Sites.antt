@@ -1,9 +1,12 @@
 -- Where statements, jumps and the parts of loops stand.
-use Rattle.std.proofs.Common.{◌≡◌, ℕ, ◌+◌, ◌<◌, ◌≤◌, pos, List, [], ◌∷◌, length, Bool, false, Option, Some, None}
+use Rattle.std.proofs.Common.{◌≡◌, ◌⊎◌, ℕ, ◌+◌, ◌<◌, ◌≤◌, pos, List, [], ◌∷◌, length, Bool, false, Option, Some, None}
 use Rattle.std.specs.Prelude.{slice_get, IsTrue}
 use Rattle.cw_unit.specs.declared.unit.Unit.{Unit as SourceUnit}
 use Rattle.cw_unit.specs.declared.unit.Stmt.{Stmt}
 use Rattle.cw_unit.specs.declared.unit.Felem.{Felem}
+use Rattle.cw_unit.specs.declared.unit.Felem.TheVariants as element
+use Rattle.cw_unit.specs.declared.unit.Expr.{Expr}
+use Rattle.cw_unit.specs.declared.unit.Ref.{Ref, out-Ref}
 use Rattle.cw_unit.specs.Work.{Loop, element_at}
 use Rattle.cw_order.specs.declared.order.Order.{Order}
 use Rattle.cw_order.specs.declared.order.Order.TheVariants as order
@@ -13,8 +16,11 @@ use Rattle.cw_gen_expr.specs.ReferenceExpressions.{Scope, at_line, item_order}
 use Rattle.cw_carry.proofs.Expressions.Standing.{Stands, Made}
 use Rattle.cw_carry.proofs.Expressions.Carried.{Leads, Places}
 use Rattle.cw_gen_expr.specs.ReferenceEntries.{scope_of}
-use Rattle.cw_gen_unit.specs.ReferenceStatements.{jump_order, statement_piece, set_orders, bump_orders, element_piece, way_mark}
-use Rattle.cw_gen_unit.specs.BuiltStatements.{is_statement, are_elements}
+use Rattle.cw_gen_unit.specs.ReferenceStatements.{jump_order, statement_piece, set_orders, bump_orders, element_piece, way_mark, loop_place, first_turn, simple_beginning}
+use Rattle.cw_gen_expr.specs.BuiltExpressions.{built_reference}
+use Rattle.cw_gen_unit.specs.declared.simple.SimpleStep.{SimpleStep}
+use Rattle.cw_gen_unit.specs.SimpleLoops.{simple_step}
+use Rattle.cw_gen_unit.specs.BuiltStatements.{is_statement, is_element, are_elements}
 use Rattle.cw_gen_unit.specs.ReferenceUnits.{answer_of}
 
 module _ (orders_for : SourceUnit → Orders) (u : SourceUnit) (who : Option ℕ) (has_words : (item words : ℕ) → Bool) where
@@ -80,12 +86,53 @@ module _ (orders_for : SourceUnit → Orders) (u : SourceUnit) (who : Option ℕ
   abbrev pub OnSite : (q : ℕ) → Loop → (next : ℕ) → Type 0
   OnSite q c next = (site : LoopSite c next) × (q ≡ site.on)
 
+  -- ---- a FOR of one STEP element
+
+  -- from the mark before the body on
+  pub record SteppedSite (c : Loop) (next : ℕ) : Type 0 where
+    pub first : Expr
+    pub step : Expr
+    pub limit : Expr
+    pub elements : c.elements ≡ element.Step first step limit ∷ []
+    pub words : IsTrue (has_words c.item 4)
+    pub built : IsTrue (is_element u has_words who answer c.scale (element.Step first step limit))
+    pub body : ℕ
+    pub end : ℕ
+    pub head : ℕ
+    pub head_is : slice_get marks body ≡ Some head
+    pub head_marks : slice_get code head ≡ Some order.Mark
+    pub on : ℕ
+    pub body_at : StatementSite (head + 1) c.body 64 on
+    pub out : ℕ
+    pub goes_on : Stands code on (order.NextStep (loop_place scope.layout c.item) c.line body ∷ []) out
+    pub end_is : slice_get marks end ≡ Some out
+    pub out_marks : slice_get code out ≡ Some order.Mark
+    pub next_is : out + 1 ≡ next
+
+  -- its values by the general way, and its first turn
+  abbrev pub FirstSite : (q number : ℕ) → Loop → (next : ℕ) → Type 0
+  FirstSite q i c next =
+      (site : SteppedSite c next) × (i ≡ 1) × (free : ℕ) × (last : ℕ) × Made code marks (first_turn (at_line c.line scope) c.item c.scale site.first site.step site.limit site.end q free) q site.head free last
+
+  abbrev pub FirstTurnSite : (q number : ℕ) → Loop → (next : ℕ) → Type 0
+  FirstTurnSite q i c next =
+      (site : SteppedSite c next) × (i ≡ 1) × Stands code q (item_order scope.layout c.item 0 ∷ order.PutVariable c.line ∷ order.Exhausted site.end ∷ []) site.head
+
+  abbrev pub NextSite : (q : ℕ) → Loop → (next : ℕ) → Type 0
+  NextSite q c next = (site : SteppedSite c next) × (q ≡ site.on)
+
+  -- the whole beginning, without the library
+  abbrev pub BeginningSite : (q : ℕ) → Ref → Loop → (next : ℕ) → Type 0
+  BeginningSite q r c next =
+      (site : SteppedSite c next) × (x : SimpleStep) × IsTrue (built_reference u has_words r).good × ((out-Ref r).f ≡ c.scale) × (simple_step scope.layout c.item r c.elements ≡ Some x) × Stands code q (simple_beginning scope.layout c.item x site.end) site.head
+
   abbrev pub sites : Places
   sites = record {
     StatementAt = StatementSite;
     JumpAt = λ line q d. slice_get code q ≡ Some (jump_order (at_line line scope) who d);
-    ElementAt = ElementSite;
-    TurnAt = TurnSite;
+    ElementAt = λ q i c next. ElementSite q i c next ⊎ FirstSite q i c next;
+    TurnAt = λ q i c next. TurnSite q i c next ⊎ FirstTurnSite q i c next;
     BumpAt = BumpSite;
-    OnAt = OnSite;
+    OnAt = λ q c next. OnSite q c next ⊎ NextSite q c next;
+    BeginningAt = BeginningSite;
   }

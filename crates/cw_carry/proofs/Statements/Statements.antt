@@ -1,5 +1,5 @@
 -- The orders follow the source through statements.
-use Rattle.std.proofs.Common.{◌≡◌, inl, ℕ, zero, suc, ◌+◌, ◌<◌, ◌≤◌, List, [], ◌∷◌, map, length, Bool, true, false, Option, Some, refl, sym, ap, ap₂, ◌∙◌, subst, arith}
+use Rattle.std.proofs.Common.{◌≡◌, ◌⊎◌, inl, ⊎_elim, ℕ, zero, suc, ◌+◌, ◌<◌, ◌≤◌, List, [], ◌∷◌, map, length, Bool, true, false, Option, Some, refl, sym, ap, ap₂, ◌∙◌, subst, arith}
 use Rattle.std.specs.Prelude.{slice_get, IsTrue, ◌&&◌, is_some, nat_lt}
 use Rattle.std.proofs.lemmas.Bool.{false≢true, ltb-true}
 use Rattle.cw_track.proofs.Paths.{stay}
@@ -9,6 +9,7 @@ use Rattle.cw_unit.specs.declared.unit.Dest.{Dest}
 use Rattle.cw_unit.specs.declared.unit.Dest.TheVariants as dest
 use Rattle.cw_unit.specs.declared.unit.Target.{Target}
 use Rattle.cw_unit.specs.declared.unit.Target.TheVariants as target_of
+use Rattle.cw_unit.specs.declared.unit.Felem.{Felem}
 use Rattle.cw_unit.specs.declared.unit.Expr.{Expr}
 use Rattle.cw_unit.specs.declared.unit.Ref.{Ref, out-Ref}
 use Rattle.cw_unit.specs.declared.unit.Stmt.{Stmt, Stmt-F, out-Stmt}
@@ -16,7 +17,7 @@ use Rattle.cw_unit.specs.declared.unit.Stmt.TheOpen as statement
 use Rattle.cw_unit.specs.Stop.{Running}
 use Rattle.cw_unit.specs.Words.{Words}
 use Rattle.cw_unit.specs.Operation.{Store, StoreBits}
-use Rattle.cw_unit.specs.Work.{Work, Run, Eval, Address, Do, Jump, Enter, Return, Element, loop_of, run_all, statement_work}
+use Rattle.cw_unit.specs.Work.{Work, Run, Eval, Address, Do, Jump, Enter, Return, Element, Loop, loop_of, run_all, statement_work}
 use Rattle.cw_unit.specs.Configuration.{Activation, segment_of, answer_scale_of, fraction_of_answer, procedure_in}
 use Rattle.cw_unit.specs.Behaviour.{shown}
 use Rattle.cw_unit.specs.Begun.{Begun, line_of, begins}
@@ -32,14 +33,16 @@ use Rattle.cw_gen_expr.specs.ReferenceExpressions.{at_line, saved, argument_word
 use Rattle.cw_gen_expr.specs.BuiltExpressions.{most_levels, within, is_expression, is_condition, built_reference}
 use Rattle.cw_gen_expr.proofs.Layers.{total}
 use Rattle.cw_carry.proofs.Expressions.Standing.{Stands, Made, both_made, saved_made, one_made, choice_made}
-use Rattle.cw_carry.proofs.Expressions.Carried.{Leads, here, past, over as leap, Via, wider, after_call, takes_number, who_of, going}
+use Rattle.cw_carry.proofs.Expressions.Carried.{Leads, here, past, over as leap, Via, wider, after_call, takes_number, who_of, going, beginning}
 use Rattle.cw_carry.proofs.Expressions.Stepping.{Compiled, source, target, Belong, quietly, work_size, order_here, silent}
 use Rattle.cw_carry.proofs.Expressions.Moments.{both, Moment, here_in, layout, scope, has_words, code, marks, At, Leads_to, at_close, past_save, StepsNoting, config, next}
 use Rattle.cw_carry.proofs.Expressions.Values.{given_at}
-use Rattle.cw_gen_unit.specs.ReferenceStatements.{begin_orders, keep_orders, after_statement_call, jump_order, jump_piece, ring_piece, statement_piece}
+use Rattle.cw_gen_unit.specs.ReferenceStatements.{begin_orders, keep_orders, after_statement_call, jump_order, jump_piece, begun_loop, statement_piece}
+use Rattle.cw_gen_unit.specs.SimpleLoops.{simple_step}
 use Rattle.cw_gen_unit.specs.BuiltStatements.{is_jump, all_within, is_statement, are_elements}
 use Rattle.cw_carry.proofs.Statements.Shapes.{statement_layer, statement-made, built_layer, statement-built, statement_size, statement_size_layer, statement-size}
-use Rattle.cw_carry.proofs.Statements.Sites.{StatementSite, LoopSite, sites}
+use Rattle.cw_carry.proofs.Statements.Sites.{StatementSite, ElementSite, FirstSite, BeginningSite, sites}
+use Rattle.cw_carry.proofs.Statements.Rings.{ByAddress}
 use Rattle.cw_gen_unit.specs.ReferenceUnits.{answer_of}
 
 module _ (c : Compiled) (at_sites : (g : ℕ) (u : SourceUnit) (who : Option ℕ) → c.places g u who ≡ sites c.orders_for u who (c.has_words g u who)) (sizes : c.statement_size ≡ statement_size) (t : Moment c) where
@@ -74,9 +77,9 @@ module _ (c : Compiled) (at_sites : (g : ℕ) (u : SourceUnit) (who : Option ℕ
   notes_line : (s : Stmt) (x : Stmt-F Stmt) (k : Work) (w : Words) → out-Stmt s ≡ x → begins (config c t (Run s k) w) ≡ map (noting w) (line_of x)
   notes_line s x k w is = ap (λ y. map (noting w) (line_of y)) is
 
-  -- it starts
-  begun : (s : Stmt) (x : Stmt-F Stmt) (k : Work) (line q : ℕ) (w : Words) → out-Stmt s ≡ x → line_of x ≡ line ∷ [] → slice_get (code c t) q ≡ Some (order.Start line) → At c t (q + 1) false false (statement_work answer x k) → StepsNoting c t (Run s k) q false w
-  begun s x k line q w is line_is start carried =
+  -- it starts, where what follows its start belongs to the work that it becomes
+  starts_with : (s : Stmt) (x : Stmt-F Stmt) (k : Work) (line q : ℕ) (w : Words) → out-Stmt s ≡ x → line_of x ≡ line ∷ [] → slice_get (code c t) q ≡ Some (order.Start line) → Belong c (config c t (statement_work answer x k) w) (state (here_in c t) (q + 1) false t.calls_below w Running) → StepsNoting c t (Run s k) q false w
+  starts_with s x k line q w is line_is start belongs =
       let g = here_in c t in
       let at_q = order_here c t.segment t.acts t.calls_below t.unit t.unit_is q (order.Start line) start in
       let e = becomes_work s x k w is in
@@ -89,9 +92,12 @@ module _ (c : Compiled) (at_sites : (g : ℕ) (u : SourceUnit) (who : Option ℕ
             (let z : 1 ≡ weight_at (order_at (target c) g q) + 0 = omega (arith, ap weight_at at_q) in z)
             (stay (ap (λ o. carry_out (target c) o g q false t.calls_below w) at_q) refl);
         within = (let z : 1 ≤ 224 = omega arith in z);
-        belongs = subst (λ d. Belong c d u) (sym e) (going t.unit t.unit_is false tt carried t.calls);
+        belongs = subst (λ d. Belong c d u) (sym e) belongs;
         progress = inl (let z : 0 < 1 = omega arith in z);
       }
+
+  begun : (s : Stmt) (x : Stmt-F Stmt) (k : Work) (line q : ℕ) (w : Words) → out-Stmt s ≡ x → line_of x ≡ line ∷ [] → slice_get (code c t) q ≡ Some (order.Start line) → At c t (q + 1) false false (statement_work answer x k) → StepsNoting c t (Run s k) q false w
+  begun s x k line q w is line_is start carried = starts_with s x k line q w is line_is start (going t.unit t.unit_is false tt carried t.calls)
 
   -- by no order, where no statement begins
   passes : (s : Stmt) (x : Stmt-F Stmt) (k : Work) (q : ℕ) (w : Words) → out-Stmt s ≡ x → line_of x ≡ [] → Leads_to c t q false false (statement_work answer x k) → work_size c (statement_work answer x k) < work_size c (Run s k) → StepsNoting c t (Run s k) q false w
@@ -175,15 +181,32 @@ module _ (c : Compiled) (at_sites : (g : ℕ) (u : SourceUnit) (who : Option ℕ
       begun s (statement.Go line d) k line q w is refl at.1
       (one_value e 0 line (q + 1) n at.0 last (plain (jump_order (at_line line (scope c t)) who d ∷ [])) (Jump d line) b at.2 (λ x y m'. jump_site x line d m'.0.0))
 
-  -- a FOR's elements stand where its ring does
-  abbrev Rings : Type 0
-  Rings = (line item : ℕ) (r : Ref) (es : List Rattle.cw_unit.specs.declared.unit.Felem.Felem) (body : Stmt) (q n free last : ℕ) → IsTrue (has_words c t item 4) → length es < 32767 → IsTrue (are_elements t.unit (has_words c t) who answer (out-Ref r).f es) → IsTrue (is_statement t.unit (has_words c t) who answer body 64) → Made (code c t) (marks c t) (ring_piece (at_line line (scope c t)) item (out-Ref r).f es (statement_piece (scope c t) who answer body) q free) q n free last → (site : LoopSite c.orders_for t.unit who (has_words c t) (loop_of line item r es body) n) × (q ≡ site.place 1)
+  -- the parts of a FOR stand where its orders do
+  abbrev Loops : Type 0
+  Loops = (line item : ℕ) (r : Ref) (es : List Felem) (body : Stmt) (q n free last : ℕ) → IsTrue (has_words c t item 4) → length es < 32767 → IsTrue (are_elements t.unit (has_words c t) who answer (out-Ref r).f es) → IsTrue (is_statement t.unit (has_words c t) who answer body 64) → IsTrue (built_reference t.unit (has_words c t) r).good → Made (code c t) (marks c t) (begun_loop (at_line line (scope c t)) (simple_step (layout c t) item r es) item r es (statement_piece (scope c t) who answer body) q free) q n free last
+      → BeginningSite c.orders_for t.unit who (has_words c t) q r (loop_of line item r es body) n ⊎ ByAddress c.orders_for t.unit who (has_words c t) r (loop_of line item r es body) q free n
 
-  element_site : (line item : ℕ) (r : Ref) (es : List Rattle.cw_unit.specs.declared.unit.Felem.Felem) (body : Stmt) (q n j : ℕ) (k : Work) → (site : LoopSite c.orders_for t.unit who (has_words c t) (loop_of line item r es body) n) → q ≡ site.place 1 → suc j ≤ 64 → After j n k → At c t q false false (Element 1 (loop_of line item r es body) k)
-  element_site line item r es body q n j k site e le after =
-      (n, j, subst (λ p. p.ElementAt q 1 (loop_of line item r es body) n) (sym (at_sites (here_in c t) t.unit who)) (site, e, (let z : 1 ≤ 1 = omega arith in z), (let z : 1 ≤ length es + 1 = omega arith in z)), le, refl, after)
+  module _ (s : Stmt) (line item : ℕ) (r : Ref) (es : List Felem) (body : Stmt) (k : Work) (q n j : ℕ) (w : Words) (is : out-Stmt s ≡ statement.For line item r es body) (start : slice_get (code c t) q ≡ Some (order.Start line)) (good : IsTrue (built_reference t.unit (has_words c t) r).good) (words : IsTrue (has_words c t item 4)) (le : suc j ≤ 64) (after : After j n k) where
+    abbrev x : Loop
+    x = loop_of line item r es body
 
-  module _ (rings : Rings) where
+    element_carried : (z : ℕ) → ElementSite c.orders_for t.unit who (has_words c t) z 1 x n ⊎ FirstSite c.orders_for t.unit who (has_words c t) z 1 x n → At c t z false false (Element 1 x k)
+    element_carried z site = (n, j, subst (λ p. p.ElementAt z 1 x n) (sym (at_sites (here_in c t) t.unit who)) site, le, refl, after)
+
+    as_whole : BeginningSite c.orders_for t.unit who (has_words c t) (q + 1) r x n → StepsNoting c t (Run s k) q false w
+    as_whole site =
+        starts_with s (statement.For line item r es body) k line q w is refl start
+        (beginning t.unit t.unit_is r x k n j (subst (λ p. p.BeginningAt (q + 1) r x n) (sym (at_sites (here_in c t) t.unit who)) site) le after t.calls)
+
+    by_address : (free : ℕ) → ByAddress c.orders_for t.unit who (has_words c t) r x (q + 1) free n → StepsNoting c t (Run s k) q false w
+    by_address free (y, m, z, address, kept, site) =
+        begun s (statement.For line item r es body) k line q w is refl start
+        (y, free, m, good, address, refl, (y, true, here refl refl, (z, words, (let v : 0 < 4 = omega arith in v), kept, refl, (z, false, here refl refl, element_carried z site))))
+
+    loop_begun : (free : ℕ) → BeginningSite c.orders_for t.unit who (has_words c t) (q + 1) r x n ⊎ ByAddress c.orders_for t.unit who (has_words c t) r x (q + 1) free n → StepsNoting c t (Run s k) q false w
+    loop_begun free site = ⊎_elim (as_whole) (by_address free) site
+
+  module _ (loops : Loops) where
     runs : (s : Stmt) (x : Stmt-F Stmt) (k : Work) (q n free last levels j : ℕ) (w : Words) → out-Stmt s ≡ x → IsTrue (built_layer t.unit (has_words c t) who answer x levels) → Made (code c t) (marks c t) (statement_layer (scope c t) who answer x q free) q n free last → j + levels ≤ 64 → After j n k → StepsNoting c t (Run s k) q false w
     runs s (statement.Put line r e) k q n free last levels j w is b made le after =
         let f = (out-Ref r).f in
@@ -254,15 +277,9 @@ module _ (c : Compiled) (at_sites : (g : ℕ) (u : SourceUnit) (who : Option ℕ
         let b4 = both (are_elements t.unit (has_words c t) who answer f es) (within levels (λ m. true) && sb most_levels) b3.1 in
         let b5 = both (within levels (λ m. true)) (sb most_levels) b4.1 in
         let level = a_level levels (λ m. true) b5.0 in
-        let keep = keep_orders (layout c t) item 0 in
-        let ring = ring_piece (at_line line (scope c t)) item f es (statement_piece (scope c t) who answer body) in
-        let at = started line (followed_by (reference_of (at_line line (scope c t)) r).address (followed_by (plain keep) ring)) q n free last made in
-        let address = both_made (code c t) (marks c t) (reference_of (at_line line (scope c t)) r).address (followed_by (plain keep) ring) (q + 1) n at.0 last at.2 in
-        let kept = both_made (code c t) (marks c t) (plain keep) ring address.0 n address.1 last address.3 in
-        let site = rings line item r es body kept.0 n kept.1 last b2.0 (ltb-true (length es) 32767 b3.0) b4.0 b5.1 kept.3 in
-        let x = loop_of line item r es body in
-        begun s (statement.For line item r es body) k line q w is refl at.1
-        (address.0, at.0, address.1, b1.0, address.2, refl, (address.0, true, here refl refl, (kept.0, b2.0, (let v : 0 < 4 = omega arith in v), kept.2.0, refl, (kept.0, false, here refl refl, element_site line item r es body kept.0 n j k site.0 site.1 (let v : suc j ≤ 64 = omega (arith, le, level.1) in v) after))))
+        let at = started line (begun_loop (at_line line (scope c t)) (simple_step (layout c t) item r es) item r es (statement_piece (scope c t) who answer body)) q n free last made in
+        let stands = loops line item r es body (q + 1) n at.0 last b2.0 (ltb-true (length es) 32767 b3.0) b4.0 b5.1 b1.0 at.2 in
+        loop_begun s line item r es body k q n j w is at.1 b1.0 b2.0 (let v : suc j ≤ 64 = omega (arith, le, level.1) in v) after at.0 stands
     runs s (statement.Seq ss) k q n free last levels j w is b made le after =
         passes s (statement.Seq ss) k q w is refl
         (wide j q (run_all ss k) (let v : j ≤ 64 = omega (arith, le) in v) (row_at ss k q n free last levels j b made le after))
