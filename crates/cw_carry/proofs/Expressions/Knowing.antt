@@ -1,14 +1,13 @@
 -- What is known before a run is what comes of it: an expression of a known value is evaluated to it, and a reference whose word is known
 -- comes to its address, by steps of the source that show nothing new; one order puts the same.
-use Rattle.std.proofs.Common.{◌≡◌, ◌⊎◌, inl, inr, ℕ, zero, suc, ◌+◌, ◌*◌, ◌%◌, ◌<◌, ◌≤◌, ℤ, pos, ◌-ℤ◌, [], ◌∷◌, Bool, true, false, Option, Some, None, refl, sym, ap, ◌∙◌, subst, arith}
+use Rattle.std.proofs.Common.{◌≡◌, inl, inr, ℕ, zero, suc, ◌+◌, ◌*◌, ◌%◌, ◌<◌, ◌≤◌, ℤ, pos, ◌-ℤ◌, [], ◌∷◌, Bool, true, false, Option, Some, None, refl, sym, ap, ◌∙◌, subst, arith}
 use Rattle.std.specs.Prelude.{nat_le, IsTrue, ◌&&◌}
-use Rattle.std.proofs.lemmas.Bool.{false≢true}
 use Rattle.std.proofs.lemmas.Option.{none-some, same_Some}
 use Rattle.cw_word.specs.Decimal.{decimal_floor}
 use Rattle.std.proofs.lemmas.Int.{ints}
 use Rattle.cw_word.specs.FixedPoint.{fits_word}
 use Rattle.cw_word.specs.Word.{signed, unsigned}
-use Rattle.cw_track.proofs.Watching.{SilentWay, only_step, step_then, silent_ways}
+use Rattle.cw_track.proofs.Watching.{only_step, step_then, silent_ways}
 use Rattle.cw_unit.specs.declared.unit.Arg.{Arg}
 use Rattle.cw_unit.specs.declared.unit.Cond.{Cond}
 use Rattle.cw_unit.specs.declared.unit.Expr.{Expr, Expr-F, out-Expr}
@@ -26,18 +25,18 @@ use Rattle.cw_unit.specs.Begun.{begins}
 use Rattle.cw_unit.specs.Step.{after as source_after, addressing_of}
 use Rattle.cw_gen_expr.specs.KnownValues.{known_rescaled, known_bits, known_logic, known_sum, known_difference, known_negative, known_product, known_quotient, in_bounds, from_lower, word_inside, of_index}
 use Rattle.cw_gen_expr.specs.ReferenceExpressions.{Scope, at_line, narrow, number_order, item_order, item_span, table_span, value_of, known_or, named_or, expression_piece, reference_of}
-use Rattle.cw_gen_expr.specs.BuiltExpressions.{whole, most_levels, built_value, built_reference, is_expression}
+use Rattle.cw_gen_expr.specs.BuiltExpressions.{whole, most_levels, built_reference, is_expression}
 use Rattle.cw_gen_expr.proofs.Layers.{value-made, computed_layer, known_layer, word_item, word_layer, indexed_layer, spot-made, reference-made, built_value_layer, value-built, built_spot_layer, expression_size, expression_size_layer, expression-size}
 use Rattle.cw_gen_expr.proofs.Scales.{operand-is, built-operand-is}
 use Rattle.cw_order.specs.OrderCosts.{weight_of}
 use Rattle.cw_carry.proofs.Expressions.Standing.{Made}
 use Rattle.cw_carry.proofs.Expressions.Operations.{then_changed}
-use Rattle.cw_carry.proofs.Expressions.Carried.{Via, Ready}
+use Rattle.cw_carry.proofs.Expressions.Carried.{Via}
 use Rattle.cw_carry.proofs.Expressions.Stepping.{Compiled, A, source}
-use Rattle.cw_carry.proofs.Expressions.Moments.{both, IsLight, Moment, scope, layout, has_words, code, marks, At, Leads_to, Steps, Leap, Comes, Goes, config, next, Facts, leaps_by, item_light, item_silent, item_loads, item_tells}
-use Rattle.cw_carry.proofs.Expressions.Addresses.{item_and, built_spot, address_follows, addresses}
+use Rattle.cw_carry.proofs.Expressions.Moments.{both, IsLight, Moment, scope, layout, has_words, code, marks, At, Leads_to, Comes, Goes, config, Facts, leaps_by, item_light, item_silent, item_loads, item_tells}
+use Rattle.cw_carry.proofs.Expressions.Addresses.{built_spot, address_follows, addresses}
 use Rattle.cw_carry.proofs.Expressions.Values.{number-is, constant-is, narrowed, at_most, built_of, wide, evaluates, light_order, evaluation_follows}
-use Rattle.cw_carry.proofs.Expressions.Results.{of_one, of_two, sum_fits, difference_fits, negative_fits, rescaled_fits, product_fits, quotient_fits, sum_put, difference_put, negative_put, rescaled_put, product_put, quotient_put, combined_put, bits_put, compared_put, Above, from_above, of_count, inside_is, element_found, entry_found, element_of_two_found}
+use Rattle.cw_carry.proofs.Expressions.Results.{of_one, of_two, sum_fits, difference_fits, negative_fits, rescaled_fits, product_fits, quotient_fits, sum_put, difference_put, negative_put, rescaled_put, product_put, quotient_put, combined_put, bits_put, compared_put, from_above, of_count, inside_is, element_found, entry_found, element_of_two_found}
 
 module _ (c : Compiled) (t : Moment c) where
   -- ---- ways of the source

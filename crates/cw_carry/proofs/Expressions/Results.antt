@@ -1,13 +1,12 @@
 -- What operations make of words, where their result is known before a run.
-use Rattle.std.proofs.Common.{◌≡◌, ℕ, zero, suc, ◌+◌, ◌*◌, ◌<◌, ◌≤◌, ℤ, pos, negsuc, ◌+ℤ◌, ◌-ℤ◌, ◌*ℤ◌, neg_ℤ, ◌∷◌, Bool, true, false, Option, Some, None, refl, sym, ap, ◌∙◌, subst, arith}
-use Rattle.std.specs.Prelude.{int_le, nat_le, nat_lt, IsTrue, ◌&&◌, if◌then◌else◌}
-use Rattle.std.proofs.lemmas.Bool.{false≢true, ltb-true, lt-ltb}
-use Rattle.std.proofs.lemmas.Int.{ints}
+use Rattle.std.proofs.Common.{◌≡◌, ℕ, zero, suc, ◌+◌, ◌*◌, ◌<◌, ◌≤◌, ℤ, pos, negsuc, ◌+ℤ◌, ◌-ℤ◌, ◌*ℤ◌, neg_ℤ, Bool, true, false, Option, Some, None, refl, ap, ◌∙◌, subst, arith}
+use Rattle.std.specs.Prelude.{int_le, nat_le, nat_lt, ◌&&◌, if◌then◌else◌}
+use Rattle.std.proofs.lemmas.Bool.{ltb-true, lt-ltb}
 use Rattle.std.proofs.lemmas.Option.{none-some, same_Some}
 use Rattle.cw_word.specs.FixedPoint.{fits_word, rescaled, scaled_product, scaled_quotient}
 use Rattle.cw_unit.specs.declared.unit.LogicOp.{LogicOp}
-use Rattle.cw_unit.specs.Stop.{StopKind, Overflow, AddressRange, IndexRange}
-use Rattle.cw_unit.specs.Words.{Word, Words, Outcome, Changed, is_below, put, put_if, put_value, with_operands}
+use Rattle.cw_unit.specs.Stop.{Overflow, AddressRange, IndexRange}
+use Rattle.cw_unit.specs.Words.{Words, Outcome, Changed, put, put_if, put_value}
 use Rattle.cw_unit.specs.Operation.{Rescale, Add, Subtract, Negate, Multiply, Divide, Combine, Extract, InBounds, Indexed, Indexed2, Scaled, fitting, address_of, form_address, perform}
 use Rattle.cw_gen_expr.specs.KnownValues.{of_known, of_both, fitted, known_sum, known_difference, known_negative, known_rescaled, known_product, known_quotient, known_logic, known_bits, word_inside, in_bounds, counted_if, from_lower, of_index}
 

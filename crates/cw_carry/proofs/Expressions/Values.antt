@@ -45,7 +45,7 @@ use Rattle.cw_carry.proofs.Expressions.Addresses.{item_and}
 pub number-is : (n : ℕ) → IsTrue (nat_lt n 32768) → signed (n % 65536) ≡ pos n
 number-is n h = let lt : n < 32768 = ltb-true n 32768 h in let e : n % 65536 ≡ n = omega arith in ap signed e ∙ (let z : signed n ≡ pos n = omega (arith, ints) in z)
 
-untested : (z : ℤ) → fits_word z ≡ true → FitsWord z
+pub untested : (z : ℤ) → fits_word z ≡ true → FitsWord z
 untested (pos n) h = grind (arith, ints, nat_tests)
 untested (negsuc n) h = grind (arith, ints, nat_tests)
 

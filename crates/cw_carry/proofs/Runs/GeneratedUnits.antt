@@ -196,7 +196,7 @@ module _ (s : Scope) (c : ListProperty s.layout) where
         (both c (value_holds s c b f)
         (both c (keep_holds 1)
         (both c (value_holds s c d f)
-        (lists c (keep_orders s.layout item 2 ++ item_order s.layout item 0 ∷ order.PutVariable s.line ∷ order.Exhausted end ∷ []) (tt, (item_plain s.layout item 2, (tt, (item_plain s.layout item 0, (tt, (tt, tt)))))))))))) 
+        (lists c (keep_orders s.layout item 2 ++ item_order s.layout item 0 ∷ order.PutVariable s.line ∷ order.Exhausted end ∷ []) (tt, (item_plain s.layout item 2, (tt, (item_plain s.layout item 0, (tt, (tt, tt))))))))))))
 
     plainly : (os : List Order) → ArePlain os → c.holds os
     plainly os h = (lists c os h).at 0 0

@@ -16,7 +16,7 @@ use Rattle.cw_unit.proofs.Continuations.{in-list, in-choice, in-loop, in-mark}
 use Rattle.cw_order.specs.declared.order.Order.{Order}
 use Rattle.cw_order.specs.declared.order.Orders.{Orders}
 use Rattle.cw_gen_expr.specs.Pieces.{Piece, plain, followed_by, sequence, with_labels}
-use Rattle.cw_gen_expr.specs.ReferenceExpressions.{at_line, Scope, choice_piece, condition_piece, reference_of}
+use Rattle.cw_gen_expr.specs.ReferenceExpressions.{at_line, Scope, choice_piece, condition_piece}
 use Rattle.cw_gen_expr.specs.BuiltExpressions.{most_levels, within, is_condition, built_reference}
 use Rattle.cw_gen_expr.proofs.Layers.{total}
 use Rattle.cw_gen_expr.proofs.NoLabels.{value_unlabelled, condition_unlabelled, reference_unlabelled, arguments_unlabelled}

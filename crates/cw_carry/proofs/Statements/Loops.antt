@@ -30,7 +30,7 @@ use Rattle.cw_gen_expr.specs.Pieces.{Piece, plain, followed_by, with_end}
 use Rattle.cw_gen_expr.specs.ReferenceExpressions.{Scope, at_line, item_order, expression_piece, condition_piece}
 use Rattle.cw_gen_expr.specs.BuiltExpressions.{is_expression, is_condition, most_levels}
 use Rattle.cw_carry.proofs.Expressions.Standing.{Stands, Made, both_made, one_made, end_made}
-use Rattle.cw_carry.proofs.Expressions.Effects.{then_do, through_all, loaded_through, OnLine, is_silent, all_silent, total_weight, total_growth, growth_within, Ran, run_through}
+use Rattle.cw_carry.proofs.Expressions.Effects.{then_do, through_all, is_silent, total_weight, Ran}
 use Rattle.cw_carry.proofs.Expressions.Carried.{Leads, here, past, over as leap, Via, wider, who_of}
 use Rattle.cw_carry.proofs.Expressions.Operations.{keeps, bumps, behind_word, variable_put}
 use Rattle.cw_carry.proofs.Expressions.Stepping.{Quiet, Compiled, source, target, B, work_size, Seen, order_here, mark_here, lands, silent, stops}

@@ -1,7 +1,6 @@
 -- The parts of a FOR stand where its orders do.
 use Rattle.std.proofs.Common.{◌≡◌, ◌⊎◌, inl, inr, ℕ, zero, suc, ◌+◌, ◌<◌, ◌≤◌, pos, List, [], ◌∷◌, ◌++◌, length, Bool, true, false, Option, Some, None, refl, sym, ap, ap₂, ◌∙◌, subst, arith, append-nil}
-use Rattle.std.specs.Prelude.{slice_get, IsTrue, ◌&&◌}
-use Rattle.std.proofs.lemmas.Bool.{false≢true}
+use Rattle.std.specs.Prelude.{slice_get, IsTrue}
 use Rattle.std.proofs.lemmas.Option.{none-some, same_Some}
 use Rattle.cw_unit.specs.declared.unit.Unit.{Unit as SourceUnit}
 use Rattle.cw_unit.specs.declared.unit.Felem.{Felem}
@@ -20,6 +19,7 @@ use Rattle.cw_gen_expr.specs.ReferenceExpressions.{at_line, Scope, item_order, r
 use Rattle.cw_gen_expr.specs.BuiltExpressions.{built_reference}
 use Rattle.cw_gen_expr.proofs.NoLabels.{value_unlabelled, condition_unlabelled, reference_unlabelled}
 use Rattle.cw_carry.proofs.Expressions.Standing.{Stands, ends_at, Made, both_made, end_made}
+use Rattle.cw_carry.proofs.Expressions.Moments.{both}
 use Rattle.cw_gen_expr.specs.ReferenceEntries.{scope_of}
 use Rattle.cw_gen_unit.specs.ReferenceStatements.{set_orders, element_piece, elements_piece, element_ways, way_mark, with_middle, ring_piece, keep_orders, only_step, loop_place, simple_beginning, first_turn, stepped_piece, elements_loop, begun_loop, statement_piece}
 use Rattle.cw_gen_unit.specs.declared.simple.SimpleStep.{SimpleStep}
@@ -213,10 +213,6 @@ module _ (orders_for : SourceUnit → Orders) (u : SourceUnit) (who : Option ℕ
   first_unlabelled : (h : Scope) (item f : ℕ) (a b d : Expr) (end q free : ℕ) → (first_turn h item f a b d end q free).labels ≡ []
   first_unlabelled h item f a b d end q free = nothing (value_unlabelled h a f _ _) (nothing (value_unlabelled h b f _ _) (nothing (value_unlabelled h d f _ _) refl))
 
-  both_true : (a b : Bool) → IsTrue (a && b) → IsTrue a
-  both_true true b h = refl
-  both_true false b h = absurd (false≢true h)
-
   -- the body, and what stands behind it
   pub record BodyStands (x : Loop) (next : ℕ) (labels : List (ℕ × ℕ)) : Type 0 where
     pub head : ℕ
@@ -259,7 +255,7 @@ module _ (orders_for : SourceUnit → Orders) (u : SourceUnit) (who : Option ℕ
           limit = e.2;
           elements = one;
           words = words;
-          built = both_true (is_element u has_words who answer (out-Ref r).f (element.Step e.0 e.1 e.2)) true all;
+          built = (both (is_element u has_words who answer (out-Ref r).f (element.Step e.0 e.1 e.2)) true all).0;
           body = start;
           end = free;
           head = s3.0;

@@ -37,7 +37,7 @@ use Rattle.cw_carry.proofs.Expressions.Carried.{Leads, here, past, over as leap,
 use Rattle.cw_carry.proofs.Expressions.Stepping.{Compiled, source, target, Belong, quietly, work_size, order_here, silent}
 use Rattle.cw_carry.proofs.Expressions.Moments.{both, Moment, here_in, layout, scope, has_words, code, marks, At, Leads_to, at_close, past_save, StepsNoting, config, next}
 use Rattle.cw_carry.proofs.Expressions.Values.{given_at}
-use Rattle.cw_gen_unit.specs.ReferenceStatements.{begin_orders, keep_orders, after_statement_call, jump_order, jump_piece, begun_loop, statement_piece}
+use Rattle.cw_gen_unit.specs.ReferenceStatements.{begin_orders, after_statement_call, jump_order, jump_piece, begun_loop, statement_piece}
 use Rattle.cw_gen_unit.specs.SimpleLoops.{simple_step}
 use Rattle.cw_gen_unit.specs.BuiltStatements.{is_jump, all_within, is_statement, are_elements}
 use Rattle.cw_carry.proofs.Statements.Shapes.{statement_layer, statement-made, built_layer, statement-built, statement_size, statement_size_layer, statement-size}

@@ -1,11 +1,11 @@
 -- The orders follow the source through a FOR of one STEP element: its values and its first turn by the general way, and the one order behind
 -- its body, with which the source makes up to four steps.
-use Rattle.std.proofs.Common.{◌≡◌, ◌⊎◌, inl, inr, ⊎_elim, ℕ, zero, suc, ◌+◌, ◌-◌, ◌*◌, ◌%◌, ◌<◌, ◌≤◌, ℤ, pos, negsuc, List, [], ◌∷◌, length, Bool, true, false, Option, Some, None, refl, sym, ap, ap₂, ◌∙◌, subst, arith}
+use Rattle.std.proofs.Common.{◌≡◌, inl, inr, ⊎_elim, ℕ, zero, suc, ◌+◌, ◌-◌, ◌*◌, ◌%◌, ◌<◌, ◌≤◌, ℤ, pos, negsuc, List, [], ◌∷◌, Bool, true, false, Option, Some, None, refl, sym, ap, ap₂, ◌∙◌, subst, arith}
 use Rattle.std.specs.Prelude.{nat_eq, nat_lt, slice_get, slice_index_or, IsTrue, if◌then◌else◌}
 use Rattle.std.proofs.lemmas.Bool.{true≢false, lt-ltb, ltb-true, cases_lt}
 use Rattle.std.proofs.lemmas.Bool.Decides.{nat_tests}
 use Rattle.std.proofs.lemmas.Int.{ints}
-use Rattle.cw_track.proofs.Paths.{Path, join, weaken}
+use Rattle.cw_track.proofs.Paths.{Path, join}
 use Rattle.cw_track.proofs.Watching.{only_step, step_then}
 use Rattle.cw_word.specs.Word.{signed}
 use Rattle.cw_unit.specs.declared.layout.Layout.{Layout}
@@ -19,7 +19,7 @@ use Rattle.cw_unit.specs.Stop.{AddressRange, Running, Stopped}
 use Rattle.cw_unit.specs.Words.{Operand, Word, Held, Words, Outcome, Changed, Refused, Impossible, put, word_at, number_of, is_below, through}
 use Rattle.cw_unit.specs.Operation.{AddStep, perform, store_sum, is_past}
 use Rattle.cw_unit.specs.Work.{Work, Run, Element, Turn, Bump, On, Loop, element_at, next_element}
-use Rattle.cw_unit.specs.Configuration.{Configuration, at as configuration, address_at}
+use Rattle.cw_unit.specs.Configuration.{at as configuration, address_at}
 use Rattle.cw_unit.specs.Step.{pick, element_step, turn_step, after as source_after}
 use Rattle.cw_unit.specs.Behaviour.{Observation, shown}
 use Rattle.cw_unit.specs.Begun.{Begun}
@@ -28,7 +28,7 @@ use Rattle.cw_order.specs.declared.order.Order.TheVariants as order
 use Rattle.cw_order.specs.declared.order.Place.TheVariants as cell
 use Rattle.cw_order.specs.OrderProgram.{OrderProgram}
 use Rattle.cw_order.specs.OrderChanges.{Way, Onward, ToMark, Barred, to_mark_if, way_past_limit, way_behind, turn_if, turned, stepped_if, stepped_inside, stepped, next_step, put_address}
-use Rattle.cw_order.specs.OrderState.{OrderActivation, OrderState, at as state, stack_words, frame_word, word_of_area}
+use Rattle.cw_order.specs.OrderState.{OrderActivation, OrderState, at as state, stack_words, frame_word}
 use Rattle.cw_order.specs.OrderActions.{action_of, home_word, place_address}
 use Rattle.cw_order.specs.OrderCosts.{weight_of}
 use Rattle.cw_order.specs.OrderMachine.{act, branch, go_at, unrefused}
@@ -37,9 +37,9 @@ use Rattle.cw_carry.proofs.Expressions.Standing.{Stands}
 use Rattle.cw_carry.proofs.Expressions.Effects.{through_all, is_silent, total_weight, effect, Ran}
 use Rattle.cw_carry.proofs.Expressions.Carried.{Leads, here, past, Via, wider, who_of}
 use Rattle.cw_carry.proofs.Expressions.Operations.{variable_put}
-use Rattle.cw_carry.proofs.Expressions.Stepping.{Quiet, Compiled, source, target, A, B, Seen, mark_here, lands, leaps, stops, leap_stops}
+use Rattle.cw_carry.proofs.Expressions.Stepping.{Compiled, source, target, B, Seen, mark_here, leaps, stops, leap_stops}
 use Rattle.cw_carry.proofs.Expressions.Moments.{item_silent, item_light, item_loads, item_tells, silent_and, Moment, here_in, layout, scope, has_words, code, marks, At, Leads_to, Steps, Leap, Comes, Goes, config, next, run, Facts, at_once, one_order, ran_on}
-use Rattle.cw_gen_unit.specs.ReferenceStatements.{place_put, loop_place, first_turn}
+use Rattle.cw_gen_unit.specs.ReferenceStatements.{place_put, loop_place}
 use Rattle.cw_carry.proofs.Statements.Sites.{SteppedSite, FirstSite, FirstTurnSite, NextSite, sites}
 use Rattle.cw_carry.proofs.Statements.Loops.{first_made, begins_element, step_carried, none_of_four, three_of_four}
 use Rattle.cw_gen_unit.specs.ReferenceUnits.{answer_of}
@@ -76,7 +76,8 @@ module _ (p : OrderProgram) (in_words : p.limits.area ≤ 32768) (g : ℕ) (bs :
       ap (λ m. Some m) (number_behind n a (let z : n < 65536 = omega (arith, lt, in_words) in z) (ap top_in e))
   found false n h e = let z : negsuc 0 ≡ pos a = ap top_in e in absurd (let y : ⊥ = cc in y)
 
-  frame_placed : (acts : List OrderActivation) (n : ℕ) → unrefused (put_address (frame_word p.limits.area acts n) w) ≡ Changed (put (pos a) w) → frame_word p.limits.area acts n ≡ Some a
+  frame_placed : (acts : List OrderActivation) (n : ℕ) → unrefused (put_address (frame_word p.limits.area acts n) w) ≡ Changed (put (pos a) w)
+      → frame_word p.limits.area acts n ≡ Some a
   frame_placed [] n e = let z : negsuc 0 ≡ pos a = ap top_in e in absurd (let y : ⊥ = cc in y)
   frame_placed (b ∷ acts) n e = found (nat_lt (b.frame_base + n) p.limits.area) (b.frame_base + n) refl e
 
@@ -157,9 +158,12 @@ module _ (c : Compiled) (at_sites : (g : ℕ) (u : SourceUnit) (who : Option ℕ
 
   -- the body, behind its mark
   pub body_carried : (site : Site) → Leads_to c t site.head false false body_on
-  body_carried site =
-      (site.head + 1, false, past site.head_marks (here refl refl),
-      (site.on, 64, 0, subst (λ p. p.StatementAt (site.head + 1) x.body 64 site.on) (sym (at_sites g t.unit who)) site.body_at, (let z : 0 + 64 ≤ 64 = omega arith in z), refl, (site.on, false, here refl refl, on_carried site.on (site, refl))))
+  body_carried site = (
+    site.head + 1,
+    false,
+    past site.head_marks (here refl refl),
+    (site.on, 64, 0, subst (λ p. p.StatementAt (site.head + 1) x.body 64 site.on) (sym (at_sites g t.unit who)) site.body_at, (let z : 0 + 64 ≤ 64 = omega arith in z), refl, (site.on, false, here refl refl, on_carried site.on (site, refl))),
+  )
 
   -- behind the FOR
   pub out_carried : (site : Site) (m : ℕ) → m ≤ 64 → j ≤ m → Via (code c t) (marks c t) m site.out false (λ y l. At c t y l false k)
@@ -184,7 +188,8 @@ module _ (c : Compiled) (at_sites : (g : ℕ) (u : SourceUnit) (who : Option ℕ
   pub turns_in : (w : Words) → is_below (word_at w.memory a) area ≡ true → past_limit w ≡ false → Comes c t (Turn 1 x k) body_on w w
   turns_in w inside e = only_step (picked false w inside e) refl
 
-  turn_stops : (w : Words) → is_below (word_at w.memory a) area ≡ false → next c t (Turn 1 x k) w ≡ configuration t.segment (Turn 1 x k) t.acts w (Stopped AddressRange (g + 1) x.line)
+  turn_stops : (w : Words) → is_below (word_at w.memory a) area ≡ false
+      → next c t (Turn 1 x k) w ≡ configuration t.segment (Turn 1 x k) t.acts w (Stopped AddressRange (g + 1) x.line)
   turn_stops w outside = ap (λ d. turn_step (source c) d t.segment a 1 x (Turn 1 x k) k t.acts w) outside
 
   -- ---- the values by the general way
@@ -242,10 +247,12 @@ module _ (c : Compiled) (at_sites : (g : ℕ) (u : SourceUnit) (who : Option ℕ
       done : (b : Bool) → is_below z area ≡ b → run c t os w ≡ through b (λ j' v. Changed (put (pos a) (put (word_at v.memory j') v))) z w
       done b is = read ∙ ap (λ d. through d (λ j' v. Changed (put (pos a) (put (word_at v.memory j') v))) z w) is
 
-      chooses : (b : Bool) → past_limit w ≡ b → act (target c) (action_of (target c) g t.calls_below (order.Exhausted site.end)) g p false t.calls_below u ≡ branch (target c) 0 (to_mark_if b site.end w) g p false t.calls_below u
+      chooses : (b : Bool) → past_limit w ≡ b
+          → act (target c) (action_of (target c) g t.calls_below (order.Exhausted site.end)) g p false t.calls_below u ≡ branch (target c) 0 (to_mark_if b site.end w) g p false t.calls_below u
       chooses b e = ap (λ d. branch (target c) 0 (way_past_limit d site.end value a w) g p false t.calls_below u) in_area ∙ ap (λ d. branch (target c) 0 (to_mark_if d site.end w) g p false t.calls_below u) e
 
-      path_to : (y : ℕ) (b : Bool) → is_below z area ≡ true → past_limit w ≡ b → branch (target c) 0 (to_mark_if b site.end w) g p false t.calls_below u ≡ at_state y false w → Path (seen_with w) (B c) cost (at_state q false w) (at_state y false w)
+      path_to : (y : ℕ) (b : Bool) → is_below z area ≡ true → past_limit w ≡ b → branch (target c) 0 (to_mark_if b site.end w) g p false t.calls_below u ≡ at_state y false w
+          → Path (seen_with w) (B c) cost (at_state q false w) (at_state y false w)
       path_to y b is e f =
           join (seen_with w) (B c) (total_weight os) 20 cost (at_state q false w) (at_state p true u) (at_state y false w) refl
           (subst (Ran (target c) g t.calls_below x.line q p false true os w) (done true is) ran).0
@@ -291,7 +298,8 @@ module _ (c : Compiled) (at_sites : (g : ℕ) (u : SourceUnit) (who : Option ℕ
         ap (λ o. branch (target c) x.line (next_step area site.body o w) g site.on false t.calls_below w) placed
         ∙ ap (λ b. branch (target c) x.line (stepped_inside b area site.body a w) g site.on false t.calls_below w) inside
 
-    path_to : (r : Way) (v : OrderState) → stepped area site.body a w ≡ r → branch (target c) x.line r g site.on false t.calls_below w ≡ v → Path (seen_with w) (B c) 48 (at_state site.on false w) v
+    path_to : (r : Way) (v : OrderState) → stepped area site.body a w ≡ r → branch (target c) x.line r g site.on false t.calls_below w ≡ v
+        → Path (seen_with w) (B c) 48 (at_state site.on false w) v
     path_to r v e f =
         one_order c t (order.NextStep (loop_place (layout c t) x.item) x.line site.body) site.on false false w v (λ h z. refl) site.goes_on.0 refl
         (does ∙ ap (λ d. branch (target c) x.line d g site.on false t.calls_below w) e ∙ f)
@@ -312,7 +320,8 @@ module _ (c : Compiled) (at_sites : (g : ℕ) (u : SourceUnit) (who : Option ℕ
       same_shown : shown (config c t (Turn 1 x k) v) ≡ shown (config c t (Bump 1 x k) w)
       same_shown = ap (λ o. record { output = o; end = Running }) same_output
 
-      lands_at : (y : ℕ) (r : Way) (k' : Work) → Comes c t (Turn 1 x k) k' v v → turned area site.body a v ≡ r → branch (target c) x.line r g site.on false t.calls_below w ≡ at_state y false v → Leads_to c t y false false k' → Leap c t (On x k) site.on false w
+      lands_at : (y : ℕ) (r : Way) (k' : Work) → Comes c t (Turn 1 x k) k' v v → turned area site.body a v ≡ r
+          → branch (target c) x.line r g site.on false t.calls_below w ≡ at_state y false v → Leads_to c t y false false k' → Leap c t (On x k) site.on false w
       lands_at y r k' way way_is f carried =
           leaps c t.segment t.acts t.calls_below t.unit t.unit_is t.calls (On x k) k' site.on y false false false w v 48 (step_then (to_bump is) refl refl (step_then (bumped (Changed v) e) refl same_shown way))
           (path_to r (at_state y false v) (way_bumped (Changed v) is e ∙ way_is) f) (let z : 48 ≤ 159 = omega arith in z) (let z : 0 < 48 = omega arith in z) tt carried
