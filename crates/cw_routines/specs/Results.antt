@@ -236,12 +236,12 @@ GoesOn code output area to sp bp segment line stack input told (Onward w) p = An
 GoesOn code output area to sp bp segment line stack input told (Barred kind) p = Over output kind segment line p
 GoesOn code output area to sp bp segment line stack input told Nowhere p = ⊥
 
--- What follows the body of a loop of one STEP element: BX is twice the address of its words.
+-- What follows the body of a loop of one STEP element: BX is twice the address of its words, and the line stands 5 bytes behind the way back.
 abbrev pub NextStepRoutine : (Silent : ℕ → Type 0) → (code : List ℕ) → (place bound : ℕ) → Type 0
 NextStepRoutine Silent code place bound =
-    (area a m line bp n r segment back ax cx si : ℕ) (flags : Flags) (cells stack : ℕ → ℕ) (input : List ℕ) (told : Told) (w : Words) (p : Processor)
-    → a + 3 < area → Holds area w.memory cells → line < 65536 → n < 32767 → stack n ≡ back → back < 65536 → Tells stack bp r segment
-    → At code place (view ax cx line (2 * a) (2 * n) bp si area cells stack input told) flags p
+    (area a m line bp n r segment back ax cx dx si : ℕ) (flags : Flags) (cells stack : ℕ → ℕ) (input : List ℕ) (told : Told) (w : Words) (p : Processor)
+    → a + 3 < area → Holds area w.memory cells → HasWord code (back + 5) line → line < 65536 → n < 32767 → stack n ≡ back → back < 65536 → Tells stack bp r segment
+    → At code place (view ax cx dx (2 * a) (2 * n) bp si area cells stack input told) flags p
     → Within Silent code told.output bound p (GoesOn code told.output area back (2 * suc n) bp segment line stack input told (stepped area m a w))
 
 -- ---- products and quotients

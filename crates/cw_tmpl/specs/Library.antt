@@ -7,7 +7,7 @@ use Rattle.cw_i86.specs.declared.instr.Instr.TheVariants as i86
 use Rattle.cw_i86.specs.declared.instr.Rm.TheVariants as rms
 use Rattle.cw_run86.specs.Views.{with_number}
 use Rattle.cw_unit.specs.Stop.{StopKind, Overflow, ZeroDivisor, SwitchRange, AddressRange, FramesFull, DepthReached, IndexRange}
-use Rattle.cw_tmpl.specs.Mnemonics.{ax, bx, cx, dx, sp, bp, si, di, al, ah, segment_slot, calls_slot, rest_slot, slot, at_bx, at_si, near_field, code_at_bx, code_at_si, code_behind_si, set_word, set_byte, load, store, move, add, add_number, add_word, subtract, subtract_word, compare, compare_word, one_of, either, negate, double, exchange, shift_up, shift_down, shift_down_signed, multiply, divide, jump_to, jump_if_overflow, jump_if_below, jump_if_not_below, jump_if_equal, jump_if_unequal, jump_if_sign, jump_if_at_most, bytes_of_all}
+use Rattle.cw_tmpl.specs.Mnemonics.{ax, bx, cx, dx, sp, bp, si, di, al, ah, segment_slot, calls_slot, rest_slot, slot, at_bx, at_si, near_field, code_at_bx, code_behind_bx, code_at_si, code_behind_si, set_word, set_byte, load, store, move, add, add_number, add_word, subtract, subtract_word, compare, compare_word, one_of, either, negate, double, exchange, shift_up, shift_down, shift_down_signed, multiply, divide, jump_to, jump_if_overflow, jump_if_below, jump_if_not_below, jump_if_equal, jump_if_unequal, jump_if_sign, jump_if_at_most, bytes_of_all}
 
 -- ---- the end, and the entries of earlier libraries
 
@@ -214,9 +214,9 @@ quotient_end =
 
 -- ---- the step of a loop
 --
--- What follows the body of a loop of one STEP element. BX is twice the address of the loop's words, and DX has the line. It comes back with LE
--- where the body follows, and with its opposite where the loop is left: where word 3 is not the number of the element, or the control variable
--- with its step is past the limit. Where word 0 is no address of the data area, or the sum fits no word, it stops.
+-- What follows the body of a loop of one STEP element. BX is twice the address of the loop's words. It comes back with LE where the body follows,
+-- and with its opposite where the loop is left: where word 3 is not the number of the element, or the control variable with its step is past the
+-- limit. Where word 0 is no address of the data area, or the sum fits no word, it stops, at the line in the word 5 bytes behind the call.
 
 abbrev pub next_step_place : ℕ
 next_step_place = 338
@@ -232,7 +232,7 @@ abbrev pub stepped : List Instr
 stepped =
     load si at_bx ∷ compare si di ∷ jump_if_not_below 0x42 ∷ double si ∷ compare si bx ∷ jump_if_equal 0x16
     ∷ load ax (near_field 2) ∷ either ax ax ∷ jump_if_at_most 0x0F
-    ∷ add_word ax at_si ∷ jump_if_overflow 0x36 ∷ store at_si ax ∷ compare_word ax (near_field 4) ∷ i86.Ret ∷ []
+    ∷ add_word ax at_si ∷ jump_if_overflow 0x35 ∷ store at_si ax ∷ compare_word ax (near_field 4) ∷ i86.Ret ∷ []
 
 abbrev pub left_place : ℕ
 left_place = 373
@@ -245,7 +245,7 @@ abbrev pub stepped_any_place : ℕ
 stepped_any_place = 378
 
 abbrev pub stepped_any : List Instr
-stepped_any = load ax at_si ∷ add_word ax (near_field 2) ∷ jump_if_overflow 0x24 ∷ store at_si ax ∷ []
+stepped_any = load ax at_si ∷ add_word ax (near_field 2) ∷ jump_if_overflow 0x23 ∷ store at_si ax ∷ []
 
 abbrev pub turned_place : ℕ
 turned_place = 387
@@ -256,15 +256,24 @@ turned =
     ∷ jump_if_sign 6 ∷ jump_if_equal 3 ∷ compare_word cx (near_field 4) ∷ i86.Ret
     ∷ load ax (near_field 4) ∷ compare ax cx ∷ i86.Ret ∷ []
 
--- the stops of these, which are too far from the others for a short jump
-abbrev pub far_stop : (kind back : ℕ) → List Instr
-far_stop kind back = set_byte al kind ∷ i86.Jump back ∷ []
+-- The stops of these, with their line, which stands behind a jump where the call comes back.
+abbrev pub step_address_place : ℕ
+step_address_place = 416
 
-abbrev pub far_address_place : ℕ
-far_address_place = 416
+abbrev pub step_address_stop : List Instr
+step_address_stop = set_byte al 4 ∷ i86.JumpShort 2 ∷ []
 
-abbrev pub far_sum_place : ℕ
-far_sum_place = 421
+abbrev pub step_sum_place : ℕ
+step_sum_place = 420
+
+abbrev pub step_sum_stop : List Instr
+step_sum_stop = set_byte al 1 ∷ []
+
+abbrev pub step_line_place : ℕ
+step_line_place = 422
+
+abbrev pub step_line : List Instr
+step_line = i86.Pop bx ∷ load dx (code_behind_bx 5) ∷ i86.Jump 65161 ∷ []
 
 -- ---- the whole
 
@@ -277,7 +286,7 @@ routines =
     ∷ told_stop 4 0xEC ∷ told_stop 1 0xE8 ∷ told_stop 3 0xE4 ∷ told_stop 6 0xE0 ∷ told_stop 5 0xDC
     ∷ enter_routine ∷ read_routine ∷ set_variable_routine ∷ add_step_routine ∷ put_variable_routine ∷ exhausted_routine
     ∷ product_routine ∷ too_large ∷ quotient_down_routine ∷ quotient_up_routine ∷ quotient_end
-    ∷ next_step_test ∷ stepped ∷ left ∷ stepped_any ∷ turned ∷ far_stop 4 65170 ∷ far_stop 1 65165 ∷ []
+    ∷ next_step_test ∷ stepped ∷ left ∷ stepped_any ∷ turned ∷ step_address_stop ∷ step_sum_stop ∷ step_line ∷ []
 
 abbrev pub joined : List (List Instr) → List Instr
 joined [] = []

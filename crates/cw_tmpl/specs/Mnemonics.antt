@@ -97,6 +97,9 @@ at_si = memory (places.Plain 4)
 abbrev pub code_at_bx : Rm
 code_at_bx = rms.Mem (record { cs = true; place = places.Plain 7 })
 
+abbrev pub code_behind_bx : ℕ → Rm
+code_behind_bx by = rms.Mem (record { cs = true; place = places.Near 7 by })
+
 abbrev pub code_at_si : Rm
 code_at_si = rms.Mem (record { cs = true; place = places.Plain 4 })
 

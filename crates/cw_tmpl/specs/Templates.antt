@@ -343,10 +343,12 @@ abbrev pub doubled_size : Place → ℕ
 doubled_size (cell.Word family offset) = 3
 doubled_size (cell.Frame n) = 7
 
--- the step of a loop, by its words at a place; where its body follows the routine comes back with LE. The code stands at a place of the segment
+-- The step of a loop, by its words at a place. Where the body follows, the routine comes back with LE; where it stops, it takes the line from behind
+-- the jump. The code stands at a place of the segment
 abbrev pub step_taken : Place → (line place to : ℕ) → List Coded
 step_taken x line place to =
-    place_doubled x ++ (call_at_line next_step_entry line ++ branch comparator.LessEqual (place + (doubled_size x + 11)) to)
+    place_doubled x
+    ++ (call_library next_step_entry ∷ coded.Whole (i86.JumpIf (condition_of Greater) 5) ∷ jump_near (place + (doubled_size x + 8)) to ∷ coded.Data line ∷ [])
 
 -- A switch takes its index in AX, the line in DX, and the record of the activation that owns its labels in SI.
 abbrev pub switch_pieces : Names → (place : ℕ) → List Goal → List Coded
@@ -701,7 +703,7 @@ listed_size (order.Exhausted mark) = 6
 listed_size (order.SetVariable line) = 6
 listed_size (order.AddStep line) = 6
 listed_size (order.PutVariable line) = 6
-listed_size (order.NextStep x line mark) = doubled_size x + 11
+listed_size (order.NextStep x line mark) = doubled_size x + 10
 listed_size (order.LoopWay marks) = loop_ways_size marks
 listed_size (order.CallProc q line) = 6
 listed_size (order.CallCommon d line) = 6
