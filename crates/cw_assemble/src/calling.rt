@@ -93,12 +93,18 @@ pub(crate) fn put_bind(
     ])
 }
 
+/// The bytes of so many words, modulo 65,536.
+pub(crate) fn bytes_of_words(words: u16) -> u16
+    ensures { result ≡ 2 * words % 65536 }
+{
+    (2 * u32::from(words) % 65_536) as u16
+}
+
 /// A word of the frame, where BX has the bytes of its base.
 pub(crate) fn frame_field(offset: u16) -> Rm
     ensures { result ≡ field (2 * offset % 65536) }
 {
-    let by = (2 * u32::from(offset) % 65_536) as u16;
-    field(by)
+    field(bytes_of_words(offset))
 }
 
 /// Adds what stores an argument in a word of the frame.

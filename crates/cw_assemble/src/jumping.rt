@@ -220,7 +220,7 @@ pub(crate) fn put_switch(code: &mut Assembly, goals: &[Goal], names: &Names) -> 
     put_goal_words(code, goals, names)
 }
 
-/// Adds the way of a loop.
+/// Adds the way of a loop by a table.
 pub(crate) fn put_loop_way(
     code: &mut Assembly,
     marks: &[u32],

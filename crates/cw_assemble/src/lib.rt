@@ -7,6 +7,7 @@ mod blocks;
 mod calling;
 mod indexes;
 mod jumping;
+mod loops;
 mod orders;
 mod parts;
 mod places;

@@ -18,8 +18,9 @@ use crate::indexes::{
 };
 use crate::jumping::{
     put_base_jump, put_go_special, put_go_switch, put_go_switch_common, put_go_switch_special,
-    put_jump, put_jump_if, put_loop_way, put_past_limit,
+    put_jump, put_jump_if, put_past_limit,
 };
+use crate::loops::{put_loop_ways, put_next_step};
 use crate::parts::{put_load_part, put_store_part, put_take};
 use cw_i86::Instr;
 use cw_order::Order;
@@ -168,7 +169,10 @@ pub(crate) fn put_order(code: &mut Assembly, order: &Order, names: &Names) -> Re
         Order::SetVariable(line) => put_call_at_line(code, SET_VARIABLE, *line),
         Order::AddStep(line) => put_call_at_line(code, ADD_STEP, *line),
         Order::PutVariable(line) => put_call_at_line(code, PUT_VARIABLE, *line),
-        Order::LoopWay(marks) => put_loop_way(code, marks.as_slice(), names),
+        Order::NextStep { looped, line, mark } => {
+            put_next_step(code, *looped, *line, u64::from(names.mark(*mark)))
+        }
+        Order::LoopWay(marks) => put_loop_ways(code, marks.as_slice(), names),
         Order::LabelOut(label) => put_control(code, own(names.label(*label))),
         Order::SwitchOut(switch) => put_control(code, own(u64::from(names.switch(*switch)))),
         Order::ProcOut(procedure) => {

@@ -5,7 +5,7 @@ ghost use Rattle.cw_order.specs.declared.order.Order.TheVariants as order;
 ghost use Rattle.cw_tmpl.specs.Blocks.{NamesParts};
 ghost use Rattle.cw_tmpl.specs.declared.blocks.Block.TheVariants as block;
 ghost use Rattle.cw_tmpl.specs.declared.blocks.Simple.TheVariants as simple;
-ghost use Rattle.cw_tmpl.specs.Templates.{address_pieces, load_place, pieces_size, index_size, lower_size, element_size, used_size, shift_size, part_size, times_size, width_size, bound_size, word_size, bounds_size, top_lower_size, formed_size, listed_size, order_size, block_size};
+ghost use Rattle.cw_tmpl.specs.Templates.{address_pieces, load_place, pieces_size, index_size, lower_size, element_size, used_size, shift_size, part_size, times_size, width_size, bound_size, word_size, bounds_size, top_lower_size, formed_size, doubled_size, loop_ways_size, listed_size, order_size, block_size};
 
 use crate::words::power;
 use cw_order::{Order, Place};
@@ -207,6 +207,27 @@ fn element_moved_size(element: Element) -> u32
     element_size(element) + 2
 }
 
+/// How many bytes the code of twice the address of a place has.
+fn doubled_size(place: Place) -> u32
+    ensures is { result ≡ doubled_size place }
+    ensures small { result ≤ 7 }
+{
+    match place {
+        Place::Word { .. } => 3,
+        Place::Frame(_) => 7,
+    }
+}
+
+/// How many bytes the way of a loop has.
+fn loop_ways_size(marks: &[u32]) -> Result<u32, NoMemory>
+    ensures { IfOk result (λ n. n ≡ loop_ways_size marks.now) }
+{
+    match marks {
+        [_] => Ok(6),
+        _ => table_size(20, marks.len()),
+    }
+}
+
 /// How many bytes the code of an order alone has.
 fn order_size(order: &Order) -> Result<u32, NoMemory>
     requires { HasCode order.now }
@@ -249,7 +270,8 @@ fn order_size(order: &Order) -> Result<u32, NoMemory>
             ..
         } => bound_size(*second) + bound_size(*lower) + times_size(*width) + 33,
         Order::Entry { width, word, .. } => width_size(*width) + word_size(*word) + 21,
-        Order::LoopWay(marks) => return table_size(20, marks.as_slice().len()),
+        Order::NextStep { looped, .. } => doubled_size(*looped) + 11,
+        Order::LoopWay(marks) => return loop_ways_size(marks.as_slice()),
     };
     Ok(size)
 }

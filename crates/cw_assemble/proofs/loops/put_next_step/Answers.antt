@@ -1,0 +1,29 @@
+use Rattle.std.proofs.Common.{◌≡◌, ℕ, ◌+◌, ◌++◌, length, length-append, refl, ap, subst, arith}
+use Rattle.std.proofs.lemmas.Result.{on_ok_weaker}
+use Rattle.cw_order.specs.declared.order.Comparator.TheVariants as comparator
+use Rattle.cw_order.specs.declared.order.Place.{Place}
+use Rattle.cw_order.specs.declared.order.Place.TheVariants as cell
+use Rattle.cw_tmpl.specs.declared.assembling.Assembly.{Assembly}
+use Rattle.cw_tmpl.specs.Assembling.{Adds}
+use Rattle.cw_tmpl.specs.Library.{next_step_entry}
+use Rattle.cw_tmpl.specs.Pieces.{blanks}
+use Rattle.cw_tmpl.specs.Templates.{place_doubled, doubled_size, step_taken, call_at_line, branch}
+use Rattle.cw_tmpl.proofs.Growing.{adds_then}
+use Rattle.cw_assemble.proofs.loops.put_next_step.Goals as goal
+
+doubled_long : (x : Place) → length (blanks (place_doubled x)) ≡ doubled_size x
+doubled_long (cell.Word f n) = refl
+doubled_long (cell.Frame n) = refl
+
+step_added : (old one new : Assembly) (x : Place) (line to : ℕ) → Adds old (place_doubled x) one
+    → Adds one (call_at_line next_step_entry line ++ branch comparator.LessEqual (length one.bytes + 11) to) new → Adds old (step_taken x line (length old.bytes) to) new
+step_added old one new x line to a b =
+    let end : length one.bytes + 11 ≡ length old.bytes + (doubled_size x + 11) = omega (arith, ap length a.bytes, length-append old.bytes (blanks (place_doubled x)), doubled_long x) in
+    adds_then old one new (place_doubled x) (call_at_line next_step_entry line ++ branch comparator.LessEqual (length old.bytes + (doubled_size x + 11)) to) a
+    (subst (λ n. Adds one (call_at_line next_step_entry line ++ branch comparator.LessEqual n to) new) end b)
+
+pub returns : goal.returns
+returns c =
+    on_ok_weaker c.put_step.result
+    (step_added c.args.code.now c.put_place_doubled.new.code c.put_step.new.code c.args.looped c.args.line c.args.to c.in_ok-put_place_doubled.ensures)
+    c.put_step.ensures

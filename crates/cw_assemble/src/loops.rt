@@ -1,0 +1,89 @@
+//! Code of the step of a loop, and of the way of its elements.
+ghost use Rattle.std.specs.Prelude.{◌≡◌, ◌+◌, ◌++◌, length, OnOk};
+ghost use Rattle.cw_order.specs.declared.order.Comparator.TheVariants as comparator;
+ghost use Rattle.cw_tmpl.specs.Assembling.{Adds};
+ghost use Rattle.cw_tmpl.specs.Library.{next_step_entry};
+ghost use Rattle.cw_tmpl.specs.Templates.{place_doubled, step_taken, one_way, loop_ways, call_at_line, branch};
+
+use crate::calling::bytes_of_words;
+use crate::jumping::{distance, opposite, put_loop_way};
+use cw_i86::Instr;
+use cw_order::{Comparator, Place};
+use cw_tmpl::instructions::{
+    AX, BASE, BX, DX, decrease, jump_if_unequal, load, operate_number, set_word,
+};
+use cw_tmpl::library::NEXT_STEP;
+use cw_tmpl::{Assembly, Coded, Names, Target};
+use cw_word::NoMemory;
+
+/// Adds twice the address of a place, in BX.
+fn put_place_doubled(code: &mut Assembly, place: Place) -> Result<(), NoMemory>
+    ensures { OnOk result (Adds code.old (place_doubled place) code.new) }
+{
+    match place {
+        Place::Word { family, offset } => code.put_all(&[Coded::Move {
+            reg: BX,
+            target: Target::Bytes { family, offset },
+        }]),
+        Place::Frame(offset) => code.put_all(&[
+            Coded::Whole(load(BX, BASE)),
+            Coded::Whole(operate_number(0, BX, bytes_of_words(offset))),
+        ]),
+    }
+}
+
+/// Adds the step of the loop whose words BX tells, and a jump to a place where its body follows.
+fn put_step(code: &mut Assembly, line: u16, to: u64) -> Result<(), NoMemory>
+    ensures { OnOk result (Adds code.old (call_at_line next_step_entry line ++ branch comparator.LessEqual (length code.old.bytes + 11) to) code.new) }
+{
+    let end = code.bytes.as_slice().len() + 11;
+    code.put_all(&[
+        Coded::Whole(set_word(DX, line)),
+        Coded::Call(Target::LibraryAhead(NEXT_STEP)),
+        Coded::Whole(Instr::JumpIf {
+            cond: opposite(Comparator::LessEqual),
+            by: 3,
+        }),
+        Coded::Whole(Instr::Jump(distance(end, to))),
+    ])
+}
+
+/// Adds the step of a loop by its words at a place, and a jump to a place where its body follows.
+pub(crate) fn put_next_step(
+    code: &mut Assembly,
+    looped: Place,
+    line: u16,
+    to: u64,
+) -> Result<(), NoMemory>
+    ensures { OnOk result (Adds code.old (step_taken looped line (length code.old.bytes) to) code.new) }
+{
+    put_place_doubled(code, looped)?;
+    put_step(code, line, to)
+}
+
+/// Adds the way of a loop of one element.
+fn put_one_way(code: &mut Assembly, mark: u32, names: &Names) -> Result<(), NoMemory>
+    ensures { OnOk result (Adds code.old (one_way names.now (length code.old.bytes) mark) code.new) }
+{
+    let end = code.bytes.as_slice().len() + 6;
+    let to = u64::from(names.mark(mark));
+    code.put_all(&[
+        Coded::Whole(decrease(AX)),
+        Coded::Whole(jump_if_unequal(3)),
+        Coded::Whole(Instr::Jump(distance(end, to))),
+    ])
+}
+
+/// Adds the way of a loop: a table only where it has not one element.
+pub(crate) fn put_loop_ways(
+    code: &mut Assembly,
+    marks: &[u32],
+    names: &Names,
+) -> Result<(), NoMemory>
+    ensures { OnOk result (Adds code.old (loop_ways names.now (length code.old.bytes) marks.now) code.new) }
+{
+    match marks {
+        [mark] => put_one_way(code, *mark, names),
+        _ => put_loop_way(code, marks, names),
+    }
+}
