@@ -1,8 +1,9 @@
 -- Pieces that are added one after another, as the code adds them.
-use Rattle.std.proofs.Common.{◌≡◌, ℕ, ◌+◌, ◌≤◌, List, [], ◌∷◌, ◌++◌, length, drop, map, false, sym, ap, ap₂, ◌∙◌, length-append, Option}
+use Rattle.std.proofs.Common.{◌≡◌, ℕ, ◌+◌, ◌≤◌, List, [], ◌∷◌, ◌++◌, length, drop, map, false, refl, sym, ap, ap₂, ◌∙◌, length-append, Option}
 use Rattle.std.proofs.lemmas.List.{drop_all}
 use Rattle.cw_order.specs.declared.order.Order.{Order}
 use Rattle.cw_order.specs.declared.order.Order.TheVariants as order
+use Rattle.cw_unit.specs.declared.layout.Layout.{Layout}
 use Rattle.cw_unit.specs.declared.unit.Dest.{Dest}
 use Rattle.cw_unit.specs.declared.unit.Felem.{Felem}
 use Rattle.cw_unit.specs.declared.unit.Ref.{Ref, out-Ref}
@@ -13,8 +14,11 @@ use Rattle.cw_gen_expr.specs.Pieces.{MarkedOrders, Piece, plain, followed_by, wi
 use Rattle.cw_gen_expr.specs.Output.{added}
 use Rattle.cw_gen_expr.specs.ReferenceExpressions.{Scope, at_line, ConditionPiece, choice_piece, item_order, spot_piece, reference_of}
 use Rattle.cw_gen_expr.proofs.Layers.{reference-made}
-use Rattle.cw_gen_expr.proofs.Making.{reserved, closed, added-end, added-nothing, two_steps}
-use Rattle.cw_gen_unit.specs.ReferenceStatements.{begin_orders, jump_piece, with_middle, set_orders, elements_piece, element_ways, ring_piece, statement_step, statement_piece}
+use Rattle.cw_gen_expr.proofs.Making.{reserved, closed, added-both, added-end, added-nothing, two_steps}
+use Rattle.cw_gen_unit.specs.ReferenceStatements.{begin_orders, jump_piece, with_middle, set_orders, loop_place, elements_piece, element_ways, ring_piece, stepped_piece, statement_step, statement_piece}
+use Rattle.cw_gen_unit.specs.BegunLoops.{ended, IsBegun}
+use Rattle.cw_gen_unit.specs.declared.begun.Begun.{Begun}
+use Rattle.cw_gen_unit.specs.declared.begun.WayOn.TheVariants as way
 
 -- ---- pieces
 
@@ -54,14 +58,26 @@ chosen c a b end other x x1 x2 x3 x4 x5 x6 x7 x8 ee e1 eo e2 e3 e4 e5 e6 e7 e8 =
 
 -- ---- FOR
 
--- the elements, the tail, the body and the way on
-module _ (s : Scope) (item f : ℕ) (es : List Felem) (body : Piece) where
-  way_orders : List ℕ → List Order
-  way_orders ways = item_order s.layout item 3 ∷ order.Load ∷ order.LoopWay ways ∷ []
+-- a loop of one STEP element, up to its body
+pub stepped : (s : Scope) (y : Layout) (line item : ℕ) (beginning : ℕ → Piece) (end start : ℕ) (x x1 x2 x3 x4 : MarkedOrders) → s.layout ≡ y → s.line ≡ line → end ≡ length x.marks → x1 ≡ reserved x → start ≡ length x1.marks → x2 ≡ reserved x1 → Adds (beginning end) x2 x3 → x4 ≡ closed start x3 → IsBegun y line item (stepped_piece s item beginning) x x4 (record { end = end; way = way.Step start })
+stepped s y line item beginning end start x x1 x2 x3 x4 ey el ee e1 es e2 begins e4 body =
+    let step = λ (z : Layout) (l j : ℕ). plain (order.NextStep (loop_place z item) l j ∷ []) in
+    let second = λ (j : ℕ). followed_by body (step s.layout s.line j) in
+    let x5 = added body x4 in
+    let x6 = added (step y line start) x5 in
+    let last : x6 ≡ added (step s.layout s.line start) x5 = ap₂ (λ z l. added (step z l start) x5) (sym ey) (sym el) in
+    sym (ends (λ k. with_middle (λ j. beginning k) second) end x x1 x6 (closed end x6) ee e1
+    (middle (λ j. beginning end) second start x1 x4 x6 es (ends (λ j. beginning end) start x1 x2 x3 x4 es e2 begins e4) (and_then (one body x4 x5 refl) (one (step s.layout s.line start) x5 x6 last)))
+    refl).is
 
-  pub ringed : (end start set : ℕ) (ways : List ℕ) (x x1 x2 x3 x4 x5 x6 x7 x8 x9 x10 x11 : MarkedOrders) → end ≡ length x.marks → x1 ≡ reserved x → start ≡ length x1.marks → x2 ≡ reserved x1 → set ≡ length x2.marks → x3 ≡ reserved x2 → ways ≡ element_ways s item f set start 1 es (length x3.orders) (length x3.marks) → x4 ≡ added (elements_piece s item f set start 1 es) x3 → x5 ≡ added (plain (order.Jump end ∷ [])) x4 → x6 ≡ closed set x5 → x7 ≡ added (plain (set_orders s.layout s.line item)) x6 → x8 ≡ closed start x7 → Adds body x8 x9 → x10 ≡ added (plain (item_order s.layout item 3 ∷ order.Load ∷ order.LoopWay ways ∷ [])) x9 → x11 ≡ closed end x10 → Adds (ring_piece s item f es body) x x11
-  unfolding way_orders
-  ringed end start set ways x x1 x2 x3 x4 x5 x6 x7 x8 x9 x10 x11 ee e1 es' e2 et e3 ew e4 e5 e6 e7 e8 inner e10 e11 =
+-- the elements and the tail
+module _ (s : Scope) (item f : ℕ) (es : List Felem) where
+  way_on : List ℕ → List Order
+  way_on ways = item_order s.layout item 3 ∷ order.Load ∷ order.LoopWay ways ∷ []
+
+  pub ringed : (end start set : ℕ) (ways : List ℕ) (x x1 x2 x3 x4 x5 x6 x7 x8 : MarkedOrders) → end ≡ length x.marks → x1 ≡ reserved x → start ≡ length x1.marks → x2 ≡ reserved x1 → set ≡ length x2.marks → x3 ≡ reserved x2 → ways ≡ element_ways s item f set start 1 es (length x3.orders) (length x3.marks) → x4 ≡ added (elements_piece s item f set start 1 es) x3 → x5 ≡ added (plain (order.Jump end ∷ [])) x4 → x6 ≡ closed set x5 → x7 ≡ added (plain (set_orders s.layout s.line item)) x6 → x8 ≡ closed start x7 → IsBegun s.layout s.line item (ring_piece s item f es) x x8 (record { end = end; way = way.Ring ways })
+  unfolding way_on
+  ringed end start set ways x x1 x2 x3 x4 x5 x6 x7 x8 ee e1 es' e2 et e3 ew e4 e5 e6 e7 e8 body =
       let n = length x.marks in
       let marks1 : length x1.marks ≡ n + 1 = ap (λ z. length z.marks) e1 ∙ length-append x.marks (0 ∷ []) in
       let marks2 : length x2.marks ≡ n + 1 + 1 = ap (λ z. length z.marks) e2 ∙ length-append x1.marks (0 ∷ []) ∙ ap (λ k. k + 1) marks1 in
@@ -71,13 +87,23 @@ module _ (s : Scope) (item f : ℕ) (es : List Felem) (body : Piece) where
       let same : ways ≡ all =
       ew ∙ ap₂ (λ i j. element_ways s item f i j 1 es (length x3.orders) (length x3.marks)) (et ∙ marks2) (es' ∙ marks1)
       ∙ ap₂ (element_ways s item f (n + 1 + 1) (n + 1) 1 es) orders3 marks3 in
+      let x9 = added body x8 in
+      let x10 = added (plain (way_on ways)) x9 in
       let tail = λ (k j i : ℕ). followed_by (elements_piece s item f i j 1 es) (plain (order.Jump k ∷ [])) in
       let first = λ (k j : ℕ). followed_by (with_end (tail k j)) (plain (set_orders s.layout s.line item)) in
-      let second = λ (j : ℕ). followed_by body (plain (way_orders all)) in
+      let second = λ (j : ℕ). followed_by body (plain (way_on all)) in
       let elements = and_then (one (elements_piece s item f set start 1 es) x3 x4 e4) (one (plain (order.Jump end ∷ [])) x4 x5 e5) in
       let set_tail = and_then (ends (tail end start) set x2 x3 x5 x6 et e3 elements e6) (one (plain (set_orders s.layout s.line item)) x6 x7 e7) in
-      let way_on = and_then inner (one (plain (way_orders all)) x9 x10 (e10 ∙ ap (λ w. added (plain (way_orders w)) x9) same)) in
-      record { is = (ends (λ k. with_middle (first k) second) end x x1 x10 x11 ee e1 (middle (first end) second start x1 x8 x10 es' (ends (first end) start x1 x2 x7 x8 es' e2 set_tail e8) way_on) e11).is }
+      let on = and_then (one body x8 x9 refl) (one (plain (way_on all)) x9 x10 (ap (λ w. added (plain (way_on w)) x9) same)) in
+      sym (ends (λ k. with_middle (first k) second) end x x1 x10 (closed end x10) ee e1 (middle (first end) second start x1 x8 x10 es' (ends (first end) start x1 x2 x7 x8 es' e2 set_tail e8) on) refl).is
+
+-- behind what comes first
+pub behind : (y : Layout) (line item : ℕ) (p : Piece) (loop : Piece → Piece) (x x1 x2 : MarkedOrders) (b : Begun) → Adds p x x1 → IsBegun y line item loop x1 x2 b → IsBegun y line item (λ body. followed_by p (loop body)) x x2 b
+behind y line item p loop x x1 x2 b first rest body = added-both p (loop body) x ∙ ap (added (loop body)) (sym first.is) ∙ rest body
+
+-- with its body and its end
+pub looped : (y : Layout) (line item : ℕ) (loop : Piece → Piece) (body : Piece) (x x1 x2 x3 : MarkedOrders) (b : Begun) → IsBegun y line item loop x x1 b → Adds body x1 x2 → x3 ≡ ended y line item b x2 → Adds (loop body) x x3
+looped y line item loop body x x1 x2 x3 b begun inner e = record { is = e ∙ ap (ended y line item b) inner.is ∙ sym (begun body) }
 
 -- ---- statements
 

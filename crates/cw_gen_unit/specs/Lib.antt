@@ -4,3 +4,4 @@ pub mod ReferenceUnits
 pub mod BuiltUnits
 pub mod LabelPlaces
 pub mod SimpleLoops
+pub mod BegunLoops

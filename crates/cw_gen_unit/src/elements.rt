@@ -1,10 +1,13 @@
 //! The elements of a FOR.
-ghost use Rattle.std.specs.Prelude.{◌≡◌, length, OnOk, IfOk};
+ghost use Rattle.std.specs.Prelude.{◌≡◌, length, OnOk, IfOk, List as Sequence};
+ghost use Rattle.cw_order.specs.declared.order.Order.{Order as OrderModel};
+ghost use Rattle.cw_gen_expr.specs.Pieces.{plain};
 ghost use Rattle.cw_gen_expr.specs.Output.{made, added};
 ghost use Rattle.cw_gen_expr.specs.ReferenceExpressions.{scope_with, at_line};
-ghost use Rattle.cw_gen_unit.specs.ReferenceStatements.{while_values, step_values, way_mark, element_piece, elements_piece, element_ways};
+ghost use Rattle.cw_gen_unit.specs.ReferenceStatements.{while_values, step_values, first_turn, way_mark, element_piece, elements_piece, element_ways};
+ghost use Rattle.cw_gen_unit.specs.BegunLoops.{values_with};
 
-use crate::loops::{emit_bump, emit_keep, emit_number, emit_set, emit_turn};
+use crate::loops::{emit_bump, emit_keep, emit_number, emit_set, emit_test, emit_turn};
 use cw_gen_expr::expressions::{emit_condition, emit_expression};
 use cw_gen_expr::output::Output;
 use cw_order::Order;
@@ -37,7 +40,32 @@ fn emit_while(
     out.push(Order::Jump(body))
 }
 
-/// The three values of a STEP element.
+/// The three values of a STEP element, up to what follows the limit.
+fn emit_values(
+    out: &mut Output,
+    unit: &Unit,
+    layout: &Layout,
+    parameters: &[Param],
+    line: u16,
+    looped: u32,
+    scale: u8,
+    number: u16,
+    first: &Expr,
+    step: &Expr,
+    limit: &Expr,
+) -> Result<(), NoMemory>
+    ensures { OnOk result ((os : Sequence OrderModel) → added (plain os) (made out.new) ≡ added (values_with (at_line line (scope_with unit.now layout.now parameters.now)) looped scale number first.now step.now limit.now os) (made out.old)) }
+{
+    emit_number(out, layout, looped, number)?;
+    emit_expression(out, unit, layout, parameters, line, first, scale)?;
+    emit_set(out, layout, line, looped)?;
+    emit_expression(out, unit, layout, parameters, line, step, scale)?;
+    emit_keep(out, layout, looped, 1)?;
+    emit_expression(out, unit, layout, parameters, line, limit, scale)?;
+    emit_keep(out, layout, looped, 2)
+}
+
+/// The values of a STEP element of several elements, and the jump to its turn.
 fn emit_step(
     out: &mut Output,
     unit: &Unit,
@@ -54,14 +82,32 @@ fn emit_step(
 ) -> Result<(), NoMemory>
     ensures { OnOk result (made out.new ≡ added (step_values (at_line line (scope_with unit.now layout.now parameters.now)) looped scale turn number first.now step.now limit.now) (made out.old)) }
 {
-    emit_number(out, layout, looped, number)?;
-    emit_expression(out, unit, layout, parameters, line, first, scale)?;
-    emit_set(out, layout, line, looped)?;
-    emit_expression(out, unit, layout, parameters, line, step, scale)?;
-    emit_keep(out, layout, looped, 1)?;
-    emit_expression(out, unit, layout, parameters, line, limit, scale)?;
-    emit_keep(out, layout, looped, 2)?;
+    emit_values(
+        out, unit, layout, parameters, line, looped, scale, number, first, step, limit,
+    )?;
     out.push(Order::Jump(turn))
+}
+
+/// The values of the one STEP element of a FOR, and its first turn, which goes to the end where the first value is past the limit.
+pub fn emit_first_turn(
+    out: &mut Output,
+    unit: &Unit,
+    layout: &Layout,
+    parameters: &[Param],
+    line: u16,
+    looped: u32,
+    scale: u8,
+    end: u32,
+    first: &Expr,
+    step: &Expr,
+    limit: &Expr,
+) -> Result<(), NoMemory>
+    ensures { OnOk result (made out.new ≡ added (first_turn (at_line line (scope_with unit.now layout.now parameters.now)) looped scale first.now step.now limit.now end) (made out.old)) }
+{
+    emit_values(
+        out, unit, layout, parameters, line, looped, scale, 1, first, step, limit,
+    )?;
+    emit_test(out, layout, line, looped, end)
 }
 
 /// Adds the orders of an element, and answers the mark where the body's end goes on with it.

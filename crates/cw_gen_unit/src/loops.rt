@@ -10,7 +10,7 @@ use cw_gen_expr::orders::item;
 use cw_gen_expr::output::Output;
 use cw_order::Order;
 use cw_unit::layout::Layout;
-use cw_word::{List, NoMemory};
+use cw_word::NoMemory;
 
 /// Keeps the top operand in a word of a loop.
 pub fn emit_keep(out: &mut Output, layout: &Layout, looped: u32, word: u16) -> Result<(), NoMemory>
@@ -51,6 +51,21 @@ pub fn emit_bump(out: &mut Output, layout: &Layout, line: u16, looped: u32) -> R
     out.push(Order::AddStep(line))
 }
 
+/// The test of the control variable, which goes on at a mark where it is past the limit.
+pub fn emit_test(
+    out: &mut Output,
+    layout: &Layout,
+    line: u16,
+    looped: u32,
+    mark: u32,
+) -> Result<(), NoMemory>
+    ensures { OnOk result (made out.new ≡ added (plain (item_order layout.now looped 0 ∷ order.PutVariable line ∷ order.Exhausted mark ∷ [])) (made out.old)) }
+{
+    out.push(item(layout, looped, 0))?;
+    out.push(Order::PutVariable(line))?;
+    out.push(Order::Exhausted(mark))
+}
+
 /// The test of a STEP element, which jumps to the body or goes on behind it.
 pub fn emit_turn(
     out: &mut Output,
@@ -62,23 +77,7 @@ pub fn emit_turn(
     ensures { OnOk result (made out.new ≡ added (turn_piece layout.now line looped body) (made out.old)) }
 {
     let next = out.new_mark()?;
-    out.push(item(layout, looped, 0))?;
-    out.push(Order::PutVariable(line))?;
-    out.push(Order::Exhausted(next))?;
+    emit_test(out, layout, line, looped, next)?;
     out.push(Order::Jump(body))?;
     out.set_mark(next)
-}
-
-/// The way on behind the body: to the mark of the element at work.
-pub fn emit_way(
-    out: &mut Output,
-    layout: &Layout,
-    looped: u32,
-    ways: List<u32>,
-) -> Result<(), NoMemory>
-    ensures { OnOk result (made out.new ≡ added (plain (item_order layout.now looped 3 ∷ order.Load ∷ order.LoopWay ways ∷ [])) (made out.old)) }
-{
-    out.push(item(layout, looped, 3))?;
-    out.push(Order::Load)?;
-    out.push(Order::LoopWay(ways))
 }

@@ -7,8 +7,7 @@ ghost use Rattle.cw_gen_expr.specs.ReferenceExpressions.{scope_with, store_order
 ghost use Rattle.cw_gen_expr.specs.UnitTables as tables;
 ghost use Rattle.cw_gen_unit.specs.ReferenceStatements.{begin_orders, after_statement_call, own_order as spec_own_order, goal_order as spec_goal_order, statement_step, statement_piece};
 
-use crate::elements::emit_elements;
-use crate::loops::{emit_keep, emit_set, emit_way};
+use crate::begun::{begin_loop, end_loop};
 use cw_gen_expr::expressions::{
     emit_address, emit_arguments, emit_call, emit_condition, emit_expression,
 };
@@ -274,12 +273,7 @@ pub fn emit_statement(
         }
         Stmt::For(line, looped, reference, elements, body) => {
             emit_begin(out, *line)?;
-            emit_address(out, unit, layout, parameters, *line, &reference.at)?;
-            emit_keep(out, layout, *looped, 0)?;
-            let end = out.new_mark()?;
-            let start = out.new_mark()?;
-            let set = out.new_mark()?;
-            let ways = emit_elements(
+            let begun = begin_loop(
                 alloc,
                 out,
                 unit,
@@ -287,15 +281,9 @@ pub fn emit_statement(
                 parameters,
                 *line,
                 *looped,
-                reference.f,
-                set,
-                start,
+                reference,
                 elements.as_slice(),
             )?;
-            out.push(Order::Jump(end))?;
-            out.set_mark(set)?;
-            emit_set(out, layout, *line, *looped)?;
-            out.set_mark(start)?;
             emit_statement(
                 alloc,
                 out,
@@ -306,8 +294,7 @@ pub fn emit_statement(
                 answer,
                 body.get(),
             )?;
-            emit_way(out, layout, *looped, ways)?;
-            out.set_mark(end)
+            end_loop(out, layout, *line, *looped, begun)
         }
         Stmt::Seq(statements) => {
             for member in statements.as_slice() {

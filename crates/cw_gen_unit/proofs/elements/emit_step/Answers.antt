@@ -1,35 +1,7 @@
-use Rattle.std.proofs.Common.{[], ◌∷◌}
+use Rattle.std.proofs.Common.{[], ◌∷◌, ◌∙◌}
 use Rattle.std.proofs.lemmas.Result.{on_ok_weaker}
 use Rattle.cw_order.specs.declared.order.Order.TheVariants as order
-use Rattle.cw_gen_expr.specs.Pieces.{plain}
-use Rattle.cw_gen_expr.specs.Output.{made}
-use Rattle.cw_gen_expr.specs.ReferenceExpressions.{scope_with, at_line, expression_piece}
-use Rattle.cw_gen_unit.specs.ReferenceStatements.{keep_orders, number_orders, set_orders}
-use Rattle.cw_gen_unit.proofs.Chains.{one, and_then, in_one}
 use Rattle.cw_gen_unit.proofs.elements.emit_step.Goals as goal
 
 pub returns : goal.returns
-returns c =
-    let s = at_line c.args.line (scope_with c.args.unit.now c.args.layout.now c.args.parameters.now) in
-    let y = c.args.layout.now in
-    let i = c.args.looped in
-    let f = c.args.scale in
-    let x = made c.args.out.now in
-    let x1 = made c.emit_number.new.out in
-    let x2 = made c.emit_expression.new.out in
-    let x3 = made c.emit_set.new.out in
-    let x4 = made c.emit_expression-2.new.out in
-    let x5 = made c.emit_keep.new.out in
-    let x6 = made c.emit_expression-3.new.out in
-    let x7 = made c.emit_keep-2.new.out in
-    let x8 = made c.push.new.self in
-    on_ok_weaker c.push.result
-    (λ h.
-    (and_then (one (plain (number_orders y i c.args.number)) x x1 c.in_ok-emit_number.ensures)
-    (and_then (one (expression_piece s c.args.first.now f) x1 x2 c.in_ok-emit_expression.ensures.orders)
-    (and_then (one (plain (set_orders y c.args.line i)) x2 x3 c.in_ok-emit_set.ensures)
-    (and_then (one (expression_piece s c.args.step.now f) x3 x4 c.in_ok-emit_expression-2.ensures.orders)
-    (and_then (one (plain (keep_orders y i 1)) x4 x5 c.in_ok-emit_keep.ensures)
-    (and_then (one (expression_piece s c.args.limit.now f) x5 x6 c.in_ok-emit_expression-3.ensures.orders)
-    (in_one (keep_orders y i 2) (order.Jump c.args.turn ∷ []) x6 x7 x8 (one (plain (keep_orders y i 2)) x6 x7 c.in_ok-emit_keep-2.ensures) (one (plain (order.Jump c.args.turn ∷ [])) x7 x8 h)))))))).is)
-    c.push.ensures
+returns c = on_ok_weaker c.push.result (λ h. h ∙ c.in_ok-emit_values.ensures (order.Jump c.args.turn ∷ [])) c.push.ensures

@@ -1,12 +1,15 @@
-use Rattle.std.proofs.Common.{false, None, sym, ap, ◌∙◌, length}
+use Rattle.std.proofs.Common.{List, false, None, sym, ap, ◌∙◌, subst}
 use Rattle.std.proofs.lemmas.Result.{on_ok_weaker}
+use Rattle.cw_unit.specs.declared.unit.Felem.{Felem}
 use Rattle.cw_unit.specs.declared.unit.Stmt.TheOpen as statement
 use Rattle.cw_unit.specs.declared.unit.Stmt.TheVariants as stmt
-use Rattle.cw_gen_expr.specs.Pieces.{plain, with_labels}
+use Rattle.cw_gen_expr.specs.Pieces.{Piece, plain, with_labels}
 use Rattle.cw_gen_expr.specs.Output.{made, added}
 use Rattle.cw_gen_expr.specs.ReferenceExpressions.{scope_with, at_line, condition_piece}
-use Rattle.cw_gen_unit.specs.ReferenceStatements.{begin_orders, keep_orders, elements_piece, element_ways, statement_step, statement_piece}
-use Rattle.cw_gen_unit.proofs.Chains.{one, and_then, chosen, ringed, by_statement, inner, all_statements, address}
+use Rattle.cw_gen_unit.specs.ReferenceStatements.{begin_orders, begun_loop, statement_step, statement_piece}
+use Rattle.cw_gen_unit.specs.SimpleLoops.{simple_step}
+use Rattle.cw_gen_unit.specs.BegunLoops.{IsBegun}
+use Rattle.cw_gen_unit.proofs.Chains.{one, and_then, chosen, looped, by_statement, inner, all_statements}
 use Rattle.cw_gen_unit.proofs.statements.+emit_statement.Goals as goal
 
 pub returns-in-Put : goal.returns-in-Put
@@ -109,47 +112,28 @@ returns-in_ok-emit_statement-in-If-2 t c =
     h)))
     c.set_mark-in-If.ensures
 
-pub returns-in_ok-emit_way-in-For : goal.returns-in_ok-emit_way-in-For
-returns-in_ok-emit_way-in-For t c =
+pub returns-in_ok-emit_statement-in-For : goal.returns-in_ok-emit_statement-in-For
+returns-in_ok-emit_statement-in-For t c =
     let s = scope_with c.args.unit.now c.args.layout.now c.args.parameters.now in
     let who = c.args.who in
     let answer = c.args.answer in
     let x = made c.args.out.now in
     let d = c.in-For in
-    let end = c.in_ok-end-in-For.end in
-    let start = c.in_ok-start-in-For.start in
-    let set = c.in_ok-set-in-For.set in
-    let ways = c.in_ok-ways-in-For.ways in
-    let f = d.reference.f in
     let h = at_line d.line s in
-    let y1 = made c.emit_begin-in-For.new.out in
-    let y2 = made c.emit_address.new.out in
-    let x0 = made c.emit_keep.new.out in
-    let x1 = made c.new_mark-in-For.new.self in
-    let x2 = made c.new_mark-in-For-2.new.self in
-    let x3 = made c.new_mark-in-For-3.new.self in
-    let x4 = made c.emit_elements.new.out in
-    let x5 = made c.push-in-For.new.self in
-    let x6 = made c.set_mark-in-For.new.self in
-    let x7 = made c.emit_set.new.out in
-    let x8 = made c.set_mark-in-For-2.new.self in
-    let x9 = made c.emit_statement-in-For.new.out in
-    let x10 = made c.emit_way.new.out in
-    let x11 = made c.set_mark-in-For-3.new.self in
-    on_ok_weaker c.set_mark-in-For-3.result
+    let x0 = made c.emit_begin-in-For.new.out in
+    let x1 = made c.begin_loop.new.out in
+    let x2 = made c.emit_statement-in-For.new.out in
+    let x3 = made c.end_loop.new.out in
+    let begun = c.in_ok-begun-in-For.begun in
+    let loop = λ (es : List Felem) (body : Piece). begun_loop h (simple_step s.layout d.looped d.reference es) d.looped d.reference es body in
+    on_ok_weaker c.end_loop.result
     (λ last.
-    by_statement s who answer c.args.statement.now (statement.For d.line d.looped d.reference d.elements d.body) x x11 (d.is ∙ sym (stmt.rolls-For d.line d.looped d.reference d.elements d.body))
-    (and_then (one (plain (begin_orders d.line)) x y1 c.in_ok-emit_begin-in-For.ensures)
-    (and_then (address h d.reference y1 y2 c.in_ok-emit_address-in-For.ensures)
-    (and_then (one (plain (keep_orders s.layout d.looped 0)) y2 x0 c.in_ok-emit_keep-in-For.ensures)
-    (ringed h d.looped f d.elements (statement_piece s who answer d.body) end start set ways x0 x1 x2 x3 x4 x5 x6 x7 x8 x9 x10 x11
-    c.in_ok-end-in-For.ensures.mark c.in_ok-end-in-For.ensures.reserved c.in_ok-start-in-For.ensures.mark c.in_ok-start-in-For.ensures.reserved c.in_ok-set-in-For.ensures.mark c.in_ok-set-in-For.ensures.reserved
-    (c.in_ok-ways-in-For.ensures.ways ∙ ap (λ l. element_ways h d.looped f set start 1 l (length x3.orders) (length x3.marks)) c.as_slice-in-For.ensures)
-    (c.in_ok-ways-in-For.ensures.orders ∙ ap (λ l. added (elements_piece h d.looped f set start 1 l) x3) c.as_slice-in-For.ensures)
-    c.in_ok-push-in-For.ensures c.in_ok-set_mark-in-For.ensures c.in_ok-emit_set-in-For.ensures c.in_ok-set_mark-in-For-2.ensures
-    (inner s who answer d.body c.get-in-For.result.now x8 x9 c.get-in-For.ensures c.in_ok-emit_statement-in-For.ensures)
-    c.in_ok-emit_way-in-For.ensures last)))))
-    c.set_mark-in-For-3.ensures
+    by_statement s who answer c.args.statement.now (statement.For d.line d.looped d.reference d.elements d.body) x x3 (d.is ∙ sym (stmt.rolls-For d.line d.looped d.reference d.elements d.body))
+    (and_then (one (plain (begin_orders d.line)) x x0 c.in_ok-emit_begin-in-For.ensures)
+    (looped s.layout d.line d.looped (loop d.elements) (statement_piece s who answer d.body) x0 x1 x2 x3 begun
+    (subst (λ l. IsBegun s.layout d.line d.looped (loop l) x0 x1 begun) c.as_slice-in-For.ensures c.in_ok-begun-in-For.ensures)
+    (inner s who answer d.body c.get-in-For.result.now x1 x2 c.get-in-For.ensures c.in_ok-emit_statement-in-For.ensures) last)))
+    c.end_loop.ensures
 
 pub returns-after-loop-member : goal.returns-after-loop-member
 returns-after-loop-member t c =
