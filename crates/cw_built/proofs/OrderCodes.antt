@@ -75,6 +75,7 @@ coded-order (order.Exhausted m) h = tt
 coded-order (order.SetVariable line) h = tt
 coded-order (order.AddStep line) h = tt
 coded-order (order.PutVariable line) h = tt
+coded-order (order.NextStep x line m) h = tt
 coded-order (order.CallProc q line) h = tt
 coded-order (order.CallCommon d line) h = tt
 coded-order (order.LabelOut l) h = tt
