@@ -4,6 +4,9 @@ use Rattle.std.proofs.lemmas.Bool.{leb-true}
 use Rattle.std.proofs.lemmas.Bool.Decides.{nat_tests}
 use Rattle.cw_order.specs.declared.order.Order.{Order}
 use Rattle.cw_order.specs.declared.order.Order.TheVariants as order
+use Rattle.cw_order.specs.declared.order.Place.{Place}
+use Rattle.cw_order.specs.declared.order.Place.TheVariants as cell
+use Rattle.cw_unit.specs.Operation.{is_past}
 use Rattle.cw_unit.specs.declared.layout.Layout.{Layout}
 use Rattle.cw_unit.specs.declared.layout.Family.{Family}
 use Rattle.cw_unit.specs.declared.layout.Sort.{Sort}
@@ -22,8 +25,13 @@ use Rattle.cw_unit.specs.declared.unit.Goal.TheVariants as goal
 use Rattle.cw_gen_expr.specs.ReferenceExpressions.{Scope, argument_words, placed_by, placed_in, item_order, table_orders, bounds_orders, store_orders, rescale_orders, logic_order, number_order, call_order, label_order}
 use Rattle.cw_gen_expr.specs.ReferenceEntries.{bound_by, bound_in, bound_order, parameter_orders, bind_orders}
 use Rattle.cw_gen_expr.specs.UnitTables.{label_mark}
-use Rattle.cw_gen_unit.specs.ReferenceStatements.{after_statement_call, from_procedure, own_order, goal_order, keep_orders, number_orders, set_orders, bump_orders}
-use Rattle.cw_tmpl.specs.Templates.{shift_size, lowest_size, part_size, times_size, width_size, bound_size, word_size, listed_size, sizes_behind, listed_sizes}
+use Rattle.cw_gen_unit.specs.declared.simple.Simple.{Simple}
+use Rattle.cw_gen_unit.specs.declared.simple.Simple.TheVariants as simple
+use Rattle.cw_gen_unit.specs.declared.simple.SimpleStep.{SimpleStep}
+use Rattle.cw_gen_unit.specs.ReferenceStatements.{after_statement_call, from_procedure, own_order, goal_order, keep_orders, number_orders, set_orders, bump_orders, value_orders, limit_orders, past_orders, turn_orders, simple_orders, simple_beginning}
+use Rattle.cw_tmpl.specs.Templates.{loop_ways_size, shift_size, lowest_size, part_size, times_size, width_size, bound_size, word_size, listed_size, sizes_behind, listed_sizes}
+use Rattle.cw_word.specs.Word.{unsigned}
+use Rattle.cw_order.specs.declared.order.Comparator.TheVariants as comparator
 use Rattle.cw_size.proofs.Short.{word_short, one_short, all-behind, sizes-append, first_short}
 
 -- ---- items
@@ -298,6 +306,73 @@ bump-short y line item = item-first y item 0 (order.AddStep line ∷ []) 6 (let 
 pub turn-short : (y : Layout) (line item body mark : ℕ) → listed_sizes (item_order y item 0 ∷ order.PutVariable line ∷ order.Exhausted mark ∷ order.Jump body ∷ []) ≤ 23
 turn-short y line item body mark =
     item-first y item 0 (order.PutVariable line ∷ order.Exhausted mark ∷ order.Jump body ∷ []) 15 (let z : 6 + (6 + (3 + 0)) ≤ 15 = omega arith in z)
+
+-- the limit of the one STEP element, and its first turn
+pub limited-short : (y : Layout) (line item mark : ℕ) → listed_sizes (keep_orders y item 2 ++ item_order y item 0 ∷ order.PutVariable line ∷ order.Exhausted mark ∷ []) ≤ 27
+limited-short y line item mark =
+    item-keep y item 2 (item_order y item 0 ∷ order.PutVariable line ∷ order.Exhausted mark ∷ []) 20
+    (item-first y item 0 (order.PutVariable line ∷ order.Exhausted mark ∷ []) 12 (let z : 6 + (6 + 0) ≤ 12 = omega arith in z))
+
+pub stepped-short : (x : Place) (line mark : ℕ) → listed_size (order.NextStep x line mark) ≤ 18
+stepped-short (cell.Word family offset) line mark = omega arith
+stepped-short (cell.Frame n) line mark = omega arith
+
+pub ways-short : (ways : List ℕ) → loop_ways_size ways ≤ 20 + 2 * length ways
+ways-short [] = omega arith
+ways-short (m ∷ []) = omega arith
+ways-short (m ∷ n ∷ ms) = omega arith
+
+-- ---- a beginning without the library
+
+-- orders behind others
+then-short : (xs ys : List Order) (m n : ℕ) → listed_sizes xs ≤ m → listed_sizes ys ≤ n → listed_sizes (xs ++ ys) ≤ m + n
+then-short xs ys m n h k = let all = sizes-append xs ys in let z : listed_sizes (xs ++ ys) ≤ m + n = omega (arith, all, h, k) in z
+
+nothing-short : listed_sizes [] ≤ 0
+nothing-short = omega arith
+
+value-short : (y : Layout) (a : Simple) → listed_sizes (value_orders y a) ≤ 7
+value-short y (simple.Number z) = let k = word_short (unsigned z % 65536) in one_short (number_order (unsigned z)) 7 (let h : listed_size (number_order (unsigned z)) ≤ 7 = omega (arith, k) in h)
+value-short y (simple.Item i) = item-load y i 0 [] 0 nothing-short
+
+limit-short : (y : Layout) (item j : ℕ) (past : Order) → listed_size past ≤ 8 → listed_sizes (limit_orders y item j past) ≤ 23
+limit-short y item j past h =
+    item-load y j 0 (order.Save ∷ item_order y item 2 ∷ order.Load ∷ past ∷ []) 16
+    (saved-first (item_order y item 2 ∷ order.Load ∷ past ∷ []) 15 (item-load y item 2 (past ∷ []) 8 (one_short past 8 h)))
+
+past-short : (y : Layout) (item j : ℕ) (step : ℤ) (end : ℕ) → listed_sizes (past_orders y item j step end) ≤ 23
+past-short y item j (pos zero) end = omega arith
+past-short y item j (pos (suc n)) end = limit-short y item j (order.JumpIf comparator.Greater end) (let z : 8 ≤ 8 = omega arith in z)
+past-short y item j (negsuc n) end = limit-short y item j (order.JumpIf comparator.Less end) (let z : 8 ≤ 8 = omega arith in z)
+
+first-turn-short : (y : Layout) (item j : ℕ) (first : Simple) (step : ℤ) (limit : Simple) (end : ℕ) → listed_sizes (turn_orders y item j first step limit end) ≤ 23
+first-turn-short y item j (simple.Number a) s (simple.Number d) end = picked (is_past s a d)
+  where
+    picked : (b : Bool) → listed_sizes (if b then (order.Jump end ∷ []) else []) ≤ 23
+    picked true = omega arith
+    picked false = omega arith
+first-turn-short y item j (simple.Number a) s (simple.Item i) end = past-short y item j s end
+first-turn-short y item j (simple.Item i) s d end = past-short y item j s end
+
+pub simple-short : (y : Layout) (item : ℕ) (x : SimpleStep) (end : ℕ) → listed_sizes (simple_beginning y item x end) ≤ 86
+simple-short y item x end =
+    let limit : List Order = value_orders y x.limit ++ keep_orders y item 2 in
+    let step : List Order = number_order (unsigned x.step) ∷ (keep_orders y item 1 ++ limit) in
+    let variable : List Order = keep_orders y x.variable 0 ++ step in
+    let first : List Order = value_orders y x.first ++ variable in
+    let number : List Order = number_orders y item 1 ++ first in
+    then-short (simple_orders y item x) (turn_orders y item x.variable x.first x.step x.limit end) 63 23
+    (item-first y x.variable 0 (keep_orders y item 0 ++ number) 55
+    (then-short (keep_orders y item 0) number 7 48 (kept item 0)
+    (then-short (number_orders y item 1) first 10 38 (number-short y item 1)
+    (then-short (value_orders y x.first) variable 7 31 (value-short y x.first)
+    (then-short (keep_orders y x.variable 0) step 7 24 (kept x.variable 0)
+    (first_short (number_order (unsigned x.step)) (keep_orders y item 1 ++ limit) 3 21 (word_short (unsigned x.step % 65536))
+    (then-short (keep_orders y item 1) limit 7 14 (kept item 1) (then-short (value_orders y x.limit) (keep_orders y item 2) 7 7 (value-short y x.limit) (kept item 2)))))))))
+    (first-turn-short y item x.variable x.first x.step x.limit end)
+  where
+    kept : (i n : ℕ) → listed_sizes (keep_orders y i n) ≤ 7
+    kept i n = item-keep y i n [] 0 nothing-short
 
 -- ---- parameters
 

@@ -1,5 +1,5 @@
 -- The orders of statements, with the landings of the labels that they set, are short by the tokens of their trees.
-use Rattle.std.proofs.Common.{◌≡◌, ℕ, zero, suc, ◌+◌, ◌*◌, ◌<◌, ◌≤◌, List, [], ◌∷◌, ◌++◌, map, length, true, false, Option, refl, sym, ap, subst, arith}
+use Rattle.std.proofs.Common.{◌≡◌, ℕ, zero, suc, ◌+◌, ◌*◌, ◌<◌, ◌≤◌, List, [], ◌∷◌, ◌++◌, map, length, true, false, Option, Some, None, refl, sym, ap, subst, arith}
 use Rattle.cw_order.specs.declared.order.Order.{Order}
 use Rattle.cw_order.specs.declared.order.Order.TheVariants as order
 use Rattle.cw_unit.specs.declared.layout.Layout.{Layout}
@@ -8,20 +8,22 @@ use Rattle.cw_unit.specs.declared.unit.Dest.TheVariants as dest
 use Rattle.cw_unit.specs.declared.unit.Felem.{Felem}
 use Rattle.cw_unit.specs.declared.unit.Felem.TheVariants as element
 use Rattle.cw_unit.specs.declared.unit.Expr.{Expr}
-use Rattle.cw_unit.specs.declared.unit.Ref.{out-Ref}
+use Rattle.cw_unit.specs.declared.unit.Ref.{Ref, out-Ref}
 use Rattle.cw_unit.specs.declared.unit.Stmt.{Stmt, Stmt-F, out-Stmt, map-Stmt, fold-Stmt, fold_out-Stmt}
 use Rattle.cw_unit.specs.declared.unit.Stmt.TheOpen as statement
 use Rattle.cw_gen_expr.specs.Pieces.{Piece, plain, followed_by, sequence, with_end}
-use Rattle.cw_gen_expr.specs.ReferenceExpressions.{Scope, at_line, argument_words, control_place, item_order, store_orders, call_order, condition_piece, expression_piece}
+use Rattle.cw_gen_expr.specs.ReferenceExpressions.{Scope, at_line, argument_words, control_place, item_order, store_orders, call_order, reference_of, condition_piece, expression_piece}
 use Rattle.cw_gen_expr.proofs.Layers.{total}
 use Rattle.cw_gen_unit.specs.ReferenceStatements as made
-use Rattle.cw_gen_unit.specs.ReferenceStatements.{begin_orders, after_statement_call, goal_order, jump_piece, with_middle, keep_orders, number_orders, set_orders, bump_orders, turn_piece, while_values, step_values, element_piece, elements_piece, element_ways, ring_piece, statement_piece}
+use Rattle.cw_gen_unit.specs.ReferenceStatements.{begin_orders, after_statement_call, goal_order, jump_piece, with_middle, keep_orders, number_orders, set_orders, bump_orders, turn_piece, while_values, step_values, element_piece, elements_piece, element_ways, ring_piece, loop_place, simple_beginning, only_step, first_turn, stepped_piece, elements_loop, begun_loop, loop_piece, statement_piece}
+use Rattle.cw_gen_unit.specs.declared.simple.SimpleStep.{SimpleStep}
+use Rattle.cw_gen_unit.specs.SimpleLoops.{simple_step}
 use Rattle.cw_tokens.specs.LeastTokens as least
 use Rattle.cw_tokens.specs.LeastTokens.{separated, arguments, expression_tokens, argument_tokens, condition_tokens, reference_tokens, each_argument, element_tokens, each_element, jump_tokens, statement_tokens}
-use Rattle.cw_tmpl.specs.Templates.{listed_size, listed_sizes}
+use Rattle.cw_tmpl.specs.Templates.{loop_ways_size, listed_size, listed_sizes}
 use Rattle.cw_tokens.specs.SetLabels.{together, set_step, set_labels}
 use Rattle.cw_size.proofs.Short.{one_short, first_short, Short, plainly, both_short, ended_short, labels_short, eased}
-use Rattle.cw_size.proofs.OrderSizes.{item-load, item-keep, store-part-short, store-short, call-short, after-short, goal-short, number-short, set-short, bump-short, turn-short}
+use Rattle.cw_size.proofs.OrderSizes.{item-load, item-keep, store-part-short, store-short, call-short, after-short, goal-short, number-short, set-short, bump-short, turn-short, limited-short, stepped-short, ways-short, simple-short}
 use Rattle.cw_size.proofs.TokenLayers.{each-argument, separated-within}
 use Rattle.cw_size.proofs.Expressions.{choice_short, saved_short, expression_short, condition_ended_short, address_short, arguments_short}
 
@@ -130,7 +132,7 @@ module _ (s : Scope) where
     where
       way_short : (ways : List ℕ) → length ways ≡ length es → listed_sizes (item_order s.layout item 3 ∷ order.Load ∷ order.LoopWay ways ∷ []) ≤ 27 + 2 * length es
       way_short ways e =
-          let h = item-load s.layout item 3 (order.LoopWay ways ∷ []) (20 + 2 * length es) (one_short (order.LoopWay ways) (20 + 2 * length es) (let z : 20 + 2 * length ways ≤ 20 + 2 * length es = omega (arith, e) in z)) in
+          let h = item-load s.layout item 3 (order.LoopWay ways ∷ []) (20 + 2 * length es) (one_short (order.LoopWay ways) (20 + 2 * length es) (let few = ways-short ways in let z : loop_ways_size ways ≤ 20 + 2 * length es = omega (arith, e, few) in z)) in
           let z : listed_sizes (item_order s.layout item 3 ∷ order.Load ∷ order.LoopWay ways ∷ []) ≤ 27 + 2 * length es = omega (arith, h) in
           z
 
@@ -147,6 +149,68 @@ module _ (s : Scope) where
           (plainly (set_orders s.layout s.line item) 15 (set-short s.layout s.line item)))
           (λ start. both_short hb (plainly (item_order s.layout item 3 ∷ order.Load ∷ order.LoopWay ways ∷ []) (27 + 2 * length es) (way_short ways e))))
           (let z : 32 * separated (each_element es) + 3 + 15 + (m + (27 + 2 * length es)) + k ≤ 32 * separated (each_element es) + m + 45 + (2 * length es + 0 + 0 + (k + 0)) = omega arith in z))
+
+  -- the one STEP element of a FOR
+  first_turn_short : (item f : ℕ) (a b d : Expr) (end : ℕ) → Short (first_turn s item f a b d end) 0 (32 * (expression_tokens a + (expression_tokens b + expression_tokens d)) + 74)
+  first_turn_short item f a b d end =
+      let k = expression_tokens a in
+      let m = expression_tokens b in
+      let n = expression_tokens d in
+      let last : List Order = keep_orders s.layout item 2 ++ item_order s.layout item 0 ∷ order.PutVariable s.line ∷ order.Exhausted end ∷ [] in
+      eased
+      (both_short (plainly (number_orders s.layout item 1) 10 (number-short s.layout item 1))
+      (both_short (expression_short s a f)
+      (both_short (plainly (set_orders s.layout s.line item) 15 (set-short s.layout s.line item))
+      (both_short (expression_short s b f)
+      (both_short (kept_short s.layout item 1 [] 0 (let z : 0 ≤ 0 = omega arith in z))
+      (both_short (expression_short s d f) (plainly last 27 (limited-short s.layout s.line item end))))))))
+      (let z : 10 + (32 * k + 5 + (15 + (32 * m + 5 + (7 + 0 + (32 * n + 5 + 27))))) + 0 ≤ 32 * (k + (m + n)) + 74 + (0 + (0 + (0 + (0 + (0 + (0 + 0)))))) = omega arith in z)
+
+  stepped_short : (item : ℕ) (beginning : ℕ → Piece) (body : Piece) (l k m n : ℕ) → ((end : ℕ) → Short (beginning end) l n) → Short body k m → Short (stepped_piece s item beginning body) (l + (k + 0)) (n + (m + 18))
+  stepped_short item beginning body l k m n hn hb =
+      ended_short (λ end. with_middle (λ start. beginning end) (λ start. followed_by body (plain (order.NextStep (loop_place s.layout item) s.line start ∷ []))))
+      (λ end. middle_short (λ start. beginning end) (λ start. followed_by body (plain (order.NextStep (loop_place s.layout item) s.line start ∷ []))) (λ start. hn end)
+      (λ start. both_short hb
+      (plainly (order.NextStep (loop_place s.layout item) s.line start ∷ []) 18
+      (one_short (order.NextStep (loop_place s.layout item) s.line start) 18 (stepped-short (loop_place s.layout item) s.line start)))))
+
+  -- behind the address of the control variable
+  addressed_short : (item : ℕ) (r : Ref) (es : List Felem) (body : Piece) (k m : ℕ) (p : Piece) → Short p k (32 * separated (each_element es) + m + 45)
+      → Short (followed_by (reference_of s r).address (followed_by (plain (keep_orders s.layout item 0)) p)) k (32 * suc (reference_tokens r + separated (each_element es)) + m + 6)
+  addressed_short item r es body k m p h =
+      eased (both_short (address_short s r) (both_short (kept_short s.layout item 0 [] 0 (let z : 0 ≤ 0 = omega arith in z)) h))
+      (let z : 32 * reference_tokens r + (7 + 0 + (32 * separated (each_element es) + m + 45)) + k ≤ 32 * suc (reference_tokens r + separated (each_element es)) + m + 6 + (14 + (0 + k)) = omega arith in z)
+
+  one_step_short : (item f : ℕ) (a b d : Expr) (body : Piece) (k m : ℕ) → Short body k m → Short (stepped_piece s item (first_turn s item f a b d) body) k (32 * separated (each_element (element.Step a b d ∷ [])) + m + 45)
+  one_step_short item f a b d body k m h =
+      let n = expression_tokens a + (expression_tokens b + expression_tokens d) in
+      eased (stepped_short item (first_turn s item f a b d) body 0 k m (32 * n + 74) (first_turn_short item f a b d) h)
+      (let z : 32 * n + 74 + (m + 18) + k ≤ 32 * (suc (2 + n) + 0) + m + 45 + (0 + (k + 0)) = omega arith in z)
+
+  begun_short : (item : ℕ) (r : Ref) (a b d : Expr) (body : Piece) (k m : ℕ) (x : Option SimpleStep) → Short body k m
+      → Short (begun_loop s x item r (element.Step a b d ∷ []) body) k (32 * suc (reference_tokens r + separated (each_element (element.Step a b d ∷ []))) + m + 6)
+  begun_short item r a b d body k m None h =
+      addressed_short item r (element.Step a b d ∷ []) body k m (stepped_piece s item (first_turn s item (out-Ref r).f a b d) body) (one_step_short item (out-Ref r).f a b d body k m h)
+  begun_short item r a b d body k m (Some x) h =
+      let n = expression_tokens a + (expression_tokens b + expression_tokens d) in
+      eased
+      (stepped_short item (λ end. plain (simple_beginning s.layout item x end)) body 0 k m 86
+      (λ end. plainly (simple_beginning s.layout item x end) 86 (simple-short s.layout item x end)) h)
+      (let z : 86 + (m + 18) + k ≤ 32 * suc (reference_tokens r + (suc (2 + n) + 0)) + m + 6 + (0 + (k + 0)) = omega arith in z)
+
+  begun_loop_short : (item : ℕ) (r : Ref) (es : List Felem) (body : Piece) (k m : ℕ) → Short body k m
+      → Short (begun_loop s (simple_step s.layout item r es) item r es body) k (32 * suc (reference_tokens r + separated (each_element es)) + m + 6)
+  begun_loop_short item r (element.Step a b d ∷ []) body k m h =
+      begun_short item r a b d body k m (simple_step s.layout item r (element.Step a b d ∷ [])) h
+  begun_loop_short item r [] body k m h =
+      addressed_short item r [] body k m (ring_piece s item (out-Ref r).f [] body) (ring_short item (out-Ref r).f [] body k m h)
+  begun_loop_short item r (element.One e ∷ es) body k m h =
+      addressed_short item r (element.One e ∷ es) body k m (ring_piece s item (out-Ref r).f (element.One e ∷ es) body) (ring_short item (out-Ref r).f (element.One e ∷ es) body k m h)
+  begun_loop_short item r (element.While e c ∷ es) body k m h =
+      addressed_short item r (element.While e c ∷ es) body k m (ring_piece s item (out-Ref r).f (element.While e c ∷ es) body) (ring_short item (out-Ref r).f (element.While e c ∷ es) body k m h)
+  begun_loop_short item r (element.Step a b d ∷ e ∷ es) body k m h =
+      addressed_short item r (element.Step a b d ∷ e ∷ es) body k m (ring_piece s item (out-Ref r).f (element.Step a b d ∷ e ∷ es) body)
+      (ring_short item (out-Ref r).f (element.Step a b d ∷ e ∷ es) body k m h)
 
 -- ---- statements
 
@@ -216,13 +280,10 @@ module _ (s : Scope) (who : Option ℕ) (answer : ℕ) where
         (let z : 1 + (32 * i + 32 * j + 32 * k + 3) + 15 * (set_labels a + set_labels b) ≤ 32 * (2 + (i + (j + k))) + (0 + (15 * set_labels a + 15 * set_labels b)) = omega arith in z)
     layer_short (statement.For line item r es t) le =
         let m = separated (each_element es) in
-        let h = at_line line s in
         eased
         (both_short (begin_short line)
-        (both_short (address_short h r)
-        (both_short (kept_short s.layout item 0 [] 0 (let z : 0 ≤ 0 = omega arith in z))
-        (ring_short h item (out-Ref r).f es (statement_piece s who answer t) (15 * set_labels t) (32 * statement_tokens t) (below t (let z : statement_size t < n = omega (arith, le) in z))))))
-        (let z : 1 + (32 * reference_tokens r + (7 + 0 + (32 * m + 32 * statement_tokens t + 45))) + 15 * set_labels t ≤ 32 * (2 + (reference_tokens r + (m + statement_tokens t))) + (0 + (14 + (0 + 15 * set_labels t))) = omega arith in z)
+        (begun_loop_short (at_line line s) item r es (statement_piece s who answer t) (15 * set_labels t) (32 * statement_tokens t) (below t (let z : statement_size t < n = omega (arith, le) in z))))
+        (let z : 1 + (32 * suc (reference_tokens r + m) + 32 * statement_tokens t + 6) + 15 * set_labels t ≤ 32 * (2 + (reference_tokens r + (m + statement_tokens t))) + (0 + 15 * set_labels t) = omega arith in z)
     layer_short (statement.Seq ss) le = all_short ss (let z : total (map statement_size ss) < n = omega (arith, le) in z)
     layer_short (statement.Mark ls t) le =
         eased (both_short (labels_short ls) (below t (let z : statement_size t < n = omega (arith, le) in z)))
