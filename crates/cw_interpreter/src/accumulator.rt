@@ -42,6 +42,7 @@ pub(crate) fn loaded_after(order: &Order, loaded: bool) -> Option<bool> {
         | Order::Enter(_)
         | Order::Bind { .. }
         | Order::BindFrame { .. }
+        | Order::NextStep { .. }
         | Order::NextBody => from(false, false, loaded),
         Order::Return { answers, .. } => from(*answers, *answers, loaded),
         _ => from(true, true, loaded),
@@ -66,6 +67,7 @@ pub(crate) fn line_of(order: &Order) -> u16 {
         | Order::SetVariable(line)
         | Order::AddStep(line)
         | Order::PutVariable(line)
+        | Order::NextStep { line, .. }
         | Order::GoSwitch { line, .. }
         | Order::GoSwitchCommon { line, .. }
         | Order::GoSwitchSpecial { line, .. }

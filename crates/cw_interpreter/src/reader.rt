@@ -5,6 +5,8 @@
 //! answer of a Return as 1 or 0. The orders behind `Line:l` or `Start:l` have line l; those of a segment or a procedure before
 //! that have line 0.
 //! - `Mark:m` is the order at which mark m stands, and `End` is NextBody.
+//! - `NextStep:f:o:m` is the step of a loop whose words begin at word o of family f, and `NextStepFrame:n:m` that of one at word n of
+//!   the frame.
 //! - `Proc:m:a` begins a procedure of a arguments, whose mark is m; procedures count from 0.
 //! - `Label:m` is a label of the body at mark m, and `LabelIn:m` one of a procedure; labels count from 0.
 //! - `Switch:l:..` is a switch of these labels; a descriptor's label has a `c` before its number.
@@ -13,7 +15,7 @@
 //!
 //! Segment g has three storage families, at 100 g, 100 g + 10 and 100 g + 30.
 use crate::segments::{Program, Segment};
-use cw_order::{Comparator, LabelMark, Order, Orders};
+use cw_order::{Comparator, LabelMark, Order, Orders, Place};
 use cw_unit::layout::Limits;
 use cw_unit::unit::{Def, Goal};
 use cw_word::List;
@@ -267,6 +269,26 @@ fn of_elements(word: Spelled<'_>, line: u16) -> Option<Order> {
             word: word.word(1)?,
             span: word.word(2)?,
             line,
+        }),
+        _ => of_steps(word, line),
+    }
+}
+
+// The step of a loop.
+fn of_steps(word: Spelled<'_>, line: u16) -> Option<Order> {
+    match word.name {
+        "NextStep" => Some(Order::NextStep {
+            looped: Place::Word {
+                family: word.word(0)?,
+                offset: word.word(1)?,
+            },
+            line,
+            mark: word.long(2)?,
+        }),
+        "NextStepFrame" => Some(Order::NextStep {
+            looped: Place::Frame(word.word(0)?),
+            line,
+            mark: word.long(1)?,
         }),
         _ => None,
     }

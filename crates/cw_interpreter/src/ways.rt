@@ -1,7 +1,7 @@
 //! Orders that go on elsewhere: within a body, in loops, to labels and through switches.
 use crate::machine::{Control, End, Machine, OVERFLOW, SWITCH};
 use crate::words::{holds, is_past};
-use cw_order::Order;
+use cw_order::{Order, Place};
 use cw_unit::unit::{Def, Goal};
 
 impl<'a> Machine<'a> {
@@ -31,7 +31,10 @@ impl<'a> Machine<'a> {
                 let variable = self.variable(words);
                 self.store(variable, value);
             }
-            Order::AddStep(_) => self.add_step(),
+            Order::AddStep(_) => {
+                let words = self.take_number();
+                self.add_step(words);
+            }
             Order::PutVariable(_) => {
                 let words = self.take();
                 let variable = self.variable(i64::from(words));
@@ -40,6 +43,7 @@ impl<'a> Machine<'a> {
                 self.put(words);
             }
             Order::Exhausted(mark) => self.test_turn(*mark),
+            Order::NextStep { looped, mark, .. } => self.next_step(*looped, *mark),
             Order::LoopWay(marks) => {
                 let number = self.take_number();
                 let index = usize::try_from(number.wrapping_sub(1)).unwrap_or(usize::MAX);
@@ -57,8 +61,7 @@ impl<'a> Machine<'a> {
         self.in_area(address)
     }
 
-    fn add_step(&mut self) {
-        let words = self.take_number();
+    fn add_step(&mut self, words: i64) {
         let variable = self.variable(words);
         let step = i64::from(self.word_at(words.wrapping_add(1)));
         let sum = i64::from(self.word_at(variable)).wrapping_add(step);
@@ -75,6 +78,30 @@ impl<'a> Machine<'a> {
         let limit = self.word_at(words.wrapping_add(2));
         if is_past(step, variable, limit) {
             self.go_to_mark(mark);
+        }
+    }
+
+    // The address of the words of a loop.
+    fn words_of(&mut self, looped: Place) -> i64 {
+        let address = match looped {
+            Place::Word { family, offset } => self.home(family, offset),
+            Place::Frame(offset) => self.frame_home(offset),
+        };
+        i64::from(address.cast_unsigned())
+    }
+
+    // The step and the test of the one STEP element of a loop: what they store may be the loop's own words, which are read again.
+    fn next_step(&mut self, looped: Place, mark: u32) {
+        let words = self.words_of(looped);
+        if self.word_at(words.wrapping_add(3)) == 1 {
+            self.add_step(words);
+            let address = self.variable(words);
+            let variable = self.word_at(address);
+            let step = self.word_at(words.wrapping_add(1));
+            let limit = self.word_at(words.wrapping_add(2));
+            if !is_past(step, variable, limit) {
+                self.go_to_mark(mark);
+            }
         }
     }
 
