@@ -1,6 +1,7 @@
 pub mod Fit
 pub mod Names
 pub mod Expressions
+pub mod Loops
 pub mod Statements
 pub mod Units
 pub mod Targets

@@ -4,12 +4,19 @@ use Rattle.std.specs.List.{list_all}
 use Rattle.cw_unit.specs.declared.layout.Family.{Family}
 use Rattle.cw_order.specs.declared.order.Order.{Order}
 use Rattle.cw_order.specs.declared.order.Order.TheVariants as order
+use Rattle.cw_order.specs.declared.order.Place.{Place}
+use Rattle.cw_order.specs.declared.order.Place.TheVariants as cell
 use Rattle.cw_gen_expr.specs.Pieces.{Piece, plain, followed_by, with_end, with_labels}
 use Rattle.cw_writable.proofs.Coded.Fine.{both, parts}
 
 -- a family that there is, and an offset in it that is a word
 abbrev pub is_place : List Family → (family offset : ℕ) → Bool
 is_place fs f o = is_some (slice_get fs f) && (nat_lt f 65536 && nat_lt o 65536)
+
+-- a place names a word of its family
+abbrev pub is_cell : List Family → Place → Bool
+is_cell fs (cell.Word f o) = is_place fs f o
+is_cell fs (cell.Frame n) = true
 
 -- an order that names what there is, and begins no statement
 abbrev pub names_well : (descriptors : ℕ) → List Family → Order → Bool
@@ -21,6 +28,7 @@ names_well n fs (order.SwitchCommon d) = nat_lt d n
 names_well n fs (order.ProcCommon d) = nat_lt d n
 names_well n fs (order.GoCommon d) = nat_lt d n
 names_well n fs (order.GoSwitchCommon d line) = nat_lt d n
+names_well n fs (order.NextStep x line m) = is_cell fs x
 names_well n fs (order.Start line) = false
 names_well n fs _ = true
 

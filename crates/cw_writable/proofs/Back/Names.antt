@@ -24,12 +24,13 @@ use Rattle.cw_order.specs.declared.order.Order.TheVariants as order
 use Rattle.cw_gen_expr.specs.NamedItems.{item_has, has_words}
 use Rattle.cw_gen_expr.specs.ReferenceExpressions.{argument_words, placed_by, placed_in, item_order, table_orders}
 use Rattle.cw_gen_expr.specs.ReferenceEntries.{bound_by, bound_in, bound_order, parameter_orders, bind_orders}
+use Rattle.cw_gen_unit.specs.ReferenceStatements.{place_put}
 use Rattle.cw_gen_unit.specs.BuiltUnits.{item_fits, items_fit}
 use Rattle.cw_built.specs.Listed.{is_empty, are_named, lists_name, definition_as, defining}
 use Rattle.cw_built.specs.Built.{alone}
 use Rattle.cw_writable.proofs.Coded.Fine.{no, both, parts}
 use Rattle.cw_writable.proofs.Coded.Numbers.{lt_true}
-use Rattle.cw_writable.proofs.Back.Fit.{is_place, names_well, passed}
+use Rattle.cw_writable.proofs.Back.Fit.{is_place, is_cell, names_well, passed}
 
 -- ---- families
 
@@ -104,6 +105,23 @@ module _ (u : SourceUnit) (stored : IsStorable u) (few : length u.items ≤ 6553
       by_family : (f : Found i) (x : Option Family) → IsTrue (Names (placed_in x (family_of u i) (family_offset u i + word)))
       by_family f None = in-family i f (family_offset u i + word)
       by_family f (Some x) = by_sort f x.sort
+
+  -- so does the place whose address such an order puts
+  sort-put : (s : Sort) (f o : ℕ) → IsTrue (Names (placed_by s f o)) → IsTrue (is_cell (layout_of u).families (place_put (placed_by s f o)))
+  sort-put (sort.Frame base) f o h = refl
+  sort-put (sort.Common d) f o h = h
+  sort-put sort.Own f o h = h
+  sort-put (sort.Absolute a) f o h = h
+
+  family-put : (x : Option Family) (f o : ℕ) → IsTrue (Names (placed_in x f o)) → IsTrue (is_cell (layout_of u).families (place_put (placed_in x f o)))
+  family-put None f o h = h
+  family-put (Some x) f o h = sort-put x.sort f o h
+
+  pub place-named : (who : Option ℕ) (i n word : ℕ) → IsTrue (has_words u who i n) → IsTrue (is_cell (layout_of u).families (place_put (item_order (layout_of u) i word)))
+  place-named who i n word h =
+      let y = layout_of u in
+      let at = slice_index_or y.homes i (0, 0) in
+      family-put (slice_get y.families at.0) at.0 (at.1 + word) (item-named who i n word h)
 
   pub bound-named : (who : Option ℕ) (k i n : ℕ) → IsTrue (has_words u who i n) → IsTrue (Names (bound_order (layout_of u) k i))
   bound-named who k i n h =

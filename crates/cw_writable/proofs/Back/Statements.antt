@@ -1,9 +1,12 @@
 -- The orders of the statements of a unit that is built name what there is, and begin each statement with its line.
-use Rattle.std.proofs.Common.{◌≡◌, ℕ, zero, suc, ◌+◌, ◌<◌, ◌≤◌, nat_lt, List, [], ◌∷◌, ◌++◌, map, length, Bool, true, false, IsTrue, ◌&&◌, Option, Some, None, is_some, slice_get, refl, sym, subst, arith}
+use Rattle.std.proofs.Common.{◌≡◌, ℕ, zero, suc, ◌+◌, ◌<◌, ◌≤◌, nat_lt, ℤ, pos, negsuc, if◌then◌else◌, List, [], ◌∷◌, ◌++◌, map, length, Bool, true, false, IsTrue, ◌&&◌, Option, Some, None, is_some, slice_get, refl, sym, subst, arith}
 use Rattle.std.proofs.lemmas.Bool.{leb-true}
 use Rattle.std.specs.List.{list_all}
 use Rattle.cw_order.specs.declared.order.Order.{Order}
 use Rattle.cw_order.specs.declared.order.Order.TheVariants as order
+use Rattle.cw_order.specs.declared.order.Comparator.TheVariants as comparator
+use Rattle.cw_word.specs.Word.{unsigned}
+use Rattle.cw_unit.specs.Operation.{is_past}
 use Rattle.cw_unit.specs.declared.unit.Unit.{Unit as SourceUnit}
 use Rattle.cw_unit.specs.declared.unit.Label.{Label}
 use Rattle.cw_unit.specs.declared.unit.Goal.{Goal}
@@ -30,19 +33,24 @@ use Rattle.cw_safety.proofs.Expanding.{formed-statement}
 use Rattle.cw_gen_expr.specs.Pieces.{Piece, plain, followed_by, sequence, with_end}
 use Rattle.cw_gen_expr.specs.BuiltExpressions as expressions
 use Rattle.cw_gen_expr.specs.BuiltExpressions.{most_levels, within, all_built, built_reference, is_argument}
-use Rattle.cw_gen_expr.specs.ReferenceExpressions.{Scope, at_line, saved, argument_words, control_place, item_order, store_orders, call_order, condition_piece, reference_of, expression_piece}
+use Rattle.cw_gen_expr.specs.ReferenceExpressions.{Scope, at_line, saved, argument_words, control_place, item_order, store_orders, number_order, call_order, condition_piece, reference_of, expression_piece}
 use Rattle.cw_gen_expr.specs.ReferenceEntries.{scope_of}
 use Rattle.cw_gen_expr.specs.UnitTables.{label_mark}
 use Rattle.cw_gen_expr.proofs.Layers.{total}
 use Rattle.cw_gen_unit.specs.BuiltStatements as built
 use Rattle.cw_gen_unit.specs.ReferenceStatements as made
-use Rattle.cw_gen_unit.specs.ReferenceStatements.{begin_orders, after_statement_call, from_procedure, own_order, goal_order, jump_piece, with_middle, keep_orders, number_orders, set_orders, bump_orders, turn_piece, while_values, step_values, element_piece, elements_piece, element_ways, ring_piece, statement_piece}
+use Rattle.cw_gen_unit.specs.ReferenceStatements.{begin_orders, after_statement_call, from_procedure, own_order, goal_order, jump_piece, with_middle, keep_orders, number_orders, set_orders, bump_orders, turn_piece, while_values, step_values, element_piece, elements_piece, element_ways, ring_piece, loop_place, value_orders, limit_orders, past_orders, turn_orders, simple_orders, simple_beginning, first_turn, stepped_piece, begun_loop, statement_piece}
+use Rattle.cw_gen_unit.specs.declared.simple.Simple.{Simple}
+use Rattle.cw_gen_unit.specs.declared.simple.Simple.TheVariants as simple
+use Rattle.cw_gen_unit.specs.declared.simple.SimpleStep.{SimpleStep}
+use Rattle.cw_gen_unit.specs.SimpleLoops.{simple_step}
 use Rattle.cw_built.specs.Listed.{are_named}
 use Rattle.cw_built.specs.Built.{alone}
 use Rattle.cw_writable.proofs.Coded.Fine.{no, both, parts}
 use Rattle.cw_writable.specs.Back.Ready.{all, is_line, lines_step, has_lines}
-use Rattle.cw_writable.proofs.Back.Fit.{plainly, both_good, ended_good, labels_good, begin_good}
-use Rattle.cw_writable.proofs.Back.Names.{listed}
+use Rattle.cw_writable.proofs.Back.Fit.{passed, plainly, both_good, ended_good, labels_good, begin_good}
+use Rattle.cw_writable.proofs.Back.Names.{place-named, listed}
+use Rattle.cw_writable.proofs.Back.Loops.{ValueHas, Has as StepWords, StepHas, step-has}
 use Rattle.cw_writable.proofs.Back.Expressions as named
 use Rattle.cw_writable.proofs.Back.Expressions.{Names, Fine, Words}
 
@@ -216,6 +224,88 @@ module _ (u : SourceUnit) (stored : IsStorable u) (few : length u.items ≤ 6553
             (λ start. both_good (ended_good (λ set. followed_by (elements_piece Line item f set start 1 es) (plain (order.Jump end ∷ []))) (λ set. both_good (elements_good f set start 1 es h k) (plainly (order.Jump end ∷ []) refl))) set_good)
             (λ start. both_good hb (plainly (item_order (layout_of u) item 3 ∷ order.Load ∷ order.LoopWay ways ∷ []) (item-first item 4 3 (order.Load ∷ order.LoopWay ways ∷ []) has refl))))
 
+    -- the one STEP element of a FOR
+    first_turn_good : (f end : ℕ) (a b d : Expr) → IsTrue (built.is_element u Has who answer f (element.Step a b d)) → IsTrue (formed.is_element (alone u) 0 o (element.Step a b d)) → Sound (first_turn Line item f a b d end)
+    first_turn_good f end a b d h k =
+        let p = parts (expressions.is_expression u Has a f most_levels) (expressions.is_expression u Has b f most_levels && expressions.is_expression u Has d f most_levels) h in
+        let q = parts (expressions.is_expression u Has b f most_levels) (expressions.is_expression u Has d f most_levels) p.1 in
+        let r = parts (formed.is_expression (alone u) 0 o a) (formed.is_expression (alone u) 0 o b && formed.is_expression (alone u) 0 o d) k in
+        let t = parts (formed.is_expression (alone u) 0 o b) (formed.is_expression (alone u) 0 o d) r.1 in
+        let last : List Order = order.PutVariable line ∷ order.Exhausted end ∷ [] in
+        both_good (numbered_good 1)
+        (both_good (expression line a f most_levels p.0 r.0 f)
+        (both_good set_good
+        (both_good (expression line b f most_levels q.0 t.0 f)
+        (both_good (kept_good 1 [] refl)
+        (both_good (expression line d f most_levels q.1 t.1 f) (kept_good 2 (item_order (layout_of u) item 0 ∷ last) (item-first item 4 0 last has refl)))))))
+
+    stepped_good : (beginning : ℕ → Piece) (body : Piece) → ((end : ℕ) → Sound (beginning end)) → Sound body → Sound (stepped_piece Line item beginning body)
+    stepped_good beginning body hn hb =
+        let next : ℕ → Order = order.NextStep (loop_place (layout_of u) item) line in
+        ended_good (λ end. with_middle (λ start. beginning end) (λ start. followed_by body (plain (next start ∷ []))))
+        (λ end. middle_good (λ start. beginning end) (λ start. followed_by body (plain (next start ∷ []))) (λ start. hn end)
+        (λ start. both_good hb (plainly (next start ∷ []) (both (Names u stored few is_named who o (next start)) true (place-named u stored few who item 4 0 has) refl))))
+
+    -- a beginning without the library
+
+    value_well : (a : Simple) (os : List Order) → ValueHas u Has a → Well os → Well (value_orders (layout_of u) a ++ os)
+    value_well (simple.Number z) os h k = k
+    value_well (simple.Item i) os h k = item-first i 1 0 (order.Load ∷ os) h k
+
+    past_well : (j : ℕ) (step : ℤ) (end : ℕ) → IsTrue (Has j 1) → Well (past_orders (layout_of u) item j step end)
+    past_well j (pos zero) end h = refl
+    past_well j (pos (suc n)) end h =
+        let last : List Order = order.Load ∷ order.JumpIf comparator.Greater end ∷ [] in
+        item-first j 1 0 (order.Load ∷ order.Save ∷ item_order (layout_of u) item 2 ∷ last) h (item-first item 4 2 last has refl)
+    past_well j (negsuc n) end h =
+        let last : List Order = order.Load ∷ order.JumpIf comparator.Less end ∷ [] in
+        item-first j 1 0 (order.Load ∷ order.Save ∷ item_order (layout_of u) item 2 ∷ last) h (item-first item 4 2 last has refl)
+
+    turn_well : (j : ℕ) (a : Simple) (step : ℤ) (d : Simple) (end : ℕ) → IsTrue (Has j 1) → Well (turn_orders (layout_of u) item j a step d end)
+    turn_well j (simple.Number a) step (simple.Number d) end h = picked (is_past step a d)
+      where
+        picked : (b : Bool) → Well (if b then (order.Jump end ∷ []) else [])
+        picked true = refl
+        picked false = refl
+    turn_well j (simple.Number a) step (simple.Item i) end h = past_well j step end h
+    turn_well j (simple.Item i) step d end h = past_well j step end h
+
+    simple_good : (x : SimpleStep) (end : ℕ) → StepWords u Has x → Sound (plain (simple_beginning (layout_of u) item x end))
+    simple_good x end h =
+        let y = layout_of u in
+        let limit : List Order = value_orders y x.limit ++ keep_orders y item 2 in
+        let step : List Order = keep_orders y item 1 ++ limit in
+        let variable : List Order = keep_orders y x.variable 0 ++ number_order (unsigned x.step) ∷ step in
+        let value : List Order = value_orders y x.first ++ variable in
+        plainly (simple_beginning y item x end)
+        (passed (length u.descs) y.families (simple_orders y item x) (turn_orders y item x.variable x.first x.step x.limit end)
+        (item-first x.variable 1 0 (keep_orders y item 0 ++ (number_orders y item 1 ++ value)) h.variable
+        (kept_well 0 (number_orders y item 1 ++ value)
+        (kept_well 3 value
+        (value_well x.first variable h.first
+        (item-first x.variable 1 0 (order.Store ∷ number_order (unsigned x.step) ∷ step) h.variable
+        (kept_well 1 limit (value_well x.limit (keep_orders y item 2) h.limit (kept_well 2 [] refl))))))))
+        (turn_well x.variable x.first x.step x.limit end h.variable))
+
+    begun_good : (r : Ref) (a b d : Expr) (body : Piece) (x : Option SimpleStep) → StepHas u Has x → IsTrue (built_reference u Has r).good → IsTrue (formed.is_reference (alone u) 0 o r)
+        → IsTrue (built.is_element u Has who answer (out-Ref r).f (element.Step a b d)) → IsTrue (formed.is_element (alone u) 0 o (element.Step a b d)) → Sound body → Sound (begun_loop Line x item r (element.Step a b d ∷ []) body)
+    begun_good r a b d body None hx hr kr h k hb =
+        let f = (out-Ref r).f in
+        both_good (address line r hr kr) (both_good (kept_good 0 [] refl) (stepped_good (first_turn Line item f a b d) body (λ end. first_turn_good f end a b d h k) hb))
+    begun_good r a b d body (Some x) hx hr kr h k hb = stepped_good (λ end. plain (simple_beginning (layout_of u) item x end)) body (λ end. simple_good x end hx) hb
+
+    loop_good : (r : Ref) (es : List Felem) (body : Piece) → IsTrue (built_reference u Has r).good → IsTrue (formed.is_reference (alone u) 0 o r)
+        → IsTrue (built.are_elements u Has who answer (out-Ref r).f es) → IsTrue (formed.are_elements (alone u) 0 o es) → Sound body → Sound (begun_loop Line (simple_step (layout_of u) item r es) item r es body)
+    loop_good r (element.Step a b d ∷ []) body hr kr h k hb =
+        let p = parts (built.is_element u Has who answer (out-Ref r).f (element.Step a b d)) true h in
+        let q = parts (formed.is_element (alone u) 0 o (element.Step a b d)) true k in
+        begun_good r a b d body (simple_step (layout_of u) item r (element.Step a b d ∷ [])) (step-has u Has who answer (layout_of u) item r a b d hr p.0) hr kr p.0 q.0 hb
+    loop_good r [] body hr kr h k hb = both_good (address line r hr kr) (both_good (kept_good 0 [] refl) (ring_good (out-Ref r).f [] body h k hb))
+    loop_good r (element.One e ∷ es) body hr kr h k hb = both_good (address line r hr kr) (both_good (kept_good 0 [] refl) (ring_good (out-Ref r).f (element.One e ∷ es) body h k hb))
+    loop_good r (element.While e c ∷ es) body hr kr h k hb = both_good (address line r hr kr) (both_good (kept_good 0 [] refl) (ring_good (out-Ref r).f (element.While e c ∷ es) body h k hb))
+    loop_good r (element.Step a b d ∷ e ∷ es) body hr kr h k hb =
+        both_good (address line r hr kr) (both_good (kept_good 0 [] refl) (ring_good (out-Ref r).f (element.Step a b d ∷ e ∷ es) body h k hb))
+
   -- ---- statements
 
   begin : (line : ℕ) → IsTrue (is_line line) → Sound (plain (begin_orders line))
@@ -291,20 +381,16 @@ module _ (u : SourceUnit) (stored : IsStorable u) (few : length u.items ≤ 6553
         (named.choice_good u stored few is_named who o line (condition_piece (at_line line At) c) (statement_piece At who answer a) (statement_piece At who answer b) (condition line c p.0 r.0)
         (inner_good a (let z : statement_size a < n = omega (arith, le) in z) levels q.0 t.0 w.0) (below b (let z : statement_size b < n = omega (arith, le) in z) levels q.1 t.1 w.1))
     layer_good (statement.For line item r es t) le levels h k l =
-        let f = (out-Ref r).f in
         let one : Bool = within levels (λ m. true) in
-        let p = parts (built_reference u Has r).good (Has item 4 && (nat_lt (length es) 32767 && (built.are_elements u Has who answer f es && (one && Passes t most_levels)))) h in
-        let q = parts (Has item 4) (nat_lt (length es) 32767 && (built.are_elements u Has who answer f es && (one && Passes t most_levels))) p.1 in
-        let a = parts (nat_lt (length es) 32767) (built.are_elements u Has who answer f es && (one && Passes t most_levels)) q.1 in
-        let b = parts (built.are_elements u Has who answer f es) (one && Passes t most_levels) a.1 in
+        let p = parts (built_reference u Has r).good (Has item 4 && (nat_lt (length es) 32767 && (built.are_elements u Has who answer (out-Ref r).f es && (one && Passes t most_levels)))) h in
+        let q = parts (Has item 4) (nat_lt (length es) 32767 && (built.are_elements u Has who answer (out-Ref r).f es && (one && Passes t most_levels))) p.1 in
+        let a = parts (nat_lt (length es) 32767) (built.are_elements u Has who answer (out-Ref r).f es && (one && Passes t most_levels)) q.1 in
+        let b = parts (built.are_elements u Has who answer (out-Ref r).f es) (one && Passes t most_levels) a.1 in
         let c = parts one (Passes t most_levels) b.1 in
         let v = parts (formed.is_reference (alone u) 0 o r) (formed.are_elements (alone u) 0 o es && Forms t) k in
         let w = parts (formed.are_elements (alone u) 0 o es) (Forms t) v.1 in
         let x = parts (is_line line) (has_lines t) l in
-        both_good (begin line x.0)
-        (both_good (address line r p.0 v.0)
-        (both_good (kept_good line item q.0 0 [] refl)
-        (ring_good line item q.0 f es (statement_piece At who answer t) b.0 w.0 (below t (let z : statement_size t < n = omega (arith, le) in z) most_levels c.1 w.1 x.1))))
+        both_good (begin line x.0) (loop_good line item q.0 r es (statement_piece At who answer t) p.0 v.0 b.0 w.0 (below t (let z : statement_size t < n = omega (arith, le) in z) most_levels c.1 w.1 x.1))
     layer_good (statement.Seq ss) le levels h k l = all_good ss (let z : total (map statement_size ss) < n = omega (arith, le) in z) levels h k l
     layer_good (statement.Mark ls t) le levels h k l = both_good (labels_good ls) (below t (let z : statement_size t < n = omega (arith, le) in z) levels h k l)
 

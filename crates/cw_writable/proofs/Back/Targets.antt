@@ -37,7 +37,7 @@ use Rattle.cw_tmpl.specs.declared.blocks.Block.{Block}
 use Rattle.cw_tmpl.specs.declared.blocks.Block.TheVariants as block
 use Rattle.cw_tmpl.specs.Blocks.{address_orders, bounds_orders, form_within, entries_within, element_orders, operand_orders, zero_word, block_at, orders_left}
 use Rattle.cw_tmpl.proofs.Shapes.{IsBlock, IsNear, TestNear, OperandIs, shape}
-use Rattle.cw_tmpl.specs.Templates.{template, mark_words, goal_words, landing_pieces, switch_pieces, times_if, times, rescale_if, product_start, product_down, less_bound, plus_word, times_width, based, in_row, element_of_two, block_pieces, block_size, entry_pieces, checked, address_pieces, load_place, store_place, with_operand, product_with, operated, shifted, shifted_up, shifted_down, shifted_down_signed, lowest_if, part_taken, operate_place, change_place, index_added, index_loaded, from_lower, indexes_between, top_from_lower, top_below, times_entry, formed, bounded_address, element_tested, element_address, call_stop}
+use Rattle.cw_tmpl.specs.Templates.{template, mark_words, goal_words, landing_pieces, switch_pieces, times_if, times, rescale_if, product_start, product_down, less_bound, plus_word, times_width, based, in_row, element_of_two, block_pieces, block_size, entry_pieces, checked, address_pieces, load_place, store_place, with_operand, product_with, operated, shifted_up, shifted_down, shifted_down_signed, lowest_if, part_taken, operate_place, change_place, index_added, index_loaded, from_lower, indexes_between, top_from_lower, top_below, times_entry, formed, bounded_address, element_tested, element_address, call_stop}
 use Rattle.cw_tmpl.specs.ReferenceCode.{templates, landings, switches, entry_size, landings_place, switches_place, names_of, pieces_of}
 use Rattle.cw_tmpl.specs.Blanks.{FillsBlank, Rise}
 use Rattle.cw_view.specs.ObjectFormat.{is_blank, has_index}
@@ -196,7 +196,11 @@ module _ (n : ℕ) (fs : List Family) where
       let last : List Coded = plus_word line word ++ based line in
       sound-both (times_width line width) last (width-sound line width (width == 1)) (sound-both (plus_word line word) (based line) (word-sound line word) refl)
   template-sound names place (order.JumpIf c mark) h = refl
-  template-sound names place (order.LoopWay marks) h = own-only (place + 20) (mark_words names marks) (marks-sound names marks)
+  template-sound names place (order.LoopWay []) h = own-only (place + 20) [] refl
+  template-sound names place (order.LoopWay (m ∷ [])) h = refl
+  template-sound names place (order.LoopWay (m ∷ k ∷ ms)) h = own-only (place + 20) (mark_words names (m ∷ k ∷ ms)) (marks-sound names (m ∷ k ∷ ms))
+  template-sound names place (order.NextStep (cell.Word f k) line m) h = only (is_place fs f k) h
+  template-sound names place (order.NextStep (cell.Frame k) line m) h = refl
   template-sound names place (order.CallCommon d line) h = only (nat_lt d n) h
   template-sound names place (order.CallSpecial k line) h = own-only (place + 13) [] refl
   template-sound names place (order.Bind k f offset) h = only (is_place fs f offset) h

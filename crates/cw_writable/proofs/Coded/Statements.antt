@@ -1,8 +1,11 @@
 -- The orders of statements whose numbers are in range have code, and their marks and labels stand at places of marks.
-use Rattle.std.proofs.Common.{◌≡◌, ℕ, zero, suc, ◌+◌, ◌<◌, ◌≤◌, nat_lt, List, [], ◌∷◌, ◌++◌, map, length, Bool, true, false, IsTrue, ◌&&◌, Option, Some, None, slice_get, refl, sym, ap, subst, arith}
+use Rattle.std.proofs.Common.{◌≡◌, ℕ, zero, suc, ◌+◌, ◌<◌, ◌≤◌, nat_lt, ℤ, pos, negsuc, if◌then◌else◌, List, [], ◌∷◌, ◌++◌, map, length, Bool, true, false, IsTrue, ◌&&◌, Option, Some, None, slice_get, refl, sym, ap, subst, arith}
 use Rattle.std.specs.List.{list_all}
 use Rattle.cw_order.specs.declared.order.Order.{Order}
 use Rattle.cw_order.specs.declared.order.Order.TheVariants as order
+use Rattle.cw_order.specs.declared.order.Comparator.TheVariants as comparator
+use Rattle.cw_word.specs.Word.{unsigned}
+use Rattle.cw_unit.specs.Operation.{is_past}
 use Rattle.cw_unit.specs.declared.layout.Layout.{Layout}
 use Rattle.cw_unit.specs.declared.unit.Unit.{Unit as SourceUnit}
 use Rattle.cw_unit.specs.declared.unit.Label.{Label}
@@ -16,20 +19,24 @@ use Rattle.cw_unit.specs.declared.unit.Felem.{Felem}
 use Rattle.cw_unit.specs.declared.unit.Felem.TheVariants as element
 use Rattle.cw_unit.specs.declared.unit.Expr.{Expr}
 use Rattle.cw_unit.specs.declared.unit.Cond.{Cond}
-use Rattle.cw_unit.specs.declared.unit.Ref.{out-Ref}
+use Rattle.cw_unit.specs.declared.unit.Ref.{Ref, out-Ref}
 use Rattle.cw_unit.specs.declared.unit.Stmt.{Stmt, Stmt-F, out-Stmt, map-Stmt, fold-Stmt, fold_out-Stmt}
 use Rattle.cw_unit.specs.declared.unit.Stmt.TheOpen as statement
 use Rattle.cw_gen_expr.specs.Pieces.{Piece, plain, followed_by, sequence, with_end}
-use Rattle.cw_gen_expr.specs.ReferenceExpressions.{Scope, at_line, argument_words, control_place, item_order, store_orders, call_order, condition_piece, expression_piece}
+use Rattle.cw_gen_expr.specs.ReferenceExpressions.{Scope, at_line, argument_words, control_place, item_order, store_orders, number_order, call_order, condition_piece, expression_piece}
 use Rattle.cw_gen_expr.specs.UnitTables.{label_mark}
 use Rattle.cw_gen_expr.proofs.Layers.{total}
 use Rattle.cw_gen_unit.specs.ReferenceStatements as made
-use Rattle.cw_gen_unit.specs.ReferenceStatements.{begin_orders, after_statement_call, from_procedure, own_order, goal_order, jump_piece, with_middle, keep_orders, number_orders, set_orders, bump_orders, turn_piece, while_values, step_values, element_piece, elements_piece, element_ways, ring_piece, loop_piece, statement_piece}
+use Rattle.cw_gen_unit.specs.ReferenceStatements.{begin_orders, after_statement_call, from_procedure, own_order, goal_order, jump_piece, with_middle, keep_orders, number_orders, set_orders, bump_orders, turn_piece, while_values, step_values, element_piece, elements_piece, element_ways, ring_piece, loop_place, value_orders, limit_orders, past_orders, turn_orders, simple_orders, simple_beginning, first_turn, stepped_piece, begun_loop, loop_piece, statement_piece}
+use Rattle.cw_gen_unit.specs.declared.simple.Simple.{Simple}
+use Rattle.cw_gen_unit.specs.declared.simple.Simple.TheVariants as simple
+use Rattle.cw_gen_unit.specs.declared.simple.SimpleStep.{SimpleStep}
+use Rattle.cw_gen_unit.specs.SimpleLoops.{simple_step}
 use Rattle.cw_built.specs.Coded.{is_part, has_code}
 use Rattle.cw_writable.specs.Coded.RangedExpressions.{all_ranged, is_ranged_expression, is_ranged_condition, is_ranged_argument, ranged_reference}
 use Rattle.cw_writable.specs.Coded.RangedUnits as ranged
 use Rattle.cw_writable.specs.Coded.RangedUnits.{is_line, is_ranged_jump, is_ranged_element, are_ranged_elements, is_ranged_statement}
-use Rattle.cw_writable.proofs.Coded.Fine.{parts, Good, plainly, both_good, ended_good, labels_good}
+use Rattle.cw_writable.proofs.Coded.Fine.{parts, passed, Good, plainly, both_good, ended_good, labels_good}
 use Rattle.cw_writable.proofs.Coded.Numbers.{lt_true, first, first_by, item-first, store-coded, control-coded, call-coded}
 use Rattle.cw_writable.proofs.Coded.Expressions.{choice_good, saved_good, expression_good, condition_ranged_good, address_good, arguments_good, reference-ranges}
 
@@ -122,6 +129,49 @@ turn_good y line item body l =
 kept_good : (y : Layout) (item word : ℕ) (os : List Order) → IsTrue (list_all has_code os) → Good (plain (keep_orders y item word ++ os))
 kept_good y item word os h = plainly (keep_orders y item word ++ os) (kept-coded y item word os h)
 
+-- ---- a beginning without the library
+
+value-coded : (y : Layout) (a : Simple) → IsTrue (list_all has_code (value_orders y a))
+value-coded y (simple.Number z) = refl
+value-coded y (simple.Item i) = item-first y i 0 (order.Load ∷ []) refl
+
+limit-coded : (y : Layout) (item j : ℕ) (past : Order) → IsTrue (has_code past) → IsTrue (list_all has_code (limit_orders y item j past))
+limit-coded y item j past h =
+    let last : List Order = order.Load ∷ past ∷ [] in
+    let behind : List Order = order.Save ∷ item_order y item 2 ∷ last in
+    item-first y j 0 (order.Load ∷ behind)
+    (first order.Load behind refl (first order.Save (item_order y item 2 ∷ last) refl (item-first y item 2 last (first order.Load (past ∷ []) refl (first past [] h refl)))))
+
+past-coded : (y : Layout) (item j : ℕ) (step : ℤ) (end : ℕ) → IsTrue (list_all has_code (past_orders y item j step end))
+past-coded y item j (pos zero) end = refl
+past-coded y item j (pos (suc n)) end = limit-coded y item j (order.JumpIf comparator.Greater end) refl
+past-coded y item j (negsuc n) end = limit-coded y item j (order.JumpIf comparator.Less end) refl
+
+first-turn-coded : (y : Layout) (item j : ℕ) (a : Simple) (step : ℤ) (d : Simple) (end : ℕ) → IsTrue (list_all has_code (turn_orders y item j a step d end))
+first-turn-coded y item j (simple.Number a) s (simple.Number d) end = picked (is_past s a d)
+  where
+    picked : (b : Bool) → IsTrue (list_all has_code (if b then (order.Jump end ∷ []) else []))
+    picked true = refl
+    picked false = refl
+first-turn-coded y item j (simple.Number a) s (simple.Item i) end = past-coded y item j s end
+first-turn-coded y item j (simple.Item i) s d end = past-coded y item j s end
+
+simple-coded : (y : Layout) (item : ℕ) (x : SimpleStep) (end : ℕ) → IsTrue (list_all has_code (simple_beginning y item x end))
+simple-coded y item x end =
+    let limit : List Order = value_orders y x.limit ++ keep_orders y item 2 in
+    let step : List Order = keep_orders y item 1 ++ limit in
+    let variable : List Order = keep_orders y x.variable 0 ++ number_order (unsigned x.step) ∷ step in
+    let value : List Order = value_orders y x.first ++ variable in
+    passed (simple_orders y item x) (turn_orders y item x.variable x.first x.step x.limit end)
+    (item-first y x.variable 0 (keep_orders y item 0 ++ (number_orders y item 1 ++ value))
+    (kept-coded y item 0 (number_orders y item 1 ++ value)
+    (kept-coded y item 3 value
+    (passed (value_orders y x.first) variable (value-coded y x.first)
+    (kept-coded y x.variable 0 (number_order (unsigned x.step) ∷ step)
+    (first (number_order (unsigned x.step)) step refl
+    (kept-coded y item 1 limit (passed (value_orders y x.limit) (keep_orders y item 2) (value-coded y x.limit) (kept-coded y item 2 [] refl)))))))))
+    (first-turn-coded y item x.variable x.first x.step x.limit end)
+
 module _ (s : Scope) (few : argument_words s.parameters < 256) (line : IsTrue (is_line s.line)) where
   while_good : (item f body next i : ℕ) (e : Expr) (c : Cond) → IsTrue (is_ranged_expression s.unit e f) → IsTrue (is_ranged_condition s.unit c) → Good (while_values s item f body next i e c)
   while_good item f body next i e c he hc =
@@ -178,6 +228,48 @@ module _ (s : Scope) (few : argument_words s.parameters < 256) (line : IsTrue (i
           (λ end. middle_good (λ start. followed_by (with_end (λ set. followed_by (elements_piece s item f set start 1 es) (plain (order.Jump end ∷ [])))) (plain (set_orders s.layout s.line item))) (λ start. followed_by body (plain (item_order s.layout item 3 ∷ order.Load ∷ order.LoopWay ways ∷ [])))
           (λ start. both_good (ended_good (λ set. followed_by (elements_piece s item f set start 1 es) (plain (order.Jump end ∷ []))) (λ set. both_good (elements_good item f set start 1 es he) (plainly (order.Jump end ∷ []) refl))) (set_good s.layout s.line item line))
           (λ start. both_good hb (plainly (item_order s.layout item 3 ∷ order.Load ∷ order.LoopWay ways ∷ []) (way_coded ways e))))
+
+  -- the one STEP element of a FOR
+  first_turn_good : (item f end : ℕ) (a b d : Expr) → IsTrue (is_ranged_expression s.unit a f) → IsTrue (is_ranged_expression s.unit b f) → IsTrue (is_ranged_expression s.unit d f) → Good (first_turn s item f a b d end)
+  first_turn_good item f end a b d ha hb hd =
+      let last : List Order = order.PutVariable s.line ∷ order.Exhausted end ∷ [] in
+      both_good (numbered_good s.layout item 1)
+      (both_good (expression_good s few line a f ha)
+      (both_good (set_good s.layout s.line item line)
+      (both_good (expression_good s few line b f hb)
+      (both_good (kept_good s.layout item 1 [] refl)
+      (both_good (expression_good s few line d f hd)
+      (kept_good s.layout item 2 (item_order s.layout item 0 ∷ last) (item-first s.layout item 0 last (first_by (order.PutVariable s.line) (order.Exhausted end ∷ []) refl line refl))))))))
+
+  stepped_good : (item : ℕ) (beginning : ℕ → Piece) (body : Piece) → ((end : ℕ) → Good (beginning end)) → Good body → Good (stepped_piece s item beginning body)
+  stepped_good item beginning body hn hb =
+      let next : ℕ → Order = order.NextStep (loop_place s.layout item) s.line in
+      ended_good (λ end. with_middle (λ start. beginning end) (λ start. followed_by body (plain (next start ∷ []))))
+      (λ end. middle_good (λ start. beginning end) (λ start. followed_by body (plain (next start ∷ []))) (λ start. hn end)
+      (λ start. both_good hb (plainly (next start ∷ []) (first_by (next start) [] refl line refl))))
+
+  begun_good : (item : ℕ) (r : Ref) (a b d : Expr) (body : Piece) (x : Option SimpleStep) → IsTrue (ranged_reference s.unit r).good → IsTrue (is_ranged_element s.unit (out-Ref r).f (element.Step a b d)) → Good body
+      → Good (begun_loop s x item r (element.Step a b d ∷ []) body)
+  begun_good item r a b d body None hr he hb =
+      let f = (out-Ref r).f in
+      let p = parts (is_ranged_expression s.unit a f) (is_ranged_expression s.unit b f && is_ranged_expression s.unit d f) he in
+      let q = parts (is_ranged_expression s.unit b f) (is_ranged_expression s.unit d f) p.1 in
+      both_good (address_good s few line r hr)
+      (both_good (kept_good s.layout item 0 [] refl) (stepped_good item (first_turn s item f a b d) body (λ end. first_turn_good item f end a b d p.0 q.0 q.1) hb))
+  begun_good item r a b d body (Some x) hr he hb =
+      stepped_good item (λ end. plain (simple_beginning s.layout item x end)) body (λ end. plainly (simple_beginning s.layout item x end) (simple-coded s.layout item x end)) hb
+
+  loop_good : (item : ℕ) (r : Ref) (es : List Felem) (body : Piece) → IsTrue (ranged_reference s.unit r).good → IsTrue (nat_lt (length es) 32768) → IsTrue (are_ranged_elements s.unit (out-Ref r).f es) → Good body
+      → Good (begun_loop s (simple_step s.layout item r es) item r es body)
+  loop_good item r (element.Step a b d ∷ []) body hr hn he hb =
+      begun_good item r a b d body (simple_step s.layout item r (element.Step a b d ∷ [])) hr (parts (is_ranged_element s.unit (out-Ref r).f (element.Step a b d)) true he).0 hb
+  loop_good item r [] body hr hn he hb = both_good (address_good s few line r hr) (both_good (kept_good s.layout item 0 [] refl) (ring_good item (out-Ref r).f [] body hn he hb))
+  loop_good item r (element.One e ∷ es) body hr hn he hb =
+      both_good (address_good s few line r hr) (both_good (kept_good s.layout item 0 [] refl) (ring_good item (out-Ref r).f (element.One e ∷ es) body hn he hb))
+  loop_good item r (element.While e c ∷ es) body hr hn he hb =
+      both_good (address_good s few line r hr) (both_good (kept_good s.layout item 0 [] refl) (ring_good item (out-Ref r).f (element.While e c ∷ es) body hn he hb))
+  loop_good item r (element.Step a b d ∷ e ∷ es) body hr hn he hb =
+      both_good (address_good s few line r hr) (both_good (kept_good s.layout item 0 [] refl) (ring_good item (out-Ref r).f (element.Step a b d ∷ e ∷ es) body hn he hb))
 
 -- ---- statements
 
@@ -239,9 +331,7 @@ module _ (s : Scope) (few : argument_words s.parameters < 256) (who : Option ℕ
         let k = parts (nat_lt (length es) 32768) (are_ranged_elements s.unit f es && is_ranged_statement s.unit answer t) q.1 in
         let m = parts (are_ranged_elements s.unit f es) (is_ranged_statement s.unit answer t) k.1 in
         both_good (begin_good line p.0)
-        (both_good (address_good (at_line line s) few p.0 r q.0)
-        (both_good (kept_good s.layout item 0 [] refl)
-        (ring_good (at_line line s) few p.0 item f es (statement_piece s who answer t) k.0 m.0 (below t (let z : statement_size t < n = omega (arith, le) in z) m.1))))
+        (loop_good (at_line line s) few p.0 item r es (statement_piece s who answer t) q.0 k.0 m.0 (below t (let z : statement_size t < n = omega (arith, le) in z) m.1))
     layer_good (statement.Seq ss) le h = all_good ss (let z : total (map statement_size ss) < n = omega (arith, le) in z) h
     layer_good (statement.Mark ls t) le h = both_good (labels_good ls) (below t (let z : statement_size t < n = omega (arith, le) in z) h)
 
