@@ -1,7 +1,10 @@
 -- Lists of orders that begin no statement.
-use Rattle.std.proofs.Common.{◌≡◌, ℕ, ◌+◌, ◌==◌, if◌then◌else◌, ℤ, List, [], ◌∷◌, ◌++◌, Bool, true, false, Option, Some, None, slice_get, slice_index_or, refl, ap₂, ◌∙◌}
+use Rattle.std.proofs.Common.{◌≡◌, ℕ, ◌+◌, ◌==◌, if◌then◌else◌, ℤ, pos, negsuc, zero, suc, List, [], ◌∷◌, ◌++◌, Bool, true, false, Option, Some, None, slice_get, slice_index_or, refl, ap₂, ◌∙◌}
 use Rattle.cw_order.specs.declared.order.Order.{Order}
 use Rattle.cw_order.specs.declared.order.Order.TheVariants as order
+use Rattle.cw_order.specs.declared.order.Comparator.TheVariants as comparator
+use Rattle.cw_word.specs.Word.{unsigned}
+use Rattle.cw_unit.specs.Operation.{is_past}
 use Rattle.cw_unit.specs.declared.layout.Layout.{Layout}
 use Rattle.cw_unit.specs.declared.layout.Family.{Family}
 use Rattle.cw_unit.specs.declared.layout.Sort.{Sort}
@@ -17,10 +20,13 @@ use Rattle.cw_unit.specs.declared.unit.Target.{Target}
 use Rattle.cw_unit.specs.declared.unit.Target.TheVariants as target
 use Rattle.cw_unit.specs.declared.unit.Goal.{Goal}
 use Rattle.cw_unit.specs.declared.unit.Goal.TheVariants as goal
-use Rattle.cw_gen_expr.specs.ReferenceExpressions.{Scope, argument_words, placed_by, placed_in, item_order, table_orders, bounds_orders, load_orders, store_orders, rescale_orders, logic_order, call_order, label_order}
+use Rattle.cw_gen_expr.specs.ReferenceExpressions.{Scope, argument_words, placed_by, placed_in, item_order, table_orders, bounds_orders, load_orders, store_orders, rescale_orders, logic_order, number_order, call_order, label_order}
 use Rattle.cw_gen_expr.specs.ReferenceEntries.{bound_by, bound_in, bound_order, parameter_orders, bind_orders}
 use Rattle.cw_gen_expr.specs.UnitTables.{label_mark}
-use Rattle.cw_gen_unit.specs.ReferenceStatements.{after_statement_call, from_procedure, own_order, goal_order}
+use Rattle.cw_gen_unit.specs.declared.simple.Simple.{Simple}
+use Rattle.cw_gen_unit.specs.declared.simple.Simple.TheVariants as simple
+use Rattle.cw_gen_unit.specs.declared.simple.SimpleStep.{SimpleStep}
+use Rattle.cw_gen_unit.specs.ReferenceStatements.{after_statement_call, from_procedure, own_order, goal_order, keep_orders, number_orders, value_orders, past_orders, turn_orders, simple_orders, simple_beginning}
 use Rattle.cw_traced.proofs.Lines.Starting.{begun_by, begun_in, begun-append}
 
 -- two lists that begin none
@@ -117,6 +123,45 @@ goal-silent u who (goal.Own l) = by_owner who (slice_get u.labels l)
     by_owner None x = refl
     by_owner (Some q) x = from x
 goal-silent u who (goal.Common d) = refl
+
+-- ---- a FOR that begins without the library
+
+value-silent : (y : Layout) (a : Simple) → begun_in (value_orders y a) ≡ []
+value-silent y (simple.Number z) = refl
+value-silent y (simple.Item i) = item-first y i 0 (order.Load ∷ []) refl
+
+past-silent : (y : Layout) (item j : ℕ) (step : ℤ) (end : ℕ) → begun_in (past_orders y item j step end) ≡ []
+past-silent y item j (pos zero) end = refl
+past-silent y item j (pos (suc n)) end =
+    let last : List Order = order.Load ∷ order.JumpIf comparator.Greater end ∷ [] in
+    item-first y j 0 (order.Load ∷ order.Save ∷ item_order y item 2 ∷ last) (item-first y item 2 last refl)
+past-silent y item j (negsuc n) end =
+    let last : List Order = order.Load ∷ order.JumpIf comparator.Less end ∷ [] in
+    item-first y j 0 (order.Load ∷ order.Save ∷ item_order y item 2 ∷ last) (item-first y item 2 last refl)
+
+turn-silent : (y : Layout) (item j : ℕ) (a : Simple) (step : ℤ) (d : Simple) (end : ℕ) → begun_in (turn_orders y item j a step d end) ≡ []
+turn-silent y item j (simple.Number a) s (simple.Number d) end = picked (is_past s a d)
+  where
+    picked : (b : Bool) → begun_in (if b then (order.Jump end ∷ []) else []) ≡ []
+    picked true = refl
+    picked false = refl
+turn-silent y item j (simple.Number a) s (simple.Item i) end = past-silent y item j s end
+turn-silent y item j (simple.Item i) s d end = past-silent y item j s end
+
+pub beginning-silent : (y : Layout) (item : ℕ) (x : SimpleStep) (end : ℕ) → begun_in (simple_beginning y item x end) ≡ []
+beginning-silent y item x end =
+    let limit : List Order = value_orders y x.limit ++ keep_orders y item 2 in
+    let step : List Order = keep_orders y item 1 ++ limit in
+    let variable : List Order = keep_orders y x.variable 0 ++ number_order (unsigned x.step) ∷ step in
+    let value : List Order = value_orders y x.first ++ variable in
+    none-both (simple_orders y item x) (turn_orders y item x.variable x.first x.step x.limit end)
+    (item-first y x.variable 0 (keep_orders y item 0 ++ (number_orders y item 1 ++ value))
+    (item-first y item 0 (order.Store ∷ (number_orders y item 1 ++ value))
+    (item-first y item 3 (order.Store ∷ value)
+    (none-both (value_orders y x.first) variable (value-silent y x.first)
+    (item-first y x.variable 0 (order.Store ∷ number_order (unsigned x.step) ∷ step)
+    (item-first y item 1 (order.Store ∷ limit) (none-both (value_orders y x.limit) (keep_orders y item 2) (value-silent y x.limit) (item-first y item 2 (order.Store ∷ []) refl))))))))
+    (turn-silent y item x.variable x.first x.step x.limit end)
 
 -- ---- entries of procedures
 

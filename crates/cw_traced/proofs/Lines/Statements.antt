@@ -1,6 +1,7 @@
 -- The orders of a statement begin the statements of its lines, in order.
-use Rattle.std.proofs.Common.{◌≡◌, ℕ, zero, suc, ◌+◌, ◌<◌, ◌≤◌, List, [], ◌∷◌, ◌++◌, map, true, false, Option, append-nil, refl, sym, ap, ◌∙◌, subst, arith}
+use Rattle.std.proofs.Common.{◌≡◌, ℕ, zero, suc, ◌+◌, ◌<◌, ◌≤◌, List, [], ◌∷◌, ◌++◌, map, true, false, Option, Some, None, append-nil, refl, sym, ap, ◌∙◌, subst, arith}
 use Rattle.std.specs.Prelude.{flat_map}
+use Rattle.cw_order.specs.declared.order.Order.{Order}
 use Rattle.cw_order.specs.declared.order.Order.TheVariants as order
 use Rattle.cw_unit.specs.declared.unit.Dest.{Dest}
 use Rattle.cw_unit.specs.declared.unit.Dest.TheVariants as dest
@@ -8,18 +9,20 @@ use Rattle.cw_unit.specs.declared.unit.Felem.{Felem}
 use Rattle.cw_unit.specs.declared.unit.Felem.TheVariants as element
 use Rattle.cw_unit.specs.declared.unit.Expr.{Expr}
 use Rattle.cw_unit.specs.declared.unit.Cond.{Cond}
-use Rattle.cw_unit.specs.declared.unit.Ref.{out-Ref}
+use Rattle.cw_unit.specs.declared.unit.Ref.{Ref, out-Ref}
 use Rattle.cw_unit.specs.declared.unit.Stmt.{Stmt, Stmt-F, out-Stmt, map-Stmt, fold-Stmt, fold_out-Stmt}
 use Rattle.cw_unit.specs.declared.unit.Stmt.TheOpen as statement
 use Rattle.cw_unit.specs.Begun.{line_of}
 use Rattle.cw_gen_expr.specs.Pieces.{Piece, plain, followed_by, sequence, with_end}
-use Rattle.cw_gen_expr.specs.ReferenceExpressions.{Scope, at_line, argument_words, control_place, item_order, store_orders, call_order, condition_piece, expression_piece}
+use Rattle.cw_gen_expr.specs.ReferenceExpressions.{Scope, at_line, argument_words, control_place, item_order, store_orders, call_order, condition_piece, reference_of, expression_piece}
 use Rattle.cw_gen_expr.proofs.Layers.{total}
 use Rattle.cw_gen_unit.specs.ReferenceStatements as made
-use Rattle.cw_gen_unit.specs.ReferenceStatements.{after_statement_call, goal_order, jump_piece, with_middle, keep_orders, number_orders, set_orders, bump_orders, turn_piece, while_values, step_values, element_piece, elements_piece, element_ways, ring_piece, statement_piece}
+use Rattle.cw_gen_unit.specs.ReferenceStatements.{after_statement_call, goal_order, jump_piece, with_middle, keep_orders, number_orders, set_orders, bump_orders, turn_piece, while_values, step_values, element_piece, elements_piece, element_ways, ring_piece, loop_place, simple_beginning, first_turn, stepped_piece, begun_loop, statement_piece}
+use Rattle.cw_gen_unit.specs.declared.simple.SimpleStep.{SimpleStep}
+use Rattle.cw_gen_unit.specs.SimpleLoops.{simple_step}
 use Rattle.cw_traced.specs.Lines.Lines.{joined, lines_step, lines_in, parts_of}
 use Rattle.cw_traced.proofs.Lines.Starting.{Begins, Silent, as-lines, plainly, both, before, ended, labelled, begun}
-use Rattle.cw_traced.proofs.Lines.Silent.{none-first, item-first, store-silent, call-silent, after-silent, goal-silent}
+use Rattle.cw_traced.proofs.Lines.Silent.{none-first, item-first, store-silent, call-silent, after-silent, goal-silent, beginning-silent}
 use Rattle.cw_traced.proofs.Lines.Expressions.{choice-begins, saved-silent, expression-begins, condition-begins, address-begins, arguments-begin}
 
 -- ---- layers
@@ -129,6 +132,45 @@ module _ (s : Scope) (item : ℕ) where
           (λ start. both (ended (λ set. followed_by (elements_piece s item f set start 1 es) (plain (order.Jump end ∷ []))) (λ set. both (elements-silent f set start 1 es) (plainly (order.Jump end ∷ []) refl))) variable-set)
           (λ start. before h (plainly (item_order s.layout item 3 ∷ order.Load ∷ order.LoopWay ways ∷ []) (item-first s.layout item 3 (order.Load ∷ order.LoopWay ways ∷ []) refl))))
 
+  -- the one STEP element of a FOR
+  first-turn-silent : (f end : ℕ) (a b d : Expr) → Silent (first_turn s item f a b d end)
+  first-turn-silent f end a b d =
+      let last : List Order = order.PutVariable s.line ∷ order.Exhausted end ∷ [] in
+      both (numbered 1)
+      (both (expression-begins s a f)
+      (both variable-set
+      (both (expression-begins s b f)
+      (both (kept 1)
+      (both (expression-begins s d f)
+      (plainly (keep_orders s.layout item 2 ++ item_order s.layout item 0 ∷ last) (item-first s.layout item 2 (order.Store ∷ item_order s.layout item 0 ∷ last) (item-first s.layout item 0 last refl))))))))
+
+  simple-silent : (x : SimpleStep) (end : ℕ) → Silent (plain (simple_beginning s.layout item x end))
+  simple-silent x end = plainly (simple_beginning s.layout item x end) (beginning-silent s.layout item x end)
+
+  stepped-begins : (beginning : ℕ → Piece) (body : Piece) (xs : List ℕ) → ((end : ℕ) → Silent (beginning end)) → Begins body xs → Begins (stepped_piece s item beginning body) xs
+  stepped-begins beginning body xs hn h =
+      let next : ℕ → Order = order.NextStep (loop_place s.layout item) s.line in
+      ended (λ end. with_middle (λ start. beginning end) (λ start. followed_by body (plain (next start ∷ []))))
+      (λ end. middle (λ start. beginning end) (λ start. followed_by body (plain (next start ∷ []))) (λ start. hn end) (λ start. before h (plainly (next start ∷ []) refl)))
+
+  -- a FOR behind the address of its control variable
+  addressed : (r : Ref) (xs : List ℕ) (p : Piece) → Begins p xs → Begins (followed_by (reference_of s r).address (followed_by (plain (keep_orders s.layout item 0)) p)) xs
+  addressed r xs p h = both (address-begins s r) (both (kept 0) h)
+
+  one-step-begins : (r : Ref) (a b d : Expr) (body : Piece) (xs : List ℕ) (x : Option SimpleStep) → Begins body xs → Begins (begun_loop s x item r (element.Step a b d ∷ []) body) xs
+  one-step-begins r a b d body xs None h =
+      let f = (out-Ref r).f in
+      addressed r xs (stepped_piece s item (first_turn s item f a b d) body) (stepped-begins (first_turn s item f a b d) body xs (λ end. first-turn-silent f end a b d) h)
+  one-step-begins r a b d body xs (Some x) h = stepped-begins (λ end. plain (simple_beginning s.layout item x end)) body xs (λ end. simple-silent x end) h
+
+  loop-begins : (r : Ref) (es : List Felem) (body : Piece) (xs : List ℕ) → Begins body xs → Begins (begun_loop s (simple_step s.layout item r es) item r es body) xs
+  loop-begins r (element.Step a b d ∷ []) body xs h = one-step-begins r a b d body xs (simple_step s.layout item r (element.Step a b d ∷ [])) h
+  loop-begins r [] body xs h = addressed r xs (ring_piece s item (out-Ref r).f [] body) (ring-begins (out-Ref r).f [] body xs h)
+  loop-begins r (element.One e ∷ es) body xs h = addressed r xs (ring_piece s item (out-Ref r).f (element.One e ∷ es) body) (ring-begins (out-Ref r).f (element.One e ∷ es) body xs h)
+  loop-begins r (element.While e c ∷ es) body xs h = addressed r xs (ring_piece s item (out-Ref r).f (element.While e c ∷ es) body) (ring-begins (out-Ref r).f (element.While e c ∷ es) body xs h)
+  loop-begins r (element.Step a b d ∷ e ∷ es) body xs h =
+      addressed r xs (ring_piece s item (out-Ref r).f (element.Step a b d ∷ e ∷ es) body) (ring-begins (out-Ref r).f (element.Step a b d ∷ e ∷ es) body xs h)
+
 -- ---- statements
 
 module _ (s : Scope) (who : Option ℕ) (answer : ℕ) where
@@ -168,10 +210,7 @@ module _ (s : Scope) (who : Option ℕ) (answer : ℕ) where
         (choice-begins (condition_piece (at_line line s) c) (statement_piece s who answer a) (statement_piece s who answer b) (condition-begins (at_line line s) c)
         (below a (let z : statement_size a < n = omega (arith, le) in z)) (below b (let z : statement_size b < n = omega (arith, le) in z)))
     layer-begins (statement.For line item r es t) le =
-        both (begun line)
-        (both (address-begins (at_line line s) r)
-        (both (kept (at_line line s) item 0)
-        (ring-begins (at_line line s) item (out-Ref r).f es (statement_piece s who answer t) (lines_in t) (below t (let z : statement_size t < n = omega (arith, le) in z)))))
+        both (begun line) (loop-begins (at_line line s) item r es (statement_piece s who answer t) (lines_in t) (below t (let z : statement_size t < n = omega (arith, le) in z)))
     layer-begins (statement.Seq ss) le = all-begin ss (let z : total (map statement_size ss) < n = omega (arith, le) in z)
     layer-begins (statement.Mark ls t) le = both (labelled ls) (below t (let z : statement_size t < n = omega (arith, le) in z))
 
