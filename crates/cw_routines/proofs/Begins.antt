@@ -107,8 +107,8 @@ tested_none : (w : ℕ) (f : Flags) → w % 256 ≡ 0 → meets (logic_flags 128
 unfolding meets
 tested_none w f e = ap (λ n. not (bit_and n n == 0)) e
 
-module _ (finds : Finds) (Quiet : ℕ → Type 0) (code : List ℕ) (stands : Stands code) (library : (k : ℕ) → k < 426 → Quiet k) where
-  quiet : {at : ℕ} (to : ℕ) → to ≤ 426 → (k : ℕ) → at ≤ k → k < to → Quiet k
+module _ (finds : Finds) (Quiet : ℕ → Type 0) (code : List ℕ) (stands : Stands code) (library : (k : ℕ) → k < 430 → Quiet k) where
+  quiet : {at : ℕ} (to : ℕ) → to ≤ 430 → (k : ℕ) → at ≤ k → k < to → Quiet k
   quiet {at} to le = run finds Quiet code stands library {at = at} to le
 
   -- ---- the start of a body

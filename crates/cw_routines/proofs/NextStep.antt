@@ -24,27 +24,27 @@ use Rattle.cw_unit.specs.Words.{Words, with_memory, word_at, number_of, is_below
 use Rattle.cw_unit.specs.Operation.{store_sum, is_past}
 use Rattle.cw_order.specs.OrderChanges.{Way, to_mark_if, way_behind, turn_if, turned, stepped_if, stepped}
 use Rattle.cw_tmpl.specs.Mnemonics as short
-use Rattle.cw_routines.specs.Ways.{At, HasAll, view, Leads, Within, Over}
+use Rattle.cw_routines.specs.Ways.{At, HasAll, HasWord, view, Leads, Within, Over}
 use Rattle.cw_routines.specs.Results.{Stands, Holds, Tells, Answered, AtMost, GoesOn}
 use Rattle.cw_routines.proofs.Arrive.{jumps_if, passes_if}
 use Rattle.cw_routines.proofs.Sources.{Register, Cell}
 use Rattle.cw_routines.proofs.Acts as acts
 use Rattle.cw_routines.proofs.Chains.{LowByte, OrLow, Load, Store, Sum, Either, Comparison, ComparisonShort, Double, done, more, last, afterwards, within, onward, straight, both}
 use Rattle.cw_routines.proofs.Facts.{WordLaws, not_below, below, equal, not_equal, unequal, not_unequal, tested_at_most, tested_sign, tested_zero, never_at_most, fits_tested, positive_fits, negative_fits, unsigned_pos, unsigned_negative, sum_overflows, sum_is, compared, stored, fits_there, inside, outside, twice_positive, not_positive}
-use Rattle.cw_routines.proofs.Places.{to_place, next_step_stands, stepped_stands, left_stands, stepped_any_stands, turned_stands, far_address_stands, far_sum_stands}
-use Rattle.cw_routines.proofs.Stops.{far_stops, run}
+use Rattle.cw_routines.proofs.Places.{to_place, next_step_stands, stepped_stands, left_stands, stepped_any_stands, turned_stands}
+use Rattle.cw_routines.proofs.Stops.{step_address_stops, step_sum_stops, run}
 use Rattle.cw_routines.proofs.Loops.{not_greater}
 
-module _ (finds : Finds) (laws : WordLaws) (Quiet : ℕ → Type 0) (code : List ℕ) (stands : Stands code) (library : (k : ℕ) → k < 426 → Quiet k) where
-  module _ (area a mark line bp n r segment back : ℕ) (stack : ℕ → ℕ) (input : List ℕ) (told : Told) (small : a + 3 < area) (line_small : line < 65536)
-      (n_low : n < 32767) (way : stack n ≡ back) (back_small : back < 65536) (record_is : Tells stack bp r segment) where
+module _ (finds : Finds) (laws : WordLaws) (Quiet : ℕ → Type 0) (code : List ℕ) (stands : Stands code) (library : (k : ℕ) → k < 430 → Quiet k) where
+  module _ (area a mark line bp n r segment back dx : ℕ) (stack : ℕ → ℕ) (input : List ℕ) (told : Told) (small : a + 3 < area)
+      (line_there : HasWord code (back + 5) line) (line_small : line < 65536) (n_low : n < 32767) (way : stack n ≡ back) (back_small : back < 65536) (record_is : Tells stack bp r segment) where
     abbrev On : Way → Processor → Type 0
     On o p = GoesOn code told.output area back (2 * suc n) bp segment line stack input told o p
 
     abbrev Here : (at ax cx si : ℕ) → Flags → (ℕ → ℕ) → Processor → Type 0
-    Here at ax cx si f cells p = At code at (view ax cx line (2 * a) (2 * n) bp si area cells stack input told) f p
+    Here at ax cx si f cells p = At code at (view ax cx dx (2 * a) (2 * n) bp si area cells stack input told) f p
 
-    quiet : {at : ℕ} (to : ℕ) → to ≤ 426 → (k : ℕ) → at ≤ k → k < to → Quiet k
+    quiet : {at : ℕ} (to : ℕ) → to ≤ 430 → (k : ℕ) → at ≤ k → k < to → Quiet k
     quiet {at} to le = run finds Quiet code stands library {at = at} to le
 
     -- the first three words of the loop, which are the address of the control variable, the step and the limit; and the sum of the step and the word at
@@ -91,7 +91,7 @@ module _ (finds : Finds) (laws : WordLaws) (Quiet : ℕ → Type 0) (code : List
     answered true w t = t
     answered false w t = t
 
-    returned : (b : Bool) {at ax cx si : ℕ} {f : Flags} {cells : ℕ → ℕ} {p : Processor} (w : Words) → at < 426 → Has code at i86.Ret → meets f 14 ≡ b
+    returned : (b : Bool) {at ax cx si : ℕ} {f : Flags} {cells : ℕ → ℕ} {p : Processor} (w : Words) → at < 430 → Has code at i86.Ret → meets f 14 ≡ b
         → Holds area w.memory cells → Here at ax cx si f cells p → Leads Quiet code told.output 1 p (On (to_mark_if b mark w))
     returned b {at} {ax} {cx} {si} {f} {cells} {p} w lt i e h s =
         let whole : back ≡ back % 65536 = omega arith in
@@ -102,16 +102,16 @@ module _ (finds : Finds) (laws : WordLaws) (Quiet : ℕ → Type 0) (code : List
         last Quiet code told.output finds s (subst Quiet here (library at lt)) refl (answered b w (record {
           cells = cells;
           holds_words = h;
-          back = record { ax = ax; cx = cx; dx = line; bx = 2 * a; si = si; flags = f; is = acts.return finds s n (2 * suc n) back i low top up (way ∙ whole); answers = e };
+          back = record { ax = ax; cx = cx; dx = dx; bx = 2 * a; si = si; flags = f; is = acts.return finds s n (2 * suc n) back i low top up (way ∙ whole); answers = e };
         }))
 
     bad_address : {ax cx si : ℕ} {f : Flags} {cells : ℕ → ℕ} {p : Processor} → Here 416 ax cx si f cells p
-        → Leads Quiet code told.output 10 p (Over told.output AddressRange segment line)
-    bad_address s = far_stops finds Quiet code stands library AddressRange 416 65170 r segment (far_address_stands code stands) (lit≤ tt) refl record_is line_small s
+        → Leads Quiet code told.output 13 p (Over told.output AddressRange segment line)
+    bad_address s = step_address_stops finds Quiet code stands library back line n r segment (omega arith) way line_there line_small record_is s
 
-    bad_sum : {ax cx si : ℕ} {f : Flags} {cells : ℕ → ℕ} {p : Processor} → Here 421 ax cx si f cells p
-        → Leads Quiet code told.output 10 p (Over told.output Overflow segment line)
-    bad_sum s = far_stops finds Quiet code stands library Overflow 421 65165 r segment (far_sum_stands code stands) (lit≤ tt) refl record_is line_small s
+    bad_sum : {ax cx si : ℕ} {f : Flags} {cells : ℕ → ℕ} {p : Processor} → Here 420 ax cx si f cells p
+        → Leads Quiet code told.output 12 p (Over told.output Overflow segment line)
+    bad_sum s = step_sum_stops finds Quiet code stands library back line n r segment (omega arith) way line_there line_small record_is s
 
     -- ---- the address of the control variable
 
@@ -121,7 +121,7 @@ module _ (finds : Finds) (laws : WordLaws) (Quiet : ℕ → Type 0) (code : List
     abbrev Compared : (at ax cx : ℕ) → List ℤ → (ℕ → ℕ) → Processor → Type 0
     Compared at ax cx memory cells p = Here at ax cx (unsigned (variable memory)) (difference_flags 32768 (unsigned (variable memory)) area false) cells p
 
-    compares : (at by : ℕ) → HasAll code at (addressed by) → at + 6 ≤ 426 → {ax cx si : ℕ} {f : Flags} {cells : ℕ → ℕ} {p : Processor} {memory : List ℤ}
+    compares : (at by : ℕ) → HasAll code at (addressed by) → at + 6 ≤ 430 → {ax cx si : ℕ} {f : Flags} {cells : ℕ → ℕ} {p : Processor} {memory : List ℤ}
         → Holds area memory cells → Here at ax cx si f cells p → Leads Quiet code told.output 2 p (Compared (at + 2 + 2) ax cx memory cells)
     compares at by g low {memory = memory} h s =
         let e : a < 32768 = below_half h (omega arith) in
@@ -130,18 +130,18 @@ module _ (finds : Finds) (laws : WordLaws) (Quiet : ℕ → Type 0) (code : List
         ((lit< tt, lit≤ tt), (refl, e, refl, h.words a (omega arith)), ((lit< tt, lit≤ tt), tt, tt)) s (λ q u. done Quiet code told.output u)
 
     -- outside the area
-    outside_stops : (at by : ℕ) → HasAll code at (addressed by) → at + 6 ≤ 426 → (at + 2 + 2 + 2 + sign_extended by) % 65536 ≡ 416
+    outside_stops : (at by : ℕ) → HasAll code at (addressed by) → at + 6 ≤ 430 → (at + 2 + 2 + 2 + sign_extended by) % 65536 ≡ 416
         → {ax cx si : ℕ} {f : Flags} {cells : ℕ → ℕ} {p : Processor} {memory : List ℤ} → Holds area memory cells → is_below (variable memory) area ≡ false
-        → Here at ax cx si f cells p → Leads Quiet code told.output 13 p (Over told.output AddressRange segment line)
+        → Here at ax cx si f cells p → Leads Quiet code told.output 16 p (Over told.output AddressRange segment line)
     outside_stops at by g low there {memory = memory} h is s =
         let e : at + 2 + 2 ≡ (at + 2 + 2) % 65536 = omega arith in
         let no = not_below (unsigned (variable memory)) area (outside area (variable memory) (first_fits h) is h.low) in
-        both Quiet code told.output 2 11 (compares at by g low h s) (λ q u.
+        both Quiet code told.output 2 14 (compares at by g low h s) (λ q u.
         more Quiet code told.output finds u (subst Quiet e (library (at + 2 + 2) (omega arith))) refl (to_place {to = 416} there (jumps_if finds 3 by g.1.1.0 no u)) (λ q u.
         bad_address u))
 
     -- within it
-    inside_passes : (at by : ℕ) → HasAll code at (addressed by) → at + 6 ≤ 426 → {ax cx si : ℕ} {f : Flags} {cells : ℕ → ℕ} {p : Processor} {memory : List ℤ}
+    inside_passes : (at by : ℕ) → HasAll code at (addressed by) → at + 6 ≤ 430 → {ax cx si : ℕ} {f : Flags} {cells : ℕ → ℕ} {p : Processor} {memory : List ℤ}
         → Holds area memory cells → is_below (variable memory) area ≡ true → Here at ax cx si f cells p
         → Leads Quiet code told.output 3 p (Compared (at + 2 + 2 + 2) ax cx memory cells)
     inside_passes at by g low {memory = memory} h is s =
@@ -241,9 +241,9 @@ module _ (finds : Finds) (laws : WordLaws) (Quiet : ℕ → Type 0) (code : List
         (λ q u. turns_at (number_of (variable w.memory)) i.0 w h i.1 u)
 
     turns_if : (b : Bool) {ax cx si : ℕ} {f : Flags} {cells : ℕ → ℕ} {p : Processor} (w : Words) → Holds area w.memory cells → is_below (variable w.memory) area ≡ b
-        → Here 387 ax cx si f cells p → Within Quiet code told.output 13 p (On (turn_if b mark a w))
+        → Here 387 ax cx si f cells p → Within Quiet code told.output 16 p (On (turn_if b mark a w))
     turns_if true w h is s = let t = turns_inside w h is s in let le = t.within in record { spent = t.spent; within = omega arith; leads = t.leads }
-    turns_if false w h is s = within Quiet code told.output 13 13 (lit≤ tt) (outside_stops 387 0x17 turned_test (lit≤ tt) refl h is s)
+    turns_if false w h is s = within Quiet code told.output 16 16 (lit≤ tt) (outside_stops 387 0x17 turned_test (lit≤ tt) refl h is s)
 
     -- ---- the step
 
@@ -259,7 +259,7 @@ module _ (finds : Finds) (laws : WordLaws) (Quiet : ℕ → Type 0) (code : List
     Summed b k w = way_behind (store_sum b k (sum w.memory k) w) (turned area mark a)
 
     -- any step, where it is known what a turn takes
-    steps_any : (bound : ℕ) → 9 ≤ bound → (k : ℕ) → k < area → {ax cx si : ℕ} {f : Flags} {cells : ℕ → ℕ} {p : Processor} (w : Words) → Holds area w.memory cells
+    steps_any : (bound : ℕ) → 11 ≤ bound → (k : ℕ) → k < area → {ax cx si : ℕ} {f : Flags} {cells : ℕ → ℕ} {p : Processor} (w : Words) → Holds area w.memory cells
         → si ≡ 2 * k
         → ((ax : ℕ) (g : Flags) (after : ℕ → ℕ) (q : Processor) → Holds area (set w.memory k (sum w.memory k)) after → Here 387 ax cx si g after q
         → Within Quiet code told.output bound q (On (turned area mark a (summed k w))))
@@ -289,16 +289,16 @@ module _ (finds : Finds) (laws : WordLaws) (Quiet : ℕ → Type 0) (code : List
             let g = (stepped_any_stands code stands).1.1 in
             let value = sum_is laws (word_at w.memory k) (step_of w.memory) (fits_there k lt h) (fits 1 (lit≤ tt) h) fz in
             both Quiet code told.output 2 2 sums (λ q u.
-            more Quiet code told.output finds u (library 383 (lit< tt)) refl (passes_if finds 0 0x24 g.0 (jumps true is) u) (λ q u.
+            more Quiet code told.output finds u (library 383 (lit< tt)) refl (passes_if finds 0 0x23 g.0 (jumps true is) u) (λ q u.
             straight Quiet code told.output finds (Store (places.Plain 4) 0 k ∷ []) {n = 0} (quiet 387 (lit≤ tt)) refl (g.1.0, tt)
             ((lit< tt, lit≤ tt), (refl, k_low, there), tt) (with_ax value u) (λ q u. done Quiet code told.output u)))
 
         cases : (b : Bool) → fits_word (sum w.memory k) ≡ b → Within Quiet code told.output (4 + bound) p (On (Summed b k w))
         cases false is =
             let g = (stepped_any_stands code stands).1.1 in
-            within Quiet code told.output 13 (4 + bound) (omega arith)
-            (both Quiet code told.output 2 11 sums (λ q u.
-            more Quiet code told.output finds u (library 383 (lit< tt)) refl (to_place {to = 421} refl (jumps_if finds 0 0x24 g.0 (jumps false is) u)) (λ q u. bad_sum u)))
+            within Quiet code told.output 15 (4 + bound) (omega arith)
+            (both Quiet code told.output 2 13 sums (λ q u.
+            more Quiet code told.output finds u (library 383 (lit< tt)) refl (to_place {to = 420} refl (jumps_if finds 0 0x23 g.0 (jumps false is) u)) (λ q u. bad_sum u)))
         cases true is =
             let fz = fits_tested (sum w.memory k) is in
             afterwards Quiet code told.output 4 bound (4 + bound) (omega arith) (kept fz is) (λ q u. turn _ _ _ q (stored k (sum w.memory k) lt fz h) u)
@@ -346,7 +346,7 @@ module _ (finds : Finds) (laws : WordLaws) (Quiet : ℕ → Type 0) (code : List
     -- such a step, where the control variable is not word 0 of the loop
     steps_up : (k : ℕ) → k < area → {cx si : ℕ} {f : Flags} {cells : ℕ → ℕ} {p : Processor} (w : Words) → Holds area w.memory cells → si ≡ 2 * k → a ≢ k
         → number_of (variable w.memory) ≡ k → is_below (variable w.memory) area ≡ true → int_lt (pos 0) (step_of w.memory) ≡ true
-        → Here 363 (unsigned (step_of w.memory)) cx si f cells p → Within Quiet code told.output 12 p (On (Summed (fits_word (sum w.memory k)) k w))
+        → Here 363 (unsigned (step_of w.memory)) cx si f cells p → Within Quiet code told.output 14 p (On (Summed (fits_word (sum w.memory k)) k w))
     steps_up k lt {cx} {si} {f} {cells} {p} w h there other named is_in up s = cases (fits_word (sum w.memory k)) refl
       where
         fx : FitsWord (word_at w.memory k)
@@ -382,7 +382,7 @@ module _ (finds : Finds) (laws : WordLaws) (Quiet : ℕ → Type 0) (code : List
             let in_memory : k < length w.memory = omega arith in
             let order = compared laws (sum w.memory k) (limit (summed k w).memory) fz (fits 2 (lit≤ tt) h') ∙ not_greater (sum w.memory k) (limit (summed k w).memory) in
             both Quiet code told.output 1 4 sums (λ q u.
-            more Quiet code told.output finds u (library 365 (lit< tt)) refl (passes_if finds 0 0x36 g.0 (jumps true is) u) (λ q u.
+            more Quiet code told.output finds u (library 365 (lit< tt)) refl (passes_if finds 0 0x35 g.0 (jumps true is) u) (λ q u.
             straight Quiet code told.output finds
             (Store (places.Plain 4) 0 k ∷ Comparison 0 (Cell (places.Near 7 4) (a + 2) (unsigned (limit (summed k w).memory))) ∷ []) {n = 1}
             (quiet 372 (lit≤ tt)) refl (g.1.0, (g.1.1.0, tt))
@@ -390,13 +390,13 @@ module _ (finds : Finds) (laws : WordLaws) (Quiet : ℕ → Type 0) (code : List
             onward Quiet code told.output (λ q t. subst (λ o. On o q) (turn_is k w in_memory other named is_in up) t)
             (returned (not (int_lt (limit (summed k w).memory) (sum w.memory k))) (summed k w) (lit< tt) g.1.1.1.0 order h' u))))
 
-        cases : (b : Bool) → fits_word (sum w.memory k) ≡ b → Within Quiet code told.output 12 p (On (Summed b k w))
+        cases : (b : Bool) → fits_word (sum w.memory k) ≡ b → Within Quiet code told.output 14 p (On (Summed b k w))
         cases false is =
             let g = (stepped_stands code stands).1.1.1.1.1.1.1.1.1.1 in
-            within Quiet code told.output 12 12 (lit≤ tt)
-            (both Quiet code told.output 1 11 sums (λ q u.
-            more Quiet code told.output finds u (library 365 (lit< tt)) refl (to_place {to = 421} refl (jumps_if finds 0 0x36 g.0 (jumps false is) u)) (λ q u. bad_sum u)))
-        cases true is = within Quiet code told.output 5 12 (lit≤ tt) (kept (fits_tested (sum w.memory k) is) is)
+            within Quiet code told.output 14 14 (lit≤ tt)
+            (both Quiet code told.output 1 13 sums (λ q u.
+            more Quiet code told.output finds u (library 365 (lit< tt)) refl (to_place {to = 420} refl (jumps_if finds 0 0x35 g.0 (jumps false is) u)) (λ q u. bad_sum u)))
+        cases true is = within Quiet code told.output 5 14 (lit≤ tt) (kept (fits_tested (sum w.memory k) is) is)
 
     -- ---- a step and a turn
 
@@ -421,7 +421,7 @@ module _ (finds : Finds) (laws : WordLaws) (Quiet : ℕ → Type 0) (code : List
         cases : (b : Bool) → int_lt (pos 0) (step_of w.memory) ≡ b → Within Quiet code told.output 16 p (On (Summed (fits_word (sum w.memory k)) k w))
         cases true up =
             let t = (stepped_stands code stands).1.1.1.1.1.1.1.1 in
-            afterwards Quiet code told.output {T = λ q. Here 363 (unsigned (step_of w.memory)) cx (2 * k) (tested (step_of w.memory) g) cells q} 1 12 16 (lit≤ tt)
+            afterwards Quiet code told.output {T = λ q. Here 363 (unsigned (step_of w.memory)) cx (2 * k) (tested (step_of w.memory) g) cells q} 1 14 16 (lit≤ tt)
             (more Quiet code told.output finds s (library 361 (lit< tt)) refl (passes_if finds 14 0x0F t.0 (met ∙ ap not up) s) (λ q u. done Quiet code told.output u))
             (λ q u. steps_up k lt w h refl other named is_in up u)
         cases false up =
@@ -433,16 +433,16 @@ module _ (finds : Finds) (laws : WordLaws) (Quiet : ℕ → Type 0) (code : List
     -- behind the comparison of the variable's place with that of word 0
     by_place : (k : ℕ) → (k ≡ a) ⊎ (k ≢ a) → k < area → {ax cx : ℕ} {cells : ℕ → ℕ} {p : Processor} (w : Words) → Holds area w.memory cells
         → number_of (variable w.memory) ≡ k → is_below (variable w.memory) area ≡ true → Here 354 ax cx (2 * k) (difference_flags 32768 (2 * k) (2 * a) false) cells p
-        → Within Quiet code told.output 19 p (On (Summed (fits_word (sum w.memory k)) k w))
+        → Within Quiet code told.output 21 p (On (Summed (fits_word (sum w.memory k)) k w))
     by_place k (inl same) lt {ax} {cx} {cells} w h named is_in s =
         let t = (stepped_stands code stands).1.1.1.1.1 in
         let low = h.low in
         let e1 : 2 * k < 65536 = omega arith in
         let e2 : 2 * a < 65536 = omega arith in
         let e3 : 2 * k ≡ 2 * a = omega arith in
-        afterwards Quiet code told.output {T = λ q. Here 378 ax cx (2 * k) (difference_flags 32768 (2 * k) (2 * a) false) cells q} 1 17 19 (lit≤ tt)
+        afterwards Quiet code told.output {T = λ q. Here 378 ax cx (2 * k) (difference_flags 32768 (2 * k) (2 * a) false) cells q} 1 20 21 (lit≤ tt)
         (more Quiet code told.output finds s (library 354 (lit< tt)) refl (jumps_if finds 4 0x16 t.0 (equal (2 * k) (2 * a) e1 e2 e3) s) (λ q u. done Quiet code told.output u))
-        (λ q u. steps_any 13 (lit≤ tt) k lt w h refl (λ ax g after q held u. turns_if (is_below (variable (summed k w).memory) area) (summed k w) held refl u) u)
+        (λ q u. steps_any 16 (lit≤ tt) k lt w h refl (λ ax g after q held u. turns_if (is_below (variable (summed k w).memory) area) (summed k w) held refl u) u)
     by_place k (inr other) lt {ax} {cx} {cells} w h named is_in s =
         let t = (stepped_stands code stands).1.1.1.1.1 in
         let low = h.low in
@@ -453,7 +453,7 @@ module _ (finds : Finds) (laws : WordLaws) (Quiet : ℕ → Type 0) (code : List
         let sf = field 1 (lit≤ tt) h in
         let y = unsigned step in
         let f = difference_flags 32768 (2 * k) (2 * a) false in
-        afterwards Quiet code told.output {T = λ q. Here 361 (bit_or y y) cx (2 * k) (tested step f) cells q} 3 16 19 (lit≤ tt)
+        afterwards Quiet code told.output {T = λ q. Here 361 (bit_or y y) cx (2 * k) (tested step f) cells q} 3 16 21 (lit≤ tt)
         (more Quiet code told.output finds s (library 354 (lit< tt)) refl (passes_if finds 4 0x16 t.0 (not_equal (2 * k) (2 * a) e1 e2 e3) s) (λ q u.
         straight Quiet code told.output finds (Load 0 (Cell (places.Near 7 2) (a + 1) (unsigned step)) ∷ Either 0 (Register 0) ∷ []) {n = 0} (quiet 361 (lit≤ tt)) refl
         (t.1.0, (t.1.1.0, tt))
@@ -466,9 +466,9 @@ module _ (finds : Finds) (laws : WordLaws) (Quiet : ℕ → Type 0) (code : List
 
     steps_if : (b : Bool) {ax cx si : ℕ} {f : Flags} {cells : ℕ → ℕ} {p : Processor} (w : Words) → Holds area w.memory cells → is_below (variable w.memory) area ≡ b
         → Here 344 ax cx si f cells p
-        → Within Quiet code told.output 24 p
+        → Within Quiet code told.output 26 p
         (On (way_behind (through b (λ i v. store_sum (fits_word (sum v.memory i)) i (sum v.memory i) v) (variable w.memory) w) (turned area mark a)))
-    steps_if false w h is s = within Quiet code told.output 13 24 (lit≤ tt) (outside_stops 344 0x42 stepped_test (lit≤ tt) refl h is s)
+    steps_if false w h is s = within Quiet code told.output 16 26 (lit≤ tt) (outside_stops 344 0x42 stepped_test (lit≤ tt) refl h is s)
     steps_if true {ax} {cx} {cells = cells} w h is s =
         let t = (stepped_stands code stands).1.1.1 in
         let i = inside area (variable w.memory) is h.low in
@@ -479,7 +479,7 @@ module _ (finds : Finds) (laws : WordLaws) (Quiet : ℕ → Type 0) (code : List
         let k_low : k < 32768 = below_half h in_area in
         let half : y < 32768 = omega arith in
         let twice : 2 * y ≡ 2 * k = ap (λ n. 2 * n) same in
-        afterwards Quiet code told.output {T = λ q. Here 354 ax cx (2 * y) (difference_flags 32768 (2 * y) (2 * a) false) cells q} 5 19 24 (lit≤ tt)
+        afterwards Quiet code told.output {T = λ q. Here 354 ax cx (2 * y) (difference_flags 32768 (2 * y) (2 * a) false) cells q} 5 21 26 (lit≤ tt)
         (both Quiet code told.output 3 2 (inside_passes 344 0x42 stepped_test (lit≤ tt) h is s) (λ q u.
         straight Quiet code told.output finds (Double 6 ∷ Comparison 6 (Register 3) ∷ []) {n = 0} (quiet 354 (lit≤ tt)) refl (t.0, (t.1.0, tt))
         ((lit< tt, lit≤ tt), half, ((lit< tt, lit≤ tt), tt, tt)) u (λ q u. done Quiet code told.output u)))
@@ -496,7 +496,7 @@ module _ (finds : Finds) (laws : WordLaws) (Quiet : ℕ → Type 0) (code : List
     number_is_other (negsuc m) f e = λ one. let lt = negative_fits m f in let same = unsigned_negative m lt in absurd (omega arith)
 
     pub goes_on : {ax cx si : ℕ} {f : Flags} {cells : ℕ → ℕ} {p : Processor} (w : Words) → Holds area w.memory cells → Here 338 ax cx si f cells p
-        → Within Quiet code told.output 26 p (On (stepped area mark a w))
+        → Within Quiet code told.output 28 p (On (stepped area mark a w))
     goes_on {ax} {cx} {si} {f} {cells} {p} w h s = cases (nat_eq (number_of (word_at w.memory (a + 3))) 1) refl
       where
         number_fits : FitsWord (word_at w.memory (a + 3))
@@ -509,12 +509,12 @@ module _ (finds : Finds) (laws : WordLaws) (Quiet : ℕ → Type 0) (code : List
             straight Quiet code told.output finds (ComparisonShort (Cell (places.Near 7 6) (a + 3) (unsigned (word_at w.memory (a + 3)))) 1 ∷ []) {n = 0}
             (quiet 342 (lit≤ tt)) refl (t.0, tt) ((lit< tt, lit≤ tt), nf, tt) s (λ q u. done Quiet code told.output u)
 
-        cases : (b : Bool) → nat_eq (number_of (word_at w.memory (a + 3))) 1 ≡ b → Within Quiet code told.output 26 p (On (stepped_if b area mark a w))
+        cases : (b : Bool) → nat_eq (number_of (word_at w.memory (a + 3))) 1 ≡ b → Within Quiet code told.output 28 p (On (stepped_if b area mark a w))
         cases true is =
             let t = (next_step_stands code stands).1 in
             let z = word_at w.memory (a + 3) in
             let one = not_unequal (unsigned z) 1 (laws.unsigned_fits z number_fits) (lit< tt) (number_is_one z is) in
-            afterwards Quiet code told.output {T = λ q. Here 344 ax cx si (difference_flags 32768 (unsigned z) 1 false) cells q} 2 24 26 (lit≤ tt)
+            afterwards Quiet code told.output {T = λ q. Here 344 ax cx si (difference_flags 32768 (unsigned z) 1 false) cells q} 2 26 28 (lit≤ tt)
             (both Quiet code told.output 1 1 first (λ q u.
             more Quiet code told.output finds u (library 342 (lit< tt)) refl (passes_if finds 5 0x1D t.0 one u) (λ q u. done Quiet code told.output u)))
             (λ q u. steps_if (is_below (variable w.memory) area) w h refl u)
@@ -523,7 +523,7 @@ module _ (finds : Finds) (laws : WordLaws) (Quiet : ℕ → Type 0) (code : List
             let g = left_stands code stands in
             let z = word_at w.memory (a + 3) in
             let other = unequal (unsigned z) 1 (laws.unsigned_fits z number_fits) (lit< tt) (number_is_other z number_fits is) in
-            within Quiet code told.output 5 26 (lit≤ tt)
+            within Quiet code told.output 5 28 (lit≤ tt)
             (both Quiet code told.output 1 4 first (λ q u.
             more Quiet code told.output finds u (library 342 (lit< tt)) refl (jumps_if finds 5 0x1D t.0 other u) (λ q u.
             straight Quiet code told.output finds (LowByte 1 ∷ OrLow ∷ []) {n = 1} (quiet 377 (lit≤ tt)) refl (g.0, (g.1.0, tt))

@@ -5,7 +5,7 @@ use Rattle.cw_i86.specs.declared.flags.Flags.{Flags}
 use Rattle.cw_i86.specs.declared.instr.Instr.{Instr}
 use Rattle.cw_run86.specs.Processor.{Processor}
 use Rattle.cw_run86.specs.Views.{View, Sees}
-use Rattle.cw_tmpl.specs.Library.{routines, joined, start_routine, stop_routine, line_taken, tell, told_stop, enter_routine, read_routine, set_variable_routine, add_step_routine, put_variable_routine, exhausted_routine, product_routine, too_large, quotient_down_routine, quotient_up_routine, quotient_end, next_step_test, stepped, left, stepped_any, turned, far_stop}
+use Rattle.cw_tmpl.specs.Library.{routines, joined, start_routine, stop_routine, line_taken, tell, told_stop, enter_routine, read_routine, set_variable_routine, add_step_routine, put_variable_routine, exhausted_routine, product_routine, too_large, quotient_down_routine, quotient_up_routine, quotient_end, next_step_test, stepped, left, stepped_any, turned, step_address_stop, step_sum_stop, step_line}
 use Rattle.cw_routines.specs.Ways.{At, HasAll}
 use Rattle.cw_routines.specs.Results.{Stands}
 
@@ -199,11 +199,17 @@ module _ (code : List ℕ) (stands : Stands code) where
   from_28 : HasAll code 416 (joined (drop 28 routines))
   from_28 = has_back code 387 turned (joined (drop 28 routines)) from_27
 
-  pub far_address_stands : HasAll code 416 (far_stop 4 65170)
-  far_address_stands = has_front code 416 (far_stop 4 65170) (joined (drop 29 routines)) from_28
+  pub step_address_stands : HasAll code 416 step_address_stop
+  step_address_stands = has_front code 416 step_address_stop (joined (drop 29 routines)) from_28
 
-  from_29 : HasAll code 421 (joined (drop 29 routines))
-  from_29 = has_back code 416 (far_stop 4 65170) (joined (drop 29 routines)) from_28
+  from_29 : HasAll code 420 (joined (drop 29 routines))
+  from_29 = has_back code 416 step_address_stop (joined (drop 29 routines)) from_28
 
-  pub far_sum_stands : HasAll code 421 (far_stop 1 65165)
-  far_sum_stands = has_front code 421 (far_stop 1 65165) (joined (drop 30 routines)) from_29
+  pub step_sum_stands : HasAll code 420 step_sum_stop
+  step_sum_stands = has_front code 420 step_sum_stop (joined (drop 30 routines)) from_29
+
+  from_30 : HasAll code 422 (joined (drop 30 routines))
+  from_30 = has_back code 420 step_sum_stop (joined (drop 30 routines)) from_29
+
+  pub step_line_stands : HasAll code 422 step_line
+  step_line_stands = has_front code 422 step_line (joined (drop 31 routines)) from_30

@@ -5,21 +5,19 @@ use Rattle.cw_i86.specs.MachineRun.{end_told, Stopped, End, Observed}
 use Rattle.cw_i86.specs.declared.flags.Flags.{Flags}
 use Rattle.cw_i86.specs.declared.instr.Place.TheVariants as places
 use Rattle.cw_i86.specs.declared.instr.Instr.TheVariants as i86
-use Rattle.cw_run86.specs.Processor.{Processor, processor_step, Told}
-use Rattle.cw_run86.specs.Views.{View, Has}
+use Rattle.cw_run86.specs.Processor.{Processor, Told}
 use Rattle.cw_run86.proofs.Tests.{Finds}
 use Rattle.cw_run86.proofs.Jumps.{halts, rests}
 use Rattle.cw_unit.specs.Stop.{StopKind, Overflow, ZeroDivisor, SwitchRange, AddressRange, FramesFull, DepthReached, IndexRange, stop_number}
 use Rattle.cw_i86.specs.State.{sign_extended}
-use Rattle.cw_tmpl.specs.Mnemonics.{al, set_byte}
-use Rattle.cw_tmpl.specs.Library.{stop_routine, told_stop, far_stop}
+use Rattle.cw_tmpl.specs.Library.{stop_routine, told_stop}
 use Rattle.cw_routines.specs.Ways.{At, HasAll, HasWord, view, Leads, Over}
 use Rattle.cw_routines.specs.Results.{Stands, Tells}
 use Rattle.cw_routines.proofs.Arrive.{here}
 use Rattle.cw_routines.proofs.Sources.{Register, Slot, InCode}
 use Rattle.cw_routines.proofs.Acts as acts
 use Rattle.cw_routines.proofs.Chains.{LowByte, LowFromHigh, Load, Pop, more, last, straight}
-use Rattle.cw_routines.proofs.Places.{to_place, line_stands, tell_stands}
+use Rattle.cw_routines.proofs.Places.{to_place, line_stands, tell_stands, step_address_stands, step_sum_stands, step_line_stands}
 
 line_parts : (line : ℕ) → line < 65536 → line % 256 + 256 * ((line / 256 * 256 + line / 256) % 256) ≡ line
 line_parts line lt = omega arith
@@ -55,9 +53,9 @@ same_shown kind o output k s segment l line eo ek es el =
     ap (λ x. made x (end_told k s l)) eo ∙ ap (λ x. made output (end_told x s l)) ek ∙ ap (λ x. made output (end_told (stop_number kind) x l)) es
     ∙ ap (λ x. made output (end_told (stop_number kind) segment x)) el ∙ ap (made output) (kind_shows kind segment line)
 
-module _ (finds : Finds) (Quiet : ℕ → Type 0) (code : List ℕ) (stands : Stands code) (library : (k : ℕ) → k < 426 → Quiet k) where
+module _ (finds : Finds) (Quiet : ℕ → Type 0) (code : List ℕ) (stands : Stands code) (library : (k : ℕ) → k < 430 → Quiet k) where
   -- places from one on, up to another
-  pub run : {at : ℕ} (to : ℕ) → to ≤ 426 → (k : ℕ) → at ≤ k → k < to → Quiet k
+  pub run : {at : ℕ} (to : ℕ) → to ≤ 430 → (k : ℕ) → at ≤ k → k < to → Quiet k
   run to le k lo hi = library k (omega arith)
 
   -- the kind in AL is told, with the segment of the record and the line in DX
@@ -86,33 +84,16 @@ module _ (finds : Finds) (Quiet : ℕ → Type 0) (code : List ℕ) (stands : St
         still = rests finds code _ q i u.sees;
       }))))))))
 
-  -- a stop with the line in DX, whose jump leads to what tells it
-  stops_by : (kind : StopKind) (place r segment : ℕ) {ax cx line bx sp bp si di : ℕ} {cells stack : ℕ → ℕ} {input : List ℕ} {told : Told} {f : Flags} {p : Processor}
-      → Has code place (set_byte al (stop_number kind))
-      → ((v : View) (g : Flags) (q : Processor) → At code (place + 2) v g q → At code 55 v g (processor_step q))
-      → place + 4 ≤ 426 → Tells stack bp r segment → line < 65536
-      → At code place (view ax cx line bx sp bp si di cells stack input told) f p → Leads Quiet code told.output 10 p (Over told.output kind segment line)
-  stops_by kind place r segment {ax} {told = told} h jumps low t small s =
-      let e : (place + 2) % 65536 ≡ place + 2 = omega arith in
-      straight Quiet code told.output finds (LowByte (stop_number kind) ∷ []) {n = 9} (run (place + 2) (omega arith)) refl (h, tt) ((lit< tt, lit≤ tt), tt, tt) s (λ q u.
-      more Quiet code told.output finds u (subst Quiet (sym e) (library (place + 2) (omega arith))) refl (jumps _ _ _ u) (λ q u.
-      tells kind r segment (low_is ax (stop_number kind) (few_kinds kind)) t small u))
-
-  -- by a short jump
+  -- a stop with the line in DX
   pub told_stops : (kind : StopKind) (place by r segment : ℕ) {ax cx line bx sp bp si di : ℕ} {cells stack : ℕ → ℕ} {input : List ℕ} {told : Told} {f : Flags} {p : Processor}
       → HasAll code place (told_stop (stop_number kind) by)
-      → place + 4 ≤ 426 → (place + 2 + 2 + sign_extended by) % 65536 ≡ 55 → Tells stack bp r segment → line < 65536
+      → place + 4 ≤ 430 → (place + 2 + 2 + sign_extended by) % 65536 ≡ 55 → Tells stack bp r segment → line < 65536
       → At code place (view ax cx line bx sp bp si di cells stack input told) f p → Leads Quiet code told.output 10 p (Over told.output kind segment line)
-  told_stops kind place by r segment h low there t small s =
-      stops_by kind place r segment h.0 (λ v g q u. to_place {to = 55} there (acts.short finds u by h.1.0)) low t small s
-
-  -- by a near one
-  pub far_stops : (kind : StopKind) (place by r segment : ℕ) {ax cx line bx sp bp si di : ℕ} {cells stack : ℕ → ℕ} {input : List ℕ} {told : Told} {f : Flags} {p : Processor}
-      → HasAll code place (far_stop (stop_number kind) by)
-      → place + 4 ≤ 426 → (place + 2 + 3 + by) % 65536 ≡ 55 → Tells stack bp r segment → line < 65536
-      → At code place (view ax cx line bx sp bp si di cells stack input told) f p → Leads Quiet code told.output 10 p (Over told.output kind segment line)
-  far_stops kind place by r segment h low there t small s =
-      stops_by kind place r segment h.0 (λ v g q u. to_place {to = 55} there (acts.near finds u by h.1.0)) low t small s
+  told_stops kind place by r segment {ax} {told = told} h low there t small s =
+      let e : (place + 2) % 65536 ≡ place + 2 = omega arith in
+      straight Quiet code told.output finds (LowByte (stop_number kind) ∷ []) {n = 9} (run (place + 2) (omega arith)) refl (h.0, tt) ((lit< tt, lit≤ tt), tt, tt) s (λ q u.
+      more Quiet code told.output finds u (subst Quiet (sym e) (library (place + 2) (omega arith))) refl (to_place {to = 55} there (acts.short finds u by h.1.0)) (λ q u.
+      tells kind r segment (low_is ax (stop_number kind) (few_kinds kind)) t small u))
 
   -- from the place of the line on
   lines : (kind : StopKind) (place line n r segment : ℕ) {ax cx dx bx bp si di : ℕ} {f : Flags} {cells stack : ℕ → ℕ} {input : List ℕ} {told : Told} {p : Processor}
@@ -128,7 +109,7 @@ module _ (finds : Finds) (Quiet : ℕ → Type 0) (code : List ℕ) (stands : St
       tells kind r segment is t small u)
 
   -- the routine of a stop with the line behind its call
-  pub line_stops : (kind : StopKind) (from ahead : ℕ) → HasAll code from (stop_routine (stop_number kind) ahead) → from + 4 ≤ 426
+  pub line_stops : (kind : StopKind) (from ahead : ℕ) → HasAll code from (stop_routine (stop_number kind) ahead) → from + 4 ≤ 430
       → (from + 2 + 2 + sign_extended ahead) % 65536 ≡ 51
       → (place line n r segment : ℕ) {ax cx dx bx bp si di : ℕ} {f : Flags} {cells stack : ℕ → ℕ} {input : List ℕ} {told : Told} {p : Processor} → n < 32768 → stack n ≡ place
       → HasWord code place line → line < 65536
@@ -139,3 +120,38 @@ module _ (finds : Finds) (Quiet : ℕ → Type 0) (code : List ℕ) (stands : St
       straight Quiet code told.output finds (LowByte (stop_number kind) ∷ []) {n = 11} (run (from + 2) (omega arith)) refl (h.0, tt) ((lit< tt, lit≤ tt), tt, tt) s (λ q u.
       more Quiet code told.output finds u (subst Quiet (sym e) (library (from + 2) (omega arith))) refl (to_place {to = 51} to_line (acts.short finds u ahead h.1.0)) (λ q u.
       lines kind place line n r segment (low_is ax (stop_number kind) (few_kinds kind)) lt there word small t u))
+
+  -- from the place of the line of a step on: the line stands 5 bytes behind the way back
+  step_lines : (kind : StopKind) (back line n r segment : ℕ) {ax cx dx bx bp si di : ℕ} {f : Flags} {cells stack : ℕ → ℕ} {input : List ℕ} {told : Told} {p : Processor}
+      → ax % 256 ≡ stop_number kind
+      → n < 32768 → stack n ≡ back → HasWord code (back + 5) line → line < 65536 → Tells stack bp r segment
+      → At code 422 (view ax cx dx bx (2 * n) bp si di cells stack input told) f p → Leads Quiet code told.output 11 p (Over told.output kind segment line)
+  step_lines kind back line n r segment {told = told} is lt there word small t s =
+      let h = step_line_stands code stands in
+      let top : 2 * n ≡ 2 * n % 65536 = omega arith in
+      let inside = word.within in
+      let fits = s.sees.fits in
+      let e : (back + 5) % 65536 ≡ back + 5 = omega arith in
+      straight Quiet code told.output finds (Pop 3 n back (2 * suc n % 65536) ∷ Load 2 (InCode (places.Near 7 5) (back + 5) line) ∷ []) {n = 9} (run 427 (lit≤ tt)) refl
+      (h.0, (h.1.0, tt))
+      ((lit< tt, lit≤ tt), (lt, top, there, refl), ((lit< tt, lit≤ tt), (e, word), tt)) s (λ q u.
+      more Quiet code told.output finds u (library 427 (lit< tt)) refl (to_place {to = 55} refl (acts.near finds u 65161 h.1.1.0)) (λ q u.
+      tells kind r segment is t small u))
+
+  -- the stops of a step
+  pub step_address_stops : (back line n r segment : ℕ) {ax cx dx bx bp si di : ℕ} {f : Flags} {cells stack : ℕ → ℕ} {input : List ℕ} {told : Told} {p : Processor}
+      → n < 32768 → stack n ≡ back → HasWord code (back + 5) line → line < 65536 → Tells stack bp r segment
+      → At code 416 (view ax cx dx bx (2 * n) bp si di cells stack input told) f p → Leads Quiet code told.output 13 p (Over told.output AddressRange segment line)
+  step_address_stops back line n r segment {ax} {told = told} lt there word small t s =
+      let h = step_address_stands code stands in
+      straight Quiet code told.output finds (LowByte 4 ∷ []) {n = 12} (run 418 (lit≤ tt)) refl (h.0, tt) ((lit< tt, lit≤ tt), tt, tt) s (λ q u.
+      more Quiet code told.output finds u (library 418 (lit< tt)) refl (to_place {to = 422} refl (acts.short finds u 2 h.1.0)) (λ q u.
+      step_lines AddressRange back line n r segment (low_is ax 4 (lit< tt)) lt there word small t u))
+
+  pub step_sum_stops : (back line n r segment : ℕ) {ax cx dx bx bp si di : ℕ} {f : Flags} {cells stack : ℕ → ℕ} {input : List ℕ} {told : Told} {p : Processor}
+      → n < 32768 → stack n ≡ back → HasWord code (back + 5) line → line < 65536 → Tells stack bp r segment
+      → At code 420 (view ax cx dx bx (2 * n) bp si di cells stack input told) f p → Leads Quiet code told.output 12 p (Over told.output Overflow segment line)
+  step_sum_stops back line n r segment {ax} {told = told} lt there word small t s =
+      let h = step_sum_stands code stands in
+      straight Quiet code told.output finds (LowByte 1 ∷ []) {n = 11} (run 422 (lit≤ tt)) refl (h.0, tt) ((lit< tt, lit≤ tt), tt, tt) s (λ q u.
+      step_lines Overflow back line n r segment (low_is ax 1 (lit< tt)) lt there word small t u)

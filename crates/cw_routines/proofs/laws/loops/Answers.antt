@@ -28,6 +28,6 @@ returns c =
           puts finds words (Quiet quiet) code stands library area a line bp n r segment back stack input told small line_small way back_small n_low record_is memory h s;
       exhausted = λ quiet code stands library area a bp n back cx dx bx si x flags cells stack input told memory p fx small h n_low way value back_small s.
           exhausts finds words (Quiet quiet) code stands library area a bp n back cells stack input told memory x fx small h n_low way value back_small s;
-      next_step = λ quiet code stands library area a m line bp n r segment back ax cx si flags cells stack input told w p small h line_small n_low way back_small record_is s.
-          goes_on finds words (Quiet quiet) code stands library area a m line bp n r segment back stack input told small line_small n_low way back_small record_is w h s;
+      next_step = λ quiet code stands library area a m line bp n r segment back ax cx dx si flags cells stack input told w p small h line_there line_small n_low way back_small record_is s.
+          goes_on finds words (Quiet quiet) code stands library area a m line bp n r segment back dx stack input told small line_there line_small n_low way back_small record_is w h s;
     }
