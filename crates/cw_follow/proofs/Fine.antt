@@ -8,7 +8,7 @@ use Rattle.cw_unit.specs.declared.unit.Goal.TheVariants as goal
 use Rattle.cw_unit.specs.declared.unit.Def.{Def}
 use Rattle.cw_unit.specs.declared.unit.Def.TheVariants as def
 use Rattle.cw_i86.specs.declared.instr.Instr.{Instr}
-use Rattle.cw_run86.specs.Views.{Has, with_memory, with_number, condition_of}
+use Rattle.cw_run86.specs.Views.{Has, with_memory, with_number, Greater, condition_of}
 use Rattle.cw_order.specs.declared.order.Comparator.{Comparator}
 use Rattle.cw_order.specs.declared.order.Comparator.TheVariants as comparator
 use Rattle.cw_order.specs.declared.order.Order.{Order}
@@ -582,9 +582,9 @@ module _ (p : OrderProgram) (segment next : ℕ) (value : Filling) (fills : Fill
 
   step_fine : (x : Place) (line place to : ℕ) → line < 65536 → AllFine value (step_taken x line place to)
   step_fine x line place to small =
-      let end = place + (doubled_size x + 11) in
-      all_fine-append value (place_doubled x) (call_at_line next_step_entry line ++ branch comparator.LessEqual end to) (doubled_fine x)
-      (all_fine-append value (call_at_line next_step_entry line) (branch comparator.LessEqual end to) (at_line_fine next_step_entry line (lit< tt) small) (branch_fine comparator.LessEqual end to))
+      let end = place + (doubled_size x + 8) in
+      all_fine-append value (place_doubled x) (call_library next_step_entry ∷ coded.Whole (i86.JumpIf (condition_of Greater) 5) ∷ jump_near end to ∷ coded.Data line ∷ []) (doubled_fine x)
+      (library_filled next_step_entry (lit< tt), ((lit< tt, lit< tt), (distance_small end to, (small, tt))))
 
   few_more : (k : ℕ) → k < 256 → k < 257
   few_more k lt = omega arith

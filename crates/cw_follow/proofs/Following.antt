@@ -106,9 +106,9 @@ following rows p image words memory input s places all is stand coded begins nev
           comes_back = tt;
           never = never;
         } in
-        let base_is : 426 ≡ base_of p 0 = refl in
+        let base_is : 430 ≡ base_of p 0 = refl in
         let way : Leads [] 12 begin (Sound p image 0 first false [] begun) =
-        more rows {to = base_of p 0} {w = view 0 0 0 0 0 0 0 0 false (slice_index words) (λ k. 0) input nothing_told} from refl (seen base_is refl (near rows 423 all.library.0.0 from)) (λ q t.
+        more rows {to = base_of p 0} {w = view 0 0 0 0 0 0 0 0 false (slice_index words) (λ k. 0) input nothing_told} from refl (seen base_is refl (near rows 427 all.library.0.0 from)) (λ q t.
         leads_on at_entry
         (enters rows p 0 su.next_place su.value (base_of p 0) 0 0 0 0 0 0 0 32767 false (slice_index words) (λ k. 0) input nothing_told all.library su.fills su.entry (lit< tt) (lit< tt) area coded.frames coded.depth 0 refl t)) in
         let start = watched_way known (processor_start s input) (at 0 first false [] begun Running) (leads_on (λ q m. inl m) way) in

@@ -167,27 +167,27 @@ module _ (known : Given) where
         let home = home_word p.addresses g f n in
         let word = st.value 2 f n (here + 3) in
         let filled : word ≡ 2 * home % 65536 = st.fills.bytes f n (here + 3) in
-        let ends : here + 14 ≡ next known s a = behind known s a o e in
-        let arrives : (here + 14 + distance (own + 14) (mark_starts s.orders m)) % 65536 ≡ start known s m % 65536 = jump_arrives (base_of p g) own 14 (mark_starts s.orders m) in
-        chosen known s false line (next_step p.limits.area m (Some home) w) 32 (begins_next known s a o e) (next_roomy m (Some home)) (step_is known s (Some o) e) (cheap known s o 32 (lit≤ tt) e)
-        (takes_step (setting known s) w.memory w.input w.output 1 (next known s a) (by known s next_step_entry (here + 3 + 3 + 3)) (distance (own + 14) (mark_starts s.orders m)) line home m (start known s)
-        w.operands (lit≤ tt) (omega arith) (calls known s next_step_entry (here + 3 + 3 + 3) (lit< tt)) (omega arith) (line_fits known s o e) s.fits.memory (low_room known s) i.1
+        let ends : here + 13 ≡ next known s a = behind known s a o e in
+        let arrives : (here + 11 + distance (own + 11) (mark_starts s.orders m)) % 65536 ≡ start known s m % 65536 = jump_arrives (base_of p g) own 11 (mark_starts s.orders m) in
+        chosen known s false line (next_step p.limits.area m (Some home) w) 33 (begins_next known s a o e) (next_roomy m (Some home)) (step_is known s (Some o) e) (cheap known s o 33 (lit≤ tt) e)
+        (takes_step (setting known s) w.memory w.input w.output 1 (next known s a) (by known s next_step_entry (here + 3 + 3)) (distance (own + 11) (mark_starts s.orders m)) line home m (start known s)
+        w.operands (lit≤ tt) (omega arith) (calls known s next_step_entry (here + 3 + 3) (lit< tt)) (omega arith) (line_fits known s o e) s.fits.memory (low_room known s) i.1
         (λ inside. doubles_word (setting known s) w.memory w.input w.output home word w.operands (omega arith) i.0 a.landed))
     turn_follows (cell.Frame n) line m e =
-        chosen known s false line (next_step p.limits.area m (frame_word p.limits.area acts n) w) 32 (begins_next known s a o e) (next_roomy m (frame_word p.limits.area acts n)) (step_is known s (Some o) e)
-        (cheap known s o 32 (lit≤ tt) e) (takes (frame_word p.limits.area acts n) refl)
+        chosen known s false line (next_step p.limits.area m (frame_word p.limits.area acts n) w) 33 (begins_next known s a o e) (next_roomy m (frame_word p.limits.area acts n)) (step_is known s (Some o) e)
+        (cheap known s o 33 (lit≤ tt) e) (takes (frame_word p.limits.area acts n) refl)
       where
         o : Order
         o = order.NextStep (cell.Frame n) line m
 
-        takes : (x : Option ℕ) → frame_word p.limits.area acts n ≡ x → Chooses p image 32 (next known s a) (start known s) g false line acts w.output q (next_step p.limits.area m x w)
+        takes : (x : Option ℕ) → frame_word p.limits.area acts n ≡ x → Chooses p image 33 (next known s a) (start known s) g false line acts w.output q (next_step p.limits.area m x w)
         takes None is = tt
         takes (Some k) is =
             let own = own_place s.orders.list place in
             let here = here known s a in
             let i = code known s a o e in
-            let ends : here + 18 ≡ next known s a = behind known s a o e in
-            let arrives : (here + 18 + distance (own + 18) (mark_starts s.orders m)) % 65536 ≡ start known s m % 65536 = jump_arrives (base_of p g) own 18 (mark_starts s.orders m) in
-            takes_step (setting known s) w.memory w.input w.output 2 (next known s a) (by known s next_step_entry (here + 3 + 4 + 3 + 3)) (distance (own + 18) (mark_starts s.orders m)) line k m (start known s)
-            w.operands (lit≤ tt) (omega arith) (calls known s next_step_entry (here + 3 + 4 + 3 + 3) (lit< tt)) (omega arith) (line_fits known s o e) s.fits.memory (low_room known s) i.1.1
+            let ends : here + 17 ≡ next known s a = behind known s a o e in
+            let arrives : (here + 15 + distance (own + 15) (mark_starts s.orders m)) % 65536 ≡ start known s m % 65536 = jump_arrives (base_of p g) own 15 (mark_starts s.orders m) in
+            takes_step (setting known s) w.memory w.input w.output 2 (next known s a) (by known s next_step_entry (here + 3 + 4 + 3)) (distance (own + 15) (mark_starts s.orders m)) line k m (start known s)
+            w.operands (lit≤ tt) (omega arith) (calls known s next_step_entry (here + 3 + 4 + 3) (lit< tt)) (omega arith) (line_fits known s o e) s.fits.memory (low_room known s) i.1.1
             (λ inside. doubles_frame (setting known s) w.memory w.input w.output n k w.operands is (i.0, (i.1.0, tt)) a.landed)

@@ -19,14 +19,14 @@ use Rattle.cw_unit.specs.Operation.{AddStep, perform, is_past}
 use Rattle.cw_order.specs.OrderProgram.{OrderProgram}
 use Rattle.cw_order.specs.OrderChanges.{Way, Onward, ToMark, Barred, Nowhere, to_mark_if, way_behind, turn_if, turned, stepped_if, stepped, stepped_inside, next_step}
 use Rattle.cw_order.specs.OrderState.{OrderActivation, operand_words, frame_word}
-use Rattle.cw_tmpl.specs.Mnemonics.{bx, dx, slot, base_slot, load, set_word, operate_number}
+use Rattle.cw_tmpl.specs.Mnemonics.{bx, slot, base_slot, load, operate_number}
 use Rattle.cw_tmpl.specs.Library.{next_step_place}
-use Rattle.cw_routines.specs.Ways.{HasAll, Within}
+use Rattle.cw_routines.specs.Ways.{HasAll, HasWord, Within}
 use Rattle.cw_routines.specs.Results.{Quiet, Answered, AtMost, GoesOn}
 use Rattle.cw_follow.proofs.Watched.{Watched, fresh}
 use Rattle.cw_follow.proofs.Chains.{Is, Leads, view, to_place, number, near, not_at_most, jump_if, pass_if, more, last}
 use Rattle.cw_follow.proofs.Acting.{act}
-use Rattle.cw_follow.proofs.Straight.{Number, LoadSlot, straight}
+use Rattle.cw_follow.proofs.Straight.{LoadSlot, straight}
 use Rattle.cw_follow.proofs.Routines.{Over, quiet_in, quiet_library, flags_of, arrives, returned, over}
 use Rattle.cw_follow.proofs.Stacks.{level, record_of, base_word, StackIs}
 use Rattle.cw_follow.proofs.Orders.{Kept, Landed, Leading, Chooses, with_bx, landed, further, further_on, sooner}
@@ -153,9 +153,9 @@ module _ (c : Setting) (memory : List ℤ) (input output : List ℕ) where
     landed_with : LandedWith c now input output at false operands q
     at_most : holds (flags_of q) 14 ≡ follows
 
-  -- JNLE past a jump, and the jump
+  -- JNLE past a jump and the line, and the jump
   abbrev TurnCode : (at by : ℕ) → Type 0
-  TurnCode at by = HasAll c.image at (i86.JumpIf 15 3 ∷ i86.Jump by ∷ [])
+  TurnCode at by = HasAll c.image at (i86.JumpIf 15 5 ∷ i86.Jump by ∷ [])
 
   turns_to : {q : Watched} {at : ℕ} (to by : ℕ) (now : List ℤ) (operands : List Operand) → (at + 5 + by) % 65536 ≡ to % 65536 → TurnCode at by → Turned at true now operands q
       → Leading output 2 q (LandedWith c now input output to false operands)
@@ -165,58 +165,71 @@ module _ (c : Setting) (memory : List ℤ) (input output : List ℕ) where
       let there : (at + 2 + 3 + by) % 65536 ≡ to % 65536 = omega arith in
       further 2 (lit≤ tt) (lit< tt)
       (more c.rows {to = at + 2} {w = view s.ax s.cx s.dx s.bx (2 * l.top) (record_of c.acts) s.si c.program.limits.area s.overflow l.cells l.stack l.input l.told} s.is l.kept.wrote
-      (pass_if c.rows 15 3 (not_at_most (flags_of q) ∙ ap not t.at_most) i.0 s.is) (λ r u.
+      (pass_if c.rows 15 5 (not_at_most (flags_of q) ∙ ap not t.at_most) i.0 s.is) (λ r u.
       last c.rows u l.kept.wrote (landed c.rows c.program c.image c.g c.acts false to l.top operands now input output refl l.operands l.kept (to_place there (near c.rows by i.1.0 u)))))
 
-  turns_on : {q : Watched} {at : ℕ} (to by : ℕ) (now : List ℤ) (operands : List Operand) → at + 5 ≡ to → TurnCode at by → Turned at false now operands q
+  turns_on : {q : Watched} {at : ℕ} (to by : ℕ) (now : List ℤ) (operands : List Operand) → at + 7 ≡ to → TurnCode at by → Turned at false now operands q
       → Leading output 1 q (LandedWith c now input output to false operands)
   turns_on {q} {at} to by now operands e i t =
       let l = t.landed_with in
       let s = l.stacked in
-      let ends : at + 2 + 3 ≡ to = omega arith in
+      let ends : at + 2 + 5 ≡ to = omega arith in
       further 1 (lit≤ tt) (lit< tt)
       (last c.rows s.is l.kept.wrote
-      (landed c.rows c.program c.image c.g c.acts false to l.top operands now input output ends l.operands l.kept (jump_if c.rows 15 3 (not_at_most (flags_of q) ∙ ap not t.at_most) i.0 s.is)))
+      (landed c.rows c.program c.image c.g c.acts false to l.top operands now input output ends l.operands l.kept (jump_if c.rows 15 5 (not_at_most (flags_of q) ∙ ap not t.at_most) i.0 s.is)))
 
   -- ---- the order
 
-  -- the line, the call of the routine, and what follows it
+  -- the call of the routine, what follows it, and the line behind that
   abbrev pub StepCode : (at line by way : ℕ) → Type 0
-  StepCode at line by way = HasAll c.image at (set_word dx line ∷ i86.Call by ∷ i86.JumpIf 15 3 ∷ i86.Jump way ∷ [])
+  StepCode at line by way =
+      Has c.image at (i86.Call by) × (Has c.image (at + 3) (i86.JumpIf 15 5) × (Has c.image (at + 3 + 2) (i86.Jump way) × (HasWord c.image (at + 3 + 2 + 3) line × Unit {0})))
 
-  module _ {p : Watched} {at : ℕ} (to by way line a m : ℕ) (start : ℕ → ℕ) (operands : List Operand) (e : at + 11 ≡ to) (there : (at + 3 + 3 + by) % 65536 ≡ next_step_place % 65536)
-      (goes : (at + 11 + way) % 65536 ≡ start m % 65536) (small : line < 65536) (inside : a + 3 < c.program.limits.area) (all : All FitsWord memory) (room : operand_words operands < level c.acts)
+  module _ {p : Watched} {at : ℕ} (to by way line a m : ℕ) (start : ℕ → ℕ) (operands : List Operand) (e : at + 10 ≡ to) (there : (at + 3 + by) % 65536 ≡ next_step_place % 65536)
+      (goes : (at + 8 + way) % 65536 ≡ start m % 65536) (small : line < 65536) (inside : a + 3 < c.program.limits.area) (all : All FitsWord memory) (room : operand_words operands < level c.acts)
       (i : StepCode at line by way) (l : Doubled at a operands p) where
-    abbrev back : ℕ
-    back = (at + 3 + 3) % 65536
+    turn_code : TurnCode (at + 3) way
+    turn_code = (i.1.0, (i.1.1.0, tt))
+
+    -- so far behind the way back
+    line_there : HasWord c.image (at + 3 + 5) line
+    line_there = let e : at + 3 + 2 + 3 ≡ at + 3 + 5 = omega arith in subst (λ n. HasWord c.image n line) e i.1.1.1.0
+
+    -- the line stands in the code, so the way back is below 65,536
+    back_small : at + 3 < 65536
+    back_small =
+        let within = line_there.within in
+        let fits = l.is.sees.fits in
+        omega arith
 
     abbrev chosen : Way
     chosen = stepped c.program.limits.area m a (words operands memory input output)
 
     abbrev Called : Watched → Type 0
-    Called = AtRoutine c memory input output next_step_place back line l.ax (2 * a) operands
+    Called = AtRoutine c memory input output next_step_place (at + 3) l.dx l.ax (2 * a) operands
 
-    called : Leads output 2 p Called
+    called : Leads output 1 p Called
     called =
-        straight c.rows (Number 2 line ∷ []) {n = 1} l.kept.wrote (i.0, tt) (tt, tt) l.is (λ q t. reaches c memory input output next_step_place by back operands l.top room there refl i.1.0 l.under l.kept t)
+        let small = back_small in
+        reaches c memory input output next_step_place by (at + 3) operands l.top room there (omega arith) i.0 l.under l.kept l.is
 
     law : (x : Way) → chosen ≡ x → (q : Watched) (r : Called q)
-        → Within (Quiet (quiet_in q.places)) c.image r.told.output 26 q.processor
-        (GoesOn c.image r.told.output c.program.limits.area back (2 * suc r.top) (record_of c.acts) (c.g + 1) line r.stack r.left r.told x)
+        → Within (Quiet (quiet_in q.places)) c.image r.told.output 28 q.processor
+        (GoesOn c.image r.told.output c.program.limits.area (at + 3) (2 * suc r.top) (record_of c.acts) (c.g + 1) line r.stack r.left r.told x)
     law x is q r =
         let low = r.low in
         subst
-        (λ y. Within (Quiet (quiet_in q.places)) c.image r.told.output 26 q.processor
-        (GoesOn c.image r.told.output c.program.limits.area back (2 * suc r.top) (record_of c.acts) (c.g + 1) line r.stack r.left r.told y)) is
-        (c.rows.routines.next_step (quiet_in q.places) c.image c.library (quiet_library r.is.ignores) c.program.limits.area a m line (record_of c.acts) r.top (level c.acts + 3) (c.g + 1) back l.ax
-        r.cx r.si (flags_of q) r.cells r.stack r.left r.told (words operands memory input output) q.processor inside (holds_memory c memory input output all r.kept) small (omega arith) r.way
-        (omega arith) (tells c memory input output r.kept) (arrives r.is))
+        (λ y. Within (Quiet (quiet_in q.places)) c.image r.told.output 28 q.processor
+        (GoesOn c.image r.told.output c.program.limits.area (at + 3) (2 * suc r.top) (record_of c.acts) (c.g + 1) line r.stack r.left r.told y)) is
+        (c.rows.routines.next_step (quiet_in q.places) c.image c.library (quiet_library r.is.ignores) c.program.limits.area a m line (record_of c.acts) r.top (level c.acts + 3) (c.g + 1) (at + 3) l.ax
+        r.cx l.dx r.si (flags_of q) r.cells r.stack r.left r.told (words operands memory input output) q.processor inside (holds_memory c memory input output all r.kept) line_there small (omega arith) r.way
+        back_small (tells c memory input output r.kept) (arrives r.is))
 
     returns : (b : Bool) (v : Words) → ((q : Watched) (r : Called q)
-        → Within (Quiet (quiet_in q.places)) c.image r.told.output 26 q.processor (Answered c.image c.program.limits.area back (2 * suc r.top) (record_of c.acts) r.stack r.left r.told v (AtMost b)))
-        → Leading output 28 p (Turned (at + 3 + 3) b v.memory operands)
+        → Within (Quiet (quiet_in q.places)) c.image r.told.output 28 q.processor (Answered c.image c.program.limits.area (at + 3) (2 * suc r.top) (record_of c.acts) r.stack r.left r.told v (AtMost b)))
+        → Leading output 29 p (Turned (at + 3) b v.memory operands)
     returns b v each =
-        runs c memory input output 1 26 28 (lit≤ tt) called (λ q r.
+        runs c memory input output 0 28 29 (lit≤ tt) called (λ q r.
         let k = r.kept in (
           r.told.output,
           record {
@@ -226,29 +239,29 @@ module _ (c : Setting) (memory : List ℤ) (input output : List ℕ) where
             law = each q r;
             means = λ u t. record {
               landed_with =
-                  landed c.rows c.program c.image c.g c.acts false (at + 3 + 3) (suc r.top) operands v.memory input output refl r.under
+                  landed c.rows c.program c.image c.g c.acts false (at + 3) (suc r.top) operands v.memory input output refl r.under
                   (record { words = t.holds_words.words; long = t.holds_words.long; piled = k.piled; read = k.read; wrote = k.wrote; kind = k.kind })
-                  (to_place (let n : back % 65536 ≡ (at + 3 + 3) % 65536 = omega arith in n) (returned q r.is.ignores t.back.is));
+                  (returned q r.is.ignores t.back.is);
               at_most = ap (λ f. holds f 14) t.back.is.flags ∙ t.back.answers;
             };
           },
         ))
 
-    turns_so : (x : Way) → chosen ≡ x → Turns operands m x → Chooses c.program c.image 30 to start c.g false line c.acts output p x
+    turns_so : (x : Way) → chosen ≡ x → Turns operands m x → Chooses c.program c.image 31 to start c.g false line c.acts output p x
     turns_so (Onward v) is keeps =
         let t = returns false v (law (Onward v) is) in
         let within = t.within in
-        subst (λ u. Leading output 30 p (Landed c.program c.image to c.g false c.acts u)) (sym keeps)
-        (further_on t.spent 1 30 (omega arith) t.leads (λ q u. turns_on to way v.memory operands (omega arith) i.1.1 u))
+        subst (λ u. Leading output 31 p (Landed c.program c.image to c.g false c.acts u)) (sym keeps)
+        (further_on t.spent 1 31 (omega arith) t.leads (λ q u. turns_on to way v.memory operands (omega arith) turn_code u))
     turns_so (ToMark k v) is keeps =
         let t = returns true v (law (ToMark k v) is) in
         let within = t.within in
-        let arrives : (at + 3 + 3 + 5 + way) % 65536 ≡ start m % 65536 = omega arith in
-        subst (λ n. Leading output 30 p (Landed c.program c.image (start n) c.g false c.acts v)) (sym keeps.0)
-        (subst (λ u. Leading output 30 p (Landed c.program c.image (start m) c.g false c.acts u)) (sym keeps.1)
-        (further_on t.spent 2 30 (omega arith) t.leads (λ q u. turns_to (start m) way v.memory operands arrives i.1.1 u)))
+        let arrives : (at + 3 + 5 + way) % 65536 ≡ start m % 65536 = omega arith in
+        subst (λ n. Leading output 31 p (Landed c.program c.image (start n) c.g false c.acts v)) (sym keeps.0)
+        (subst (λ u. Leading output 31 p (Landed c.program c.image (start m) c.g false c.acts u)) (sym keeps.1)
+        (further_on t.spent 2 31 (omega arith) t.leads (λ q u. turns_to (start m) way v.memory operands arrives turn_code u)))
     turns_so (Barred kind) is keeps =
-        runs c memory input output 1 26 30 (lit≤ tt) called (λ q r. (
+        runs c memory input output 0 28 31 (lit≤ tt) called (λ q r. (
           r.told.output,
           record {
             silent = r.is.silent;
@@ -260,19 +273,19 @@ module _ (c : Setting) (memory : List ℤ) (input output : List ℕ) where
         ))
     turns_so Nowhere is keeps = tt
 
-    turns : Chooses c.program c.image 30 to start c.g false line c.acts output p chosen
+    turns : Chooses c.program c.image 31 to start c.g false line c.acts output p chosen
     turns = turns_so chosen refl (stepped_turns m a operands)
 
   -- behind so many instructions that bring the address to BX, where the words of the loop are in the area
-  pub takes_step : {p : Watched} {at : ℕ} (n to by way line a m : ℕ) (start : ℕ → ℕ) (operands : List Operand) → n ≤ 2 → at + 11 ≡ to → (at + 3 + 3 + by) % 65536 ≡ next_step_place % 65536
-      → (at + 11 + way) % 65536 ≡ start m % 65536 → line < 65536 → All FitsWord memory → operand_words operands < level c.acts → StepCode at line by way
+  pub takes_step : {p : Watched} {at : ℕ} (n to by way line a m : ℕ) (start : ℕ → ℕ) (operands : List Operand) → n ≤ 2 → at + 10 ≡ to → (at + 3 + by) % 65536 ≡ next_step_place % 65536
+      → (at + 8 + way) % 65536 ≡ start m % 65536 → line < 65536 → All FitsWord memory → operand_words operands < level c.acts → StepCode at line by way
       → (a + 3 < c.program.limits.area → Leads output n p (Doubled at a operands))
-      → Chooses c.program c.image 32 to start c.g false line c.acts output p (next_step c.program.limits.area m (Some a) (words operands memory input output))
+      → Chooses c.program c.image 33 to start c.g false line c.acts output p (next_step c.program.limits.area m (Some a) (words operands memory input output))
   takes_step {p} {at} n to by way line a m start operands few e there goes small all room i brings = cases (nat_lt (a + 3) c.program.limits.area) refl
     where
-      cases : (b : Bool) → nat_lt (a + 3) c.program.limits.area ≡ b → Chooses c.program c.image 32 to start c.g false line c.acts output p (stepped_inside b c.program.limits.area m a (words operands memory input output))
+      cases : (b : Bool) → nat_lt (a + 3) c.program.limits.area ≡ b → Chooses c.program c.image 33 to start c.g false line c.acts output p (stepped_inside b c.program.limits.area m a (words operands memory input output))
       cases false is = tt
       cases true is =
           let inside : a + 3 < c.program.limits.area = ltb-true (a + 3) c.program.limits.area is in
-          sooner c.program c.image 30 to start c.g false line c.acts n 32 (stepped c.program.limits.area m a (words operands memory input output)) (omega arith) (brings inside)
+          sooner c.program c.image 31 to start c.g false line c.acts n 33 (stepped c.program.limits.area m a (words operands memory input output)) (omega arith) (brings inside)
           (λ q t. turns to by way line a m start operands e there goes small inside all room i t)

@@ -23,5 +23,5 @@ pub record RoutineLaws : Type 0 where
   pub add_step : (quiet : ℕ → Bool) (code : List ℕ) → Stands code → InLibrary quiet → StepRoutine (Quiet quiet) code add_step_place 19
   pub put_variable : (quiet : ℕ → Bool) (code : List ℕ) → Stands code → InLibrary quiet → PutRoutine (Quiet quiet) code put_variable_place 16
   pub exhausted : (quiet : ℕ → Bool) (code : List ℕ) → Stands code → InLibrary quiet → ExhaustedRoutine (Quiet quiet) code exhausted_place 15
-  pub next_step : (quiet : ℕ → Bool) (code : List ℕ) → Stands code → InLibrary quiet → NextStepRoutine (Quiet quiet) code next_step_place 26
+  pub next_step : (quiet : ℕ → Bool) (code : List ℕ) → Stands code → InLibrary quiet → NextStepRoutine (Quiet quiet) code next_step_place 28
   pub divisor : (quiet : ℕ → Bool) (code : List ℕ) (at by : ℕ) → QuietAll (Quiet quiet) at (divisor_test by) → HasAll code at (divisor_test by) → by < 128 → DivisorTest (Quiet quiet) code at by
