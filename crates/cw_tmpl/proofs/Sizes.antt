@@ -56,7 +56,7 @@ loop_way_long names place [] = refl
 loop_way_long names place (m ∷ []) = refl
 loop_way_long names place (m ∷ n ∷ ms) = omega (arith, size_of_marks names (m ∷ n ∷ ms))
 
-step_taken_long : (names : Names) (place : ℕ) (x : Place) (line m : ℕ) → length (blanks (template names place (order.NextStep x line m))) ≡ doubled_size x + 11
+step_taken_long : (names : Names) (place : ℕ) (x : Place) (line m : ℕ) → length (blanks (template names place (order.NextStep x line m))) ≡ doubled_size x + 10
 step_taken_long names place (cell.Word f n) line m = refl
 step_taken_long names place (cell.Frame n) line m = refl
 

@@ -40,11 +40,11 @@ pub const EXHAUSTED: u16 = 32;
 /// The entry that begins an activation.
 pub const ENTER: u16 = 33;
 
-/// The entry that does what follows the body of a loop of one element with a step.
+/// The entry that does what follows the body of a loop of one element with a step, whose line stands 5 bytes behind the call.
 pub const NEXT_STEP: u16 = 34;
 
-const CODE: [u8; 426] = [
-    0xE9, 0xA7, 0x01, // JMP past the library
+const CODE: [u8; 430] = [
+    0xE9, 0xAB, 0x01, // JMP past the library
     0xF4, // end: HLT
     0xCC, // earlier entries: no instruction
     0x5E, // start: POP SI
@@ -225,7 +225,7 @@ const CODE: [u8; 426] = [
     0x0B, 0xC0, // OR AX,AX
     0x7E, 0x0F, // JLE any step
     0x03, 0x04, // ADD AX,[SI]
-    0x70, 0x36, // JO far sum
+    0x70, 0x35, // JO far sum
     0x89, 0x04, // MOV [SI],AX
     0x3B, 0x47, 0x04, // CMP AX,[BX+4]
     0xC3, // RET
@@ -234,7 +234,7 @@ const CODE: [u8; 426] = [
     0xC3, // RET
     0x8B, 0x04, // any step: MOV AX,[SI]
     0x03, 0x47, 0x02, // ADD AX,[BX+2]
-    0x70, 0x24, // JO far sum
+    0x70, 0x23, // JO far sum
     0x89, 0x04, // MOV [SI],AX
     0x8B, 0x37, // turn: MOV SI,[BX]
     0x3B, 0xF7, // CMP SI,DI
@@ -251,9 +251,11 @@ const CODE: [u8; 426] = [
     0x3B, 0xC1, // CMP AX,CX
     0xC3, // RET
     0xB0, 0x04, // far address: MOV AL,4
-    0xE9, 0x92, 0xFE, // JMP tell
+    0xEB, 0x02, // JMP far line
     0xB0, 0x01, // far sum: MOV AL,1
-    0xE9, 0x8D, 0xFE, // JMP tell
+    0x5B, // far line: POP BX
+    0x2E, 0x8B, 0x57, 0x05, // MOV DX,CS:[BX+5]
+    0xE9, 0x89, 0xFE, // JMP tell
 ];
 
 const ENTRIES: [u16; 35] = [
