@@ -1,17 +1,17 @@
 //! Code of the step of a loop, and of the way of its elements.
-ghost use Rattle.std.specs.Prelude.{◌≡◌, ◌+◌, ◌++◌, length, OnOk};
-ghost use Rattle.cw_order.specs.declared.order.Comparator.TheVariants as comparator;
+ghost use Rattle.std.specs.Prelude.{◌≡◌, ◌+◌, ◌∷◌, [], length, OnOk};
+ghost use Rattle.cw_i86.specs.declared.instr.Instr.TheVariants as i86;
+ghost use Rattle.cw_run86.specs.Views.{condition_of, Greater};
 ghost use Rattle.cw_tmpl.specs.Assembling.{Adds};
+ghost use Rattle.cw_tmpl.specs.declared.pieces.Coded.TheVariants as coded;
 ghost use Rattle.cw_tmpl.specs.Library.{next_step_entry};
-ghost use Rattle.cw_tmpl.specs.Templates.{place_doubled, step_taken, one_way, loop_ways, call_at_line, branch};
+ghost use Rattle.cw_tmpl.specs.Templates.{place_doubled, step_taken, one_way, loop_ways, call_library, jump_near};
 
 use crate::calling::bytes_of_words;
 use crate::jumping::{distance, opposite, put_loop_way};
 use cw_i86::Instr;
 use cw_order::{Comparator, Place};
-use cw_tmpl::instructions::{
-    AX, BASE, BX, DX, decrease, jump_if_unequal, load, operate_number, set_word,
-};
+use cw_tmpl::instructions::{AX, BASE, BX, decrease, jump_if_unequal, load, operate_number};
 use cw_tmpl::library::NEXT_STEP;
 use cw_tmpl::{Assembly, Coded, Names, Target};
 use cw_word::NoMemory;
@@ -32,19 +32,19 @@ fn put_place_doubled(code: &mut Assembly, place: Place) -> Result<(), NoMemory>
     }
 }
 
-/// Adds the step of the loop whose words BX tells, and a jump to a place where its body follows.
+/// Adds the step of the loop whose words BX tells, and a jump to a place where its body follows, past which it goes on behind the line.
 fn put_step(code: &mut Assembly, line: u16, to: u64) -> Result<(), NoMemory>
-    ensures { OnOk result (Adds code.old (call_at_line next_step_entry line ++ branch comparator.LessEqual (length code.old.bytes + 11) to) code.new) }
+    ensures { OnOk result (Adds code.old (call_library next_step_entry ∷ coded.Whole (i86.JumpIf (condition_of Greater) 5) ∷ jump_near (length code.old.bytes + 8) to ∷ coded.Data line ∷ []) code.new) }
 {
-    let end = code.bytes.as_slice().len() + 11;
+    let end = code.bytes.as_slice().len() + 8;
     code.put_all(&[
-        Coded::Whole(set_word(DX, line)),
         Coded::Call(Target::LibraryAhead(NEXT_STEP)),
         Coded::Whole(Instr::JumpIf {
             cond: opposite(Comparator::LessEqual),
-            by: 3,
+            by: 5,
         }),
         Coded::Whole(Instr::Jump(distance(end, to))),
+        Coded::Data(line),
     ])
 }
 

@@ -270,7 +270,7 @@ fn order_size(order: &Order) -> Result<u32, NoMemory>
             ..
         } => bound_size(*second) + bound_size(*lower) + times_size(*width) + 33,
         Order::Entry { width, word, .. } => width_size(*width) + word_size(*word) + 21,
-        Order::NextStep { looped, .. } => doubled_size(*looped) + 11,
+        Order::NextStep { looped, .. } => doubled_size(*looped) + 10,
         Order::LoopWay(marks) => return loop_ways_size(marks.as_slice()),
     };
     Ok(size)

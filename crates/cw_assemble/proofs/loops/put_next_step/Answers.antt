@@ -1,13 +1,16 @@
-use Rattle.std.proofs.Common.{◌≡◌, ℕ, ◌+◌, ◌++◌, length, length-append, refl, ap, subst, arith}
+use Rattle.std.proofs.Common.{◌≡◌, ℕ, ◌+◌, List, ◌∷◌, [], length, length-append, refl, ap, subst, arith}
 use Rattle.std.proofs.lemmas.Result.{on_ok_weaker}
-use Rattle.cw_order.specs.declared.order.Comparator.TheVariants as comparator
+use Rattle.cw_i86.specs.declared.instr.Instr.TheVariants as i86
 use Rattle.cw_order.specs.declared.order.Place.{Place}
 use Rattle.cw_order.specs.declared.order.Place.TheVariants as cell
+use Rattle.cw_run86.specs.Views.{Greater, condition_of}
 use Rattle.cw_tmpl.specs.declared.assembling.Assembly.{Assembly}
+use Rattle.cw_tmpl.specs.declared.pieces.Coded.{Coded}
+use Rattle.cw_tmpl.specs.declared.pieces.Coded.TheVariants as coded
 use Rattle.cw_tmpl.specs.Assembling.{Adds}
 use Rattle.cw_tmpl.specs.Library.{next_step_entry}
 use Rattle.cw_tmpl.specs.Pieces.{blanks}
-use Rattle.cw_tmpl.specs.Templates.{place_doubled, doubled_size, step_taken, call_at_line, branch}
+use Rattle.cw_tmpl.specs.Templates.{place_doubled, doubled_size, step_taken, call_library, jump_near}
 use Rattle.cw_tmpl.proofs.Growing.{adds_then}
 use Rattle.cw_assemble.proofs.loops.put_next_step.Goals as goal
 
@@ -15,12 +18,15 @@ doubled_long : (x : Place) → length (blanks (place_doubled x)) ≡ doubled_siz
 doubled_long (cell.Word f n) = refl
 doubled_long (cell.Frame n) = refl
 
+-- the call, the way past the jump and the line, the jump, and the line
+abbrev behind : (line end to : ℕ) → List Coded
+behind line end to = call_library next_step_entry ∷ coded.Whole (i86.JumpIf (condition_of Greater) 5) ∷ jump_near end to ∷ coded.Data line ∷ []
+
 step_added : (old one new : Assembly) (x : Place) (line to : ℕ) → Adds old (place_doubled x) one
-    → Adds one (call_at_line next_step_entry line ++ branch comparator.LessEqual (length one.bytes + 11) to) new → Adds old (step_taken x line (length old.bytes) to) new
+    → Adds one (behind line (length one.bytes + 8) to) new → Adds old (step_taken x line (length old.bytes) to) new
 step_added old one new x line to a b =
-    let end : length one.bytes + 11 ≡ length old.bytes + (doubled_size x + 11) = omega (arith, ap length a.bytes, length-append old.bytes (blanks (place_doubled x)), doubled_long x) in
-    adds_then old one new (place_doubled x) (call_at_line next_step_entry line ++ branch comparator.LessEqual (length old.bytes + (doubled_size x + 11)) to) a
-    (subst (λ n. Adds one (call_at_line next_step_entry line ++ branch comparator.LessEqual n to) new) end b)
+    let end : length one.bytes + 8 ≡ length old.bytes + (doubled_size x + 8) = omega (arith, ap length a.bytes, length-append old.bytes (blanks (place_doubled x)), doubled_long x) in
+    adds_then old one new (place_doubled x) (behind line (length old.bytes + (doubled_size x + 8)) to) a (subst (λ n. Adds one (behind line n to) new) end b)
 
 pub returns : goal.returns
 returns c =
