@@ -313,7 +313,7 @@ limited-short y line item mark =
     item-keep y item 2 (item_order y item 0 ∷ order.PutVariable line ∷ order.Exhausted mark ∷ []) 20
     (item-first y item 0 (order.PutVariable line ∷ order.Exhausted mark ∷ []) 12 (let z : 6 + (6 + 0) ≤ 12 = omega arith in z))
 
-pub stepped-short : (x : Place) (line mark : ℕ) → listed_size (order.NextStep x line mark) ≤ 18
+pub stepped-short : (x : Place) (line mark : ℕ) → listed_size (order.NextStep x line mark) ≤ 17
 stepped-short (cell.Word family offset) line mark = omega arith
 stepped-short (cell.Frame n) line mark = omega arith
 

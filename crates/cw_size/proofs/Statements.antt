@@ -166,13 +166,13 @@ module _ (s : Scope) where
       (both_short (expression_short s d f) (plainly last 27 (limited-short s.layout s.line item end))))))))
       (let z : 10 + (32 * k + 5 + (15 + (32 * m + 5 + (7 + 0 + (32 * n + 5 + 27))))) + 0 ≤ 32 * (k + (m + n)) + 74 + (0 + (0 + (0 + (0 + (0 + (0 + 0)))))) = omega arith in z)
 
-  stepped_short : (item : ℕ) (beginning : ℕ → Piece) (body : Piece) (l k m n : ℕ) → ((end : ℕ) → Short (beginning end) l n) → Short body k m → Short (stepped_piece s item beginning body) (l + (k + 0)) (n + (m + 18))
+  stepped_short : (item : ℕ) (beginning : ℕ → Piece) (body : Piece) (l k m n : ℕ) → ((end : ℕ) → Short (beginning end) l n) → Short body k m → Short (stepped_piece s item beginning body) (l + (k + 0)) (n + (m + 17))
   stepped_short item beginning body l k m n hn hb =
       ended_short (λ end. with_middle (λ start. beginning end) (λ start. followed_by body (plain (order.NextStep (loop_place s.layout item) s.line start ∷ []))))
       (λ end. middle_short (λ start. beginning end) (λ start. followed_by body (plain (order.NextStep (loop_place s.layout item) s.line start ∷ []))) (λ start. hn end)
       (λ start. both_short hb
-      (plainly (order.NextStep (loop_place s.layout item) s.line start ∷ []) 18
-      (one_short (order.NextStep (loop_place s.layout item) s.line start) 18 (stepped-short (loop_place s.layout item) s.line start)))))
+      (plainly (order.NextStep (loop_place s.layout item) s.line start ∷ []) 17
+      (one_short (order.NextStep (loop_place s.layout item) s.line start) 17 (stepped-short (loop_place s.layout item) s.line start)))))
 
   -- behind the address of the control variable
   addressed_short : (item : ℕ) (r : Ref) (es : List Felem) (body : Piece) (k m : ℕ) (p : Piece) → Short p k (32 * separated (each_element es) + m + 45)
@@ -185,7 +185,7 @@ module _ (s : Scope) where
   one_step_short item f a b d body k m h =
       let n = expression_tokens a + (expression_tokens b + expression_tokens d) in
       eased (stepped_short item (first_turn s item f a b d) body 0 k m (32 * n + 74) (first_turn_short item f a b d) h)
-      (let z : 32 * n + 74 + (m + 18) + k ≤ 32 * (suc (2 + n) + 0) + m + 45 + (0 + (k + 0)) = omega arith in z)
+      (let z : 32 * n + 74 + (m + 17) + k ≤ 32 * (suc (2 + n) + 0) + m + 45 + (0 + (k + 0)) = omega arith in z)
 
   begun_short : (item : ℕ) (r : Ref) (a b d : Expr) (body : Piece) (k m : ℕ) (x : Option SimpleStep) → Short body k m
       → Short (begun_loop s x item r (element.Step a b d ∷ []) body) k (32 * suc (reference_tokens r + separated (each_element (element.Step a b d ∷ []))) + m + 6)
@@ -196,7 +196,7 @@ module _ (s : Scope) where
       eased
       (stepped_short item (λ end. plain (simple_beginning s.layout item x end)) body 0 k m 86
       (λ end. plainly (simple_beginning s.layout item x end) 86 (simple-short s.layout item x end)) h)
-      (let z : 86 + (m + 18) + k ≤ 32 * suc (reference_tokens r + (suc (2 + n) + 0)) + m + 6 + (0 + (k + 0)) = omega arith in z)
+      (let z : 86 + (m + 17) + k ≤ 32 * suc (reference_tokens r + (suc (2 + n) + 0)) + m + 6 + (0 + (k + 0)) = omega arith in z)
 
   begun_loop_short : (item : ℕ) (r : Ref) (es : List Felem) (body : Piece) (k m : ℕ) → Short body k m
       → Short (begun_loop s (simple_step s.layout item r es) item r es body) k (32 * suc (reference_tokens r + separated (each_element es)) + m + 6)
