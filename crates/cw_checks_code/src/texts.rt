@@ -273,10 +273,9 @@ const COUNTED: [(&str, usize, u64); 4] = [
     ("INTEGER X; X := 3; X := X + 4; W(X)", 46, 26),
     // Place, number, its save and the call 11 and 5; the entry and the argument 14 and 21; place, load and byte 6 and 3; 0 and the return 8 and 4.
     ("PROCEDURE P(VALUE INTEGER N); W(N); P(5)", 55, 48),
-    // Place, address and store 7 and 3; the number of the element, its first value, which is set, its step, its limit and the jump 34 and 22;
-    // the step added 9 and 14; the test 18, and 30 or at the end 29; the jump past the loop 3 and 1; a value set 10; place, load and byte
-    // 6 and 3; number and the way on 25 and 7. The body runs twice.
-    ("INTEGER I; FOR I := 1 STEP 1 UNTIL 2 DO W(I)", 128, 178),
+    // Place 1 and 1; the variable's address, the number of the element, the first value, the step and the limit, each stored, 30 and 10; place,
+    // load and byte 6 and 3; the step 13, and 20 or at the end 19. The body runs twice.
+    ("INTEGER I; FOR I := 1 STEP 1 UNTIL 2 DO W(I)", 66, 71),
 ];
 
 #[test]
