@@ -160,12 +160,12 @@ fn limits(rt: HostRuntime) -> Result<(), Fail> {
         "|"
     );
     let before = "SEGMENT A BEGIN INTEGER X; ";
-    let text = repeated(alloc, before, "X := X + 1; ", 4346, "END FINISH")?;
+    let text = repeated(alloc, before, "X := X + 1; ", 4340, "END FINISH")?;
     assert_eq!(rt;
         within(alloc, &text, RUN_STEPS)?.as_str(),
-        "3||link: P4 CodeTooBig 65544\n"
+        "3||link: P4 CodeTooBig 65546\n"
     );
-    let text = repeated(alloc, before, "X := X + 1; ", 4345, "END FINISH")?;
+    let text = repeated(alloc, before, "X := X + 1; ", 4339, "END FINISH")?;
     assert_eq!(rt; bytes_and_end(alloc, &text, RUN_STEPS)?.as_str(), "|");
     let levels = |count: u32| -> Result<Vec<u8>, AllocError> {
         let inner = repeated(alloc, "SEGMENT A ", "BEGIN ", count, "")?;
