@@ -14,6 +14,7 @@ use Rattle.cw_order.specs.OrderActions.{home_word}
 use Rattle.cw_order.specs.OrderMachine.{order_machine, order_start}
 use Rattle.cw_order.specs.NamesAgree.{NamesAgree}
 use Rattle.cw_order.specs.HasCode.{HasCode}
+use Rattle.cw_order.specs.BeginsStatement.{BeginsStatement}
 use Rattle.cw_order.specs.FittingWords.{ConstantsFit, LinesFit}
 use Rattle.cw_order.specs.Spans.{SpansInside}
 use Rattle.cw_order.specs.Activations.{Callable}
@@ -119,8 +120,8 @@ StandsBehind _ = ⊥
 
 -- What templates need of the orders: their numbers are words, what those of references count on is in the data area, the unit's lists tell
 -- what the tables tell, and an index of a switch is a word with a sign. Calls and control arguments are in order. Each body begins with the
--- first order of its list, a mark stands there or at an order that begins a block wherever it stands, the frame area lies in the data area,
--- and operands and records leave room on the control stack.
+-- first order of its list, a mark stands there or at an order that begins a block wherever it stands and no statement, an order with code that may
+-- begin a statement stands behind each Start, the frame area lies in the data area, and operands and records leave room on the control stack.
 pub record Codable (p : OrderProgram) : Type 0 where
   pub codes : (g place : ℕ) (o : Order) → order_at p g place ≡ Some o → HasCode o
   pub constants : ConstantsFit p
@@ -131,7 +132,9 @@ pub record Codable (p : OrderProgram) : Type 0 where
   pub switches : (g n : ℕ) (o : Orders) (gs : List Goal) → slice_get p.units g ≡ Some o → slice_get o.switches n ≡ Some gs → length gs < 32768
   pub callable : Callable p
   pub entries : (g : ℕ) (o : Orders) → slice_get p.units g ≡ Some o → o.entry ≡ 0
-  pub marks : (g m place : ℕ) → place_of p g m ≡ Some place → (place ≡ 0) ⊎ ((o : Order) × (order_at p g place ≡ Some o) × (StandsBehind o → ⊥))
+  pub marks : (g m place : ℕ) → place_of p g m ≡ Some place
+      → (place ≡ 0) ⊎ ((o : Order) × (order_at p g place ≡ Some o) × (StandsBehind o → ⊥) × (BeginsStatement o → ⊥))
+  pub begins : (g place line : ℕ) → order_at p g place ≡ Some (order.Start line) → (o : Order) × (order_at p g (place + 1) ≡ Some o) × BeginsStatement o
   pub frames : p.limits.frames ≤ p.limits.area
   pub depth : p.limits.depth < 65536
   pub room : p.room ≤ 32000

@@ -8,6 +8,7 @@ pub mod OrderCosts
 pub mod OrderMachine
 pub mod Starting
 pub mod HasCode
+pub mod BeginsStatement
 pub mod Example
 pub mod FittingWords
 pub mod Activations
