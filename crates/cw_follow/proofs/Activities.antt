@@ -4,7 +4,6 @@ use Rattle.std.specs.Prelude.{slice_get, nat_eq, nat_lt, if◌then◌else◌}
 use borrow.Author.Tests.{eqb-true, ltb-true}
 use Rattle.cw_i86.specs.declared.instr.Instr.TheVariants as i86
 use Rattle.cw_i86.specs.declared.instr.Imm.TheVariants as imm
-use Rattle.cw_run86.specs.Views.{Has}
 use Rattle.cw_word.specs.Word.{signed}
 use Rattle.cw_unit.specs.Stop.{Running}
 use Rattle.cw_unit.specs.Words.{LabelControl, SwitchControl, ProcedureControl, Operand, Word, Held, Words, put, with_operands}
@@ -18,7 +17,7 @@ use Rattle.cw_order.specs.OrderMachine.{after, unrefused, return_with, call, ste
 use Rattle.cw_follow.specs.Placing.{base_of}
 use Rattle.cw_tmpl.proofs.Sizes.{own_place}
 use Rattle.cw_follow.proofs.Watched.{Watched}
-use Rattle.cw_follow.proofs.Standing.{order_place}
+use Rattle.cw_follow.proofs.Standing.{order_place, Has}
 use Rattle.cw_follow.proofs.Stacks.{code_place}
 use Rattle.cw_follow.proofs.Orders.{Landed}
 use Rattle.cw_follow.proofs.States.{Given, Sound, has_unit}
@@ -55,7 +54,7 @@ module _ (known : Given) where
         let to = order_place (base_of p a.segment) u.orders.list a.place in
         let there : code_place p a.segment a.place ≡ to % 65536 = start_is known a.segment u.orders (λ o. own_place o.list a.place) u.unit in
         leads_to known g place false (a ∷ acts) w t 3 goes (cheap known s o 3 (lit≤ tt) e)
-        (onward known (λ r l. inl (sound_in known s by_itself a.segment a.place false acts v r u.orders u.unit (s.comes_back.0 u.orders u.unit) goes s.working.5 s.comes_back.1 l))
+        (onward known (λ r l. inl (sound_in known s by_itself a.segment a.place false acts v r u.orders u.unit (s.comes_back.0 u.orders u.unit) goes s.working.5 s.comes_back.1 l, refl))
         (returns rows p image g a acts n w.memory w.input w.output to w.operands (eqb-true (operand_words a.arguments) n is) there (code known s by_itself o e) by_itself.landed))
 
     -- ---- the words of the frame, and arguments
@@ -166,5 +165,5 @@ module _ (known : Given) where
           let l : Landed p image (order_place (base_of p g) s.orders.list place) g true (a ∷ acts) (with_operands w (Word z ∷ rest)) q =
           subst (λ xs. Landed p image (order_place (base_of p g) s.orders.list place) g true (a ∷ acts) (with_operands w xs) q) same by_itself.landed in
           leads_to known g place true (a ∷ acts) w t 3 goes (cheap known s o 3 (lit≤ tt) e)
-          (onward known (λ r l. inl (sound_in known s by_itself a.segment a.place true acts v r u.orders u.unit (s.comes_back.0 u.orders u.unit) goes s.working.5 s.comes_back.1 l))
+          (onward known (λ r l. inl (sound_in known s by_itself a.segment a.place true acts v r u.orders u.unit (s.comes_back.0 u.orders u.unit) goes s.working.5 s.comes_back.1 l, refl))
           (answers rows p image g a acts n w.memory w.input w.output to z rest (eqb-true (operand_words a.arguments) n is) there (code known s by_itself o e) l))

@@ -18,11 +18,10 @@ use Rattle.cw_tmpl.specs.Blocks.{left_at}
 use Rattle.cw_tmpl.specs.Library.{start_entry, start_place}
 use Rattle.cw_tmpl.specs.Pieces.{Filling}
 use Rattle.cw_tmpl.specs.Templates.{entry_pieces}
-use Rattle.cw_routines.specs.Ways.{HasWord}
 use Rattle.cw_routines.specs.Results.{Stands}
 use Rattle.cw_follow.specs.Placing.{Fills, base_of}
 use Rattle.cw_follow.proofs.Watched.{Watched}
-use Rattle.cw_follow.proofs.Standing.{HasPieces, order_place}
+use Rattle.cw_follow.proofs.Standing.{HasPieces, order_place, HasWord, Image}
 use Rattle.cw_follow.proofs.Rows.{Rows}
 use Rattle.cw_follow.proofs.Chains.{Is, Leads, view, seen, to_place, number, call, jump_to, more}
 use Rattle.cw_follow.proofs.Routines.{Stacked, quiet_in, quiet_library, flags_of, arrives, returned, lifted, ends, leads_on, put_at}
@@ -32,7 +31,7 @@ use Rattle.cw_follow.proofs.States.{Given, Sound, Matches, never_on, not_stuck}
 use Rattle.cw_follow.proofs.Steps.{Follow, leads_to, step_is, weight_is, fits_next, stands_next, Alone, code, under, under_low, under_is}
 
 -- a body begins, with the base record made and no operands
-pub record Begun (image : List ℕ) (at segment calls frames area : ℕ) (cells : ℕ → ℕ) (input : List ℕ) (told : Told) (p : Watched) : Type 0 where
+pub record Begun (image : Image) (at segment calls frames area : ℕ) (cells : ℕ → ℕ) (input : List ℕ) (told : Told) (p : Watched) : Type 0 where
   pub stack : ℕ → ℕ
   pub number : stack 32767 ≡ segment
   pub left : stack 32766 ≡ calls
@@ -41,7 +40,7 @@ pub record Begun (image : List ℕ) (at segment calls frames area : ℕ) (cells 
   pub stacked : Stacked image at 32764 0 area cells stack input told p
 
 -- the same as what the orders begin with
-pub begun_landed : (p : OrderProgram) {image : List ℕ} {at g : ℕ} {cells : ℕ → ℕ} {left : List ℕ} {told : Told} {q : Watched} (to : ℕ) (memory : List ℤ) (input output : List ℕ) → at ≡ to → g < 255 → p.limits.frames ≤ p.limits.area
+pub begun_landed : (p : OrderProgram) {image : Image} {at g : ℕ} {cells : ℕ → ℕ} {left : List ℕ} {told : Told} {q : Watched} (to : ℕ) (memory : List ℤ) (input output : List ℕ) → at ≡ to → g < 255 → p.limits.frames ≤ p.limits.area
     → ((k : ℕ) → k < p.limits.area → cells k ≡ unsigned (word_at memory k)) → length memory ≡ p.limits.area → left ≡ input → told.output ≡ output → told.kind ≡ 0
     → Begun image at (suc g) p.limits.depth p.limits.frames p.limits.area cells left told q
     → Landed p image to g false [] (record { operands = []; memory = memory; input = input; output = output }) q
@@ -76,8 +75,8 @@ begun_landed p {image} {at} {g} {cells} {left} {told} {q} to memory input output
 
 -- the entry of a segment, with a word of the stack where the place of its words goes
 pub enters : Rows
-    → {image : List ℕ} {q : Watched} (p : OrderProgram) (g next_place : ℕ) (value : Filling) (base ax cx dx bx bp si di n : ℕ) (overflow : Bool) (cells stack : ℕ → ℕ) (input : List ℕ) (told : Told)
-    → Stands image → Fills p g next_place value → HasPieces image value base entry_pieces → g < 255 → n < 32768 → p.limits.area ≤ 32768 → p.limits.frames ≤ p.limits.area → p.limits.depth < 65536
+    → {image : Image} {q : Watched} (p : OrderProgram) (g next_place : ℕ) (value : Filling) (base ax cx dx bx bp si di n : ℕ) (overflow : Bool) (cells stack : ℕ → ℕ) (input : List ℕ) (told : Told)
+    → Stands image.bytes → Fills p g next_place value → HasPieces image value base entry_pieces → g < 255 → n < 32768 → p.limits.area ≤ 32768 → p.limits.frames ≤ p.limits.area → p.limits.depth < 65536
     → (sp : ℕ) → sp ≡ 2 * suc n % 65536 → Is image base (view ax cx dx bx sp bp si di overflow cells stack input told) q
     → Leads told.output 11 q (Begun image (base + 11) (suc g) p.limits.depth p.limits.frames p.limits.area cells input told)
 enters rows {image} {q} p g next_place value base ax cx dx bx bp si di n overflow cells stack input told library fills h few lt low within deep sp top s =
@@ -99,8 +98,8 @@ enters rows {image} {q} p g next_place value base ax cx dx bx bp si di n overflo
     let six : base + 3 + 2 + 2 + 2 ≡ base + 3 + 6 = omega arith in
     let few' : suc g < 256 = omega arith in
     more rows {to = start_place} {w = view ax cx dx bx (2 * n) bp si di overflow cells (put_word stack n (base + 3)) input told} s refl (to_place arrives_there (call rows by n (base + 3) lt top behind h.0 s)) (λ q t.
-    lifted rows {n = 10} t.silent
-    (rows.routines.start (quiet_in q.places) image library (quiet_library t.ignores) (base + 3) n p.limits.area p.limits.frames p.limits.depth (suc g) ax cx dx bx bp si di (flags_of q) cells (put_word stack n (base + 3)) input told q.processor
+    lifted rows {n = 10} t.overlooks t.silent
+    (rows.routines.start (quiet_in q.places) image.bytes library (quiet_library t.ignores) (base + 3) n p.limits.area p.limits.frames p.limits.depth (suc g) ax cx dx bx bp si di (flags_of q) cells (put_word stack n (base + 3)) input told q.processor
     lt (put_at stack n (base + 3)) within low few'
     (subst (HasWord image (base + 3)) area h.1.0)
     (subst (HasWord image (base + 3 + 2)) frames h.1.1.0)

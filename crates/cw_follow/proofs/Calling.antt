@@ -23,9 +23,8 @@ use Rattle.cw_tmpl.specs.Templates.{order_size, distance}
 use Rattle.cw_tmpl.specs.ReferenceCode.{mark_starts, names_of}
 use Rattle.cw_follow.specs.Placing.{base_of, start_in, procedure_place, definition_place}
 use Rattle.cw_tmpl.proofs.Sizes.{own_place, mark_start, jump_arrives}
-use Rattle.cw_routines.specs.Ways.{HasAll}
 use Rattle.cw_follow.proofs.Watched.{Watched}
-use Rattle.cw_follow.proofs.Standing.{order_place}
+use Rattle.cw_follow.proofs.Standing.{order_place, HasAll}
 use Rattle.cw_follow.proofs.Chains.{to_place}
 use Rattle.cw_follow.proofs.Stacks.{record_of, code_place, control_place, OwnerIs}
 use Rattle.cw_follow.proofs.Orders.{Landed, Leading, CalledAt}
@@ -112,7 +111,7 @@ module _ (known : Given) where
             let u = has_unit p to k false (drop n acts) (with_operands w []) (never_next known s t goes) in
             leads_to known g place loaded acts w t limit goes paid
             (onward known (λ r l. inl (sound_in to k false (drop n acts) (with_operands w []) r u.orders u.unit (begins_there known to m k u.orders u.unit is) goes
-            (stand_below p n g to acts s.working) (come_back_below p n acts s.comes_back) l)) (d k u.orders u.unit is u.within))
+            (stand_below p n g to acts s.working) (come_back_below p n acts s.comes_back) l, refl)) (d k u.orders u.unit is u.within))
 
   -- ---- all operands on the stack
 

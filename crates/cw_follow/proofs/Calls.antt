@@ -6,22 +6,21 @@ use Rattle.cw_track.proofs.Paths.{join}
 use Rattle.cw_i86.specs.declared.instr.Instr.TheVariants as i86
 use Rattle.cw_i86.specs.declared.instr.Imm.TheVariants as imm
 use Rattle.cw_run86.specs.Processor.{Processor, Told}
-use Rattle.cw_run86.specs.Views.{Has, put_word}
+use Rattle.cw_run86.specs.Views.{put_word}
 use Rattle.cw_unit.specs.Stop.{FramesFull, DepthReached, Stopped}
 use Rattle.cw_unit.specs.Words.{Words}
 use Rattle.cw_order.specs.OrderProgram.{OrderProgram}
 use Rattle.cw_order.specs.OrderState.{OrderActivation, operand_words, stack_words, frame_end}
 use Rattle.cw_tmpl.specs.Library.{enter_place}
-use Rattle.cw_routines.specs.Ways.{HasAll, HasWord}
 use Rattle.cw_routines.specs.Results as results
 use Rattle.cw_routines.specs.Results.{Begins}
-use Rattle.cw_follow.specs.Passing.{Ignores}
 use Rattle.cw_follow.proofs.Watched.{Watched, watched_machine, fresh}
 use Rattle.cw_follow.proofs.Rows.{Rows}
 use Rattle.cw_follow.proofs.Chains.{Is, Leads, view, seen, to_place, number, call, more, last}
 use Rattle.cw_follow.proofs.Routines.{Over, quiet_in, quiet_library, flags_of, arrives, returned, lifted, over, put_at}
 use Rattle.cw_follow.proofs.Stacks.{level, record_of, code_place, base_word, words_behind, StackIs, Piled, words_split, words_append, top_is, SameFrom, same_put, same_above, stack_same, piled_same}
 use Rattle.cw_follow.proofs.Orders.{Kept, kept_under, kept_same, Landed, Leading, CalledAt, further}
+use Rattle.cw_follow.proofs.Standing.{Has, HasAll, HasWord, Image, Ignores}
 
 -- no more than so many instructions
 pub record Few (output : List ℕ) (limit : ℕ) (p : Watched) (Target : Watched → Type 0) : Type 0 where
@@ -49,7 +48,7 @@ left_tests n depth = grind (arith, nat_tests)
 frame_tests : (base size area : ℕ) → base ≤ area → nat_le size (area - base) ≡ nat_le (base + size) area
 frame_tests base size area le = grind (arith, nat_tests)
 
-module _ (rows : Rows) (prog : OrderProgram) (image : List ℕ) where
+module _ (rows : Rows) (prog : OrderProgram) (image : Image) where
   -- ---- the call
 
   calls_from : {q : Watched} {at ax cx dx bx si : ℕ} {overflow : Bool} {cells stack : ℕ → ℕ} {left : List ℕ} {told : Told} (to by line n : ℕ) (a : OrderActivation) (acts : List OrderActivation) (w : Words)
@@ -185,7 +184,7 @@ module _ (rows : Rows) (prog : OrderProgram) (image : List ℕ) where
       ends T u true true to output e begins d = begins d
 
       -- the routine, with the place of its words on the stack
-      routine : {u : Watched} {cells stack : ℕ → ℕ} {input : List ℕ} {told : Told} (at to ax cx bx si : ℕ) (overflow : Bool) → results.Stands image → prog.limits.area ≤ 32768
+      routine : {u : Watched} {cells stack : ℕ → ℕ} {input : List ℕ} {told : Told} (at to ax cx bx si : ℕ) (overflow : Bool) → results.Stands image.bytes → prog.limits.area ≤ 32768
           → size < 65536 → prog.limits.depth < 65536 → a.line < 65536
           → stack (level (begun ∷ acts) + 4) ≡ at → HasWord image at size → HasWord image (at + 2) (g + 1) → (at + 4) % 65536 ≡ to % 65536
           → stack (level (begun ∷ acts) + 5) ≡ code_place prog a.segment a.place → StackIs prog acts stack (level (begun ∷ acts) + 6) (a.arguments ++ a.operands)
@@ -210,14 +209,14 @@ module _ (rows : Rows) (prog : OrderProgram) (image : List ℕ) where
             rest_is = k.piled.0.rest_is;
           } in
           let fit_is : nat_le size rest ≡ nat_le (a.frame_base + size) area = ap (λ n. nat_le size (area - n)) (sym base_is) ∙ frame_tests a.frame_base size area base_low in
-          let law = rows.routines.enter (quiet_in u.places) image library (quiet_library s.ignores) r at a.line l (a.segment + 1) calls_left (base_word prog acts) rest
+          let law = rows.routines.enter (quiet_in u.places) image.bytes library (quiet_library s.ignores) r at a.line l (a.segment + 1) calls_left (base_word prog acts) rest
           (g + 1) size ax cx bx bp si area (flags_of u) cells stack input told u.processor
           (omega arith) at_is size_there number_there line_small (omega arith) (omega arith) small (omega arith) low caller (arrives s) in
           record {
             spent = law.spent;
             within = law.within;
             leads = subst (λ o. Leads o law.spent u (EntersTo (nat_lt (length acts) prog.limits.depth) (nat_le (a.frame_base + size) area) to)) k.wrote
-                (lifted rows {n = law.spent} {U = EntersTo (nat_lt (length acts) prog.limits.depth) (nat_le (a.frame_base + size) area) to} s.silent law.leads (λ t d.
+                (lifted rows {n = law.spent} {U = EntersTo (nat_lt (length acts) prog.limits.depth) (nat_le (a.frame_base + size) area) to} s.overlooks s.silent law.leads (λ t d.
                 subst (λ b. EntersTo b (nat_le (a.frame_base + size) area) to (fresh u.places u.area t)) (left_tests (length acts) prog.limits.depth)
                 (subst (λ b. EntersTo (nat_lt 0 calls_left) b to (fresh u.places u.area t)) fit_is
                 (ends (results.Entered image (at + 4) r bp (g + 1) (calls_left - 1) (2 * (area - rest) % 65536) (rest - size) area cells stack input told) u (nat_lt 0 calls_left) (nat_le size rest) to told.output k.wrote
@@ -225,7 +224,7 @@ module _ (rows : Rows) (prog : OrderProgram) (image : List ℕ) where
           }
 
       -- the code of Enter, in the called procedure
-      pub begins : {q : Watched} (at by segment : ℕ) → results.Stands image → prog.limits.area ≤ 32768 → size < 65536 → prog.limits.depth < 65536 → segment ≡ g + 1
+      pub begins : {q : Watched} (at by segment : ℕ) → results.Stands image.bytes → prog.limits.area ≤ 32768 → size < 65536 → prog.limits.depth < 65536 → segment ≡ g + 1
           → (at + 3 + by) % 65536 ≡ enter_place % 65536
           → Has image at (i86.Call by) → HasWord image (at + 3) size → HasWord image (at + 3 + 2) segment → CalledAt prog image at a acts w q
           → Leading w.output 19 q (EntersTo (nat_lt (length acts) prog.limits.depth) (nat_le (a.frame_base + size) prog.limits.area) (at + 7))

@@ -8,7 +8,6 @@ use Rattle.cw_i86.specs.declared.instr.Instr.TheVariants as i86
 use Rattle.cw_i86.specs.declared.instr.Imm.TheVariants as imm
 use Rattle.cw_i86.specs.declared.instr.Rm.TheVariants as rms
 use Rattle.cw_follow.proofs.Watched.{Watched}
-use Rattle.cw_run86.specs.Views.{Has}
 use Rattle.cw_word.specs.FixedPoint.{FitsWord, scaled_quotient}
 use Rattle.cw_word.specs.Word.{signed, unsigned}
 use Rattle.cw_unit.specs.Stop.{Overflow, ZeroDivisor}
@@ -16,7 +15,6 @@ use Rattle.cw_unit.specs.Words.{Operand, Words, Changed, put, put_if, put_value}
 use Rattle.cw_unit.specs.Operation.{Divide, divide, perform}
 use Rattle.cw_order.specs.FittingWords.{OperandFits}
 use Rattle.cw_tmpl.specs.Library.{stop_place, quotient_up_place, quotient_down_place}
-use Rattle.cw_routines.specs.Ways.{HasAll, HasWord}
 use Rattle.cw_routines.specs.Results.{Quiet, InLibrary, WordRoutine}
 use Rattle.cw_follow.proofs.Chains.{Is, Leads, view, seen, divided, last}
 use Rattle.cw_follow.proofs.Straight.{Move, Pop, Number, Sign, straight}
@@ -27,6 +25,7 @@ use Rattle.cw_follow.proofs.Orders.{Check, later, further, further_on}
 use Rattle.cw_order.specs.OrderState.{operand_words}
 use Rattle.cw_follow.proofs.Operands.{Setting, words, One, Two, LandedWith, DoesHere, taking_one, taking_two, result, calls_stop}
 use Rattle.cw_follow.proofs.Called.{Then, parts, tests_divisor, by_routine}
+use Rattle.cw_follow.proofs.Standing.{Has, HasAll, HasWord}
 
 module _ (c : Setting) (memory : List ℤ) (input output : List ℕ) where
   -- the word of a number other than 0

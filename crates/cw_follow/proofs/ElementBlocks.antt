@@ -22,7 +22,6 @@ use Rattle.cw_tmpl.specs.declared.blocks.Simple.TheVariants as simple
 use Rattle.cw_tmpl.specs.declared.blocks.Use.{Use}
 use Rattle.cw_tmpl.specs.declared.blocks.Use.TheVariants as uses
 use Rattle.cw_i86.specs.declared.instr.Instr.{Instr}
-use Rattle.cw_run86.specs.Views.{Has}
 use Rattle.cw_rows86.specs.Locations.{InData}
 use Rattle.cw_rows86.specs.Acts.{Into, OutOf}
 use Rattle.cw_tmpl.specs.declared.pieces.Coded.{Coded}
@@ -43,7 +42,7 @@ use Rattle.cw_follow.proofs.Watched.{Watched, watched_step}
 use Rattle.cw_follow.proofs.Chains.{Is, view, last, move as moved_to}
 use Rattle.cw_run86.specs.Views.{put_word}
 use Rattle.cw_follow.proofs.Acting.{act}
-use Rattle.cw_follow.proofs.Standing.{HasPieces, order_place, stand_both, appended_long}
+use Rattle.cw_follow.proofs.Standing.{HasPieces, order_place, stand_both, appended_long, Has}
 use Rattle.cw_follow.proofs.Shifts.{leads_then}
 use Rattle.cw_follow.proofs.Stacks.{level, record_of, StackIs, OperandsAre}
 use Rattle.cw_follow.proofs.Routines.{leads_on}
@@ -100,7 +99,7 @@ module _ (known : Given) where
         (λ t a.
         last rows a.is l.kept.wrote
         (landed rows p image g acts true to (suc r.above) (Word (word_at s.before.memory at) ∷ s.before.operands) s.before.memory s.before.input s.before.output there (l.kept.words at within, under) l.kept
-        (act rows (Into 0 at_si (InData at) (l.cells at)) refl (lit< tt) i ((refl, refl, half, refl), refl) a.is).is)))
+        (act rows (Into 0 at_si (InData at) (l.cells at)) (lit< tt) i ((refl, refl, half, refl), refl) a.is).is)))
 
     fetch_element_last : (e : Element) (rest : List Order) (z : KnownTest known s e e.test) → s.done ≡ suc (suc (homes e.test)) → drop s.from s.orders.list ≡ formed_list e e.test (order.Load ∷ rest) → block_at 0 (drop s.from s.orders.list) ≡ block.FetchElement e
         → orders_left (block.FetchElement e) ≡ suc (suc (homes e.test)) → Follow known (at_order g place loaded acts w Running) q
@@ -190,7 +189,7 @@ module _ (known : Given) where
         (λ t a.
         last rows a.is l.kept.wrote
         (landed rows p image g acts false to (suc r.above) rest (set s.before.memory at x) s.before.input s.before.output there under (kept_stored at x within l.kept)
-        (with_cells (ap (put_word l.cells at) k.operands.0) (act rows (OutOf 0 at_si (InData at)) refl (lit< tt) i ((refl, refl, half, refl), tt) a.is).is)))))
+        (with_cells (ap (put_word l.cells at) k.operands.0) (act rows (OutOf 0 at_si (InData at)) (lit< tt) i ((refl, refl, half, refl), tt) a.is).is)))))
 
     assign_element_last : (e : Element) (rest : List Order) (z : KnownTest known s e e.test) → s.done ≡ suc (suc (suc (homes e.test))) → drop s.from s.orders.list ≡ order.Save ∷ formed_list e e.test (order.Store ∷ rest)
         → block_at 0 (drop s.from s.orders.list) ≡ block.AssignElement e → orders_left (block.AssignElement e) ≡ suc (suc (suc (homes e.test))) → Follow known (at_order g place loaded acts w Running) q
@@ -349,7 +348,7 @@ module _ (known : Given) where
             later p image 15 (UseBlocks.block_end known s) g true line acts (1 + (element_steps e e.test + 1)) 24 (put_value (scaled_product x y (pos 0)) (words rest s.before.memory s.before.input s.before.output)) (omega arith)
             (leads_then (last rows a.is l.kept.wrote moved) (λ t b.
             leads_then (leads true l (last_pieces ++ checked line) (start + 2) r.above l.stacked.ax l.stacked.ax t b tail_there) (λ u d.
-            last rows {Target = AtProduct l (behind + 2) (l.cells at) l.stacked.ax r.above} d.is l.kept.wrote (record { dx = b.dx; bx = d.bx; si = 2 * at; overflow = d.overflow; is = (act rows (Into 0 at_si (InData at) (l.cells at)) refl (lit< tt) rest_there.0 ((refl, refl, half, refl), refl) d.is).is }))))
+            last rows {Target = AtProduct l (behind + 2) (l.cells at) l.stacked.ax r.above} d.is l.kept.wrote (record { dx = b.dx; bx = d.bx; si = 2 * at; overflow = d.overflow; is = (act rows (Into 0 at_si (InData at) (l.cells at)) (lit< tt) rest_there.0 ((refl, refl, half, refl), refl) d.is).is }))))
             (λ t d.
             UseBlocks.other_multiplies (setting known s) s.before.memory s.before.input s.before.output x rest fx room k (UseBlocks.block_end known s) (UseBlocks.call_of known s (behind + 2 + 2)) line small y fy
             (subst (λ n. Is image (behind + 2) (view n (unsigned x) d.dx d.bx (2 * l.top) (record_of acts) d.si p.limits.area d.overflow l.cells l.stack l.input l.told) t) (l.kept.words at within)

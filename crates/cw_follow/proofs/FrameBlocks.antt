@@ -11,7 +11,6 @@ use Rattle.cw_order.specs.OrderChanges.{put_address}
 use Rattle.cw_order.specs.OrderState.{OrderActivation, frame_word}
 use Rattle.cw_order.specs.OrderMachine.{unrefused}
 use Rattle.cw_tmpl.specs.Mnemonics.{ax, bx, slot, base_slot, field, load, store}
-use Rattle.cw_routines.specs.Ways.{HasAll}
 use Rattle.cw_follow.proofs.Rows.{Rows}
 use Rattle.cw_follow.proofs.Chains.{done}
 use Rattle.cw_follow.proofs.Straight.{LoadSlot, LoadWord, StoreField, straight}
@@ -19,6 +18,7 @@ use Rattle.cw_follow.proofs.Routines.{with_ax}
 use Rattle.cw_follow.proofs.Stacks.{level, record_of}
 use Rattle.cw_follow.proofs.Orders.{kept_stored, Landed, landed, Does, below_area, further}
 use Rattle.cw_follow.proofs.InBlocks.{chain}
+use Rattle.cw_follow.proofs.Standing.{HasAll, Image}
 
 -- a word of the frame of an activation, where it is one of the data area
 pub frame_word_inside : (area : ℕ) (a : OrderActivation) (acts : List OrderActivation) (n k : ℕ) → frame_word area (a ∷ acts) n ≡ Some k → (k ≡ a.frame_base + n) × (k < area)
@@ -28,7 +28,7 @@ frame_word_inside area a acts n k e = cases (nat_lt (a.frame_base + n) area) ref
     cases false is e = absurd (cc)
     cases true is e = let same : a.frame_base + n ≡ k = cc in let lt = ltb-true (a.frame_base + n) area is in (sym same, omega arith)
 
-module _ (rows : Rows) (prog : OrderProgram) (image : List ℕ) where
+module _ (rows : Rows) (prog : OrderProgram) (image : Image) where
   -- the word comes to AX
   fetches_frame : {q : Watched} {at : ℕ} (g to n : ℕ) (a : OrderActivation) (acts : List OrderActivation) (w : Words) → prog.limits.area ≤ 32768 → a.frame_base + n < prog.limits.area → at + 7 ≡ to
       → HasAll image at (load bx (slot base_slot) ∷ load ax (field (2 * n % 65536)) ∷ []) → Landed prog image at g false (a ∷ acts) w q

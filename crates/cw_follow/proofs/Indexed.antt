@@ -6,7 +6,7 @@ use Rattle.std.proofs.lemmas.Bool.Decides.{nat_tests}
 use Rattle.std.proofs.lemmas.Int.{ints}
 use Rattle.std.specs.Prelude.{nat_lt, int_le, ◌&&◌, if◌then◌else◌, min}
 use Rattle.cw_run86.specs.Processor.{Told}
-use Rattle.cw_run86.specs.Views.{View, Has, word_sum, word_difference, sum_overflows, difference_overflows, double_overflows}
+use Rattle.cw_run86.specs.Views.{View, word_sum, word_difference, sum_overflows, difference_overflows, double_overflows}
 use Rattle.cw_word.specs.FixedPoint.{FitsWord, fits_word}
 use Rattle.cw_word.specs.Word.{signed, unsigned}
 use Rattle.cw_unit.specs.Stop.{AddressRange, IndexRange}
@@ -27,7 +27,7 @@ use Rattle.cw_tmpl.specs.Pieces.{Filling, blanks}
 use Rattle.cw_tmpl.specs.Templates.{call_stop, index_added, index_loaded, indexes_between, from_lower, index_size, lower_size}
 use Rattle.cw_order.specs.OrderState.{OrderActivation}
 use Rattle.cw_follow.proofs.Watched.{Watched, watched_step}
-use Rattle.cw_follow.proofs.Standing.{HasPieces}
+use Rattle.cw_follow.proofs.Standing.{HasPieces, Has}
 use Rattle.cw_follow.proofs.Chains.{Is, IsCompared, Leads, view, compared, compared_more, jumps_below, passes_above, jump_below, pass_above, number, add_at, double as doubled, more, last, done}
 use Rattle.cw_i86.specs.declared.instr.Place.TheVariants as places
 use Rattle.cw_i86.specs.declared.instr.Rm.TheVariants as rms
@@ -378,7 +378,7 @@ module _ (c : Setting) (memory : List ℤ) (input output : List ℕ) where
         (straight c.rows (LoadSlot bx_register 0xFA (r + 1) twice ∷ Number si_register word ∷ []) {n = 0} kept.wrote (h.0, (h.1.0, tt)) ((base, slot_base, kept.piled.0.base_is ∙ base_is), (tt, tt)) s
         (λ q t. done {Target = Is c.image (at + 3 + 3) (view ax cx dx twice (2 * suc top) (record_of c.acts) word c.program.limits.area overflow cells stack left told)} t))
         (λ q t.
-        let added = act c.rows (Operate Add si_register (field (2 * n % 65536)) (InData k) (cells k)) refl (lit< tt) h.1.1.0 ((refl, refl, low, address), refl) t in
+        let added = act c.rows (Operate Add si_register (field (2 * n % 65536)) (InData k) (cells k)) (lit< tt) h.1.1.0 ((refl, refl, low, address), refl) t in
         last c.rows t kept.wrote (record {
           bx = twice;
           overflow = sum_overflows word (cells k);
@@ -399,7 +399,7 @@ module _ (c : Setting) (memory : List ℤ) (input output : List ℕ) where
           bx = bx;
           overflow = overflow;
           is = subst (λ b. Is c.image (at + 4) (view ax cx dx bx (2 * suc top) (record_of c.acts) b c.program.limits.area overflow cells stack left told) (watched_step p)) holds
-              (act c.rows (Into si_register (memory_at (places.Direct (value 2 f n (at + 4)))) (InData k) (cells k)) refl (lit< tt) h.0 ((refl, refl, low, index (at + 4)), refl) s).is;
+              (act c.rows (Into si_register (memory_at (places.Direct (value 2 f n (at + 4)))) (InData k) (cells k)) (lit< tt) h.0 ((refl, refl, low, index (at + 4)), refl) s).is;
         })
 
     -- and from a word of the frame of an activation
@@ -421,7 +421,7 @@ module _ (c : Setting) (memory : List ℤ) (input output : List ℕ) where
           bx = twice;
           overflow = overflow;
           is = subst (λ b. Is c.image (at + 3 + 4) (view ax cx dx twice (2 * suc top) (record_of c.acts) b c.program.limits.area overflow cells stack left told) (watched_step q)) holds
-              (act c.rows (Into si_register (field (2 * n % 65536)) (InData k) (cells k)) refl (lit< tt) h.1.0 ((refl, refl, low, address), refl) t).is;
+              (act c.rows (Into si_register (field (2 * n % 65536)) (InData k) (cells k)) (lit< tt) h.1.0 ((refl, refl, low, address), refl) t).is;
         }))
 
   module _ (value : Filling) (rest : List Coded) {p : Watched} {at ax cx dx bx : ℕ} {overflow : Bool} {cells stack : ℕ → ℕ} {left : List ℕ} {told : Told} (top word : ℕ) (small : word < 65536)
@@ -432,7 +432,7 @@ module _ (c : Setting) (memory : List ℤ) (input output : List ℕ) where
         last c.rows s kept.wrote (record {
           bx = bx;
           overflow = difference_overflows word n;
-          is = (act c.rows (OperateNumberOnto Subtract n (rms.Reg si_register) (InRegister si_register) word) refl (lit< tt) h (refl, tt, refl) s).is;
+          is = (act c.rows (OperateNumberOnto Subtract n (rms.Reg si_register) (InRegister si_register) word) (lit< tt) h (refl, tt, refl) s).is;
         })
 
     -- the lower bound is taken from it
@@ -462,7 +462,7 @@ module _ (c : Setting) (memory : List ℤ) (input output : List ℕ) where
 
     index_compared : IndexCompared (watched_step p)
     index_compared =
-        let t = act c.rows (OperateNumberOnto Compare count (rms.Reg si_register) (InRegister si_register) word) refl (lit< tt) h.0 (refl, tt, refl) s in
+        let t = act c.rows (OperateNumberOnto Compare count (rms.Reg si_register) (InRegister si_register) word) (lit< tt) h.0 (refl, tt, refl) s in
         record { is = t.is; flags = c.rows.as_compared word count p.processor.state.flags (watched_step p).processor t.flags }
 
     pub index_passes : (base k : ℕ) → value 1 family first (at + 4 + 2 + 5 + 4) ≡ base → word < count → word_sum word base ≡ k → k < 32768 → Leads output 4 p (Addressed (at + 4 + 2 + 5 + 4 + 2) ax cx dx k top cells stack left told)
@@ -477,7 +477,7 @@ module _ (c : Setting) (memory : List ℤ) (input output : List ℕ) where
         more c.rows {to = at + 4 + 2 + 5} {w = index_there over word} t.is kept.wrote (jump_below c.rows 5 lt h.1.0 t) (λ q u.
         more c.rows {to = at + 4 + 2 + 5 + 4} {w = index_there (sum_overflows word offset) k} u kept.wrote
         (subst (λ b. Is c.image (at + 4 + 2 + 5 + 4) (index_there (sum_overflows word offset) b) (watched_step q)) sum_is
-        (act c.rows (OperateNumberOnto Add offset (rms.Reg si_register) (InRegister si_register) word) refl (lit< tt) onward.0 (refl, tt, refl) u).is) (λ q v.
+        (act c.rows (OperateNumberOnto Add offset (rms.Reg si_register) (InRegister si_register) word) (lit< tt) onward.0 (refl, tt, refl) u).is) (λ q v.
         last c.rows v kept.wrote (record { bx = bx; overflow = double_overflows k; is = doubled c.rows 6 low onward.1.0 v }))))
 
     pub index_stops : (to : ℕ) (loaded : Bool) → line < 65536 → top < level c.acts → ((k : ℕ) → (k + value 7 bounds_entry 0 k) % 65536 ≡ stop_place IndexRange % 65536) → count ≤ word

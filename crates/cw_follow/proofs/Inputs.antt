@@ -5,7 +5,7 @@ use Rattle.std.proofs.lemmas.List.Elements.{All-head}
 use Rattle.cw_track.proofs.Paths.{join}
 use Rattle.cw_i86.specs.declared.instr.Instr.TheVariants as i86
 use Rattle.cw_run86.specs.Processor.{Told}
-use Rattle.cw_run86.specs.Views.{Has, put_word}
+use Rattle.cw_run86.specs.Views.{put_word}
 use Rattle.cw_word.specs.Word.{unsigned}
 use Rattle.cw_unit.specs.Words.{Operand, Word, read_byte}
 use Rattle.cw_unit.specs.Operation.{ReadByte, perform}
@@ -21,6 +21,7 @@ use Rattle.cw_follow.proofs.Orders.{Kept, kept_under, Landed, landed, Leading}
 use Rattle.cw_follow.proofs.Operands.{Setting, words, LandedWith, DoesHere}
 use Rattle.cw_follow.proofs.Called.{Returned, comes_back}
 use Rattle.cw_follow.proofs.Numbers.{unsigned_pos}
+use Rattle.cw_follow.proofs.Standing.{Has}
 
 module _ (c : Setting) (memory : List ℤ) (output : List ℕ) where
   -- what has been read is in AX
@@ -71,7 +72,7 @@ module _ (c : Setting) (memory : List ℤ) (output : List ℕ) where
           last c.rows at_n l.kept.wrote (to_place arrives_there (call c.rows by n back lt sp refl i at_n)) in
           let q = lead.reached in
           let read =
-          c.rows.routines.read (quiet_in q.places) c.image c.library (quiet_library lead.there.ignores) n back s.ax s.cx s.dx s.bx bp s.si area (flags_of q) l.cells stack' l.input l.told q.processor
+          c.rows.routines.read (quiet_in q.places) c.image.bytes c.library (quiet_library lead.there.ignores) n back s.ax s.cx s.dx s.bx bp s.si area (flags_of q) l.cells stack' l.input l.told q.processor
           input_fits lt' (put_at l.stack n back) small (arrives lead.there) in
           let within = read.within in
           let behind : Leads output read.spent q (Landed c.program c.image to c.g true c.acts (read_byte input (words operands memory input output))) =

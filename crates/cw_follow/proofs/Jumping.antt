@@ -20,7 +20,7 @@ use Rattle.cw_tmpl.specs.ReferenceCode.{mark_starts, names_of}
 use Rattle.cw_follow.specs.Placing.{base_of, label_place, definition_place}
 use Rattle.cw_tmpl.proofs.Sizes.{own_place, mark_start, jump_arrives}
 use Rattle.cw_follow.proofs.Watched.{Watched}
-use Rattle.cw_follow.proofs.Standing.{order_place}
+use Rattle.cw_follow.proofs.Standing.{order_place, Image}
 use Rattle.cw_follow.proofs.Chains.{Is, Leads, view, to_place, near, more}
 use Rattle.cw_follow.proofs.Routines.{leads_on}
 use Rattle.cw_follow.proofs.Stacks.{drop_all, record_of}
@@ -31,7 +31,7 @@ use Rattle.cw_follow.proofs.Calling.{left_for}
 use Rattle.cw_follow.proofs.Naming.{argument_stands, label_listed, label_start_is, mark_listed, start_is}
 use Rattle.cw_follow.proofs.Steps.{Follow, step_is, weight_is, stuck_here, Alone, code}
 
-pub landed_at : {p : OrderProgram} {image : List ℕ} {at to g : ℕ} {loaded : Bool} {acts : List OrderActivation} {w : Words} {q : Watched} → at % 65536 ≡ to % 65536
+pub landed_at : {p : OrderProgram} {image : Image} {at to g : ℕ} {loaded : Bool} {acts : List OrderActivation} {w : Words} {q : Watched} → at % 65536 ≡ to % 65536
     → Landed p image at g loaded acts w q → Landed p image to g loaded acts w q
 landed_at e l =
     let s = l.stacked in

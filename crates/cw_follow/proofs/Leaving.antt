@@ -5,13 +5,12 @@ use Rattle.cw_i86.specs.declared.instr.Imm.TheVariants as imm
 use Rattle.cw_i86.specs.declared.instr.Rm.TheVariants as rms
 use Rattle.cw_track.proofs.Paths.{join}
 use Rattle.cw_run86.specs.Processor.{Told}
-use Rattle.cw_run86.specs.Views.{Has, put_word, word_difference, difference_overflows}
+use Rattle.cw_run86.specs.Views.{put_word, word_difference, difference_overflows}
 use Rattle.cw_unit.specs.Words.{Control, LabelControl, Operand, Held, Words, with_operands}
 use Rattle.cw_order.specs.OrderProgram.{OrderProgram}
 use Rattle.cw_order.specs.OrderState.{OrderActivation, operand_words, stack_words, argument_behind}
 use Rattle.cw_order.specs.Activations.{segment_below, ControlStands}
 use Rattle.cw_tmpl.specs.Mnemonics.{slot, segment_slot, argument}
-use Rattle.cw_routines.specs.Ways.{HasAll}
 use Rattle.cw_follow.proofs.Watched.{Watched, watched_step, watched_machine}
 use Rattle.cw_follow.proofs.Rows.{Rows}
 use Rattle.cw_follow.proofs.Chains.{Is, Leads, view, seen, to_place, store_slot, jump_to, near, more, last, done}
@@ -19,6 +18,7 @@ use Rattle.cw_follow.proofs.Straight.{Number, Move, Push, LoadArgument, Differen
 use Rattle.cw_follow.proofs.Routines.{put_at, put_off}
 use Rattle.cw_follow.proofs.Stacks.{level, record_of, code_place, control_place, ArgumentIs, OwnerIs, StackIs, words_split, words_append, top_is, SameFrom, same_put, same_then, same_above, stack_same, argument_words, piled_below, control_small, owner_same, owner_above, drop_all}
 use Rattle.cw_follow.proofs.Orders.{Kept, kept_under, Landed, landed, CalledAt, Leading, further}
+use Rattle.cw_follow.proofs.Standing.{Has, HasAll, Image}
 
 -- one way after another
 pub past : {output : List ℕ} {q : Watched} {T U : Watched → Type 0} {m n : ℕ} → Leads output m q T → ((r : Watched) → T r → Leads output n r U) → Leads output (m + n) q U
@@ -36,7 +36,7 @@ pub argument_of : (prog : OrderProgram) {g : ℕ} {a : OrderActivation} {acts : 
     → Kept prog g (a ∷ acts) memory input output cells stack left told → argument_behind k a.arguments ≡ Some x → ArgumentIs prog acts stack (level (a ∷ acts) + 6 + k) x
 argument_of prog {a = a} {acts = acts} {stack = stack} k x kept is = argument_words prog acts stack (level (a ∷ acts) + 6) k a.arguments a.operands x kept.piled.1.0.operands is
 
-module _ (rows : Rows) (prog : OrderProgram) (image : List ℕ) where
+module _ (rows : Rows) (prog : OrderProgram) (image : Image) where
   -- ---- control arguments
 
   -- the record at work, and a place

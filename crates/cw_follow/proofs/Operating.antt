@@ -10,7 +10,7 @@ use Rattle.cw_i86.specs.declared.instr.Instr.{Instr}
 use Rattle.cw_i86.specs.declared.instr.Instr.TheVariants as i86
 use Rattle.cw_i86.specs.declared.instr.Rm.{Rm}
 use Rattle.cw_run86.specs.Processor.{Told}
-use Rattle.cw_run86.specs.Views.{View, Has, condition_of, product_low, product_overflows, word_sum, word_difference, sum_overflows, difference_overflows, with_number}
+use Rattle.cw_run86.specs.Views.{View, condition_of, product_low, product_overflows, word_sum, word_difference, sum_overflows, difference_overflows, with_number}
 use Rattle.cw_rows86.specs.Locations.{InRegister, InData, Denotes}
 use Rattle.cw_rows86.specs.Operations.{WordOperation, Add, Or, And, Subtract, Xor, Compare, number_of, operated_on, flags_after}
 use Rattle.cw_rows86.specs.Acts.{Operate, OperateNumber}
@@ -23,7 +23,6 @@ use Rattle.cw_order.specs.declared.order.Comparator.{Comparator}
 use Rattle.cw_order.specs.OrderChanges.{to_mark_if, comparison}
 use Rattle.cw_tmpl.specs.Library.{stop_place}
 use Rattle.cw_tmpl.specs.Templates.{opposite_of}
-use Rattle.cw_routines.specs.Ways.{HasAll}
 use Rattle.cw_follow.proofs.Watched.{Watched, watched_step}
 use Rattle.cw_follow.proofs.Chains.{Is, IsCompared, view, last}
 use Rattle.cw_follow.proofs.Acting.{act}
@@ -32,6 +31,7 @@ use Rattle.cw_follow.proofs.Orders.{Kept, Landed, Chooses, Check, later, further
 use Rattle.cw_follow.proofs.Operands.{Setting, words, DoesHere}
 use Rattle.cw_follow.proofs.Numbers.{sum_overflows_is, difference_overflows_is, sum_is, difference_is}
 use Rattle.cw_follow.proofs.Bits.{ands, ors, xors}
+use Rattle.cw_follow.proofs.Standing.{Has, HasAll}
 
 module _ (c : Setting) (memory : List ℤ) (input output : List ℕ) where
   -- The top operand x is in AX, and an operation of the arithmetic unit on AX and y is this instruction, of so many bytes.
@@ -80,7 +80,7 @@ module _ (c : Setting) (memory : List ℤ) (input output : List ℕ) where
         kept = l.kept;
         step =
             λ op h.
-            let a = act c.rows (OperateNumber op n) refl (lit< tt) h tt here in
+            let a = act c.rows (OperateNumber op n) (lit< tt) h tt here in
             (subst (λ m. Is c.image (at + 3) (operated_on op (InRegister 0) (unsigned x) m v) (watched_step p)) e a.is, (p.processor.state.flags, a.flags ∙ ap (λ m. flags_after op (unsigned x) m p.processor.state.flags) e));
       }
 

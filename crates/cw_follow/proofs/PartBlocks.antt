@@ -30,12 +30,11 @@ use Rattle.cw_tmpl.specs.declared.pieces.Coded.{Coded}
 use Rattle.cw_tmpl.specs.declared.pieces.Coded.TheVariants as pieces
 use Rattle.cw_tmpl.specs.Blocks.{address_orders, is_part, block_at}
 use Rattle.cw_tmpl.specs.Mnemonics.{slot, base_slot, field, load}
-use Rattle.cw_routines.specs.Ways.{HasAll}
 use Rattle.cw_tmpl.specs.Pieces.{Filling, blanks}
 use Rattle.cw_tmpl.specs.Templates.{shifted_up, part_taken, address_pieces, operate_place, change_place}
 use Rattle.cw_follow.specs.Placing.{base_of}
 use Rattle.cw_follow.proofs.Watched.{Watched}
-use Rattle.cw_follow.proofs.Standing.{HasPieces, order_place}
+use Rattle.cw_follow.proofs.Standing.{HasPieces, order_place, HasAll}
 use Rattle.cw_follow.proofs.Chains.{Is, Leads, view}
 use Rattle.cw_follow.proofs.Straight.{LoadSlot, straight}
 use Rattle.cw_follow.proofs.Routines.{with_ax, leads_on}

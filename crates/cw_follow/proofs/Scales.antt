@@ -16,7 +16,6 @@ use Rattle.cw_unit.specs.Words.{Operand, Words, Changed, put, put_if, put_value}
 use Rattle.cw_unit.specs.Operation.{Rescale, Multiply, perform}
 use Rattle.cw_order.specs.FittingWords.{OperandFits}
 use Rattle.cw_tmpl.specs.Library.{stop_place, product_place}
-use Rattle.cw_routines.specs.Ways.{HasAll}
 use Rattle.cw_routines.specs.Results.{Quiet, InLibrary, WordRoutine}
 use Rattle.cw_follow.proofs.Chains.{seen, done}
 use Rattle.cw_follow.proofs.Straight.{Pop, Number, Move, DownSigned, Product, straight}
@@ -29,6 +28,7 @@ use Rattle.cw_follow.proofs.Called.{Then, parts, by_routine}
 use Rattle.cw_follow.proofs.Numbers.{fits_tested}
 use Rattle.cw_follow.proofs.Facts.{fits_true, stays_out}
 use Rattle.cw_follow.proofs.Addresses.{CheckThen, check_of, times_code, test_place, product_overflows_is, product_is, times_tested, multiplied}
+use Rattle.cw_follow.proofs.Standing.{HasAll}
 
 up_is : (from to : ℕ) → from ≤ to → pos to -ℤ pos from ≡ pos (to - from)
 up_is from to le = omega (arith, ints)

@@ -17,7 +17,7 @@ use Rattle.cw_tmpl.specs.Templates.{template, order_size, times_if, product_star
 use Rattle.cw_tmpl.specs.ReferenceCode.{names_of}
 use Rattle.cw_tmpl.proofs.Sizes.{own_place}
 use Rattle.cw_follow.proofs.Watched.{Watched}
-use Rattle.cw_follow.proofs.Standing.{HasPieces}
+use Rattle.cw_follow.proofs.Standing.{HasPieces, Image}
 use Rattle.cw_follow.proofs.States.{Given, Sound}
 use Rattle.cw_follow.proofs.Facts.{not_below}
 use Rattle.cw_follow.proofs.Orders.{Check}
@@ -29,7 +29,7 @@ use Rattle.cw_follow.proofs.Divisions.{divides_up, divides_down}
 use Rattle.cw_follow.proofs.Steps.{Follow, Alone, step_is, does, by, calls, setting, cheap, has_code, line_fits, low_room, here, next, code, behind, begins_next, above}
 
 -- A multiplication by a number, whose code hangs on whether that is 32,768: where it stands, its parts do, and where it ends.
-module _ (image : List ℕ) (value : Filling) (begin entry line n : ℕ) where
+module _ (image : Image) (value : Filling) (begin entry line n : ℕ) where
   times_check : (b : Bool) → HasPieces image value begin (times_if b entry line n)
       → Then image begin (times_code b n) (λ k. Check image k (value 7 entry 0 (test_place b begin + 2 + 3)) line)
   times_check true h = h

@@ -7,7 +7,6 @@ use Rattle.std.specs.Prelude.{slice_get, bit_and, bit_or, bit_xor}
 use Rattle.std.specs.Int.Bits.{xor_self}
 use Rattle.cw_i86.specs.declared.instr.Instr.TheVariants as i86
 use Rattle.cw_i86.specs.declared.instr.Imm.TheVariants as imm
-use Rattle.cw_run86.specs.Views.{Has}
 use Rattle.cw_word.specs.BitField.{unsigned_field}
 use Rattle.cw_word.specs.Word.{signed, unsigned, word_difference}
 use Rattle.cw_unit.specs.declared.unit.LogicOp.TheVariants as logic
@@ -34,6 +33,7 @@ use Rattle.cw_follow.proofs.Shifts.{part_steps, without_steps}
 use Rattle.cw_follow.proofs.Addresses.{indexes_less, in_areas, BoundsCode, bounds_kept, bounds_from_zero}
 use Rattle.cw_follow.proofs.Inputs.{reads}
 use Rattle.cw_follow.proofs.Steps.{Follow, Alone, leads_to, onward, few_segments, order_is, step_is, sound_at, does, tells, by, calls, setting, cheap, has_code, line_fits, low_room, here, next, code, behind, begins_next, silent}
+use Rattle.cw_follow.proofs.Standing.{Has}
 
 module _ (known : Given) where
   open known use {rows, p, image, all, coded, few, low}
@@ -103,7 +103,7 @@ module _ (known : Given) where
         let o = order.Save in
         let goes : step p (at g place true acts w Running) ≡ at g (place + 1) false acts w Running = step_is known s (Some o) e in
         leads_to known g place true acts w (at g (place + 1) false acts w Running) 1 goes (cheap known s o 1 (lit≤ tt) e)
-        (onward known (λ r l. inl (sound_at known s (place + 1) false w r (begins_next known s a o e) s.room goes l))
+        (onward known (λ r l. inl (sound_at known s (place + 1) false w r (begins_next known s a o e) s.room goes l, refl))
         (saves rows p image g acts (next known s a) w.operands w.memory w.input w.output (behind known s a o e) (low_room known s) (code known s a o e).0 a.landed))
 
     pub drop_follows : slice_get s.orders.list place ≡ Some order.Drop → Follow known (at g place true acts w Running) q
