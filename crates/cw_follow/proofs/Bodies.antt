@@ -27,8 +27,8 @@ use Rattle.cw_follow.proofs.Chains.{Is, Leads, view, seen, to_place, number, cal
 use Rattle.cw_follow.proofs.Routines.{Stacked, quiet_in, quiet_library, flags_of, arrives, returned, lifted, ends, leads_on, put_at}
 use Rattle.cw_follow.proofs.Stacks.{record_of, top_is}
 use Rattle.cw_follow.proofs.Orders.{Landed, further}
-use Rattle.cw_follow.proofs.States.{Given, Sound, Matches, never_on, not_stuck}
-use Rattle.cw_follow.proofs.Steps.{Follow, leads_to, step_is, weight_is, fits_next, stands_next, Alone, code, under, under_low, under_is}
+use Rattle.cw_follow.proofs.States.{Given, Sound, Arrived, never_on, not_stuck}
+use Rattle.cw_follow.proofs.Steps.{Arrives, Follow, leads_to, step_is, weight_is, fits_next, stands_next, Alone, code, under, under_low, under_is}
 
 -- a body begins, with the base record made and no operands
 pub record Begun (image : Image) (at segment calls frames area : ℕ) (cells : ℕ → ℕ) (input : List ℕ) (told : Told) (p : Watched) : Type 0 where
@@ -151,9 +151,9 @@ module _ (known : Given) where
         let base = base_of p (g + 1) in
         let to : n ≡ base = st.fills.next_is (here + 3) ∙ all.goes_on g s.orders u s.unit (ap (slice_get p.units) same ∙ is) ∙ ap (base_of p) same in
         let su = all.stands (g + 1) u is in
-        let within = su.entry.0.within in
+        let within = su.entry.0.there.within in
         let fits = r.is.sees.fits in
-        let short : base + 3 ≤ length image = within in
+        let short : base + 3 ≤ length image.bytes = within in
         let below : base ≡ base % 65536 = omega arith in
         let next_state = at (g + 1) u.entry false [] (with_operands w []) Running in
         let goes : step p (at g place false acts w Running) ≡ next_state = step_is known s (Some order.NextBody) e ∙ ap (λ x. end_body p g place false x w) none ∙ ap (λ x. next_body x g place false w) is in
@@ -163,7 +163,7 @@ module _ (known : Given) where
         (further 13 (lit≤ tt) (lit< tt)
         (more rows {to = here + 3} {w = view n r.cx r.dx r.bx (2 * l.top) (record_of acts) r.si p.limits.area r.overflow l.cells l.stack l.input l.told} r.is k.wrote (number rows 0 n i.0 r.is) (λ q t.
         more rows {to = base} {w = view n r.cx r.dx r.bx (2 * l.top) (record_of acts) r.si p.limits.area r.overflow l.cells l.stack l.input l.told} t k.wrote (jump_to rows 0 base (to ∙ below) i.1.0 t) (λ q t.
-        subst (λ x. Leads x 11 q (Matches p image next_state)) k.wrote
+        subst (λ x. Leads x 11 q (Arrives known next_state)) k.wrote
         (leads_on (λ r b. inl (begins goes is b))
         (enters rows p (g + 1) su.next_place su.value base n r.cx r.dx r.bx (record_of acts) r.si p.limits.area (under l.top) r.overflow l.cells l.stack l.input l.told
         all.library su.fills su.entry (few_next u is) (under_low l.top most) low coded.frames coded.depth (2 * l.top) (under_is l.top most) t))))))
@@ -173,14 +173,14 @@ module _ (known : Given) where
 
         begins : {r : Watched} → step p (at g place false acts w Running) ≡ at (g + 1) u.entry false [] (with_operands w []) Running → slice_get p.units (g + 1) ≡ Some u
             → Begun image (base_of p (g + 1) + 11) (suc (g + 1)) p.limits.depth p.limits.frames p.limits.area a.landed.cells a.landed.input a.landed.told r
-            → Sound p image (g + 1) u.entry false [] (with_operands w []) r
+            → Arrived p image (g + 1) u.entry false [] (with_operands w []) r
         begins {r} goes is b =
             let k = a.landed.kept in
             let first : u.entry ≡ 0 = coded.entries (g + 1) u is in
             let place_is : base_of p (g + 1) + 11 ≡ order_place (base_of p (g + 1)) u.list 0 = omega arith in
             let there : base_of p (g + 1) + 11 ≡ order_place (base_of p (g + 1)) u.list u.entry = place_is ∙ ap (order_place (base_of p (g + 1)) u.list) (sym first) in
             let fit = (fits_next known s (at (g + 1) u.entry false [] (with_operands w []) Running) goes).words in
-            record {
+            (record {
               orders = u;
               unit = is;
               from = u.entry;
@@ -203,7 +203,7 @@ module _ (known : Given) where
               fits = fit;
               acts_fit = All-nil ActivationFits;
               never = never_on p (at g place false acts w Running) (at (g + 1) u.entry false [] (with_operands w []) Running) goes s.never;
-            }
+            }, refl)
 
     pub ends_or_not : slice_get s.orders.list place ≡ Some order.NextBody → (others : List OrderActivation) → acts ≡ others → Follow known (at g place false acts w Running) q
     ends_or_not e [] is = ends_body e is (slice_get p.units (g + 1)) refl

@@ -54,7 +54,7 @@ pub record Returned (image : Image) (to sp bp area : ℕ) (cells stack : ℕ →
 pub comes_back : Rows
     → {image : Image} {at n to sp bp area ax cx dx bx top record_at si di : ℕ} {overflow : Bool} {cells stack cells' stack' : ℕ → ℕ} {left left' output : List ℕ} {told told' : Told} {Answers : ℕ → Flags → Type 0} {p : Watched}
     → Is image at (view ax cx dx bx top record_at si di overflow cells stack left told) p
-    → Goes (Quiet (quiet_in p.places)) image output n p.processor (Back image to sp bp area cells' stack' left' told' Answers)
+    → Goes (Quiet (quiet_in p.places)) image.bytes output n p.processor (Back image.bytes to sp bp area cells' stack' left' told' Answers)
     → Leads output n p (Returned image to sp bp area cells' stack' left' told' Answers)
 comes_back rows {p = p} s l =
     lifted rows s.overlooks s.silent l (λ q b. record { ax = b.ax; cx = b.cx; dx = b.dx; bx = b.bx; si = b.si; flags = b.flags; is = returned p s.ignores b.is; answers = b.answers })

@@ -210,7 +210,7 @@ module _ (known : Given) where
           matched =
               subst (λ t. MatchesWatched t (processor_step q)) (sym goes)
               (inl (sound_at known s (place + 1) loaded w (watch (processor_step q)) (begins_next known s a (order.Start n) e) s.room goes
-              (idles rows p image g acts places p.limits.area [] to loaded w places_stand.ignores refl (behind known s a (order.Start n) e) here.0 a.landed), refl));
+              (idles rows p image g acts places p.limits.area [] to loaded w places_stand.ignores refl (behind known s a (order.Start n) e) here.0 a.landed)));
           progress = inl (lit< tt);
         }
     follow_order true s a (order.Return n true) e = come_back known acts s a n e

@@ -49,7 +49,7 @@ module _ (c : Setting) (memory : List ℤ) (input output : List ℕ) where
   divides : {p : Watched} {at : ℕ} (to place bound count none by stop line : ℕ) (s : ℤ) (operands : List Operand) → line < 65536 → at + 25 ≡ to
       → (at + 2 + 1 + 2 + 2 + 3 + none) % 65536 ≡ stop_place ZeroDivisor % 65536 → (at + 2 + 1 + 2 + 2 + 3 + 2 + 3 + 3 + by) % 65536 ≡ place % 65536
       → (at + 2 + 1 + 2 + 2 + 3 + 2 + 3 + 3 + 2 + 3 + stop) % 65536 ≡ stop_place Overflow % 65536
-      → ((x y : ℤ) → FitsWord x → FitsWord y → y ≢ pos 0 → (quiet : ℕ → Bool) → InLibrary quiet → WordRoutine (Quiet quiet) c.image place bound count x y (scaled_quotient x y s))
+      → ((x y : ℤ) → FitsWord x → FitsWord y → y ≢ pos 0 → (quiet : ℕ → Bool) → InLibrary quiet → WordRoutine (Quiet quiet) c.image.bytes place bound count x y (scaled_quotient x y s))
       → operand_words operands < level c.acts → All OperandFits operands → DivideCode at none by stop count line → LandedWith c memory input output at true operands p
       → DoesHere c memory input output (20 + bound) to true line p (perform c.program.limits.area (Divide s) (words operands memory input output))
   divides {p} {at} to place bound count none by stop line s operands small e arrives0 arrives1 arrives2 law roomy fits i =
@@ -117,7 +117,7 @@ module _ (c : Setting) (memory : List ℤ) (input output : List ℕ) where
       → DoesHere c memory input output 46 to true line p (perform c.program.limits.area (Divide (pos k)) (words operands memory input output))
   divides_up to none by stop line k operands small e few arrives0 arrives1 arrives2 roomy fits i l =
       divides to quotient_up_place 26 k none by stop line (pos k) operands small e arrives0 arrives1 arrives2
-      (λ x y fx fy ne quiet in_library. c.rows.routines.quotient_up quiet c.image c.library in_library x y k fx fy ne few) roomy fits i l
+      (λ x y fx fy ne quiet in_library. c.rows.routines.quotient_up quiet c.image.bytes c.library in_library x y k fx fy ne few) roomy fits i l
 
   pub divides_down : {p : Watched} {at : ℕ} (to none by stop line j : ℕ) (operands : List Operand) → line < 65536 → at + 25 ≡ to → j < 15
       → (at + 2 + 1 + 2 + 2 + 3 + none) % 65536 ≡ stop_place ZeroDivisor % 65536 → (at + 2 + 1 + 2 + 2 + 3 + 2 + 3 + 3 + by) % 65536 ≡ quotient_down_place % 65536
@@ -128,5 +128,5 @@ module _ (c : Setting) (memory : List ℤ) (input output : List ℕ) where
       let count : suc j ≡ j + 1 = omega arith in
       divides to quotient_down_place 24 (j + 1) none by stop line (negsuc j) operands small e arrives0 arrives1 arrives2
       (λ x y fx fy ne quiet in_library.
-      subst (λ n. WordRoutine (Quiet quiet) c.image quotient_down_place 24 n x y (scaled_quotient x y (negsuc j))) count
-      (c.rows.routines.quotient_down quiet c.image c.library in_library x y j fx fy ne few)) roomy fits i l
+      subst (λ n. WordRoutine (Quiet quiet) c.image.bytes quotient_down_place 24 n x y (scaled_quotient x y (negsuc j))) count
+      (c.rows.routines.quotient_down quiet c.image.bytes c.library in_library x y j fx fy ne few)) roomy fits i l

@@ -51,7 +51,7 @@ module _ (c : Setting) (memory : List ℤ) (input output : List ℕ) where
             wrote = r.kept.wrote;
             U = _;
             law =
-                subst (λ b. Within (Quiet (quiet_in q.places)) c.image r.told.output 15 q.processor (Back c.image (if b then back else (back + 3)) (2 * suc (suc r.top)) (record_of c.acts) c.program.limits.area r.cells r.stack r.left r.told (λ ax f. Unit {0}))) is
+                subst (λ b. Within (Quiet (quiet_in q.places)) c.image.bytes r.told.output 15 q.processor (Back c.image.bytes (if b then back else (back + 3)) (2 * suc (suc r.top)) (record_of c.acts) c.program.limits.area r.cells r.stack r.left r.told (λ ax f. Unit {0}))) is
                 (c.rows.routines.exhausted (quiet_in q.places) c.image.bytes c.library (quiet_library r.is.ignores) c.program.limits.area n (record_of c.acts) r.top back r.cx l.stacked.dx l.stacked.bx r.si x
                 (flags_of q) r.cells r.stack r.left r.told memory q.processor
                 fx within (holds c memory input output all r.kept) (omega arith) r.way r.under.0 (omega arith) (arrives (with_ax (unsigned_pos n (omega arith)) r.is)));

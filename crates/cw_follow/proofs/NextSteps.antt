@@ -215,19 +215,19 @@ module _ (c : Setting) (memory : List ℤ) (input output : List ℕ) where
         reaches c memory input output next_step_place by (at + 3) operands l.top room there (omega arith) i.0 l.under l.kept l.is
 
     law : (x : Way) → chosen ≡ x → (q : Watched) (r : Called q)
-        → Within (Quiet (quiet_in q.places)) c.image r.told.output 28 q.processor
-        (GoesOn c.image r.told.output c.program.limits.area (at + 3) (2 * suc r.top) (record_of c.acts) (c.g + 1) line r.stack r.left r.told x)
+        → Within (Quiet (quiet_in q.places)) c.image.bytes r.told.output 28 q.processor
+        (GoesOn c.image.bytes r.told.output c.program.limits.area (at + 3) (2 * suc r.top) (record_of c.acts) (c.g + 1) line r.stack r.left r.told x)
     law x is q r =
         let low = r.low in
         subst
-        (λ y. Within (Quiet (quiet_in q.places)) c.image r.told.output 28 q.processor
-        (GoesOn c.image r.told.output c.program.limits.area (at + 3) (2 * suc r.top) (record_of c.acts) (c.g + 1) line r.stack r.left r.told y)) is
+        (λ y. Within (Quiet (quiet_in q.places)) c.image.bytes r.told.output 28 q.processor
+        (GoesOn c.image.bytes r.told.output c.program.limits.area (at + 3) (2 * suc r.top) (record_of c.acts) (c.g + 1) line r.stack r.left r.told y)) is
         (c.rows.routines.next_step (quiet_in q.places) c.image.bytes c.library (quiet_library r.is.ignores) c.program.limits.area a m line (record_of c.acts) r.top (level c.acts + 3) (c.g + 1) (at + 3) l.ax
         r.cx l.dx r.si (flags_of q) r.cells r.stack r.left r.told (words operands memory input output) q.processor inside (holds_memory c memory input output all r.kept) line_there small (omega arith) r.way
         back_small (tells c memory input output r.kept) (arrives r.is))
 
     returns : (b : Bool) (v : Words) → ((q : Watched) (r : Called q)
-        → Within (Quiet (quiet_in q.places)) c.image r.told.output 28 q.processor (Answered c.image c.program.limits.area (at + 3) (2 * suc r.top) (record_of c.acts) r.stack r.left r.told v (AtMost b)))
+        → Within (Quiet (quiet_in q.places)) c.image.bytes r.told.output 28 q.processor (Answered c.image.bytes c.program.limits.area (at + 3) (2 * suc r.top) (record_of c.acts) r.stack r.left r.told v (AtMost b)))
         → Leading output 29 p (Turned (at + 3) b v.memory operands)
     returns b v each =
         runs c memory input output 0 28 29 (lit≤ tt) called (λ q r.

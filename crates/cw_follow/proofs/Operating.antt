@@ -86,7 +86,7 @@ module _ (c : Setting) (memory : List ℤ) (input output : List ℕ) where
 
   -- a word of the data area
   pub word_named : {p : Watched} {at ax cx dx bx si top : ℕ} {overflow : Bool} {cells stack : ℕ → ℕ} {left : List ℕ} {told : Told} (size k : ℕ) (rm : Rm) (y x : ℤ) (rest : List Operand)
-      → ax ≡ unsigned x → cells k ≡ unsigned y → Denotes c.image (ax ∷ cx ∷ dx ∷ bx ∷ 2 * top ∷ record_of c.acts ∷ si ∷ c.program.limits.area ∷ []) rm (InData k)
+      → ax ≡ unsigned x → cells k ≡ unsigned y → Denotes c.image.bytes (ax ∷ cx ∷ dx ∷ bx ∷ 2 * top ∷ record_of c.acts ∷ si ∷ c.program.limits.area ∷ []) rm (InData k)
       → ((op : WordOperation) → length (bytes_of (i86.AluRm (number_of op) true true 0 rm)) ≡ size) → 0 < size → 0 < top
       → StackIs c.program c.acts stack top rest → Kept c.program c.g c.acts memory input output cells stack left told
       → Is c.image at (view ax cx dx bx (2 * top) (record_of c.acts) si c.program.limits.area overflow cells stack left told) p
@@ -94,7 +94,7 @@ module _ (c : Setting) (memory : List ℤ) (input output : List ℕ) where
   word_named {p} {at} {ax} {cx} {dx} {bx} {si} {top} {overflow} {cells} {stack} {left} {told} size k rm y x rest ea ey denotes long lt some under kept s =
       let V : ℕ → View = λ a. view a cx dx bx (2 * top) (record_of c.acts) si c.program.limits.area overflow cells stack left told in
       let here : Is c.image at (V (unsigned x)) p = subst (λ a. Is c.image at (V a) p) ea s in
-      let named = subst (λ a. Denotes c.image (a ∷ cx ∷ dx ∷ bx ∷ 2 * top ∷ record_of c.acts ∷ si ∷ c.program.limits.area ∷ []) rm (InData k)) ea denotes in
+      let named = subst (λ a. Denotes c.image.bytes (a ∷ cx ∷ dx ∷ bx ∷ 2 * top ∷ record_of c.acts ∷ si ∷ c.program.limits.area ∷ []) rm (InData k)) ea denotes in
       record {
         cx = cx;
         dx = dx;
@@ -113,7 +113,7 @@ module _ (c : Setting) (memory : List ℤ) (input output : List ℕ) where
         step =
             λ op h.
             let bytes : 0 < length (bytes_of (i86.AluRm (number_of op) true true 0 rm)) = subst (λ n. 0 < n) (sym (long op)) lt in
-            let a = act c.rows (Operate op 0 rm (InData k) (unsigned y)) refl bytes h (named, ey) here in (
+            let a = act c.rows (Operate op 0 rm (InData k) (unsigned y)) bytes h (named, ey) here in (
               subst (λ n. Is c.image (at + n) (operated_on op (InRegister 0) (unsigned x) (unsigned y) (V (unsigned x))) (watched_step p)) (long op) a.is,
               (p.processor.state.flags, a.flags),
             );

@@ -36,7 +36,7 @@ use Rattle.cw_follow.proofs.Chains.{IsAt, Is, over_is, IsCompared, Leads, at_wor
 use Rattle.cw_follow.proofs.Routines.{HasLine, StackedAt, Stacked, Over, stops, put_at, put_off, with_ax}
 use Rattle.cw_follow.proofs.Stacks.{level, record_of, code_place, StackIs, OperandsAre, Piled, top_is, SameFrom, same_put, stack_pushed, piled_same}
 use Rattle.cw_follow.proofs.Numbers.{sum_overflows_is, difference_overflows_is, negative_overflows_is, sum_is, difference_is, negative_is, opposite_is, fits_tested, unsigned_pos}
-use Rattle.cw_follow.proofs.Standing.{Has, HasWord, HasAll, Image, Ignores}
+use Rattle.cw_follow.proofs.Standing.{Has, HasWord, HasAll, Image, Ignores, HasAt}
 
 -- ---- what is kept from order to order
 
@@ -311,19 +311,19 @@ module _ (rows : Rows) (prog : OrderProgram) (image : Image) (g : ℕ) (acts : L
   -- ---- words that are put
 
   -- by one instruction a word comes into AX, which is free
-  pub puts : {p : Watched} {at : ℕ} (to x : ℕ) (z : ℤ) (w : Words) → x ≡ unsigned z → (l : Landed prog image at g false acts w p)
-      → ((q : Watched) (ax cx dx bx sp si di : ℕ) (overflow : Bool) (stack : ℕ → ℕ) → Is image at (view ax cx dx bx sp (record_of acts) si di overflow l.cells stack l.input l.told) q → Is image to (view x cx dx bx sp (record_of acts) si di overflow l.cells stack l.input l.told) (watched_step q))
+  pub puts : {p : Watched} {first : Bool} {at : ℕ} (to x : ℕ) (z : ℤ) (w : Words) → x ≡ unsigned z → (l : LandedAt first prog image at g false acts w p)
+      → ((q : Watched) (ax cx dx bx sp si di : ℕ) (overflow : Bool) (stack : ℕ → ℕ) → IsAt first image at (view ax cx dx bx sp (record_of acts) si di overflow l.cells stack l.input l.told) q → Is image to (view x cx dx bx sp (record_of acts) si di overflow l.cells stack l.input l.told) (watched_step q))
       → Leading w.output 1 p (Landed prog image to g true acts (put z w))
-  puts {p} to x z w value l brings =
+  puts {p} {first} to x z w value l brings =
       let s = l.stacked in
       further 1 (lit≤ tt) (lit< tt)
       (last rows s.is l.kept.wrote (landed true to l.top (Word z ∷ w.operands) w.memory w.input w.output refl (value, l.operands) l.kept (brings p s.ax s.cx s.dx s.bx (2 * l.top) s.si prog.limits.area s.overflow l.stack s.is)))
 
   -- a word of the data area
-  pub fetches : {p : Watched} {at : ℕ} (to offset n line : ℕ) (w : Words) → prog.limits.area ≤ 32768 → n < 65536 → offset ≡ 2 * n % 65536 → at + 3 ≡ to
-      → Has image at (i86.MovAcc false true false offset) → Landed prog image at g false acts w p
+  pub fetches : {p : Watched} {first : Bool} {at : ℕ} (to offset n line : ℕ) (w : Words) → prog.limits.area ≤ 32768 → n < 65536 → offset ≡ 2 * n % 65536 → at + 3 ≡ to
+      → HasAt first image at (i86.MovAcc false true false offset) → LandedAt first prog image at g false acts w p
       → Does prog image 1 to g true line acts w.output p (unrefused (perform prog.limits.area (Fetch None) (put (signed n) w)))
-  fetches {p} {at} to offset n line w low small there e i l = cases (is_below (signed n) prog.limits.area) refl
+  fetches {p} {first} {at} to offset n line w low small there e i l = cases (is_below (signed n) prog.limits.area) refl
     where
       cases : (b : Bool) → is_below (signed n) prog.limits.area ≡ b → Does prog image 1 to g true line acts w.output p (unrefused (through b (λ i v. Changed (put (word_at v.memory i) v)) (signed n) w))
       cases false is = tt
@@ -590,7 +590,7 @@ module _ (rows : Rows) (prog : OrderProgram) (image : Image) (g : ℕ) (acts : L
 
   -- ---- jumps
 
-  pub jumps : {p : Watched} {at : ℕ} (to by : ℕ) (loaded : Bool) (w : Words) → (at + 3 + by) % 65536 ≡ to % 65536 → Has image at (i86.Jump by) → Landed prog image at g loaded acts w p
+  pub jumps : {p : Watched} {first : Bool} {at : ℕ} (to by : ℕ) (loaded : Bool) (w : Words) → (at + 3 + by) % 65536 ≡ to % 65536 → HasAt first image at (i86.Jump by) → LandedAt first prog image at g loaded acts w p
       → Leading w.output 1 p (Landed prog image to g loaded acts w)
   jumps to by loaded w arrives i l =
       let s = l.stacked in

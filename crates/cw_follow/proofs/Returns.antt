@@ -23,11 +23,11 @@ use Rattle.cw_follow.proofs.Watched.{Watched}
 use Rattle.cw_follow.proofs.Rows.{Rows}
 use Rattle.cw_follow.proofs.Acting.{act}
 use Rattle.cw_follow.proofs.Chains.{Is, Leads, view, seen, to_place, load_argument, store_at, more, last, done}
-use Rattle.cw_follow.proofs.Straight.{LoadArgument, LoadSlot, StoreField, SumNumber, straight}
+use Rattle.cw_follow.proofs.Straight.{LoadArgument, LoadSlot, StoreField, SumNumber, straight, straight_from}
 use Rattle.cw_follow.proofs.Routines.{quiet_in, quiet_all, there_all, flags_of, arrives, returned, lifted, leads_on, with_ax}
 use Rattle.cw_follow.proofs.Stacks.{start_small, level, record_of, code_place, StackIs, top_is, behind_arguments, argument_words}
-use Rattle.cw_follow.proofs.Orders.{Kept, kept_stored, Landed, landed, Leading, Does, further}
-use Rattle.cw_follow.proofs.Standing.{HasAll, Image}
+use Rattle.cw_follow.proofs.Orders.{Kept, kept_stored, Landed, landed, Leading, Does, further, LandedAt}
+use Rattle.cw_follow.proofs.Standing.{HasAll, Image, HasFrom}
 
 module _ (rows : Rows) (prog : OrderProgram) (image : Image) where
   -- ---- the way back
@@ -89,10 +89,10 @@ module _ (rows : Rows) (prog : OrderProgram) (image : Image) where
 
   -- ---- the words of the frame
 
-  pub frame_homes : {q : Watched} {at : ℕ} (g to n : ℕ) (a : OrderActivation) (acts : List OrderActivation) (z : ℤ) (w : Words) → prog.limits.area ≤ 32768 → a.frame_base + n < prog.limits.area → at + 8 ≡ to → a.frame_base + n ≡ unsigned z
-      → HasAll image at (i86.Mov true true 0 (slot base_slot) ∷ shift_down_once 0 ∷ with_number 0 n ∷ []) → Landed prog image at g false (a ∷ acts) w q
+  pub frame_homes : {q : Watched} {first : Bool} {at : ℕ} (g to n : ℕ) (a : OrderActivation) (acts : List OrderActivation) (z : ℤ) (w : Words) → prog.limits.area ≤ 32768 → a.frame_base + n < prog.limits.area → at + 8 ≡ to → a.frame_base + n ≡ unsigned z
+      → HasFrom first image at (i86.Mov true true 0 (slot base_slot) ∷ shift_down_once 0 ∷ with_number 0 n ∷ []) → LandedAt first prog image at g false (a ∷ acts) w q
       → Leading w.output 3 q (Landed prog image to g true (a ∷ acts) (put z w))
-  frame_homes {q} {at} g to n a acts z w low_area inside e value i l =
+  frame_homes {q} {first} {at} g to n a acts z w low_area inside e value i l =
       let s = l.stacked in
       let k = l.kept in
       let r = level (a ∷ acts) in
@@ -103,7 +103,7 @@ module _ (rows : Rows) (prog : OrderProgram) (image : Image) where
       let sum : word_sum (twice / 2 ^ 1) n ≡ unsigned z = omega (arith, value) in
       let end : at + 3 + 2 + 3 ≡ to = omega arith in
       further 3 (lit≤ tt) (lit< tt)
-      (straight rows (LoadSlot 0 0xFA (r + 1) twice ∷ []) {n = 2} k.wrote (i.0, tt) ((low, slot_base, k.piled.0.base_is), tt) s.is (λ q u.
+      (straight_from rows (LoadSlot 0 0xFA (r + 1) twice) [] {n = 2} k.wrote (i.0, tt) ((low, slot_base, k.piled.0.base_is), tt) s.is (λ q u.
       more rows u k.wrote (act rows (Shift Down false (rms.Reg 0) (InRegister 0) twice) (lit< tt) i.1.0 ((refl, tt, refl), small) u).is (λ q u.
       straight rows (SumNumber n ∷ []) {n = 0} k.wrote (i.1.1.0, tt) (tt, tt) u (λ q u.
       done (landed rows prog image g (a ∷ acts) true to l.top (Word z ∷ w.operands) w.memory w.input w.output end (sum, l.operands) k u)))))

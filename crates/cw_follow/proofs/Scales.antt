@@ -242,11 +242,11 @@ module _ (c : Setting) (memory : List ℤ) (input output : List ℕ) where
           let w = words rest memory input output in
           let count : suc j ≡ j + 1 = omega arith in
           let e' : at + 1 + 13 ≡ to = omega arith in
-          let law : (quiet : ℕ → Bool) → InLibrary quiet → WordRoutine (Quiet quiet) c.image product_place 15 (j + 1) y x z =
+          let law : (quiet : ℕ → Bool) → InLibrary quiet → WordRoutine (Quiet quiet) c.image.bytes product_place 15 (j + 1) y x z =
           λ quiet in_library.
-          subst (λ n. WordRoutine (Quiet quiet) c.image product_place 15 n y x z) count
-          (subst (λ v. WordRoutine (Quiet quiet) c.image product_place 15 (suc j) y x (floor_scaled v (negsuc j))) (other_way x y)
-          (c.rows.routines.product quiet c.image c.library in_library y x j fy fx few)) in
+          subst (λ n. WordRoutine (Quiet quiet) c.image.bytes product_place 15 n y x z) count
+          (subst (λ v. WordRoutine (Quiet quiet) c.image.bytes product_place 15 (suc j) y x (floor_scaled v (negsuc j))) (other_way x y)
+          (c.rows.routines.product quiet c.image.bytes c.library in_library y x j fy fx few)) in
           later c.program c.image 31 to c.g true line c.acts 1 32 (put_value z w) (lit≤ tt)
           (straight c.rows (Pop 3 (suc l.top) (unsigned x) ∷ []) l.kept.wrote (i.0, tt) (l.next, tt) l.is (λ q t. done t))
           (λ q t. by_routine c memory input output to product_place 15 (j + 1) by stop line (suc l.top) y x z rest e' arrives1 arrives2 small l.low law i.1 l.under l.kept t)

@@ -199,7 +199,7 @@ module _ (rows : Rows) (image : Image) (value : Filling) (to : ℕ) (output : Li
 
 -- The bits of a word in which AX differs are turned, of those that a mask has. Two instructions name the word, whatever AX holds.
 pub turns : Rows → {image : Image} {p : Watched} {output : List ℕ} {at a cx dx bx sp bp si di : ℕ} {overflow : Bool} {cells stack : ℕ → ℕ} {input : List ℕ} {told : Told} (size k mask m : ℕ) (reads writes : Rm) → told.output ≡ output → cells k ≡ m
-    → ((x : ℕ) → Denotes image (x ∷ cx ∷ dx ∷ bx ∷ sp ∷ bp ∷ si ∷ di ∷ []) reads (InData k)) → ((x : ℕ) → Denotes image (x ∷ cx ∷ dx ∷ bx ∷ sp ∷ bp ∷ si ∷ di ∷ []) writes (InData k))
+    → ((x : ℕ) → Denotes image.bytes (x ∷ cx ∷ dx ∷ bx ∷ sp ∷ bp ∷ si ∷ di ∷ []) reads (InData k)) → ((x : ℕ) → Denotes image.bytes (x ∷ cx ∷ dx ∷ bx ∷ sp ∷ bp ∷ si ∷ di ∷ []) writes (InData k))
     → length (bytes_of (i86.AluRm 6 true true 0 reads)) ≡ size → length (bytes_of (i86.AluRm 6 true false 0 writes)) ≡ size → 0 < size
     → Has image at (i86.AluRm 6 true true 0 reads) → Has image (at + size) (with_number 4 mask) → Has image (at + size + 3) (i86.AluRm 6 true false 0 writes)
     → Is image at (view a cx dx bx sp bp si di overflow cells stack input told) p
@@ -211,8 +211,8 @@ turns rows {image} {p} {output} {at} {a} {cx} {dx} {bx} {sp} {bp} {si} {di} {ove
     let bytes' : 0 < length (bytes_of (i86.AluRm 6 true false 0 writes)) = subst (λ n. 0 < n) (sym long') some in
     let V : ℕ → Bool → (ℕ → ℕ) → View = λ w o c. view w cx dx bx sp bp si di o c stack input told in
     let first : Is image (at + size) (V x false cells) (watched_step p) =
-    subst (λ n. Is image (at + n) (V x false cells) (watched_step p)) long (act rows (Operate Xor 0 reads (InData k) m) refl bytes h1 (is_read a, there) s).is in
+    subst (λ n. Is image (at + n) (V x false cells) (watched_step p)) long (act rows (Operate Xor 0 reads (InData k) m) bytes h1 (is_read a, there) s).is in
     more rows s wrote first (λ q u.
     more rows u wrote (act rows (OperateNumber And mask) (lit< tt) h2 tt u).is (λ r v.
     last rows v wrote
-    (subst (λ n. Is image (at + size + 3 + n) (V y false (put_word cells k (bit_xor m y))) (watched_step r)) long' (act rows (OperateOnto Xor 0 writes (InData k) m) refl bytes' h3 (is_written y, tt, there) v).is)))
+    (subst (λ n. Is image (at + size + 3 + n) (V y false (put_word cells k (bit_xor m y))) (watched_step r)) long' (act rows (OperateOnto Xor 0 writes (InData k) m) bytes' h3 (is_written y, tt, there) v).is)))

@@ -71,6 +71,10 @@ pub record Sound (p : OrderProgram) (image : Image) (g place : ℕ) (loaded : Bo
   pub comes_back : ComesBack p acts
   pub never : Never p (at g place loaded acts w Running)
 
+-- The same, where no order of the block is done.
+abbrev pub Arrived : (p : OrderProgram) (image : Image) (g place : ℕ) (loaded : Bool) (acts : List OrderActivation) (w : Words) (q : Watched) → Type 0
+Arrived p image g place loaded acts w q = (m : Sound p image g place loaded acts w q) × (m.done ≡ 0)
+
 -- The processor stands before the Enter of a call.
 pub record Starting (p : OrderProgram) (image : Image) (g place : ℕ) (loaded : Bool) (a : OrderActivation) (acts : List OrderActivation) (w : Words) (q : Watched) : Type 0 where
   pub orders : Orders

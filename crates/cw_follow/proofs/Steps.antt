@@ -5,7 +5,7 @@ use Rattle.std.proofs.lemmas.Bool.{false≢true, le-leb, cases_lt}
 use Rattle.std.proofs.lemmas.Option.{slice_get_within}
 use Rattle.cw_track.proofs.Paths.{Path, weaken}
 use Rattle.cw_track.proofs.Simulations.{Quiet}
-use Rattle.cw_follow.proofs.Watched.{Watched, watched_machine}
+use Rattle.cw_follow.proofs.Watched.{Watched, watched_machine, over}
 use Rattle.cw_unit.specs.Begun.{Begun}
 use Rattle.cw_unit.specs.Behaviour.{Observation}
 use Rattle.cw_unit.specs.Stop.{StopKind, Running, Ended, Stopped, Stuck}
@@ -38,9 +38,9 @@ use Rattle.cw_follow.proofs.InBlocks.{slice_drop, size_split, left_split, begins
 use Rattle.cw_follow.proofs.Chains.{at_work}
 use Rattle.cw_follow.proofs.Routines.{Over, leads_on}
 use Rattle.cw_follow.proofs.Stacks.{level, words_split}
-use Rattle.cw_follow.proofs.Orders.{Landed, Leading, Does, Tells, Chooses}
+use Rattle.cw_follow.proofs.Orders.{Landed, Leading, Does, Tells, Chooses, LandedAt, over_landed}
 use Rattle.cw_follow.proofs.Operands.{Setting}
-use Rattle.cw_follow.proofs.States.{Given, Never, Sound, LastStarts, length_in, left, never_on, not_stuck, went_on}
+use Rattle.cw_follow.proofs.States.{Given, Never, Sound, Arrived, LastStarts, length_in, left, never_on, not_stuck, went_on}
 
 -- ---- places
 
@@ -74,11 +74,12 @@ above a b h = elim (cases_lt b a) as (λ _. b < a) [
   | inr ge ↦ let yes : nat_le a b ≡ true = le-leb a b ge in absurd (false≢true (sym h ∙ yes))
 ]
 
--- an order that has no code wherever it stands
+-- an order that may have no code
 abbrev pub is_codeless : Order → Bool
 is_codeless order.Mark = true
 is_codeless (order.Start n) = true
 is_codeless order.Drop = true
+is_codeless (order.Take t b) = true
 is_codeless _ = false
 
 -- before an order that is a block of its own
@@ -114,7 +115,7 @@ module _ (known : Given) where
 
   -- a state that matches where the processor has come to the beginning of a block, or to the Enter of a call
   abbrev pub Arrives : OrderState → Watched → Type 0
-  Arrives (at g place loaded acts w Running) q = ((m : Sound p image g place loaded acts w q) × (m.done ≡ 0)) ⊎ LastStarts p image g place loaded acts w q
+  Arrives (at g place loaded acts w Running) q = Arrived p image g place loaded acts w q ⊎ LastStarts p image g place loaded acts w q
   Arrives (at g place loaded acts w Ended) q = Over (record { output = w.output; end = Ended }) q
   Arrives (at g place loaded acts w (Stopped kind s l)) q = Over (record { output = w.output; end = Stopped kind s l }) q
   Arrives (at g place loaded acts w Stuck) q = ⊥
@@ -126,7 +127,7 @@ module _ (known : Given) where
   -- What the processor does for an order, where it stands like this one and what begins at its first instruction may be overlooked. Nothing: in
   -- the middle of a block, or for an order without code. Or the code of a block.
   pub data FollowFrom (first : Watched) (s : OrderState) (q : Watched) : Type 0 where
-    waits : {g place : ℕ} {loaded : Bool} {acts : List OrderActivation} {w : Words} → step p s ≡ at g (place + 1) loaded acts w Running → (m : Sound p image g (place + 1) loaded acts w q) → 0 < m.done → order_of s ≡ order_at p g place
+    waits : (g place : ℕ) {loaded : Bool} {acts : List OrderActivation} {w : Words} → step p s ≡ at g (place + 1) loaded acts w Running → (m : Sound p image g (place + 1) loaded acts w q) → 0 < m.done → order_of s ≡ order_at p g place
         → left p (step p s) < left p s → FollowFrom first s q
     passes_on : (o : Order) → order_of s ≡ Some o → is_codeless o ≡ true → Arrives (step p s) q → left p (step p s) < left p s → FollowFrom first s q
     moves : {spent : ℕ} {reached : Watched} → 0 < spent → spent ≤ weight p s → Path (Quiet (shown s, []) (shown (step p s), [])) watched_machine spent first reached → Arrives (step p s) reached → FollowFrom first s q
@@ -178,8 +179,8 @@ module _ (known : Given) where
 
     -- before another block
     pub sound_at : (to : ℕ) (m : Bool) (v : Words) (r : Watched) → left_at 0 s.orders.list to ≡ 0 → stack_words v.operands acts ≤ p.room → step p (at g place loaded acts w Running) ≡ at g to m acts v Running
-        → Landed p image (order_place (base_of p g) s.orders.list to) g m acts v r → Sound p image g to m acts v r
-    sound_at to m v r begins room e l = record {
+        → Landed p image (order_place (base_of p g) s.orders.list to) g m acts v r → Arrived p image g to m acts v r
+    sound_at to m v r begins room e l = (record {
       orders = s.orders;
       unit = s.unit;
       from = to;
@@ -202,14 +203,14 @@ module _ (known : Given) where
       working = s.working;
       comes_back = s.comes_back;
       never = never_on p (at g place loaded acts w Running) (at g to m acts v Running) e s.never;
-    }
+    }, refl)
 
     -- an operation that leaves the accumulator so, and may stop at a line
     pub does : {first : Watched} (m : Bool) (line : ℕ) (o : Outcome) (limit : ℕ) → left_at 0 s.orders.list (place + 1) ≡ 0 → step p (at g place loaded acts w Running) ≡ after p.room line o g place m acts w → limit ≤ weight p (at g place loaded acts w Running)
         → Does p image limit (order_place (base_of p g) s.orders.list (place + 1)) g m line acts w.output first o → FollowFrom first (at g place loaded acts w Running) q
     does m line (Changed v) limit begins e paid d =
         let on = went_on p g place loaded m line acts w v e s.never in
-        leads_to g place loaded acts w (at g (place + 1) m acts v Running) limit on.goes paid (onward (λ r l. inl (sound_at (place + 1) m v r begins on.room on.goes l, refl)) d)
+        leads_to g place loaded acts w (at g (place + 1) m acts v Running) limit on.goes paid (onward (λ r l. inl (sound_at (place + 1) m v r begins on.room on.goes l)) d)
     does m line (Refused kind) limit begins e paid d = leads_to g place loaded acts w (at g place m acts w (Stopped kind (g + 1) line)) limit e paid d
     does m line Impossible limit begins e paid d = absurd (not_stuck p g place m acts w (never_next (at g place m acts w Stuck) e))
 
@@ -224,7 +225,7 @@ module _ (known : Given) where
         moves d.some (let x : d.spent ≤ weight p here = omega arith in x)
         (weaken (λ o. (o ≡ at_work w.output) ⊎ (o ≡ at_work v.output)) (Quiet (shown here, []) (shown (step p here), [])) watched_machine d.spent _ d.reached
         (λ o x. elim x [ inl before ↦ inl before | inr after ↦ inr (after ∙ sym shows_next) ]) d.path)
-        (subst (λ x. Arrives x d.reached) (sym on.goes) (inl (sound_at (place + 1) m v d.reached begins on.room on.goes d.there, refl)))
+        (subst (λ x. Arrives x d.reached) (sym on.goes) (inl (sound_at (place + 1) m v d.reached begins on.room on.goes d.there)))
     tells m (Refused kind) limit begins e paid d = absurd d
     tells m Impossible limit begins e paid d = absurd (not_stuck p g place m acts w (never_next (at g place m acts w Stuck) e))
 
@@ -327,7 +328,7 @@ module _ (known : Given) where
             let within = slice_get_within s.orders.list place o e in
             let long : length_in (slice_get p.units g) ≡ length s.orders.list = ap length_in s.unit in
             let falls : left p (at g (place + 1) m acts v Running) < left p (at g place loaded acts w Running) = omega arith in
-            waits on.goes matched (let x : 0 < s.done + 1 = omega arith in x) refl (subst (λ x. left p x < left p (at g place loaded acts w Running)) (sym on.goes) falls)
+            waits g place on.goes matched (let x : 0 < s.done + 1 = omega arith in x) refl (subst (λ x. left p x < left p (at g place loaded acts w Running)) (sym on.goes) falls)
 
     -- what the orders before the last one did
     pub did_as : (n : ℕ) (os : List Order) → s.done ≡ n → drop s.from s.orders.list ≡ os → silently p g acts n os s.before ≡ Changed w
@@ -404,7 +405,7 @@ module _ (known : Given) where
     -- the way on that an order chooses
     pub chosen : {first : Watched} (l : Bool) (line : ℕ) (way : Way) (limit : ℕ) → left_at 0 s.orders.list (place + 1) ≡ 0 → Roomy acts p.room way → step p (at g place loaded acts w Running) ≡ branch p line way g place l acts w → limit ≤ weight p (at g place loaded acts w Running)
         → Chooses p image limit (order_place (base_of p g) s.orders.list (place + 1)) start g l line acts w.output first way → FollowFrom first (at g place loaded acts w Running) q
-    chosen l line (Onward v) limit begins room e paid d = leads_to g place loaded acts w (at g (place + 1) l acts v Running) limit e paid (onward (λ r t. inl (sound_at (place + 1) l v r begins room e t, refl)) d)
+    chosen l line (Onward v) limit begins room e paid d = leads_to g place loaded acts w (at g (place + 1) l acts v Running) limit e paid (onward (λ r t. inl (sound_at (place + 1) l v r begins room e t)) d)
     chosen {first} l line (ToMark m v) limit begins room e paid d = cases (slice_get s.orders.marks m) refl
       where
         goes : (k : Option ℕ) → slice_get s.orders.marks m ≡ k → step p (at g place loaded acts w Running) ≡ go_at k g place l acts w v
@@ -415,7 +416,7 @@ module _ (known : Given) where
         cases (Some to) is =
             let there : start m ≡ order_place (base_of p g) s.orders.list to = ap (λ n. base_of p g + n) (mark_start s.orders m to is (goes_within to l v (goes (Some to) is))) in
             leads_to g place loaded acts w (at g to l acts v Running) limit (goes (Some to) is) paid
-            (onward (λ r t. inl (sound_at to l v r (mark_begins m to is) room (goes (Some to) is) (subst (λ a. Landed p image a g l acts v r) there t), refl)) d)
+            (onward (λ r t. inl (sound_at to l v r (mark_begins m to is) room (goes (Some to) is) (subst (λ a. Landed p image a g l acts v r) there t))) d)
     chosen l line (Barred kind) limit begins room e paid d = leads_to g place loaded acts w (at g place l acts w (Stopped kind (g + 1) line)) limit e paid d
     chosen l line Nowhere limit begins room e paid d = absurd (not_stuck p g place l acts w (never_next (at g place l acts w Stuck) e))
 
@@ -452,7 +453,24 @@ module _ (known : Given) where
               (subst (λ n. Landed p image (order_place (base_of p g) s.orders.list n) g s.loaded_before acts s.before q) here s.landed));
         }
 
+    -- whether a statement may begin where the code of the order does, and the processor there, where what begins is overlooked
+    abbrev pub begins_here : Bool
+    begins_here = behind_start s.orders.list place
+
+    abbrev pub begun_here : Watched
+    begun_here = over (behind_start s.orders.list place) q
+
+    -- the same where the code of the block does
+    abbrev pub begins_block : Bool
+    begins_block = behind_start s.orders.list s.from
+
+    abbrev pub begun_block : Watched
+    begun_block = over (behind_start s.orders.list s.from) q
+
     module _ (a : Alone p image g place loaded acts w q s.orders.list) where
+      pub landed_here : LandedAt (behind_start s.orders.list place) p image (order_place (base_of p g) s.orders.list place) g loaded acts w (over (behind_start s.orders.list place) q)
+      landed_here = over_landed (behind_start s.orders.list place) a.landed
+
       -- where its code begins and ends
       abbrev pub here : ℕ
       here = order_place (base_of p g) s.orders.list place
@@ -488,7 +506,7 @@ module _ (known : Given) where
           let next = behind o e in
           let to : here ≡ order_place (base_of p g) s.orders.list (place + 1) = omega arith in
           let there : Landed p image (order_place (base_of p g) s.orders.list (place + 1)) g m acts v q = subst (λ a. Landed p image a g m acts v q) to (turned here a.landed) in
-          let matched : Arrives (at g (place + 1) m acts v Running) q = inl (sound_at (place + 1) m v q (begins_next o e) room goes there, refl) in
+          let matched : Arrives (at g (place + 1) m acts v Running) q = inl (sound_at (place + 1) m v q (begins_next o e) room goes there) in
           let within = slice_get_within s.orders.list place o e in
           let long : length_in (slice_get p.units g) ≡ length s.orders.list = ap length_in s.unit in
           let falls : left p (at g (place + 1) m acts v Running) < left p (at g place loaded acts w Running) = omega arith in

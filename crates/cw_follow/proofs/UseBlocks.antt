@@ -86,7 +86,7 @@ naming w (simple.Contents (cell.Frame n)) op = i86.AluRm (number_of op) true tru
 naming w (simple.Element e) op = i86.AluRm (number_of op) true true ax at_si
 
 -- what comes before it
-abbrev pub Addressed : List ℕ → Filling → Simple → ℕ → Type 0
+abbrev pub Addressed : Image → Filling → Simple → ℕ → Type 0
 Addressed image value (simple.Element e) from = HasPieces image value from (element_address e)
 Addressed image value (simple.Contents (cell.Frame n)) from = HasAll image from (load bx (slot base_slot) ∷ [])
 Addressed image value s from = Unit {0}

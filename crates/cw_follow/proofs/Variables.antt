@@ -100,7 +100,7 @@ module _ (c : Setting) (memory : List ℤ) (input output : List ℕ) where
     pub silent : q.begun ≡ []
     pub wrote : o ≡ output
     pub U : Processor → Type 0
-    pub law : Within (Quiet (quiet_in q.places)) c.image o limit q.processor U
+    pub law : Within (Quiet (quiet_in q.places)) c.image.bytes o limit q.processor U
     pub means : (r : Processor) → U r → V (fresh q.places q.area r)
 
   -- so many instructions, and the routine
@@ -146,8 +146,8 @@ module _ (c : Setting) (memory : List ℤ) (input output : List ℕ) where
     top : ℕ
     under : StackIs c.program c.acts r.stack top rest
     law :
-        Within (Quiet (quiet_in q.places)) c.image r.told.output limit q.processor
-        (Ends c.image r.told.output c.program.limits.area (to % 65536) (2 * top) (record_of c.acts) (c.g + 1) line r.stack r.left r.told o)
+        Within (Quiet (quiet_in q.places)) c.image.bytes r.told.output limit q.processor
+        (Ends c.image.bytes r.told.output c.program.limits.area (to % 65536) (2 * top) (record_of c.acts) (c.g + 1) line r.stack r.left r.told o)
 
   stored : {p : Watched} {place ax bx : ℕ} {operands : List Operand} (to line limit bound : ℕ) (rest : List Operand) (o : Outcome) → Stores rest o → 2 + limit ≤ bound
       → Leads output 2 p (AtRoutine place (to % 65536) line ax bx operands) → ((q : Watched) (r : AtRoutine place (to % 65536) line ax bx operands q) → Stored to line limit rest o r)
@@ -274,13 +274,13 @@ module _ (c : Setting) (memory : List ℤ) (input output : List ℕ) where
 
       -- what it leaves where the address of the variable is of the area or not
       Left : (n : ℕ) → Bool → {q : Watched} → At q → Processor → Type 0
-      Left n b r = Fetches r.told.output b (c.g + 1) line (Fetched c.image (to % 65536) r.top (record_of c.acts) n (unsigned (word_at memory (number_of (word_at memory n)))) area r.cells r.stack r.left r.told)
+      Left n b r = Fetches r.told.output b (c.g + 1) line (Fetched c.image.bytes (to % 65536) r.top (record_of c.acts) n (unsigned (word_at memory (number_of (word_at memory n)))) area r.cells r.stack r.left r.told)
 
       law : (n : ℕ) → n < area → unsigned a ≡ n → (b : Bool) → is_below (word_at memory n) area ≡ b → (q : Watched) (r : At q)
-          → Within (Quiet (quiet_in q.places)) c.image r.told.output 16 q.processor (Left n b r)
+          → Within (Quiet (quiet_in q.places)) c.image.bytes r.told.output 16 q.processor (Left n b r)
       law n within same b is q r =
           let low = r.low in
-          subst (λ x. Within (Quiet (quiet_in q.places)) c.image r.told.output 16 q.processor (Left n x r)) is
+          subst (λ x. Within (Quiet (quiet_in q.places)) c.image.bytes r.told.output 16 q.processor (Left n x r)) is
           (c.rows.routines.put_variable (quiet_in q.places) c.image.bytes c.library (quiet_library r.is.ignores) area n line (record_of c.acts) r.top (level c.acts + 3) (c.g + 1) (to % 65536) r.cx l.stacked.bx r.si
           (flags_of q) r.cells r.stack r.left r.told
           memory q.processor within (holds all r.kept) small (omega arith) r.way (omega arith) (tells c memory input output r.kept) (arrives (with_ax same r.is)))
