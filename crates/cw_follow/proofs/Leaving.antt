@@ -269,9 +269,9 @@ module _ (rows : Rows) (prog : OrderProgram) (image : Image) where
           let low : n < 32768 = omega arith in
           let top : 2 * suc n ≡ 2 * suc n % 65536 = omega arith in
           let s1 : ℕ → ℕ = put_word l.stack n place in
-          let pieces = Number 2 a.line ∷ LoadArgument 0 (4 + 2 * k) (r + 6 + k) to ∷ Number 3 place ∷ Push 3 n ∷ [] in
+          let pieces = LoadArgument 0 (4 + 2 * k) (r + 6 + k) to ∷ Number 3 place ∷ Push 3 n ∷ [] in
           further 5 (lit≤ tt) (lit< tt)
-          (straight rows pieces {n = 1} l.kept.wrote (i.0, (i.1.0, (i.1.1.0, (i.1.1.1.0, tt)))) (tt, ((la, there, arg.0), (tt, ((low, top), tt)))) start (λ q u.
+          (straight_from rows (Number 2 a.line) pieces {n = 1} l.kept.wrote (i.0, (i.1.0, (i.1.1.0, (i.1.1.1.0, tt)))) (tt, ((la, there, arg.0), (tt, ((low, top), tt)))) start (λ q u.
           last rows u l.kept.wrote (record {
             ax = to;
             cx = s.cx;

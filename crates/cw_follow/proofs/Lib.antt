@@ -2,6 +2,7 @@ pub mod Bytes
 pub mod Standing
 pub mod WordLaws
 pub mod Halves
+pub mod Sized
 pub mod Fine
 pub mod Placement
 pub mod Fields
@@ -60,4 +61,5 @@ pub mod Loops
 pub mod Within
 pub mod Passed
 pub mod StatementPlaces
+pub mod Strong
 pub mod Following

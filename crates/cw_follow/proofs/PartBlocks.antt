@@ -239,7 +239,7 @@ module _ (known : Given) where
             cases false d = tt
             cases true d =
                 let v = s.before in
-                part_behind (setting known s) words_of v.memory v.input v.output s.fits_before.memory l.kept.long t b some room q (from_here + 3 + 4) 2 block_end is_signed (signed (a.frame_base + n)) v.operands e code d
+                part_behind (setting known s) words_of v.memory v.input v.output s.fits_before.memory l.kept.long t b some room (begun_block known s) (from_here + 3 + 4) 2 block_end is_signed (signed (a.frame_base + n)) v.operands e code d
 
     pub fetch_part_follows : (x : Place) (t b : ℕ) (is_signed : Bool) (rest : List Order) → drop s.from s.orders.list ≡ address_orders x ++ order.LoadPart t b is_signed ∷ rest → is_part t b ≡ true
         → block_at 0 (drop s.from s.orders.list) ≡ block.FetchPart x t b is_signed → FollowFrom known (begun_block known s) (at g place loaded acts w Running) q

@@ -1,6 +1,6 @@
 -- Instructions and words that stand one after another in an image, and where those of each order do.
 use Rattle.std.proofs.Common.{◌≡◌, ℕ, zero, suc, ◌+◌, ◌<◌, Bool, true, false, List, [], ◌∷◌, ◌++◌, length, drop, Option, Some, None, ap, ◌∙◌, subst, arith, length-append}
-use Rattle.std.specs.Prelude.{slice_get}
+use Rattle.std.specs.Prelude.{◌&&◌, slice_get}
 use Rattle.cw_i86.specs.Encoding.{bytes_of}
 use Rattle.cw_i86.specs.declared.instr.Instr.{Instr}
 use Rattle.cw_i86.specs.declared.instr.Instr.TheVariants as i86
@@ -98,6 +98,13 @@ stand_both code value at (p ∷ ps) qs h =
     let there : at + size_of p + length (blanks ps) ≡ at + length (blanks (p ∷ ps)) = omega (arith, length-append (bytes_with 0 p) (blanks ps)) in
     ((h.0, rest.0), subst (λ n. HasPieces code value n qs) there rest.1)
 
+-- what stands behind some pieces, the first of which may be the first one of a block
+pub stand_behind : (first : Bool) (code : Image) (value : Filling) (at : ℕ) (ps qs : List Coded) → 0 < length ps → HasPiecesFrom first code value at (ps ++ qs) → HasPieces code value (at + length (blanks ps)) qs
+stand_behind first code value at [] qs some h = absurd (omega arith)
+stand_behind first code value at (p ∷ ps) qs some h =
+    let there : at + size_of p + length (blanks ps) ≡ at + length (blanks (p ∷ ps)) = omega (arith, length-append (bytes_with 0 p) (blanks ps)) in
+    subst (λ n. HasPieces code value n qs) there (stand_both code value (at + size_of p) ps qs h.1).1
+
 -- where the code of the order at a place of the list begins in the image
 abbrev pub order_place : (base : ℕ) → List Order → (place : ℕ) → ℕ
 order_place base list k = base + own_place list k
@@ -106,27 +113,31 @@ order_place base list k = base + own_place list k
 abbrev pub pieces_at : Orders → (place : ℕ) → Order → List Coded
 pieces_at o k it = block_pieces (names_of o) (own_place o.list k) (block_at (left_at 0 o.list k) (drop k o.list)) it
 
--- an order with which a statement may begin, behind its Start, has a first instruction at which it does
+-- whether a statement may begin with an order
+abbrev pub may_begin : Order → Bool
+may_begin (order.Const w) = true
+may_begin (order.Home f n) = true
+may_begin (order.FrameHome n) = true
+may_begin order.ReadByte = true
+may_begin (order.CallProc q line) = true
+may_begin (order.CallCommon d line) = true
+may_begin (order.CallSpecial k line) = true
+may_begin (order.LabelOut l) = true
+may_begin (order.LabelCommon d) = true
+may_begin (order.SwitchOut n) = true
+may_begin (order.SwitchCommon d) = true
+may_begin (order.ProcOut q) = true
+may_begin (order.ProcCommon d) = true
+may_begin (order.SpecialOut k) = true
+may_begin (order.Jump m) = true
+may_begin (order.GoMain m) = true
+may_begin (order.GoCommon d) = true
+may_begin (order.GoSpecial k) = true
+may_begin _ = false
+
+-- and whether one does at the first instruction of its code
 abbrev pub first_of : Order → (behind : Bool) → Bool
-first_of (order.Const w) behind = behind
-first_of (order.Home f n) behind = behind
-first_of (order.FrameHome n) behind = behind
-first_of order.ReadByte behind = behind
-first_of (order.CallProc q line) behind = behind
-first_of (order.CallCommon d line) behind = behind
-first_of (order.CallSpecial k line) behind = behind
-first_of (order.LabelOut l) behind = behind
-first_of (order.LabelCommon d) behind = behind
-first_of (order.SwitchOut n) behind = behind
-first_of (order.SwitchCommon d) behind = behind
-first_of (order.ProcOut q) behind = behind
-first_of (order.ProcCommon d) behind = behind
-first_of (order.SpecialOut k) behind = behind
-first_of (order.Jump m) behind = behind
-first_of (order.GoMain m) behind = behind
-first_of (order.GoCommon d) behind = behind
-first_of (order.GoSpecial k) behind = behind
-first_of _ behind = false
+first_of o behind = may_begin o && behind
 
 abbrev pub is_start : Option Order → Bool
 is_start (Some (order.Start line)) = true

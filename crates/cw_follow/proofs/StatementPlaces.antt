@@ -1,30 +1,34 @@
--- The places of the statements of an image: at a Start begins its statement, and at no other instruction any.
-use Rattle.std.proofs.Common.{◌≡◌, ℕ, zero, suc, ◌+◌, ◌-◌, ◌<◌, ◌≤◌, Bool, true, false, List, [], ◌∷◌, ◌++◌, length, take, drop, drop-cons, Some, refl, sym, ap, ap₂, ◌∙◌, subst, inl, inr, arith, length-append}
-use Rattle.std.proofs.lemmas.Bool.{cases_order, eq-eqb, ne_eqb, false≢true}
+-- The places of the statements of an image: where the code of the order behind a Start begins, its statement does, and nowhere else any.
+use Rattle.std.proofs.Common.{◌≡◌, ◌⊎◌, ⊎_elim, ℕ, zero, suc, ◌+◌, ◌-◌, ◌<◌, ◌≤◌, Bool, true, false, List, [], ◌∷◌, ◌++◌, length, take, drop, Option, None, Some, refl, sym, ap, ap₂, ◌∙◌, subst, inl, inr, arith, length-append, lit<}
+use Rattle.std.proofs.lemmas.Bool.{cases_order, eq-eqb, ne_eqb}
 use Rattle.std.proofs.lemmas.List.{append-nil}
 use Rattle.std.proofs.lemmas.Option.{slice_get_within}
 use Rattle.std.specs.Prelude.{◌==◌, if◌then◌else◌, slice_get, slice_index}
-use Rattle.cw_i86.specs.Encoding.{bytes_of, IsInstr, BeginsWith}
-use Rattle.cw_i86.specs.declared.instr.Instr.{Instr}
-use Rattle.cw_run86.specs.Views.{Has}
 use Rattle.cw_image.specs.Begun.{StatementPlace, lines_at}
+use Rattle.cw_order.specs.BeginsStatement.{BeginsStatement}
 use Rattle.cw_order.specs.declared.order.Order.{Order}
 use Rattle.cw_order.specs.declared.order.Order.TheVariants as order
 use Rattle.cw_order.specs.declared.order.Orders.{Orders}
-use Rattle.cw_order.specs.OrderProgram.{OrderProgram}
+use Rattle.cw_order.specs.declared.order.Place.{Place}
+use Rattle.cw_order.specs.declared.order.Place.TheVariants as cell
+use Rattle.cw_order.specs.OrderProgram.{OrderProgram, order_in}
+use Rattle.cw_tmpl.specs.declared.blocks.Element.{Element}
+use Rattle.cw_tmpl.specs.declared.blocks.Block.{Block}
 use Rattle.cw_tmpl.specs.declared.blocks.Block.TheVariants as block
-use Rattle.cw_tmpl.specs.Mnemonics.{nothing}
-use Rattle.cw_tmpl.specs.Pieces.{blanks}
-use Rattle.cw_tmpl.specs.Blocks.{block_at, left_at}
-use Rattle.cw_tmpl.specs.Templates.{block_pieces, block_size, entry_pieces}
+use Rattle.cw_tmpl.specs.declared.pieces.Coded.{Coded}
+use Rattle.cw_tmpl.specs.declared.pieces.Coded.TheVariants as coded
+use Rattle.cw_tmpl.specs.Mnemonics.{at_si, ax, load}
+use Rattle.cw_tmpl.specs.Pieces.{blanks, bytes_with}
+use Rattle.cw_tmpl.specs.Blocks.{is_part, fetched, fetched_from, fetched_or, element_orders, element_fetched, element_at, block_at, orders_left, left_at}
+use Rattle.cw_tmpl.specs.Templates.{address_pieces, load_place, part_taken, element_address, block_size, order_size, entry_pieces}
 use Rattle.cw_tmpl.specs.ReferenceCode.{templates, landings, switches, entry_size, order_places, landings_place, switches_place, names_of, pieces_of, orders_code, statements_from}
-use Rattle.cw_follow.specs.Placing.{total_size, base_of}
-use Rattle.cw_follow.specs.Passing.{moved_places, places_from, statement_places, does_nothing, PlacesStand}
+use Rattle.cw_follow.specs.Placing.{total_size, base_of, StandsBehind, Codable}
+use Rattle.cw_follow.specs.Passing.{moved_places, places_from, statement_places, NotBehindStart, PlacesStand}
 use Rattle.cw_tmpl.proofs.Growing.{blanks-append}
-use Rattle.cw_tmpl.proofs.Sizes.{size_to, size_next, places_are, own_place, size_of_templates}
-use Rattle.cw_follow.proofs.Standing.{HasPieces, order_place, AllStand}
 use Rattle.cw_tmpl.proofs.Shapes.{front_is}
+use Rattle.cw_tmpl.proofs.Sizes.{size_to, size_next, left_next, places_are, own_place, size_of_templates, landings_at}
 use Rattle.cw_follow.proofs.InBlocks.{size_split, begins_at}
+use Rattle.cw_follow.proofs.Sized.{piece_some}
 
 -- ---- lists of places
 
@@ -161,51 +165,107 @@ here_is list k a e never = ap (λ b. block_size b a) (ap₂ block_at (begins_at 
 start_size : (list : List Order) (k line : ℕ) → slice_get list k ≡ Some (order.Start line) → size_here list k (order.Start line) ≡ 0
 start_size list k line e = here_is list k (order.Start line) e (λ x. x)
 
--- the code of a block that begins with such an order has a byte
 pieces_some : (p : Coded) (ps : List Coded) → 0 < length (blanks (p ∷ ps))
 pieces_some p ps = let some = piece_some p in omega (arith, length-append (bytes_with 0 p) (blanks ps))
 
 behind_some : (xs : List Coded) (p : Coded) (ps : List Coded) → 0 < length (blanks (xs ++ p ∷ ps))
 behind_some xs p ps = let some = pieces_some p ps in omega (arith, ap length (blanks-append xs (p ∷ ps)) ∙ length-append (blanks xs) (blanks (p ∷ ps)))
 
--- one that has code wherever it stands
-times_some : (b : Bool) (line n : ℕ) → 0 < length (blanks (times_if b line n))
-times_some true line n = lit< tt
-times_some false line n = lit< tt
+-- an order with which a statement begins has code, alone and at the beginning of a block
+single_some : (a : Order) → BeginsStatement a → 0 < order_size a
+single_some (order.Const zero) b = lit< tt
+single_some (order.Const (suc w)) b = lit< tt
+single_some (order.Home f n) b = lit< tt
+single_some (order.FrameHome n) b = lit< tt
+single_some order.ReadByte b = lit< tt
+single_some (order.Jump m) b = lit< tt
+single_some (order.GoMain m) b = lit< tt
+single_some (order.GoCommon d) b = lit< tt
+single_some (order.GoSpecial k) b = lit< tt
+single_some (order.CallProc q line) b = lit< tt
+single_some (order.CallCommon d line) b = lit< tt
+single_some (order.CallSpecial k line) b = lit< tt
+single_some (order.LabelOut l) b = lit< tt
+single_some (order.LabelCommon d) b = lit< tt
+single_some (order.SwitchOut n) b = lit< tt
+single_some (order.SwitchCommon d) b = lit< tt
+single_some (order.ProcOut q) b = lit< tt
+single_some (order.ProcCommon d) b = lit< tt
+single_some (order.SpecialOut k) b = lit< tt
+single_some _ b = absurd b
 
-begins_single : (a : Order) → BeginsStatement a → 0 < order_size a
-begins_single a begins = subst (λ n. 0 < n) (sym (listed a)) (sized a begins)
+-- the blocks that begin with the address of a place
+abbrev Addresses : Block → Type 0
+Addresses block.Single = Unit {0}
+Addresses (block.Fetch x) = Unit {0}
+Addresses (block.FetchPart x t b is_signed) = Unit {0}
+Addresses (block.FetchElement e) = Unit {0}
+Addresses _ = ⊥
+
+fetched_addresses : (x : Place) (o : Option Order) → Addresses (fetched x o)
+fetched_addresses x None = tt
+fetched_addresses x (Some order.Load) = tt
+fetched_addresses x (Some (order.LoadPart t b is_signed)) = part (is_part t b)
   where
-    sized : (a : Order) → BeginsStatement a → 0 < listed_size a
-    sized (order.Const zero) b = lit< tt
-    sized (order.Const (suc w)) b = lit< tt
-    sized (order.Home f n) b = lit< tt
-    sized (order.FrameHome n) b = lit< tt
-    sized order.ReadByte b = lit< tt
-    sized (order.Jump m) b = lit< tt
-    sized (order.GoMain m) b = lit< tt
-    sized (order.GoCommon d) b = lit< tt
-    sized (order.GoSpecial k) b = lit< tt
-    sized (order.CallProc q line) b = lit< tt
-    sized (order.CallCommon d line) b = lit< tt
-    sized (order.CallSpecial k line) b = lit< tt
-    sized (order.LabelOut l) b = lit< tt
-    sized (order.LabelCommon d) b = lit< tt
-    sized (order.SwitchOut n) b = lit< tt
-    sized (order.SwitchCommon d) b = lit< tt
-    sized (order.ProcOut q) b = lit< tt
-    sized (order.ProcCommon d) b = lit< tt
-    sized (order.SpecialOut k) b = lit< tt
-    sized _ b = absurd b
+    part : (c : Bool) → Addresses (if c then block.FetchPart x t b is_signed else block.Single)
+    part true = tt
+    part false = tt
+fetched_addresses x (Some _) = tt
+
+element_addresses : (e : Element) (o : Option Order) (other : Block) → Addresses other → Addresses (element_fetched e o other)
+element_addresses e None other h = h
+element_addresses e (Some order.Load) other h = tt
+element_addresses e (Some _) other h = h
+
+or_addresses : (e : Option Element) (os : List Order) (other : Block) → Addresses other → Addresses (fetched_or e os other)
+or_addresses None os other h = h
+or_addresses (Some e) os other h = element_addresses e (slice_get os (length (element_orders e))) other h
+
+begins_addresses : (a : Order) (os : List Order) → BeginsStatement a → Addresses (block_at 0 (a ∷ os))
+begins_addresses (order.Home f n) os b =
+    let l = order.Home f n ∷ os in
+    or_addresses (element_at (Some (cell.Word f n)) l) l (fetched_from (Some (cell.Word f n)) l) (fetched_addresses (cell.Word f n) (slice_get l 1))
+begins_addresses (order.FrameHome n) os b =
+    let l = order.FrameHome n ∷ os in
+    or_addresses (element_at (Some (cell.Frame n)) l) l (fetched_from (Some (cell.Frame n)) l) (fetched_addresses (cell.Frame n) (slice_get l 1))
+begins_addresses (order.Const w) os b = tt
+begins_addresses order.ReadByte os b = tt
+begins_addresses (order.Jump m) os b = tt
+begins_addresses (order.GoMain m) os b = tt
+begins_addresses (order.GoCommon d) os b = tt
+begins_addresses (order.GoSpecial k) os b = tt
+begins_addresses (order.CallProc q line) os b = tt
+begins_addresses (order.CallCommon d line) os b = tt
+begins_addresses (order.CallSpecial k line) os b = tt
+begins_addresses (order.LabelOut l) os b = tt
+begins_addresses (order.LabelCommon d) os b = tt
+begins_addresses (order.SwitchOut n) os b = tt
+begins_addresses (order.SwitchCommon d) os b = tt
+begins_addresses (order.ProcOut q) os b = tt
+begins_addresses (order.ProcCommon d) os b = tt
+begins_addresses (order.SpecialOut k) os b = tt
+begins_addresses _ os b = absurd b
+
+addresses_some : (b : Block) (a : Order) → Addresses b → 0 < order_size a → 0 < block_size b a
+addresses_some block.Single a h some = some
+addresses_some (block.Fetch x) a h some = behind_some (address_pieces x) (load_place x) []
+addresses_some (block.FetchPart x t b is_signed) a h some = behind_some (address_pieces x) (load_place x) (part_taken t b is_signed)
+addresses_some (block.FetchElement e) a h some = behind_some (element_address e) (coded.Whole (load ax at_si)) []
+addresses_some _ a h some = absurd h
 
 begins_some : (a : Order) (os : List Order) → BeginsStatement a → 0 < block_size (block_at 0 (a ∷ os)) a
-begins_some a os begins = blocks_some (block_at 0 (a ∷ os)) a (shape (a ∷ os)) (begins_single a begins)
+begins_some a os b = addresses_some (block_at 0 (a ∷ os)) a (begins_addresses a os b) (single_some a b)
 
-never_behind : (a : Order) → BeginsStatement a → StandsBehind a → ⊥
-never_behind a b e = XXX
+-- at the beginning of a block
+pub statement_here : (list : List Order) (k : ℕ) (a : Order) → slice_get list k ≡ Some a → left_at 0 list k ≡ 0 → BeginsStatement a → 0 < size_here list k a
+statement_here list k a e first begins = subst (λ n. 0 < n) (sym (ap (λ b. block_size b a) (ap₂ block_at first (front_is list k a e)))) (begins_some a (drop (suc k) list) begins)
 
-statement_size : (list : List Order) (k : ℕ) (a : Order) → slice_get list k ≡ Some a → BeginsStatement a → 0 < size_here list k a
-statement_size list k a e begins = subst (λ n. 0 < n) (sym (here_is list k a e (never_behind a begins))) (begins_some a (drop (suc k) list) begins)
+-- and so it is behind a Start
+behind_a_start : (list : List Order) (k line : ℕ) → slice_get list k ≡ Some (order.Start line) → left_at 0 list (suc k) ≡ 0
+behind_a_start list k line e = left_next 0 list k (order.Start line) e ∙ ap orders_left (ap₂ block_at (begins_at list k (order.Start line) e (λ x. x)) (front_is list k (order.Start line) e))
+
+statement_size : (list : List Order) (k line : ℕ) (a : Order) → slice_get list k ≡ Some (order.Start line) → slice_get list (suc k) ≡ Some a → BeginsStatement a → 0 < size_here list (suc k) a
+statement_size list k line a start e begins = statement_here list (suc k) a e (behind_a_start list k line start) begins
 
 -- the code of the orders lies in that of their segment
 orders_within : (o : Orders) → own_place o.list (length o.list) ≤ length (blanks (pieces_of o))
@@ -349,7 +409,7 @@ module _ (p : OrderProgram) (image : List ℕ) (coded : Codable p) where
       let b = coded.begins g k line (ap (λ u. order_in u k) unit ∙ listed) in
       let next : k + 1 ≡ suc k = omega arith in
       let there : slice_get o.list (suc k) ≡ Some b.0 = ap (slice_get o.list) (sym next) ∙ sym (ap (λ u. order_in u (k + 1)) unit) ∙ b.1 in
-      (b.0, record { unit = unit; listed = there; some = statement_size o.list (suc k) b.0 there b.2 })
+      (b.0, record { unit = unit; listed = there; some = statement_size o.list k line b.0 listed there b.2 })
 
   pub places_stand : PlacesStand p image (statement_places p)
   places_stand = record {
