@@ -18,6 +18,7 @@ use Rattle.cw_order.specs.declared.order.Place.{Place}
 use Rattle.cw_order.specs.declared.order.Place.TheVariants as cell
 use Rattle.cw_tmpl.specs.declared.blocks.Element.{Element}
 use Rattle.cw_tmpl.specs.declared.blocks.Test.{Test}
+use Rattle.cw_tmpl.specs.declared.blocks.Test.TheVariants as test
 use Rattle.cw_tmpl.specs.declared.blocks.Simple.TheVariants as simple
 use Rattle.cw_tmpl.specs.declared.blocks.Use.{Use}
 use Rattle.cw_tmpl.specs.declared.blocks.Use.TheVariants as uses
@@ -95,7 +96,7 @@ module _ (known : Given) where
     fetched_there at v within = ap (λ b. unrefused (through b (λ i u. Changed (put (word_at u.memory i) u)) (pos at) v)) (lt-ltb at p.limits.area within)
 
     -- the code of a block that begins with the address of the place of the index
-    begun_code : (e : Element) (os : List Order) (b : Block) → drop s.from s.orders.list ≡ address_order e.index ∷ os → block_at 0 (drop s.from s.orders.list) ≡ b
+    pub begun_code : (e : Element) (os : List Order) (b : Block) → drop s.from s.orders.list ≡ address_order e.index ∷ os → block_at 0 (drop s.from s.orders.list) ≡ b
         → HasPiecesFrom (begins_block known s) image (all.stands g s.orders s.unit).value (start_place known s) (block_pieces (names_of s.orders) (own_place s.orders.list s.from) b (address_order e.index))
     begun_code e os b list is = subst (λ f. HasPiecesFrom f image (all.stands g s.orders s.unit).value (start_place known s) (block_pieces (names_of s.orders) (own_place s.orders.list s.from) b (address_order e.index))) (begins e.index) (block_code known s b (address_order e.index) os list is)
       where

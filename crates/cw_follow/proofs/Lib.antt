@@ -45,6 +45,8 @@ pub mod BoundedBlocks
 pub mod PartBlocks
 pub mod NumberBlocks
 pub mod Bodies
+pub mod Owed
+pub mod Opening
 pub mod Dispatch
 pub mod Leaving
 pub mod Tables

@@ -91,7 +91,7 @@ module _ (base n : ℕ) (places : List ℕ) where
 
 -- ---- the segments
 
-total_next : (os : List Orders) (g : ℕ) (o : Orders) → slice_get os g ≡ Some o → total_size (take (suc g) os) ≡ total_size (take g os) + length (blanks (pieces_of o))
+pub total_next : (os : List Orders) (g : ℕ) (o : Orders) → slice_get os g ≡ Some o → total_size (take (suc g) os) ≡ total_size (take g os) + length (blanks (pieces_of o))
 total_next [] g o e = absurd (cc)
 total_next (x ∷ os) zero o e = let same : x ≡ o = cc in let size : length (blanks (pieces_of x)) ≡ length (blanks (pieces_of o)) = ap (λ y. length (blanks (pieces_of y))) same in omega arith
 total_next (x ∷ os) (suc g) o e = omega (arith, total_next os g o e)

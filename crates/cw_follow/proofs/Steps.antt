@@ -120,14 +120,20 @@ module _ (known : Given) where
   Arrives (at g place loaded acts w (Stopped kind s l)) q = Over (record { output = w.output; end = Stopped kind s l }) q
   Arrives (at g place loaded acts w Stuck) q = ⊥
 
-  -- the order that a state is to do
+  -- the order that a state is to do, its segment and its place
   abbrev pub order_of : OrderState → Option Order
   order_of (at g place loaded acts w e) = order_at p g place
+
+  abbrev pub segment_of : OrderState → ℕ
+  segment_of (at g place loaded acts w e) = g
+
+  abbrev pub number_of : OrderState → ℕ
+  number_of (at g place loaded acts w e) = place
 
   -- What the processor does for an order, where it stands like this one and what begins at its first instruction may be overlooked. Nothing: in
   -- the middle of a block, or for an order without code. Or the code of a block.
   pub data FollowFrom (first : Watched) (s : OrderState) (q : Watched) : Type 0 where
-    waits : (g place : ℕ) {loaded : Bool} {acts : List OrderActivation} {w : Words} → step p s ≡ at g (place + 1) loaded acts w Running → (m : Sound p image g (place + 1) loaded acts w q) → 0 < m.done → order_of s ≡ order_at p g place
+    waits : {loaded : Bool} {acts : List OrderActivation} {w : Words} → step p s ≡ at (segment_of s) (number_of s + 1) loaded acts w Running → (m : Sound p image (segment_of s) (number_of s + 1) loaded acts w q) → 0 < m.done
         → left p (step p s) < left p s → FollowFrom first s q
     passes_on : (o : Order) → order_of s ≡ Some o → is_codeless o ≡ true → Arrives (step p s) q → left p (step p s) < left p s → FollowFrom first s q
     moves : {spent : ℕ} {reached : Watched} → 0 < spent → spent ≤ weight p s → Path (Quiet (shown s, []) (shown (step p s), [])) watched_machine spent first reached → Arrives (step p s) reached → FollowFrom first s q
@@ -328,7 +334,7 @@ module _ (known : Given) where
             let within = slice_get_within s.orders.list place o e in
             let long : length_in (slice_get p.units g) ≡ length s.orders.list = ap length_in s.unit in
             let falls : left p (at g (place + 1) m acts v Running) < left p (at g place loaded acts w Running) = omega arith in
-            waits g place on.goes matched (let x : 0 < s.done + 1 = omega arith in x) refl (subst (λ x. left p x < left p (at g place loaded acts w Running)) (sym on.goes) falls)
+            waits on.goes matched (let x : 0 < s.done + 1 = omega arith in x) (subst (λ x. left p x < left p (at g place loaded acts w Running)) (sym on.goes) falls)
 
     -- what the orders before the last one did
     pub did_as : (n : ℕ) (os : List Order) → s.done ≡ n → drop s.from s.orders.list ≡ os → silently p g acts n os s.before ≡ Changed w

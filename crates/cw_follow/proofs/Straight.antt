@@ -165,7 +165,7 @@ module _ (rows : Rows) where
   effect (Product r) {image} at v {p} h n s = rows.multiply image (placed at v) r h p s
   effect Sign {image} at v {p} h n s = rows.extend image (placed at v) h p s
 
-  step : (a : Act) {image : Image} {at : ℕ} {v : View} {p : Watched} {first : Bool} → HasAt first image at (instruction a) → Needs a v → IsAt first image at v p → Is image (at + length (bytes_of (instruction a))) (after a v) (watched_step p)
+  pub step : (a : Act) {image : Image} {at : ℕ} {v : View} {p : Watched} {first : Bool} → HasAt first image at (instruction a) → Needs a v → IsAt first image at v p → Is image (at + length (bytes_of (instruction a))) (after a v) (watched_step p)
   step a {image} {at} {v} h needs s =
       let here = has (instruction a) (takes_bytes a) h s in
       moved at (instruction a) (after a v) here s (effect a at v here.there needs s.sees)

@@ -1,5 +1,5 @@
 -- A processor that is watched by an observer who is told at which places of the code statements begin.
-use Rattle.std.proofs.Common.{◌≡◌, ℕ, Bool, true, false, List, [], ◌++◌, refl, sym, ap, ap₂, ◌∙◌, subst}
+use Rattle.std.proofs.Common.{◌<◌, ◌+◌, arith, ◌≡◌, ℕ, Bool, true, false, List, [], ◌++◌, refl, sym, ap, ap₂, ◌∙◌, subst}
 use Rattle.std.proofs.lemmas.List.{append-nil}
 use Rattle.std.specs.Prelude.{map}
 use Rattle.cw_track.specs.Machine.{Machine}
@@ -34,10 +34,7 @@ watched_step t = record { places = t.places; area = t.area; processor = processo
 abbrev pub watched_machine : Machine (Observation × List Begun)
 watched_machine = record { State = Watched; step = watched_step; shown = λ t. (shown_as (observed t.processor), t.begun); weight = λ t. 1 }
 
--- where nothing has been noted, and what begins at the next instruction is overlooked
-abbrev pub before_block : List StatementPlace → (area : ℕ) → Processor → Watched
-before_block places area q = record { places = places; area = area; processor = q; overlooks = true; begun = [] }
-
+-- where nothing has been noted
 abbrev pub fresh : List StatementPlace → (area : ℕ) → Processor → Watched
 fresh places area q = record { places = places; area = area; processor = q; overlooks = false; begun = [] }
 
@@ -81,8 +78,14 @@ unwatched P w t u sees (next {w' = w'} {t' = t'} a st we p) silent =
     next (a.0, none) (ap (λ x. x.processor) st) we
     (subst (λ x. Path (Unnoted P) (noted (processor_machine shown_as) (passes x.places x.area)) w' t'.processor u.processor) (sym st) (unwatched P w' t' u (ap (λ x. x.overlooks) (sym st)) p silent))
 
--- and the observer stays the same
-pub still_there : (P : Observation × List Begun → Type 0) (w : ℕ) (t u : Watched) → Path P watched_machine w t u → (u.places ≡ t.places) × (u.area ≡ t.area)
+-- where they end in a state that has noted nothing, the observer overlooks nothing there
+pub still_fresh : (P : Observation × List Begun → Type 0) (w : ℕ) (t u : Watched) → t.overlooks ≡ false → Path P watched_machine w t u → u.begun ≡ [] → u ≡ fresh t.places t.area u.processor
 unfolding watched_step
-still_there P w t u (stay tu z) = (ap (λ x. x.places) (sym tu), ap (λ x. x.area) (sym tu))
-still_there P w t u (next {w' = w'} {t' = t'} a st we p) = let m = still_there P w' t' u p in (m.0 ∙ ap (λ x. x.places) (sym st), m.1 ∙ ap (λ x. x.area) (sym st))
+still_fresh P w t u sees (stay tu z) silent =
+    subst (λ x. u ≡ fresh x.places x.area u.processor) (sym tu) (ap₂ (λ b es. record { places = u.places; area = u.area; processor = u.processor; overlooks = b; begun = es }) (ap (λ x. x.overlooks) (sym tu) ∙ sees) silent)
+still_fresh P w t u sees (next {w' = w'} {t' = t'} a st we p) silent = subst (λ x. u ≡ fresh x.places x.area u.processor) (sym st) (still_fresh P w' t' u (ap (λ x. x.overlooks) (sym st)) p silent)
+
+pub fresh_behind : (P : Observation × List Begun → Type 0) (w : ℕ) (t u : Watched) → 0 < w → Path P watched_machine w t u → u.begun ≡ [] → u ≡ fresh t.places t.area u.processor
+unfolding watched_step
+fresh_behind P w t u some (stay tu z) silent = absurd (omega arith)
+fresh_behind P w t u some (next {w' = w'} {t' = t'} a st we p) silent = subst (λ x. u ≡ fresh x.places x.area u.processor) (sym st) (still_fresh P w' t' u (ap (λ x. x.overlooks) (sym st)) p silent)
