@@ -106,8 +106,8 @@ module _ (known : Given) where
   open known use {rows, p, image, all, coded, few, low}
 
   module _ {q : Watched} {g place : ℕ} {acts : List OrderActivation} {w : Words} where
-    low_top : (s : Sound p image g place false acts w q) (a : Alone p image g place false acts w q s.orders.list) → a.landed.top < 32768
-    low_top s a = let t = top_is p acts a.landed.stack a.landed.top w.operands a.landed.operands in omega arith
+    low_top : (s : Sound p image g place false acts w q) (a : Alone p image g place false acts w q s.orders.list) → (landed_here known s a).top < 32768
+    low_top s a = let l = landed_here known s a in let t = top_is p acts l.stack l.top w.operands l.operands in omega arith
 
     pub single_opens : (loaded : Bool) (s : Sound p image g place loaded acts w q) (a : Alone p image g place loaded acts w q s.orders.list) (o : Order) → slice_get s.orders.list place ≡ Some o → may_begin o ≡ true
         → shown_as (observed (processor_step q.processor)) ≡ record { output = w.output; end = Running }
