@@ -1,5 +1,5 @@
 -- The processor follows the machine of the orders.
-use Rattle.std.proofs.Common.{◌≡◌, ⊎_elim, inl, inr, ◌⊎◌, ℕ, zero, suc, ◌+◌, ◌-◌, ◌%◌, ◌<◌, ◌≤◌, Bool, true, false, ℤ, pos, List, [], ◌∷◌, ◌++◌, length, drop, Option, Some, None, refl, sym, ap, ap₂, ◌∙◌, subst, arith, lit<, lit≤, append_assoc}
+use Rattle.std.proofs.Common.{◌≡◌, ⊎_elim, inl, inr, ◌⊎◌, ℕ, zero, suc, ◌+◌, ◌-◌, ◌%◌, ◌<◌, ◌≤◌, Bool, true, false, List, [], ◌∷◌, ◌++◌, length, drop, Option, Some, None, refl, sym, ap, ap₂, ◌∙◌, subst, arith, lit<, lit≤, append_assoc}
 use Rattle.std.specs.Prelude.{map, ◌&&◌, if◌then◌else◌, slice_get, slice_index}
 use Rattle.std.proofs.lemmas.Option.{slice_get_within}
 use Rattle.std.proofs.lemmas.Bool.{cases_Bool, cases_order, true≢false, false≢true}
@@ -30,17 +30,9 @@ use Rattle.cw_order.proofs.Unbegun.{NotBehind, AllFree, Free, not_behind_first, 
 use Rattle.cw_order.specs.Starting.{starts, started_by}
 use Rattle.cw_order.specs.declared.order.Place.{Place}
 use Rattle.cw_order.specs.declared.order.Place.TheVariants as cell
-use Rattle.cw_tmpl.specs.declared.blocks.Element.{Element}
-use Rattle.cw_tmpl.specs.declared.blocks.Test.{Test}
-use Rattle.cw_tmpl.specs.declared.blocks.Test.TheVariants as test
-use Rattle.cw_tmpl.specs.declared.blocks.Simple.{Simple}
 use Rattle.cw_tmpl.specs.declared.blocks.Simple.TheVariants as simple
 use Rattle.cw_tmpl.specs.declared.blocks.Block.{Block}
 use Rattle.cw_tmpl.specs.declared.blocks.Block.TheVariants as block
-use Rattle.cw_tmpl.specs.declared.blocks.Form.{Form}
-use Rattle.cw_tmpl.specs.declared.blocks.Form.TheVariants as form
-use Rattle.cw_tmpl.specs.declared.blocks.Use.{Use}
-use Rattle.cw_tmpl.specs.declared.blocks.Use.TheVariants as uses
 use Rattle.cw_tmpl.specs.Pieces.{blanks}
 use Rattle.cw_tmpl.specs.Blocks.{address_orders, block_at, orders_left, left_at}
 use Rattle.cw_tmpl.specs.Names.{label_start, procedure_start, switch_start}
@@ -68,7 +60,7 @@ use Rattle.cw_follow.proofs.Switching.{switches_own, switches_by_descriptor}
 use Rattle.cw_follow.proofs.Within.{frame_home, bind_static, bind_frame, come_back, enter_again, hand_on, call_special, go_special, switch_special}
 use Rattle.cw_follow.proofs.WordOrders.{rescale_follows, multiply_follows, divide_follows, element_follows, element_of_two_follows, entry_follows}
 use Rattle.cw_follow.proofs.Words.{save_follows, const_follows, home_follows, load_follows, store_follows, load_part_follows, store_part_follows, add_follows, subtract_follows, negate_follows, and_follows, or_follows, xor_follows, take_follows, less_follows, drop_follows, index_less_follows, in_area_follows, in_bounds_follows, read_follows, write_follows}
-use Rattle.cw_follow.proofs.BlockOrders.{fetch_follows, assign_follows, divide_number_follows, within_block, write_top_follows}
+use Rattle.cw_follow.proofs.BlockOrders.{fetch_follows, assign_follows, divide_number_follows, write_top_follows}
 use Rattle.cw_follow.proofs.UseBlocks.{operand_follows}
 use Rattle.cw_follow.proofs.ElementBlocks.{fetch_element_follows, assign_element_follows, operate_element_follows}
 use Rattle.cw_follow.proofs.BoundedBlocks.{bounded_follows}
@@ -491,9 +483,10 @@ module _ (known : Given) where
       let behind = shown (step p S) in
       let silent = arrives_silent (step p S) reached arrives in
       let quiet = unwatched (Quiet before behind) spent (watch q) reached refl (weaken (Quiet (before, []) (behind, [])) (Unnoted (Quiet before behind)) watched_machine spent (watch q) reached (quiet_parts before behind) path) silent in
-      let there = arrives_owing (step p S) reached.processor (subst (Arrives known (step p S)) (fresh_behind (Quiet (before, []) (behind, [])) spent (watch q) reached some path silent) arrives) free in
-      (follows_quietly (order_machine p) (processor_machine shown_as) (starts p) (passes image.places p.limits.area) MatchesOwing (left p) S q spent reached.processor (λ u. lit< tt) none within (inl some) quiet there,
-      path_notes (Quiet before behind) (processor_machine shown_as) (passes image.places p.limits.area) spent q reached.processor some quiet)
+      let there = arrives_owing (step p S) reached.processor (subst (Arrives known (step p S)) (fresh_behind (Quiet (before, []) (behind, [])) spent (watch q) reached some path silent) arrives) free in (
+        follows_quietly (order_machine p) (processor_machine shown_as) (starts p) (passes image.places p.limits.area) MatchesOwing (left p) S q spent reached.processor (λ u. lit< tt) none within (inl some) quiet there,
+        path_notes (Quiet before behind) (processor_machine shown_as) (passes image.places p.limits.area) spent q reached.processor some quiet,
+      )
 
   module _ {q : Processor} {g place : ℕ} {loaded : Bool} {acts : List OrderActivation} {w : Words} (m : Sound p image g place loaded acts w (watch q)) (free : AllFree p acts) where
     abbrev here : OrderState

@@ -1,6 +1,6 @@
 -- Each instruction has a byte, and each piece of code.
 use Rattle.std.proofs.Common.{ℕ, ◌+◌, ◌*◌, ◌<◌, Bool, true, false, List, ◌∷◌, [], length, length-append, arith, lit<}
-use Rattle.cw_i86.specs.Encoding.{bytes_of, with_rm, with_mem, prefixed, place_bytes, imm_bytes, is_word, bit}
+use Rattle.cw_i86.specs.Encoding.{bytes_of, with_rm, prefixed, place_bytes, imm_bytes, is_word, bit}
 use Rattle.cw_i86.specs.declared.instr.Instr.{Instr}
 use Rattle.cw_i86.specs.declared.instr.Instr.TheVariants as i86
 use Rattle.cw_i86.specs.declared.instr.Rm.{Rm}
@@ -44,4 +44,3 @@ instr_some _ = omega arith
 pub piece_some : (p : Coded) → 0 < size_of p
 piece_some (coded.Whole i) = instr_some i
 piece_some _ = lit< tt
-

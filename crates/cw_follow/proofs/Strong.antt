@@ -49,11 +49,12 @@ pieces_strong first image value at (p ∷ ps) h free =
     let w = word_before value (at + size_of p) (target_of p) in
     let none : at + 0 ≡ at = omega arith in
     let long : length (blanks (p ∷ ps)) ≡ size_of p + length (blanks ps) = length-append _ (blanks ps) in
-    let some = piece_some p in
-    (one_strong first image w at p h.0 (λ e. ap (lines_at image.places) (sym none) ∙ free 0 (omega arith) (λ z. e)),
-    pieces_strong false image value (at + size_of p) ps h.1 (λ n lt no.
-    let there : at + (size_of p + n) ≡ at + size_of p + n = omega arith in
-    ap (lines_at image.places) (sym there) ∙ free (size_of p + n) (omega arith) (λ z. absurd (omega arith))))
+    let some = piece_some p in (
+      one_strong first image w at p h.0 (λ e. ap (lines_at image.places) (sym none) ∙ free 0 (omega arith) (λ z. e)),
+      pieces_strong false image value (at + size_of p) ps h.1 (λ n lt no.
+          let there : at + (size_of p + n) ≡ at + size_of p + n = omega arith in
+          ap (lines_at image.places) (sym there) ∙ free (size_of p + n) (omega arith) (λ z. absurd (omega arith))),
+    )
 
 -- ---- the whole
 
