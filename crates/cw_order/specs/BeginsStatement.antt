@@ -1,5 +1,4 @@
 -- The orders that stand behind a Start: the first one of a statement, which each has code of its own.
-use Rattle.std.specs.Prelude.{ℕ}
 use Rattle.cw_order.specs.declared.order.Order.{Order}
 use Rattle.cw_order.specs.declared.order.Order.TheVariants as order
 
