@@ -36,7 +36,7 @@ use Rattle.cw_tmpl.specs.declared.blocks.Use.{Use}
 use Rattle.cw_tmpl.specs.declared.blocks.Use.TheVariants as uses
 use Rattle.cw_tmpl.specs.declared.blocks.Block.{Block}
 use Rattle.cw_tmpl.specs.declared.blocks.Block.TheVariants as block
-use Rattle.cw_tmpl.specs.Mnemonics.{ax, bx, cx, dx, sp, bp, si, di, segment_slot, base_slot, base_record, base_operands, record_depth, slot, argument, at_bx, at_si, field, set_word, load, store, move, add, subtract, compare, exchange, negate, double, both, either, one_of, shift_up, shift_down, shift_down_signed, multiply, divide_signed, jump_to, nothing, jump_if_no_overflow, jump_if_below, jump_if_unequal, jump_if_not_less, jump_if_at_most, operate, change, increase, decrease, shift_up_once, shift_down_once, shift_down_signed_once, operate_number, set_ax}
+use Rattle.cw_tmpl.specs.Mnemonics.{ax, bx, cx, dx, sp, bp, si, di, segment_slot, base_slot, base_record, base_operands, record_depth, slot, argument, at_bx, at_si, field, set_word, load, store, move, add, subtract, compare, exchange, negate, double, both, either, one_of, shift_up, shift_down, shift_down_signed, multiply, divide_signed, jump_to, jump_if_no_overflow, jump_if_below, jump_if_unequal, jump_if_not_less, jump_if_at_most, operate, change, increase, decrease, shift_up_once, shift_down_once, shift_down_signed_once, operate_number, set_ax}
 use Rattle.cw_tmpl.specs.Library.{start_entry, overflow_entry, zero_divisor_entry, address_entry, switch_entry, bounds_entry, enter_entry, read_entry, product_entry, quotient_down_entry, quotient_up_entry, set_variable_entry, add_step_entry, put_variable_entry, exhausted_entry, next_step_entry}
 use Rattle.cw_tmpl.specs.Pieces.{blanks}
 use Rattle.cw_tmpl.specs.Names.{Names, no_names, mark_place, label_start, procedure_start, switch_start, own}
@@ -389,7 +389,7 @@ template names place (order.InArea line) = in_area line
 template names place (order.InBounds lower upper line) = in_bounds line lower upper
 template names place order.ReadByte = call_library read_entry ∷ []
 template names place order.WriteByte = coded.Whole (i86.Pop ax) ∷ coded.Whole (i86.Out 0x12) ∷ []
-template names place (order.Start n) = coded.Whole nothing ∷ []
+template names place (order.Start n) = []
 template names place order.NextBody = coded.Move ax target.NextSegment ∷ coded.Whole (jump_to ax) ∷ []
 template names place (order.Jump mark) = jump_near (place + 3) (mark_place names mark) ∷ []
 template names place (order.JumpIf c mark) = jump_where c place (mark_place names mark)
@@ -726,7 +726,7 @@ listed_size (order.GoSwitch n line) = 8
 listed_size (order.GoSwitchCommon d line) = 8
 listed_size (order.GoSwitchSpecial k line) = 13
 listed_size order.Mark = 0
-listed_size (order.Start n) = 1
+listed_size (order.Start n) = 0
 
 -- The same in a list, where the address of a word of the frame has two bytes less: they are owed by what stands behind it.
 abbrev pub size_in_list : Order → ℕ
