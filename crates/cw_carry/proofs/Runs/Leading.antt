@@ -1,12 +1,11 @@
 -- The first order of an expression, a condition, a reference, an argument and of what stands behind the Start of a statement: one that begins
 -- a statement.
-use Rattle.std.proofs.Common.{◌≡◌, ℕ, zero, suc, ◌+◌, ◌<◌, ◌≤◌, ℤ, max, List, [], ◌∷◌, ◌++◌, map, length, Bool, true, false, Option, Some, None, sym, ap, ◌∙◌, subst, arith}
+use Rattle.std.proofs.Common.{ℕ, zero, suc, ◌+◌, ◌<◌, ◌≤◌, ℤ, max, List, [], ◌∷◌, ◌++◌, map, length, Bool, true, false, Option, Some, None, sym, ap, ◌∙◌, subst, arith}
 use Rattle.std.specs.Prelude.{slice_get, slice_index_or}
 use Rattle.cw_unit.specs.declared.layout.Layout.{Layout}
 use Rattle.cw_unit.specs.declared.layout.Family.{Family}
 use Rattle.cw_unit.specs.declared.layout.Sort.{Sort}
 use Rattle.cw_unit.specs.declared.layout.Sort.TheVariants as sort
-use Rattle.cw_unit.specs.declared.unit.Unit.{Unit as SourceUnit}
 use Rattle.cw_unit.specs.declared.unit.Label.{Label}
 use Rattle.cw_unit.specs.declared.unit.Target.{Target}
 use Rattle.cw_unit.specs.declared.unit.Target.TheVariants as target
@@ -21,7 +20,7 @@ use Rattle.cw_unit.specs.declared.unit.Spot.{Spot, out-Spot}
 use Rattle.cw_unit.specs.declared.unit.Ref.{Ref, out-Ref}
 use Rattle.cw_unit.specs.declared.unit.Expr.{Expr, Expr-F, out-Expr}
 use Rattle.cw_unit.specs.declared.unit.Arg.TheOpen as layer
-use Rattle.cw_unit.specs.declared.unit.Arg.TheOpen.{Arg-F, Cond-F, Spot-F, Ref-F}
+use Rattle.cw_unit.specs.declared.unit.Arg.TheOpen.{Arg-F, Cond-F, Spot-F}
 use Rattle.cw_order.specs.declared.order.Order.{Order}
 use Rattle.cw_order.specs.declared.order.Order.TheVariants as order
 use Rattle.cw_order.specs.BeginsStatement.{BeginsStatement}
@@ -29,7 +28,7 @@ use Rattle.cw_gen_expr.specs.Pieces.{Piece, plain, followed_by, sequence, with_e
 use Rattle.cw_gen_expr.specs.ReferenceExpressions.{Scope, ConditionPiece, choice_piece, placed_by, placed_in, item_order, known_or, named_or, pick_mark, call_order, label_order, value_of, condition_piece, argument_piece, reference_of, expression_piece}
 use Rattle.cw_gen_expr.specs.UnitTables.{label_mark}
 use Rattle.cw_gen_expr.proofs.Layers.{value_layer, computed_layer, known_layer, value-made, argument_layer, argument-made, spot_layer, indexed_layer, word_item, word_layer, spot-made, reference-made, condition_layer, condition-made, expression_size, expression-size, expression_size_layer, argument_size, argument-size, argument_size_layer, spot-size, spot_size_layer, reference_size, reference-size, condition_size, condition-size, condition_size_layer}
-use Rattle.cw_gen_unit.specs.ReferenceStatements.{own_order, goal_order, jump_piece, with_middle, simple_beginning, stepped_piece, begun_loop}
+use Rattle.cw_gen_unit.specs.ReferenceStatements.{own_order, goal_order, jump_piece, with_middle, loop_place, simple_beginning, begun_loop}
 use Rattle.cw_gen_unit.specs.declared.simple.SimpleStep.{SimpleStep}
 
 -- ---- lists and pieces
@@ -49,8 +48,8 @@ pub record Leading (p : Piece) : Type 0 where
 leading : (o : Order) (os : List Order) → BeginsStatement o → Leading (plain (o ∷ os))
 leading o os h = record { at = λ place next. h }
 
-pub before : {p q : Piece} → Leading p → Leading (followed_by p q)
-before {p} {q} h = record {
+pub before : {p : Piece} (q : Piece) → Leading p → Leading (followed_by p q)
+before {p} q h = record {
   at = λ place next. let x = p place next in leads_before x.orders (q (place + length x.orders) (next + length x.marks)).orders (h.at place next);
 }
 
@@ -62,7 +61,7 @@ ended : (p : ℕ → Piece) → ((k : ℕ) → Leading (p k)) → Leading (with_
 ended p h = record { at = λ place next. leads_before (p next place (next + 1)).orders (order.Mark ∷ []) ((h next).at place (next + 1)) }
 
 middle : (a b : ℕ → Piece) → ((k : ℕ) → Leading (a k)) → Leading (with_middle a b)
-middle a b h = record { at = λ place next. (before {p = with_end a} {q = b next} (ended a h)).at place next }
+middle a b h = record { at = λ place next. (before (b next) (ended a h)).at place next }
 
 known : (k : Option ℤ) {p : Piece} → Leading p → Leading (known_or k p)
 known (Some z) h = record { at = λ place next. tt }
@@ -71,7 +70,7 @@ known None h = h
 pub chosen : (c : ConditionPiece) (a b : Piece) → ((mark : ℕ) → Leading (c false mark)) → Leading (choice_piece c a b)
 chosen c a b h =
     let first = λ (k m : ℕ). followed_by (c false m) (followed_by a (plain (order.Jump k ∷ []))) in
-    ended (λ k. followed_by (with_end (first k)) b) (λ k. before (ended (first k) (λ m. before (h m))))
+    ended (λ k. followed_by (with_end (first k)) b) (λ k. before b (ended (first k) (λ m. before (followed_by a (plain (order.Jump k ∷ []))) (h m))))
 
 -- ---- single orders
 
@@ -120,12 +119,12 @@ module _ (s : Scope) where
     indexed : (x : Spot-F Arg Cond Expr Spot Ref) → spot_size_layer x ≤ n → Leading (indexed_layer s x)
     indexed (layer.Direct i) le = behind (item s.layout i 0 [])
     indexed (layer.Through i) le = behind (item s.layout i 0 (order.Load ∷ order.InArea s.line ∷ []))
-    indexed (layer.One i l u e) le = before (before (b.values e (let z : expression_size e < n = omega (arith, le) in z) 0))
-    indexed (layer.Two i l1 u1 l2 u2 m e g) le = before (before (before (b.values e (let z : expression_size e < n = omega (arith, le) in z) 0)))
-    indexed (layer.ParamArray i e) le = before (b.values e (let z : expression_size e < n = omega (arith, le) in z) 0)
-    indexed (layer.Word i t m e) le = before (before (b.values e (let z : expression_size e < n = omega (arith, le) in z) 0))
-    indexed (layer.Elem i t k m q e) le = before (before (b.values e (let z : expression_size e < n = omega (arith, le) in z) 0))
-    indexed (layer.Bare e) le = before (b.values e (let z : expression_size e < n = omega (arith, le) in z) 0)
+    indexed (layer.One i l u e) le = record { at = λ place next. leads_before _ _ (leads_before _ _ ((b.values e (let z : expression_size e < n = omega (arith, le) in z) 0).at place next)) }
+    indexed (layer.Two i l1 u1 l2 u2 m e g) le = record { at = λ place next. leads_before _ _ (leads_before _ _ (leads_before _ _ ((b.values e (let z : expression_size e < n = omega (arith, le) in z) 0).at place next))) }
+    indexed (layer.ParamArray i e) le = record { at = λ place next. leads_before _ _ ((b.values e (let z : expression_size e < n = omega (arith, le) in z) 0).at place next) }
+    indexed (layer.Word i t m e) le = record { at = λ place next. leads_before _ _ (leads_before _ _ ((b.values e (let z : expression_size e < n = omega (arith, le) in z) 0).at place next)) }
+    indexed (layer.Elem i t k m q e) le = record { at = λ place next. leads_before _ _ (leads_before _ _ ((b.values e (let z : expression_size e < n = omega (arith, le) in z) 0).at place next)) }
+    indexed (layer.Bare e) le = record { at = λ place next. leads_before _ _ ((b.values e (let z : expression_size e < n = omega (arith, le) in z) 0).at place next) }
 
     spot : (x : Spot-F Arg Cond Expr Spot Ref) → spot_size_layer x ≤ n → Leading (spot_layer s x)
     spot x le = named s.layout (word_item s x) (word_layer s x) {p = indexed_layer s x} (indexed x le)
@@ -135,17 +134,17 @@ module _ (s : Scope) where
         subst Leading (sym (ap (λ x. x.address) (reference-made s r) ∙ spot-made s (out-Ref r).at)) (spot (out-Spot (out-Ref r).at) (let z : spot_size_layer (out-Spot (out-Ref r).at) ≤ n = omega (arith, le, reference-size r ∙ spot-size (out-Ref r).at) in z))
 
     condition : (x : Cond-F Arg Cond Expr Spot Ref) → condition_size_layer x ≤ n → (when : Bool) (mark : ℕ) → Leading (condition_layer s x when mark)
-    condition (layer.Cmp op a d) le when mark = before (b.values a (let z : expression_size a < n = omega (arith, le) in z) (max (value_of s a).natural (value_of s d).natural))
+    condition (layer.Cmp op a d) le when mark = record { at = λ place next. leads_before _ _ ((b.values a (let z : expression_size a < n = omega (arith, le) in z) (max (value_of s a).natural (value_of s d).natural)).at place next) }
     condition (layer.And a d) le when mark =
         ended (λ end. followed_by (condition_piece s a false (pick_mark when end mark)) (condition_piece s d when mark))
-        (λ k. before (b.conditions a (let z : condition_size a < n = omega (arith, le) in z) false (pick_mark when k mark)))
+        (λ k. record { at = λ place next. leads_before _ _ ((b.conditions a (let z : condition_size a < n = omega (arith, le) in z) false (pick_mark when k mark)).at place next) })
     condition (layer.Or a d) le when mark =
         ended (λ end. followed_by (condition_piece s a true (pick_mark when mark end)) (condition_piece s d when mark))
-        (λ k. before (b.conditions a (let z : condition_size a < n = omega (arith, le) in z) true (pick_mark when mark k)))
+        (λ k. record { at = λ place next. leads_before _ _ ((b.conditions a (let z : condition_size a < n = omega (arith, le) in z) true (pick_mark when mark k)).at place next) })
 
     argument : (x : Arg-F Arg Cond Expr Spot Ref) → argument_size_layer x ≤ n → Leading (argument_layer s x)
-    argument (layer.Value e f) le = before (b.values e (let z : expression_size e < n = omega (arith, le) in z) f)
-    argument (layer.Place r) le = before (b.references r (let z : reference_size r < n = omega (arith, le) in z))
+    argument (layer.Value e f) le = record { at = λ place next. leads_before _ _ ((b.values e (let z : expression_size e < n = omega (arith, le) in z) f).at place next) }
+    argument (layer.Place r) le = record { at = λ place next. leads_before _ _ ((b.references r (let z : reference_size r < n = omega (arith, le) in z)).at place next) }
     argument (layer.Array i l) le = item s.layout i 0 (order.IndexLess l s.line ∷ order.Save ∷ [])
     argument (layer.Same i) le = item s.layout i 0 (order.Load ∷ order.Save ∷ [])
     argument (layer.Base i) le = item s.layout i 0 (order.Save ∷ [])
@@ -160,18 +159,18 @@ module _ (s : Scope) where
     computed (layer.Num k) le f = record { at = λ place next. tt }
     computed (layer.Const z) le f = record { at = λ place next. tt }
     computed (layer.Text i) le f = item s.layout i 0 _
-    computed (layer.Read r) le f = before (b.references r (let z : reference_size r < n = omega (arith, le) in z))
+    computed (layer.Read r) le f = record { at = λ place next. leads_before _ _ ((b.references r (let z : reference_size r < n = omega (arith, le) in z)).at place next) }
     computed (layer.Call t []) le f = behind (leading (call_order s t) _ (call_leads s t))
-    computed (layer.Call t (a ∷ args)) le f = before (before (b.arguments a (let z : argument_size a < n = omega (arith, le) in z)))
-    computed (layer.Force g e) le f = before (b.values e (let z : expression_size e < n = omega (arith, le) in z) g)
-    computed (layer.Locate r) le f = before (b.references r (let z : reference_size r < n = omega (arith, le) in z))
-    computed (layer.Bits t d e) le f = before (b.values e (let z : expression_size e < n = omega (arith, le) in z) (value_of s e).operand)
-    computed (layer.Logic op a d) le f = before (b.values a (let z : expression_size a < n = omega (arith, le) in z) (value_of s a).operand)
-    computed (layer.Sum a d) le f = before (b.values a (let z : expression_size a < n = omega (arith, le) in z) f)
-    computed (layer.Less a d) le f = before (b.values a (let z : expression_size a < n = omega (arith, le) in z) f)
-    computed (layer.Minus a) le f = before (b.values a (let z : expression_size a < n = omega (arith, le) in z) f)
-    computed (layer.Times a d) le f = before (b.values a (let z : expression_size a < n = omega (arith, le) in z) (value_of s a).operand)
-    computed (layer.Over a d) le f = before (b.values a (let z : expression_size a < n = omega (arith, le) in z) (value_of s a).operand)
+    computed (layer.Call t (a ∷ args)) le f = record { at = λ place next. leads_before _ _ (leads_before _ _ ((b.arguments a (let z : argument_size a < n = omega (arith, le) in z)).at place next)) }
+    computed (layer.Force g e) le f = record { at = λ place next. leads_before _ _ ((b.values e (let z : expression_size e < n = omega (arith, le) in z) g).at place next) }
+    computed (layer.Locate r) le f = record { at = λ place next. leads_before _ _ ((b.references r (let z : reference_size r < n = omega (arith, le) in z)).at place next) }
+    computed (layer.Bits t d e) le f = record { at = λ place next. leads_before _ _ ((b.values e (let z : expression_size e < n = omega (arith, le) in z) (value_of s e).operand).at place next) }
+    computed (layer.Logic op a d) le f = record { at = λ place next. leads_before _ _ ((b.values a (let z : expression_size a < n = omega (arith, le) in z) (value_of s a).operand).at place next) }
+    computed (layer.Sum a d) le f = record { at = λ place next. leads_before _ _ ((b.values a (let z : expression_size a < n = omega (arith, le) in z) f).at place next) }
+    computed (layer.Less a d) le f = record { at = λ place next. leads_before _ _ ((b.values a (let z : expression_size a < n = omega (arith, le) in z) f).at place next) }
+    computed (layer.Minus a) le f = record { at = λ place next. leads_before _ _ ((b.values a (let z : expression_size a < n = omega (arith, le) in z) f).at place next) }
+    computed (layer.Times a d) le f = record { at = λ place next. leads_before _ _ ((b.values a (let z : expression_size a < n = omega (arith, le) in z) (value_of s a).operand).at place next) }
+    computed (layer.Over a d) le f = record { at = λ place next. leads_before _ _ ((b.values a (let z : expression_size a < n = omega (arith, le) in z) (value_of s a).operand).at place next) }
     computed (layer.Choice k a d) le f =
         chosen (condition_piece s k) (expression_piece s a f) (expression_piece s d f) (λ m. b.conditions k (let z : condition_size k < n = omega (arith, le) in z) false m)
 
@@ -211,7 +210,7 @@ module _ (s : Scope) where
 
   pub call_statement_leads : (t : Target) (args : List Arg) (os : List Order) → Leading (followed_by (sequence (map (argument_piece s) args)) (plain (call_order s t ∷ os)))
   call_statement_leads t [] os = behind (leading (call_order s t) os (call_leads s t))
-  call_statement_leads t (a ∷ args) os = before (before (argument_leads a))
+  call_statement_leads t (a ∷ args) os = record { at = λ place next. leads_before _ _ (leads_before _ _ ((argument_leads a).at place next)) }
 
   own_leads : (who : Option ℕ) (x : Option Label) (m : ℕ) → BeginsStatement (own_order who x m)
   own_leads None x m = tt
@@ -229,13 +228,14 @@ module _ (s : Scope) where
   pub jump_leads : (who : Option ℕ) (d : Dest) → Leading (jump_piece s who d)
   jump_leads who (dest.Goal g) = leading (goal_order s.unit who g) [] (goal_leads who g)
   jump_leads who (dest.Special k) = record { at = λ place next. tt }
-  jump_leads who (dest.Switch n e) = before (value_leads e 0)
-  jump_leads who (dest.CommonSwitch d e) = before (value_leads e 0)
-  jump_leads who (dest.SpecialSwitch k e) = before (value_leads e 0)
+  jump_leads who (dest.Switch n e) = record { at = λ place next. leads_before _ _ ((value_leads e 0).at place next) }
+  jump_leads who (dest.CommonSwitch d e) = record { at = λ place next. leads_before _ _ ((value_leads e 0).at place next) }
+  jump_leads who (dest.SpecialSwitch k e) = record { at = λ place next. leads_before _ _ ((value_leads e 0).at place next) }
 
   -- a FOR begins with the address of its variable, or of a word of its own
   pub loop_leads : (x : Option SimpleStep) (i : ℕ) (r : Ref) (es : List Felem) (body : Piece) → Leading (begun_loop s x i r es body)
-  loop_leads None i r es body = before (reference_leads r)
+  loop_leads None i r es body = record { at = λ place next. leads_before _ _ ((reference_leads r).at place next) }
   loop_leads (Some x) i r es body =
       let first = λ (end : ℕ). plain (simple_beginning s.layout i x end) in
-      ended _ (λ end. middle (λ start. first end) _ (λ start. item s.layout x.variable 0 _))
+      let second = λ (start : ℕ). followed_by body (plain (order.NextStep (loop_place s.layout i) s.line start ∷ [])) in
+      ended (λ end. with_middle (λ start. first end) second) (λ end. middle (λ start. first end) second (λ start. item s.layout x.variable 0 _))

@@ -35,7 +35,7 @@ use Rattle.cw_tmpl.specs.Mnemonics.{ax, at_si, load}
 use Rattle.cw_tmpl.specs.Templates.{block_size, listed_size, entry_pieces}
 use Rattle.cw_tmpl.specs.ReferenceCode.{templates, landings, switches, entry_size, order_places, switch_places, switch_sizes, landings_place, switches_place, names_of, mark_starts, label_starts, statement_at, statements_from, orders_code}
 use Rattle.cw_tmpl.proofs.Growing.{blanks-append}
-use Rattle.cw_tmpl.proofs.Sizes.{listed, element_at_long, size_to, places_are, size_of_templates, size_of_landings, size_of_switches, landings_at}
+use Rattle.cw_tmpl.proofs.Sizes.{listed as size_alone, element_at_long, size_to, places_are, size_of_templates, size_of_landings, size_of_switches, landings_at}
 use Rattle.cw_obj.specs.ReferenceObject.{definition_of, definition_place}
 use Rattle.cw_object.specs.Fits.{is_word, is_long, fits_definition, fits_statement}
 use Rattle.cw_object.specs.IsWritable.{is_defined, are_defined, is_begun, are_begun}
@@ -221,7 +221,7 @@ begins-long o os h = cases (block_at 0 (o ∷ os)) (shape (o ∷ os))
 
     cases : (b : Block) → IsBlock b (o ∷ os) → 0 < block_size b o
     cases (block.Within n) sh = absurd sh
-    cases block.Single sh = let z = listed o in let y = alone-long o h in omega (arith, z, y)
+    cases block.Single sh = let z = size_alone o in let y = alone-long o h in omega (arith, z, y)
     cases (block.Fetch (cell.Word f n)) sh = omega arith
     cases (block.Fetch (cell.Frame n)) sh = omega arith
     cases (block.FetchPart (cell.Word f n) t b is_signed) sh = omega arith
