@@ -9,4 +9,5 @@ pub mod Loops
 pub mod Gotos
 pub mod Rules
 pub mod Bodies
+pub mod Branches
 pub mod Following

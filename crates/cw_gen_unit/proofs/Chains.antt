@@ -1,22 +1,23 @@
 -- Pieces that are added one after another, as the code adds them.
-use Rattle.std.proofs.Common.{◌≡◌, ℕ, ◌+◌, ◌≤◌, List, [], ◌∷◌, ◌++◌, length, drop, map, false, refl, sym, ap, ap₂, ◌∙◌, length-append, Option}
-use Rattle.std.proofs.lemmas.List.{drop_all}
+use Rattle.std.proofs.Common.{◌≡◌, ℕ, ◌+◌, ◌<◌, ◌≤◌, List, [], ◌∷◌, ◌++◌, length, drop, get_or, map, Bool, true, false, refl, sym, ap, ap₂, ◌∙◌, length-append, Option}
+use Rattle.std.proofs.lemmas.List.{drop_all, drop_more}
 use Rattle.cw_order.specs.declared.order.Order.{Order}
 use Rattle.cw_order.specs.declared.order.Order.TheVariants as order
 use Rattle.cw_unit.specs.declared.layout.Layout.{Layout}
 use Rattle.cw_unit.specs.declared.unit.Dest.{Dest}
 use Rattle.cw_unit.specs.declared.unit.Felem.{Felem}
 use Rattle.cw_unit.specs.declared.unit.Ref.{Ref, out-Ref}
-use Rattle.cw_unit.specs.declared.unit.Stmt.{Stmt, Stmt-F, roll-Stmt, map-Stmt}
-use Rattle.cw_unit.specs.declared.unit.Stmt.TheFolds.{fold-roll-Stmt}
+use Rattle.cw_unit.specs.declared.unit.Stmt.{Stmt, Stmt-F, roll-Stmt}
 use Rattle.cw_unit.specs.declared.unit.Stmt.TheOpen as statement
 use Rattle.cw_gen_expr.specs.Pieces.{MarkedOrders, Piece, plain, followed_by, with_end, sequence}
 use Rattle.cw_gen_expr.specs.Output.{added}
-use Rattle.cw_gen_expr.specs.ReferenceExpressions.{Scope, at_line, ConditionPiece, choice_piece, item_order, spot_piece, reference_of}
+use Rattle.cw_gen_expr.specs.ReferenceExpressions.{Scope, at_line, ConditionPiece, item_order, spot_piece, reference_of}
 use Rattle.cw_gen_expr.proofs.Layers.{reference-made}
 use Rattle.cw_gen_expr.proofs.Making.{reserved, closed, added-both, added-end, added-nothing, two_steps}
-use Rattle.cw_gen_unit.specs.ReferenceStatements.{begin_orders, jump_piece, with_middle, set_orders, loop_place, elements_piece, element_ways, ring_piece, stepped_piece, statement_step, statement_piece}
+use Rattle.cw_gen_unit.specs.ReferenceStatements.{begin_orders, jump_piece, with_middle, set_orders, loop_place, parted_piece, elements_piece, element_ways, ring_piece, stepped_piece, statement_step, statement_piece}
 use Rattle.cw_gen_unit.specs.BegunLoops.{ended, IsBegun}
+use Rattle.cw_gen_unit.specs.Endings.{ends_behind, list_ends, comes_to_end}
+use Rattle.cw_gen_unit.proofs.Layers.{statement_layer, statement-rolled, with_ends, ending_layer, ending-rolled}
 use Rattle.cw_gen_unit.specs.declared.begun.Begun.{Begun}
 use Rattle.cw_gen_unit.specs.declared.begun.WayOn.TheVariants as way
 
@@ -49,11 +50,11 @@ pub middle : (a b : ℕ → Piece) (n : ℕ) (x y z : MarkedOrders) → n ≡ le
 middle a b n x y z e first second = record { is = two_steps (with_end a) (b (length x.marks)) x y z first.is (second.is ∙ ap (λ k. added (b k) y) e) }
 
 -- one of two by a condition
-pub chosen : (c : ConditionPiece) (a b : Piece) (end other : ℕ) (x x1 x2 x3 x4 x5 x6 x7 x8 : MarkedOrders) → end ≡ length x.marks → x1 ≡ reserved x → other ≡ length x1.marks → x2 ≡ reserved x1 → Adds (c false other) x2 x3 → Adds a x3 x4 → x5 ≡ added (plain (order.Jump end ∷ [])) x4 → x6 ≡ closed other x5 → Adds b x6 x7 → x8 ≡ closed end x7 → Adds (choice_piece c a b) x x8
-chosen c a b end other x x1 x2 x3 x4 x5 x6 x7 x8 ee e1 eo e2 e3 e4 e5 e6 e7 e8 =
-    let first = λ (k m : ℕ). followed_by (c false m) (followed_by a (plain (order.Jump k ∷ []))) in
+pub chosen : (c : ConditionPiece) (between : ℕ → List Order) (a b : Piece) (end other : ℕ) (x x1 x2 x3 x4 x5 x6 x7 x8 : MarkedOrders) → end ≡ length x.marks → x1 ≡ reserved x → other ≡ length x1.marks → x2 ≡ reserved x1 → Adds (c false other) x2 x3 → Adds a x3 x4 → x5 ≡ added (plain (between end)) x4 → x6 ≡ closed other x5 → Adds b x6 x7 → x8 ≡ closed end x7 → Adds (parted_piece c between a b) x x8
+chosen c between a b end other x x1 x2 x3 x4 x5 x6 x7 x8 ee e1 eo e2 e3 e4 e5 e6 e7 e8 =
+    let first = λ (k m : ℕ). followed_by (c false m) (followed_by a (plain (between k))) in
     ends (λ k. followed_by (with_end (first k)) b) end x x1 x7 x8 ee e1
-    (and_then (ends (first end) other x1 x2 x5 x6 eo e2 (and_then e3 (and_then e4 (one (plain (order.Jump end ∷ [])) x4 x5 e5))) e6) e7)
+    (and_then (ends (first end) other x1 x2 x5 x6 eo e2 (and_then e3 (and_then e4 (one (plain (between end)) x4 x5 e5))) e6) e7)
     e8
 
 -- ---- FOR
@@ -107,13 +108,13 @@ looped y line item loop body x x1 x2 x3 b begun inner e = record { is = e ∙ ap
 
 -- ---- statements
 
-module _ (s : Scope) (who : Option ℕ) (answer : ℕ) where
-  statement_rolled : (y : Stmt-F Stmt) → statement_piece s who answer (roll-Stmt y) ≡ statement_step s who answer (map-Stmt Stmt Piece (statement_piece s who answer) y)
-  statement_rolled y = fold-roll-Stmt Piece (statement_step s who answer) y
+first_dropped : (ss : List Stmt) (i : ℕ) (t : Stmt) → i < length ss → t ≡ get_or ss i t → drop i ss ≡ t ∷ drop (i + 1) ss
+first_dropped ss i t lt at = drop_more ss i t lt ∙ ap (λ x. x ∷ drop (i + 1) ss) (sym at)
 
+module _ (s : Scope) (who : Option ℕ) (answer : ℕ) where
   -- by the first layer of a statement
-  pub by_statement : (t : Stmt) (y : Stmt-F Stmt) (x x' : MarkedOrders) → t ≡ roll-Stmt y → Adds (statement_step s who answer (map-Stmt Stmt Piece (statement_piece s who answer) y)) x x' → x' ≡ added (statement_piece s who answer t) x
-  by_statement t y x x' is h = h.is ∙ ap (λ p. added p x) (sym (ap (statement_piece s who answer) is ∙ statement_rolled y))
+  pub by_statement : (t : Stmt) (y : Stmt-F Stmt) (x x' : MarkedOrders) → t ≡ roll-Stmt y → Adds (statement_layer s who answer y) x x' → x' ≡ added (statement_piece s who answer t) x
+  by_statement t y x x' is h = h.is ∙ ap (λ p. added p x) (sym (ap (statement_piece s who answer) is ∙ statement-rolled s who answer y))
 
   -- a statement that is named by another way
   pub inner : (t t' : Stmt) (x x' : MarkedOrders) → t' ≡ t → x' ≡ added (statement_piece s who answer t') x → Adds (statement_piece s who answer t) x x'
@@ -125,6 +126,31 @@ module _ (s : Scope) (who : Option ℕ) (answer : ℕ) where
       one (sequence (map (statement_piece s who answer) ss)) x y
       (sym (added-nothing y) ∙ ap (λ l. added (sequence (map (statement_piece s who answer) l)) y) (sym (drop_all k ss' le)) ∙ h
       ∙ ap (λ l. added (sequence (map (statement_piece s who answer) l)) x) e)
+
+  -- and to the next of a list
+  pub next_statement : (ss : List Stmt) (i : ℕ) (t : Stmt) (x y whole : MarkedOrders) → i < length ss → t ≡ get_or ss i t → y ≡ added (statement_piece s who answer t) x → added (sequence (map (statement_piece s who answer) (drop i ss))) x ≡ whole → added (sequence (map (statement_piece s who answer) (drop (i + 1) ss))) y ≡ whole
+  next_statement ss i t x y whole lt at made h =
+      let rest = sequence (map (statement_piece s who answer) (drop (i + 1) ss)) in
+      ap (added rest) made ∙ sym (added-both (statement_piece s who answer t) rest x)
+      ∙ ap (λ l. added (sequence (map (statement_piece s who answer) l)) x) (sym (first_dropped ss i t lt at))
+      ∙ h
+
+-- ---- whether a run may come to the end of a statement
+
+-- by its first layer
+pub by_ending : (t : Stmt) (y : Stmt-F Stmt) (b : Bool) → t ≡ roll-Stmt y → b ≡ ending_layer y → b ≡ comes_to_end t
+by_ending t y b is h = h ∙ sym (ap comes_to_end is ∙ ending-rolled y)
+
+-- past the next statement of a list
+pub next_ending : (ss : List Stmt) (i : ℕ) (t : Stmt) (before ends behind whole : Bool) → i < length ss → t ≡ get_or ss i t → ends ≡ comes_to_end t → behind ≡ ends_behind before t ends → list_ends before (with_ends (drop i ss)) ≡ whole → list_ends behind (with_ends (drop (i + 1) ss)) ≡ whole
+next_ending ss i t before ends behind whole lt at e f h =
+    ap (λ b. list_ends b (with_ends (drop (i + 1) ss))) (f ∙ ap (ends_behind before t) e)
+    ∙ ap (λ l. list_ends before (with_ends l)) (sym (first_dropped ss i t lt at))
+    ∙ h
+
+-- and past the last
+pub last_ending : (ss ss' : List Stmt) (k : ℕ) (b : Bool) → ss' ≡ ss → length ss' ≤ k → list_ends b (with_ends (drop k ss')) ≡ list_ends true (with_ends ss') → b ≡ list_ends true (with_ends ss)
+last_ending ss ss' k b e le h = ap (λ l. list_ends b (with_ends l)) (sym (drop_all k ss' le)) ∙ h ∙ ap (λ l. list_ends true (with_ends l)) e
 
 -- the address of a reference
 pub address : (s : Scope) (r : Ref) (x x' : MarkedOrders) → x' ≡ added (spot_piece s (out-Ref r).at) x → Adds (reference_of s r).address x x'

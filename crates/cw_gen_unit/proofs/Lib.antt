@@ -1,3 +1,4 @@
+pub mod Layers
 pub mod Chains
 pub mod PlacedLabels
 pub mod WholeUnits

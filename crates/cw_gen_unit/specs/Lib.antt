@@ -1,3 +1,4 @@
+pub mod Endings
 pub mod ReferenceStatements
 pub mod BuiltStatements
 pub mod ReferenceUnits

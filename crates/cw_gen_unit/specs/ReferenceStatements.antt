@@ -1,5 +1,5 @@
 -- The orders of statements.
-use Rattle.std.specs.Prelude.{ℕ, zero, suc, ◌+◌, ℤ, pos, negsuc, List, [], ◌∷◌, ◌++◌, map, length, true, false, Option, Some, None, slice_get, if◌then◌else◌}
+use Rattle.std.specs.Prelude.{ℕ, zero, suc, ◌+◌, ℤ, pos, negsuc, List, [], ◌∷◌, ◌++◌, map, length, Bool, true, false, not, ◌&&◌, Option, Some, None, slice_get, if◌then◌else◌}
 use Rattle.cw_order.specs.declared.order.Order.{Order}
 use Rattle.cw_order.specs.declared.order.Order.TheVariants as order
 use Rattle.cw_order.specs.declared.order.Place.{Place}
@@ -21,15 +21,17 @@ use Rattle.cw_unit.specs.declared.unit.Felem.TheVariants as element
 use Rattle.cw_unit.specs.declared.unit.Expr.{Expr}
 use Rattle.cw_unit.specs.declared.unit.Cond.{Cond}
 use Rattle.cw_unit.specs.declared.unit.Ref.{Ref, out-Ref}
-use Rattle.cw_unit.specs.declared.unit.Stmt.{Stmt, Stmt-F, fold-Stmt}
+use Rattle.cw_unit.specs.declared.unit.Stmt.{Stmt, Stmt-F}
+use Rattle.cw_unit.specs.declared.unit.Stmt.TheFolds.{para-Stmt}
 use Rattle.cw_unit.specs.declared.unit.Stmt.TheOpen as statement
 use Rattle.cw_gen_expr.specs.Pieces.{Piece, plain, followed_by, sequence, with_end, with_labels}
-use Rattle.cw_gen_expr.specs.ReferenceExpressions.{Scope, at_line, saved, argument_words, control_place, item_order, store_orders, choice_piece, number_order, call_order, condition_piece, argument_piece, reference_of, expression_piece}
+use Rattle.cw_gen_expr.specs.ReferenceExpressions.{Scope, at_line, saved, argument_words, control_place, item_order, store_orders, ConditionPiece, number_order, call_order, condition_piece, argument_piece, reference_of, expression_piece}
 use Rattle.cw_gen_expr.specs.UnitTables.{label_mark}
 use Rattle.cw_gen_unit.specs.declared.simple.Simple.{Simple}
 use Rattle.cw_gen_unit.specs.declared.simple.Simple.TheVariants as simple
 use Rattle.cw_gen_unit.specs.declared.simple.SimpleStep.{SimpleStep}
 use Rattle.cw_gen_unit.specs.SimpleLoops.{simple_step}
+use Rattle.cw_gen_unit.specs.Endings.{is_empty, comes_to_end}
 
 -- the start of a statement
 abbrev pub begin_orders : ℕ → List Order
@@ -228,11 +230,26 @@ module _ (s : Scope) where
   abbrev pub loop_piece : (item : ℕ) → Ref → List Felem → Piece → Piece
   loop_piece item r es body = followed_by (plain (begin_orders s.line)) (begun_loop (simple_step s.layout item r es) item r es body)
 
+-- ---- IF
+
+-- one of two by a condition, with orders between them, which may jump past the second
+abbrev pub parted_piece : ConditionPiece → (between : (end : ℕ) → List Order) → (first second : Piece) → Piece
+parted_piece c between a b =
+    with_end (λ end. followed_by (with_end (λ other. followed_by (c false other) (followed_by a (plain (between end))))) b)
+
+-- the jump past the second of two statements is there where a run may come to the end of the first, and the second has orders
+abbrev pub jump_past : (ends : Bool) → (second : Stmt) → (end : ℕ) → List Order
+jump_past ends second end = if ends && not (is_empty second) then (order.Jump end ∷ []) else []
+
+-- two statements by a condition, each with its orders
+abbrev pub branches_piece : ConditionPiece → (first second : Stmt × Piece) → Piece
+branches_piece c a b = parted_piece c (jump_past (comes_to_end a.0) b.0) a.1 b.1
+
 -- ---- statements
 
 module _ (s : Scope) (who : Option ℕ) (answer : ℕ) where
-  -- each at its line
-  abbrev pub statement_step : Stmt-F Piece → Piece
+  -- each at its line, with the statements in it and their orders
+  abbrev pub statement_step : Stmt-F (Stmt × Piece) → Piece
   statement_step (statement.Put line r e) =
       let h = at_line line s in
       followed_by (plain (begin_orders line))
@@ -247,10 +264,10 @@ module _ (s : Scope) (who : Option ℕ) (answer : ℕ) where
       followed_by (plain (begin_orders line)) (followed_by (sequence (map (argument_piece h) args)) (plain (call_order h t ∷ after_statement_call t)))
   statement_step (statement.Answer line e) =
       followed_by (plain (begin_orders line)) (followed_by (expression_piece (at_line line s) e answer) (plain (order.Return (argument_words s.parameters) true ∷ [])))
-  statement_step (statement.If line c a b) = followed_by (plain (begin_orders line)) (choice_piece (condition_piece (at_line line s) c) a b)
-  statement_step (statement.For line item r es body) = loop_piece (at_line line s) item r es body
-  statement_step (statement.Seq ss) = sequence ss
-  statement_step (statement.Mark ls t) = followed_by (with_labels ls) t
+  statement_step (statement.If line c a b) = followed_by (plain (begin_orders line)) (branches_piece (condition_piece (at_line line s) c) a b)
+  statement_step (statement.For line item r es body) = loop_piece (at_line line s) item r es body.1
+  statement_step (statement.Seq ss) = sequence (map (λ t. t.1) ss)
+  statement_step (statement.Mark ls t) = followed_by (with_labels ls) t.1
 
   abbrev pub statement_piece : Stmt → Piece
-  statement_piece = fold-Stmt Piece statement_step
+  statement_piece = para-Stmt Piece statement_step

@@ -1,5 +1,5 @@
 -- The orders of a unit, and the program of the orders of units.
-use Rattle.std.specs.Prelude.{ℕ, suc, ◌+◌, nat_eq, List, [], ◌∷◌, ◌++◌, map, length, is_some, Bool, true, false, Option, Some, None, slice_get, slice_index}
+use Rattle.std.specs.Prelude.{ℕ, suc, ◌+◌, nat_eq, List, [], ◌∷◌, ◌++◌, map, length, is_some, Bool, true, false, Option, Some, None, slice_get, slice_index, if◌then◌else◌}
 use Rattle.cw_track.specs.Machine.{Machine}
 use Rattle.cw_track.specs.Tracking.{step_budget}
 use Rattle.cw_unit.specs.declared.unit.Unit.{Unit as SourceUnit}
@@ -29,6 +29,7 @@ use Rattle.cw_gen_expr.specs.ReferenceExpressions.{argument_words}
 use Rattle.cw_gen_expr.specs.ReferenceEntries.{scope_of, bind_orders}
 use Rattle.cw_gen_expr.specs.UnitTables.{label_mark, procedure_mark, first_mark, tables_of}
 use Rattle.cw_gen_unit.specs.ReferenceStatements.{statement_piece}
+use Rattle.cw_gen_unit.specs.Endings.{comes_to_end}
 
 -- the scale of the answer of the procedure whose body it is
 abbrev pub answer_of : SourceUnit → Option ℕ → ℕ
@@ -48,9 +49,9 @@ place_of l (p ∷ ps) = place_if (nat_eq l p.0) p.1 (place_of l ps)
 
 -- ---- bodies
 
--- the return at the end of a procedure, which answers 0
+-- the return at the end of a procedure, which answers 0: none where no run comes to that end
 abbrev pub leave_orders : Proc → List Order
-leave_orders q = order.Const 0 ∷ order.Return (argument_words q.params) true ∷ []
+leave_orders q = if comes_to_end q.body then (order.Const 0 ∷ order.Return (argument_words q.params) true ∷ []) else []
 
 module _ (u : SourceUnit) where
   -- a procedure: its entry, its body, and the return at its end

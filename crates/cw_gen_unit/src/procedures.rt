@@ -7,6 +7,7 @@ ghost use Rattle.cw_gen_expr.specs.Pieces.{plain};
 ghost use Rattle.cw_gen_expr.specs.Output.{made, added};
 ghost use Rattle.cw_gen_expr.specs.ReferenceEntries.{bound_order, parameter_orders, bind_orders};
 ghost use Rattle.cw_gen_unit.specs.ReferenceUnits.{entry_orders, leave_orders, procedure_piece};
+ghost use Rattle.cw_gen_unit.specs.Endings.{comes_to_end};
 
 use crate::statements::emit_statement;
 use cw_gen_expr::orders::{all_words, home};
@@ -96,10 +97,14 @@ fn emit_entry(
     emit_bind(out, layout, procedure.params.as_slice())
 }
 
-/// Adds the return at the end of a procedure, which answers 0.
-fn emit_leave(out: &mut Output, procedure: &Proc) -> Result<(), NoMemory>
+/// Adds the return at the end of a procedure, which answers 0, where a run may come to that end.
+fn emit_leave(out: &mut Output, procedure: &Proc, ends: bool) -> Result<(), NoMemory>
+    requires { ends ≡ comes_to_end procedure.now.body }
     ensures { OnOk result (made out.new ≡ added (plain (leave_orders procedure.now)) (made out.old)) }
 {
+    if !ends {
+        return Ok(());
+    }
     let arguments = all_words(procedure.params.as_slice())?;
     out.push(Order::Const(0))?;
     out.push(Order::Return {
@@ -132,7 +137,7 @@ pub fn emit_procedure(
     ensures { OnOk result (made out.new ≡ added (procedure_piece unit.now number procedure.now) (made out.old)) }
 {
     emit_entry(out, unit, layout, number, procedure)?;
-    emit_statement(
+    let ends = emit_statement(
         alloc,
         out,
         unit,
@@ -142,5 +147,5 @@ pub fn emit_procedure(
         answer_scale(procedure),
         &procedure.body,
     )?;
-    emit_leave(out, procedure)
+    emit_leave(out, procedure, ends)
 }

@@ -1,11 +1,12 @@
 //! Statements.
-ghost use Rattle.std.specs.Prelude.{◌≡◌, ◌+◌, ◌∷◌, [], None, OnOk, IfOk, slice_get};
+ghost use Rattle.std.specs.Prelude.{◌≡◌, ◌+◌, ◌∷◌, ◌||◌, [], None, OnOk, IfOk, slice_get};
 ghost use Rattle.cw_unit.specs.declared.unit.Stmt.TheOpen as statement;
 ghost use Rattle.cw_gen_expr.specs.Pieces.{Piece, plain};
 ghost use Rattle.cw_gen_expr.specs.Output.{made, added};
 ghost use Rattle.cw_gen_expr.specs.ReferenceExpressions.{scope_with, store_orders};
 ghost use Rattle.cw_gen_expr.specs.UnitTables as tables;
-ghost use Rattle.cw_gen_unit.specs.ReferenceStatements.{begin_orders, after_statement_call, own_order as spec_own_order, goal_order as spec_goal_order, statement_step, statement_piece};
+ghost use Rattle.cw_gen_unit.specs.ReferenceStatements.{begin_orders, after_statement_call, own_order as spec_own_order, goal_order as spec_goal_order, jump_past, statement_step, statement_piece};
+ghost use Rattle.cw_gen_unit.specs.Endings.{is_empty as spec_is_empty, ends_behind as spec_ends_behind, comes_to_end};
 
 use crate::begun::{begin_loop, end_loop};
 use cw_gen_expr::expressions::{
@@ -208,8 +209,43 @@ fn emit_answer(
     })
 }
 
+/// Whether a statement has no orders: a list of none.
+fn is_empty(statement: &Stmt) -> bool
+    ensures { result ≡ spec_is_empty statement.now }
+{
+    match statement {
+        Stmt::Seq(statements) => statements.as_slice().is_empty(),
+        _ => false,
+    }
+}
+
+/// Adds the jump past the second of two statements, where a run may come to the end of the first and the second has orders.
+fn emit_jump_past(out: &mut Output, ends: bool, second: &Stmt, end: u32) -> Result<(), NoMemory>
+    ensures { OnOk result (made out.new ≡ added (plain (jump_past ends second.now end)) (made out.old)) }
+{
+    if ends && !is_empty(second) {
+        out.push(Order::Jump(end))
+    } else {
+        Ok(())
+    }
+}
+
+/// Whether a run may come to what stands behind a statement, where it may come to what stands before it or not.
+fn ends_behind(before: bool, statement: &Stmt, ends: bool) -> bool
+    ensures { result ≡ spec_ends_behind before statement.now ends }
+{
+    if is_empty(statement) { before } else { ends }
+}
+
+/// Whether a run may come to the end of one of two statements.
+fn one_ends(first: bool, second: bool) -> bool
+    ensures { result ≡ (first || second) }
+{
+    first || second
+}
+
 /// Adds the orders of a statement of a body: the segment's, or that of the procedure `who`, with these parameters and an answer of this
-/// scale.
+/// scale. It answers whether a run may come to the end of the statement.
 pub fn emit_statement(
     alloc: Global,
     out: &mut Output,
@@ -219,27 +255,39 @@ pub fn emit_statement(
     who: Option<u16>,
     answer: u8,
     statement: &Stmt,
-) -> Result<(), NoMemory>
-    ensures { OnOk result (made out.new ≡ added (statement_piece (scope_with unit.now layout.now parameters.now) who answer statement.now) (made out.old)) }
+) -> Result<bool, NoMemory>
+    ensures orders { OnOk result (made out.new ≡ added (statement_piece (scope_with unit.now layout.now parameters.now) who answer statement.now) (made out.old)) }
+    ensures ends { IfOk result (λ ends. ends ≡ comes_to_end statement.now) }
 {
     match statement {
-        Stmt::Put(line, reference, e) => emit_put(
-            out, unit, layout, parameters, *line, reference, e,
-        ),
-        Stmt::PutBits(line, t, b, reference, e) => emit_put_bits(
-            out, unit, layout, parameters, *line, *t, *b, reference, e,
-        ),
-        Stmt::Go(line, dest) => emit_go(out, unit, layout, parameters, who, *line, dest),
-        Stmt::Call(line, target, arguments) => emit_call_statement(
-            out,
-            unit,
-            layout,
-            parameters,
-            *line,
-            target,
-            arguments.as_slice(),
-        ),
-        Stmt::Answer(line, e) => emit_answer(out, unit, layout, parameters, answer, *line, e),
+        Stmt::Put(line, reference, e) => {
+            emit_put(out, unit, layout, parameters, *line, reference, e)?;
+            Ok(true)
+        }
+        Stmt::PutBits(line, t, b, reference, e) => {
+            emit_put_bits(out, unit, layout, parameters, *line, *t, *b, reference, e)?;
+            Ok(true)
+        }
+        Stmt::Go(line, dest) => {
+            emit_go(out, unit, layout, parameters, who, *line, dest)?;
+            Ok(false)
+        }
+        Stmt::Call(line, target, arguments) => {
+            emit_call_statement(
+                out,
+                unit,
+                layout,
+                parameters,
+                *line,
+                target,
+                arguments.as_slice(),
+            )?;
+            Ok(true)
+        }
+        Stmt::Answer(line, e) => {
+            emit_answer(out, unit, layout, parameters, answer, *line, e)?;
+            Ok(false)
+        }
         Stmt::If(line, condition, holds, fails) => {
             emit_begin(out, *line)?;
             let end = out.new_mark()?;
@@ -247,7 +295,7 @@ pub fn emit_statement(
             emit_condition(
                 out, unit, layout, parameters, *line, condition, false, other,
             )?;
-            emit_statement(
+            let first = emit_statement(
                 alloc,
                 out,
                 unit,
@@ -257,9 +305,9 @@ pub fn emit_statement(
                 answer,
                 holds.get(),
             )?;
-            out.push(Order::Jump(end))?;
+            emit_jump_past(out, first, fails.get(), end)?;
             out.set_mark(other)?;
-            emit_statement(
+            let second = emit_statement(
                 alloc,
                 out,
                 unit,
@@ -269,7 +317,8 @@ pub fn emit_statement(
                 answer,
                 fails.get(),
             )?;
-            out.set_mark(end)
+            out.set_mark(end)?;
+            Ok(one_ends(first, second))
         }
         Stmt::For(line, looped, reference, elements, body) => {
             emit_begin(out, *line)?;
@@ -294,13 +343,18 @@ pub fn emit_statement(
                 answer,
                 body.get(),
             )?;
-            end_loop(out, layout, *line, *looped, begun)
+            end_loop(out, layout, *line, *looped, begun)?;
+            Ok(true)
         }
         Stmt::Seq(statements) => {
+            let mut before = true;
             for member in statements.as_slice() {
-                emit_statement(alloc, out, unit, layout, parameters, who, answer, member)?;
+                let ends = emit_statement(
+                    alloc, out, unit, layout, parameters, who, answer, member,
+                )?;
+                before = ends_behind(before, member, ends);
             }
-            Ok(())
+            Ok(before)
         }
         Stmt::Mark(labels, statement) => {
             out.set_labels(labels.as_slice())?;

@@ -16,22 +16,23 @@ use Rattle.cw_unit.specs.declared.unit.Arg.TheOpen as layer
 use Rattle.cw_unit.specs.declared.unit.Arg.TheOpen.{Arg-F, Cond-F, Spot-F, Ref-F}
 use Rattle.cw_unit.specs.Scales.{answer_scale}
 use Rattle.cw_gen_expr.specs.Pieces.{Piece, plain, followed_by, sequence, with_end}
-use Rattle.cw_gen_expr.specs.ReferenceExpressions.{Scope, ConditionPiece, Reference, saved, two_values, control_place, item_order, item_span, table_span, table_orders, bounds_orders, load_orders, rescale_orders, logic_order, narrow, number_order, known_or, named_or, comparator_for, pick_mark, choice_piece, call_order, label_order, value_of, condition_piece, argument_piece, reference_of, expression_piece}
+use Rattle.cw_gen_expr.specs.ReferenceExpressions.{Scope, ConditionPiece, Reference, saved, two_values, control_place, item_order, item_span, table_span, table_orders, bounds_orders, load_orders, rescale_orders, logic_order, narrow, number_order, known_or, named_or, comparator_for, pick_mark, call_order, label_order, value_of, condition_piece, argument_piece, reference_of, expression_piece}
 use Rattle.cw_gen_expr.proofs.Layers.{value_layer, value-made, spot-made, reference-made, condition-made, argument-made, total, expression_size, expression-size, expression_size_layer, argument_size, argument-size, argument_size_layer, spot-size, spot_size_layer, reference_size, reference-size, condition_size, condition-size, condition_size_layer}
 use Rattle.cw_gen_expr.proofs.Layers as made
+use Rattle.cw_gen_unit.specs.ReferenceStatements.{parted_piece}
 use Rattle.cw_tokens.specs.LeastTokens.{separated, part, expression_tokens, argument_tokens, condition_tokens, reference_tokens}
 use Rattle.cw_tmpl.specs.Templates.{listed_size, listed_sizes}
 use Rattle.cw_size.proofs.Short.{word_short, one_short, sizes-append, first_short, Short, plainly, both_short, ended_short, eased}
 use Rattle.cw_size.proofs.OrderSizes.{item-first, item-load, saved-item, saved-table, bounds-short, take-short, load-part-short, element-short, of-two-short, entry-short, rescale-short, rescale-whole, rescale-same, logic-short, product-short, call-short, label-short}
 use Rattle.cw_size.proofs.TokenLayers.{expression_layer, expression-tokens, argument_layer, argument-tokens, condition_layer, condition-tokens, spot_layer, spot-tokens, reference-tokens, separated-within}
 
-pub choice_short : {m k n : ℕ} {i j : ℕ} (c : ConditionPiece) (a b : Piece) → ((when : Bool) (mark : ℕ) → Short (c when mark) 0 m) → Short a i k → Short b j n → Short (choice_piece c a b) (i + j) (m + k + n + 3)
-choice_short {m = m} {k = k} {n = n} {i = i} {j = j} c a b hc ha hb =
-    ended_short (λ end. followed_by (with_end (λ other. followed_by (c false other) (followed_by a (plain (order.Jump end ∷ []))))) b)
+pub parted_short : {m k n : ℕ} {i j : ℕ} (c : ConditionPiece) (between : ℕ → List Order) (a b : Piece) → ((when : Bool) (mark : ℕ) → Short (c when mark) 0 m) → ((end : ℕ) → listed_sizes (between end) ≤ 3) → Short a i k → Short b j n → Short (parted_piece c between a b) (i + j) (m + k + n + 3)
+parted_short {m = m} {k = k} {n = n} {i = i} {j = j} c between a b hc few ha hb =
+    ended_short (λ end. followed_by (with_end (λ other. followed_by (c false other) (followed_by a (plain (between end))))) b)
     (λ end. eased
     (both_short
-    (ended_short (λ other. followed_by (c false other) (followed_by a (plain (order.Jump end ∷ []))))
-    (λ other. both_short (hc false other) (both_short ha (plainly (order.Jump end ∷ []) 3 (let z : 3 + 0 ≤ 3 = omega arith in z)))))
+    (ended_short (λ other. followed_by (c false other) (followed_by a (plain (between end))))
+    (λ other. both_short (hc false other) (both_short ha (plainly (between end) 3 (few end)))))
     hb)
     (let z : m + (k + 3) + n + (i + j) ≤ m + k + n + 3 + (0 + (i + 0) + j) = omega arith in z))
 
@@ -331,7 +332,7 @@ module _ (s : Scope) where
         let j = 32 * expression_tokens a + 5 in
         let k = 32 * expression_tokens d + 5 in
         eased
-        (choice_short (condition_piece s c) (expression_piece s a f) (expression_piece s d f) (λ when mark. b.conditions c (let z : condition_size c < n = omega (arith, le) in z) when mark)
+        (parted_short (condition_piece s c) (λ end. order.Jump end ∷ []) (expression_piece s a f) (expression_piece s d f) (λ when mark. b.conditions c (let z : condition_size c < n = omega (arith, le) in z) when mark) (λ end. (let z : 3 + 0 ≤ 3 = omega arith in z))
         (at-scale a (let z : expression_size a < n = omega (arith, le) in z) f) (at-scale d (let z : expression_size d < n = omega (arith, le) in z) f))
         (let z : i + j + k + 3 + spare ≤ 32 * (3 + (condition_tokens c + (expression_tokens a + expression_tokens d))) + 5 + (0 + 0) = omega (arith, r) in z)
 

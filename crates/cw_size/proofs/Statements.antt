@@ -14,8 +14,9 @@ use Rattle.cw_unit.specs.declared.unit.Stmt.TheOpen as statement
 use Rattle.cw_gen_expr.specs.Pieces.{Piece, plain, followed_by, sequence, with_end}
 use Rattle.cw_gen_expr.specs.ReferenceExpressions.{Scope, at_line, argument_words, control_place, item_order, store_orders, call_order, reference_of, condition_piece, expression_piece}
 use Rattle.cw_gen_expr.proofs.Layers.{total}
-use Rattle.cw_gen_unit.specs.ReferenceStatements as made
-use Rattle.cw_gen_unit.specs.ReferenceStatements.{begin_orders, after_statement_call, goal_order, jump_piece, with_middle, keep_orders, number_orders, set_orders, bump_orders, turn_piece, while_values, step_values, element_piece, elements_piece, element_ways, ring_piece, loop_place, simple_beginning, only_step, first_turn, stepped_piece, elements_loop, begun_loop, loop_piece, statement_piece}
+use Rattle.cw_gen_unit.specs.Endings.{comes_to_end}
+use Rattle.cw_gen_unit.proofs.Layers.{statement_layer, statement-made, jump-holds}
+use Rattle.cw_gen_unit.specs.ReferenceStatements.{begin_orders, after_statement_call, goal_order, jump_piece, with_middle, keep_orders, number_orders, set_orders, bump_orders, turn_piece, while_values, step_values, element_piece, elements_piece, element_ways, ring_piece, loop_place, simple_beginning, only_step, first_turn, stepped_piece, elements_loop, begun_loop, loop_piece, jump_past, statement_piece}
 use Rattle.cw_gen_unit.specs.declared.simple.SimpleStep.{SimpleStep}
 use Rattle.cw_gen_unit.specs.SimpleLoops.{simple_step}
 use Rattle.cw_tokens.specs.LeastTokens as least
@@ -25,15 +26,9 @@ use Rattle.cw_tokens.specs.SetLabels.{together, set_step, set_labels}
 use Rattle.cw_size.proofs.Short.{one_short, first_short, Short, plainly, both_short, ended_short, labels_short, eased}
 use Rattle.cw_size.proofs.OrderSizes.{item-load, item-keep, store-part-short, store-short, call-short, after-short, goal-short, number-short, set-short, bump-short, turn-short, limited-short, stepped-short, ways-short, simple-short}
 use Rattle.cw_size.proofs.TokenLayers.{each-argument, separated-within}
-use Rattle.cw_size.proofs.Expressions.{choice_short, saved_short, expression_short, condition_ended_short, address_short, arguments_short}
+use Rattle.cw_size.proofs.Expressions.{parted_short, saved_short, expression_short, condition_ended_short, address_short, arguments_short}
 
 -- ---- layers
-
-abbrev statement_layer : Scope → Option ℕ → ℕ → Stmt-F Stmt → Piece
-statement_layer s who f x = made.statement_step s who f (map-Stmt Stmt Piece (statement_piece s who f) x)
-
-statement-made : (s : Scope) (who : Option ℕ) (f : ℕ) (x : Stmt) → statement_piece s who f x ≡ statement_layer s who f (out-Stmt x)
-statement-made s who f = fold_out-Stmt Piece (made.statement_step s who f)
 
 abbrev tokens_layer : Stmt-F Stmt → ℕ
 tokens_layer x = least.statement_step (map-Stmt Stmt ℕ statement_tokens x)
@@ -275,7 +270,8 @@ module _ (s : Scope) (who : Option ℕ) (answer : ℕ) where
         let k = statement_tokens b in
         eased
         (both_short (begin_short line)
-        (choice_short (condition_piece (at_line line s) c) (statement_piece s who answer a) (statement_piece s who answer b) (λ when mark. condition_ended_short (at_line line s) c when mark)
+        (parted_short (condition_piece (at_line line s) c) (jump_past (comes_to_end a) b) (statement_piece s who answer a) (statement_piece s who answer b) (λ when mark. condition_ended_short (at_line line s) c when mark)
+        (jump-holds (λ os. listed_sizes os ≤ 3) (λ end. (let z : 3 + 0 ≤ 3 = omega arith in z)) (let z : 0 ≤ 3 = omega arith in z) (comes_to_end a) b)
         (below a (let z : statement_size a < n = omega (arith, le) in z)) (below b (let z : statement_size b < n = omega (arith, le) in z))))
         (let z : 0 + (32 * i + 32 * j + 32 * k + 3) + 15 * (set_labels a + set_labels b) ≤ 32 * (2 + (i + (j + k))) + (0 + (15 * set_labels a + 15 * set_labels b)) = omega arith in z)
     layer_short (statement.For line item r es t) le =

@@ -10,6 +10,7 @@ use Rattle.cw_unit.specs.Storage.{layout_of}
 use Rattle.cw_gen_expr.specs.ReferenceEntries.{scope_of, bind_orders}
 use Rattle.cw_gen_expr.specs.UnitTables.{first_mark}
 use Rattle.cw_gen_unit.specs.ReferenceUnits.{answer_of, leave_orders, entry_orders, procedure_piece, procedures_piece, unit_piece, label_marks, switch_lists, unit_orders}
+use Rattle.cw_gen_unit.proofs.Layers.{leave-holds}
 use Rattle.cw_tokens.specs.LeastTokens.{statement_tokens, procedure_tokens, procedures_tokens, switches_tokens, least_tokens}
 use Rattle.cw_tmpl.specs.Names.{landing_size}
 use Rattle.cw_tmpl.specs.Pieces.{blanks}
@@ -36,7 +37,7 @@ module _ (u : SourceUnit) where
   procedure_short p q =
       eased
       (both_short (plainly (entry_orders u p q) (9 + 13 * length q.params) (first_short (order.Enter (slice_index (layout_of u).frames p)) (bind_orders (layout_of u) q.params) 9 (13 * length q.params) (let z : 7 ≤ 9 = omega arith in z) (bind-short (layout_of u) q.params)))
-      (both_short (statement_short (scope_of u (Some p)) (Some p) (answer_of u (Some p)) q.body) (plainly (leave_orders q) 9 (let z : 2 + (6 + 0) ≤ 9 = omega arith in z))))
+      (both_short (statement_short (scope_of u (Some p)) (Some p) (answer_of u (Some p)) q.body) (plainly (leave_orders q) 9 (leave-holds (λ os. listed_sizes os ≤ 9) q (let z : 2 + (6 + 0) ≤ 9 = omega arith in z) (let z : 0 ≤ 9 = omega arith in z)))))
       (let z : 9 + 13 * length q.params + (32 * statement_tokens q.body + 9) + 15 * set_labels q.body ≤ 32 * (4 + (2 * length q.params + statement_tokens q.body)) + (0 + (15 * set_labels q.body + 0)) = omega arith in z)
 
   procedures_short : (p : ℕ) (qs : List Proc) → Short (procedures_piece u p qs) (15 * set_in_procedures qs) (32 * procedures_tokens qs)

@@ -29,7 +29,8 @@ use Rattle.cw_gen_expr.specs.ReferenceExpressions.{argument_words, call_order}
 use Rattle.cw_gen_expr.specs.UnitTables.{tables_of, procedure_mark, procedure_entry}
 use Rattle.cw_carry.proofs.Expressions.Standing.{Stands}
 use Rattle.cw_carry.proofs.Expressions.Effects.{BeginsNone, effect, all_silent, total_weight, total_growth, run_orders, run_through}
-use Rattle.cw_carry.proofs.Expressions.Carried.{here, after_call, going, over}
+use Rattle.cw_carry.proofs.Expressions.Carried.{here, LeavesAt, after_call, going, over}
+use Rattle.cw_gen_unit.specs.Endings.{comes_to_end}
 use Rattle.cw_gen_expr.specs.ReferenceEntries.{parameters_in, parameters_of}
 use Rattle.cw_carry.proofs.Expressions.Operations.{words}
 use Rattle.cw_carry.proofs.Expressions.Stepping.{Quiet, Compiled, source, target, B, AllCalls, Belong, Seen, IsSane, order_here}
@@ -60,7 +61,7 @@ taken_words (suc n) (Held c ∷ xs) bs = omega (arith, taken_words n xs bs, on_h
     on_held c xs (b ∷ bs) = omega arith
 
 module _ (c : Compiled) where
-  -- a procedure stands in its unit: its mark, its entry, its body, and the return behind that
+  -- a procedure stands in its unit: its mark, its entry, its body, and the return behind that where a run may come there
   pub record ProcedureAt (h : ℕ) (v : SourceUnit) (p : ℕ) (proc : Proc) : Type 0 where
     pub entry : ℕ
     pub marked : slice_get (c.orders_for v).marks (procedure_mark v p) ≡ Some entry
@@ -70,8 +71,7 @@ module _ (c : Compiled) where
     pub enters : Stands (c.orders_for v).list entry (order.Enter (slice_index (layout_of v).frames p) ∷ bind_orders (layout_of v) proc.params) start
     pub after : ℕ
     pub body : (c.places h v (Some p)).StatementAt start proc.body 64 after
-    pub leaves : slice_get (c.orders_for v).list after ≡ Some (order.Const 0)
-    pub returns : slice_get (c.orders_for v).list (after + 1) ≡ Some (order.Return (argument_words proc.params) true)
+    pub leaves : IsTrue (comes_to_end proc.body) → LeavesAt (c.orders_for v).list after (argument_words proc.params)
 
   -- where the next frame begins
   pub frames_agree : (s : ℕ) (acts : List Activation) (bs : List OrderActivation) → AllCalls c s acts bs → frame_end (target c) bs ≡ frame_top (source c) acts
@@ -189,7 +189,7 @@ module _ (c : Compiled) where
           within = (let z : weight_of o + (30 + weight) ≤ 224 = omega (arith, cheap, light.1, stands.few) in z);
           belongs = subst (λ d. Belong c d u) (sym e)
               (going v v_is false tt
-              (stands.after, 64, 0, stands.body, (let z : 0 + 64 ≤ 64 = omega arith in z), refl, (stands.after, false, here refl refl, (stands.leaves, subst (λ ps. slice_get (c.orders_for v).list (stands.after + 1) ≡ Some (order.Return (argument_words ps) true)) (sym here_params) stands.returns, refl))) (
+              (stands.after, 64, 0, stands.body, (let z : 0 + 64 ≤ 64 = omega arith in z), refl, (λ ends. (stands.after, false, here refl refl, (subst (λ ps. LeavesAt (c.orders_for v).list stands.after (argument_words ps)) (sym here_params) (stands.leaves ends), refl)))) (
                 record {
                   unit = t.unit;
                   unit_is = t.unit_is;

@@ -28,6 +28,7 @@ use Rattle.cw_order.specs.OrderState.{OrderActivation, OrderState, at as state, 
 use Rattle.cw_gen_expr.specs.ReferenceExpressions.{Scope, at_line, argument_words, control_place, comparator_for, item_order, form_orders, load_orders, store_orders, rescale_orders, logic_order, narrow, call_order, condition_piece, argument_piece, reference_of, expression_piece}
 use Rattle.cw_gen_expr.specs.BuiltExpressions.{most_levels, answers, is_condition, is_argument, built_reference, is_spot, is_expression}
 use Rattle.cw_carry.proofs.Expressions.Standing.{Stands, Made}
+use Rattle.cw_gen_unit.specs.Endings.{comes_to_end}
 use Rattle.cw_gen_expr.specs.ReferenceEntries.{parameters_of, scope_of}
 
 -- ---- ways
@@ -139,6 +140,10 @@ takes_number _ = true
 
 -- ---- works
 
+-- the return at the end of a procedure, which answers 0
+abbrev pub LeavesAt : List Order → (place words : ℕ) → Type 0
+LeavesAt code q words = (slice_get code q ≡ Some (order.Const 0)) × (slice_get code (q + 1) ≡ Some (order.Return words true))
+
 -- what is left to the crates that know statements: where a statement stands, before which place, and with room for so many levels in
 -- it; where a jump stands; where a loop's parts stand, the loop ending before a place; and where the orders of the whole beginning of a loop
 -- stand, from the address of its control variable on
@@ -162,12 +167,12 @@ module _ (places : Places) (code : List Order) (marks : List ℕ) (scope : Scope
 
   -- The code from this very place, with the accumulator so, carries out the work, and names its line wherever it can stop; what follows
   -- it may stand behind marks, a Save and jumps, and behind a statement or an expression at most as many jumps as leave room for its
-  -- levels. Nothing is said of the operands but that the top one is an address where it is to be used as one without a test: source and
+  -- levels. Behind a statement to whose end no run comes anything may stand. Nothing is said of the operands but that the top one is an address where it is to be used as one without a test: source and
   -- orders have the same operands, and a run of the source is never stuck for want of one
   abbrev pub CarriesOut : (place : ℕ) → (loaded ready : Bool) → Work → Type 0
   CarriesOut q l r Nothing = (slice_get code q ≡ Some order.NextBody) × (l ≡ false)
   CarriesOut q l r (Run s k) =
-      (next : ℕ) × (levels : ℕ) × (n : ℕ) × places.StatementAt q s levels next × (n + levels ≤ most_levels) × (l ≡ false) × Via code marks n next false (λ x m. CarriesOut x m false k)
+      (next : ℕ) × (levels : ℕ) × (n : ℕ) × places.StatementAt q s levels next × (n + levels ≤ most_levels) × (l ≡ false) × (IsTrue (comes_to_end s) → Via code marks n next false (λ x m. CarriesOut x m false k))
   CarriesOut q l r (Eval e scale line k) =
       (next : ℕ) × (levels : ℕ) × (n : ℕ) × (free : ℕ) × (last : ℕ) × IsTrue (is_expression scope.unit has_words e scale levels) × Made code marks (expression_piece (on_line line) e scale q free) q next free last × (n + levels ≤ most_levels) × (l ≡ false) × Via code marks n next true (λ x m. CarriesOut x m false k)
   CarriesOut q l r (Address a line k) =
@@ -186,7 +191,7 @@ module _ (places : Places) (code : List Order) (marks : List ℕ) (scope : Scope
   CarriesOut q l r (Enter t line wanted k) =
       (next : ℕ) × Stands code q (call_order (on_line line) t ∷ after_call t wanted) next × IsTrue (answered t wanted) × (l ≡ false) × Anywhere next wanted (λ x m. CarriesOut x m false k)
   CarriesOut q l r Return = (slice_get code q ≡ Some (order.Return (argument_words scope.parameters) true)) × (l ≡ true)
-  CarriesOut q l r Leave = (slice_get code q ≡ Some (order.Const 0)) × (slice_get code (q + 1) ≡ Some (order.Return (argument_words scope.parameters) true)) × (l ≡ false)
+  CarriesOut q l r Leave = LeavesAt code q (argument_words scope.parameters) × (l ≡ false)
   CarriesOut q l r (KeepAt n c k) =
       (next : ℕ) × IsTrue (has_words c.item 4) × (n < 4) × Stands code q (keep_orders scope.layout c.item n) next × (l ≡ true) × Anywhere next false (λ x m. CarriesOut x m false k)
   CarriesOut q l r (SetVar c k) =

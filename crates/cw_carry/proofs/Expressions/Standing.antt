@@ -5,7 +5,8 @@ use Rattle.std.proofs.lemmas.Option.{none-some}
 use Rattle.cw_order.specs.declared.order.Order.{Order}
 use Rattle.cw_order.specs.declared.order.Order.TheVariants as order
 use Rattle.cw_gen_expr.specs.Pieces.{MarkedOrders, Piece, plain, followed_by, with_end}
-use Rattle.cw_gen_expr.specs.ReferenceExpressions.{ConditionPiece, choice_piece, saved, two_values}
+use Rattle.cw_gen_expr.specs.ReferenceExpressions.{ConditionPiece, saved, two_values}
+use Rattle.cw_gen_unit.specs.ReferenceStatements.{parted_piece}
 
 -- a list stands in another from one place to the next one given. No length is named, so that a list is taken apart with the middle
 -- place as it comes
@@ -98,16 +99,16 @@ module _ (code : List Order) (marks : List ℕ) where
       let first = both_made a (plain os) q next free last made in
       (first.0, first.1, first.2, first.3.0)
 
-  -- one of two by a condition: where its condition, its branches and the jump between them stand, and its marks
-  pub record ChoiceMade (c : ConditionPiece) (a b : Piece) (q next free last : ℕ) : Type 0 where
+  -- one of two by a condition: where its condition, its branches and what is between them stand, and its marks
+  pub record PartedMade (c : ConditionPiece) (between : ℕ → List Order) (a b : Piece) (q next free last : ℕ) : Type 0 where
     pub first : ℕ
     pub first_free : ℕ
     pub condition_made : Made (c false (free + 1) q (free + 1 + 1)) q first (free + 1 + 1) first_free
-    pub jump : ℕ
+    pub middle : ℕ
     pub second_free : ℕ
-    pub first_made : Made (a first first_free) first jump first_free second_free
-    pub jumps : slice_get code jump ≡ Some (order.Jump free)
+    pub first_made : Made (a first first_free) first middle first_free second_free
     pub other : ℕ
+    pub between_made : Stands code middle (between free) other
     pub other_is : slice_get marks (free + 1) ≡ Some other
     pub other_marks : slice_get code other ≡ Some order.Mark
     pub second : ℕ
@@ -117,27 +118,27 @@ module _ (code : List Order) (marks : List ℕ) where
     pub end_is : slice_get marks free ≡ Some end
     pub end_marks : slice_get code end ≡ Some order.Mark
     pub next_is : end + 1 ≡ next
-    pub labels : (choice_piece c a b q free).labels ≡ ((c false (free + 1) q (free + 1 + 1)).labels ++ ((a first first_free).labels ++ [])) ++ (b second second_free).labels
+    pub labels : (parted_piece c between a b q free).labels ≡ ((c false (free + 1) q (free + 1 + 1)).labels ++ ((a first first_free).labels ++ [])) ++ (b second second_free).labels
 
-  pub choice_made : (c : ConditionPiece) (a b : Piece) (q next free last : ℕ) → Made (choice_piece c a b q free) q next free last → ChoiceMade c a b q next free last
-  choice_made c a b q next free last made =
-      let jump = λ (end : ℕ). plain (order.Jump end ∷ []) in
-      let inner = λ (end other : ℕ). followed_by (c false other) (followed_by a (jump end)) in
+  pub parted_made : (c : ConditionPiece) (between : ℕ → List Order) (a b : Piece) (q next free last : ℕ) → Made (parted_piece c between a b q free) q next free last → PartedMade c between a b q next free last
+  parted_made c between a b q next free last made =
+      let past = λ (end : ℕ). plain (between end) in
+      let inner = λ (end other : ℕ). followed_by (c false other) (followed_by a (past end)) in
       let outer = λ (end : ℕ). followed_by (with_end (inner end)) b in
       let s2 = end_made outer q next free last made in
       let s3 = both_made (with_end (inner free)) b q s2.0 (free + 1) last s2.1 in
       let s4 = end_made (inner free) q s3.0 (free + 1) s3.1 s3.2 in
-      let s5 = both_made (c false (free + 1)) (followed_by a (jump free)) q s4.0 (free + 1 + 1) s3.1 s4.1 in
-      let s6 = both_made a (jump free) s5.0 s4.0 s5.1 s3.1 s5.3 in
+      let s5 = both_made (c false (free + 1)) (followed_by a (past free)) q s4.0 (free + 1 + 1) s3.1 s4.1 in
+      let s6 = both_made a (past free) s5.0 s4.0 s5.1 s3.1 s5.3 in
       record {
         first = s5.0;
         first_free = s5.1;
         condition_made = s5.2;
-        jump = s6.0;
+        middle = s6.0;
         second_free = s3.1;
         first_made = subst (λ k. Made (a s5.0 s5.1) s5.0 s6.0 s5.1 k) s6.3.1 s6.2;
-        jumps = s6.3.0.0;
         other = s4.0;
+        between_made = s6.3.0;
         other_is = s4.4;
         other_marks = s4.2;
         second = s3.0;

@@ -32,7 +32,7 @@ use Rattle.cw_gen_expr.specs.ReferenceExpressions.{at_line, two_values, item_ord
 use Rattle.cw_gen_expr.specs.BuiltExpressions.{BuiltValue, whole, within, all_built, answers, built_value, is_condition, is_argument, is_expression, most_levels}
 use Rattle.cw_gen_expr.proofs.Layers.{computed_layer, reference-made, built_value_layer, value-built, expression_size, expression-size, expression_size_layer, argument_size, reference_size, condition_size, total}
 use Rattle.cw_gen_expr.proofs.Scales.{operand-is, built-operand-is}
-use Rattle.cw_carry.proofs.Expressions.Standing.{Stands, parted, Made, both_made, one_made, two_made, choice_made}
+use Rattle.cw_carry.proofs.Expressions.Standing.{Stands, parted, Made, both_made, one_made, two_made, parted_made}
 use Rattle.cw_carry.proofs.Expressions.Effects.{IsPossible, total_weight, through_all, TellsLine}
 use Rattle.cw_carry.proofs.Expressions.Carried.{Leads, here, past, over as leap, Via, wider, OperationFits, operation_orders, gives_word}
 use Rattle.cw_carry.proofs.Expressions.Operations.{behind_item}
@@ -251,9 +251,9 @@ module _ (c : Compiled) (t : Moment c) where
       let tests = both (is_condition t.unit (has_words c t) d) (within levels ((built_of a).at f) && (built_of a').at f levels) b in
       let branches = both (within levels ((built_of a).at f)) ((built_of a').at f levels) tests.1 in
       let level = a_level levels ((built_of a).at f) branches.0 in
-      let at = choice_made (code c t) (marks c t) (condition_piece (at_line line (scope c t)) d) (expression_piece (at_line line (scope c t)) a f) (expression_piece (at_line line (scope c t)) a' f) q n free last made in
+      let at = parted_made (code c t) (marks c t) (condition_piece (at_line line (scope c t)) d) (λ past. order.Jump past ∷ []) (expression_piece (at_line line (scope c t)) a f) (expression_piece (at_line line (scope c t)) a' f) q n free last made in
       let end : Via (code c t) (marks c t) j at.end true (λ y m. At c t y m false k) = (via.0, via.1, past at.end_marks (subst (λ x. Leads (code c t) (marks c t) j x true via.0 via.1) (sym at.next_is) via.2), via.3) in
-      let holds : At c t at.first false false (Eval a f line k) = (at.jump, level.0, suc j, at.first_free, at.second_free, small_and f level.0 (built_of a) small level.2, at.first_made, (let y : suc j + level.0 ≤ 64 = omega (arith, le, level.1) in y), refl, (end.0, end.1, leap at.jumps at.end_is refl end.2, end.3)) in
+      let holds : At c t at.first false false (Eval a f line k) = (at.middle, level.0, suc j, at.first_free, at.second_free, small_and f level.0 (built_of a) small level.2, at.first_made, (let y : suc j + level.0 ≤ 64 = omega (arith, le, level.1) in y), refl, (end.0, end.1, leap at.between_made.0 at.end_is refl end.2, end.3)) in
       let fails : At c t at.second false false (Eval a' f line k) = (at.end, levels, j, at.second_free, last, small_and f levels (built_of a') small branches.1, at.second_made, le, refl, end) in
       becomes c t (Eval e f line k) (Test d line (Eval a f line k) (Eval a' f line k)) q false w (evaluates e (layer.Choice d a a') f line k w is)
       (false, free + 1, at.other, at.first, free + 1 + 1, at.first_free, tests.0, at.condition_made, at.other_is, refl, (at.first, false, here refl refl, holds), (at.second, false, past at.other_marks (here at.second_is refl), fails))

@@ -54,11 +54,12 @@ use Rattle.cw_gen_expr.specs.ReferenceEntries.{bound_order}
 use Rattle.cw_carry.proofs.Expressions.Calls.{ProcedureAt, call_follows}
 use Rattle.cw_carry.proofs.Expressions.Ways.{JumpSound}
 use Rattle.cw_carry.proofs.Expressions.Returns.{return_follows, leave_follows}
+use Rattle.cw_gen_unit.specs.Endings.{comes_to_end}
 
 module _ (c : Compiled) where
   -- what statements, jumps and loops must do, how each body begins, and where procedures stand
   pub record Rules : Type 0 where
-    pub statement : (t : Moment c) (s : Stmt) (k : Work) (q n levels j : ℕ) (w : Words) → (c.places (here_in c t) t.unit (who_of t.acts)).StatementAt q s levels n → j + levels ≤ 64 → Via (code c t) (marks c t) j n false (λ x m. At c t x m false k) → Facts c t (Run s k) w → StepsNoting c t (Run s k) q false w
+    pub statement : (t : Moment c) (s : Stmt) (k : Work) (q n levels j : ℕ) (w : Words) → (c.places (here_in c t) t.unit (who_of t.acts)).StatementAt q s levels n → j + levels ≤ 64 → (IsTrue (comes_to_end s) → Via (code c t) (marks c t) j n false (λ x m. At c t x m false k)) → Facts c t (Run s k) w → StepsNoting c t (Run s k) q false w
     pub jump : (t : Moment c) (d : Dest) (line q : ℕ) (w : Words) → (c.places (here_in c t) t.unit (who_of t.acts)).JumpAt line q d → Facts c t (Jump d line) w → JumpSound c t.segment t.acts w d → Steps c t (Jump d line) q (takes_number d) w
     pub element : (t : Moment c) (i : ℕ) (x : Loop) (k : Work) (q n j : ℕ) (w : Words) → (c.places (here_in c t) t.unit (who_of t.acts)).ElementAt q i x n → suc j ≤ 64 → Via (code c t) (marks c t) j n false (λ y m. At c t y m false k) → Facts c t (Element i x k) w → Steps c t (Element i x k) q false w
     pub beginning : (t : Moment c) (a : Ref) (x : Loop) (k : Work) (q n j : ℕ) (w : Words) → (c.places (here_in c t) t.unit (who_of t.acts)).BeginningAt q a x n → suc j ≤ 64 → Via (code c t) (marks c t) j n false (λ y m. At c t y m false k)
@@ -337,7 +338,7 @@ module _ (c : Compiled) where
       goes_on (Enter tg line wanted k) q l r ready (n, stands, answer, same, carried) sound =
           turned_to (Enter tg line wanted k) q l false same (singly (enters (moment (Enter tg line wanted k) sound) tg line wanted k q n w stands answer carried (facts_of (Enter tg line wanted k) sound) sound) refl)
       goes_on Return q l r ready (h, same) sound = turned_to Return q l true same (singly (return_from s acts bs u w q unit_is calls h (roomy s w.operands acts bs calls sound.room) sound.sane) refl)
-      goes_on Leave q l r ready (zero_at, h, same) sound = turned_to Leave q l false same (singly (leave_from s acts bs u w q unit_is calls zero_at h (roomy s w.operands acts bs calls sound.room) sound.sane) refl)
+      goes_on Leave q l r ready ((zero_at, h), same) sound = turned_to Leave q l false same (singly (leave_from s acts bs u w q unit_is calls zero_at h (roomy s w.operands acts bs calls sound.room) sound.sane) refl)
       goes_on (KeepAt i x k) q l r ready (n, b, lt, stands, same, carried) sound =
           turned_to (KeepAt i x k) q l true same (singly (word_kept c (moment (KeepAt i x k) sound) i x k q n w b lt stands carried (facts_of (KeepAt i x k) sound)) refl)
       goes_on (SetVar x k) q l r ready (n, b, stands, same, carried) sound =

@@ -26,7 +26,8 @@ use Rattle.cw_unit.specs.Scales.{answer_scale}
 use Rattle.cw_order.specs.declared.order.Order.{Order}
 use Rattle.cw_order.specs.declared.order.Order.TheVariants as order
 use Rattle.cw_gen_expr.specs.Pieces.{Piece, plain, followed_by, sequence, with_end}
-use Rattle.cw_gen_expr.specs.ReferenceExpressions.{Scope, Value, Reference, ConditionPiece, choice_piece, saved, two_values, placed_by, placed_in, item_order, form_orders, bounds_orders, load_orders, rescale_orders, logic_order, number_order, narrow, comparator_for, call_order, label_order, pick_mark, index_piece, indexed_piece, known_or, named_or, known_item, known_word, value_of, condition_piece, argument_piece, reference_of, spot_piece, expression_piece}
+use Rattle.cw_gen_unit.specs.ReferenceStatements.{parted_piece}
+use Rattle.cw_gen_expr.specs.ReferenceExpressions.{Scope, Value, Reference, ConditionPiece, saved, two_values, placed_by, placed_in, item_order, form_orders, bounds_orders, load_orders, rescale_orders, logic_order, number_order, narrow, comparator_for, call_order, label_order, pick_mark, index_piece, indexed_piece, known_or, named_or, known_item, known_word, value_of, condition_piece, argument_piece, reference_of, spot_piece, expression_piece}
 use Rattle.cw_gen_expr.proofs.Layers.{value_layer, computed_layer, known_layer, value-made, argument_layer, argument-made, spot_layer, spot-made, reference-made, condition_layer, condition-made, total, expression_size, expression-size, expression_size_layer, argument_size, argument-size, argument_size_layer, spot-size, spot_size_layer, reference_size, reference-size, condition_size, condition-size, condition_size_layer}
 use Rattle.cw_carry.proofs.Runs.Leading.{Leads}
 
@@ -86,10 +87,10 @@ module _ {y : Layout} (c : ListProperty y) where
   saves = lists (order.Save ∷ []) (tt, tt)
 
   -- one of two by a condition
-  pub chosen : (d : ConditionPiece) (p q : Piece) → ((mark : ℕ) → Holds c (d false mark)) → Holds c p → Holds c q → Holds c (choice_piece d p q)
-  chosen d p q x a b =
-      let first = λ (k m : ℕ). followed_by (d false m) (followed_by p (plain (order.Jump k ∷ []))) in
-      ended (λ k. followed_by (with_end (first k)) q) (λ k. both (ended (first k) (λ m. both (x m) (both a (lists (order.Jump k ∷ []) (tt, tt))))) b)
+  pub chosen : (d : ConditionPiece) (between : ℕ → List Order) (p q : Piece) → ((mark : ℕ) → Holds c (d false mark)) → ((end : ℕ) → ArePlain (between end)) → Holds c p → Holds c q → Holds c (parted_piece d between p q)
+  chosen d between p q x h a b =
+      let first = λ (k m : ℕ). followed_by (d false m) (followed_by p (plain (between k))) in
+      ended (λ k. followed_by (with_end (first k)) q) (λ k. both (ended (first k) (λ m. both (x m) (both a (lists (between k) (h k))))) b)
 
 -- ---- orders of items and operations
 
@@ -237,7 +238,7 @@ module _ (s : Scope) (c : ListProperty s.layout) where
         let h = (value_of s d).operand in
         two (b.values a (let z : expression_size a < n = omega (arith, le) in z) g) (b.values d (let z : expression_size d < n = omega (arith, le) in z) h) (order.Div (narrow (pos (f + h) -ℤ pos g)) s.line ∷ []) (tt, tt)
     computed (layer.Choice k a d) le f =
-        chosen c (condition_piece s k) (expression_piece s a f) (expression_piece s d f) (λ m. b.conditions k (let z : condition_size k < n = omega (arith, le) in z) false m) (b.values a (let z : expression_size a < n = omega (arith, le) in z) f) (b.values d (let z : expression_size d < n = omega (arith, le) in z) f)
+        chosen c (condition_piece s k) (λ end. order.Jump end ∷ []) (expression_piece s a f) (expression_piece s d f) (λ m. b.conditions k (let z : condition_size k < n = omega (arith, le) in z) false m) (λ end. (tt, tt)) (b.values a (let z : expression_size a < n = omega (arith, le) in z) f) (b.values d (let z : expression_size d < n = omega (arith, le) in z) f)
 
     value : (x : Expr-F Arg Cond Expr Spot Ref) → expression_size_layer x ≤ n → (f : ℕ) → Holds c ((value_layer s x).at f)
     value x le f = known c (known_layer s x f) {p = (computed_layer s x).at f} (computed x le f)

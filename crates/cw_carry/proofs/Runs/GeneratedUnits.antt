@@ -31,7 +31,7 @@ use Rattle.cw_gen_expr.specs.Pieces.{Piece, plain, followed_by, sequence, with_e
 use Rattle.cw_gen_expr.specs.ReferenceExpressions.{Scope, at_line, item_order, number_order, store_orders, call_order, condition_piece, expression_piece, control_place, argument_words}
 use Rattle.cw_gen_expr.specs.ReferenceEntries.{scope_of, bound_by, bound_in, bound_order, bind_orders}
 use Rattle.cw_gen_expr.proofs.Layers.{total}
-use Rattle.cw_gen_unit.specs.ReferenceStatements.{begin_orders, after_statement_call, own_order, goal_order, jump_piece, with_middle, keep_orders, number_orders, set_orders, bump_orders, turn_piece, while_values, step_values, element_piece, elements_piece, element_ways, ring_piece, only_step, loop_place, value_orders, past_orders, turn_orders, simple_orders, simple_beginning, first_turn, stepped_piece, elements_loop, begun_loop, statement_piece}
+use Rattle.cw_gen_unit.specs.ReferenceStatements.{begin_orders, after_statement_call, own_order, goal_order, jump_piece, with_middle, keep_orders, number_orders, set_orders, bump_orders, turn_piece, while_values, step_values, element_piece, elements_piece, element_ways, ring_piece, only_step, loop_place, value_orders, past_orders, turn_orders, simple_orders, simple_beginning, first_turn, stepped_piece, elements_loop, begun_loop, jump_past, statement_piece}
 use Rattle.cw_gen_unit.specs.declared.simple.Simple.{Simple}
 use Rattle.cw_gen_unit.specs.declared.simple.Simple.TheVariants as simple
 use Rattle.cw_gen_unit.specs.declared.simple.SimpleStep.{SimpleStep}
@@ -39,8 +39,9 @@ use Rattle.cw_gen_unit.specs.SimpleLoops.{simple_step}
 use Rattle.cw_unit.specs.Operation.{is_past}
 use Rattle.cw_word.specs.Word.{unsigned}
 use Rattle.cw_gen_unit.specs.ReferenceUnits.{answer_of, entry_orders, procedure_piece, procedures_piece, unit_piece}
-use Rattle.cw_carry.proofs.Statements.Shapes.{statement_layer, statement-made}
 use Rattle.cw_carry.proofs.Runs.Leading.{Leading, leads_before, chosen as chosen_leads, value_leads, condition_leads, jump_leads, call_statement_leads, loop_leads}
+use Rattle.cw_gen_unit.specs.Endings.{comes_to_end}
+use Rattle.cw_gen_unit.proofs.Layers.{statement_layer, statement-made, jump-holds, leave-holds}
 use Rattle.cw_carry.proofs.Runs.Generated.{IsPlain, ArePlain, ListProperty, Holds, lists, constant_first, both, ended, saves, chosen, item_plain, call_plain, value_holds, condition_holds, reference_holds, arguments_hold}
 
 -- ---- orders of statements
@@ -286,8 +287,8 @@ module _ (s : Scope) (c : ListProperty s.layout) (who : Option ℕ) (answer : �
       begun line (both c (value_holds (at_line line s) c e answer) (lists c (order.Return (argument_words s.parameters) true ∷ []) (tt, tt))) (record { at = λ place next. leads_before _ _ ((value_leads (at_line line s) e answer).at place next) })
   layer n below (statement.If line d a b) le =
       begun line
-      (chosen c (condition_piece (at_line line s) d) (statement_piece s who answer a) (statement_piece s who answer b) (λ m. condition_holds (at_line line s) c d false m) (below a (let z : depth a < n = omega (arith, le) in z)) (below b (let z : depth b < n = omega (arith, le) in z)))
-      (chosen_leads (condition_piece (at_line line s) d) (statement_piece s who answer a) (statement_piece s who answer b) (λ m. condition_leads (at_line line s) d false m))
+      (chosen c (condition_piece (at_line line s) d) (jump_past (comes_to_end a) b) (statement_piece s who answer a) (statement_piece s who answer b) (λ m. condition_holds (at_line line s) c d false m) (jump-holds ArePlain (λ end. (tt, tt)) tt (comes_to_end a) b) (below a (let z : depth a < n = omega (arith, le) in z)) (below b (let z : depth b < n = omega (arith, le) in z)))
+      (chosen_leads (condition_piece (at_line line s) d) (jump_past (comes_to_end a) b) (statement_piece s who answer a) (statement_piece s who answer b) (λ m. condition_leads (at_line line s) d false m))
   layer n below (statement.For line item r es t) le =
       let h = at_line line s in
       begun line (begun_holds h c item (simple_step s.layout item r es) r es (statement_piece s who answer t) (below t (let z : depth t < n = omega (arith, le) in z)))
@@ -309,7 +310,8 @@ module _ (u : SourceUnit) (c : ListProperty (layout_of u)) where
   procedure : (p : ℕ) (q : Proc) → Holds c (procedure_piece u p q)
   procedure p q =
       both c (lists c (entry_orders u p q) (tt, bind_plain (layout_of u) q.params))
-      (both c (statement_holds (scope_of u (Some p)) c (Some p) (answer_of u (Some p)) q.body) (constant_first c 0 (order.Return (argument_words q.params) true ∷ []) (tt, tt)))
+      (both c (statement_holds (scope_of u (Some p)) c (Some p) (answer_of u (Some p)) q.body)
+      (leave-holds (λ os. Holds c (plain os)) q (constant_first c 0 (order.Return (argument_words q.params) true ∷ []) (tt, tt)) (lists c [] tt)))
 
   procedures : (p : ℕ) (qs : List Proc) → Holds c (procedures_piece u p qs)
   procedures p [] = lists c [] tt

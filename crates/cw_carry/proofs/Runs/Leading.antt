@@ -25,10 +25,10 @@ use Rattle.cw_order.specs.declared.order.Order.{Order}
 use Rattle.cw_order.specs.declared.order.Order.TheVariants as order
 use Rattle.cw_order.specs.BeginsStatement.{BeginsStatement}
 use Rattle.cw_gen_expr.specs.Pieces.{Piece, plain, followed_by, sequence, with_end}
-use Rattle.cw_gen_expr.specs.ReferenceExpressions.{Scope, ConditionPiece, choice_piece, placed_by, placed_in, item_order, known_or, named_or, pick_mark, call_order, label_order, value_of, condition_piece, argument_piece, reference_of, expression_piece}
+use Rattle.cw_gen_expr.specs.ReferenceExpressions.{Scope, ConditionPiece, placed_by, placed_in, item_order, known_or, named_or, pick_mark, call_order, label_order, value_of, condition_piece, argument_piece, reference_of, expression_piece}
 use Rattle.cw_gen_expr.specs.UnitTables.{label_mark}
 use Rattle.cw_gen_expr.proofs.Layers.{value_layer, computed_layer, known_layer, value-made, argument_layer, argument-made, spot_layer, indexed_layer, word_item, word_layer, spot-made, reference-made, condition_layer, condition-made, expression_size, expression-size, expression_size_layer, argument_size, argument-size, argument_size_layer, spot-size, spot_size_layer, reference_size, reference-size, condition_size, condition-size, condition_size_layer}
-use Rattle.cw_gen_unit.specs.ReferenceStatements.{own_order, goal_order, jump_piece, with_middle, loop_place, simple_beginning, begun_loop}
+use Rattle.cw_gen_unit.specs.ReferenceStatements.{own_order, goal_order, jump_piece, with_middle, loop_place, simple_beginning, begun_loop, parted_piece}
 use Rattle.cw_gen_unit.specs.declared.simple.SimpleStep.{SimpleStep}
 
 -- ---- lists and pieces
@@ -67,10 +67,10 @@ known : (k : Option ℤ) {p : Piece} → Leading p → Leading (known_or k p)
 known (Some z) h = record { at = λ place next. tt }
 known None h = h
 
-pub chosen : (c : ConditionPiece) (a b : Piece) → ((mark : ℕ) → Leading (c false mark)) → Leading (choice_piece c a b)
-chosen c a b h =
-    let first = λ (k m : ℕ). followed_by (c false m) (followed_by a (plain (order.Jump k ∷ []))) in
-    ended (λ k. followed_by (with_end (first k)) b) (λ k. before b (ended (first k) (λ m. before (followed_by a (plain (order.Jump k ∷ []))) (h m))))
+pub chosen : (c : ConditionPiece) (between : ℕ → List Order) (a b : Piece) → ((mark : ℕ) → Leading (c false mark)) → Leading (parted_piece c between a b)
+chosen c between a b h =
+    let first = λ (k m : ℕ). followed_by (c false m) (followed_by a (plain (between k))) in
+    ended (λ k. followed_by (with_end (first k)) b) (λ k. before b (ended (first k) (λ m. before (followed_by a (plain (between k))) (h m))))
 
 -- ---- single orders
 
@@ -172,7 +172,7 @@ module _ (s : Scope) where
     computed (layer.Times a d) le f = record { at = λ place next. leads_before _ _ ((b.values a (let z : expression_size a < n = omega (arith, le) in z) (value_of s a).operand).at place next) }
     computed (layer.Over a d) le f = record { at = λ place next. leads_before _ _ ((b.values a (let z : expression_size a < n = omega (arith, le) in z) (value_of s a).operand).at place next) }
     computed (layer.Choice k a d) le f =
-        chosen (condition_piece s k) (expression_piece s a f) (expression_piece s d f) (λ m. b.conditions k (let z : condition_size k < n = omega (arith, le) in z) false m)
+        chosen (condition_piece s k) (λ end. order.Jump end ∷ []) (expression_piece s a f) (expression_piece s d f) (λ m. b.conditions k (let z : condition_size k < n = omega (arith, le) in z) false m)
 
     value : (x : Expr-F Arg Cond Expr Spot Ref) → expression_size_layer x ≤ n → (f : ℕ) → Leading ((value_layer s x).at f)
     value x le f = known (known_layer s x f) {p = (computed_layer s x).at f} (computed x le f)

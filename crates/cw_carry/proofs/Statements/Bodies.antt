@@ -1,6 +1,6 @@
 -- The body and the procedures of a unit stand in its orders.
 use Rattle.std.proofs.Common.{◌≡◌, ℕ, zero, suc, ◌+◌, List, [], ◌∷◌, ◌++◌, length, true, Some, None, refl, ap, ap₂, ◌∙◌, subst, arith, append_assoc, append-nil, length-append}
-use Rattle.std.specs.Prelude.{slice_get}
+use Rattle.std.specs.Prelude.{slice_get, IsTrue, if◌then◌else◌}
 use Rattle.std.proofs.lemmas.Option.{none-some, same_Some}
 use Rattle.cw_unit.specs.declared.unit.Unit.{Unit as SourceUnit}
 use Rattle.cw_unit.specs.declared.unit.Proc.{Proc}
@@ -12,6 +12,8 @@ use Rattle.cw_gen_expr.specs.Pieces.{plain, followed_by}
 use Rattle.cw_gen_expr.specs.ReferenceExpressions.{argument_words}
 use Rattle.cw_gen_expr.specs.UnitTables.{first_mark}
 use Rattle.cw_carry.proofs.Expressions.Standing.{Stands, placed, placed_after, ends_at, Made, both_made}
+use Rattle.cw_carry.proofs.Expressions.Carried.{LeavesAt}
+use Rattle.cw_gen_unit.specs.Endings.{comes_to_end}
 use Rattle.cw_gen_expr.specs.ReferenceEntries.{scope_of}
 use Rattle.cw_gen_unit.specs.ReferenceStatements.{statement_piece}
 use Rattle.cw_gen_unit.specs.ReferenceUnits.{answer_of}
@@ -46,8 +48,7 @@ pub record ProcedureStands (u : SourceUnit) (code : List Order) (marks : List �
   pub body : Made code marks (statement_piece (scope_of u (Some p)) (Some p) (answer_of u (Some p)) q.body start free) start after free last
   pub labels : List (ℕ × ℕ)
   pub labels_are : labels ≡ (statement_piece (scope_of u (Some p)) (Some p) (answer_of u (Some p)) q.body start free).labels
-  pub leaves : slice_get code after ≡ Some (order.Const 0)
-  pub returns : slice_get code (after + 1) ≡ Some (order.Return (argument_words q.params) true)
+  pub leaves : IsTrue (comes_to_end q.body) → LeavesAt code after (argument_words q.params)
 
 module _ (u : SourceUnit) (code : List Order) (marks : List ℕ) where
   procedure_stands : (p : ℕ) (q : Proc) (entry n free last : ℕ) → Made code marks (procedure_piece u p q entry free) entry n free last → (st : ProcedureStands u code marks p q entry) × ((procedure_piece u p q entry free).labels ≡ st.labels)
@@ -55,7 +56,10 @@ module _ (u : SourceUnit) (code : List Order) (marks : List ℕ) where
       let stmt = statement_piece (scope_of u (Some p)) (Some p) (answer_of u (Some p)) q.body in
       let first = both_made code marks (plain (entry_orders u p q)) (followed_by stmt (plain (leave_orders q))) entry n free last made in
       let rest = both_made code marks stmt (plain (leave_orders q)) first.0 n first.1 last first.3 in
-      (record { start = first.0; enters = first.2.0; after = rest.0; free = first.1; last = rest.1; body = rest.2; labels = (stmt first.0 first.1).labels; labels_are = refl; leaves = rest.3.0.0; returns = rest.3.0.1.0 }, first.4 ∙ rest.4 ∙ append-nil (stmt first.0 first.1).labels)
+      let leaving : IsTrue (comes_to_end q.body) → LeavesAt code rest.0 (argument_words q.params) = λ ends.
+      let stands : Stands code rest.0 (order.Const 0 ∷ order.Return (argument_words q.params) true ∷ []) n = subst (λ x. Stands code rest.0 (if x then (order.Const 0 ∷ order.Return (argument_words q.params) true ∷ []) else []) n) ends rest.3.0 in
+      (stands.0, stands.1.0) in
+      (record { start = first.0; enters = first.2.0; after = rest.0; free = first.1; last = rest.1; body = rest.2; labels = (stmt first.0 first.1).labels; labels_are = refl; leaves = leaving }, first.4 ∙ rest.4 ∙ append-nil (stmt first.0 first.1).labels)
 
   -- where a procedure stands, with its place and its labels in the lists of these
   abbrev pub StandsAmong : (k p : ℕ) → Proc → List ℕ → List (List (ℕ × ℕ)) → Type 0

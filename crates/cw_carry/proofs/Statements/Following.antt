@@ -20,14 +20,13 @@ use Rattle.cw_unit.specs.Step.{steps}
 use Rattle.cw_unit.specs.InitialMemory.{initial_memory}
 use Rattle.cw_unit.specs.Behaviour.{is_running, first_body, initial_configuration}
 use Rattle.cw_unit.specs.Begun as begun
-use Rattle.cw_order.specs.declared.order.Order.TheVariants as order
 use Rattle.cw_order.specs.OrderState.{OrderState, at as state}
 use Rattle.cw_order.specs.OrderMachine.{entry_of, order_start, step as order_step}
 use Rattle.cw_order.specs.Starting.{starts}
 use Rattle.cw_order.specs.FittingWords.{OperandFits, ActivationFits, StateFits}
 use Rattle.cw_gen_expr.specs.UnitTables.{label_mark, procedure_mark, first_mark}
 use Rattle.cw_carry.proofs.Expressions.Standing.{ends_at, behind, before, both_made}
-use Rattle.cw_carry.proofs.Expressions.Carried.{here, CarriedIn, going}
+use Rattle.cw_carry.proofs.Expressions.Carried.{here, LeavesAt, CarriedIn, going}
 use Rattle.cw_gen_expr.specs.ReferenceEntries.{parameters_in, parameters_of, scope_of}
 use Rattle.cw_gen_expr.specs.ReferenceExpressions.{argument_words}
 use Rattle.cw_gen_unit.specs.ReferenceStatements.{statement_piece}
@@ -67,7 +66,7 @@ module _ (us : List SourceUnit) (m : Map) (limits : Limits) (room : ℕ) (h : Ha
       let all = unit_made v in
       let parts = both_made (unit_orders v).list (unit_orders v).marks (body_piece v) (procedures_piece v 0 v.procs) 0 all.0 (first_mark v) all.1 all.2 in
       let body = body_stands v (unit_orders v).list (unit_orders v).marks parts.0 (first_mark v) parts.1 parts.2 in
-      (body.0, 64, 0, (first_mark v, body.1, built.bodies g v is, body.2), (let z : 0 + 64 ≤ 64 = omega arith in z), refl, (body.0, false, here refl refl, (body.3, refl)))
+      (body.0, 64, 0, (first_mark v, body.1, built.bodies g v is, body.2), (let z : 0 + 64 ≤ 64 = omega arith in z), refl, (λ ends. (body.0, false, here refl refl, (body.3, refl))))
 
   -- the parts of the table of marks
   abbrev second_place : SourceUnit → ℕ
@@ -137,11 +136,10 @@ module _ (us : List SourceUnit) (m : Map) (limits : Limits) (room : ℕ) (h : Ha
         after = there.after;
         body = (there.free, there.last, built.procedures g p v q is q_is, there.body);
         leaves = there.leaves;
-        returns = there.returns;
       }
 
-  parameters_here : (v : SourceUnit) (p : ℕ) (q : Proc) (code : List Order) (place : ℕ) → slice_get v.procs p ≡ Some q → slice_get code place ≡ Some (order.Return (argument_words q.params) true) → slice_get code place ≡ Some (order.Return (argument_words (parameters_of v (Some p))) true)
-  parameters_here v p q code place is h = h ∙ ap (λ x. Some (order.Return (argument_words (parameters_in x)) true)) (sym is)
+  parameters_here : (v : SourceUnit) (p : ℕ) (q : Proc) (code : List Order) (place : ℕ) → slice_get v.procs p ≡ Some q → LeavesAt code place (argument_words q.params) → LeavesAt code place (argument_words (parameters_of v (Some p)))
+  parameters_here v p q code place is h = subst (λ x. LeavesAt code place (argument_words (parameters_in x))) (sym is) h
 
   -- each label is reached
   pub reaches : LabelsReach c
@@ -151,7 +149,7 @@ module _ (us : List SourceUnit) (m : Map) (limits : Limits) (room : ℕ) (h : Ha
         let parts = both_made (unit_orders v).list (unit_orders v).marks (body_piece v) (procedures_piece v 0 v.procs) 0 all.0 (first_mark v) all.1 all.2 in
         let body = body_stands v (unit_orders v).list (unit_orders v).marks parts.0 (first_mark v) parts.1 parts.2 in
         let labels = (statement_piece (scope_of v None) None 0 v.body 0 (first_mark v)).labels in
-        let there = body_reaches unit_orders v None (h g v None) label v.body Nothing 0 body.0 (first_mark v) body.1 64 0 (built.bodies g v is) body.2 (let z : 0 + 64 ≤ 64 = omega arith in z) (body.0, false, here refl refl, (body.3, refl)) in
+        let there = body_reaches unit_orders v None (h g v None) label v.body Nothing 0 body.0 (first_mark v) body.1 64 0 (built.bodies g v is) body.2 (let z : 0 + 64 ≤ 64 = omega arith in z) (λ ends. (body.0, false, here refl refl, (body.3, refl))) in
         let at = known unit_orders v None (h g v None) label (place_of label labels) (label_continuation label v.body Nothing) there k k_is in
         record {
           place = at.0;
@@ -162,7 +160,7 @@ module _ (us : List SourceUnit) (m : Map) (limits : Limits) (room : ℕ) (h : Ha
         let each = stands v p proc p_is in
         let st = each.2 in
         let labels = (statement_piece (scope_of v (Some p)) (Some p) (answer_of v (Some p)) proc.body st.start st.free).labels in
-        let there = body_reaches unit_orders v (Some p) (h g v (Some p)) label proc.body Leave st.start st.after st.free st.last 64 0 (built.procedures g p v proc is p_is) st.body (let z : 0 + 64 ≤ 64 = omega arith in z) (st.after, false, here refl refl, (st.leaves, parameters_here v p proc (unit_orders v).list (st.after + 1) p_is st.returns, refl)) in
+        let there = body_reaches unit_orders v (Some p) (h g v (Some p)) label proc.body Leave st.start st.after st.free st.last 64 0 (built.procedures g p v proc is p_is) st.body (let z : 0 + 64 ≤ 64 = omega arith in z) (λ ends. (st.after, false, here refl refl, (parameters_here v p proc (unit_orders v).list st.after p_is (st.leaves ends), refl))) in
         let at = known unit_orders v (Some p) (h g v (Some p)) label (place_of label labels) (label_continuation label proc.body Leave) there k k_is in
         record {
           place = at.0;

@@ -235,7 +235,7 @@ module _ (c : Compiled) (at_sites : (g : ℕ) (u : Rattle.cw_unit.specs.declared
   -- the body, behind its mark
   body_start : (site : Site) → At c t (site.head + 1) false false (Run x.body (On x k))
   body_start site =
-      (site.on, 64, 0, subst (λ p. p.StatementAt (site.head + 1) x.body 64 site.on) (sym (at_sites (here_in c t) t.unit who)) site.body_at, (let z : 0 + 64 ≤ 64 = omega arith in z), refl, (site.on, false, here refl refl, on_carried site.on (site, refl)))
+      (site.on, 64, 0, subst (λ p. p.StatementAt (site.head + 1) x.body 64 site.on) (sym (at_sites (here_in c t) t.unit who)) site.body_at, (let z : 0 + 64 ≤ 64 = omega arith in z), refl, (λ ends. (site.on, false, here refl refl, on_carried site.on (site, refl))))
 
   body_carried : (site : Site) → Leads_to c t site.head false false (Run x.body (On x k))
   body_carried site = (site.head + 1, false, past site.head_marks (here refl refl), body_start site)

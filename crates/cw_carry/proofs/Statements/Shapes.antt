@@ -1,19 +1,10 @@
--- What is known of a statement by its first layer: its orders, whether it is built, and its size.
+-- What is known of a statement by its first layer: whether it is built, and its size.
 use Rattle.std.proofs.Common.{◌≡◌, ℕ, ◌+◌, Bool, Option}
 use Rattle.cw_unit.specs.declared.unit.Unit.{Unit as SourceUnit}
 use Rattle.cw_unit.specs.declared.unit.Stmt.{Stmt, Stmt-F, out-Stmt, map-Stmt, fold-Stmt, fold_out-Stmt}
 use Rattle.cw_unit.specs.declared.unit.Stmt.TheOpen as statement
-use Rattle.cw_gen_expr.specs.Pieces.{Piece}
-use Rattle.cw_gen_expr.specs.ReferenceExpressions.{Scope}
 use Rattle.cw_gen_expr.proofs.Layers.{total}
-use Rattle.cw_gen_unit.specs.ReferenceStatements as made
 use Rattle.cw_gen_unit.specs.BuiltStatements as built
-
-abbrev pub statement_layer : Scope → Option ℕ → ℕ → Stmt-F Stmt → Piece
-statement_layer s who f x = made.statement_step s who f (map-Stmt Stmt Piece (made.statement_piece s who f) x)
-
-pub statement-made : (s : Scope) (who : Option ℕ) (f : ℕ) (x : Stmt) → made.statement_piece s who f x ≡ statement_layer s who f (out-Stmt x)
-statement-made s who f = fold_out-Stmt Piece (made.statement_step s who f)
 
 abbrev pub built_layer : SourceUnit → ((item words : ℕ) → Bool) → Option ℕ → ℕ → Stmt-F Stmt → ℕ → Bool
 built_layer u h who f x = built.statement_step u h who f (map-Stmt Stmt (ℕ → Bool) (built.is_statement u h who f) x)

@@ -1,7 +1,7 @@
 -- The orders follow the source through statements.
 use Rattle.std.proofs.Common.{◌≡◌, ◌⊎◌, inl, ⊎_elim, ℕ, zero, suc, ◌+◌, ◌<◌, ◌≤◌, List, [], ◌∷◌, map, length, Bool, true, false, Option, Some, refl, sym, ap, ap₂, ◌∙◌, subst, arith}
 use Rattle.std.specs.Prelude.{slice_get, IsTrue, ◌&&◌, is_some, nat_lt}
-use Rattle.std.proofs.lemmas.Bool.{false≢true, ltb-true}
+use Rattle.std.proofs.lemmas.Bool.{false≢true, ltb-true, or_left, or_right}
 use Rattle.cw_track.proofs.Paths.{stay}
 use Rattle.cw_track.proofs.Watching.{same}
 use Rattle.cw_unit.specs.declared.unit.Unit.{Unit as SourceUnit}
@@ -29,20 +29,23 @@ use Rattle.cw_order.specs.OrderCosts.{weight_at}
 use Rattle.cw_order.specs.OrderMachine.{carry_out}
 use Rattle.cw_order.specs.Starting.{started_by}
 use Rattle.cw_gen_expr.specs.Pieces.{Piece, plain, followed_by, sequence, with_labels}
-use Rattle.cw_gen_expr.specs.ReferenceExpressions.{at_line, saved, argument_words, store_orders, choice_piece, call_order, expression_piece, condition_piece, argument_piece, reference_of}
+use Rattle.cw_gen_expr.specs.ReferenceExpressions.{at_line, saved, argument_words, store_orders, call_order, expression_piece, condition_piece, argument_piece, reference_of}
 use Rattle.cw_gen_expr.specs.BuiltExpressions.{most_levels, within, is_expression, is_condition, built_reference}
 use Rattle.cw_gen_expr.proofs.Layers.{total}
-use Rattle.cw_carry.proofs.Expressions.Standing.{Stands, Made, both_made, saved_made, one_made, choice_made}
-use Rattle.cw_carry.proofs.Expressions.Carried.{Leads, here, past, over as leap, Via, wider, after_call, takes_number, who_of, going, beginning}
+use Rattle.cw_carry.proofs.Expressions.Standing.{Stands, Made, both_made, saved_made, one_made, parted_made}
+use Rattle.cw_carry.proofs.Expressions.Carried.{Leads, here, past, Via, wider, after_call, takes_number, who_of, going, beginning}
 use Rattle.cw_carry.proofs.Expressions.Stepping.{Compiled, source, target, Belong, quietly, work_size, order_here, silent}
 use Rattle.cw_carry.proofs.Expressions.Moments.{both, Moment, here_in, layout, scope, has_words, code, marks, At, Leads_to, at_close, past_save, StepsNoting, config, next}
 use Rattle.cw_carry.proofs.Expressions.Values.{given_at}
-use Rattle.cw_gen_unit.specs.ReferenceStatements.{begin_orders, after_statement_call, jump_order, jump_piece, begun_loop, statement_piece}
+use Rattle.cw_gen_unit.specs.ReferenceStatements.{begin_orders, after_statement_call, jump_order, jump_piece, begun_loop, parted_piece, jump_past, statement_piece}
+use Rattle.cw_gen_unit.specs.Endings.{list_ends, ends_behind, comes_to_end}
+use Rattle.cw_gen_unit.proofs.Layers.{statement_layer, statement-made, with_ends, ending_layer, ending-is}
 use Rattle.cw_gen_unit.specs.SimpleLoops.{simple_step}
 use Rattle.cw_gen_unit.specs.BuiltStatements.{is_jump, all_within, is_statement, are_elements}
-use Rattle.cw_carry.proofs.Statements.Shapes.{statement_layer, statement-made, built_layer, statement-built, statement_size, statement_size_layer, statement-size}
+use Rattle.cw_carry.proofs.Statements.Shapes.{built_layer, statement-built, statement_size, statement_size_layer, statement-size}
 use Rattle.cw_carry.proofs.Statements.Sites.{StatementSite, ElementSite, FirstSite, BeginningSite, sites}
 use Rattle.cw_carry.proofs.Statements.Rings.{ByAddress}
+use Rattle.cw_carry.proofs.Statements.Branches.{past_second, ends_here}
 use Rattle.cw_gen_unit.specs.ReferenceUnits.{answer_of}
 
 module _ (c : Compiled) (at_sites : (g : ℕ) (u : SourceUnit) (who : Option ℕ) → c.places g u who ≡ sites c.orders_for u who (c.has_words g u who)) (sizes : c.statement_size ≡ statement_size) (t : Moment c) where
@@ -143,12 +146,12 @@ module _ (c : Compiled) (at_sites : (g : ℕ) (u : SourceUnit) (who : Option ℕ
   site_is q s levels n h = subst (λ p. p.StatementAt q s levels n) (sym (at_sites (here_in c t) t.unit who)) h
 
   -- the members of a list
-  row_at : (ss : List Stmt) (k : Work) (q n free last levels j : ℕ) → IsTrue (all_within t.unit (has_words c t) who answer levels (map (is_statement t.unit (has_words c t) who answer) ss)) → Made (code c t) (marks c t) (sequence (map (statement_piece (scope c t) who answer) ss) q free) q n free last → j + levels ≤ 64 → After j n k → After j q (run_all ss k)
-  row_at [] k q n free last levels j b made le after = subst (λ p. After j p k) (sym made.0) after
-  row_at (s ∷ ss) k q n free last levels j b made le after =
+  row_at : (ss : List Stmt) (before : Bool) (k : Work) (q n free last levels j : ℕ) → IsTrue before → IsTrue (all_within t.unit (has_words c t) who answer levels (map (is_statement t.unit (has_words c t) who answer) ss)) → Made (code c t) (marks c t) (sequence (map (statement_piece (scope c t) who answer) ss) q free) q n free last → j + levels ≤ 64 → (IsTrue (list_ends before (with_ends ss)) → After j n k) → After j q (run_all ss k)
+  row_at [] before k q n free last levels j reached b made le after = subst (λ p. After j p k) (sym made.0) (after reached)
+  row_at (s ∷ ss) before k q n free last levels j reached b made le after =
       let bs = both (is_statement t.unit (has_words c t) who answer s levels) (all_within t.unit (has_words c t) who answer levels (map (is_statement t.unit (has_words c t) who answer) ss)) b in
       let parts = both_made (code c t) (marks c t) (statement_piece (scope c t) who answer s) (sequence (map (statement_piece (scope c t) who answer) ss)) q n free last made in
-      (q, false, here refl refl, (parts.0, levels, j, site_is q s levels parts.0 (free, parts.1, bs.0, parts.2), le, refl, row_at ss k parts.0 n parts.1 last levels j bs.1 parts.3 le after))
+      (q, false, here refl refl, (parts.0, levels, j, site_is q s levels parts.0 (free, parts.1, bs.0, parts.2), le, refl, (λ ends. row_at ss (ends_behind before s (comes_to_end s)) k parts.0 n parts.1 last levels j (ends_here before s reached ends) bs.1 parts.3 le after)))
 
   row_size : (ss : List Stmt) (k : Work) → work_size c (run_all ss k) ≡ total (map statement_size ss) + work_size c k
   row_size [] k = omega arith
@@ -207,7 +210,7 @@ module _ (c : Compiled) (at_sites : (g : ℕ) (u : SourceUnit) (who : Option ℕ
     loop_begun free site = ⊎_elim (as_whole) (by_address free) site
 
   module _ (loops : Loops) where
-    runs : (s : Stmt) (x : Stmt-F Stmt) (k : Work) (q n free last levels j : ℕ) (w : Words) → out-Stmt s ≡ x → IsTrue (built_layer t.unit (has_words c t) who answer x levels) → Made (code c t) (marks c t) (statement_layer (scope c t) who answer x q free) q n free last → j + levels ≤ 64 → After j n k → StepsNoting c t (Run s k) q false w
+    runs : (s : Stmt) (x : Stmt-F Stmt) (k : Work) (q n free last levels j : ℕ) (w : Words) → out-Stmt s ≡ x → IsTrue (built_layer t.unit (has_words c t) who answer x levels) → Made (code c t) (marks c t) (statement_layer (scope c t) who answer x q free) q n free last → j + levels ≤ 64 → (IsTrue (ending_layer x) → After j n k) → StepsNoting c t (Run s k) q false w
     runs s (statement.Put line r e) k q n free last levels j w is b made le after =
         let f = (out-Ref r).f in
         let bs = both (built_reference t.unit (has_words c t) r).good (is_expression t.unit (has_words c t) e f most_levels) b in
@@ -216,7 +219,7 @@ module _ (c : Compiled) (at_sites : (g : ℕ) (u : SourceUnit) (who : Option ℕ
         let k1 = Do (Store (out-Ref r).field) line k in
         begun s (statement.Put line r e) k line q w is refl at.1
         (saved_value e f line (q + 1) n at.0 last rest (Address r line k1) bs.1 at.2
-        (λ y m made'. stored_at r line y n m last (store_orders (out-Ref r).field) k1 bs.0 made' (λ z stands. (n, refl, stands, refl, wide j n k (let v : j ≤ 64 = omega (arith, le) in v) after))))
+        (λ y m made'. stored_at r line y n m last (store_orders (out-Ref r).field) k1 bs.0 made' (λ z stands. (n, refl, stands, refl, wide j n k (let v : j ≤ 64 = omega (arith, le) in v) (after refl)))))
     runs s (statement.PutBits line d b' r e) k q n free last levels j w is b made le after =
         let bs = both (built_reference t.unit (has_words c t) r).good (is_expression t.unit (has_words c t) e 0 most_levels) b in
         let rest = followed_by (reference_of (at_line line (scope c t)) r).address (plain (order.StorePart d b' ∷ [])) in
@@ -224,7 +227,7 @@ module _ (c : Compiled) (at_sites : (g : ℕ) (u : SourceUnit) (who : Option ℕ
         let k1 = Do (StoreBits d b') line k in
         begun s (statement.PutBits line d b' r e) k line q w is refl at.1
         (saved_value e 0 line (q + 1) n at.0 last rest (Address r line k1) bs.1 at.2
-        (λ y m made'. stored_at r line y n m last (order.StorePart d b' ∷ []) k1 bs.0 made' (λ z stands. (n, refl, stands, refl, wide j n k (let v : j ≤ 64 = omega (arith, le) in v) after))))
+        (λ y m made'. stored_at r line y n m last (order.StorePart d b' ∷ []) k1 bs.0 made' (λ z stands. (n, refl, stands, refl, wide j n k (let v : j ≤ 64 = omega (arith, le) in v) (after refl)))))
     runs s (statement.Go line d) k q n free last levels j w is b made le after = gone s k line d q n free last w is b made
     runs s (statement.Call line tg args) k q n free last levels j w is b made le after =
         let os = call_order (at_line line (scope c t)) tg ∷ after_statement_call tg in
@@ -234,7 +237,7 @@ module _ (c : Compiled) (at_sites : (g : ℕ) (u : SourceUnit) (who : Option ℕ
         let stands = subst (λ xs. Stands (code c t) parts.0 (call_order (at_line line (scope c t)) tg ∷ xs) n) (after_is tg) parts.3 in
         begun s (statement.Call line tg args) k line q w is refl at.1
         (given_at c t args line (q + 1) parts.0 at.0 parts.1 (Enter tg line false k) false b parts.2
-        (λ r. (n, stands, refl, refl, wide j n k (let v : j ≤ 64 = omega (arith, le) in v) after)))
+        (λ r. (n, stands, refl, refl, wide j n k (let v : j ≤ 64 = omega (arith, le) in v) (after refl))))
     runs s (statement.Answer line e) k q n free last levels j w is b made le after =
         let bs = both (is_some who) (is_expression t.unit (has_words c t) e answer most_levels) b in
         let rest = plain (order.Return (argument_words (scope c t).parameters) true ∷ []) in
@@ -249,11 +252,15 @@ module _ (c : Compiled) (at_sites : (g : ℕ) (u : SourceUnit) (who : Option ℕ
         let level = a_level levels sa branches.0 in
         let pa = statement_piece (scope c t) who answer a in
         let pb = statement_piece (scope c t) who answer b in
-        let at = started line (choice_piece (condition_piece (at_line line (scope c t)) d) pa pb) q n free last made in
+        let between = jump_past (comes_to_end a) b in
+        let at = started line (parted_piece (condition_piece (at_line line (scope c t)) d) between pa pb) q n free last made in
         let m = at.0 in
-        let ch = choice_made (code c t) (marks c t) (condition_piece (at_line line (scope c t)) d) pa pb (q + 1) n m last at.2 in
-        let end : After j ch.end k = (after.0, after.1, past ch.end_marks (subst (λ x. Leads (code c t) (marks c t) j x false after.0 after.1) (sym ch.next_is) after.2), after.3) in
-        let behind_first : After (suc j) ch.jump k = (end.0, end.1, leap ch.jumps ch.end_is refl end.2, end.3) in
+        let ch = parted_made (code c t) (marks c t) (condition_piece (at_line line (scope c t)) d) between pa pb (q + 1) n m last at.2 in
+        let closed : After j n k → After j ch.end k = λ v. (v.0, v.1, past ch.end_marks (subst (λ x. Leads (code c t) (marks c t) j x false v.0 v.1) (sym ch.next_is) v.2), v.3) in
+        let behind_first : IsTrue (comes_to_end a) → After (suc j) ch.middle k = λ ends.
+        let v = closed (after (or_left (comes_to_end a) (comes_to_end b) ends)) in
+        (v.0, v.1, past_second (code c t) (marks c t) (scope c t) who answer (condition_piece (at_line line (scope c t)) d) a b (q + 1) n m last ch j v.0 v.1 ends v.2, v.3) in
+        let behind_second : IsTrue (comes_to_end b) → After j ch.end k = λ ends. closed (after (or_right (comes_to_end a) (comes_to_end b) ends)) in
         begun s (statement.If line d a b) k line q w is refl at.1 (
           false,
           m + 1,
@@ -265,8 +272,8 @@ module _ (c : Compiled) (at_sites : (g : ℕ) (u : SourceUnit) (who : Option ℕ
           ch.condition_made,
           ch.other_is,
           refl,
-          (ch.first, false, here refl refl, (ch.jump, level.0, suc j, site_is ch.first a level.0 ch.jump (ch.first_free, ch.second_free, level.2, ch.first_made), (let v : suc j + level.0 ≤ 64 = omega (arith, le, level.1) in v), refl, behind_first)),
-          (ch.second, false, past ch.other_marks (here ch.second_is refl), (ch.end, levels, j, site_is ch.second b levels ch.end (ch.second_free, last, branches.1, ch.second_made), le, refl, end)),
+          (ch.first, false, here refl refl, (ch.middle, level.0, suc j, site_is ch.first a level.0 ch.middle (ch.first_free, ch.second_free, level.2, ch.first_made), (let v : suc j + level.0 ≤ 64 = omega (arith, le, level.1) in v), refl, behind_first)),
+          (ch.second, false, past ch.other_marks (here ch.second_is refl), (ch.end, levels, j, site_is ch.second b levels ch.end (ch.second_free, last, branches.1, ch.second_made), le, refl, behind_second)),
         )
     runs s (statement.For line item r es body) k q n free last levels j w is b made le after =
         let f = (out-Ref r).f in
@@ -279,10 +286,10 @@ module _ (c : Compiled) (at_sites : (g : ℕ) (u : SourceUnit) (who : Option ℕ
         let level = a_level levels (λ m. true) b5.0 in
         let at = started line (begun_loop (at_line line (scope c t)) (simple_step (layout c t) item r es) item r es (statement_piece (scope c t) who answer body)) q n free last made in
         let stands = loops line item r es body (q + 1) n at.0 last b2.0 (ltb-true (length es) 32767 b3.0) b4.0 b5.1 b1.0 at.2 in
-        loop_begun s line item r es body k q n j w is at.1 b1.0 b2.0 (let v : suc j ≤ 64 = omega (arith, le, level.1) in v) after at.0 stands
+        loop_begun s line item r es body k q n j w is at.1 b1.0 b2.0 (let v : suc j ≤ 64 = omega (arith, le, level.1) in v) (after refl) at.0 stands
     runs s (statement.Seq ss) k q n free last levels j w is b made le after =
         passes s (statement.Seq ss) k q w is refl
-        (wide j q (run_all ss k) (let v : j ≤ 64 = omega (arith, le) in v) (row_at ss k q n free last levels j b made le after))
+        (wide j q (run_all ss k) (let v : j ≤ 64 = omega (arith, le) in v) (row_at ss true k q n free last levels j refl b made le after))
         (let less : work_size c (run_all ss k) < c.statement_size s + work_size c k = omega (arith, row_size ss k, ap (λ f. f s) sizes, statement-size s ∙ ap statement_size_layer is) in less)
     runs s (statement.Mark ls u) k q n free last levels j w is b made le after =
         let parts = both_made (code c t) (marks c t) (with_labels ls) (statement_piece (scope c t) who answer u) q n free last made in
@@ -290,8 +297,8 @@ module _ (c : Compiled) (at_sites : (g : ℕ) (u : SourceUnit) (who : Option ℕ
         (parts.0, false, past parts.2.0.0 (here parts.2.0.1 refl), (n, levels, j, site_is parts.0 u levels n (parts.1, last, b, parts.3), le, refl, after))
         (let less : c.statement_size u + work_size c k < c.statement_size s + work_size c k = omega (arith, ap (λ f. f s) sizes, ap (λ f. f u) sizes, statement-size s ∙ ap statement_size_layer is) in less)
 
-    pub statement_follows : (s : Stmt) (k : Work) (q n levels j : ℕ) (w : Words) → Site q s levels n → j + levels ≤ 64 → After j n k → StepsNoting c t (Run s k) q false w
+    pub statement_follows : (s : Stmt) (k : Work) (q n levels j : ℕ) (w : Words) → Site q s levels n → j + levels ≤ 64 → (IsTrue (comes_to_end s) → After j n k) → StepsNoting c t (Run s k) q false w
     statement_follows s k q n levels j w (free, last, b, made) le after =
         runs s (out-Stmt s) k q n free last levels j w refl (sym (ap (λ f. f levels) (statement-built t.unit (has_words c t) who answer s)) ∙ b)
         (subst (λ p. Made (code c t) (marks c t) (p q free) q n free last) (statement-made (scope c t) who answer s) made)
-        le after
+        le (λ ends. after (ending-is s ∙ ends))

@@ -162,7 +162,7 @@ module _ (c : Compiled) (at_sites : (g : ℕ) (u : SourceUnit) (who : Option ℕ
     site.head + 1,
     false,
     past site.head_marks (here refl refl),
-    (site.on, 64, 0, subst (λ p. p.StatementAt (site.head + 1) x.body 64 site.on) (sym (at_sites g t.unit who)) site.body_at, (let z : 0 + 64 ≤ 64 = omega arith in z), refl, (site.on, false, here refl refl, on_carried site.on (site, refl))),
+    (site.on, 64, 0, subst (λ p. p.StatementAt (site.head + 1) x.body 64 site.on) (sym (at_sites g t.unit who)) site.body_at, (let z : 0 + 64 ≤ 64 = omega arith in z), refl, (λ ends. (site.on, false, here refl refl, on_carried site.on (site, refl)))),
   )
 
   -- behind the FOR

@@ -13,17 +13,18 @@ use Rattle.cw_unit.specs.declared.unit.Arg.TheOpen as layer
 use Rattle.cw_unit.specs.declared.unit.Arg.TheOpen.{Arg-F, Cond-F, Spot-F, Ref-F}
 use Rattle.cw_unit.specs.Scales.{answer_scale}
 use Rattle.cw_gen_expr.specs.Pieces.{Piece, plain, followed_by, sequence, with_end}
-use Rattle.cw_gen_expr.specs.ReferenceExpressions.{Scope, ConditionPiece, saved, two_values, control_place, item_order, item_span, table_span, table_orders, bounds_orders, load_orders, rescale_orders, logic_order, number_order, known_or, named_or, narrow, comparator_for, pick_mark, choice_piece, call_order, label_order, value_of, condition_piece, argument_piece, reference_of, expression_piece}
+use Rattle.cw_gen_expr.specs.ReferenceExpressions.{Scope, ConditionPiece, saved, two_values, control_place, item_order, item_span, table_span, table_orders, bounds_orders, load_orders, rescale_orders, logic_order, number_order, known_or, named_or, narrow, comparator_for, pick_mark, call_order, label_order, value_of, condition_piece, argument_piece, reference_of, expression_piece}
 use Rattle.cw_gen_expr.proofs.Layers.{value_layer, computed_layer, known_layer, value-made, argument_layer, argument-made, spot_layer, indexed_layer, word_item, word_layer, spot-made, reference-made, condition_layer, condition-made, total, expression_size, expression-size, expression_size_layer, argument_size, argument-size, argument_size_layer, spot-size, spot_size_layer, reference_size, reference-size, condition_size, condition-size, condition_size_layer}
+use Rattle.cw_gen_unit.specs.ReferenceStatements.{parted_piece}
 use Rattle.cw_traced.proofs.Lines.Starting.{begun_in, Begins, Silent, plainly, both, before, ended}
 use Rattle.cw_traced.proofs.Lines.Silent.{none-both, none-first, item-first, table-silent, bounds-silent, load-silent, rescale-silent, logic-silent, call-silent, label-silent}
 
 -- of two ways, both stand in the orders
-pub choice-begins : {xs ys : List ℕ} (c : ConditionPiece) (a b : Piece) → ((when : Bool) (mark : ℕ) → Silent (c when mark)) → Begins a xs → Begins b ys → Begins (choice_piece c a b) (xs ++ ys)
-choice-begins c a b hc ha hb =
-    ended (λ end. followed_by (with_end (λ other. followed_by (c false other) (followed_by a (plain (order.Jump end ∷ []))))) b)
+pub parted-begins : {xs ys : List ℕ} (c : ConditionPiece) (between : ℕ → List Order) (a b : Piece) → ((when : Bool) (mark : ℕ) → Silent (c when mark)) → ((end : ℕ) → begun_in (between end) ≡ []) → Begins a xs → Begins b ys → Begins (parted_piece c between a b) (xs ++ ys)
+parted-begins c between a b hc none ha hb =
+    ended (λ end. followed_by (with_end (λ other. followed_by (c false other) (followed_by a (plain (between end))))) b)
     (λ end. both
-    (ended (λ other. followed_by (c false other) (followed_by a (plain (order.Jump end ∷ [])))) (λ other. both (hc false other) (before ha (plainly (order.Jump end ∷ []) refl))))
+    (ended (λ other. followed_by (c false other) (followed_by a (plain (between end)))) (λ other. both (hc false other) (before ha (plainly (between end) (none end)))))
     hb)
 
 -- the top operand is saved
@@ -141,7 +142,7 @@ module _ (s : Scope) where
         binary a d (value_of s a).operand (value_of s d).operand (order.Div (narrow (pos (f + (value_of s d).operand) -ℤ pos (value_of s a).operand)) s.line ∷ [])
         (let z : expression_size a < n = omega (arith, le) in z) (let z : expression_size d < n = omega (arith, le) in z) refl
     computed-silent (layer.Choice c a d) le f =
-        choice-begins (condition_piece s c) (expression_piece s a f) (expression_piece s d f) (λ when mark. b.conditions c (let z : condition_size c < n = omega (arith, le) in z) when mark)
+        parted-begins (condition_piece s c) (λ end. order.Jump end ∷ []) (expression_piece s a f) (expression_piece s d f) (λ when mark. b.conditions c (let z : condition_size c < n = omega (arith, le) in z) when mark) (λ end. refl)
         (b.values a (let z : expression_size a < n = omega (arith, le) in z) f) (b.values d (let z : expression_size d < n = omega (arith, le) in z) f)
 
     value-silent : (x : Expr-F Arg Cond Expr Spot Ref) → expression_size_layer x ≤ n → (f : ℕ) → Silent ((value_layer s x).at f)

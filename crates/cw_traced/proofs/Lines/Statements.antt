@@ -16,14 +16,15 @@ use Rattle.cw_unit.specs.Begun.{line_of}
 use Rattle.cw_gen_expr.specs.Pieces.{Piece, plain, followed_by, sequence, with_end}
 use Rattle.cw_gen_expr.specs.ReferenceExpressions.{Scope, at_line, argument_words, control_place, item_order, store_orders, call_order, condition_piece, reference_of, expression_piece}
 use Rattle.cw_gen_expr.proofs.Layers.{total}
-use Rattle.cw_gen_unit.specs.ReferenceStatements as made
-use Rattle.cw_gen_unit.specs.ReferenceStatements.{after_statement_call, goal_order, jump_piece, with_middle, keep_orders, number_orders, set_orders, bump_orders, turn_piece, while_values, step_values, element_piece, elements_piece, element_ways, ring_piece, loop_place, simple_beginning, first_turn, stepped_piece, begun_loop, statement_piece}
+use Rattle.cw_gen_unit.specs.Endings.{comes_to_end}
+use Rattle.cw_gen_unit.proofs.Layers.{statement_layer, statement-made, jump-holds}
+use Rattle.cw_gen_unit.specs.ReferenceStatements.{after_statement_call, goal_order, jump_piece, with_middle, keep_orders, number_orders, set_orders, bump_orders, turn_piece, while_values, step_values, element_piece, elements_piece, element_ways, ring_piece, loop_place, simple_beginning, first_turn, stepped_piece, begun_loop, jump_past, statement_piece}
 use Rattle.cw_gen_unit.specs.declared.simple.SimpleStep.{SimpleStep}
 use Rattle.cw_gen_unit.specs.SimpleLoops.{simple_step}
 use Rattle.cw_traced.specs.Lines.Lines.{joined, lines_step, lines_in, parts_of}
-use Rattle.cw_traced.proofs.Lines.Starting.{Begins, Silent, as-lines, plainly, both, before, ended, labelled, begun}
+use Rattle.cw_traced.proofs.Lines.Starting.{begun_in, Begins, Silent, as-lines, plainly, both, before, ended, labelled, begun}
 use Rattle.cw_traced.proofs.Lines.Silent.{none-first, item-first, store-silent, call-silent, after-silent, goal-silent, beginning-silent}
-use Rattle.cw_traced.proofs.Lines.Expressions.{choice-begins, saved-silent, expression-begins, condition-begins, address-begins, arguments-begin}
+use Rattle.cw_traced.proofs.Lines.Expressions.{parted-begins, saved-silent, expression-begins, condition-begins, address-begins, arguments-begin}
 
 -- ---- layers
 
@@ -174,12 +175,6 @@ module _ (s : Scope) (item : ℕ) where
 -- ---- statements
 
 module _ (s : Scope) (who : Option ℕ) (answer : ℕ) where
-  abbrev piece_layer : Stmt-F Stmt → Piece
-  piece_layer x = made.statement_step s who answer (map-Stmt Stmt Piece (statement_piece s who answer) x)
-
-  statement-made : (x : Stmt) → statement_piece s who answer x ≡ piece_layer (out-Stmt x)
-  statement-made = fold_out-Stmt Piece (made.statement_step s who answer)
-
   jump-silent : (line : ℕ) (d : Dest) → Silent (jump_piece (at_line line s) who d)
   jump-silent line (dest.Goal g) = plainly (goal_order s.unit who g ∷ []) (none-first (goal_order s.unit who g) [] (goal-silent s.unit who g) refl)
   jump-silent line (dest.Special k) = plainly (order.GoSpecial (control_place s.parameters k) ∷ []) refl
@@ -192,7 +187,7 @@ module _ (s : Scope) (who : Option ℕ) (answer : ℕ) where
     all-begin [] lt = plainly [] refl
     all-begin (t ∷ ts) lt = both (below t (let z : statement_size t < n = omega (arith, lt) in z)) (all-begin ts (let z : total (map statement_size ts) < n = omega (arith, lt) in z))
 
-    layer-begins : (x : Stmt-F Stmt) → size_layer x ≤ n → Begins (piece_layer x) (lines_layer x)
+    layer-begins : (x : Stmt-F Stmt) → size_layer x ≤ n → Begins (statement_layer s who answer x) (lines_layer x)
     layer-begins (statement.Put line r e) le =
         both (begun line)
         (both (expression-begins (at_line line s) e (out-Ref r).f)
@@ -207,7 +202,8 @@ module _ (s : Scope) (who : Option ℕ) (answer : ℕ) where
     layer-begins (statement.Answer line e) le = both (begun line) (both (expression-begins (at_line line s) e answer) (plainly (order.Return (argument_words s.parameters) true ∷ []) refl))
     layer-begins (statement.If line c a b) le =
         both (begun line)
-        (choice-begins (condition_piece (at_line line s) c) (statement_piece s who answer a) (statement_piece s who answer b) (condition-begins (at_line line s) c)
+        (parted-begins (condition_piece (at_line line s) c) (jump_past (comes_to_end a) b) (statement_piece s who answer a) (statement_piece s who answer b) (condition-begins (at_line line s) c)
+        (jump-holds (λ os. begun_in os ≡ []) (λ end. refl) refl (comes_to_end a) b)
         (below a (let z : statement_size a < n = omega (arith, le) in z)) (below b (let z : statement_size b < n = omega (arith, le) in z)))
     layer-begins (statement.For line item r es t) le =
         both (begun line) (loop-begins (at_line line s) item r es (statement_piece s who answer t) (lines_in t) (below t (let z : statement_size t < n = omega (arith, le) in z)))
@@ -217,7 +213,7 @@ module _ (s : Scope) (who : Option ℕ) (answer : ℕ) where
   begins-below : (n : ℕ) (t : Stmt) → statement_size t < n → Begins (statement_piece s who answer t) (lines_in t)
   begins-below zero t lt = absurd (omega (arith, lt))
   begins-below (suc n) t lt =
-      subst (λ p. Begins p (lines_in t)) (sym (statement-made t))
+      subst (λ p. Begins p (lines_in t)) (sym (statement-made s who answer t))
       (as-lines (layer-begins n (begins-below n) (out-Stmt t) (let z : size_layer (out-Stmt t) ≤ n = omega (arith, lt, statement-size t) in z)) (sym (lines-made t)))
 
   pub statement-begins : (t : Stmt) → Begins (statement_piece s who answer t) (lines_in t)

@@ -10,7 +10,8 @@ use Rattle.cw_gen_expr.specs.UnitTables.{first_mark}
 use Rattle.cw_gen_unit.specs.ReferenceUnits.{answer_of, leave_orders, entry_orders, procedure_piece, procedures_piece, body_piece, unit_piece, unit_orders}
 use Rattle.cw_tmpl.specs.ReferenceCode.{order_places, orders_code}
 use Rattle.cw_traced.specs.Lines.Lines.{lines_in, unit_lines}
-use Rattle.cw_traced.proofs.Lines.Starting.{lines-told, Begins, plainly, both, before}
+use Rattle.cw_gen_unit.proofs.Layers.{leave-holds}
+use Rattle.cw_traced.proofs.Lines.Starting.{begun_in, lines-told, Begins, plainly, both, before}
 use Rattle.cw_traced.proofs.Lines.Silent.{bind-silent}
 use Rattle.cw_traced.proofs.Lines.Statements.{statement-begins}
 
@@ -18,7 +19,7 @@ module _ (u : SourceUnit) where
   procedure-begins : (p : ℕ) (q : Proc) → Begins (procedure_piece u p q) (lines_in q.body)
   procedure-begins p q =
       both (plainly (entry_orders u p q) (bind-silent (layout_of u) q.params))
-      (before (statement-begins (scope_of u (Some p)) (Some p) (answer_of u (Some p)) q.body) (plainly (leave_orders q) refl))
+      (before (statement-begins (scope_of u (Some p)) (Some p) (answer_of u (Some p)) q.body) (plainly (leave_orders q) (leave-holds (λ os. begun_in os ≡ []) q refl refl)))
 
   procedures-begin : (p : ℕ) (qs : List Proc) → Begins (procedures_piece u p qs) (flat_map (λ (q : Proc). lines_in q.body) qs)
   procedures-begin p [] = plainly [] refl

@@ -22,7 +22,7 @@ use Rattle.cw_carry.proofs.Runs.Beginnings.{unit_begun}
 use Rattle.cw_writable.proofs.Coded.Fine.{both, parts}
 use Rattle.cw_writable.proofs.Coded.Numbers.{lt_true}
 use Rattle.cw_writable.specs.Back.Ready.{code_of, is_goal, IsReady}
-use Rattle.cw_writable.proofs.Back.Units.{parts-of, unit-fit, unit-closes}
+use Rattle.cw_writable.proofs.Back.Units.{parts-of, unit-fit}
 use Rattle.cw_writable.proofs.Back.Targets.{pieces-sound, fields, filled}
 use Rattle.cw_writable.proofs.Back.Places.{code-long, statements, definitions}
 
@@ -58,19 +58,10 @@ module _ (u : SourceUnit) where
       let le : 0 ≤ 0 = omega arith in
       filled n fs (blanks (pieces_of o)) 0 (relocations 0 (pieces_of o)) small (all_blank [] (pieces_of o)) (all_rise 0 0 (pieces_of o) le) (fields n fs 0 (pieces_of o) ready.descriptors sound)
 
-  -- a list of orders is not empty: the segment's body ends in one
-  some-orders : 0 < length (unit_orders u).list
-  some-orders =
-      let b = body_piece u 0 (first_mark u) in
-      let s = statement_piece (scope_of u None) None 0 u.body 0 (first_mark u) in
-      let p = procedures_piece u 0 u.procs (0 + length b.orders) (first_mark u + length b.marks) in
-      let whole = length-append b.orders p.orders in
-      let front = length-append s.orders (order.NextBody ∷ []) in
-      omega (arith, whole, front)
-
   record Codes : Type 0 where
     orders : IsTrue (list_all has_code (unit_orders u).list)
     marks : IsTrue (list_all (is_mark (unit_orders u).list) (unit_orders u).marks)
+    entries : IsTrue (list_all (is_entry (unit_orders u).list (unit_orders u).marks) (unit_orders u).procedures)
 
   codes : IsTrue (have_code (unit_orders u)) → Codes
   codes h =
@@ -78,11 +69,12 @@ module _ (u : SourceUnit) where
       let last = list_all has_few o.switches && list_all (is_entry o.list o.marks) o.procedures in
       let a = parts (nat_eq o.entry 0) (list_all has_code o.list && (list_all (is_mark o.list) o.marks && last)) h in
       let b = parts (list_all has_code o.list) (list_all (is_mark o.list) o.marks && last) a.1 in
-      record { orders = b.0; marks = (parts (list_all (is_mark o.list) o.marks) last b.1).0 }
+      let c = parts (list_all (is_mark o.list) o.marks) last b.1 in
+      record { orders = b.0; marks = c.0; entries = (parts (list_all has_few o.switches) (list_all (is_entry o.list o.marks) o.procedures) c.1).1 }
 
   pub definitions_placed : IsTrue (is_built u) → IsTrue (have_code (unit_orders u)) → IsReady u → size ≤ 2097120 → IsTrue (are_defined (length u.descs) (code_of u) 0 u.defined)
   definitions_placed built coded ready small =
-      definitions (unit_orders u) (unit-closes u) some-orders (codes coded).marks u ready.descriptors small 0 u.defined ready.defined (parts-of u built).met
+      definitions (unit_orders u) (codes coded).marks (codes coded).entries u ready.descriptors small 0 u.defined ready.defined (parts-of u built).met
 
   pub statements_begun : IsTrue (is_built u) → IsTrue (have_code (unit_orders u)) → IsReady u → size ≤ 2097120 → IsTrue (are_begun size 0 (code_of u).statements)
   statements_begun built coded ready small =

@@ -32,9 +32,10 @@ use Rattle.cw_gen_expr.specs.Pieces.{Piece, plain, followed_by, sequence, with_e
 use Rattle.cw_gen_expr.specs.NamedItems.{has_words}
 use Rattle.cw_gen_expr.specs.BuiltExpressions as built
 use Rattle.cw_gen_expr.specs.BuiltExpressions.{BuiltValue, most_levels, within, whole, all_built, built_value, built_reference, is_argument}
-use Rattle.cw_gen_expr.specs.ReferenceExpressions.{Scope, ConditionPiece, at_line, saved, two_values, control_place, item_order, item_span, table_span, table_orders, bounds_orders, load_orders, store_orders, rescale_orders, logic_order, number_order, known_or, named_or, comparator_for, pick_mark, choice_piece, narrow, call_order, label_order, value_of, condition_piece, argument_piece, reference_of, expression_piece}
+use Rattle.cw_gen_expr.specs.ReferenceExpressions.{Scope, ConditionPiece, at_line, saved, two_values, control_place, item_order, item_span, table_span, table_orders, bounds_orders, load_orders, store_orders, rescale_orders, logic_order, number_order, known_or, named_or, comparator_for, pick_mark, narrow, call_order, label_order, value_of, condition_piece, argument_piece, reference_of, expression_piece}
 use Rattle.cw_gen_expr.specs.ReferenceEntries.{scope_of}
 use Rattle.cw_gen_expr.proofs.Layers.{value_layer, computed_layer, known_layer, value-made, argument_layer, argument-made, spot_layer, indexed_layer, word_item, word_layer, item-named as item-has, spot-made, reference-made, condition_layer, condition-made, built_value_layer, value-built, built_argument_layer, argument-built, built_spot_layer, spot-built, reference-built, built_condition_layer, condition-built, total, expression_size, expression-size, expression_size_layer, argument_size, argument-size, argument_size_layer, spot-size, spot_size_layer, reference_size, reference-size, condition_size, condition-size, condition_size_layer}
+use Rattle.cw_gen_unit.specs.ReferenceStatements.{parted_piece}
 use Rattle.cw_built.specs.Listed.{are_named}
 use Rattle.cw_built.specs.Built.{alone}
 use Rattle.cw_writable.proofs.Coded.Fine.{no, both, parts}
@@ -119,11 +120,11 @@ module _ (u : SourceUnit) (stored : IsStorable u) (few : length u.items ≤ 6553
 
     -- ---- trees
 
-    pub choice_good : (c : ConditionPiece) (a b : Piece) → ((when : Bool) (mark : ℕ) → Fine (c when mark)) → Fine a → Fine b → Fine (choice_piece c a b)
-    choice_good c a b hc ha hb =
-        ended_good (λ end. followed_by (with_end (λ other. followed_by (c false other) (followed_by a (plain (order.Jump end ∷ []))))) b)
+    pub parted_good : (c : ConditionPiece) (between : ℕ → List Order) (a b : Piece) → ((when : Bool) (mark : ℕ) → Fine (c when mark)) → ((end : ℕ) → IsTrue (list_all Names (between end))) → Fine a → Fine b → Fine (parted_piece c between a b)
+    parted_good c between a b hc well ha hb =
+        ended_good (λ end. followed_by (with_end (λ other. followed_by (c false other) (followed_by a (plain (between end))))) b)
         (λ end. both_good
-        (ended_good (λ other. followed_by (c false other) (followed_by a (plain (order.Jump end ∷ [])))) (λ other. both_good (hc false other) (both_good ha (plainly (order.Jump end ∷ []) refl))))
+        (ended_good (λ other. followed_by (c false other) (followed_by a (plain (between end)))) (λ other. both_good (hc false other) (both_good ha (plainly (between end) (well end)))))
         hb)
 
     known_good : (k : Option ℤ) (p : Piece) → Fine p → Fine (known_or k p)
@@ -281,8 +282,8 @@ module _ (u : SourceUnit) (stored : IsStorable u) (few : length u.items ≤ 6553
           let q = parts (within levels ((built_value u Words a).at f)) ((built_value u Words d).at f levels) p.1 in
           let r = parts (is_condition (alone u) 0 o c) (is_expression (alone u) 0 o a && is_expression (alone u) 0 o d) k in
           let t = parts (is_expression (alone u) 0 o a) (is_expression (alone u) 0 o d) r.1 in
-          choice_good (condition_piece Here c) (expression_piece Here a g) (expression_piece Here d g)
-          (b.conditions c (let z : condition_size c < n = omega (arith, le) in z) p.0 r.0) (inner_good a (let z : expression_size a < n = omega (arith, le) in z) f levels q.0 t.0 g) (b.values d (let z : expression_size d < n = omega (arith, le) in z) f levels q.1 t.1 g)
+          parted_good (condition_piece Here c) (λ end. order.Jump end ∷ []) (expression_piece Here a g) (expression_piece Here d g)
+          (b.conditions c (let z : condition_size c < n = omega (arith, le) in z) p.0 r.0) (λ end. refl) (inner_good a (let z : expression_size a < n = omega (arith, le) in z) f levels q.0 t.0 g) (b.values d (let z : expression_size d < n = omega (arith, le) in z) f levels q.1 t.1 g)
 
       value_good : (x : Expr-F Arg Cond Expr Spot Ref) → expression_size_layer x ≤ n → (f levels : ℕ) → IsTrue ((built_value_layer u Words x).at f levels) → IsTrue (formed.expression_step (alone u) 0 o (kinds (alone u) 0 o x)) → (g : ℕ) → Fine ((value_layer Here x).at g)
       value_good x le f levels h k g = known_good (known_layer Here x g) ((computed_layer Here x).at g) (computed_good x le f levels h k g)

@@ -35,11 +35,11 @@ use Rattle.cw_tmpl.specs.Mnemonics.{ax, at_si, load}
 use Rattle.cw_tmpl.specs.Templates.{block_size, listed_size, entry_pieces}
 use Rattle.cw_tmpl.specs.ReferenceCode.{templates, landings, switches, entry_size, order_places, switch_places, switch_sizes, landings_place, switches_place, names_of, mark_starts, label_starts, statement_at, statements_from, orders_code}
 use Rattle.cw_tmpl.proofs.Growing.{blanks-append}
-use Rattle.cw_tmpl.proofs.Sizes.{listed as size_alone, element_at_long, size_to, places_are, size_of_templates, size_of_landings, size_of_switches, landings_at}
+use Rattle.cw_tmpl.proofs.Sizes.{listed as size_alone, element_at_long, size_to, places_are, mark_start, size_of_templates, size_of_landings, size_of_switches, landings_at}
 use Rattle.cw_obj.specs.ReferenceObject.{definition_of, definition_place}
 use Rattle.cw_object.specs.Fits.{is_word, is_long, fits_definition, fits_statement}
 use Rattle.cw_object.specs.IsWritable.{is_defined, are_defined, is_begun, are_begun}
-use Rattle.cw_built.specs.Coded.{has_code, lands, is_mark}
+use Rattle.cw_built.specs.Coded.{has_code, lands, is_mark, enters, enters_at, is_entry}
 use Rattle.cw_built.specs.Built.{meets}
 use Rattle.cw_carry.proofs.Runs.Leading.{Leads}
 use Rattle.cw_carry.proofs.Runs.Beginnings.{AreBegun}
@@ -47,7 +47,6 @@ use Rattle.cw_writable.proofs.Coded.Fine.{no, both, parts}
 use Rattle.cw_writable.proofs.Coded.Numbers.{le_true, lt_true}
 use Rattle.cw_writable.specs.Back.Ready.{are_rising}
 use Rattle.cw_writable.proofs.Back.Fit.{names_well, Fit, none, next, begun}
-use Rattle.cw_writable.proofs.Back.Units.{is_last, closes}
 
 -- ---- what is left of a block
 
@@ -162,24 +161,27 @@ left-next zero o os h = left-first o os
 
 -- ---- places of orders
 
-last-long : (left : ℕ) (o : Order) → IsTrue (is_last o) → IsTrue (left_over left (o ∷ [])) → 0 < block_size (block_at left (o ∷ [])) o
-last-long zero order.NextBody h l = omega arith
-last-long zero (order.Return n answers) h l = omega arith
-last-long (suc n) order.NextBody h l = no l
-last-long (suc n) (order.Return m answers) h l = no l
-last-long left o h l = no h
+-- the code of each order begins at the end at the latest
+before-end : (left : ℕ) (os : List Order) (k : ℕ) → k ≤ length os → size_to left os k ≤ size_to left os (length os)
+before-end left [] zero le = omega arith
+before-end left [] (suc k) le = absurd (omega (arith, le))
+before-end left (o ∷ os) zero le = omega arith
+before-end left (o ∷ os) (suc k) le =
+    let z = before-end (orders_left (block_at left (o ∷ os))) os k (let y : k ≤ length os = omega (arith, le) in y) in
+    omega (arith, z)
 
--- the code of each order begins before the end
-before-end : (left : ℕ) (os : List Order) → IsTrue (closes os) → IsTrue (left_over left os) → (k : ℕ) → k < length os → size_to left os k < size_to left os (length os)
-before-end left [] h l k lt = absurd (omega (arith, lt))
-before-end left (o ∷ []) h l zero lt = let z = last-long left o h l in omega (arith, z)
-before-end left (o ∷ []) h l (suc k) lt = absurd (omega (arith, lt))
-before-end left (o ∷ x ∷ xs) h l zero lt =
-    let z = before-end (orders_left (block_at left (o ∷ x ∷ xs))) (x ∷ xs) h (left-next left o (x ∷ xs) l) 0 (let y : 0 < suc (length xs) = omega arith in y) in
+-- and that of an entry before it
+entry-before : (left : ℕ) (os : List Order) → IsTrue (left_over left os) → (k : ℕ) → IsTrue (enters (slice_get os k)) → size_to left os k < size_to left os (length os)
+entry-before left [] l k h = no h
+entry-before left (o ∷ os) l (suc k) h =
+    let z = entry-before (orders_left (block_at left (o ∷ os))) os (left-next left o os l) k h in
     omega (arith, z)
-before-end left (o ∷ x ∷ xs) h l (suc k) lt =
-    let z = before-end (orders_left (block_at left (o ∷ x ∷ xs))) (x ∷ xs) h (left-next left o (x ∷ xs) l) k (let y : k < suc (length xs) = omega (arith, lt) in y) in
-    omega (arith, z)
+entry-before left (order.Enter n ∷ os) l zero h = by_left left l
+  where
+    by_left : (left : ℕ) → IsTrue (left_over left (order.Enter n ∷ os)) → 0 < size_to left (order.Enter n ∷ os) (suc (length os))
+    by_left zero l = let one : block_size block.Single (order.Enter n) ≡ 7 = refl in omega (arith, one)
+    by_left (suc m) l = no l
+entry-before left (o ∷ os) l zero h = no h
 
 -- ---- statements
 
@@ -300,40 +302,60 @@ module _ (o : Orders) where
 
   -- ---- definitions
 
-  module _ (closed : IsTrue (closes o.list)) (some : 0 < length o.list) (marked : IsTrue (list_all (is_mark o.list) o.marks)) where
-    order-inside : (k : ℕ) → k < length o.list → slice_index (order_places o.list) k < Whole
-    order-inside k lt =
-        let long = code-long in
-        let place : slice_index (order_places o.list) k ≡ entry_size + size_to 0 o.list k = places_are entry_size 0 o.list k (let z : k ≤ length o.list = omega (arith, lt) in z) in
-        let before = before-end 0 o.list closed refl k lt in
-        omega (arith, long, place, before)
+  module _ (marked : IsTrue (list_all (is_mark o.list) o.marks)) (entered : IsTrue (list_all (is_entry o.list o.marks) o.procedures)) where
+    abbrev End : ℕ
+    End = entry_size + size_to 0 o.list (length o.list)
+
+    order-inside : (k : ℕ) → k ≤ length o.list → slice_index (order_places o.list) k ≤ End
+    order-inside k le =
+        let at : slice_index (order_places o.list) k ≡ entry_size + size_to 0 o.list k = places_are entry_size 0 o.list k le in
+        let z = before-end 0 o.list k le in
+        omega (arith, at, z)
 
     index-mark : (ms : List ℕ) → IsTrue (list_all (is_mark o.list) ms) → (k : ℕ) → IsTrue (is_mark o.list (slice_index ms k))
     index-mark [] h k = refl
     index-mark (m ∷ ms) h zero = (parts (is_mark o.list m) (list_all (is_mark o.list) ms) h).0
     index-mark (m ∷ ms) h (suc k) = index-mark ms (parts (is_mark o.list m) (list_all (is_mark o.list) ms) h).1 k
 
-    marked-inside : (place : ℕ) → IsTrue (is_mark o.list place) → slice_index (order_places o.list) place < Whole
+    marked-inside : (place : ℕ) → IsTrue (is_mark o.list place) → slice_index (order_places o.list) place ≤ End
     marked-inside place h = by_test (nat_eq place 0) refl h
       where
-        by_order : (x : Option Order) → slice_get o.list place ≡ x → IsTrue (lands x) → slice_index (order_places o.list) place < Whole
+        by_order : (x : Option Order) → slice_get o.list place ≡ x → IsTrue (lands x) → slice_index (order_places o.list) place ≤ End
         by_order None e h = no h
-        by_order (Some x) e h = order-inside place (slice_get_within o.list place x e)
+        by_order (Some x) e h = let lt = slice_get_within o.list place x e in order-inside place (let z : place ≤ length o.list = omega (arith, lt) in z)
 
-        by_test : (b : Bool) → nat_eq place 0 ≡ b → IsTrue (b || lands (slice_get o.list place)) → slice_index (order_places o.list) place < Whole
-        by_test true e h = subst (λ k. slice_index (order_places o.list) k < Whole) (sym (eqb-true place 0 e)) (order-inside 0 some)
+        by_test : (b : Bool) → nat_eq place 0 ≡ b → IsTrue (b || lands (slice_get o.list place)) → slice_index (order_places o.list) place ≤ End
+        by_test true e h = subst (λ k. slice_index (order_places o.list) k ≤ End) (sym (eqb-true place 0 e)) (order-inside 0 (let z : 0 ≤ length o.list = omega arith in z))
         by_test false e h = by_order (slice_get o.list place) refl h
 
-    mark-inside : (m : ℕ) → mark_starts o m < Whole
+    -- a mark may stand behind all code of the orders
+    mark-inside : (m : ℕ) → mark_starts o m ≤ End
     mark-inside m = marked-inside (slice_index o.marks m) (index-mark o.marks marked m)
+
+    -- but that of a procedure stands at its entry
+    entry-inside : (m : ℕ) → IsTrue (is_entry o.list o.marks m) → mark_starts o m < Whole
+    entry-inside m h = by_mark (slice_get o.marks m) refl h
+      where
+        by_order : (place : ℕ) (x : Option Order) → slice_get o.marks m ≡ Some place → slice_get o.list place ≡ x → IsTrue (enters x) → mark_starts o m < Whole
+        by_order place None e f k = no k
+        by_order place (Some x) e f k =
+            let long = code-long in
+            let lt = slice_get_within o.list place x f in
+            let at : mark_starts o m ≡ entry_size + size_to 0 o.list place = mark_start o m place e (let z : place ≤ length o.list = omega (arith, lt) in z) in
+            let before = entry-before 0 o.list refl place (subst (λ y. IsTrue (enters y)) (sym f) k) in
+            omega (arith, long, at, before)
+
+        by_mark : (x : Option ℕ) → slice_get o.marks m ≡ x → IsTrue (enters_at o.list x) → mark_starts o m < Whole
+        by_mark None e h = no h
+        by_mark (Some place) e h = by_order place (slice_get o.list place) e refl h
 
     some-code : 0 < Whole
     some-code = let long = code-long in let entry : entry_size ≡ 11 = refl in omega (arith, long, entry)
 
-    procedure-inside : (ms : List ℕ) (q : ℕ) → slice_index (map (mark_starts o) ms) q < Whole
-    procedure-inside [] q = some-code
-    procedure-inside (m ∷ ms) zero = mark-inside m
-    procedure-inside (m ∷ ms) (suc q) = procedure-inside ms q
+    procedure-inside : (ms : List ℕ) → IsTrue (list_all (is_entry o.list o.marks) ms) → (q : ℕ) → slice_index (map (mark_starts o) ms) q < Whole
+    procedure-inside [] h q = some-code
+    procedure-inside (m ∷ ms) h zero = entry-inside m (parts (is_entry o.list o.marks m) (list_all (is_entry o.list o.marks) ms) h).0
+    procedure-inside (m ∷ ms) h (suc q) = procedure-inside ms (parts (is_entry o.list o.marks m) (list_all (is_entry o.list o.marks) ms) h).1 q
 
     landing-inside : (l : ℕ) → l < length o.labels → landing_start (names_of o) l < Whole
     landing-inside l lt =
@@ -345,7 +367,10 @@ module _ (o : Orders) where
     way-inside l m lt = by_body m.in_procedure
       where
         by_body : (b : Bool) → (if b then mark_place (names_of o) m.mark else landing_start (names_of o) l) < Whole
-        by_body true = mark-inside m.mark
+        by_body true =
+            let long = code-long in
+            let inside = mark-inside m.mark in
+            omega (arith, long, inside, lt)
         by_body false = landing-inside l lt
 
     label-inside : (first : ℕ) (ms : List LabelMark) (l : ℕ) → first + length ms ≤ length o.labels → slice_index (label_starts (names_of o) first ms) l < Whole
@@ -359,7 +384,7 @@ module _ (o : Orders) where
     switch-inside at (gs ∷ rest) (suc s) le = switch-inside (at + switch_size gs) rest s (let z : at + switch_size gs + switch_sizes rest ≤ Whole = omega (arith, le) in z)
 
     definition-inside : (d : Def) → definition_place (orders_code o) d < Whole
-    definition-inside (def.Proc q) = procedure-inside o.procedures q
+    definition-inside (def.Proc q) = procedure-inside o.procedures entered q
     definition-inside (def.Label l) = label-inside 0 o.labels l (let z : 0 + length o.labels ≤ length o.labels = omega arith in z)
     definition-inside (def.Switch s) =
         let long = code-long in

@@ -38,8 +38,9 @@ use Rattle.cw_gen_expr.specs.ReferenceEntries.{scope_of}
 use Rattle.cw_gen_expr.specs.UnitTables.{label_mark}
 use Rattle.cw_gen_expr.proofs.Layers.{total}
 use Rattle.cw_gen_unit.specs.BuiltStatements as built
-use Rattle.cw_gen_unit.specs.ReferenceStatements as made
-use Rattle.cw_gen_unit.specs.ReferenceStatements.{begin_orders, after_statement_call, from_procedure, own_order, goal_order, jump_piece, with_middle, keep_orders, number_orders, set_orders, bump_orders, turn_piece, while_values, step_values, element_piece, elements_piece, element_ways, ring_piece, loop_place, value_orders, limit_orders, past_orders, turn_orders, simple_orders, simple_beginning, first_turn, stepped_piece, begun_loop, statement_piece}
+use Rattle.cw_gen_unit.specs.Endings.{comes_to_end}
+use Rattle.cw_gen_unit.proofs.Layers.{statement_layer, statement-made, jump-holds}
+use Rattle.cw_gen_unit.specs.ReferenceStatements.{begin_orders, after_statement_call, from_procedure, own_order, goal_order, jump_piece, with_middle, keep_orders, number_orders, set_orders, bump_orders, turn_piece, while_values, step_values, element_piece, elements_piece, element_ways, ring_piece, loop_place, value_orders, limit_orders, past_orders, turn_orders, simple_orders, simple_beginning, first_turn, stepped_piece, begun_loop, jump_past, statement_piece}
 use Rattle.cw_gen_unit.specs.declared.simple.Simple.{Simple}
 use Rattle.cw_gen_unit.specs.declared.simple.Simple.TheVariants as simple
 use Rattle.cw_gen_unit.specs.declared.simple.SimpleStep.{SimpleStep}
@@ -318,12 +319,6 @@ module _ (u : SourceUnit) (stored : IsStorable u) (few : length u.items ≤ 6553
   after-named target.Read = refl
   after-named target.Write = refl
 
-  abbrev piece_layer : Stmt-F Stmt → Piece
-  piece_layer x = made.statement_step At who answer (map-Stmt Stmt Piece (statement_piece At who answer) x)
-
-  statement-made : (x : Stmt) → statement_piece At who answer x ≡ piece_layer (out-Stmt x)
-  statement-made = fold_out-Stmt Piece (made.statement_step At who answer)
-
   abbrev built_layer : Stmt-F Stmt → ℕ → Bool
   built_layer x = built.statement_step u Has who answer (map-Stmt Stmt (ℕ → Bool) (built.is_statement u Has who answer) x)
 
@@ -347,7 +342,7 @@ module _ (u : SourceUnit) (stored : IsStorable u) (few : length u.items ≤ 6553
     inner_good t lt zero h k l = no h
     inner_good t lt (suc m) h k l = below t lt m h k l
 
-    layer_good : (x : Stmt-F Stmt) → size_layer x ≤ n → (levels : ℕ) → IsTrue (built_layer x levels) → IsTrue (formed_layer x) → IsTrue (lines_layer x) → Sound (piece_layer x)
+    layer_good : (x : Stmt-F Stmt) → size_layer x ≤ n → (levels : ℕ) → IsTrue (built_layer x levels) → IsTrue (formed_layer x) → IsTrue (lines_layer x) → Sound (statement_layer At who answer x)
     layer_good (statement.Put line r e) le levels h k l =
         let f = (out-Ref r).f in
         let p = parts (built_reference u Has r).good (expressions.is_expression u Has e f most_levels) h in
@@ -378,7 +373,8 @@ module _ (u : SourceUnit) (stored : IsStorable u) (few : length u.items ≤ 6553
         let v = parts (is_line line) (has_lines a && has_lines b) l in
         let w = parts (has_lines a) (has_lines b) v.1 in
         both_good (begin line v.0)
-        (named.choice_good u stored few is_named who o line (condition_piece (at_line line At) c) (statement_piece At who answer a) (statement_piece At who answer b) (condition line c p.0 r.0)
+        (named.parted_good u stored few is_named who o line (condition_piece (at_line line At) c) (jump_past (comes_to_end a) b) (statement_piece At who answer a) (statement_piece At who answer b) (condition line c p.0 r.0)
+        (jump-holds Well (λ end. refl) refl (comes_to_end a) b)
         (inner_good a (let z : statement_size a < n = omega (arith, le) in z) levels q.0 t.0 w.0) (below b (let z : statement_size b < n = omega (arith, le) in z) levels q.1 t.1 w.1))
     layer_good (statement.For line item r es t) le levels h k l =
         let one : Bool = within levels (λ m. true) in
@@ -397,7 +393,7 @@ module _ (u : SourceUnit) (stored : IsStorable u) (few : length u.items ≤ 6553
   good_below : (n : ℕ) (t : Stmt) → statement_size t < n → (levels : ℕ) → IsTrue (Passes t levels) → IsTrue (Forms t) → IsTrue (has_lines t) → Sound (statement_piece At who answer t)
   good_below zero t lt levels h k l = absurd (omega (arith, lt))
   good_below (suc n) t lt levels h k l =
-      subst Sound (sym (statement-made t))
+      subst Sound (sym (statement-made At who answer t))
       (layer_good n (good_below n) (out-Stmt t) (let z : size_layer (out-Stmt t) ≤ n = omega (arith, lt, statement-size t) in z) levels
       (subst (λ x. IsTrue (x levels)) (statement-built t) h) (subst IsTrue (formed-statement (alone u) 0 o t) k) (subst IsTrue (statement-lines t) l))
 

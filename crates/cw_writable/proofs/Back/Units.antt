@@ -1,4 +1,4 @@
--- The orders of a unit that is built name what there is, and begin each statement with its line; their list ends where control leaves it.
+-- The orders of a unit that is built name what there is, and begin each statement with its line.
 use Rattle.std.proofs.Common.{ℕ, suc, ◌+◌, ◌≤◌, nat_le, List, [], ◌∷◌, ◌++◌, length, Bool, true, false, IsTrue, ◌&&◌, Some, None, refl}
 use Rattle.std.proofs.lemmas.Bool.{leb-true}
 use Rattle.std.specs.List.{list_all}
@@ -23,61 +23,14 @@ use Rattle.cw_built.specs.Built.{alone, is_formed, are_met, is_built}
 use Rattle.cw_built.proofs.Layouts.{storable}
 use Rattle.cw_writable.proofs.Coded.Fine.{parts}
 use Rattle.cw_writable.specs.Back.Ready.{has_lines, IsReady}
-use Rattle.cw_writable.proofs.Back.Fit.{Fit, Good, plainly, both_good}
+use Rattle.cw_gen_unit.proofs.Layers.{leave-holds}
+use Rattle.cw_writable.proofs.Back.Fit.{names_well, Fit, Good, plainly, both_good}
 use Rattle.cw_writable.proofs.Back.Names.{bind-named}
 use Rattle.cw_writable.proofs.Back.Statements.{statement_good}
-
--- ---- the end of a list
-
-abbrev pub is_last : Order → Bool
-is_last order.NextBody = true
-is_last (order.Return n answers) = true
-is_last _ = false
-
--- the last order, if there is one, leaves the body
-abbrev pub closes : List Order → Bool
-closes [] = true
-closes (o ∷ []) = is_last o
-closes (o ∷ x ∷ xs) = closes (x ∷ xs)
-
-closes-both : (xs ys : List Order) → IsTrue (closes xs) → IsTrue (closes ys) → IsTrue (closes (xs ++ ys))
-closes-both [] ys h k = k
-closes-both (o ∷ []) [] h k = h
-closes-both (o ∷ []) (y ∷ ys) h k = k
-closes-both (o ∷ x ∷ xs) ys h k = closes-both (x ∷ xs) ys h k
-
-closes-behind : (xs : List Order) (y : Order) (ys : List Order) → IsTrue (closes (y ∷ ys)) → IsTrue (closes (xs ++ y ∷ ys))
-closes-behind [] y ys k = k
-closes-behind (o ∷ []) y ys k = k
-closes-behind (o ∷ x ∷ xs) y ys k = closes-behind (x ∷ xs) y ys k
 
 -- ---- the unit
 
 module _ (u : SourceUnit) where
-  procedure-closes : (p : ℕ) (q : Proc) (place next : ℕ) → IsTrue (closes (procedure_piece u p q place next).orders)
-  procedure-closes p q place next =
-      let entry = entry_orders u p q in
-      let body = statement_piece (scope_of u (Some p)) (Some p) (answer_of u (Some p)) q.body (place + length entry) (next + 0) in
-      by_parts entry body.orders
-    where
-      by_parts : (xs ys : List Order) → IsTrue (closes (xs ++ (ys ++ leave_orders q)))
-      by_parts [] ys = closes-behind ys (order.Const 0) (order.Return (argument_words q.params) true ∷ []) refl
-      by_parts (o ∷ []) [] = refl
-      by_parts (o ∷ []) (y ∷ ys) = by_parts [] (y ∷ ys)
-      by_parts (o ∷ x ∷ xs) ys = by_parts (x ∷ xs) ys
-
-  procedures-close : (p : ℕ) (qs : List Proc) (place next : ℕ) → IsTrue (closes (procedures_piece u p qs place next).orders)
-  procedures-close p [] place next = refl
-  procedures-close p (q ∷ qs) place next =
-      let x = procedure_piece u p q place next in
-      closes-both x.orders (procedures_piece u (suc p) qs (place + length x.orders) (next + length x.marks)).orders (procedure-closes p q place next) (procedures-close (suc p) qs (place + length x.orders) (next + length x.marks))
-
-  pub unit-closes : IsTrue (closes (unit_orders u).list)
-  unit-closes =
-      let b = body_piece u 0 (first_mark u) in
-      let s = statement_piece (scope_of u None) None 0 u.body 0 (first_mark u) in
-      closes-both b.orders (procedures_piece u 0 u.procs (0 + length b.orders) (first_mark u + length b.marks)).orders (closes-behind s.orders order.NextBody [] refl) (procedures-close 0 u.procs (0 + length b.orders) (first_mark u + length b.marks))
-
   pub record Known : Type 0 where
     pub named : IsTrue (are_named u.descs)
     pub few : length u.items ≤ 65535
@@ -118,7 +71,7 @@ module _ (u : SourceUnit) where
         let x = parts (is_statement u (has_words u (Some p)) (Some p) (answer_of u (Some p)) q.body 64) (nat_le (length q.params) 32 && last) b in
         let y = parts (nat_le (length q.params) 32) last x.1 in
         both_good (plainly (entry_orders u p q) (bind-named u h.storable h.few (Some p) q.params y.1))
-        (both_good (statement_good u h.storable h.few h.named (Some p) (Some (0, p)) (answer_of u (Some p)) q.body 64 x.0 f l) (plainly (leave_orders q) refl))
+        (both_good (statement_good u h.storable h.few h.named (Some p) (Some (0, p)) (answer_of u (Some p)) q.body 64 x.0 f l) (plainly (leave_orders q) (leave-holds (λ os. IsTrue (list_all (names_well (length u.descs) (layout_of u).families) os)) q refl refl)))
 
     procedures_good : (p : ℕ) (qs : List Proc) → IsTrue (are_procedures u p qs) → IsTrue (formed.are_procedures (alone u) 0 p qs) → IsTrue (list_all (λ (q : Proc). has_lines q.body) qs) → Good (length u.descs) (layout_of u).families (procedures_piece u p qs)
     procedures_good p [] b f l = plainly [] refl

@@ -26,8 +26,9 @@ use Rattle.cw_gen_expr.specs.Pieces.{Piece, plain, followed_by, sequence, with_e
 use Rattle.cw_gen_expr.specs.ReferenceExpressions.{Scope, at_line, argument_words, control_place, item_order, store_orders, number_order, call_order, condition_piece, expression_piece}
 use Rattle.cw_gen_expr.specs.UnitTables.{label_mark}
 use Rattle.cw_gen_expr.proofs.Layers.{total}
-use Rattle.cw_gen_unit.specs.ReferenceStatements as made
-use Rattle.cw_gen_unit.specs.ReferenceStatements.{begin_orders, after_statement_call, from_procedure, own_order, goal_order, jump_piece, with_middle, keep_orders, number_orders, set_orders, bump_orders, turn_piece, while_values, step_values, element_piece, elements_piece, element_ways, ring_piece, loop_place, value_orders, limit_orders, past_orders, turn_orders, simple_orders, simple_beginning, first_turn, stepped_piece, begun_loop, loop_piece, statement_piece}
+use Rattle.cw_gen_unit.specs.Endings.{comes_to_end}
+use Rattle.cw_gen_unit.proofs.Layers.{statement_layer, statement-made, jump-holds}
+use Rattle.cw_gen_unit.specs.ReferenceStatements.{begin_orders, after_statement_call, from_procedure, own_order, goal_order, jump_piece, with_middle, keep_orders, number_orders, set_orders, bump_orders, turn_piece, while_values, step_values, element_piece, elements_piece, element_ways, ring_piece, loop_place, value_orders, limit_orders, past_orders, turn_orders, simple_orders, simple_beginning, first_turn, stepped_piece, begun_loop, loop_piece, jump_past, statement_piece}
 use Rattle.cw_gen_unit.specs.declared.simple.Simple.{Simple}
 use Rattle.cw_gen_unit.specs.declared.simple.Simple.TheVariants as simple
 use Rattle.cw_gen_unit.specs.declared.simple.SimpleStep.{SimpleStep}
@@ -38,15 +39,9 @@ use Rattle.cw_writable.specs.Coded.RangedUnits as ranged
 use Rattle.cw_writable.specs.Coded.RangedUnits.{is_line, is_ranged_jump, is_ranged_element, are_ranged_elements, is_ranged_statement}
 use Rattle.cw_writable.proofs.Coded.Fine.{parts, passed, Good, plainly, both_good, ended_good, labels_good}
 use Rattle.cw_writable.proofs.Coded.Numbers.{lt_true, first, first_by, item-first, store-coded, control-coded, call-coded}
-use Rattle.cw_writable.proofs.Coded.Expressions.{choice_good, saved_good, expression_good, condition_ranged_good, address_good, arguments_good, reference-ranges}
+use Rattle.cw_writable.proofs.Coded.Expressions.{parted_good, saved_good, expression_good, condition_ranged_good, address_good, arguments_good, reference-ranges}
 
 -- ---- layers
-
-abbrev statement_layer : Scope → Option ℕ → ℕ → Stmt-F Stmt → Piece
-statement_layer s who f x = made.statement_step s who f (map-Stmt Stmt Piece (statement_piece s who f) x)
-
-statement-made : (s : Scope) (who : Option ℕ) (f : ℕ) (x : Stmt) → statement_piece s who f x ≡ statement_layer s who f (out-Stmt x)
-statement-made s who f = fold_out-Stmt Piece (made.statement_step s who f)
 
 abbrev ranged_layer : SourceUnit → ℕ → Stmt-F Stmt → Bool
 ranged_layer u f x = ranged.statement_step u f (map-Stmt Stmt Bool (is_ranged_statement u f) x)
@@ -322,7 +317,8 @@ module _ (s : Scope) (few : argument_words s.parameters < 256) (who : Option ℕ
         let q = parts (is_ranged_condition s.unit c) (is_ranged_statement s.unit answer a && is_ranged_statement s.unit answer b) p.1 in
         let k = parts (is_ranged_statement s.unit answer a) (is_ranged_statement s.unit answer b) q.1 in
         both_good (begin_good line p.0)
-        (choice_good (condition_piece (at_line line s) c) (statement_piece s who answer a) (statement_piece s who answer b) (condition_ranged_good (at_line line s) few p.0 c q.0)
+        (parted_good (condition_piece (at_line line s) c) (jump_past (comes_to_end a) b) (statement_piece s who answer a) (statement_piece s who answer b) (condition_ranged_good (at_line line s) few p.0 c q.0)
+        (jump-holds (λ os. IsTrue (list_all has_code os)) (λ end. refl) refl (comes_to_end a) b)
         (below a (let z : statement_size a < n = omega (arith, le) in z) k.0) (below b (let z : statement_size b < n = omega (arith, le) in z) k.1))
     layer_good (statement.For line item r es t) le h =
         let f = (out-Ref r).f in

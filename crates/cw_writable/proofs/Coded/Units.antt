@@ -19,6 +19,7 @@ use Rattle.cw_gen_expr.specs.UnitTables.{procedure_mark, first_mark}
 use Rattle.cw_gen_unit.specs.BuiltStatements.{is_statement}
 use Rattle.cw_gen_unit.specs.BuiltUnits.{items_fit, is_procedure, are_procedures, are_built}
 use Rattle.cw_gen_unit.specs.ReferenceUnits.{answer_of, place_if, place_of, leave_orders, entry_orders, procedure_piece, procedures_piece, body_piece, unit_piece, entries_of, procedure_labels, labels_in, place_or_none, label_places, definition_place, definition_places, procedure_marks, switch_lists, unit_orders}
+use Rattle.cw_gen_unit.proofs.Layers.{leave-holds}
 use Rattle.cw_built.specs.Stored.{are_bases, are_items, are_frames, is_stored}
 use Rattle.cw_built.specs.Coded.{has_code, is_enter, is_landing, lands, is_mark, enters, enters_at, is_entry, has_few, have_code}
 use Rattle.cw_writable.specs.Coded.RangedUnits.{is_ranged_statement, is_ranged_procedure, are_ranged_procedures, is_ranged}
@@ -72,7 +73,7 @@ module _ (u : SourceUnit) where
         let size = slice_index (layout_of u).frames p in
         both_good (plainly (entry_orders u p q) (first_by (order.Enter size) (bind_orders (layout_of u) q.params) (lt_true size 65536 (frames-small 0 u.procs frames p)) refl (bind-coded maps u stored p (leb-true (frame_size u p) 32768 r.1) q.params (few-in p q b) (items-in p q b))))
         (both_good (statement_good (scope_of u (Some p)) (few-at 0 u.procs built p) (Some p) (answer_of u (Some p)) q.body r.0)
-        (plainly (leave_orders q) (first_by (order.Return (argument_words q.params) true) [] (lt_true (argument_words q.params) 256 (few-in p q b)) refl refl)))
+        (plainly (leave_orders q) (leave-holds (λ os. IsTrue (list_all has_code os)) q (first_by (order.Return (argument_words q.params) true) [] (lt_true (argument_words q.params) 256 (few-in p q b)) refl refl) refl)))
 
     procedures_good : (p : ℕ) (qs : List Proc) → IsTrue (are_procedures u p qs) → IsTrue (are_ranged_procedures u p qs) → Good (procedures_piece u p qs)
     procedures_good p [] b h = plainly [] refl

@@ -24,5 +24,5 @@ returns c =
     on_ok_weaker c.emit_leave.result
     (λ h.
     (and_then (one (plain (entry_orders u p q)) x x1 c.in_ok-emit_entry.ensures)
-    (and_then (one (statement_piece (scope_of u (Some p)) (Some p) (answer_of u (Some p)) q.body) x1 x2 (c.in_ok-emit_statement.ensures ∙ ap₂ (λ s a. added (statement_piece s (Some p) a q.body) x1) scope answer)) (one (plain (leave_orders q)) x2 x3 h))).is)
+    (and_then (one (statement_piece (scope_of u (Some p)) (Some p) (answer_of u (Some p)) q.body) x1 x2 (c.in_ok-ends.ensures.orders ∙ ap₂ (λ s a. added (statement_piece s (Some p) a q.body) x1) scope answer)) (one (plain (leave_orders q)) x2 x3 h))).is)
     c.emit_leave.ensures

@@ -1,10 +1,13 @@
-use Rattle.std.proofs.Common.{◌≡◌, map, drop}
+use Rattle.std.proofs.Common.{◌≡◌, map, drop, true}
 use Rattle.cw_gen_expr.specs.Pieces.{sequence}
 use Rattle.cw_gen_expr.specs.Output.{made, added}
 use Rattle.cw_gen_expr.specs.ReferenceExpressions.{scope_with}
+use Rattle.cw_gen_unit.specs.Endings.{list_ends}
 use Rattle.cw_gen_unit.specs.ReferenceStatements.{statement_piece}
+use Rattle.cw_gen_unit.proofs.Layers.{with_ends}
 use Rattle.cw_gen_unit.proofs.statements.+emit_statement.Given as goal
 
 abbrev pub invariant-loop-member : goal.invariant-loop-member
 invariant-loop-member l =
-    added (sequence (map (statement_piece (scope_with l.unit l.layout l.parameters) l.who l.answer) (drop l.member-index l.member-items))) (made l.out) ≡ added (sequence (map (statement_piece (scope_with l.unit l.layout l.parameters) l.who l.answer) l.member-items)) (made l.initial.out)
+    (added (sequence (map (statement_piece (scope_with l.unit l.layout l.parameters) l.who l.answer) (drop l.member-index l.member-items))) (made l.out) ≡ added (sequence (map (statement_piece (scope_with l.unit l.layout l.parameters) l.who l.answer) l.member-items)) (made l.initial.out))
+    × (list_ends l.before (with_ends (drop l.member-index l.member-items)) ≡ list_ends true (with_ends l.member-items))
