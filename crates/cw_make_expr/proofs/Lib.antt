@@ -1,2 +1,3 @@
+mod Arms
 mod Layers
 mod Loops

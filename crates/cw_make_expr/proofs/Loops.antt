@@ -41,6 +41,16 @@ none_more go stop f xs i s end h k = sym (stop s) ∙ ap (λ l. go s (map f l)) 
 
 -- ---- operands with an operator before each
 
+pub one_more_signed : {A B O S : Type 0} (go : S → List B → List O → S) (step : S → O → B → S) → ((s : S) (b : B) (bs : List B) (o : O) (os : List O) → go s (b ∷ bs) (o ∷ os) ≡ go (step s o b) bs os)
+    → (f : A → B) (xs : List A) (os : List O) (none : O) (i : ℕ) (x : A) (s s' end : S) → i < length xs → x ≡ get_or xs i x → 1 ≤ length os → s' ≡ step s (get_or os 0 none) (f x)
+    → go s (map f (drop i xs)) os ≡ end → go s' (map f (drop (i + 1) xs)) (behind_first os) ≡ end
+one_more_signed go step turn f xs [] none i x s s' end h e n e1 k = absurd (omega (arith, n))
+one_more_signed go step turn f xs (o ∷ os) none i x s s' end h e n e1 k =
+    let count : suc (length os) - 1 ≡ length os = omega arith in
+    let rest : behind_first (o ∷ os) ≡ os = ap (λ m. take m os) count ∙ take_length os in
+    ap (go s' (map f (drop (i + 1) xs))) rest ∙ ap (λ z. go z (map f (drop (i + 1) xs)) os) e1 ∙ sym (turn s (f x) (map f (drop (i + 1) xs)) o os)
+    ∙ ap (λ l. go s (map f l) (o ∷ os)) (sym (next_item xs i x h e)) ∙ k
+
 pub no_more_signed : {A B O S : Type 0} (go : S → List B → List O → S) → ((s : S) (os : List O) → go s [] os ≡ s) → (f : A → B) (xs : List A) (os : List O) (i : ℕ) (s end : S) → length xs ≤ i
     → go s (map f (drop i xs)) os ≡ end → s ≡ end
 no_more_signed go stop f xs os i s end h k = sym (stop s os) ∙ ap (λ l. go s (map f l) os) (sym (drop_all i xs h)) ∙ k

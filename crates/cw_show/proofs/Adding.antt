@@ -4,7 +4,7 @@ use Rattle.std.proofs.lemmas.List.{replicate-append-replicate, drop_all, drop_mo
 use Rattle.std.specs.Prelude.{slice_get}
 use Rattle.cw_show.specs.Spelling.{Spelling, separator, text_of, with_token, with_tokens}
 use Rattle.cw_show.specs.ExpressionTokens.{at_most_one, operator_at}
-use Rattle.cw_show.specs.Canonical.{Tokens, behind_each, between, behind_operators, operation}
+use Rattle.cw_show.specs.Canonical.{Tokens, joined, behind_each, between, behind_operators, operation}
 
 pub added_in_order : (out : List ℕ) (ts us : List Spelling) → with_tokens out (ts ++ us) ≡ with_tokens (with_tokens out ts) us
 added_in_order out [] us = refl
@@ -58,6 +58,16 @@ pub all_operated : {A B : Type 0} (s : B → Spelling) (f : A → Tokens) (ops :
 all_operated s f ops all first i o0 o1 o2 n e le e1 h = operation_added s f ops all first (behind_first all) i o0 o1 o2 (first_and_rest all first n e) le e1 h
 
 -- ---- one more of a list, and none
+
+pub one_more_joined : {A : Type 0} (f : A → Tokens) (xs : List A) (i : ℕ) (x : A) (o o1 end : List ℕ) → i < length xs → x ≡ get_or xs i x → o1 ≡ with_tokens o (f x)
+    → with_tokens o (joined (map f (drop i xs))) ≡ end → with_tokens o1 (joined (map f (drop (i + 1) xs))) ≡ end
+one_more_joined f xs i x o o1 end h e e1 k =
+    let later : Tokens = joined (map f (drop (i + 1) xs)) in
+    let d : drop i xs ≡ x ∷ drop (i + 1) xs = drop_more xs i x h ∙ ap (λ y. y ∷ drop (i + 1) xs) (sym e) in
+    ap (λ z. with_tokens z later) e1 ∙ sym (added_in_order o (f x) later) ∙ ap (λ l. with_tokens o (joined (map f l))) (sym d) ∙ k
+
+pub none_more_joined : {A : Type 0} (f : A → Tokens) (xs : List A) (i : ℕ) (o end : List ℕ) → length xs ≤ i → with_tokens o (joined (map f (drop i xs))) ≡ end → o ≡ end
+none_more_joined f xs i o end h k = ap (λ l. with_tokens o (joined (map f l))) (sym (drop_all i xs h)) ∙ k
 
 no_item : {A : Type 0} (xs : List A) → length xs < 1 → xs ≡ []
 no_item [] h = refl

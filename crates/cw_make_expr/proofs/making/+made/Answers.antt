@@ -6,9 +6,10 @@ use Rattle.cw_tree.specs.declared.expression.RawSum.{out-RawSum}
 use Rattle.cw_tree.specs.declared.expression.RawTerm.{out-RawTerm}
 use Rattle.cw_tree.specs.declared.expression.RawPrim.{out-RawPrim}
 use Rattle.cw_unit.specs.declared.unit.LogicOp.TheVariants as logic_op
-use Rattle.cw_make_expr.specs.Nodes.{both, either, logic, comparison, comparator}
+use Rattle.cw_make_expr.specs.Nodes.{both, either, logic, comparison, comparator, added, multiplied}
 use Rattle.cw_make_expr.specs.Made.{any_from, any_of, all_from, all_of, logic_from, logic_of, factors_from, term_of, terms_from, sum_of, prim_of, operand_for, bits_around, conjunction_made, comparison_made, sum_made, term_made, differ_made, union_made, mask_made, prim_made, primary_made}
-use Rattle.cw_make_expr.proofs.Loops.{behind_first, one_more, no_more_signed, no_more_signs}
+use Rattle.cw_make_expr.proofs.Arms.{choice_made, alone_made, number_made, text_made, location_made, forced_made, bracket_made, value_made, call_made, place_made, indexed_made, twice_indexed_made, bare_made}
+use Rattle.cw_make_expr.proofs.Loops.{behind_first, one_more, one_more_signed, no_more_signed, no_more_signs}
 use Rattle.cw_make_expr.proofs.Layers.{condition-layer, conjunction-layer, comparison-layer, sum-layer, term-layer, differ-layer, union-layer, mask-layer, prim-layer, logic_none, logic_end, any_none, any_end, all_none, all_end, term_none, term_whole, sum_none, sum_alone, sum_whole}
 use Rattle.cw_make_expr.proofs.making.+made.Goals as goal
 
@@ -182,3 +183,76 @@ make_prim-returns t c =
     ∙ ap (λ p. (primary_made c.args.named.now c.args.numbers.now p).made (operand_for (length c.as_slice-all.result.now == 0) c.args.operand)) c.get.ensures)
     ∙ ap (λ l. (prim_of l (primary_made c.args.named.now c.args.numbers.now (out-RawPrim c.args.e.now).primary)).made c.args.operand) c.as_slice-all.ensures
     ∙ ap (λ m. m.made c.args.operand) (sym (prim-layer c.args.named.now c.args.numbers.now c.args.e.now))) c.bits_around.ensures
+
+pub make_expression-returns-in_ok-second-in-Choice : goal.make_expression-returns-in_ok-second-in-Choice
+make_expression-returns-in_ok-second-in-Choice t c =
+    IfOk-weaker c.choice.result _ _ (λ z h. choice_made c.args.named.now c.args.numbers.now c.args.e.now c.in-Choice.field-0 c.in-Choice.test c.get.result.now c.in-Choice.first c.get-in-Choice.result.now c.in-Choice.second c.get-in-Choice-2.result.now
+    c.in_ok-test-in-Choice.test c.in_ok-first-in-Choice.first c.in_ok-second-in-Choice.second z c.args.operand
+    c.in-Choice.is c.get.ensures c.get-in-Choice.ensures c.get-in-Choice-2.ensures c.in_ok-test-in-Choice.ensures c.in_ok-first-in-Choice.ensures c.in_ok-second-in-Choice.ensures h) c.choice.ensures
+
+pub make_expression-returns-in-Sum : goal.make_expression-returns-in-Sum
+make_expression-returns-in-Sum t c =
+    IfOk-weaker c.make_sum.result _ _ (λ z h. alone_made c.args.named.now c.args.numbers.now c.args.e.now c.in-Sum.sum c.get-in-Sum.result.now z c.args.operand c.in-Sum.is c.get-in-Sum.ensures h) c.make_sum.ensures
+
+pub make_primary-returns-in-Number : goal.make_primary-returns-in-Number
+make_primary-returns-in-Number t c =
+    IfOk-weaker c.new.result _ _ (λ z h. number_made c.args.named.now c.args.numbers.now c.args.e.now c.in-Number.n z c.args.operand c.in-Number.is h) c.new.ensures
+
+pub make_primary-returns-in-Text : goal.make_primary-returns-in-Text
+make_primary-returns-in-Text t c =
+    IfOk-weaker c.new-in-Text.result _ _ (λ z h. text_made c.args.named.now c.args.numbers.now c.args.e.now c.in-Text.at c.in-Text.field-1 c.item_here.result z c.args.operand c.in-Text.is c.item_here.ensures h) c.new-in-Text.ensures
+
+pub make_primary-returns-in_ok-place-in-Location : goal.make_primary-returns-in_ok-place-in-Location
+make_primary-returns-in_ok-place-in-Location t c =
+    IfOk-weaker c.locate.result _ _ (λ z h. location_made c.args.named.now c.args.numbers.now c.args.e.now c.in-Location.field-0 c.in-Location.r c.get.result.now c.in_ok-place-in-Location.place z c.args.operand
+    c.in-Location.is c.get.ensures c.in_ok-place-in-Location.ensures h) c.locate.ensures
+
+pub make_primary-returns-in_ok-inner-in-Forced : goal.make_primary-returns-in_ok-inner-in-Forced
+make_primary-returns-in_ok-inner-in-Forced t c =
+    IfOk-weaker c.force.result _ _ (λ z h. forced_made c.args.named.now c.args.numbers.now c.args.e.now c.in-Forced.scale c.in-Forced.e c.get-in-Forced.result.now c.fraction_of.result c.in_ok-inner-in-Forced.inner z c.args.operand
+    c.in-Forced.is c.get-in-Forced.ensures c.in_ok-inner-in-Forced.ensures c.fraction_of.ensures h) c.force.ensures
+
+pub make_primary-returns-in_ok-inner-in-Bracket : goal.make_primary-returns-in_ok-inner-in-Bracket
+make_primary-returns-in_ok-inner-in-Bracket t c =
+    IfOk-weaker c.whole_part_if.result _ _ (λ z h. bracket_made c.args.named.now c.args.numbers.now c.args.e.now c.in-Bracket.field-0 c.in-Bracket.e c.get-in-Bracket.result.now c.in_ok-inner-in-Bracket.inner z c.args.operand
+    c.in-Bracket.is c.get-in-Bracket.ensures c.in_ok-inner-in-Bracket.ensures h) c.whole_part_if.ensures
+
+pub make_primary-returns-in-Ref : goal.make_primary-returns-in-Ref
+make_primary-returns-in-Ref t c =
+    IfOk-weaker c.make_value.result _ _ (λ z h. value_made c.args.named.now c.args.numbers.now c.args.e.now c.in-Ref.r c.get-in-Ref.result.now z c.args.operand c.in-Ref.is c.get-in-Ref.ensures h) c.make_value.ensures
+
+pub make_primary-returns-in_ok-arguments-in-Call : goal.make_primary-returns-in_ok-arguments-in-Call
+make_primary-returns-in_ok-arguments-in-Call t c =
+    IfOk-weaker c.new-in-Call.result _ _ (λ z h. call_made c.args.named.now c.args.numbers.now c.args.e.now c.in-Call.name c.in-Call.arguments c.as_slice.result.now c.params_of-params.result.now c.in_ok-arguments-in-Call.arguments c.target.result c.call.result z c.args.operand
+    c.in-Call.is c.as_slice.ensures c.params_of-params.ensures c.in_ok-arguments-in-Call.ensures c.target.ensures c.call.ensures h) c.new-in-Call.ensures
+
+pub make_reference-returns-in-Name : goal.make_reference-returns-in-Name
+make_reference-returns-in-Name t c =
+    place_made c.args.named.now c.args.numbers.now c.args.r.now c.in-Name.name c.place_of_name.result c.in-Name.is c.place_of_name.ensures
+
+pub make_reference-returns-in_ok-index-in-One : goal.make_reference-returns-in_ok-index-in-One
+make_reference-returns-in_ok-index-in-One t c =
+    indexed_made c.args.named.now c.args.numbers.now c.args.r.now c.in-One.name c.in-One.index c.get.result.now c.in_ok-index-in-One.index c.into_inner.result c.number_of.result c.item_in-item.result c.kind_of-kind.result c.indexed_spot-at.result c.reference_at.result
+    c.in-One.is c.get.ensures c.in_ok-index-in-One.ensures c.number_of.ensures c.item_in-item.ensures c.kind_of-kind.ensures c.into_inner.ensures c.indexed_spot-at.ensures c.reference_at.ensures
+
+pub make_reference-returns-in_ok-second-in-Two : goal.make_reference-returns-in_ok-second-in-Two
+make_reference-returns-in_ok-second-in-Two t c =
+    twice_indexed_made c.args.named.now c.args.numbers.now c.args.r.now c.in-Two.name c.in-Two.first c.get-in-Two.result.now c.in-Two.second c.get-in-Two-2.result.now c.in_ok-first-in-Two.first c.in_ok-second-in-Two.second c.number_of-in-Two.result c.item_in-item-in-Two.result c.kind_of-kind-in-Two.result c.twice_indexed_spot-at.result c.reference_at-in-Two.result
+    c.in-Two.is c.get-in-Two.ensures c.get-in-Two-2.ensures c.in_ok-first-in-Two.ensures c.in_ok-second-in-Two.ensures c.number_of-in-Two.ensures c.item_in-item-in-Two.ensures c.kind_of-kind-in-Two.ensures c.twice_indexed_spot-at.ensures c.reference_at-in-Two.ensures
+
+pub make_reference-returns-in_ok-address-in-Bare : goal.make_reference-returns-in_ok-address-in-Bare
+make_reference-returns-in_ok-address-in-Bare t c =
+    bare_made c.args.named.now c.args.numbers.now c.args.r.now c.in-Bare.field-0 c.in-Bare.address c.get-in-Bare.result.now c.in_ok-address-in-Bare.address c.into_inner-in-Bare.result c.reference.result
+    c.in-Bare.is c.get-in-Bare.ensures c.in_ok-address-in-Bare.ensures c.into_inner-in-Bare.ensures c.reference.ensures
+
+pub make_term-loop-other-preserved : goal.make_term-loop-other-preserved
+make_term-loop-other-preserved t c =
+    one_more_signed factors_from (λ s o b. multiplied o.op s (b.made true)) (λ s b bs o os. refl) (differ_made c.args.named.now c.args.numbers.now) (behind_first c.as_slice.result.now) c.loop-other.signs.now _ c.loop-other.other-index c.other-item.result c.loop-other.so_far
+    c.in_ok-so_far-in-len1-up-signs.so_far _ c.loop-other-test.true c.other-item.is c.in-len1-up-signs.len_at_least
+    (c.in_ok-so_far-in-len1-up-signs.ensures ∙ ap (multiplied _ c.loop-other.so_far) c.in_ok-next-in-len1-up-signs.ensures) c.loop-other.invariant
+
+pub make_sum-loop-other-preserved : goal.make_sum-loop-other-preserved
+make_sum-loop-other-preserved t c =
+    one_more_signed terms_from (λ s o b. added o.op s (b.made false)) (λ s b bs o os. refl) (term_made c.args.named.now c.args.numbers.now) (behind_first c.as_slice.result.now) c.loop-other.signs.now _ c.loop-other.other-index c.other-item.result c.loop-other.so_far
+    c.in_ok-so_far-in-len1-up-signs.so_far _ c.loop-other-test.true c.other-item.is c.in-len1-up-signs.len_at_least
+    (c.in_ok-so_far-in-len1-up-signs.ensures ∙ ap (added _ c.loop-other.so_far) c.in_ok-next-in-len1-up-signs.ensures) c.loop-other.invariant
