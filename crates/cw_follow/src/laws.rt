@@ -14,7 +14,6 @@ ghost use Rattle.cw_follow.specs.Showing.{shown_as};
 ghost use Rattle.cw_follow.specs.Passing.{passes, statement_places, PlacesStand};
 ghost use Rattle.cw_follow.specs.Placing.{IsImage, Codable, BeginsWith, NeverStuck, startup_cost};
 
-use cw_dec86::no_instruction_begins_another;
 use cw_order::laws::{activations, words};
 use cw_routines::laws::{
     bodies, calls, loops, numbers as products_and_quotients, pieces, standing,
@@ -73,11 +72,10 @@ pub fn code_follows_orders()
     standing();
 }
 
-/// The places of statements that the code of orders tells stand in their image: at a Start begins its statement, and nowhere else
-/// does any.
+/// The places of statements that the code of orders tells stand in their image: where the code of the order behind a Start begins, its
+/// statement does, and nowhere else does any.
 pub fn places_stand()
     ensures { (p : OrderProgram) (image : List ℕ) → IsImage p image → Codable p → PlacesStand p image (statement_places p) }
 {
-    no_instruction_begins_another();
     standing();
 }
