@@ -5,7 +5,6 @@ use Rattle.std.specs.Int.Bits.{or_self}
 use Rattle.std.proofs.lemmas.Bool.{lt-ltb, le-ltb, ne_eqb, ltb-true, leb-true}
 use Rattle.std.proofs.lemmas.Bool.Decides.{nat_tests}
 use Rattle.cw_i86.specs.Sums.{difference_flags, logic_flags}
-use Rattle.std.proofs.lemmas.List.{set-get_or}
 use Rattle.cw_i86.specs.Effect.{holds as meets, exchanged}
 use Rattle.cw_i86.specs.State.{sign_extended, operand, with_operand, sized_register, with_sized_register}
 use Rattle.cw_i86.specs.declared.instr.Instr.TheVariants as i86
@@ -422,10 +421,3 @@ unfolding exchanged operand with_operand sized_register with_sized_register
 exchanges finds code v r has =
     goes finds code v _ _ has (omega arith)
     (λ p s. sees code v _ p _ s (holds code v p s) refl (ap (λ rs. slice_set (slice_set rs r (slice_index rs 0)) 0 (slice_index rs r)) s.registers) (ap (λ n. (n + 1) % 65536) s.place) s.overflow refl refl)
-
--- an instruction that does nothing
-same_again : (rs : List ℕ) → slice_set (slice_set rs 0 (slice_index rs 0)) 0 (slice_index rs 0) ≡ rs
-same_again rs = ap (λ l. slice_set l 0 (slice_index rs 0)) (set-get_or rs 0 0) ∙ set-get_or rs 0 0
-
-pub does_nothing : Finds → (code : List ℕ) (v : View) → Has code v.place (i86.XchgAx 0) → Goes code v (on (i86.XchgAx 0) v)
-does_nothing finds code v has = subst (λ rs. Goes code v (on (i86.XchgAx 0) (record v { registers = rs }))) (same_again v.registers) (exchanges finds code v 0 has)

@@ -8,7 +8,7 @@ ghost use Rattle.cw_run86.specs.Views.{View, Sees, Has, Goes, register, on, with
 ghost use Rattle.cw_i86.specs.MachineRun.{Bad};
 ghost use Rattle.cw_i86.specs.declared.instr.Instr.TheVariants as i86;
 ghost use Rattle.cw_unit.specs.Stop.{Overflow, ZeroDivisor, SwitchRange, AddressRange, IndexRange};
-ghost use Rattle.cw_tmpl.specs.Mnemonics.{nothing, divide_signed};
+ghost use Rattle.cw_tmpl.specs.Mnemonics.{divide_signed};
 ghost use Rattle.cw_tmpl.specs.Library.{library_bytes, retired_place, start_place, stop_place, enter_place, read_place, set_variable_place, add_step_place, put_variable_place, exhausted_place, next_step_place, product_place, quotient_down_place, quotient_up_place};
 ghost use Rattle.cw_routines.specs.Ways.{HasAll, QuietAll};
 ghost use Rattle.cw_routines.specs.Results.{Stands, Quiet, InLibrary, StartRoutine, StopRoutine, ToldStop, EnterRoutine, leave, Leaving, ReadRoutine, SetRoutine, StepRoutine, PutRoutine, ExhaustedRoutine, NextStepRoutine, WordRoutine, divisor_test, DivisorTest};
@@ -83,10 +83,9 @@ pub fn loops()
     sums();
 }
 
-/// Code of segments: an instruction that does nothing, AX exchanged with another register, a word divided behind CWD by a number whose magnitude
+/// Code of segments: AX exchanged with another register, a word divided behind CWD by a number whose magnitude
 /// is 2 or more, which never faults, and the test of a divisor.
 pub fn pieces()
-    ensures nothing { (code : List ℕ) (v : View) → Has code v.place nothing → Goes code v (on nothing v) }
     ensures exchange { (code : List ℕ) (v : View) (r : ℕ) → Has code v.place (i86.XchgAx r) → Goes code v (with_register 0 (register v r) (with_register r (register v 0) (on (i86.XchgAx r) v))) }
     ensures quotient { (code : List ℕ) (v : View) (r : ℕ) (x n : ℤ) → Has code v.place (divide_signed r) → FitsWord x → FitsWord n → 2 ≤ unsigned_abs n →
         register v 0 ≡ unsigned x → register v 2 ≡ sign_of (unsigned x) → register v r ≡ unsigned n →

@@ -226,10 +226,6 @@ jump_to reg = i86.JumpRm (rms.Reg reg)
 abbrev pub exchange : Instr
 exchange = i86.XchgAx bx
 
--- does nothing
-abbrev pub nothing : Instr
-nothing = i86.XchgAx ax
-
 abbrev pub jump_if_overflow : ℕ → Instr
 jump_if_overflow by = i86.JumpIf 0 by
 

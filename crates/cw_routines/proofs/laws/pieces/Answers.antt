@@ -1,5 +1,5 @@
 use Rattle.cw_routines.specs.Results.{Quiet}
-use Rattle.cw_routines.proofs.Begins.{tests, exchanges, does_nothing}
+use Rattle.cw_routines.proofs.Begins.{tests, exchanges}
 use Rattle.cw_routines.proofs.ByNumbers.{by_number, quotient_fits}
 use Rattle.cw_routines.proofs.laws.pieces.Goals as goal
 
@@ -7,7 +7,6 @@ pub returns : goal.returns
 returns c =
     let finds = c.fetching.ensures.finds in
     record {
-      nothing = λ code v has. does_nothing finds code v has;
       quotient = λ code v r x n has fx fn two low high by. by_number c.readings.ensures.back finds code v r x n has fx fn two low high by;
       quotient_fits = λ x n f two. quotient_fits x n f two;
       exchange = λ code v r has. exchanges finds code v r has;
