@@ -25,8 +25,8 @@ use crate::parts::{put_load_part, put_store_part, put_take};
 use cw_i86::Instr;
 use cw_order::Order;
 use cw_tmpl::instructions::{
-    AT_BX, AX, BX, add, both, copy, double, either, exchange, jump_to, load, negate, nothing,
-    one_of, set_ax, store, subtract, with_number,
+    AT_BX, AX, BX, add, both, copy, double, either, exchange, jump_to, load, negate, one_of,
+    set_ax, store, subtract, with_number,
 };
 use cw_tmpl::library::{ADD_STEP, ADDRESS, PUT_VARIABLE, SET_VARIABLE};
 use cw_tmpl::{Assembly, Coded, Names, Target, own};
@@ -207,8 +207,7 @@ pub(crate) fn put_order(code: &mut Assembly, order: &Order, names: &Names) -> Re
         Order::Return { arguments, .. } => put_return(code, *arguments),
         Order::ReadByte => put_read_byte(code),
         Order::WriteByte => put_write_byte(code),
-        Order::Start(_) => code.put_all(&[Coded::Whole(nothing())]),
         Order::NextBody => put_next_body(code),
-        Order::Drop | Order::Mark => Ok(()),
+        Order::Drop | Order::Mark | Order::Start(_) => Ok(()),
     }
 }

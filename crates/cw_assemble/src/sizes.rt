@@ -234,8 +234,8 @@ fn order_size(order: &Order) -> Result<u32, NoMemory>
     ensures { IfOk result (λ n. n ≡ order_size order.now) }
 {
     let size = match order {
-        Order::Mark | Order::Drop => 0,
-        Order::Save | Order::Start(_) => 1,
+        Order::Mark | Order::Drop | Order::Start(_) => 0,
+        Order::Save => 1,
         Order::Const(0) => 2,
         Order::Const(_) | Order::Home { .. } | Order::Jump(_) | Order::GoCommon(_) => 3,
         Order::And | Order::Or | Order::Xor | Order::ReadByte | Order::WriteByte => 3,

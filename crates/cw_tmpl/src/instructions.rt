@@ -398,13 +398,6 @@ pub fn exchange() -> Instr
     Instr::XchgAx(BX)
 }
 
-/// NOP.
-pub fn nothing() -> Instr
-    ensures { result ≡ mnemonics.nothing }
-{
-    Instr::XchgAx(AX)
-}
-
 /// JMP to the place in a register.
 pub fn jump_to(reg: u8) -> Instr
     ensures { result ≡ mnemonics.jump_to reg }
