@@ -37,7 +37,7 @@ use Rattle.cw_tmpl.specs.Names.{Names, no_names, mark_place, switch_size}
 use Rattle.cw_tmpl.specs.Blocks.{address_orders, bounds_orders, element_orders, orders_to_form, form_order, operand_orders, order_of, count_order, element_at, element_fetched, fetched_or, block_of, block_at, orders_left, left_at}
 use Rattle.cw_tmpl.proofs.Shapes.{IsBlock, shape}
 use Rattle.cw_tmpl.specs.Library.{overflow_entry, address_entry}
-use Rattle.cw_tmpl.specs.Templates.{Forms, is_short, jump_of, template, template_by, mark_words, goal_words, landing_pieces, switch_pieces, times_if, rescale_if, product_start, product_down, times, less_bound, plus_word, times_width, based, element, in_row, element_of_two, entry, address_pieces, load_place, store_place, pieces_size, operated, block_pieces, block_size, order_size, times_size, width_size, bound_size, word_size, listed_size, size_behind, sizes_behind, listed_sizes, distance, entry_pieces, shifted, shifted_up, shifted_down, shifted_down_signed, lowest_if, part_taken, index_size, lower_size, element_size, used_size, store_part, operate_place, change_place, index_added, index_loaded, from_lower, indexes_between, index_below, address_tested, index_tested, element_tested, element_address, with_operand, product_with, checked, branch, branch_by, call_stop, shift_size, lowest_size, part_size, size_in_list, owed, number_size, bounds_size, top_lower_size, formed_size, top_from_lower, top_below, formed, loop_ways_size, doubled_size}
+use Rattle.cw_tmpl.specs.Templates.{Forms, is_short, jump_of, saved, template, template_by, mark_words, goal_words, landing_pieces, switch_pieces, times_if, rescale_if, product_start, product_down, times, less_bound, plus_word, times_width, based, element, in_row, element_of_two, entry, address_pieces, load_place, store_place, pieces_size, operated, block_pieces, block_size, order_size, times_size, width_size, bound_size, word_size, listed_size, size_behind, sizes_behind, listed_sizes, distance, entry_pieces, shifted, shifted_up, shifted_down, shifted_down_signed, lowest_if, part_taken, index_size, lower_size, element_size, used_size, store_part, operate_place, change_place, index_added, index_loaded, from_lower, indexes_between, index_below, address_tested, index_tested, element_tested, element_address, with_operand, product_with, checked, branch, branch_by, call_stop, shift_size, lowest_size, part_size, size_in_list, owed, number_size, bounds_size, top_lower_size, formed_size, top_from_lower, top_below, formed, loop_ways_size, doubled_size}
 use Rattle.cw_tmpl.specs.ReferenceCode.{templates, landings, switches, places_from, places_by, entry_size, reach_of, order_places, landings_place, switches_place, names_of, mark_starts, pieces_of, switch_sizes, StandsAt}
 use Rattle.cw_tmpl.proofs.Growing.{blanks-append}
 
@@ -122,26 +122,22 @@ one_form names place true (block.Operate s u) o e = refl
 one_form names place true b o e = refl
 
 -- and a short jump makes it no longer
-pub shorter : (b : Block) (o : Order) → block_size true b o ≤ block_size false b o
-shorter b o = cases (jump_of b o) refl
-  where
-    jumps : (b : Block) (o : Order) (m : ℕ) → jump_of b o ≡ Some m → block_size true b o ≤ block_size false b o
-    jumps block.Single (order.Jump m) n e = omega arith
-    jumps block.Single (order.JumpIf c m) n e = omega arith
-    jumps block.Single (order.LoopWay (m ∷ [])) n e = omega arith
-    jumps (block.Operate s (uses.Compare c m)) o n e =
-        let size = pieces_size (with_operand 7 s) in
-        let near : block_size false (block.Operate s (uses.Compare c m)) o ≡ size + 5 = compared_long false (with_operand 7 s) c (0 + size) (mark_place no_names m) in
-        let close : block_size true (block.Operate s (uses.Compare c m)) o ≡ size + 2 = compared_long true (with_operand 7 s) c (0 + size) (mark_place no_names m) in
-        omega (arith, near, close)
-    jumps b o n e = absurd (cc)
-
-    cases : (x : Option ℕ) → jump_of b o ≡ x → block_size true b o ≤ block_size false b o
-    cases (Some m) e = jumps b o m e
-    cases None e = let same = ap (λ ps. length (blanks ps)) (one_form no_names 0 true b o e) in omega (arith, same)
+pub saves : (b : Block) (o : Order) → block_size true b o + saved b o ≡ block_size false b o
+saves (block.Within n) o = refl
+saves block.Single (order.Jump m) = refl
+saves block.Single (order.JumpIf c m) = refl
+saves block.Single (order.LoopWay []) = omega arith
+saves block.Single (order.LoopWay (m ∷ [])) = refl
+saves block.Single (order.LoopWay (m ∷ n ∷ ms)) = omega arith
+saves (block.Operate s (uses.Compare c m)) o =
+    let size = pieces_size (with_operand 7 s) in
+    let near : block_size false (block.Operate s (uses.Compare c m)) o ≡ size + 5 = compared_long false (with_operand 7 s) c (0 + size) (mark_place no_names m) in
+    let short : block_size true (block.Operate s (uses.Compare c m)) o ≡ size + 2 = compared_long true (with_operand 7 s) c (0 + size) (mark_place no_names m) in
+    omega (arith, near, short)
+saves b o = omega arith
 
 pub shorter_by : (short : Bool) (b : Block) (o : Order) → block_size short b o ≤ block_size false b o
-shorter_by true b o = shorter b o
+shorter_by true b o = omega (arith, saves b o)
 shorter_by false b o = omega arith
 
 -- ---- the code before a place of the list

@@ -630,6 +630,14 @@ jump_of block.Single (order.LoopWay (m ∷ [])) = Some m
 jump_of (block.Operate s (uses.Compare c m)) o = Some m
 jump_of b o = None
 
+-- the bytes that it saves
+abbrev pub saved : Block → Order → ℕ
+saved block.Single (order.Jump m) = 1
+saved block.Single (order.JumpIf c m) = 3
+saved block.Single (order.LoopWay (m ∷ [])) = 3
+saved (block.Operate s (uses.Compare c m)) o = 3
+saved b o = 0
+
 -- Which blocks have a short jump, by the number of the block's first order. Without any, the code is the longest one.
 abbrev pub Forms : Type 0
 Forms = (number : ℕ) → Block → Order → Bool

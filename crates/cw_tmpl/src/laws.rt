@@ -10,7 +10,7 @@ ghost use Rattle.cw_tmpl.specs.Pieces.{blanks, relocations, Filling, filled, fil
 ghost use Rattle.cw_tmpl.specs.Blanks.{FillsBlank, Rise};
 ghost use Rattle.cw_tmpl.specs.Library.{library_bytes};
 ghost use Rattle.cw_tmpl.specs.Blocks.{block_at, left_at};
-ghost use Rattle.cw_tmpl.specs.Templates.{distance, short_distance, is_close, jump_of, is_short, block_pieces, block_size, order_size, listed_size, listed_sizes};
+ghost use Rattle.cw_tmpl.specs.Templates.{distance, short_distance, is_close, jump_of, saved, is_short, block_pieces, block_size, order_size, listed_size, listed_sizes};
 ghost use Rattle.cw_tmpl.specs.ReferenceCode.{templates, entry_size, places_by, reach_of, order_places, mark_starts, pieces_of, switch_sizes, StandsAt};
 
 /// The linker's filling of an object's relocations, one after another, gives the code with its words filled. That is as
@@ -28,12 +28,12 @@ pub fn relocating()
 {}
 
 /// The sizes of the code. A list has at most the bytes that its orders are listed with, one behind another, and the places of the orders' code
-/// are where it stands. A short jump makes no block longer.
+/// are where it stands. A short jump saves bytes.
 /// The code of a segment has its entry, the code of its orders, and that of its labels and its switches.
 pub fn sizes()
     ensures each { (o : Order) → order_size o ≡ listed_size o }
     ensures everywhere { (names : Names) (place : ℕ) (short : Bool) (b : Block) (o : Order) → length (blanks (block_pieces names place short b o)) ≡ block_size short b o }
-    ensures shorter { (b : Block) (o : Order) → block_size true b o ≤ block_size false b o }
+    ensures saves { (b : Block) (o : Order) → block_size true b o + saved b o ≡ block_size false b o }
     ensures whole { (names : Names) (place number : ℕ) (orders : List Order) → length (blanks (templates names place number 0 orders)) ≤ listed_sizes orders }
     ensures segment { (o : Orders) → length (blanks (pieces_of o)) ≤ entry_size + (listed_sizes o.list + (landing_size * length o.labels + switch_sizes o.switches)) }
     ensures library { length library_bytes ≤ 4096 }

@@ -1,4 +1,4 @@
-use Rattle.cw_tmpl.proofs.Sizes.{size_everywhere, shorter, listed, whole, segment_size, stands_at}
+use Rattle.cw_tmpl.proofs.Sizes.{size_everywhere, saves, listed, whole, segment_size, stands_at}
 use Rattle.cw_tmpl.proofs.laws.sizes.Goals as goal
 
 pub returns-clause-each : goal.returns-clause-each
@@ -7,8 +7,8 @@ returns-clause-each c = listed
 pub returns-clause-everywhere : goal.returns-clause-everywhere
 returns-clause-everywhere c = size_everywhere
 
-pub returns-clause-shorter : goal.returns-clause-shorter
-returns-clause-shorter c = shorter
+pub returns-clause-saves : goal.returns-clause-saves
+returns-clause-saves c = saves
 
 pub returns-clause-whole : goal.returns-clause-whole
 returns-clause-whole c = whole
