@@ -1,5 +1,5 @@
 -- What code needs of the program of the orders of units.
-use Rattle.std.proofs.Common.{◌≡◌, ◌⊎◌, inl, inr, ℕ, zero, suc, ◌<◌, ◌≤◌, ℤ, pos, negsuc, List, [], ◌∷◌, length, All, Bool, true, false, ◌&&◌, ◌||◌, not, IsTrue, nat_eq, Option, Some, None, slice_get, refl, sym, ap, subst, ◌∙◌}
+use Rattle.std.proofs.Common.{◌≡◌, ◌⊎◌, inl, inr, ℕ, zero, suc, ◌<◌, ◌≤◌, ℤ, pos, negsuc, List, [], ◌∷◌, length, All, Bool, true, false, ◌&&◌, ◌||◌, IsTrue, nat_eq, Option, Some, None, slice_get, refl, sym, ap, subst, ◌∙◌}
 use Rattle.std.specs.Prelude.{option_map, is_some}
 use Rattle.std.proofs.lemmas.Bool.{eqb-true, ltb-true}
 use Rattle.std.proofs.lemmas.Option.{none-some, same_Some, slice_get-map}
@@ -29,28 +29,20 @@ use Rattle.cw_gen_expr.specs.UnitTables.{label_entry, procedure_entry, tables_of
 use Rattle.cw_gen_unit.specs.ReferenceUnits.{unit_orders, orders_program}
 use Rattle.cw_safety.specs.WellFormed.{sets, sets_in_procedure, is_at, reaches_label, reaches, reaches_goals, reaches_list, reaches_switch}
 use Rattle.cw_safety.proofs.Truth.{both, no}
-use Rattle.cw_built.specs.Coded.{has_code, ends_block, is_enter, begins_block, is_mark, enters, enters_at, is_entry, has_few, have_code}
+use Rattle.cw_built.specs.Coded.{has_code, is_enter, is_landing, lands, is_mark, enters, enters_at, is_entry, has_few, have_code}
 use Rattle.cw_built.specs.Built.{alone, defines_as, is_built}
 use Rattle.cw_built.proofs.Truth.{all-get}
 use Rattle.cw_built.proofs.NamesAgreeing.{agree}
 use Rattle.cw_built.proofs.OrderCodes.{coded-order, lined, parts}
 use Rattle.cw_built.proofs.Agreeing.{all-at, found-there}
 
-negated : (b : Bool) → IsTrue (not b) → b ≡ false
-negated true h = no h
-negated false h = refl
+landing : (v : Option Order) → IsTrue (lands v) → (o : Order) × (v ≡ Some o) × IsTrue (is_landing o)
+landing None h = no h
+landing (Some o) h = (o, refl, h)
 
--- an order that begins a block stands at this place
-abbrev pub Begins : List Order → ℕ → Type 0
-Begins os place = (o : Order) × (slice_get os place ≡ Some o) × (ends_block o ≡ false)
-
-begins : (v : Option Order) → IsTrue (begins_block v) → (o : Order) × (v ≡ Some o) × (ends_block o ≡ false)
-begins None h = no h
-begins (Some o) h = (o, refl, negated (ends_block o) h)
-
-either-begins : (os : List Order) (place : ℕ) (b : Bool) → nat_eq place 0 ≡ b → IsTrue (b || begins_block (slice_get os place)) → (place ≡ 0) ⊎ Begins os place
-either-begins os place true e h = inl (eqb-true place 0 e)
-either-begins os place false e h = inr (begins (slice_get os place) h)
+first-or-landing : (os : List Order) (place : ℕ) (b : Bool) → nat_eq place 0 ≡ b → IsTrue (b || lands (slice_get os place)) → (place ≡ 0) ⊎ ((o : Order) × (slice_get os place ≡ Some o) × IsTrue (is_landing o))
+first-or-landing os place true e h = inl (eqb-true place 0 e)
+first-or-landing os place false e h = inr (landing (slice_get os place) h)
 
 entering : (o : Order) → IsTrue (is_enter o) → (size : ℕ) × (o ≡ order.Enter size)
 entering (order.Enter size) h = (size, refl)
@@ -162,14 +154,14 @@ module _ (us : List SourceUnit) (m : Map) (limits : Limits) (room : ℕ) where
     switches g n o gs e f = switch-by g n o gs (slice_get us g) refl (sym (unit-orders g) ∙ e) f
 
     abbrev MarkStands : Option Orders → ℕ → Type 0
-    MarkStands v place = (place ≡ 0) ⊎ ((o : Order) × (order_in v place ≡ Some o) × (ends_block o ≡ false))
+    MarkStands v place = (place ≡ 0) ⊎ ((o : Order) × (order_in v place ≡ Some o) × IsTrue (is_landing o))
 
     mark-by : (g k place : ℕ) (v : Option SourceUnit) → slice_get us g ≡ v → mark_in (option_map unit_orders v) k ≡ Some place → MarkStands (option_map unit_orders v) place
     mark-by g k place None here e = absurd (none-some place e)
     mark-by g k place (Some u) here e =
-        either-begins (unit_orders u).list place (nat_eq place 0) refl (all-get (is_mark (unit_orders u).list) (unit_orders u).marks k place (parts (unit_orders u) (has g u here)).marks e)
+        first-or-landing (unit_orders u).list place (nat_eq place 0) refl (all-get (is_mark (unit_orders u).list) (unit_orders u).marks k place (parts (unit_orders u) (has g u here)).marks e)
 
-    pub marks : (g k place : ℕ) → place_of p g k ≡ Some place → (place ≡ 0) ⊎ ((o : Order) × (order_at p g place ≡ Some o) × (ends_block o ≡ false))
+    pub marks : (g k place : ℕ) → place_of p g k ≡ Some place → (place ≡ 0) ⊎ ((o : Order) × (order_at p g place ≡ Some o) × IsTrue (is_landing o))
     marks g k place e = subst (λ v. MarkStands v place) (sym (unit-orders g)) (mark-by g k place (slice_get us g) refl (sym (ap (λ v. mark_in v k) (unit-orders g)) ∙ e))
 
     -- ---- calls

@@ -1,5 +1,5 @@
 -- When orders have code that does what they say: what templates need of them.
-use Rattle.std.specs.Prelude.{ℕ, ◌+◌, nat_eq, nat_lt, nat_le, pos, negsuc, List, length, Bool, true, false, ◌&&◌, ◌||◌, not, Option, Some, None, slice_get}
+use Rattle.std.specs.Prelude.{ℕ, ◌+◌, nat_eq, nat_lt, nat_le, pos, negsuc, List, length, Bool, true, false, ◌&&◌, ◌||◌, Option, Some, None, slice_get}
 use Rattle.std.specs.List.{list_all}
 use Rattle.cw_word.specs.FixedPoint.{fits_word}
 use Rattle.cw_unit.specs.declared.unit.Goal.{Goal}
@@ -45,44 +45,25 @@ has_numbers _ = true
 abbrev pub has_code : Order → Bool
 has_code o = has_numbers o && nat_lt (line_of o) 65536
 
--- whether it can stand behind others in a block
-abbrev pub ends_block : Order → Bool
-ends_block order.Save = true
-ends_block (order.Const w) = true
-ends_block (order.Home family offset) = true
-ends_block (order.FrameHome n) = true
-ends_block order.Load = true
-ends_block order.Store = true
-ends_block (order.LoadPart t b is_signed) = true
-ends_block (order.StorePart t b) = true
-ends_block (order.Element lower span line) = true
-ends_block (order.Entry width word span line) = true
-ends_block (order.InBounds lower upper line) = true
-ends_block (order.Add line) = true
-ends_block (order.Sub line) = true
-ends_block (order.JumpIf c m) = true
-ends_block (order.Mul s line) = true
-ends_block (order.Div s line) = true
-ends_block order.And = true
-ends_block order.Or = true
-ends_block order.Xor = true
-ends_block order.WriteByte = true
-ends_block _ = false
-
 abbrev pub is_enter : Order → Bool
 is_enter (order.Enter size) = true
 is_enter _ = false
 
 -- ---- marks
 
--- whether there is an order, and it begins a block
-abbrev pub begins_block : Option Order → Bool
-begins_block None = false
-begins_block (Some o) = not (ends_block o)
+-- whether a jump may land at an order: at one that is there for this, and where an activation is entered
+abbrev pub is_landing : Order → Bool
+is_landing order.Mark = true
+is_landing (order.Enter size) = true
+is_landing _ = false
 
--- a mark stands at the first order or at one that begins a block
+abbrev pub lands : Option Order → Bool
+lands None = false
+lands (Some o) = is_landing o
+
+-- a mark stands at the first order or at such a one
 abbrev pub is_mark : List Order → (place : ℕ) → Bool
-is_mark os place = nat_eq place 0 || begins_block (slice_get os place)
+is_mark os place = nat_eq place 0 || lands (slice_get os place)
 
 abbrev pub enters : Option Order → Bool
 enters None = false

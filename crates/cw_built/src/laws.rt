@@ -1,5 +1,5 @@
 //! What is so of built units, and of orders that have code: laws that need only the definitions.
-ghost use Rattle.std.specs.Prelude.{◌≡◌, ◌≢◌, ◌⊎◌, ℕ, ◌<◌, ◌≤◌, List, [], length, false, All, IsTrue, Some, slice_get};
+ghost use Rattle.std.specs.Prelude.{◌≡◌, ◌≢◌, ◌⊎◌, ℕ, ◌<◌, ◌≤◌, List, [], length, All, IsTrue, Some, slice_get};
 ghost use Rattle.cw_unit.specs.declared.unit.Unit.{Unit as SourceUnit};
 ghost use Rattle.cw_unit.specs.declared.unit.Def.{Def};
 ghost use Rattle.cw_unit.specs.declared.unit.Goal.{Goal};
@@ -21,7 +21,7 @@ ghost use Rattle.cw_gen_unit.specs.ReferenceUnits.{unit_orders, orders_program};
 ghost use Rattle.cw_gen_unit.specs.BuiltUnits.{are_built};
 ghost use Rattle.cw_built.specs.Built.{is_built};
 ghost use Rattle.cw_built.specs.Shared.{faces_of, Defines};
-ghost use Rattle.cw_built.specs.Coded.{have_code, ends_block};
+ghost use Rattle.cw_built.specs.Coded.{have_code, is_landing};
 
 /// Units that are built and agree are well formed together at every storage map and limits. Each of them has a layout, and what it defines in
 /// common with others is there.
@@ -38,13 +38,13 @@ pub fn coded()
 {}
 
 /// What code needs of the program of the orders of such units, where these have code: each order has code, lines are words, switches
-/// have few goals, a mark stands at the first order or at one that begins a block, and calls are in order.
+/// have few goals, a mark stands at the first order or at one where a jump may land, and calls are in order.
 pub fn programs()
     ensures codes { (us : List SourceUnit) (m : Map) (limits : Limits) (room g place : ℕ) (o : Order) → All (λ u. IsTrue (have_code (unit_orders u))) us → order_at (orders_program us m limits room) g place ≡ Some o → HasCode o }
     ensures lines { (us : List SourceUnit) (m : Map) (limits : Limits) (room : ℕ) → All (λ u. IsTrue (have_code (unit_orders u))) us → LinesFit (orders_program us m limits room) }
     ensures tables { (us : List SourceUnit) (m : Map) (limits : Limits) (room g : ℕ) (t : Tables) (o : Orders) → slice_get (orders_program us m limits room).tables g ≡ Some t → slice_get (orders_program us m limits room).units g ≡ Some o → NamesAgree t o }
     ensures switches { (us : List SourceUnit) (m : Map) (limits : Limits) (room g n : ℕ) (o : Orders) (gs : List Goal) → All (λ u. IsTrue (have_code (unit_orders u))) us → slice_get (orders_program us m limits room).units g ≡ Some o → slice_get o.switches n ≡ Some gs → length gs < 32768 }
-    ensures marks { (us : List SourceUnit) (m : Map) (limits : Limits) (room g mark place : ℕ) → All (λ u. IsTrue (have_code (unit_orders u))) us → place_of (orders_program us m limits room) g mark ≡ Some place → (place ≡ 0) ⊎ ((o : Order) × (order_at (orders_program us m limits room) g place ≡ Some o) × (ends_block o ≡ false)) }
+    ensures marks { (us : List SourceUnit) (m : Map) (limits : Limits) (room g mark place : ℕ) → All (λ u. IsTrue (have_code (unit_orders u))) us → place_of (orders_program us m limits room) g mark ≡ Some place → (place ≡ 0) ⊎ ((o : Order) × (order_at (orders_program us m limits room) g place ≡ Some o) × IsTrue (is_landing o)) }
     ensures callable { (us : List SourceUnit) (m : Map) (limits : Limits) (room : ℕ) → All (λ u. IsTrue (is_built u)) us → All (λ u. IsTrue (have_code (unit_orders u))) us → limits.frames ≤ limits.area → Callable (orders_program us m limits room) }
 {}
 

@@ -6,3 +6,5 @@ pub mod Constants
 pub mod Generated
 pub mod GeneratedUnits
 pub mod Spans
+pub mod Leading
+pub mod Beginnings

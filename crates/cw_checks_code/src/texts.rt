@@ -267,15 +267,15 @@ fn texts_run(rt: HostRuntime) -> Result<(), Fail> {
 // A body, the bytes of its segment's code, and the instructions of its run. The segment's entry has 11 bytes, and the way on to the
 // end 5. A run takes 12 instructions to the first order, and 3 from the last one through the end.
 const COUNTED: [(&str, usize, u64); 4] = [
-    // The statement's place 1 byte and 1 instruction, the number 3 and 1, the byte 2 and 1.
-    ("W(7)", 22, 18),
-    // Place, number and store 7 and 3; place, load, sum with a number and store 17 and 5; place, load and byte 6 and 3.
-    ("INTEGER X; X := 3; X := X + 4; W(X)", 46, 26),
-    // Place, number, its save and the call 11 and 5; the entry and the argument 14 and 21; place, load and byte 6 and 3; 0 and the return 8 and 4.
-    ("PROCEDURE P(VALUE INTEGER N); W(N); P(5)", 55, 48),
-    // Place 1 and 1; the variable's address, the number of the element, the first value, the step and the limit, each stored, 30 and 10; place,
-    // load and byte 6 and 3; the step 13, and 20 or at the end 19. The body runs twice.
-    ("INTEGER I; FOR I := 1 STEP 1 UNTIL 2 DO W(I)", 66, 71),
+    // The number 3 bytes and 1 instruction, the byte 2 and 1.
+    ("W(7)", 21, 17),
+    // Number and store 6 and 2; load, sum with a number and store 16 and 4; load and byte 5 and 2.
+    ("INTEGER X; X := 3; X := X + 4; W(X)", 43, 23),
+    // Number, its save and the call 10 and 4; the entry and the argument 14 and 21; load and byte 5 and 2; 0 and the return 8 and 4.
+    ("PROCEDURE P(VALUE INTEGER N); W(N); P(5)", 53, 46),
+    // The variable's address, the number of the element, the first value, the step and the limit, each stored, 30 and 10; load and byte 5 and 2;
+    // the step 13, and 20 or at the end 19. The body runs twice.
+    ("INTEGER I; FOR I := 1 STEP 1 UNTIL 2 DO W(I)", 64, 68),
 ];
 
 #[test]

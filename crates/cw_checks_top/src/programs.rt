@@ -109,8 +109,8 @@ fn unfinished(rt: HostRuntime) -> Result<(), Fail> {
         "1|unfinished: 1000"
     );
     assert_eq!(rt;
-        bytes_and_end(alloc, text.as_bytes(), 14)?.as_str(),
-        "|unfinished: 14"
+        bytes_and_end(alloc, text.as_bytes(), 13)?.as_str(),
+        "|unfinished: 13"
     );
     Ok(())
 }
@@ -160,12 +160,12 @@ fn limits(rt: HostRuntime) -> Result<(), Fail> {
         "|"
     );
     let before = "SEGMENT A BEGIN INTEGER X; ";
-    let text = repeated(alloc, before, "X := X + 1; ", 4340, "END FINISH")?;
+    let text = repeated(alloc, before, "X := X + 1; ", 4650, "END FINISH")?;
     assert_eq!(rt;
         within(alloc, &text, RUN_STEPS)?.as_str(),
         "3||link: P4 CodeTooBig 65546\n"
     );
-    let text = repeated(alloc, before, "X := X + 1; ", 4339, "END FINISH")?;
+    let text = repeated(alloc, before, "X := X + 1; ", 4649, "END FINISH")?;
     assert_eq!(rt; bytes_and_end(alloc, &text, RUN_STEPS)?.as_str(), "|");
     let levels = |count: u32| -> Result<Vec<u8>, AllocError> {
         let inner = repeated(alloc, "SEGMENT A ", "BEGIN ", count, "")?;

@@ -65,8 +65,8 @@ statement-size = fold_out-Stmt ℕ size_step
 
 -- ---- lists of orders
 
-begin_short : (line : ℕ) → Short (plain (begin_orders line)) 0 1
-begin_short line = plainly (begin_orders line) 1 (let z : 1 + 0 ≤ 1 = omega arith in z)
+begin_short : (line : ℕ) → Short (plain (begin_orders line)) 0 0
+begin_short line = plainly (begin_orders line) 0 (let z : 0 + 0 ≤ 0 = omega arith in z)
 
 kept_short : (y : Layout) (item word : ℕ) (os : List Order) (most : ℕ) → listed_sizes os ≤ most → Short (plain (keep_orders y item word ++ os)) 0 (7 + most)
 kept_short y item word os most h = plainly (keep_orders y item word ++ os) (7 + most) (item-keep y item word os most h)
@@ -247,15 +247,15 @@ module _ (s : Scope) (who : Option ℕ) (answer : ℕ) where
         (both_short (begin_short line)
         (both_short (expression_short (at_line line s) e (out-Ref r).f)
         (both_short (saved_short (at_line line s)) (both_short (address_short (at_line line s) r) (plainly (store_orders (out-Ref r).field) 26 (store-short (out-Ref r).field))))))
-        (let z : 1 + (32 * expression_tokens e + 5 + (1 + (32 * reference_tokens r + 26))) + 15 * 0 ≤ 32 * suc (reference_tokens r + expression_tokens e) + (0 + (0 + (0 + (14 + 0)))) = omega arith in z)
+        (let z : 0 + (32 * expression_tokens e + 5 + (1 + (32 * reference_tokens r + 26))) + 15 * 0 ≤ 32 * suc (reference_tokens r + expression_tokens e) + (0 + (0 + (0 + (14 + 0)))) = omega arith in z)
     layer_short (statement.PutBits line t b r e) le =
         eased
         (both_short (begin_short line)
         (both_short (expression_short (at_line line s) e 0)
         (both_short (saved_short (at_line line s)) (both_short (address_short (at_line line s) r) (plainly (order.StorePart t b ∷ []) 26 (one_short (order.StorePart t b) 26 (store-part-short t b)))))))
-        (let z : 1 + (32 * expression_tokens e + 5 + (1 + (32 * reference_tokens r + 26))) + 15 * 0 ≤ 32 * (7 + (reference_tokens r + expression_tokens e)) + (0 + (0 + (0 + (14 + 0)))) = omega arith in z)
+        (let z : 0 + (32 * expression_tokens e + 5 + (1 + (32 * reference_tokens r + 26))) + 15 * 0 ≤ 32 * (7 + (reference_tokens r + expression_tokens e)) + (0 + (0 + (0 + (14 + 0)))) = omega arith in z)
     layer_short (statement.Go line d) le =
-        eased (both_short (begin_short line) (jump_short line d)) (let z : 1 + 32 * jump_tokens d + 15 * 0 ≤ 32 * suc (jump_tokens d) + (0 + 0) = omega arith in z)
+        eased (both_short (begin_short line) (jump_short line d)) (let z : 0 + 32 * jump_tokens d + 15 * 0 ≤ 32 * suc (jump_tokens d) + (0 + 0) = omega arith in z)
     layer_short (statement.Call line t args) le =
         let ns = map argument_tokens args in
         let listed = separated-within ns in
@@ -264,11 +264,11 @@ module _ (s : Scope) (who : Option ℕ) (answer : ℕ) where
         (eased
         (both_short (begin_short line)
         (both_short (arguments_short h args) (plainly (call_order h t ∷ after_statement_call t) 13 (first_short (call_order h t) (after_statement_call t) 13 0 (call-short h t) (after-short t)))))
-        (let z : 1 + (32 * separated ns + 13) + 15 * 0 ≤ 32 * suc (arguments ns) + (0 + (0 + 0)) = omega (arith, listed) in z))
+        (let z : 0 + (32 * separated ns + 13) + 15 * 0 ≤ 32 * suc (arguments ns) + (0 + (0 + 0)) = omega (arith, listed) in z))
     layer_short (statement.Answer line e) le =
         eased
         (both_short (begin_short line) (both_short (expression_short (at_line line s) e answer) (plainly (order.Return (argument_words s.parameters) true ∷ []) 6 (let z : 6 + 0 ≤ 6 = omega arith in z))))
-        (let z : 1 + (32 * expression_tokens e + 5 + 6) + 15 * 0 ≤ 32 * suc (expression_tokens e) + (0 + (0 + 0)) = omega arith in z)
+        (let z : 0 + (32 * expression_tokens e + 5 + 6) + 15 * 0 ≤ 32 * suc (expression_tokens e) + (0 + (0 + 0)) = omega arith in z)
     layer_short (statement.If line c a b) le =
         let i = condition_tokens c in
         let j = statement_tokens a in
@@ -277,13 +277,13 @@ module _ (s : Scope) (who : Option ℕ) (answer : ℕ) where
         (both_short (begin_short line)
         (choice_short (condition_piece (at_line line s) c) (statement_piece s who answer a) (statement_piece s who answer b) (λ when mark. condition_ended_short (at_line line s) c when mark)
         (below a (let z : statement_size a < n = omega (arith, le) in z)) (below b (let z : statement_size b < n = omega (arith, le) in z))))
-        (let z : 1 + (32 * i + 32 * j + 32 * k + 3) + 15 * (set_labels a + set_labels b) ≤ 32 * (2 + (i + (j + k))) + (0 + (15 * set_labels a + 15 * set_labels b)) = omega arith in z)
+        (let z : 0 + (32 * i + 32 * j + 32 * k + 3) + 15 * (set_labels a + set_labels b) ≤ 32 * (2 + (i + (j + k))) + (0 + (15 * set_labels a + 15 * set_labels b)) = omega arith in z)
     layer_short (statement.For line item r es t) le =
         let m = separated (each_element es) in
         eased
         (both_short (begin_short line)
         (begun_loop_short (at_line line s) item r es (statement_piece s who answer t) (15 * set_labels t) (32 * statement_tokens t) (below t (let z : statement_size t < n = omega (arith, le) in z))))
-        (let z : 1 + (32 * suc (reference_tokens r + m) + 32 * statement_tokens t + 6) + 15 * set_labels t ≤ 32 * (2 + (reference_tokens r + (m + statement_tokens t))) + (0 + 15 * set_labels t) = omega arith in z)
+        (let z : 0 + (32 * suc (reference_tokens r + m) + 32 * statement_tokens t + 6) + 15 * set_labels t ≤ 32 * (2 + (reference_tokens r + (m + statement_tokens t))) + (0 + 15 * set_labels t) = omega arith in z)
     layer_short (statement.Seq ss) le = all_short ss (let z : total (map statement_size ss) < n = omega (arith, le) in z)
     layer_short (statement.Mark ls t) le =
         eased (both_short (labels_short ls) (below t (let z : statement_size t < n = omega (arith, le) in z)))

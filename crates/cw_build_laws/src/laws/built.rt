@@ -17,7 +17,7 @@ ghost use Rattle.cw_built.specs.Shared.{faces_of, Defines};
 ghost use Rattle.cw_built.specs.Built.{is_built};
 ghost use Rattle.cw_built.specs.Coded.{have_code};
 
-use cw_carry::laws::runs::{order_spans, order_words, tested};
+use cw_carry::laws::runs::{order_beginnings, order_spans, order_words, tested};
 
 /// Units that are built and agree are well formed together at every storage map and limits, and have orders that do what they mean. Each of them
 /// has a layout, and what it defines in common with others is there.
@@ -44,4 +44,5 @@ pub fn codable()
 {
     order_words();
     order_spans();
+    order_beginnings();
 }

@@ -58,7 +58,7 @@ module _ (y : Layout) where
   formed line (layer.Bare e) = (tt, tt)
 
   abbrev property : ListProperty y
-  property = record { holds = AreWords; none = tt; joined = joined; alone = λ o h. (no_constant o h, tt); constant = λ w lt. (lt, tt); formed = formed }
+  property = record { holds = AreWords; none = tt; joined = joined; alone = λ o h. (no_constant o h, tt); constant = λ w lt. (lt, tt); begun = λ line b l h. (tt, h); formed = formed }
 
 pub constants-fit : (us : List SourceUnit) (m : Map) (limits : Limits) (room : ℕ) → ConstantsFit (orders_program us m limits room)
 constants-fit us m limits room g place w h = in_unit (slice_get us g) (sym (ap (λ o. order_in o place) (slice_get-map unit_orders us g)) ∙ h)

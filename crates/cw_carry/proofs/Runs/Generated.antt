@@ -1,5 +1,5 @@
 -- What holds of the orders of every expression, condition, reference and argument: a property of lists of orders that joined lists keep,
--- and that plain orders, constants that are words and the orders of references have.
+-- and that plain orders, constants that are words, the orders of references and statements behind their Start have.
 use Rattle.std.proofs.Common.{ℕ, zero, suc, ◌+◌, ◌%◌, ◌<◌, ◌≤◌, ℤ, pos, ◌-ℤ◌, max, List, [], ◌∷◌, ◌++◌, map, length, Bool, true, false, Option, Some, None, sym, ap, ◌∙◌, subst, arith}
 use Rattle.std.specs.Prelude.{slice_get, slice_index_or, ◌==◌, if◌then◌else◌}
 use Rattle.cw_unit.specs.declared.layout.Layout.{Layout}
@@ -28,12 +28,14 @@ use Rattle.cw_order.specs.declared.order.Order.TheVariants as order
 use Rattle.cw_gen_expr.specs.Pieces.{Piece, plain, followed_by, sequence, with_end}
 use Rattle.cw_gen_expr.specs.ReferenceExpressions.{Scope, Value, Reference, ConditionPiece, choice_piece, saved, two_values, placed_by, placed_in, item_order, form_orders, bounds_orders, load_orders, rescale_orders, logic_order, number_order, narrow, comparator_for, call_order, label_order, pick_mark, index_piece, indexed_piece, known_or, named_or, known_item, known_word, value_of, condition_piece, argument_piece, reference_of, spot_piece, expression_piece}
 use Rattle.cw_gen_expr.proofs.Layers.{value_layer, computed_layer, known_layer, value-made, argument_layer, argument-made, spot_layer, spot-made, reference-made, condition_layer, condition-made, total, expression_size, expression-size, expression_size_layer, argument_size, argument-size, argument_size_layer, spot-size, spot_size_layer, reference_size, reference-size, condition_size, condition-size, condition_size_layer}
+use Rattle.cw_carry.proofs.Runs.Leading.{Leads}
 
 -- ---- properties of lists
 
--- an order that is no constant and counts on nothing before it
+-- an order that is no constant, counts on nothing before it and begins no statement
 abbrev pub IsPlain : Order → Type 0
 IsPlain (order.Const w) = ⊥
+IsPlain (order.Start line) = ⊥
 IsPlain (order.Element lower span line) = ⊥
 IsPlain (order.ElementOfTwo lower second width span line) = ⊥
 IsPlain (order.Entry width word span line) = ⊥
@@ -49,6 +51,7 @@ pub record ListProperty (y : Layout) : Type 1 where
   pub joined : (a b : List Order) → holds a → holds b → holds (a ++ b)
   pub alone : (o : Order) → IsPlain o → holds (o ∷ [])
   pub constant : (w : ℕ) → w < 65536 → holds (order.Const w ∷ [])
+  pub begun : (line : ℕ) (b : List Order) → Leads b → holds b → holds (order.Start line ∷ b)
   pub formed : (line : ℕ) (x : Spot-F Piece ConditionPiece Value Piece Reference) → holds (form_orders y line x)
 
 -- it holds of the orders of a piece

@@ -40,6 +40,7 @@ use Rattle.cw_unit.specs.Operation.{is_past}
 use Rattle.cw_word.specs.Word.{unsigned}
 use Rattle.cw_gen_unit.specs.ReferenceUnits.{answer_of, entry_orders, procedure_piece, procedures_piece, unit_piece}
 use Rattle.cw_carry.proofs.Statements.Shapes.{statement_layer, statement-made}
+use Rattle.cw_carry.proofs.Runs.Leading.{Leading, leads_before, chosen as chosen_leads, value_leads, condition_leads, jump_leads, call_statement_leads, loop_leads}
 use Rattle.cw_carry.proofs.Runs.Generated.{IsPlain, ArePlain, ListProperty, Holds, lists, constant_first, both, ended, saves, chosen, item_plain, call_plain, value_holds, condition_holds, reference_holds, arguments_hold}
 
 -- ---- orders of statements
@@ -260,8 +261,8 @@ module _ (s : Scope) (c : ListProperty s.layout) where
 -- ---- statements
 
 module _ (s : Scope) (c : ListProperty s.layout) (who : Option ℕ) (answer : ℕ) where
-  begun : (line : ℕ) → Holds c (plain (begin_orders line))
-  begun line = lists c (begin_orders line) (tt, tt)
+  begun : (line : ℕ) {p : Piece} → Holds c p → Leading p → Holds c (followed_by (plain (begin_orders line)) p)
+  begun line {p} h l = record { at = λ place next. c.begun line (p (place + 1) (next + 0)).orders (l.at (place + 1) (next + 0)) (h.at (place + 1) (next + 0)) }
 
   abbrev Below : ℕ → Type 0
   Below n = (t : Stmt) → depth t < n → Holds c (statement_piece s who answer t)
@@ -273,22 +274,24 @@ module _ (s : Scope) (c : ListProperty s.layout) (who : Option ℕ) (answer : �
   layer : (n : ℕ) → Below n → (x : Stmt-F Stmt) → depth_layer x ≤ n → Holds c (statement_layer s who answer x)
   layer n below (statement.Put line r e) le =
       let h = at_line line s in
-      both c (begun line) (both c (value_holds h c e (out-Ref r).f) (both c (saves c) (both c (reference_holds h c r) (lists c (store_orders (out-Ref r).field) (store_plain (out-Ref r).field)))))
+      begun line (both c (value_holds h c e (out-Ref r).f) (both c (saves c) (both c (reference_holds h c r) (lists c (store_orders (out-Ref r).field) (store_plain (out-Ref r).field))))) (record { at = λ place next. leads_before _ _ ((value_leads h e (out-Ref r).f).at place next) })
   layer n below (statement.PutBits line t b r e) le =
       let h = at_line line s in
-      both c (begun line) (both c (value_holds h c e 0) (both c (saves c) (both c (reference_holds h c r) (lists c (order.StorePart t b ∷ []) (tt, tt)))))
-  layer n below (statement.Go line d) le = both c (begun line) (jump_piece_holds (at_line line s) c who d)
+      begun line (both c (value_holds h c e 0) (both c (saves c) (both c (reference_holds h c r) (lists c (order.StorePart t b ∷ []) (tt, tt))))) (record { at = λ place next. leads_before _ _ ((value_leads h e 0).at place next) })
+  layer n below (statement.Go line d) le = begun line (jump_piece_holds (at_line line s) c who d) (jump_leads (at_line line s) who d)
   layer n below (statement.Call line t args) le =
       let h = at_line line s in
-      both c (begun line) (both c (arguments_hold h c args) (lists c (call_order h t ∷ after_statement_call t) (call_plain h t, after_call_plain t)))
+      begun line (both c (arguments_hold h c args) (lists c (call_order h t ∷ after_statement_call t) (call_plain h t, after_call_plain t))) (call_statement_leads h t args (after_statement_call t))
   layer n below (statement.Answer line e) le =
-      both c (begun line) (both c (value_holds (at_line line s) c e answer) (lists c (order.Return (argument_words s.parameters) true ∷ []) (tt, tt)))
+      begun line (both c (value_holds (at_line line s) c e answer) (lists c (order.Return (argument_words s.parameters) true ∷ []) (tt, tt))) (record { at = λ place next. leads_before _ _ ((value_leads (at_line line s) e answer).at place next) })
   layer n below (statement.If line d a b) le =
-      both c (begun line)
+      begun line
       (chosen c (condition_piece (at_line line s) d) (statement_piece s who answer a) (statement_piece s who answer b) (λ m. condition_holds (at_line line s) c d false m) (below a (let z : depth a < n = omega (arith, le) in z)) (below b (let z : depth b < n = omega (arith, le) in z)))
+      (chosen_leads (condition_piece (at_line line s) d) (statement_piece s who answer a) (statement_piece s who answer b) (λ m. condition_leads (at_line line s) d false m))
   layer n below (statement.For line item r es t) le =
       let h = at_line line s in
-      both c (begun line) (begun_holds h c item (simple_step s.layout item r es) r es (statement_piece s who answer t) (below t (let z : depth t < n = omega (arith, le) in z)))
+      begun line (begun_holds h c item (simple_step s.layout item r es) r es (statement_piece s who answer t) (below t (let z : depth t < n = omega (arith, le) in z)))
+      (loop_leads h (simple_step s.layout item r es) item r es (statement_piece s who answer t))
   layer n below (statement.Seq ss) le = list n below ss (let z : total (map depth ss) < n = omega (arith, le) in z)
   layer n below (statement.Mark ls t) le =
       both c {p = with_labels ls} (record { at = λ place next. c.alone order.Mark tt }) (below t (let z : depth t < n = omega (arith, le) in z))

@@ -118,6 +118,7 @@ module _ (Inside : (family offset k : ℕ) → Type 0) where
       joined = joined order.Mark;
       alone = λ o h. (spanless o h, tt);
       constant = λ w h. (refl, tt);
+      begun = λ line b l h. (refl, behind (order.Start line) b h);
       formed = formed;
     }
 

@@ -12,6 +12,7 @@ ghost use Rattle.cw_order.specs.OrderMachine.{order_machine};
 ghost use Rattle.cw_order.specs.Starting.{starts};
 ghost use Rattle.cw_order.specs.FittingWords.{ConstantsFit};
 ghost use Rattle.cw_order.specs.Spans.{SpansInside};
+ghost use Rattle.cw_order.specs.BeginsStatement.{StatementsBegin};
 ghost use Rattle.cw_safety.specs.WellFormed.{WellFormed};
 ghost use Rattle.cw_gen_unit.specs.BuiltUnits.{AllBuilt, Suits, are_built};
 ghost use Rattle.cw_gen_unit.specs.ReferenceUnits.{meaning, orders_program, first_order};
@@ -49,4 +50,9 @@ pub fn order_words()
 /// What the orders of references count on is in the data area, where the storage map suits the units.
 pub fn order_spans()
     ensures { (us : List SourceUnit) (m : Map) (limits : Limits) (room : ℕ) → Suits us m limits room → SpansInside (orders_program us m limits room) }
+{}
+
+/// Behind each Start in the orders of units stands an order that begins a statement.
+pub fn order_beginnings()
+    ensures { (us : List SourceUnit) (m : Map) (limits : Limits) (room : ℕ) → StatementsBegin (orders_program us m limits room) }
 {}

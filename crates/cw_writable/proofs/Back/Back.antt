@@ -18,6 +18,7 @@ use Rattle.cw_object.specs.Fits.{is_word, is_long, fits_body_facts}
 use Rattle.cw_object.specs.IsWritable.{is_coded, are_filled, are_defined, are_begun}
 use Rattle.cw_built.specs.Built.{is_built}
 use Rattle.cw_built.specs.Coded.{has_code, is_mark, has_few, is_entry, have_code}
+use Rattle.cw_carry.proofs.Runs.Beginnings.{unit_begun}
 use Rattle.cw_writable.proofs.Coded.Fine.{both, parts}
 use Rattle.cw_writable.proofs.Coded.Numbers.{lt_true}
 use Rattle.cw_writable.specs.Back.Ready.{code_of, is_goal, IsReady}
@@ -85,4 +86,4 @@ module _ (u : SourceUnit) where
 
   pub statements_begun : IsTrue (is_built u) → IsTrue (have_code (unit_orders u)) → IsReady u → size ≤ 2097120 → IsTrue (are_begun size 0 (code_of u).statements)
   statements_begun built coded ready small =
-      statements (unit_orders u) (length u.descs) (layout_of u).families small (unit-fit u (parts-of u built) ready) (codes coded).orders
+      statements (unit_orders u) (length u.descs) (layout_of u).families small (unit-fit u (parts-of u built) ready) (unit_begun u) (codes coded).orders

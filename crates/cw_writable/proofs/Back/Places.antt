@@ -6,6 +6,7 @@ use Rattle.std.specs.List.{list_all}
 use Rattle.cw_order.specs.declared.order.Order.{Order}
 use Rattle.cw_order.specs.declared.order.Order.TheVariants as order
 use Rattle.cw_order.specs.declared.order.Orders.{Orders}
+use Rattle.cw_order.specs.BeginsStatement.{BeginsStatement}
 use Rattle.cw_order.specs.declared.order.LabelMark.{LabelMark}
 use Rattle.cw_unit.specs.declared.unit.Unit.{Unit as SourceUnit}
 use Rattle.cw_unit.specs.declared.unit.Goal.{Goal}
@@ -30,15 +31,18 @@ use Rattle.cw_tmpl.specs.Pieces.{blanks}
 use Rattle.cw_tmpl.specs.Names.{mark_place, way_to_label, landing_start, switch_size}
 use Rattle.cw_tmpl.specs.Blocks.{address_orders, element_orders, operand_orders, order_of, count_order, block_at, orders_left, bounds_orders, form_order}
 use Rattle.cw_tmpl.proofs.Shapes.{IsBlock, shape}
-use Rattle.cw_tmpl.specs.Templates.{block_size, entry_pieces}
+use Rattle.cw_tmpl.specs.Mnemonics.{ax, at_si, load}
+use Rattle.cw_tmpl.specs.Templates.{block_size, listed_size, entry_pieces}
 use Rattle.cw_tmpl.specs.ReferenceCode.{templates, landings, switches, entry_size, order_places, switch_places, switch_sizes, landings_place, switches_place, names_of, mark_starts, label_starts, statement_at, statements_from, orders_code}
 use Rattle.cw_tmpl.proofs.Growing.{blanks-append}
-use Rattle.cw_tmpl.proofs.Sizes.{size_to, places_are, size_of_templates, size_of_landings, size_of_switches, landings_at}
+use Rattle.cw_tmpl.proofs.Sizes.{listed as size_alone, element_at_long, size_to, places_are, size_of_templates, size_of_landings, size_of_switches, landings_at}
 use Rattle.cw_obj.specs.ReferenceObject.{definition_of, definition_place}
 use Rattle.cw_object.specs.Fits.{is_word, is_long, fits_definition, fits_statement}
 use Rattle.cw_object.specs.IsWritable.{is_defined, are_defined, is_begun, are_begun}
-use Rattle.cw_built.specs.Coded.{has_code, ends_block, begins_block, is_mark}
+use Rattle.cw_built.specs.Coded.{has_code, lands, is_mark}
 use Rattle.cw_built.specs.Built.{meets}
+use Rattle.cw_carry.proofs.Runs.Leading.{Leads}
+use Rattle.cw_carry.proofs.Runs.Beginnings.{AreBegun}
 use Rattle.cw_writable.proofs.Coded.Fine.{no, both, parts}
 use Rattle.cw_writable.proofs.Coded.Numbers.{le_true, lt_true}
 use Rattle.cw_writable.specs.Back.Ready.{are_rising}
@@ -46,6 +50,30 @@ use Rattle.cw_writable.proofs.Back.Fit.{names_well, Fit, none, next, begun}
 use Rattle.cw_writable.proofs.Back.Units.{is_last, closes}
 
 -- ---- what is left of a block
+
+-- whether an order can stand behind others in a block
+abbrev ends_block : Order → Bool
+ends_block order.Save = true
+ends_block (order.Const w) = true
+ends_block (order.Home family offset) = true
+ends_block (order.FrameHome n) = true
+ends_block order.Load = true
+ends_block order.Store = true
+ends_block (order.LoadPart t b is_signed) = true
+ends_block (order.StorePart t b) = true
+ends_block (order.Element lower span line) = true
+ends_block (order.Entry width word span line) = true
+ends_block (order.Add line) = true
+ends_block (order.Sub line) = true
+ends_block (order.JumpIf c m) = true
+ends_block (order.Mul s line) = true
+ends_block (order.InBounds lower upper line) = true
+ends_block order.And = true
+ends_block order.Or = true
+ends_block order.Xor = true
+ends_block (order.Div s line) = true
+ends_block order.WriteByte = true
+ends_block _ = false
 
 -- the orders that are left of the block before end it
 abbrev pub left_over : (left : ℕ) → List Order → Bool
@@ -159,33 +187,93 @@ no-statement : (n : ℕ) (fs : List Family) (at : ℕ) (o : Order) → IsTrue (n
 no-statement n fs at (order.Start line) h = no h
 no-statement n fs at o h = refl
 
+-- the code of an order that begins a statement has a byte
+alone-long : (o : Order) → BeginsStatement o → 0 < listed_size o
+alone-long (order.Const zero) h = omega arith
+alone-long (order.Const (suc w)) h = omega arith
+alone-long (order.Home family offset) h = omega arith
+alone-long (order.FrameHome n) h = omega arith
+alone-long order.ReadByte h = omega arith
+alone-long order.WriteByte h = omega arith
+alone-long (order.CallProc q line) h = omega arith
+alone-long (order.CallCommon d line) h = omega arith
+alone-long (order.CallSpecial k line) h = omega arith
+alone-long (order.LabelOut l) h = omega arith
+alone-long (order.LabelCommon d) h = omega arith
+alone-long (order.SwitchOut n) h = omega arith
+alone-long (order.SwitchCommon d) h = omega arith
+alone-long (order.ProcOut q) h = omega arith
+alone-long (order.ProcCommon d) h = omega arith
+alone-long (order.SpecialOut k) h = omega arith
+alone-long (order.Jump m) h = omega arith
+alone-long (order.GoMain m) h = omega arith
+alone-long (order.GoCommon d) h = omega arith
+alone-long (order.GoSpecial k) h = omega arith
+alone-long _ h = absurd h
+
+-- and so has that of the block which it begins
+begins-long : (o : Order) (os : List Order) → BeginsStatement o → 0 < block_size (block_at 0 (o ∷ os)) o
+begins-long o os h = cases (block_at 0 (o ∷ os)) (shape (o ∷ os))
+  where
+    -- a block of such an order begins with an address
+    not-so : (all : List Order) → o ∷ os ≡ all → Leads all
+    not-so all e = subst Leads e h
+
+    cases : (b : Block) → IsBlock b (o ∷ os) → 0 < block_size b o
+    cases (block.Within n) sh = absurd sh
+    cases block.Single sh = let z = size_alone o in let y = alone-long o h in omega (arith, z, y)
+    cases (block.Fetch (cell.Word f n)) sh = omega arith
+    cases (block.Fetch (cell.Frame n)) sh = omega arith
+    cases (block.FetchPart (cell.Word f n) t b is_signed) sh = omega arith
+    cases (block.FetchPart (cell.Frame n) t b is_signed) sh = omega arith
+    cases (block.FetchElement e) sh = let z = element_at_long e (load ax at_si) refl in omega (arith, z)
+    cases (block.Assign x) sh = absurd (not-so _ sh)
+    cases block.Write sh = absurd (not-so _ sh)
+    cases (block.Divide w line) sh = absurd (not-so _ sh.0)
+    cases (block.Operate s u) sh = absurd (not-so _ sh.0)
+    cases (block.AssignPart x t b) sh = absurd (not-so _ sh.0)
+    cases (block.AssignElement e) sh = absurd (not-so _ sh.0)
+    cases (block.Count down line) sh = absurd (not-so _ sh)
+    cases (block.Halve w power places line) sh = absurd (not-so _ sh.0)
+    cases (block.Bounded b) sh = absurd (not-so _ sh.0)
+
 module _ (n : ℕ) (fs : List Family) (places : List ℕ) (size : ℕ) (small : size ≤ 2097120) where
-  pub begun-from : (os : List Order) → Fit n fs os → (left at low k : ℕ) → IsTrue (left_over left os) → low ≤ at → at + size_to left os (length os) ≤ size → ((j : ℕ) → j ≤ length os → slice_index places (k + j) ≡ at + size_to left os j) → IsTrue (list_all has_code os) → IsTrue (are_begun size low (statements_from k places os))
-  begun-from _ none left at low k l le end here c = refl
-  begun-from _ (next o os h r) left at low k l le end here c =
+  pub begun-from : (os : List Order) → Fit n fs os → AreBegun os → (left at low k : ℕ) → IsTrue (left_over left os) → low ≤ at → at + size_to left os (length os) ≤ size
+      → ((j : ℕ) → j ≤ length os → slice_index places (k + j) ≡ at + size_to left os j) → IsTrue (list_all has_code os) → IsTrue (are_begun size low (statements_from k places os))
+  begun-from _ none g left at low k l le end here c = refl
+  begun-from _ (next o os h r) g left at low k l le end here c =
       let b = block_at left (o ∷ os) in
       let s = block_size b o in
-      let rest = begun-from os r (orders_left b) (at + s) low (k + 1) (left-next left o os l) (let z : low ≤ at + s = omega (arith, le) in z) (let z : at + s + size_to (orders_left b) os (length os) ≤ size = omega (arith, end) in z)
+      let rest = begun-from os r g.1 (orders_left b) (at + s) low (k + 1) (left-next left o os l) (let z : low ≤ at + s = omega (arith, le) in z) (let z : at + s + size_to (orders_left b) os (length os) ≤ size = omega (arith, end) in z)
       (λ j lt. let e : k + 1 + j ≡ k + suc j = omega arith in let z : at + (s + size_to (orders_left b) os j) ≡ at + s + size_to (orders_left b) os j = omega arith in ap (slice_index places) e ∙ here (suc j) (let y : suc j ≤ suc (length os) = omega (arith, lt) in y) ∙ z)
       (parts (has_code o) (list_all has_code os) c).1 in
       subst (λ xs. IsTrue (are_begun size low (xs ++ statements_from (k + 1) places os))) (sym (no-statement n fs (slice_index places k) o h)) rest
-  begun-from _ (begun line os h r) (suc left) at low k l le end here c = no l
-  begun-from _ (begun line os h r) zero at low k l le end here c =
-      let one : block_size block.Single (order.Start line) ≡ 1 = refl in
+  begun-from _ (begun line os h r) g (suc left) at low k l le end here c = no l
+  begun-from _ (begun line _ h none) g zero at low k l le end here c = absurd g.0
+  begun-from _ (begun line _ h (begun m os i r)) g zero at low k l le end here c = absurd g.0
+  -- the code of the order behind the Start is that of the statement
+  begun-from _ (begun line _ h (next o os m r)) g zero at low k l le end here c =
+      let b = block_at 0 (o ∷ os) in
+      let s = block_size b o in
+      let some : 0 < s = begins-long o os g.0 in
       let p = slice_index places k in
       let e : k + 0 ≡ k = omega arith in
-      let place : p ≡ at = ap (slice_index places) (sym e) ∙ here 0 (let z : 0 ≤ suc (length os) = omega arith in z) ∙ (let z : at + 0 ≡ at = omega arith in z) in
-      let a = parts (has_code (order.Start line)) (list_all has_code os) c in
-      let inside : p < size = omega (arith, place, end, one) in
+      let place : p ≡ at = ap (slice_index places) (sym e) ∙ here 0 (let z : 0 ≤ suc (suc (length os)) = omega arith in z) ∙ (let z : at + 0 ≡ at = omega arith in z) in
+      let a = parts (has_code (order.Start line)) (list_all has_code (o ∷ os)) c in
+      let whole : at + (0 + (s + size_to (orders_left b) os (length os))) ≤ size = end in
+      let inside : p < size = omega (arith, place, whole, some) in
       let long : p < 4294967296 = omega (arith, inside, small) in
       let above : low ≤ p = omega (arith, place, le) in
-      let rest = begun-from os r 0 (at + 1) (p + 1) (k + 1) refl (let z : p + 1 ≤ at + 1 = omega (arith, place) in z) (let z : at + 1 + size_to 0 os (length os) ≤ size = omega (arith, end, one) in z)
-      (λ j lt. let f : k + 1 + j ≡ k + suc j = omega arith in let z : at + size_to 0 (order.Start line ∷ os) (suc j) ≡ at + 1 + size_to 0 os j = omega (arith, one) in ap (slice_index places) f ∙ here (suc j) (let y : suc j ≤ suc (length os) = omega (arith, lt) in y) ∙ z)
-      a.1 in
-      both (is_begun size low (p, line)) (are_begun size (p + 1) (statements_from (k + 1) places os))
+      let after : p + 1 ≤ at + s = omega (arith, place, some) in
+      let behind : at + s + size_to (orders_left b) os (length os) ≤ size = omega (arith, whole) in
+      let rest = begun-from os r g.1.1 (orders_left b) (at + s) (p + 1) (k + 1 + 1) (left-first o os) after behind
+      (λ j lt. let f : k + 1 + 1 + j ≡ k + suc (suc j) = omega arith in let z : at + (0 + (s + size_to (orders_left b) os j)) ≡ at + s + size_to (orders_left b) os j = omega arith in ap (slice_index places) f ∙ here (suc (suc j)) (let y : suc (suc j) ≤ suc (suc (length os)) = omega (arith, lt) in y) ∙ z)
+      (parts (has_code o) (list_all has_code os) a.1).1 in
+      let others = subst (λ xs. IsTrue (are_begun size (p + 1) (xs ++ statements_from (k + 1 + 1) places os))) (sym (no-statement n fs (slice_index places (k + 1)) o m)) rest in
+      both (is_begun size low (p, line)) (are_begun size (p + 1) (statements_from (k + 1) places (o ∷ os)))
       (both (fits_statement (p, line)) (nat_le low p && nat_lt p size) (both (is_long p) (is_word line && nat_le 1 line) (lt_true p 4294967296 long) (both (is_word line) (nat_le 1 line) a.0 (le_true 1 line h)))
       (both (nat_le low p) (nat_lt p size) (le_true low p above) (lt_true p size inside)))
-      rest
+      others
 
 -- ---- the length of the code
 
@@ -204,10 +292,10 @@ module _ (o : Orders) where
       let third = ap length (blanks-append L S) ∙ length-append (blanks L) (blanks S) in
       omega (arith, first, second, third, size_of_templates N entry_size 0 o.list, size_of_landings N (landings_place o) o.labels, size_of_switches N (switches_place o) o.switches)
 
-  pub statements : (n : ℕ) (fs : List Family) → Whole ≤ 2097120 → Fit n fs o.list → IsTrue (list_all has_code o.list) → IsTrue (are_begun Whole 0 (orders_code o).statements)
-  statements n fs small fit coded =
+  pub statements : (n : ℕ) (fs : List Family) → Whole ≤ 2097120 → Fit n fs o.list → AreBegun o.list → IsTrue (list_all has_code o.list) → IsTrue (are_begun Whole 0 (orders_code o).statements)
+  statements n fs small fit begin coded =
       let long = code-long in
-      begun-from n fs (order_places o.list) Whole small o.list fit 0 entry_size 0 0 refl (let z : 0 ≤ entry_size = omega arith in z) (let z : entry_size + size_to 0 o.list (length o.list) ≤ Whole = omega (arith, long) in z)
+      begun-from n fs (order_places o.list) Whole small o.list fit begin 0 entry_size 0 0 refl (let z : 0 ≤ entry_size = omega arith in z) (let z : entry_size + size_to 0 o.list (length o.list) ≤ Whole = omega (arith, long) in z)
       (λ j le. let e : 0 + j ≡ j = omega arith in ap (slice_index (order_places o.list)) e ∙ places_are entry_size 0 o.list j le) coded
 
   -- ---- definitions
@@ -228,11 +316,11 @@ module _ (o : Orders) where
     marked-inside : (place : ℕ) → IsTrue (is_mark o.list place) → slice_index (order_places o.list) place < Whole
     marked-inside place h = by_test (nat_eq place 0) refl h
       where
-        by_order : (x : Option Order) → slice_get o.list place ≡ x → IsTrue (begins_block x) → slice_index (order_places o.list) place < Whole
+        by_order : (x : Option Order) → slice_get o.list place ≡ x → IsTrue (lands x) → slice_index (order_places o.list) place < Whole
         by_order None e h = no h
         by_order (Some x) e h = order-inside place (slice_get_within o.list place x e)
 
-        by_test : (b : Bool) → nat_eq place 0 ≡ b → IsTrue (b || begins_block (slice_get o.list place)) → slice_index (order_places o.list) place < Whole
+        by_test : (b : Bool) → nat_eq place 0 ≡ b → IsTrue (b || lands (slice_get o.list place)) → slice_index (order_places o.list) place < Whole
         by_test true e h = subst (λ k. slice_index (order_places o.list) k < Whole) (sym (eqb-true place 0 e)) (order-inside 0 some)
         by_test false e h = by_order (slice_get o.list place) refl h
 

@@ -1,11 +1,11 @@
 -- Pieces whose orders have code, and whose marks and labels stand at the order that is a place of a mark.
-use Rattle.std.proofs.Common.{◌≡◌, ℕ, zero, suc, ◌+◌, List, [], ◌∷◌, ◌++◌, map, length, Bool, true, false, IsTrue, ◌&&◌, not, Some, slice_get, refl, sym, ap, ap₂, ◌∙◌, subst, arith}
+use Rattle.std.proofs.Common.{◌≡◌, ℕ, zero, suc, ◌+◌, List, [], ◌∷◌, ◌++◌, map, length, Bool, true, false, IsTrue, ◌&&◌, Some, slice_get, refl, sym, ap, ap₂, ◌∙◌, subst, arith}
 use Rattle.std.proofs.lemmas.Option.{none-some}
 use Rattle.std.specs.List.{list_all}
 use Rattle.cw_order.specs.declared.order.Order.{Order}
 use Rattle.cw_order.specs.declared.order.Order.TheVariants as order
 use Rattle.cw_gen_expr.specs.Pieces.{Piece, MarkedOrders, plain, followed_by, with_end, with_labels}
-use Rattle.cw_built.specs.Coded.{has_code, ends_block}
+use Rattle.cw_built.specs.Coded.{has_code, is_landing}
 
 -- ---- tests
 
@@ -27,10 +27,6 @@ passed [] ys h k = k
 passed (x ∷ xs) ys h k = let p = parts (has_code x) (list_all has_code xs) h in both (has_code x) (list_all has_code (xs ++ ys)) p.0 (passed xs ys p.1 k)
 
 -- ---- marks
-
--- whether an order begins a block
-abbrev pub begins : Order → Bool
-begins o = not (ends_block o)
 
 -- at a place stands an order that passes a test, among orders that begin at another place
 pub record Stands (test : Order → Bool) (os : List Order) (start mark : ℕ) : Type 0 where
@@ -87,8 +83,8 @@ places-append (x ∷ xs) ys = ap (λ l. x.1 ∷ l) (places-append xs ys)
 
 pub record Fine (start : ℕ) (x : MarkedOrders) : Type 0 where
   pub coded : IsTrue (list_all has_code x.orders)
-  pub marks : AllStand begins x.orders start x.marks
-  pub labels : AllStand begins x.orders start (places x.labels)
+  pub marks : AllStand is_landing x.orders start x.marks
+  pub labels : AllStand is_landing x.orders start (places x.labels)
 
 pub record Good (p : Piece) : Type 0 where
   pub at : (place next : ℕ) → Fine place (p place next)
@@ -100,10 +96,10 @@ fine-both : (start : ℕ) (x y : MarkedOrders) → Fine start x → Fine (start 
     → Fine start (record { orders = x.orders ++ y.orders; labels = x.labels ++ y.labels; marks = x.marks ++ y.marks })
 fine-both start x y h k = record {
   coded = passed x.orders y.orders h.coded k.coded;
-  marks = all-both begins (x.orders ++ y.orders) start x.marks y.marks (all-before begins x.orders y.orders start x.marks h.marks) (all-behind begins x.orders y.orders start y.marks k.marks);
+  marks = all-both is_landing (x.orders ++ y.orders) start x.marks y.marks (all-before is_landing x.orders y.orders start x.marks h.marks) (all-behind is_landing x.orders y.orders start y.marks k.marks);
   labels =
-      subst (AllStand begins (x.orders ++ y.orders) start) (sym (places-append x.labels y.labels))
-      (all-both begins (x.orders ++ y.orders) start (places x.labels) (places y.labels) (all-before begins x.orders y.orders start (places x.labels) h.labels) (all-behind begins x.orders y.orders start (places y.labels) k.labels));
+      subst (AllStand is_landing (x.orders ++ y.orders) start) (sym (places-append x.labels y.labels))
+      (all-both is_landing (x.orders ++ y.orders) start (places x.labels) (places y.labels) (all-before is_landing x.orders y.orders start (places x.labels) h.labels) (all-behind is_landing x.orders y.orders start (places y.labels) k.labels));
 }
 
 fine-ended : (start : ℕ) (x : MarkedOrders) → Fine start x → Fine start (record { orders = x.orders ++ order.Mark ∷ []; labels = x.labels; marks = (start + length x.orders) ∷ x.marks })
@@ -111,8 +107,8 @@ fine-ended start x h =
     let n : length x.orders + 0 ≡ length x.orders = omega arith in
     record {
       coded = passed x.orders (order.Mark ∷ []) h.coded refl;
-      marks = (record { index = length x.orders; found = order.Mark; is = refl; here = ap (slice_get (x.orders ++ order.Mark ∷ [])) (sym n) ∙ get-behind x.orders (order.Mark ∷ []) 0; passes = refl }, all-before begins x.orders (order.Mark ∷ []) start x.marks h.marks);
-      labels = all-before begins x.orders (order.Mark ∷ []) start (places x.labels) h.labels;
+      marks = (record { index = length x.orders; found = order.Mark; is = refl; here = ap (slice_get (x.orders ++ order.Mark ∷ [])) (sym n) ∙ get-behind x.orders (order.Mark ∷ []) 0; passes = refl }, all-before is_landing x.orders (order.Mark ∷ []) start x.marks h.marks);
+      labels = all-before is_landing x.orders (order.Mark ∷ []) start (places x.labels) h.labels;
     }
 
 pub both_good : {a b : Piece} → Good a → Good b → Good (followed_by a b)
@@ -123,7 +119,7 @@ both_good {a = a} {b = b} h k = record {
 pub ended_good : (body : ℕ → Piece) → ((mark : ℕ) → Good (body mark)) → Good (with_end body)
 ended_good body h = record { at = λ place next. fine-ended place (body next place (next + 1)) ((h next).at place (next + 1)) }
 
-labels-stand : (ls : List ℕ) (place : ℕ) → AllStand begins (order.Mark ∷ []) place (places (map (λ l. (l, place)) ls))
+labels-stand : (ls : List ℕ) (place : ℕ) → AllStand is_landing (order.Mark ∷ []) place (places (map (λ l. (l, place)) ls))
 labels-stand [] place = tt
 labels-stand (l ∷ ls) place = let e : place ≡ place + 0 = omega arith in (record { index = 0; found = order.Mark; is = e; here = refl; passes = refl }, labels-stand ls place)
 

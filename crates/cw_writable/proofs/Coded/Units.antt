@@ -20,10 +20,10 @@ use Rattle.cw_gen_unit.specs.BuiltStatements.{is_statement}
 use Rattle.cw_gen_unit.specs.BuiltUnits.{items_fit, is_procedure, are_procedures, are_built}
 use Rattle.cw_gen_unit.specs.ReferenceUnits.{answer_of, place_if, place_of, leave_orders, entry_orders, procedure_piece, procedures_piece, body_piece, unit_piece, entries_of, procedure_labels, labels_in, place_or_none, label_places, definition_place, definition_places, procedure_marks, switch_lists, unit_orders}
 use Rattle.cw_built.specs.Stored.{are_bases, are_items, are_frames, is_stored}
-use Rattle.cw_built.specs.Coded.{has_code, is_enter, begins_block, is_mark, enters, enters_at, is_entry, has_few, have_code}
+use Rattle.cw_built.specs.Coded.{has_code, is_enter, is_landing, lands, is_mark, enters, enters_at, is_entry, has_few, have_code}
 use Rattle.cw_writable.specs.Coded.RangedUnits.{is_ranged_statement, is_ranged_procedure, are_ranged_procedures, is_ranged}
 use Rattle.cw_built.proofs.Layouts.{storable}
-use Rattle.cw_writable.proofs.Coded.Fine.{no, both, parts, begins, Stands, AllStand, get-behind, all-before, all-behind, places, Good, plainly, both_good}
+use Rattle.cw_writable.proofs.Coded.Fine.{no, both, parts, Stands, AllStand, get-behind, all-before, all-behind, places, Good, plainly, both_good}
 use Rattle.cw_writable.proofs.Coded.Numbers.{lt_true, first_by, few-words}
 use Rattle.cw_writable.proofs.Coded.Frames.{MapsValid, bind-coded}
 use Rattle.cw_writable.proofs.Coded.Statements.{statement_good}
@@ -57,11 +57,11 @@ module _ (u : SourceUnit) where
 
   abbrev AllLists : List Order → (start : ℕ) → List (List (ℕ × ℕ)) → Type 0
   AllLists os start [] = Unit {0}
-  AllLists os start (ls ∷ lss) = AllStand begins os start (places ls) × AllLists os start lss
+  AllLists os start (ls ∷ lss) = AllStand is_landing os start (places ls) × AllLists os start lss
 
   lists-behind : (xs ys : List Order) (start : ℕ) (lss : List (List (ℕ × ℕ))) → AllLists ys (start + length xs) lss → AllLists (xs ++ ys) start lss
   lists-behind xs ys start [] h = tt
-  lists-behind xs ys start (ls ∷ lss) h = (all-behind begins xs ys start (places ls) h.0, lists-behind xs ys start lss h.1)
+  lists-behind xs ys start (ls ∷ lss) h = (all-behind is_landing xs ys start (places ls) h.0, lists-behind xs ys start lss h.1)
 
   -- ---- bodies
 
@@ -91,7 +91,7 @@ module _ (u : SourceUnit) where
         let r = parts (is_ranged_procedure u p q) (are_ranged_procedures u (suc p) qs) h in
         let x = procedure_piece u p q place next in
         let y = procedures_piece u (suc p) qs (place + length x.orders) (next + length x.marks) in (
-          all-before begins x.orders y.orders place (places x.labels) ((procedure_good p q c.0 r.0).at place next).labels,
+          all-before is_landing x.orders y.orders place (places x.labels) ((procedure_good p q c.0 r.0).at place next).labels,
           lists-behind x.orders y.orders place (procedure_labels u (suc p) qs (place + length x.orders) (next + length x.marks)) (labels-listed (suc p) qs c.1 r.1 (place + length x.orders) (next + length x.marks)),
         )
 
@@ -119,33 +119,13 @@ or_right : (a b : Bool) → IsTrue b → IsTrue (a || b)
 or_right true b h = refl
 or_right false b h = h
 
-begins-enter : (o : Order) → IsTrue (is_enter o) → IsTrue (begins o)
-begins-enter (order.Enter size) h = refl
-begins-enter (order.Const w) h = no h
-begins-enter (order.Home family offset) h = no h
-begins-enter (order.FrameHome n) h = no h
-begins-enter order.Load h = no h
-begins-enter order.Store h = no h
-begins-enter (order.Add line) h = no h
-begins-enter (order.Sub line) h = no h
-begins-enter (order.JumpIf c m) h = no h
-begins-enter (order.Mul s line) h = no h
-begins-enter (order.Div s line) h = no h
-begins-enter order.And h = no h
-begins-enter order.Or h = no h
-begins-enter order.Xor h = no h
-begins-enter order.WriteByte h = no h
-begins-enter order.Save h = no h
-begins-enter (order.LoadPart t b is_signed) h = no h
-begins-enter (order.StorePart t b) h = no h
-begins-enter (order.Element lower span line) h = no h
-begins-enter (order.Entry width word span line) h = no h
-begins-enter (order.InBounds lower upper line) h = no h
-begins-enter _ h = refl
+enters-lands : (o : Order) → IsTrue (is_enter o) → IsTrue (is_landing o)
+enters-lands (order.Enter size) h = refl
+enters-lands _ h = no h
 
-entry-begins : (os : List Order) (start : ℕ) (ms : List ℕ) → AllStand is_enter os start ms → AllStand begins os start ms
-entry-begins os start [] h = tt
-entry-begins os start (m ∷ ms) h = (record { index = h.0.index; found = h.0.found; is = h.0.is; here = h.0.here; passes = begins-enter h.0.found h.0.passes }, entry-begins os start ms h.1)
+entries-land : (os : List Order) (start : ℕ) (ms : List ℕ) → AllStand is_enter os start ms → AllStand is_landing os start ms
+entries-land os start [] h = tt
+entries-land os start (m ∷ ms) h = (record { index = h.0.index; found = h.0.found; is = h.0.is; here = h.0.here; passes = enters-lands h.0.found h.0.passes }, entries-land os start ms h.1)
 
 module _ (os : List Order) where
   found-at : (f : Order → Bool) (m : ℕ) (h : Stands f os 0 m) → slice_get os m ≡ Some h.found
@@ -155,10 +135,10 @@ module _ (os : List Order) where
       let z : m ≡ k = omega (arith, e) in
       ap (slice_get os) z ∙ h.here
 
-  stands-mark : (m : ℕ) → Stands begins os 0 m → IsTrue (is_mark os m)
-  stands-mark m h = or_right (nat_eq m 0) (begins_block (slice_get os m)) (subst (λ o. IsTrue (begins_block o)) (sym (found-at begins m h)) h.passes)
+  stands-mark : (m : ℕ) → Stands is_landing os 0 m → IsTrue (is_mark os m)
+  stands-mark m h = or_right (nat_eq m 0) (lands (slice_get os m)) (subst (λ o. IsTrue (lands o)) (sym (found-at is_landing m h)) h.passes)
 
-  stand-marks : (ms : List ℕ) → AllStand begins os 0 ms → IsTrue (list_all (is_mark os) ms)
+  stand-marks : (ms : List ℕ) → AllStand is_landing os 0 ms → IsTrue (list_all (is_mark os) ms)
   stand-marks [] h = refl
   stand-marks (m ∷ ms) h = both (is_mark os m) (list_all (is_mark os) ms) (stands-mark m h.0) (stand-marks ms h.1)
 
@@ -277,10 +257,10 @@ module _ (u : SourceUnit) where
       let labels = label_places 0 u.labels b.labels lss in
       let es = entries_of u 0 u.procs place next in
       let ds = definition_places labels es u.defined in
-      let in-body = stand-marks x.orders (places b.labels) (all-before begins b.orders y.orders 0 (places b.labels) (body.at 0 n).labels) in
+      let in-body = stand-marks x.orders (places b.labels) (all-before is_landing b.orders y.orders 0 (places b.labels) (body.at 0 n).labels) in
       let in-procedures = lists-marked x.orders u lss (lists-behind u b.orders y.orders 0 lss (lists place next)) in
       let l = label-marks x.orders 0 u.labels b.labels lss in-body in-procedures in
-      let e = stand-marks x.orders es (entry-begins x.orders 0 es (all-behind is_enter b.orders y.orders 0 es (entries-stand u 0 u.procs place next))) in
+      let e = stand-marks x.orders es (entries-land x.orders 0 es (all-behind is_enter b.orders y.orders 0 es (entries-stand u 0 u.procs place next))) in
       let d = definition-marks x.orders labels es l e u.defined in
       let m = stand-marks x.orders x.marks (whole.at 0 n).marks in
       marks-both x.orders ds (labels ++ (es ++ x.marks)) d (marks-both x.orders labels (es ++ x.marks) l (marks-both x.orders es x.marks e m))

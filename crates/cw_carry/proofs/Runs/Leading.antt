@@ -1,0 +1,241 @@
+-- The first order of an expression, a condition, a reference, an argument and of what stands behind the Start of a statement: one that begins
+-- a statement.
+use Rattle.std.proofs.Common.{ℕ, zero, suc, ◌+◌, ◌<◌, ◌≤◌, ℤ, max, List, [], ◌∷◌, ◌++◌, map, length, Bool, true, false, Option, Some, None, sym, ap, ◌∙◌, subst, arith}
+use Rattle.std.specs.Prelude.{slice_get, slice_index_or}
+use Rattle.cw_unit.specs.declared.layout.Layout.{Layout}
+use Rattle.cw_unit.specs.declared.layout.Family.{Family}
+use Rattle.cw_unit.specs.declared.layout.Sort.{Sort}
+use Rattle.cw_unit.specs.declared.layout.Sort.TheVariants as sort
+use Rattle.cw_unit.specs.declared.unit.Label.{Label}
+use Rattle.cw_unit.specs.declared.unit.Target.{Target}
+use Rattle.cw_unit.specs.declared.unit.Target.TheVariants as target
+use Rattle.cw_unit.specs.declared.unit.Goal.{Goal}
+use Rattle.cw_unit.specs.declared.unit.Goal.TheVariants as goal
+use Rattle.cw_unit.specs.declared.unit.Dest.{Dest}
+use Rattle.cw_unit.specs.declared.unit.Dest.TheVariants as dest
+use Rattle.cw_unit.specs.declared.unit.Felem.{Felem}
+use Rattle.cw_unit.specs.declared.unit.Arg.{Arg, out-Arg}
+use Rattle.cw_unit.specs.declared.unit.Cond.{Cond, out-Cond}
+use Rattle.cw_unit.specs.declared.unit.Spot.{Spot, out-Spot}
+use Rattle.cw_unit.specs.declared.unit.Ref.{Ref, out-Ref}
+use Rattle.cw_unit.specs.declared.unit.Expr.{Expr, Expr-F, out-Expr}
+use Rattle.cw_unit.specs.declared.unit.Arg.TheOpen as layer
+use Rattle.cw_unit.specs.declared.unit.Arg.TheOpen.{Arg-F, Cond-F, Spot-F}
+use Rattle.cw_order.specs.declared.order.Order.{Order}
+use Rattle.cw_order.specs.declared.order.Order.TheVariants as order
+use Rattle.cw_order.specs.BeginsStatement.{BeginsStatement}
+use Rattle.cw_gen_expr.specs.Pieces.{Piece, plain, followed_by, sequence, with_end}
+use Rattle.cw_gen_expr.specs.ReferenceExpressions.{Scope, ConditionPiece, choice_piece, placed_by, placed_in, item_order, known_or, named_or, pick_mark, call_order, label_order, value_of, condition_piece, argument_piece, reference_of, expression_piece}
+use Rattle.cw_gen_expr.specs.UnitTables.{label_mark}
+use Rattle.cw_gen_expr.proofs.Layers.{value_layer, computed_layer, known_layer, value-made, argument_layer, argument-made, spot_layer, indexed_layer, word_item, word_layer, spot-made, reference-made, condition_layer, condition-made, expression_size, expression-size, expression_size_layer, argument_size, argument-size, argument_size_layer, spot-size, spot_size_layer, reference_size, reference-size, condition_size, condition-size, condition_size_layer}
+use Rattle.cw_gen_unit.specs.ReferenceStatements.{own_order, goal_order, jump_piece, with_middle, loop_place, simple_beginning, begun_loop}
+use Rattle.cw_gen_unit.specs.declared.simple.SimpleStep.{SimpleStep}
+
+-- ---- lists and pieces
+
+abbrev pub Leads : List Order → Type 0
+Leads [] = ⊥
+Leads (o ∷ os) = BeginsStatement o
+
+pub leads_before : (a b : List Order) → Leads a → Leads (a ++ b)
+leads_before [] b h = absurd h
+leads_before (o ∷ os) b h = h
+
+-- the first order of a piece begins a statement, wherever the piece stands
+pub record Leading (p : Piece) : Type 0 where
+  pub at : (place next : ℕ) → Leads (p place next).orders
+
+leading : (o : Order) (os : List Order) → BeginsStatement o → Leading (plain (o ∷ os))
+leading o os h = record { at = λ place next. h }
+
+pub before : {p : Piece} (q : Piece) → Leading p → Leading (followed_by p q)
+before {p} q h = record {
+  at = λ place next. let x = p place next in leads_before x.orders (q (place + length x.orders) (next + length x.marks)).orders (h.at place next);
+}
+
+-- behind no orders
+behind : {q : Piece} → Leading q → Leading (followed_by (plain []) q)
+behind h = record { at = λ place next. h.at (place + 0) (next + 0) }
+
+ended : (p : ℕ → Piece) → ((k : ℕ) → Leading (p k)) → Leading (with_end p)
+ended p h = record { at = λ place next. leads_before (p next place (next + 1)).orders (order.Mark ∷ []) ((h next).at place (next + 1)) }
+
+middle : (a b : ℕ → Piece) → ((k : ℕ) → Leading (a k)) → Leading (with_middle a b)
+middle a b h = record { at = λ place next. (before (b next) (ended a h)).at place next }
+
+known : (k : Option ℤ) {p : Piece} → Leading p → Leading (known_or k p)
+known (Some z) h = record { at = λ place next. tt }
+known None h = h
+
+pub chosen : (c : ConditionPiece) (a b : Piece) → ((mark : ℕ) → Leading (c false mark)) → Leading (choice_piece c a b)
+chosen c a b h =
+    let first = λ (k m : ℕ). followed_by (c false m) (followed_by a (plain (order.Jump k ∷ []))) in
+    ended (λ k. followed_by (with_end (first k)) b) (λ k. before b (ended (first k) (λ m. before (followed_by a (plain (order.Jump k ∷ []))) (h m))))
+
+-- ---- single orders
+
+pub item_leads : (y : Layout) (i n : ℕ) → BeginsStatement (item_order y i n)
+item_leads y i n = of_family (slice_get y.families (slice_index_or y.homes i (0, 0)).0) (slice_index_or y.homes i (0, 0)).0 ((slice_index_or y.homes i (0, 0)).1 + n)
+  where
+    of_sort : (x : Sort) (f o : ℕ) → BeginsStatement (placed_by x f o)
+    of_sort (sort.Common d) f o = tt
+    of_sort sort.Own f o = tt
+    of_sort (sort.Absolute a) f o = tt
+    of_sort (sort.Frame b) f o = tt
+
+    of_family : (x : Option Family) (f o : ℕ) → BeginsStatement (placed_in x f o)
+    of_family None f o = tt
+    of_family (Some x) f o = of_sort x.sort f o
+
+item : (y : Layout) (i n : ℕ) (os : List Order) → Leading (plain (item_order y i n ∷ os))
+item y i n os = leading (item_order y i n) os (item_leads y i n)
+
+named : (y : Layout) (i : ℕ) (w : Option ℕ) {p : Piece} → Leading p → Leading (named_or y i w p)
+named y i (Some n) h = item y i n []
+named y i None h = h
+
+module _ (s : Scope) where
+  call_leads : (t : Target) → BeginsStatement (call_order s t)
+  call_leads (target.Own q) = tt
+  call_leads (target.Common d) = tt
+  call_leads (target.Special k f) = tt
+  call_leads target.Read = tt
+  call_leads target.Write = tt
+
+  label_leads : (g : Goal) → BeginsStatement (label_order s g)
+  label_leads (goal.Own l) = tt
+  label_leads (goal.Common d) = tt
+
+-- ---- trees
+
+module _ (s : Scope) where
+  record Below (n : ℕ) : Type 0 where
+    values : (d : Expr) → expression_size d < n → (f : ℕ) → Leading (expression_piece s d f)
+    conditions : (d : Cond) → condition_size d < n → (when : Bool) (mark : ℕ) → Leading (condition_piece s d when mark)
+    arguments : (d : Arg) → argument_size d < n → Leading (argument_piece s d)
+    references : (d : Ref) → reference_size d < n → Leading (reference_of s d).address
+
+  module _ (n : ℕ) (b : Below n) where
+    indexed : (x : Spot-F Arg Cond Expr Spot Ref) → spot_size_layer x ≤ n → Leading (indexed_layer s x)
+    indexed (layer.Direct i) le = behind (item s.layout i 0 [])
+    indexed (layer.Through i) le = behind (item s.layout i 0 (order.Load ∷ order.InArea s.line ∷ []))
+    indexed (layer.One i l u e) le = record { at = λ place next. leads_before _ _ (leads_before _ _ ((b.values e (let z : expression_size e < n = omega (arith, le) in z) 0).at place next)) }
+    indexed (layer.Two i l1 u1 l2 u2 m e g) le = record { at = λ place next. leads_before _ _ (leads_before _ _ (leads_before _ _ ((b.values e (let z : expression_size e < n = omega (arith, le) in z) 0).at place next))) }
+    indexed (layer.ParamArray i e) le = record { at = λ place next. leads_before _ _ ((b.values e (let z : expression_size e < n = omega (arith, le) in z) 0).at place next) }
+    indexed (layer.Word i t m e) le = record { at = λ place next. leads_before _ _ (leads_before _ _ ((b.values e (let z : expression_size e < n = omega (arith, le) in z) 0).at place next)) }
+    indexed (layer.Elem i t k m q e) le = record { at = λ place next. leads_before _ _ (leads_before _ _ ((b.values e (let z : expression_size e < n = omega (arith, le) in z) 0).at place next)) }
+    indexed (layer.Bare e) le = record { at = λ place next. leads_before _ _ ((b.values e (let z : expression_size e < n = omega (arith, le) in z) 0).at place next) }
+
+    spot : (x : Spot-F Arg Cond Expr Spot Ref) → spot_size_layer x ≤ n → Leading (spot_layer s x)
+    spot x le = named s.layout (word_item s x) (word_layer s x) {p = indexed_layer s x} (indexed x le)
+
+    reference : (r : Ref) → reference_size r ≤ n → Leading (reference_of s r).address
+    reference r le =
+        subst Leading (sym (ap (λ x. x.address) (reference-made s r) ∙ spot-made s (out-Ref r).at)) (spot (out-Spot (out-Ref r).at) (let z : spot_size_layer (out-Spot (out-Ref r).at) ≤ n = omega (arith, le, reference-size r ∙ spot-size (out-Ref r).at) in z))
+
+    condition : (x : Cond-F Arg Cond Expr Spot Ref) → condition_size_layer x ≤ n → (when : Bool) (mark : ℕ) → Leading (condition_layer s x when mark)
+    condition (layer.Cmp op a d) le when mark = record { at = λ place next. leads_before _ _ ((b.values a (let z : expression_size a < n = omega (arith, le) in z) (max (value_of s a).natural (value_of s d).natural)).at place next) }
+    condition (layer.And a d) le when mark =
+        ended (λ end. followed_by (condition_piece s a false (pick_mark when end mark)) (condition_piece s d when mark))
+        (λ k. record { at = λ place next. leads_before _ _ ((b.conditions a (let z : condition_size a < n = omega (arith, le) in z) false (pick_mark when k mark)).at place next) })
+    condition (layer.Or a d) le when mark =
+        ended (λ end. followed_by (condition_piece s a true (pick_mark when mark end)) (condition_piece s d when mark))
+        (λ k. record { at = λ place next. leads_before _ _ ((b.conditions a (let z : condition_size a < n = omega (arith, le) in z) true (pick_mark when mark k)).at place next) })
+
+    argument : (x : Arg-F Arg Cond Expr Spot Ref) → argument_size_layer x ≤ n → Leading (argument_layer s x)
+    argument (layer.Value e f) le = record { at = λ place next. leads_before _ _ ((b.values e (let z : expression_size e < n = omega (arith, le) in z) f).at place next) }
+    argument (layer.Place r) le = record { at = λ place next. leads_before _ _ ((b.references r (let z : reference_size r < n = omega (arith, le) in z)).at place next) }
+    argument (layer.Array i l) le = item s.layout i 0 (order.IndexLess l s.line ∷ order.Save ∷ [])
+    argument (layer.Same i) le = item s.layout i 0 (order.Load ∷ order.Save ∷ [])
+    argument (layer.Base i) le = item s.layout i 0 (order.Save ∷ [])
+    argument (layer.Goal g) le = leading (label_order s g) [] (label_leads s g)
+    argument (layer.Switch k) le = record { at = λ place next. tt }
+    argument (layer.CommonSwitch d) le = record { at = λ place next. tt }
+    argument (layer.Proc q) le = record { at = λ place next. tt }
+    argument (layer.CommonProc d) le = record { at = λ place next. tt }
+    argument (layer.Special k) le = record { at = λ place next. tt }
+
+    computed : (x : Expr-F Arg Cond Expr Spot Ref) → expression_size_layer x ≤ n → (f : ℕ) → Leading ((computed_layer s x).at f)
+    computed (layer.Num k) le f = record { at = λ place next. tt }
+    computed (layer.Const z) le f = record { at = λ place next. tt }
+    computed (layer.Text i) le f = item s.layout i 0 _
+    computed (layer.Read r) le f = record { at = λ place next. leads_before _ _ ((b.references r (let z : reference_size r < n = omega (arith, le) in z)).at place next) }
+    computed (layer.Call t []) le f = behind (leading (call_order s t) _ (call_leads s t))
+    computed (layer.Call t (a ∷ args)) le f = record { at = λ place next. leads_before _ _ (leads_before _ _ ((b.arguments a (let z : argument_size a < n = omega (arith, le) in z)).at place next)) }
+    computed (layer.Force g e) le f = record { at = λ place next. leads_before _ _ ((b.values e (let z : expression_size e < n = omega (arith, le) in z) g).at place next) }
+    computed (layer.Locate r) le f = record { at = λ place next. leads_before _ _ ((b.references r (let z : reference_size r < n = omega (arith, le) in z)).at place next) }
+    computed (layer.Bits t d e) le f = record { at = λ place next. leads_before _ _ ((b.values e (let z : expression_size e < n = omega (arith, le) in z) (value_of s e).operand).at place next) }
+    computed (layer.Logic op a d) le f = record { at = λ place next. leads_before _ _ ((b.values a (let z : expression_size a < n = omega (arith, le) in z) (value_of s a).operand).at place next) }
+    computed (layer.Sum a d) le f = record { at = λ place next. leads_before _ _ ((b.values a (let z : expression_size a < n = omega (arith, le) in z) f).at place next) }
+    computed (layer.Less a d) le f = record { at = λ place next. leads_before _ _ ((b.values a (let z : expression_size a < n = omega (arith, le) in z) f).at place next) }
+    computed (layer.Minus a) le f = record { at = λ place next. leads_before _ _ ((b.values a (let z : expression_size a < n = omega (arith, le) in z) f).at place next) }
+    computed (layer.Times a d) le f = record { at = λ place next. leads_before _ _ ((b.values a (let z : expression_size a < n = omega (arith, le) in z) (value_of s a).operand).at place next) }
+    computed (layer.Over a d) le f = record { at = λ place next. leads_before _ _ ((b.values a (let z : expression_size a < n = omega (arith, le) in z) (value_of s a).operand).at place next) }
+    computed (layer.Choice k a d) le f =
+        chosen (condition_piece s k) (expression_piece s a f) (expression_piece s d f) (λ m. b.conditions k (let z : condition_size k < n = omega (arith, le) in z) false m)
+
+    value : (x : Expr-F Arg Cond Expr Spot Ref) → expression_size_layer x ≤ n → (f : ℕ) → Leading ((value_layer s x).at f)
+    value x le f = known (known_layer s x f) {p = (computed_layer s x).at f} (computed x le f)
+
+    next_below : Below (suc n)
+    next_below = record {
+      values = λ d lt f. subst (λ v. Leading (v.at f)) (sym (value-made s d)) (value (out-Expr d) (let z : expression_size_layer (out-Expr d) ≤ n = omega (arith, lt, expression-size d) in z) f);
+      conditions = λ d lt when mark. subst (λ p. Leading (p when mark)) (sym (condition-made s d)) (condition (out-Cond d) (let z : condition_size_layer (out-Cond d) ≤ n = omega (arith, lt, condition-size d) in z) when mark);
+      arguments = λ d lt. subst Leading (sym (argument-made s d)) (argument (out-Arg d) (let z : argument_size_layer (out-Arg d) ≤ n = omega (arith, lt, argument-size d) in z));
+      references = λ d lt. reference d (let z : reference_size d ≤ n = omega (arith, lt) in z);
+    }
+
+  below : (n : ℕ) → Below n
+  below zero = record {
+    values = λ d lt f. absurd (omega (arith, lt));
+    conditions = λ d lt when mark. absurd (omega (arith, lt));
+    arguments = λ d lt. absurd (omega (arith, lt));
+    references = λ d lt. absurd (omega (arith, lt));
+  }
+  below (suc n) = next_below n (below n)
+
+  pub value_leads : (e : Expr) (f : ℕ) → Leading (expression_piece s e f)
+  value_leads e f = (below (suc (expression_size e))).values e (let z : expression_size e < suc (expression_size e) = omega arith in z) f
+
+  pub condition_leads : (d : Cond) (when : Bool) (mark : ℕ) → Leading (condition_piece s d when mark)
+  condition_leads d when mark = (below (suc (condition_size d))).conditions d (let z : condition_size d < suc (condition_size d) = omega arith in z) when mark
+
+  reference_leads : (r : Ref) → Leading (reference_of s r).address
+  reference_leads r = (below (suc (reference_size r))).references r (let z : reference_size r < suc (reference_size r) = omega arith in z)
+
+  argument_leads : (a : Arg) → Leading (argument_piece s a)
+  argument_leads a = (below (suc (argument_size a))).arguments a (let z : argument_size a < suc (argument_size a) = omega arith in z)
+
+  -- ---- statements behind their Start
+
+  pub call_statement_leads : (t : Target) (args : List Arg) (os : List Order) → Leading (followed_by (sequence (map (argument_piece s) args)) (plain (call_order s t ∷ os)))
+  call_statement_leads t [] os = behind (leading (call_order s t) os (call_leads s t))
+  call_statement_leads t (a ∷ args) os = record { at = λ place next. leads_before _ _ (leads_before _ _ ((argument_leads a).at place next)) }
+
+  own_leads : (who : Option ℕ) (x : Option Label) (m : ℕ) → BeginsStatement (own_order who x m)
+  own_leads None x m = tt
+  own_leads (Some q) None m = tt
+  own_leads (Some q) (Some x) m = by_procedure x.proc
+    where
+      by_procedure : (o : Option ℕ) → BeginsStatement (elim o [ None ↦ order.GoMain m | Some r ↦ order.Jump m ])
+      by_procedure None = tt
+      by_procedure (Some r) = tt
+
+  goal_leads : (who : Option ℕ) (g : Goal) → BeginsStatement (goal_order s.unit who g)
+  goal_leads who (goal.Own l) = own_leads who (slice_get s.unit.labels l) (label_mark s.unit l)
+  goal_leads who (goal.Common d) = tt
+
+  pub jump_leads : (who : Option ℕ) (d : Dest) → Leading (jump_piece s who d)
+  jump_leads who (dest.Goal g) = leading (goal_order s.unit who g) [] (goal_leads who g)
+  jump_leads who (dest.Special k) = record { at = λ place next. tt }
+  jump_leads who (dest.Switch n e) = record { at = λ place next. leads_before _ _ ((value_leads e 0).at place next) }
+  jump_leads who (dest.CommonSwitch d e) = record { at = λ place next. leads_before _ _ ((value_leads e 0).at place next) }
+  jump_leads who (dest.SpecialSwitch k e) = record { at = λ place next. leads_before _ _ ((value_leads e 0).at place next) }
+
+  -- a FOR begins with the address of its variable, or of a word of its own
+  pub loop_leads : (x : Option SimpleStep) (i : ℕ) (r : Ref) (es : List Felem) (body : Piece) → Leading (begun_loop s x i r es body)
+  loop_leads None i r es body = record { at = λ place next. leads_before _ _ ((reference_leads r).at place next) }
+  loop_leads (Some x) i r es body =
+      let first = λ (end : ℕ). plain (simple_beginning s.layout i x end) in
+      let second = λ (start : ℕ). followed_by body (plain (order.NextStep (loop_place s.layout i) s.line start ∷ [])) in
+      ended (λ end. with_middle (λ start. first end) second) (λ end. middle (λ start. first end) second (λ start. item s.layout x.variable 0 _))
