@@ -4,7 +4,6 @@ use Rattle.std.specs.Prelude.{slice_get, nat_eq, nat_lt, if◌then◌else◌}
 use borrow.Author.Tests.{eqb-true, ltb-true}
 use Rattle.cw_i86.specs.declared.instr.Instr.TheVariants as i86
 use Rattle.cw_i86.specs.declared.instr.Imm.TheVariants as imm
-use Rattle.cw_run86.specs.Views.{Has}
 use Rattle.cw_word.specs.Word.{signed}
 use Rattle.cw_unit.specs.Stop.{Running}
 use Rattle.cw_unit.specs.Words.{LabelControl, SwitchControl, ProcedureControl, Operand, Word, Held, Words, put, with_operands}
@@ -18,7 +17,7 @@ use Rattle.cw_order.specs.OrderMachine.{after, unrefused, return_with, call, ste
 use Rattle.cw_follow.specs.Placing.{base_of}
 use Rattle.cw_tmpl.proofs.Sizes.{own_place}
 use Rattle.cw_follow.proofs.Watched.{Watched}
-use Rattle.cw_follow.proofs.Standing.{order_place}
+use Rattle.cw_follow.proofs.Standing.{order_place, Has, HasAt}
 use Rattle.cw_follow.proofs.Stacks.{code_place}
 use Rattle.cw_follow.proofs.Orders.{Landed}
 use Rattle.cw_follow.proofs.States.{Given, Sound, has_unit}
@@ -26,7 +25,7 @@ use Rattle.cw_follow.proofs.Returns.{returns, answers, frame_homes, binds, binds
 use Rattle.cw_follow.proofs.Leaving.{hands_on, calls_special}
 use Rattle.cw_follow.proofs.Calling.{sound_in, puts_with, calls_procedure, back_is, landed_as, holds_control}
 use Rattle.cw_follow.proofs.Naming.{argument_stands, start_is}
-use Rattle.cw_follow.proofs.Steps.{Follow, leads_to, onward, step_is, weight_is, never_next, stuck_here, does, cheap, line_fits, Alone, code, behind, begins_next}
+use Rattle.cw_follow.proofs.Steps.{Follow, leads_to, onward, step_is, weight_is, never_next, stuck_here, does, cheap, line_fits, Alone, code, behind, begins_next, FollowFrom, begins_here, begun_here, landed_here}
 
 module _ (known : Given) where
   open known use {rows, p, image, all, coded, few, low}
@@ -60,7 +59,7 @@ module _ (known : Given) where
 
     -- ---- the words of the frame, and arguments
 
-    pub frames_home : (n : ℕ) → slice_get s.orders.list place ≡ Some (order.FrameHome n) → Follow known (at g place false (a ∷ acts) w Running) q
+    pub frames_home : (n : ℕ) → slice_get s.orders.list place ≡ Some (order.FrameHome n) → FollowFrom known (begun_here known s) (at g place false (a ∷ acts) w Running) q
     frames_home n e = cases (nat_lt word p.limits.area) refl
       where
         o : Order
@@ -73,13 +72,13 @@ module _ (known : Given) where
         goes b is = step_is known s (Some o) e ∙ ap (λ b. after p.room 0 (unrefused (put_address (if b then Some word else None) w)) g place true (a ∷ acts) w) is
 
         -- a word that is not in the data area is none of the frame
-        cases : (b : Bool) → nat_lt word p.limits.area ≡ b → Follow known S q
+        cases : (b : Bool) → nat_lt word p.limits.area ≡ b → FollowFrom known (begun_here known s) S q
         cases false is = absurd (stuck_here known s (goes false is))
         cases true is =
             let inside : word < p.limits.area = ltb-true word p.limits.area is in
             let small : word < 65536 = omega arith in
             puts_with known s by_itself o true (put (signed word) w) 3 e (goes true is) (cheap known s o 3 (lit≤ tt) e) (λ room.
-            frame_homes rows p image g next n a acts (signed word) w low inside (behind known s by_itself o e) (sym (rows.words.forth word small)) (code known s by_itself o e) by_itself.landed)
+            frame_homes rows p image g next n a acts (signed word) w low inside (behind known s by_itself o e) (sym (rows.words.forth word small)) (code known s by_itself o e) (landed_here known s by_itself))
 
     pub binds_static : (k family offset : ℕ) → slice_get s.orders.list place ≡ Some (order.Bind k family offset) → Follow known (at g place false (a ∷ acts) w Running) q
     binds_static k family offset e =
@@ -100,28 +99,28 @@ module _ (known : Given) where
 
     -- one that is handed on
     pub hands_special : (k : ℕ) → slice_get s.orders.list place ≡ Some (order.SpecialOut k) → (x : Option Operand) → argument_behind k a.arguments ≡ x
-        → Follow known (at g place false (a ∷ acts) w Running) q
+        → FollowFrom known (begun_here known s) (at g place false (a ∷ acts) w Running) q
     hands_special k e x is = cases x is
       where
         held_as : (x : Option Operand) → argument_behind k a.arguments ≡ x → step p S ≡ after p.room 0 (unrefused (held (control_in x) w)) g place false (a ∷ acts) w
         held_as x is = step_is known s (Some (order.SpecialOut k)) e ∙ ap (λ x. after p.room 0 (unrefused (held (control_in x) w)) g place false (a ∷ acts) w) is
 
-        cases : (x : Option Operand) → argument_behind k a.arguments ≡ x → Follow known S q
+        cases : (x : Option Operand) → argument_behind k a.arguments ≡ x → FollowFrom known (begun_here known s) S q
         cases None is = absurd (stuck_here known s (held_as None is))
         cases (Some (Word z)) is = absurd (stuck_here known s (held_as (Some (Word z)) is))
         cases (Some (Held c)) is =
             holds_control known s by_itself (order.SpecialOut k) e c 4 (held_as (Some (Held c)) is) (cheap known s (order.SpecialOut k) 4 (lit≤ tt) e) (λ room.
-            hands_on rows p image g next k a acts c w room (behind known s by_itself (order.SpecialOut k) e) is (argument_stands p a.segment acts k a.arguments c s.working.3 is) (code known s by_itself (order.SpecialOut k) e) by_itself.landed)
+            hands_on rows p image g next k a acts c w room (behind known s by_itself (order.SpecialOut k) e) is (argument_stands p a.segment acts k a.arguments c s.working.3 is) (code known s by_itself (order.SpecialOut k) e) (landed_here known s by_itself))
 
     -- one that is called
     pub calls_parameter : (k line : ℕ) → slice_get s.orders.list place ≡ Some (order.CallSpecial k line) → (x : Option Operand) → argument_behind k a.arguments ≡ x
-        → Follow known (at g place false (a ∷ acts) w Running) q
+        → FollowFrom known (begun_here known s) (at g place false (a ∷ acts) w Running) q
     calls_parameter k line e x is = cases x is
       where
         called_as : (x : Option Operand) → argument_behind k a.arguments ≡ x → step p S ≡ call p line (control_in x) g place false (a ∷ acts) w
         called_as x is = step_is known s (Some (order.CallSpecial k line)) e ∙ ap (λ x. call p line (control_in x) g place false (a ∷ acts) w) is
 
-        cases : (x : Option Operand) → argument_behind k a.arguments ≡ x → Follow known S q
+        cases : (x : Option Operand) → argument_behind k a.arguments ≡ x → FollowFrom known (begun_here known s) S q
         cases None is = absurd (stuck_here known s (called_as None is))
         cases (Some (Word z)) is = absurd (stuck_here known s (called_as (Some (Word z)) is))
         cases (Some (Held (LabelControl to l owner))) is = absurd (stuck_here known s (called_as (Some (Held (LabelControl to l owner))) is))
@@ -137,7 +136,7 @@ module _ (known : Given) where
             calls_procedure known s by_itself o e to n line 16 (called_as (Some (Held (ProcedureControl to n))) is) (weight_is known s o e) (λ c eg ep el same room.
             let fits = line_fits known s o e in
             let small : c.line < 65536 = omega arith in
-            let line_there : Has image here (i86.MovImm 2 (imm.Word c.line)) = subst (λ n. Has image here (i86.MovImm 2 (imm.Word n))) (sym el) i.0 in
+            let line_there : HasAt (begins_here known s) image here (i86.MovImm 2 (imm.Word c.line)) = subst (λ n. HasAt (begins_here known s) image here (i86.MovImm 2 (imm.Word n))) (sym el) i.0 in
             calls_special rows p image k return a acts c (ProcedureControl to n) w room small is same (sum ∙ back_is known s by_itself c 13 o e refl eg ep) (line_there, i.1) (landed_as known s by_itself c eg))
 
   -- ---- the way back with an answer

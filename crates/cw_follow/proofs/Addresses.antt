@@ -11,7 +11,7 @@ use Rattle.cw_i86.specs.declared.instr.Rm.TheVariants as rms
 use Rattle.cw_i86.specs.Sums.{overflows}
 use Rattle.cw_run86.specs.Processor.{Told}
 use Rattle.cw_follow.proofs.Watched.{Watched}
-use Rattle.cw_run86.specs.Views.{Has, compare as compare_of, word_difference, difference_overflows, product_low, product_high, product_overflows, Comparison, NotLess, AtMost, words_compare, compares, condition_of, with_number}
+use Rattle.cw_run86.specs.Views.{compare as compare_of, word_difference, difference_overflows, product_low, product_high, product_overflows, Comparison, NotLess, AtMost, words_compare, compares, condition_of, with_number}
 use Rattle.cw_word.specs.FixedPoint.{FitsWord, fits_word}
 use Rattle.cw_word.specs.Word.{unsigned, low_word}
 use Rattle.cw_unit.specs.Stop.{StopKind, AddressRange, IndexRange}
@@ -21,7 +21,6 @@ use Rattle.cw_order.specs.FittingWords.{OperandFits}
 use Rattle.cw_order.specs.OrderChanges.{put_index, index}
 use Rattle.cw_tmpl.specs.Library.{stop_place}
 use Rattle.cw_tmpl.specs.Templates.{indexes_between}
-use Rattle.cw_routines.specs.Ways.{HasWord}
 use Rattle.cw_follow.proofs.Rows.{Rows}
 use Rattle.cw_follow.proofs.Chains.{Is, IsCompared, Leads, view, seen, compare_number, compared, compared_jumps, compared_passes, compared_more, jump_below, pass_above, jumps_below, passes_above, more, last, done}
 use Rattle.cw_follow.proofs.Straight.{Number, Difference, Negative, Product, straight}
@@ -34,12 +33,13 @@ use Rattle.cw_follow.proofs.Called.{Then, parts}
 use Rattle.cw_follow.proofs.Numbers.{left, right, overflows_same, difference_overflows_is, difference_is, fits_tested, unsigned_pos}
 use Rattle.cw_follow.proofs.Indexed.{below_count, past_count}
 use Rattle.cw_follow.proofs.Facts.{low_is, top_overflows, top_low, not_below}
+use Rattle.cw_follow.proofs.Standing.{Has, HasWord, Image}
 
 -- a test for an overflow, and something more behind it
-abbrev pub CheckThen : (image : List ℕ) → (at by line : ℕ) → (ℕ → Type 0) → Type 0
+abbrev pub CheckThen : (image : Image) → (at by line : ℕ) → (ℕ → Type 0) → Type 0
 CheckThen image at by line T = Has image at (i86.JumpIf 1 5) × (Has image (at + 2) (i86.Call by) × (HasWord image (at + 2 + 3) line × T (at + 2 + 3 + 2)))
 
-pub check_of : (image : List ℕ) (at by line : ℕ) (T : ℕ → Type 0) → CheckThen image at by line T → Check image at by line
+pub check_of : (image : Image) (at by line : ℕ) (T : ℕ → Type 0) → CheckThen image at by line T → Check image at by line
 check_of image at by line T h = (h.0, (h.1.0, (h.1.1.0, tt)))
 
 -- the instructions of a multiplication by a number

@@ -91,7 +91,7 @@ module _ (known : Given) where
         let base : a.frame_base ≤ p.limits.area = omega arith in
         let working : ActivationsStand p g (a' ∷ acts) = (refl, base, top, s.beginning.arguments, s.beginning.operands_stand, s.beginning.callers) in
         leads_to known g place false (a ∷ acts) w t 19 goes enter_weight
-        (onward known (λ r l. inl (record {
+        (onward known (λ r l. inl ((record {
           orders = s.orders;
           unit = s.unit;
           from = place + 1;
@@ -114,7 +114,7 @@ module _ (known : Given) where
           working = working;
           comes_back = s.comes_back;
           never = never_on p T t goes s.never;
-        })) d)
+        }, refl))) d)
 
     begins_free : Follow known T q
     begins_free =

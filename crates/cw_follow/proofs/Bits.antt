@@ -28,7 +28,6 @@ use Rattle.cw_tmpl.specs.Pieces.{Filling, blanks}
 use Rattle.cw_tmpl.specs.Mnemonics.{at_bx, operate, change}
 use Rattle.cw_tmpl.specs.Templates.{shifted_up, taken, part_taken, load_part, store_part}
 use Rattle.cw_tmpl.proofs.Growing.{mask_small}
-use Rattle.cw_routines.specs.Ways.{HasAll}
 use Rattle.cw_follow.proofs.Chains.{Is, view, done}
 use Rattle.cw_follow.proofs.Straight.{Act, Move, Exchange, Pop, Difference, Double, Load, straight, instruction, after, Needs}
 use Rattle.cw_follow.proofs.Routines.{with_ax, leads_on}
@@ -38,7 +37,7 @@ use Rattle.cw_order.specs.OrderState.{operand_words}
 use Rattle.cw_follow.proofs.Operands.{Setting, words, with_cells, One, Two, result, LandedWith, DoesHere, accessing_one, accessing_two}
 use Rattle.cw_follow.proofs.Numbers.{unsigned_pos}
 use Rattle.cw_follow.proofs.Facts.{down_none, not_below}
-use Rattle.cw_follow.proofs.Standing.{HasPieces}
+use Rattle.cw_follow.proofs.Standing.{HasPieces, HasAll}
 use Rattle.cw_follow.proofs.Halves.{merged}
 use Rattle.cw_follow.proofs.Shifts.{shift_steps, part_steps, few_steps, few_part_steps, part_word, shifts, takes_last, turns}
 

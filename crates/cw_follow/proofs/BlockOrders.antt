@@ -27,12 +27,12 @@ use Rattle.cw_tmpl.specs.Blocks.{address_orders, operand_orders, orders_before, 
 use Rattle.cw_follow.specs.Placing.{base_of}
 use Rattle.cw_follow.proofs.Standing.{order_place}
 use Rattle.cw_follow.proofs.Stacks.{level, words_split}
-use Rattle.cw_follow.proofs.Orders.{Landed, Does, fetches, assigns, writes_top}
+use Rattle.cw_follow.proofs.Orders.{Landed, Does, fetches, assigns, writes_top, over_landed}
 use Rattle.cw_follow.proofs.States.{Given, Sound}
 use Rattle.cw_follow.proofs.InBlocks.{slice_drop, Each, each_of_both, one_before, none_before, Puts, never_refused, puts_word, loaded_then, loaded_silently}
 use Rattle.cw_follow.proofs.FrameBlocks.{fetches_word, assigns_word}
 use Rattle.cw_follow.proofs.Divisions.{divides_by_number}
-use Rattle.cw_follow.proofs.Steps.{Follow, setting, step_is, stuck_here, weight_is, block_code, block_ends, start_place, order_here, silent_in, moded_as, last_does, last_tells}
+use Rattle.cw_follow.proofs.Steps.{Follow, setting, step_is, stuck_here, weight_is, block_code, block_ends, start_place, order_here, silent_in, moded_as, last_does, last_tells, FollowFrom, begins_block, begun_block}
 
 -- an operand whose address is not formed
 abbrev pub WithoutAddress : Simple → Type 0
@@ -88,14 +88,14 @@ module _ (known : Given) where
     puts_so _ m is = absurd is
 
     -- such an order, which stands behind so many others of its block
-    pub inner_follows : (k : ℕ) (o : Order) (b : Block) (os : List Order) → s.done ≡ k → drop s.from s.orders.list ≡ os → slice_get os k ≡ Some o → Puts o → block_at 0 (drop s.from s.orders.list) ≡ b
-        → suc k ≤ orders_left b → Follow known (at g place loaded acts w Running) q
-    inner_follows k o b os is_done e there puts is more = cases (loaded_after o loaded) refl
+    pub inner_follows : {first : Watched} (k : ℕ) (o : Order) (b : Block) (os : List Order) → s.done ≡ k → drop s.from s.orders.list ≡ os → slice_get os k ≡ Some o → Puts o → block_at 0 (drop s.from s.orders.list) ≡ b
+        → suc k ≤ orders_left b → FollowFrom known first (at g place loaded acts w Running) q
+    inner_follows {first} k o b os is_done e there puts is more = cases (loaded_after o loaded) refl
       where
         here : slice_get s.orders.list place ≡ Some o
         here = order_here known s k o os is_done e there
 
-        cases : (x : Option Bool) → loaded_after o loaded ≡ x → Follow known (at g place loaded acts w Running) q
+        cases : (x : Option Bool) → loaded_after o loaded ≡ x → FollowFrom known first (at g place loaded acts w Running) q
         cases None mode = absurd (stuck_here known s (step_is known s (Some o) here ∙ ap (λ x. carry_with p x o g place loaded acts w) mode))
         cases (Some m) mode =
             let left : orders_left (block_at 0 (drop s.from s.orders.list)) ≡ orders_left b = ap orders_left is in
@@ -139,17 +139,17 @@ module _ (known : Given) where
     operand_puts (simple.Contents x) h = each_of_both Puts (address_orders x) (order.Load ∷ []) (place_puts x) (tt, tt)
 
     -- the orders of a block, where its last one is followed
-    pub block_follows : (b : Block) (last : Order) (rest : List Order) → Each Puts (orders_before b) → drop s.from s.orders.list ≡ orders_before b ++ last ∷ rest → block_at 0 (drop s.from s.orders.list) ≡ b → orders_left b ≡ length (orders_before b)
-        → (s.done ≡ length (orders_before b) → Follow known (at g place loaded acts w Running) q) → Follow known (at g place loaded acts w Running) q
-    block_follows b last rest puts e is many ends = elim (cases_lt s.done (length (orders_before b))) as (λ _. Follow known (at g place loaded acts w Running) q) [
+    pub block_follows : {first : Watched} (b : Block) (last : Order) (rest : List Order) → Each Puts (orders_before b) → drop s.from s.orders.list ≡ orders_before b ++ last ∷ rest → block_at 0 (drop s.from s.orders.list) ≡ b → orders_left b ≡ length (orders_before b)
+        → (s.done ≡ length (orders_before b) → FollowFrom known first (at g place loaded acts w Running) q) → FollowFrom known first (at g place loaded acts w Running) q
+    block_follows {first} b last rest puts e is many ends = elim (cases_lt s.done (length (orders_before b))) as (λ _. FollowFrom known first (at g place loaded acts w Running) q) [
       | inl lt ↦ inner lt
       | inr ge ↦ (let le = within_block b (length (orders_before b)) is many in ends (omega arith))
     ]
       where
-        inner : s.done < length (orders_before b) → Follow known (at g place loaded acts w Running) q
+        inner : s.done < length (orders_before b) → FollowFrom known first (at g place loaded acts w Running) q
         inner lt = cases (slice_get (orders_before b ++ last ∷ rest) s.done) refl
           where
-            cases : (o : Option Order) → slice_get (orders_before b ++ last ∷ rest) s.done ≡ o → Follow known (at g place loaded acts w Running) q
+            cases : (o : Option Order) → slice_get (orders_before b ++ last ∷ rest) s.done ≡ o → FollowFrom known first (at g place loaded acts w Running) q
             cases None none = absurd (none_before (orders_before b) last rest s.done lt none)
             cases (Some o) there =
                 let more : suc s.done ≤ orders_left b = omega arith in
@@ -158,7 +158,7 @@ module _ (known : Given) where
     -- ---- words that are put and stored
 
     fetch_last : (x : Place) (rest : List Order) → s.done ≡ length (address_orders x) → drop s.from s.orders.list ≡ address_orders x ++ order.Load ∷ rest
-        → block_at 0 (drop s.from s.orders.list) ≡ block.Fetch x → Follow known (at g place loaded acts w Running) q
+        → block_at 0 (drop s.from s.orders.list) ≡ block.Fetch x → FollowFrom known (begun_block known s) (at g place loaded acts w Running) q
     fetch_last (cell.Word f n) rest is_done e is =
         let here = order_here known s 1 order.Load _ is_done e refl in
         let ends = block_ends known s (block.Fetch (cell.Word f n)) (order.Home f n) (order.Load ∷ rest) 1 is_done e is refl refl in
@@ -170,17 +170,17 @@ module _ (known : Given) where
         let paid : 1 ≤ weight p (at g place loaded acts w Running) = let x = weight_is known s order.Load here in omega arith in
         last_does known s true 0 (λ v. unrefused (perform p.limits.area (Fetch None) v)) 1 1 _ is_done e ends.begins (step_in true order.Load before.now here) paid
         (fetches rows p image g acts code_end (st.value 2 f n (here_at + 3)) word 0 s.before low small (st.fills.bytes f n (here_at + 3)) ends.behind
-        (block_code known s (block.Fetch (cell.Word f n)) (order.Home f n) (order.Load ∷ rest) e is).0 before.landed)
+        (block_code known s (block.Fetch (cell.Word f n)) (order.Home f n) (order.Load ∷ rest) e is).0 (over_landed (begins_block known s) before.landed))
     fetch_last (cell.Frame n) rest is_done e is =
         let here = order_here known s 1 order.Load _ is_done e refl in
         let ends = block_ends known s (block.Fetch (cell.Frame n)) (order.FrameHome n) (order.Load ∷ rest) 1 is_done e is refl refl in
         let before = modes false true true (order.FrameHome n) 0 (order.Load ∷ rest) is_done e refl refl refl in
         let paid : 2 ≤ weight p (at g place loaded acts w Running) = let x = weight_is known s order.Load here in omega arith in
         last_does known s true 0 (λ v. unrefused (perform p.limits.area (Fetch None) v)) 2 1 _ is_done e ends.begins (step_in true order.Load before.now here) paid
-        (fetches_word rows p image g code_end n acts s.before low ends.behind (block_code known s (block.Fetch (cell.Frame n)) (order.FrameHome n) (order.Load ∷ rest) e is) before.landed)
+        (fetches_word rows p image g code_end n acts s.before low ends.behind (block_code known s (block.Fetch (cell.Frame n)) (order.FrameHome n) (order.Load ∷ rest) e is) (over_landed (begins_block known s) before.landed))
 
     pub fetch_follows : (x : Place) (rest : List Order) → drop s.from s.orders.list ≡ address_orders x ++ order.Load ∷ rest → block_at 0 (drop s.from s.orders.list) ≡ block.Fetch x
-        → Follow known (at g place loaded acts w Running) q
+        → FollowFrom known (begun_block known s) (at g place loaded acts w Running) q
     fetch_follows x rest e is = block_follows (block.Fetch x) order.Load rest (place_puts x) e is refl (λ is_done. fetch_last x rest is_done e is)
 
     assign_last : (x : Place) (rest : List Order) → s.done ≡ suc (length (address_orders x)) → drop s.from s.orders.list ≡ order.Save ∷ (address_orders x ++ order.Store ∷ rest)

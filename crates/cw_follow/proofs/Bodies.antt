@@ -18,21 +18,20 @@ use Rattle.cw_tmpl.specs.Blocks.{left_at}
 use Rattle.cw_tmpl.specs.Library.{start_entry, start_place}
 use Rattle.cw_tmpl.specs.Pieces.{Filling}
 use Rattle.cw_tmpl.specs.Templates.{entry_pieces}
-use Rattle.cw_routines.specs.Ways.{HasWord}
 use Rattle.cw_routines.specs.Results.{Stands}
 use Rattle.cw_follow.specs.Placing.{Fills, base_of}
 use Rattle.cw_follow.proofs.Watched.{Watched}
-use Rattle.cw_follow.proofs.Standing.{HasPieces, order_place}
+use Rattle.cw_follow.proofs.Standing.{HasPieces, order_place, HasWord, Image}
 use Rattle.cw_follow.proofs.Rows.{Rows}
 use Rattle.cw_follow.proofs.Chains.{Is, Leads, view, seen, to_place, number, call, jump_to, more}
 use Rattle.cw_follow.proofs.Routines.{Stacked, quiet_in, quiet_library, flags_of, arrives, returned, lifted, ends, leads_on, put_at}
 use Rattle.cw_follow.proofs.Stacks.{record_of, top_is}
 use Rattle.cw_follow.proofs.Orders.{Landed, further}
-use Rattle.cw_follow.proofs.States.{Given, Sound, Matches, never_on, not_stuck}
-use Rattle.cw_follow.proofs.Steps.{Follow, leads_to, step_is, weight_is, fits_next, stands_next, Alone, code, under, under_low, under_is}
+use Rattle.cw_follow.proofs.States.{Given, Sound, Arrived, never_on, not_stuck}
+use Rattle.cw_follow.proofs.Steps.{Arrives, Follow, leads_to, step_is, weight_is, fits_next, stands_next, Alone, code, under, under_low, under_is}
 
 -- a body begins, with the base record made and no operands
-pub record Begun (image : List ℕ) (at segment calls frames area : ℕ) (cells : ℕ → ℕ) (input : List ℕ) (told : Told) (p : Watched) : Type 0 where
+pub record Begun (image : Image) (at segment calls frames area : ℕ) (cells : ℕ → ℕ) (input : List ℕ) (told : Told) (p : Watched) : Type 0 where
   pub stack : ℕ → ℕ
   pub number : stack 32767 ≡ segment
   pub left : stack 32766 ≡ calls
@@ -41,7 +40,7 @@ pub record Begun (image : List ℕ) (at segment calls frames area : ℕ) (cells 
   pub stacked : Stacked image at 32764 0 area cells stack input told p
 
 -- the same as what the orders begin with
-pub begun_landed : (p : OrderProgram) {image : List ℕ} {at g : ℕ} {cells : ℕ → ℕ} {left : List ℕ} {told : Told} {q : Watched} (to : ℕ) (memory : List ℤ) (input output : List ℕ) → at ≡ to → g < 255 → p.limits.frames ≤ p.limits.area
+pub begun_landed : (p : OrderProgram) {image : Image} {at g : ℕ} {cells : ℕ → ℕ} {left : List ℕ} {told : Told} {q : Watched} (to : ℕ) (memory : List ℤ) (input output : List ℕ) → at ≡ to → g < 255 → p.limits.frames ≤ p.limits.area
     → ((k : ℕ) → k < p.limits.area → cells k ≡ unsigned (word_at memory k)) → length memory ≡ p.limits.area → left ≡ input → told.output ≡ output → told.kind ≡ 0
     → Begun image at (suc g) p.limits.depth p.limits.frames p.limits.area cells left told q
     → Landed p image to g false [] (record { operands = []; memory = memory; input = input; output = output }) q
@@ -76,8 +75,8 @@ begun_landed p {image} {at} {g} {cells} {left} {told} {q} to memory input output
 
 -- the entry of a segment, with a word of the stack where the place of its words goes
 pub enters : Rows
-    → {image : List ℕ} {q : Watched} (p : OrderProgram) (g next_place : ℕ) (value : Filling) (base ax cx dx bx bp si di n : ℕ) (overflow : Bool) (cells stack : ℕ → ℕ) (input : List ℕ) (told : Told)
-    → Stands image → Fills p g next_place value → HasPieces image value base entry_pieces → g < 255 → n < 32768 → p.limits.area ≤ 32768 → p.limits.frames ≤ p.limits.area → p.limits.depth < 65536
+    → {image : Image} {q : Watched} (p : OrderProgram) (g next_place : ℕ) (value : Filling) (base ax cx dx bx bp si di n : ℕ) (overflow : Bool) (cells stack : ℕ → ℕ) (input : List ℕ) (told : Told)
+    → Stands image.bytes → Fills p g next_place value → HasPieces image value base entry_pieces → g < 255 → n < 32768 → p.limits.area ≤ 32768 → p.limits.frames ≤ p.limits.area → p.limits.depth < 65536
     → (sp : ℕ) → sp ≡ 2 * suc n % 65536 → Is image base (view ax cx dx bx sp bp si di overflow cells stack input told) q
     → Leads told.output 11 q (Begun image (base + 11) (suc g) p.limits.depth p.limits.frames p.limits.area cells input told)
 enters rows {image} {q} p g next_place value base ax cx dx bx bp si di n overflow cells stack input told library fills h few lt low within deep sp top s =
@@ -99,8 +98,8 @@ enters rows {image} {q} p g next_place value base ax cx dx bx bp si di n overflo
     let six : base + 3 + 2 + 2 + 2 ≡ base + 3 + 6 = omega arith in
     let few' : suc g < 256 = omega arith in
     more rows {to = start_place} {w = view ax cx dx bx (2 * n) bp si di overflow cells (put_word stack n (base + 3)) input told} s refl (to_place arrives_there (call rows by n (base + 3) lt top behind h.0 s)) (λ q t.
-    lifted rows {n = 10} t.silent
-    (rows.routines.start (quiet_in q.places) image library (quiet_library t.ignores) (base + 3) n p.limits.area p.limits.frames p.limits.depth (suc g) ax cx dx bx bp si di (flags_of q) cells (put_word stack n (base + 3)) input told q.processor
+    lifted rows {n = 10} t.overlooks t.silent
+    (rows.routines.start (quiet_in q.places) image.bytes library (quiet_library t.ignores) (base + 3) n p.limits.area p.limits.frames p.limits.depth (suc g) ax cx dx bx bp si di (flags_of q) cells (put_word stack n (base + 3)) input told q.processor
     lt (put_at stack n (base + 3)) within low few'
     (subst (HasWord image (base + 3)) area h.1.0)
     (subst (HasWord image (base + 3 + 2)) frames h.1.1.0)
@@ -152,9 +151,9 @@ module _ (known : Given) where
         let base = base_of p (g + 1) in
         let to : n ≡ base = st.fills.next_is (here + 3) ∙ all.goes_on g s.orders u s.unit (ap (slice_get p.units) same ∙ is) ∙ ap (base_of p) same in
         let su = all.stands (g + 1) u is in
-        let within = su.entry.0.within in
+        let within = su.entry.0.there.within in
         let fits = r.is.sees.fits in
-        let short : base + 3 ≤ length image = within in
+        let short : base + 3 ≤ length image.bytes = within in
         let below : base ≡ base % 65536 = omega arith in
         let next_state = at (g + 1) u.entry false [] (with_operands w []) Running in
         let goes : step p (at g place false acts w Running) ≡ next_state = step_is known s (Some order.NextBody) e ∙ ap (λ x. end_body p g place false x w) none ∙ ap (λ x. next_body x g place false w) is in
@@ -164,7 +163,7 @@ module _ (known : Given) where
         (further 13 (lit≤ tt) (lit< tt)
         (more rows {to = here + 3} {w = view n r.cx r.dx r.bx (2 * l.top) (record_of acts) r.si p.limits.area r.overflow l.cells l.stack l.input l.told} r.is k.wrote (number rows 0 n i.0 r.is) (λ q t.
         more rows {to = base} {w = view n r.cx r.dx r.bx (2 * l.top) (record_of acts) r.si p.limits.area r.overflow l.cells l.stack l.input l.told} t k.wrote (jump_to rows 0 base (to ∙ below) i.1.0 t) (λ q t.
-        subst (λ x. Leads x 11 q (Matches p image next_state)) k.wrote
+        subst (λ x. Leads x 11 q (Arrives known next_state)) k.wrote
         (leads_on (λ r b. inl (begins goes is b))
         (enters rows p (g + 1) su.next_place su.value base n r.cx r.dx r.bx (record_of acts) r.si p.limits.area (under l.top) r.overflow l.cells l.stack l.input l.told
         all.library su.fills su.entry (few_next u is) (under_low l.top most) low coded.frames coded.depth (2 * l.top) (under_is l.top most) t))))))
@@ -174,14 +173,14 @@ module _ (known : Given) where
 
         begins : {r : Watched} → step p (at g place false acts w Running) ≡ at (g + 1) u.entry false [] (with_operands w []) Running → slice_get p.units (g + 1) ≡ Some u
             → Begun image (base_of p (g + 1) + 11) (suc (g + 1)) p.limits.depth p.limits.frames p.limits.area a.landed.cells a.landed.input a.landed.told r
-            → Sound p image (g + 1) u.entry false [] (with_operands w []) r
+            → Arrived p image (g + 1) u.entry false [] (with_operands w []) r
         begins {r} goes is b =
             let k = a.landed.kept in
             let first : u.entry ≡ 0 = coded.entries (g + 1) u is in
             let place_is : base_of p (g + 1) + 11 ≡ order_place (base_of p (g + 1)) u.list 0 = omega arith in
             let there : base_of p (g + 1) + 11 ≡ order_place (base_of p (g + 1)) u.list u.entry = place_is ∙ ap (order_place (base_of p (g + 1)) u.list) (sym first) in
             let fit = (fits_next known s (at (g + 1) u.entry false [] (with_operands w []) Running) goes).words in
-            record {
+            (record {
               orders = u;
               unit = is;
               from = u.entry;
@@ -204,7 +203,7 @@ module _ (known : Given) where
               fits = fit;
               acts_fit = All-nil ActivationFits;
               never = never_on p (at g place false acts w Running) (at (g + 1) u.entry false [] (with_operands w []) Running) goes s.never;
-            }
+            }, refl)
 
     pub ends_or_not : slice_get s.orders.list place ≡ Some order.NextBody → (others : List OrderActivation) → acts ≡ others → Follow known (at g place false acts w Running) q
     ends_or_not e [] is = ends_body e is (slice_get p.units (g + 1)) refl

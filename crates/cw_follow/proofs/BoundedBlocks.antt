@@ -14,7 +14,7 @@ use Rattle.cw_rows86.specs.Locations.{InRegister}
 use Rattle.cw_rows86.specs.Operations.{Add}
 use Rattle.cw_rows86.specs.Acts.{OperateNumberOnto}
 use Rattle.cw_run86.specs.Processor.{Told}
-use Rattle.cw_run86.specs.Views.{Has, word_sum, word_difference, sum_overflows, product_low, with_number}
+use Rattle.cw_run86.specs.Views.{word_sum, word_difference, sum_overflows, product_low, with_number}
 use Rattle.cw_word.specs.FixedPoint.{FitsWord, fits_word}
 use Rattle.cw_word.specs.Word.{signed, unsigned}
 use Rattle.cw_unit.specs.Stop.{StopKind, AddressRange, IndexRange, Running}
@@ -48,7 +48,7 @@ use Rattle.cw_follow.proofs.Watched.{Watched, watched_step}
 use Rattle.cw_follow.proofs.Chains.{Is, Leads, view, last, done, subtract_number}
 use Rattle.cw_follow.proofs.Acting.{act}
 use Rattle.cw_follow.proofs.Straight.{Number, Product, straight}
-use Rattle.cw_follow.proofs.Standing.{HasPieces, stand_both}
+use Rattle.cw_follow.proofs.Standing.{HasPieces, stand_both, Has}
 use Rattle.cw_follow.proofs.Shifts.{leads_then}
 use Rattle.cw_follow.proofs.Routines.{leads_on}
 use Rattle.cw_follow.proofs.Stacks.{level, record_of}
@@ -203,7 +203,7 @@ module _ (c : Setting) (memory : List ℤ) (input output : List ℕ) (value : Fi
           overflow = sum_overflows word (value 1 family offset (at + 4));
           is = subst (λ b. Is c.image (at + 4) (view b s.cx s.dx s.bx (2 * suc top) (record_of c.acts) si c.program.limits.area (sum_overflows word (value 1 family offset (at + 4))) cells stack left told) (watched_step p))
               (ap (word_sum word) named ∙ sum)
-              (act c.rows (OperateNumberOnto Add (value 1 family offset (at + 4)) (rms.Reg 0) (InRegister 0) word) refl (lit< tt) h.0 (refl, tt, refl) s.is).is;
+              (act c.rows (OperateNumberOnto Add (value 1 family offset (at + 4)) (rms.Reg 0) (InRegister 0) word) (lit< tt) h.0 (refl, tt, refl) s.is).is;
         })
 
   -- the number of an index from the lower bound on, and the address that is formed of it

@@ -8,39 +8,40 @@ use Rattle.cw_i86.specs.declared.instr.Instr.TheVariants as i86
 use Rattle.cw_i86.specs.declared.instr.Imm.TheVariants as imm
 use Rattle.cw_i86.specs.declared.instr.Rm.TheVariants as rms
 use Rattle.cw_run86.specs.Processor.{Told}
-use Rattle.cw_run86.specs.Views.{Has, put_word}
+use Rattle.cw_run86.specs.Views.{put_word}
 use Rattle.cw_word.specs.FixedPoint.{fits_word}
 use Rattle.cw_word.specs.Word.{unsigned}
 use Rattle.cw_unit.specs.Stop.{Overflow}
 use Rattle.cw_unit.specs.Words.{Operand, put_value}
 use Rattle.cw_tmpl.specs.Library.{stop_place}
-use Rattle.cw_routines.specs.Ways.{HasAll, QuietAll, Leads as Goes, Back}
+use Rattle.cw_routines.specs.Ways.{QuietAll, Leads as Goes, Back}
 use Rattle.cw_routines.specs.Results.{Quiet, InLibrary, Fitting, WordRoutine, divisor_test}
 use Rattle.cw_follow.proofs.Watched.{Watched}
 use Rattle.cw_follow.proofs.Rows.{Rows}
 use Rattle.cw_follow.proofs.Chains.{Is, Leads, view, to_place, call, last}
 use Rattle.cw_follow.proofs.Straight.{Act, Number, codes, behind, instruction, straight}
-use Rattle.cw_follow.proofs.Routines.{put_at, quiet_in, quiet_at, quiet_library, flags_of, arrives, returned, lifted}
+use Rattle.cw_follow.proofs.Routines.{put_at, quiet_in, quiet_all, there_all, quiet_library, flags_of, arrives, returned, lifted}
 use Rattle.cw_follow.proofs.Stacks.{level, record_of, same_put, StackIs, stack_same}
 use Rattle.cw_follow.proofs.Orders.{Kept, kept_under, Check, checks, later}
 use Rattle.cw_follow.proofs.Operands.{Setting, words, DoesHere}
 use Rattle.cw_follow.proofs.Facts.{fits_true}
+use Rattle.cw_follow.proofs.Standing.{Has, HasAll, Image}
 
 -- ---- pieces of code
 
 -- these instructions stand one after another from a place, and something more behind them
-abbrev pub Then : (image : List ℕ) → (at : ℕ) → List Instr → (ℕ → Type 0) → Type 0
+abbrev pub Then : (image : Image) → (at : ℕ) → List Instr → (ℕ → Type 0) → Type 0
 Then image at [] T = T at
 Then image at (i ∷ is) T = Has image at i × Then image (at + length (bytes_of i)) is T
 
-pub parts : (image : List ℕ) (at : ℕ) (acts : List Act) (T : ℕ → Type 0) → Then image at (codes acts) T → HasAll image at (codes acts) × T (behind acts at)
+pub parts : (image : Image) (at : ℕ) (acts : List Act) (T : ℕ → Type 0) → Then image at (codes acts) T → HasAll image at (codes acts) × T (behind acts at)
 parts image at [] T h = (tt, h)
 parts image at (a ∷ acts) T h = let r = parts image (at + length (bytes_of (instruction a))) acts T h.1 in ((h.0, r.0), r.1)
 
 -- ---- back from a routine
 
 -- Behind the call, with an answer in AX and the flags; the other registers but SP, BP and DI are of no use.
-pub record Returned (image : List ℕ) (to sp bp area : ℕ) (cells stack : ℕ → ℕ) (input : List ℕ) (told : Told) (Answers : ℕ → Flags → Type 0) (p : Watched) : Type 0 where
+pub record Returned (image : Image) (to sp bp area : ℕ) (cells stack : ℕ → ℕ) (input : List ℕ) (told : Told) (Answers : ℕ → Flags → Type 0) (p : Watched) : Type 0 where
   pub ax : ℕ
   pub cx : ℕ
   pub dx : ℕ
@@ -51,12 +52,12 @@ pub record Returned (image : List ℕ) (to sp bp area : ℕ) (cells stack : ℕ 
   pub answers : Answers ax flags
 
 pub comes_back : Rows
-    → {image : List ℕ} {at n to sp bp area ax cx dx bx top record_at si di : ℕ} {overflow : Bool} {cells stack cells' stack' : ℕ → ℕ} {left left' output : List ℕ} {told told' : Told} {Answers : ℕ → Flags → Type 0} {p : Watched}
+    → {image : Image} {at n to sp bp area ax cx dx bx top record_at si di : ℕ} {overflow : Bool} {cells stack cells' stack' : ℕ → ℕ} {left left' output : List ℕ} {told told' : Told} {Answers : ℕ → Flags → Type 0} {p : Watched}
     → Is image at (view ax cx dx bx top record_at si di overflow cells stack left told) p
-    → Goes (Quiet (quiet_in p.places)) image output n p.processor (Back image to sp bp area cells' stack' left' told' Answers)
+    → Goes (Quiet (quiet_in p.places)) image.bytes output n p.processor (Back image.bytes to sp bp area cells' stack' left' told' Answers)
     → Leads output n p (Returned image to sp bp area cells' stack' left' told' Answers)
 comes_back rows {p = p} s l =
-    lifted rows s.silent l (λ q b. record { ax = b.ax; cx = b.cx; dx = b.dx; bx = b.bx; si = b.si; flags = b.flags; is = returned p s.ignores b.is; answers = b.answers })
+    lifted rows s.overlooks s.silent l (λ q b. record { ax = b.ax; cx = b.cx; dx = b.dx; bx = b.bx; si = b.si; flags = b.flags; is = returned p s.ignores b.is; answers = b.answers })
 
 fitting : (b : Bool) (z : ℤ) (ax : ℕ) (f : Flags) → Fitting b z ax f → f.of ≡ not b
 fitting true z ax f h = h.1
@@ -66,15 +67,14 @@ fitting false z ax f h = h
 
 -- Whether BX is 0: then the way on is behind the jump.
 pub tests_divisor : Rows
-    → {image output : List ℕ} {p : Watched} {at ax cx dx bx sp bp si di : ℕ} {overflow : Bool} {cells stack : ℕ → ℕ} {left : List ℕ} {told : Told} (by : ℕ) → by < 128 → told.output ≡ output
+    → {image : Image} {output : List ℕ} {p : Watched} {at ax cx dx bx sp bp si di : ℕ} {overflow : Bool} {cells stack : ℕ → ℕ} {left : List ℕ} {told : Told} (by : ℕ) → by < 128 → told.output ≡ output
     → HasAll image at (divisor_test by) → Is image at (view ax cx dx bx sp bp si di overflow cells stack left told) p
     → Leads output 2 p (Is image (if bx == 0 then at + 4 else at + 4 + by) (view ax cx dx bx sp bp si di false cells stack left told))
 tests_divisor rows {image} {output} {p} {at} {ax} {cx} {dx} {bx} {sp} {bp} {si} {di} {cells = cells} {stack = stack} {left = left} {told = told} by low wrote i s =
     let to = if bx == 0 then at + 4 else at + 4 + by in
-    let quiet : QuietAll (Quiet (quiet_in p.places)) at (divisor_test by) =
-    (quiet_at p.places at (s.ignores.others at (i86.AluRm 1 true true 3 (rms.Reg 3)) i.0 refl), (quiet_at p.places (at + 2) (s.ignores.others (at + 2) (i86.JumpIf 5 by) i.1.0 refl), tt)) in
+    let quiet : QuietAll (Quiet (quiet_in p.places)) at (divisor_test by) = quiet_all s.ignores at (divisor_test by) i in
     subst (λ o. Leads o 2 p (Is image to (view ax cx dx bx sp bp si di false cells stack left told))) wrote
-    (lifted rows s.silent (rows.routines.divisor (quiet_in p.places) image at by quiet i low ax cx dx bx sp bp si di (flags_of p) cells stack left told p.processor (arrives s))
+    (lifted rows s.overlooks s.silent (rows.routines.divisor (quiet_in p.places) image.bytes at by quiet (there_all image at (divisor_test by) i) low ax cx dx bx sp bp si di (flags_of p) cells stack left told p.processor (arrives s))
     (λ q t. returned p s.ignores t))
 
 -- ---- a routine on two words, and the test of its result
@@ -82,7 +82,7 @@ tests_divisor rows {image} {output} {p} {at} {ax} {cx} {dx} {bx} {sp} {bp} {si} 
 module _ (c : Setting) (memory : List ℤ) (input output : List ℕ) where
   pub by_routine : {p : Watched} {at cx dx si : ℕ} {overflow : Bool} {cells stack : ℕ → ℕ} {left : List ℕ} {told : Told} (to place bound count by stop line n : ℕ) (x y z : ℤ) (rest : List Operand)
       → at + 13 ≡ to → (at + 3 + 3 + by) % 65536 ≡ place % 65536 → (at + 3 + 3 + 2 + 3 + stop) % 65536 ≡ stop_place Overflow % 65536 → line < 65536 → n < level c.acts
-      → ((quiet : ℕ → Bool) → InLibrary quiet → WordRoutine (Quiet quiet) c.image place bound count x y z)
+      → ((quiet : ℕ → Bool) → InLibrary quiet → WordRoutine (Quiet quiet) c.image.bytes place bound count x y z)
       → Then c.image at (i86.MovImm 1 (imm.Word count) ∷ i86.Call by ∷ []) (λ k. Check c.image k stop line)
       → StackIs c.program c.acts stack (suc n) rest → Kept c.program c.g c.acts memory input output cells stack left told
       → Is c.image at (view (unsigned x) cx dx (unsigned y) (2 * suc n) (record_of c.acts) si c.program.limits.area overflow cells stack left told) p

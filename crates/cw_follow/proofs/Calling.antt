@@ -23,17 +23,16 @@ use Rattle.cw_tmpl.specs.Templates.{order_size, distance}
 use Rattle.cw_tmpl.specs.ReferenceCode.{mark_starts, names_of}
 use Rattle.cw_follow.specs.Placing.{base_of, start_in, procedure_place, definition_place}
 use Rattle.cw_tmpl.proofs.Sizes.{own_place, mark_start, jump_arrives}
-use Rattle.cw_routines.specs.Ways.{HasAll}
 use Rattle.cw_follow.proofs.Watched.{Watched}
-use Rattle.cw_follow.proofs.Standing.{order_place}
+use Rattle.cw_follow.proofs.Standing.{order_place, HasAll, HasFrom}
 use Rattle.cw_follow.proofs.Chains.{to_place}
 use Rattle.cw_follow.proofs.Stacks.{record_of, code_place, control_place, OwnerIs}
-use Rattle.cw_follow.proofs.Orders.{Landed, Leading, CalledAt}
-use Rattle.cw_follow.proofs.States.{Given, ComesBack, Sound, has_unit, not_stuck, went_on, stand_below, come_back_below}
+use Rattle.cw_follow.proofs.Orders.{Landed, Leading, CalledAt, LandedAt}
+use Rattle.cw_follow.proofs.States.{Given, ComesBack, Sound, Arrived, has_unit, not_stuck, went_on, stand_below, come_back_below}
 use Rattle.cw_follow.proofs.Calls.{calls}
 use Rattle.cw_follow.proofs.Leaving.{controls, goes_main}
 use Rattle.cw_follow.proofs.Naming.{taken_dropped, both_true, some_same, mark_listed, procedure_is, start_is, begins_there}
-use Rattle.cw_follow.proofs.Steps.{Follow, leads_to, onward, few_segments, step_is, weight_is, fits_next, stands_next, never_next, stuck_here, does, line_fits, start, Alone, code, behind, begins_next}
+use Rattle.cw_follow.proofs.Steps.{Follow, leads_to, onward, few_segments, step_is, weight_is, fits_next, stands_next, never_next, stuck_here, does, line_fits, start, Alone, code, behind, begins_next, FollowFrom, begins_here, begun_here, landed_here}
 
 module _ (known : Given) where
   open known use {rows, p, image, all, coded, few, low}
@@ -45,12 +44,12 @@ module _ (known : Given) where
     -- before another block, of any segment
     pub sound_in : (g' to : ℕ) (m : Bool) (acts' : List OrderActivation) (v : Words) (r : Watched) (o : Orders) → slice_get p.units g' ≡ Some o → left_at 0 o.list to ≡ 0
         → step p S ≡ at g' to m acts' v Running → ActivationsStand p g' acts' → ComesBack p acts'
-        → Landed p image (order_place (base_of p g') o.list to) g' m acts' v r → Sound p image g' to m acts' v r
+        → Landed p image (order_place (base_of p g') o.list to) g' m acts' v r → Arrived p image g' to m acts' v r
     sound_in g' to m acts' v r o unit begins e working comes_back l =
         let t = at g' to m acts' v Running in
         let fit = fits_next known s t e in
         let stands = stands_next known s t e in
-        record {
+        (record {
           orders = o;
           unit = unit;
           from = to;
@@ -73,11 +72,11 @@ module _ (known : Given) where
           working = working;
           comes_back = comes_back;
           never = never_next known s t e;
-        }
+        }, refl)
 
     -- words are put, with room
-    pub puts_with : (o : Order) (m : Bool) (v : Words) (limit : ℕ) → slice_get s.orders.list place ≡ Some o → step p S ≡ after p.room 0 (Changed v) g place m acts w → limit ≤ weight p S
-        → (stack_words v.operands acts ≤ 32000 → Leading w.output limit q (Landed p image (order_place (base_of p g) s.orders.list (place + 1)) g m acts v)) → Follow known S q
+    pub puts_with : {first : Watched} (o : Order) (m : Bool) (v : Words) (limit : ℕ) → slice_get s.orders.list place ≡ Some o → step p S ≡ after p.room 0 (Changed v) g place m acts w → limit ≤ weight p S
+        → (stack_words v.operands acts ≤ 32000 → Leading w.output limit first (Landed p image (order_place (base_of p g) s.orders.list (place + 1)) g m acts v)) → FollowFrom known first S q
     puts_with o m v limit e is paid d =
         let on = went_on p g place loaded m 0 acts w v is s.never in
         let most = coded.room in
@@ -99,12 +98,12 @@ module _ (known : Given) where
     owned = let e : 0 ≡ length acts - length acts = omega arith in ap (λ n. record_of (drop n acts)) e
 
     -- where a label's mark is, without the last activations
-    pub left_for : (to m n : ℕ) (limit : ℕ) → step p S ≡ leave_for (place_of p to m) to n g place false acts w → limit ≤ weight p S
+    pub left_for : {first : Watched} (to m n : ℕ) (limit : ℕ) → step p S ≡ leave_for (place_of p to m) to n g place false acts w → limit ≤ weight p S
         → ((k : ℕ) (o : Orders) → slice_get p.units to ≡ Some o → place_of p to m ≡ Some k → k ≤ length o.list
-        → Leading w.output limit q (Landed p image (order_place (base_of p to) o.list k) to false (drop n acts) (with_operands w []))) → Follow known S q
-    left_for to m n limit e paid d = cases (place_of p to m) refl
+        → Leading w.output limit first (Landed p image (order_place (base_of p to) o.list k) to false (drop n acts) (with_operands w []))) → FollowFrom known first S q
+    left_for {first} to m n limit e paid d = cases (place_of p to m) refl
       where
-        cases : (k : Option ℕ) → place_of p to m ≡ k → Follow known S q
+        cases : (k : Option ℕ) → place_of p to m ≡ k → FollowFrom known first S q
         cases None is = absurd (not_stuck p g place false acts w (never_next known s (at g place false acts w Stuck) (e ∙ ap (λ k. leave_for k to n g place false acts w) is)))
         cases (Some k) is =
             let t = at to k false (drop n acts) (with_operands w []) Running in
@@ -126,11 +125,11 @@ module _ (known : Given) where
     -- ---- calls
 
     -- the processor stands before the Enter of the procedure that an order calls
-    pub calls_procedure : (o : Order) → slice_get s.orders.list place ≡ Some o → (to n line limit : ℕ) → step p F ≡ call p line (Some (ProcedureControl to n)) g place false acts w → limit ≤ weight p F
+    pub calls_procedure : {first : Watched} (o : Order) → slice_get s.orders.list place ≡ Some o → (to n line limit : ℕ) → step p F ≡ call p line (Some (ProcedureControl to n)) g place false acts w → limit ≤ weight p F
         → ((c : OrderActivation) → c.segment ≡ g → c.place ≡ place + 1 → c.line ≡ line → w.operands ≡ c.arguments ++ c.operands → stack_words [] (c ∷ acts) ≤ 32000
-        → Leading w.output limit q (CalledAt p image (procedure_place p to n) c acts w))
-        → Follow known F q
-    calls_procedure order here_is to n line limit e paid d = entry (procedure_at p to n) refl
+        → Leading w.output limit first (CalledAt p image (procedure_place p to n) c acts w))
+        → FollowFrom known first F q
+    calls_procedure {first} order here_is to n line limit e paid d = entry (procedure_at p to n) refl
       where
         back_begins : (o : Orders) → slice_get p.units g ≡ Some o → left_at 0 o.list (place + 1) ≡ 0
         back_begins o unit = let same : s.orders ≡ o = some_same (sym s.unit ∙ unit) in subst (λ x. left_at 0 x.list (place + 1) ≡ 0) same (begins_next known s by_itself order here_is)
@@ -141,12 +140,12 @@ module _ (known : Given) where
         test : ProcedureEntry → Bool
         test x = nat_le x.arguments (length w.operands) && nat_le (stack_words [] (c x ∷ acts)) p.room
 
-        at_place : (x : ProcedureEntry) → procedure_at p to n ≡ Some x → (b : Bool) (k : Option ℕ) → test x ≡ b → place_of p to x.mark ≡ k → Follow known F q
+        at_place : (x : ProcedureEntry) → procedure_at p to n ≡ Some x → (b : Bool) (k : Option ℕ) → test x ≡ b → place_of p to x.mark ≡ k → FollowFrom known first F q
         at_place x is b k eb ek =
             cases b k eb ek
             (e ∙ ap (λ y. call_entry p line y to g place false acts w) is ∙ ap (λ y. call_at y (place_of p to x.mark) to (c x) g place false acts w) eb ∙ ap (λ y. call_at b y to (c x) g place false acts w) ek)
           where
-            cases : (b : Bool) (k : Option ℕ) → test x ≡ b → place_of p to x.mark ≡ k → step p F ≡ call_at b k to (c x) g place false acts w → Follow known F q
+            cases : (b : Bool) (k : Option ℕ) → test x ≡ b → place_of p to x.mark ≡ k → step p F ≡ call_at b k to (c x) g place false acts w → FollowFrom known first F q
             cases true None eb ek goes = absurd (stuck_here known s goes)
             cases false None eb ek goes = absurd (stuck_here known s goes)
             cases false (Some k) eb ek goes = absurd (stuck_here known s goes)
@@ -194,14 +193,14 @@ module _ (known : Given) where
                 beginning_of : StateStands p (at to k false (c x ∷ acts) (with_operands w []) Running) → Beginning p to k (c x) acts []
                 beginning_of h = ⊎_elim (λ (a : ActivationsStand p to (c x ∷ acts)). absurd (false≢true a.0)) (λ (b : Beginning p to k (c x) acts []). b) h.last
 
-        entry : (x : Option ProcedureEntry) → procedure_at p to n ≡ x → Follow known F q
+        entry : (x : Option ProcedureEntry) → procedure_at p to n ≡ x → FollowFrom known first F q
         entry None is = absurd (stuck_here known s (e ∙ ap (λ y. call_entry p line y to g place false acts w) is))
         entry (Some x) is = at_place x is (test x) (place_of p to x.mark) refl refl
 
-    pub landed_as : (c : OrderActivation) → c.segment ≡ g → Landed p image (order_place (base_of p g) s.orders.list place) c.segment false acts w q
-    landed_as c eg = subst (λ m. Landed p image here m false acts w q) (sym eg) by_itself.landed
+    pub landed_as : (c : OrderActivation) → c.segment ≡ g → LandedAt (begins_here known s) p image (order_place (base_of p g) s.orders.list place) c.segment false acts w (begun_here known s)
+    landed_as c eg = subst (λ m. LandedAt (begins_here known s) p image here m false acts w (begun_here known s)) (sym eg) (landed_here known s by_itself)
 
-    pub calls_own : (n line : ℕ) → slice_get s.orders.list place ≡ Some (order.CallProc n line) → Follow known F q
+    pub calls_own : (n line : ℕ) → slice_get s.orders.list place ≡ Some (order.CallProc n line) → FollowFrom known (begun_here known s) F q
     calls_own n line e =
         let o = order.CallProc n line in
         let own = own_place s.orders.list place in
@@ -212,13 +211,13 @@ module _ (known : Given) where
         calls_procedure o e g n line 2 (step_is known s (Some o) e) (let x = weight_is known s o e in let y : 2 ≤ weight p F = omega arith in y) (λ c eg ep el same room.
         calls rows p image (procedure_place p g n) by line c acts w el (line_fits known s o e) room same arrives_there (back_is s by_itself c 6 o e refl eg ep) (code known s by_itself o e) (landed_as c eg))
 
-    pub calls_common : (d line : ℕ) → slice_get s.orders.list place ≡ Some (order.CallCommon d line) → (x : Option (ℕ × Def)) → defined_at p g d ≡ x → Follow known F q
+    pub calls_common : (d line : ℕ) → slice_get s.orders.list place ≡ Some (order.CallCommon d line) → (x : Option (ℕ × Def)) → defined_at p g d ≡ x → FollowFrom known (begun_here known s) F q
     calls_common d line e x is = cases x is
       where
         stepped : (x : Option (ℕ × Def)) → defined_at p g d ≡ x → step p F ≡ call p line (as_procedure (procedure_of_def x)) g place false acts w
         stepped x is = step_is known s (Some (order.CallCommon d line)) e ∙ ap (λ x. call p line (as_procedure (procedure_of_def x)) g place false acts w) is
 
-        cases : (x : Option (ℕ × Def)) → defined_at p g d ≡ x → Follow known F q
+        cases : (x : Option (ℕ × Def)) → defined_at p g d ≡ x → FollowFrom known (begun_here known s) F q
         cases (Some (to, def.Proc n)) is =
             let o = order.CallCommon d line in
             let by = (all.stands g s.orders s.unit).value 5 d 0 (here + 3 + 3) in
@@ -233,8 +232,8 @@ module _ (known : Given) where
 
     -- ---- control arguments
 
-    pub holds_control : (o : Order) → slice_get s.orders.list place ≡ Some o → (c : Control) (limit : ℕ) → step p F ≡ after p.room 0 (held (Some c) w) g place false acts w → limit ≤ weight p F
-        → (stack_words (Held c ∷ w.operands) acts ≤ 32000 → Leading w.output limit q (Landed p image (order_place (base_of p g) s.orders.list (place + 1)) g false acts (with_operands w (Held c ∷ w.operands)))) → Follow known F q
+    pub holds_control : {first : Watched} (o : Order) → slice_get s.orders.list place ≡ Some o → (c : Control) (limit : ℕ) → step p F ≡ after p.room 0 (held (Some c) w) g place false acts w → limit ≤ weight p F
+        → (stack_words (Held c ∷ w.operands) acts ≤ 32000 → Leading w.output limit first (Landed p image (order_place (base_of p g) s.orders.list (place + 1)) g false acts (with_operands w (Held c ∷ w.operands)))) → FollowFrom known first F q
     holds_control o here_is c limit e paid d = puts_with s by_itself o false (with_operands w (Held c ∷ w.operands)) limit here_is e paid d
 
     -- a place in the code of the segment
@@ -247,65 +246,65 @@ module _ (known : Given) where
     pub controls_own : (c : Control) (o : Order) (f : Orders → ℕ) → slice_get s.orders.list place ≡ Some o
         → carry_out p (Some o) g place false acts w ≡ after p.room 0 (held (Some c) w) g place false acts w → 3 ≤ weight_of o → order_size o ≡ 5
         → start_in p g (slice_get p.units g) f ≡ control_place p c → OwnerIs p acts c (record_of acts)
-        → HasAll image (order_place (base_of p g) s.orders.list place)
-        (i86.Push 5 ∷ i86.MovImm 0 (imm.Word ((all.stands g s.orders s.unit).value 3 0 (f s.orders % 65536) (order_place (base_of p g) s.orders.list place + 1 + 3))) ∷ i86.Push 0 ∷ []) → Follow known F q
+        → HasFrom (begins_here known s) image (order_place (base_of p g) s.orders.list place)
+        (i86.Push 5 ∷ i86.MovImm 0 (imm.Word ((all.stands g s.orders s.unit).value 3 0 (f s.orders % 65536) (order_place (base_of p g) s.orders.list place + 1 + 3))) ∷ i86.Push 0 ∷ []) → FollowFrom known (begun_here known s) F q
     controls_own c o f e acts_as cheap size there owner i =
         let paid = weight_is known s o e in
         let next = behind known s by_itself o e in
         let end : here + 5 ≡ order_place (base_of p g) s.orders.list (place + 1) = omega arith in
         holds_control o e c 3 (step_is known s (Some o) e ∙ acts_as) (let x : 3 ≤ weight p F = omega arith in x) (λ room.
-        controls rows p image g (order_place (base_of p g) s.orders.list (place + 1)) ((all.stands g s.orders s.unit).value 3 0 (f s.orders % 65536) (here + 1 + 3)) acts c w room end (own_filled f (here + 1 + 3) ∙ there) owner i by_itself.landed)
+        controls rows p image g (order_place (base_of p g) s.orders.list (place + 1)) ((all.stands g s.orders s.unit).value 3 0 (f s.orders % 65536) (here + 1 + 3)) acts c w room end (own_filled f (here + 1 + 3) ∙ there) owner i (landed_here known s by_itself))
 
     controls_common : (c : Control) (o : Order) (d : ℕ) → slice_get s.orders.list place ≡ Some o → carry_out p (Some o) g place false acts w ≡ after p.room 0 (held (Some c) w) g place false acts w
         → 3 ≤ weight_of o → order_size o ≡ 5
         → definition_place p (defined_at p g d) ≡ control_place p c → OwnerIs p acts c (record_of acts)
-        → HasAll image (order_place (base_of p g) s.orders.list place)
-        (i86.Push 5 ∷ i86.MovImm 0 (imm.Word ((all.stands g s.orders s.unit).value 4 d 0 (order_place (base_of p g) s.orders.list place + 1 + 3))) ∷ i86.Push 0 ∷ []) → Follow known F q
+        → HasFrom (begins_here known s) image (order_place (base_of p g) s.orders.list place)
+        (i86.Push 5 ∷ i86.MovImm 0 (imm.Word ((all.stands g s.orders s.unit).value 4 d 0 (order_place (base_of p g) s.orders.list place + 1 + 3))) ∷ i86.Push 0 ∷ []) → FollowFrom known (begun_here known s) F q
     controls_common c o d e acts_as cheap size there owner i =
         let paid = weight_is known s o e in
         let next = behind known s by_itself o e in
         let end : here + 5 ≡ order_place (base_of p g) s.orders.list (place + 1) = omega arith in
         let filled = (all.stands g s.orders s.unit).fills.definitions d (here + 1 + 3) in
         holds_control o e c 3 (step_is known s (Some o) e ∙ acts_as) (let x : 3 ≤ weight p F = omega arith in x) (λ room.
-        controls rows p image g (order_place (base_of p g) s.orders.list (place + 1)) ((all.stands g s.orders s.unit).value 4 d 0 (here + 1 + 3)) acts c w room end (filled ∙ there) owner i by_itself.landed)
+        controls rows p image g (order_place (base_of p g) s.orders.list (place + 1)) ((all.stands g s.orders s.unit).value 4 d 0 (here + 1 + 3)) acts c w room end (filled ∙ there) owner i (landed_here known s by_itself))
 
     -- what is not defined, or of another sort
-    pub labels_common : (d : ℕ) → slice_get s.orders.list place ≡ Some (order.LabelCommon d) → (x : Option (ℕ × Def)) → defined_at p g d ≡ x → Follow known F q
+    pub labels_common : (d : ℕ) → slice_get s.orders.list place ≡ Some (order.LabelCommon d) → (x : Option (ℕ × Def)) → defined_at p g d ≡ x → FollowFrom known (begun_here known s) F q
     labels_common d e x is = cases x is
       where
         held_as : (x : Option (ℕ × Def)) → defined_at p g d ≡ x
             → carry_out p (Some (order.LabelCommon d)) g place false acts w ≡ after p.room 0 (unrefused (held (with_label_owner (length acts) (label_of_def x)) w)) g place false acts w
         held_as x is = ap (λ x. after p.room 0 (unrefused (held (with_label_owner (length acts) (label_of_def x)) w)) g place false acts w) is
 
-        cases : (x : Option (ℕ × Def)) → defined_at p g d ≡ x → Follow known F q
+        cases : (x : Option (ℕ × Def)) → defined_at p g d ≡ x → FollowFrom known (begun_here known s) F q
         cases (Some (to, def.Label l)) is =
             controls_common (LabelControl to l (length acts)) (order.LabelCommon d) d e (held_as (Some (to, def.Label l)) is) (lit≤ tt) refl (ap (definition_place p) is) (owned s by_itself) (code known s by_itself (order.LabelCommon d) e)
         cases (Some (to, def.Proc n)) is = absurd (stuck_here known s (step_is known s (Some (order.LabelCommon d)) e ∙ held_as (Some (to, def.Proc n)) is))
         cases (Some (to, def.Switch n)) is = absurd (stuck_here known s (step_is known s (Some (order.LabelCommon d)) e ∙ held_as (Some (to, def.Switch n)) is))
         cases None is = absurd (stuck_here known s (step_is known s (Some (order.LabelCommon d)) e ∙ held_as None is))
 
-    pub switches_common : (d : ℕ) → slice_get s.orders.list place ≡ Some (order.SwitchCommon d) → (x : Option (ℕ × Def)) → defined_at p g d ≡ x → Follow known F q
+    pub switches_common : (d : ℕ) → slice_get s.orders.list place ≡ Some (order.SwitchCommon d) → (x : Option (ℕ × Def)) → defined_at p g d ≡ x → FollowFrom known (begun_here known s) F q
     switches_common d e x is = cases x is
       where
         held_as : (x : Option (ℕ × Def)) → defined_at p g d ≡ x
             → carry_out p (Some (order.SwitchCommon d)) g place false acts w ≡ after p.room 0 (unrefused (held (with_switch_owner (length acts) (switch_of_def x)) w)) g place false acts w
         held_as x is = ap (λ x. after p.room 0 (unrefused (held (with_switch_owner (length acts) (switch_of_def x)) w)) g place false acts w) is
 
-        cases : (x : Option (ℕ × Def)) → defined_at p g d ≡ x → Follow known F q
+        cases : (x : Option (ℕ × Def)) → defined_at p g d ≡ x → FollowFrom known (begun_here known s) F q
         cases (Some (to, def.Switch n)) is =
             controls_common (SwitchControl to n (length acts)) (order.SwitchCommon d) d e (held_as (Some (to, def.Switch n)) is) (lit≤ tt) refl (ap (definition_place p) is) (owned s by_itself) (code known s by_itself (order.SwitchCommon d) e)
         cases (Some (to, def.Proc n)) is = absurd (stuck_here known s (step_is known s (Some (order.SwitchCommon d)) e ∙ held_as (Some (to, def.Proc n)) is))
         cases (Some (to, def.Label l)) is = absurd (stuck_here known s (step_is known s (Some (order.SwitchCommon d)) e ∙ held_as (Some (to, def.Label l)) is))
         cases None is = absurd (stuck_here known s (step_is known s (Some (order.SwitchCommon d)) e ∙ held_as None is))
 
-    pub procedures_common : (d : ℕ) → slice_get s.orders.list place ≡ Some (order.ProcCommon d) → (x : Option (ℕ × Def)) → defined_at p g d ≡ x → Follow known F q
+    pub procedures_common : (d : ℕ) → slice_get s.orders.list place ≡ Some (order.ProcCommon d) → (x : Option (ℕ × Def)) → defined_at p g d ≡ x → FollowFrom known (begun_here known s) F q
     procedures_common d e x is = cases x is
       where
         held_as : (x : Option (ℕ × Def)) → defined_at p g d ≡ x
             → carry_out p (Some (order.ProcCommon d)) g place false acts w ≡ after p.room 0 (unrefused (held (as_procedure (procedure_of_def x)) w)) g place false acts w
         held_as x is = ap (λ x. after p.room 0 (unrefused (held (as_procedure (procedure_of_def x)) w)) g place false acts w) is
 
-        cases : (x : Option (ℕ × Def)) → defined_at p g d ≡ x → Follow known F q
+        cases : (x : Option (ℕ × Def)) → defined_at p g d ≡ x → FollowFrom known (begun_here known s) F q
         cases (Some (to, def.Proc n)) is =
             controls_common (ProcedureControl to n) (order.ProcCommon d) d e (held_as (Some (to, def.Proc n)) is) (lit≤ tt) refl (ap (definition_place p) is) tt (code known s by_itself (order.ProcCommon d) e)
         cases (Some (to, def.Switch n)) is = absurd (stuck_here known s (step_is known s (Some (order.ProcCommon d)) e ∙ held_as (Some (to, def.Switch n)) is))
@@ -314,7 +313,7 @@ module _ (known : Given) where
 
     -- ---- jumps to the body of the segment
 
-    pub goes_to_main : (m : ℕ) → slice_get s.orders.list place ≡ Some (order.GoMain m) → Follow known F q
+    pub goes_to_main : (m : ℕ) → slice_get s.orders.list place ≡ Some (order.GoMain m) → FollowFrom known (begun_here known s) F q
     goes_to_main m e =
         let own = own_place s.orders.list place in
         let by = distance (own + 15) (mark_starts s.orders m) in
@@ -326,6 +325,6 @@ module _ (known : Given) where
         let same : o ≡ s.orders = some_same (sym unit ∙ s.unit) in
         let within' : k ≤ length s.orders.list = subst (λ x. k ≤ length x.list) same within in
         let at_mark : start known s m ≡ order_place (base_of p g) s.orders.list k = ap (λ n. base_of p g + n) (mark_start s.orders m k (mark_listed known g m k s.orders s.unit there) within') in
-        subst (λ x. Leading w.output 16 q (Landed p image (order_place (base_of p g) x.list k) g false (drop (length acts) acts) (with_operands w []))) (sym same)
-        (subst (λ a. Leading w.output 16 q (Landed p image a g false (drop (length acts) acts) (with_operands w []))) at_mark
-        (goes_main rows p image g (start known s m) by segment acts w is_number few_here (jump_arrives (base_of p g) own 15 (mark_starts s.orders m)) (code known s by_itself (order.GoMain m) e) by_itself.landed)))
+        subst (λ x. Leading w.output 16 (begun_here known s) (Landed p image (order_place (base_of p g) x.list k) g false (drop (length acts) acts) (with_operands w []))) (sym same)
+        (subst (λ a. Leading w.output 16 (begun_here known s) (Landed p image a g false (drop (length acts) acts) (with_operands w []))) at_mark
+        (goes_main rows p image g (start known s m) by segment acts w is_number few_here (jump_arrives (base_of p g) own 15 (mark_starts s.orders m)) (code known s by_itself (order.GoMain m) e) (landed_here known s by_itself))))

@@ -6,22 +6,21 @@ use Rattle.cw_track.proofs.Paths.{join}
 use Rattle.cw_i86.specs.declared.instr.Instr.TheVariants as i86
 use Rattle.cw_i86.specs.declared.instr.Imm.TheVariants as imm
 use Rattle.cw_run86.specs.Processor.{Processor, Told}
-use Rattle.cw_run86.specs.Views.{Has, put_word}
+use Rattle.cw_run86.specs.Views.{put_word}
 use Rattle.cw_unit.specs.Stop.{FramesFull, DepthReached, Stopped}
 use Rattle.cw_unit.specs.Words.{Words}
 use Rattle.cw_order.specs.OrderProgram.{OrderProgram}
 use Rattle.cw_order.specs.OrderState.{OrderActivation, operand_words, stack_words, frame_end}
 use Rattle.cw_tmpl.specs.Library.{enter_place}
-use Rattle.cw_routines.specs.Ways.{HasAll, HasWord}
 use Rattle.cw_routines.specs.Results as results
 use Rattle.cw_routines.specs.Results.{Begins}
-use Rattle.cw_follow.specs.Passing.{Ignores}
 use Rattle.cw_follow.proofs.Watched.{Watched, watched_machine, fresh}
 use Rattle.cw_follow.proofs.Rows.{Rows}
-use Rattle.cw_follow.proofs.Chains.{Is, Leads, view, seen, to_place, number, call, more, last}
+use Rattle.cw_follow.proofs.Chains.{Is, Leads, view, seen, to_place, number, call, more, last, IsAt}
 use Rattle.cw_follow.proofs.Routines.{Over, quiet_in, quiet_library, flags_of, arrives, returned, lifted, over, put_at}
 use Rattle.cw_follow.proofs.Stacks.{level, record_of, code_place, base_word, words_behind, StackIs, Piled, words_split, words_append, top_is, SameFrom, same_put, same_above, stack_same, piled_same}
-use Rattle.cw_follow.proofs.Orders.{Kept, kept_under, kept_same, Landed, Leading, CalledAt, further}
+use Rattle.cw_follow.proofs.Orders.{Kept, kept_under, kept_same, Landed, Leading, CalledAt, further, LandedAt}
+use Rattle.cw_follow.proofs.Standing.{Has, HasAll, HasWord, Image, Ignores, HasFrom}
 
 -- no more than so many instructions
 pub record Few (output : List ℕ) (limit : ℕ) (p : Watched) (Target : Watched → Type 0) : Type 0 where
@@ -49,14 +48,14 @@ left_tests n depth = grind (arith, nat_tests)
 frame_tests : (base size area : ℕ) → base ≤ area → nat_le size (area - base) ≡ nat_le (base + size) area
 frame_tests base size area le = grind (arith, nat_tests)
 
-module _ (rows : Rows) (prog : OrderProgram) (image : List ℕ) where
+module _ (rows : Rows) (prog : OrderProgram) (image : Image) where
   -- ---- the call
 
-  calls_from : {q : Watched} {at ax cx dx bx si : ℕ} {overflow : Bool} {cells stack : ℕ → ℕ} {left : List ℕ} {told : Told} (to by line n : ℕ) (a : OrderActivation) (acts : List OrderActivation) (w : Words)
+  calls_from : {q : Watched} {first : Bool} {at ax cx dx bx si : ℕ} {overflow : Bool} {cells stack : ℕ → ℕ} {left : List ℕ} {told : Told} (to by line n : ℕ) (a : OrderActivation) (acts : List OrderActivation) (w : Words)
       → a.line ≡ line → line < 65536 → (at + 6 + by) % 65536 ≡ to % 65536 → (at + 6) % 65536 ≡ code_place prog a.segment a.place → StackIs prog acts stack (suc n) (a.arguments ++ a.operands)
-      → Kept prog a.segment acts w.memory w.input w.output cells stack left told → HasAll image at (i86.MovImm 2 (imm.Word line) ∷ i86.Call by ∷ [])
-      → Is image at (view ax cx dx bx (2 * suc n) (record_of acts) si prog.limits.area overflow cells stack left told) q → Leads w.output 2 q (CalledAt prog image to a acts w)
-  calls_from {q} {at} {ax} {cx} {dx} {bx} {si} {overflow} {cells} {stack} {left} {told} to by line n a acts w line_is fits arrives_at back h k i s =
+      → Kept prog a.segment acts w.memory w.input w.output cells stack left told → HasFrom first image at (i86.MovImm 2 (imm.Word line) ∷ i86.Call by ∷ [])
+      → IsAt first image at (view ax cx dx bx (2 * suc n) (record_of acts) si prog.limits.area overflow cells stack left told) q → Leads w.output 2 q (CalledAt prog image to a acts w)
+  calls_from {q} {first} {at} {ax} {cx} {dx} {bx} {si} {overflow} {cells} {stack} {left} {told} to by line n a acts w line_is fits arrives_at back h k i s =
       let xs = a.arguments ++ a.operands in
       let t = top_is prog acts stack (suc n) xs h in
       let place = code_place prog a.segment a.place in
@@ -84,12 +83,12 @@ module _ (rows : Rows) (prog : OrderProgram) (image : List ℕ) where
         kept = kept_under n place (omega arith) k;
       }))
 
-  pub calls : {q : Watched} {at : ℕ} (to by line : ℕ) (a : OrderActivation) (acts : List OrderActivation) (w : Words) → a.line ≡ line → line < 65536 → stack_words [] (a ∷ acts) ≤ 32000
+  pub calls : {q : Watched} {first : Bool} {at : ℕ} (to by line : ℕ) (a : OrderActivation) (acts : List OrderActivation) (w : Words) → a.line ≡ line → line < 65536 → stack_words [] (a ∷ acts) ≤ 32000
       → w.operands ≡ a.arguments ++ a.operands
-      → (at + 6 + by) % 65536 ≡ to % 65536 → (at + 6) % 65536 ≡ code_place prog a.segment a.place → HasAll image at (i86.MovImm 2 (imm.Word line) ∷ i86.Call by ∷ [])
-      → Landed prog image at a.segment false acts w q
+      → (at + 6 + by) % 65536 ≡ to % 65536 → (at + 6) % 65536 ≡ code_place prog a.segment a.place → HasFrom first image at (i86.MovImm 2 (imm.Word line) ∷ i86.Call by ∷ [])
+      → LandedAt first prog image at a.segment false acts w q
       → Leading w.output 2 q (CalledAt prog image to a acts w)
-  calls {q} {at} to by line a acts w line_is fits room same arrives_at back i l = from l.top refl
+  calls {q} {first} {at} to by line a acts w line_is fits room same arrives_at back i l = from l.top refl
     where
       from : (top : ℕ) → l.top ≡ top → Leading w.output 2 q (CalledAt prog image to a acts w)
       from zero e =
@@ -103,7 +102,7 @@ module _ (rows : Rows) (prog : OrderProgram) (image : List ℕ) where
           let h = subst (λ m. StackIs prog acts l.stack m (a.arguments ++ a.operands)) e (subst (StackIs prog acts l.stack l.top) same l.operands) in
           further 2 (lit≤ tt) (lit< tt)
           (calls_from to by line n a acts w line_is fits arrives_at back h l.kept i
-          (subst (λ m. Is image at (view s.ax s.cx s.dx s.bx (2 * m) (record_of acts) s.si prog.limits.area s.overflow l.cells l.stack l.input l.told) q) e s.is))
+          (subst (λ m. IsAt first image at (view s.ax s.cx s.dx s.bx (2 * m) (record_of acts) s.si prog.limits.area s.overflow l.cells l.stack l.input l.told) q) e s.is))
 
   -- ---- the beginning of an activation
 
@@ -122,7 +121,7 @@ module _ (rows : Rows) (prog : OrderProgram) (image : List ℕ) where
       entered : {q : Processor} {cells before : ℕ → ℕ} {input : List ℕ} {told : Told} (u : Watched) (at to : ℕ) → at % 65536 ≡ to % 65536 → Ignores image u.places
           → before (level (begun ∷ acts) + 5) ≡ code_place prog a.segment a.place → StackIs prog acts before (level (begun ∷ acts) + 6) (a.arguments ++ a.operands)
           → Kept prog a.segment acts w.memory w.input w.output cells before input told
-          → results.Entered image at (level (begun ∷ acts)) (record_of acts) (g + 1) (prog.limits.depth - length acts - 1) (2 * (prog.limits.area - words_behind prog acts) % 65536) (words_behind prog acts - size) prog.limits.area cells before input told q
+          → results.Entered image.bytes at (level (begun ∷ acts)) (record_of acts) (g + 1) (prog.limits.depth - length acts - 1) (2 * (prog.limits.area - words_behind prog acts) % 65536) (words_behind prog acts - size) prog.limits.area cells before input told q
           → Landed prog image to g false (begun ∷ acts) w (fresh u.places u.area q)
       entered {q} {cells} {before} {input} {told} u at to there ignores back h k e =
           let r = level (begun ∷ acts) in
@@ -179,13 +178,13 @@ module _ (rows : Rows) (prog : OrderProgram) (image : List ℕ) where
       -- one of the three ends of the routine
       ends : {q : Processor} (T : Processor → Type 0) (u : Watched) (deeper fits : Bool) (to : ℕ) (output : List ℕ) → output ≡ w.output
           → (T q → Landed prog image to g false (begun ∷ acts) w (fresh u.places u.area q))
-          → Begins image output deeper fits a.line (a.segment + 1) T q → EntersTo deeper fits to (fresh u.places u.area q)
+          → Begins image.bytes output deeper fits a.line (a.segment + 1) T q → EntersTo deeper fits to (fresh u.places u.area q)
       ends {q} T u false fits to output e begins d = subst (λ o. Over (record { output = o; end = Stopped DepthReached (a.segment + 1) a.line }) (fresh u.places u.area q)) e (over u d)
       ends {q} T u true false to output e begins d = subst (λ o. Over (record { output = o; end = Stopped FramesFull (a.segment + 1) a.line }) (fresh u.places u.area q)) e (over u d)
       ends T u true true to output e begins d = begins d
 
       -- the routine, with the place of its words on the stack
-      routine : {u : Watched} {cells stack : ℕ → ℕ} {input : List ℕ} {told : Told} (at to ax cx bx si : ℕ) (overflow : Bool) → results.Stands image → prog.limits.area ≤ 32768
+      routine : {u : Watched} {cells stack : ℕ → ℕ} {input : List ℕ} {told : Told} (at to ax cx bx si : ℕ) (overflow : Bool) → results.Stands image.bytes → prog.limits.area ≤ 32768
           → size < 65536 → prog.limits.depth < 65536 → a.line < 65536
           → stack (level (begun ∷ acts) + 4) ≡ at → HasWord image at size → HasWord image (at + 2) (g + 1) → (at + 4) % 65536 ≡ to % 65536
           → stack (level (begun ∷ acts) + 5) ≡ code_place prog a.segment a.place → StackIs prog acts stack (level (begun ∷ acts) + 6) (a.arguments ++ a.operands)
@@ -210,22 +209,22 @@ module _ (rows : Rows) (prog : OrderProgram) (image : List ℕ) where
             rest_is = k.piled.0.rest_is;
           } in
           let fit_is : nat_le size rest ≡ nat_le (a.frame_base + size) area = ap (λ n. nat_le size (area - n)) (sym base_is) ∙ frame_tests a.frame_base size area base_low in
-          let law = rows.routines.enter (quiet_in u.places) image library (quiet_library s.ignores) r at a.line l (a.segment + 1) calls_left (base_word prog acts) rest
+          let law = rows.routines.enter (quiet_in u.places) image.bytes library (quiet_library s.ignores) r at a.line l (a.segment + 1) calls_left (base_word prog acts) rest
           (g + 1) size ax cx bx bp si area (flags_of u) cells stack input told u.processor
           (omega arith) at_is size_there number_there line_small (omega arith) (omega arith) small (omega arith) low caller (arrives s) in
           record {
             spent = law.spent;
             within = law.within;
             leads = subst (λ o. Leads o law.spent u (EntersTo (nat_lt (length acts) prog.limits.depth) (nat_le (a.frame_base + size) area) to)) k.wrote
-                (lifted rows {n = law.spent} {U = EntersTo (nat_lt (length acts) prog.limits.depth) (nat_le (a.frame_base + size) area) to} s.silent law.leads (λ t d.
+                (lifted rows {n = law.spent} {U = EntersTo (nat_lt (length acts) prog.limits.depth) (nat_le (a.frame_base + size) area) to} s.overlooks s.silent law.leads (λ t d.
                 subst (λ b. EntersTo b (nat_le (a.frame_base + size) area) to (fresh u.places u.area t)) (left_tests (length acts) prog.limits.depth)
                 (subst (λ b. EntersTo (nat_lt 0 calls_left) b to (fresh u.places u.area t)) fit_is
-                (ends (results.Entered image (at + 4) r bp (g + 1) (calls_left - 1) (2 * (area - rest) % 65536) (rest - size) area cells stack input told) u (nat_lt 0 calls_left) (nat_le size rest) to told.output k.wrote
+                (ends (results.Entered image.bytes (at + 4) r bp (g + 1) (calls_left - 1) (2 * (area - rest) % 65536) (rest - size) area cells stack input told) u (nat_lt 0 calls_left) (nat_le size rest) to told.output k.wrote
                 (entered u (at + 4) to there s.ignores return h k) d))));
           }
 
       -- the code of Enter, in the called procedure
-      pub begins : {q : Watched} (at by segment : ℕ) → results.Stands image → prog.limits.area ≤ 32768 → size < 65536 → prog.limits.depth < 65536 → segment ≡ g + 1
+      pub begins : {q : Watched} (at by segment : ℕ) → results.Stands image.bytes → prog.limits.area ≤ 32768 → size < 65536 → prog.limits.depth < 65536 → segment ≡ g + 1
           → (at + 3 + by) % 65536 ≡ enter_place % 65536
           → Has image at (i86.Call by) → HasWord image (at + 3) size → HasWord image (at + 3 + 2) segment → CalledAt prog image at a acts w q
           → Leading w.output 19 q (EntersTo (nat_lt (length acts) prog.limits.depth) (nat_le (a.frame_base + size) prog.limits.area) (at + 7))

@@ -8,7 +8,6 @@ use Rattle.cw_i86.specs.declared.instr.Instr.TheVariants as i86
 use Rattle.cw_i86.specs.declared.instr.Imm.TheVariants as imm
 use Rattle.cw_i86.specs.declared.instr.Rm.TheVariants as rms
 use Rattle.cw_follow.proofs.Watched.{Watched}
-use Rattle.cw_run86.specs.Views.{Has}
 use Rattle.cw_word.specs.FixedPoint.{FitsWord, scaled_quotient}
 use Rattle.cw_word.specs.Word.{signed, unsigned}
 use Rattle.cw_unit.specs.Stop.{Overflow, ZeroDivisor}
@@ -16,7 +15,6 @@ use Rattle.cw_unit.specs.Words.{Operand, Words, Changed, put, put_if, put_value}
 use Rattle.cw_unit.specs.Operation.{Divide, divide, perform}
 use Rattle.cw_order.specs.FittingWords.{OperandFits}
 use Rattle.cw_tmpl.specs.Library.{stop_place, quotient_up_place, quotient_down_place}
-use Rattle.cw_routines.specs.Ways.{HasAll, HasWord}
 use Rattle.cw_routines.specs.Results.{Quiet, InLibrary, WordRoutine}
 use Rattle.cw_follow.proofs.Chains.{Is, Leads, view, seen, divided, last}
 use Rattle.cw_follow.proofs.Straight.{Move, Pop, Number, Sign, straight}
@@ -27,6 +25,7 @@ use Rattle.cw_follow.proofs.Orders.{Check, later, further, further_on}
 use Rattle.cw_order.specs.OrderState.{operand_words}
 use Rattle.cw_follow.proofs.Operands.{Setting, words, One, Two, LandedWith, DoesHere, taking_one, taking_two, result, calls_stop}
 use Rattle.cw_follow.proofs.Called.{Then, parts, tests_divisor, by_routine}
+use Rattle.cw_follow.proofs.Standing.{Has, HasAll, HasWord}
 
 module _ (c : Setting) (memory : List ℤ) (input output : List ℕ) where
   -- the word of a number other than 0
@@ -50,7 +49,7 @@ module _ (c : Setting) (memory : List ℤ) (input output : List ℕ) where
   divides : {p : Watched} {at : ℕ} (to place bound count none by stop line : ℕ) (s : ℤ) (operands : List Operand) → line < 65536 → at + 25 ≡ to
       → (at + 2 + 1 + 2 + 2 + 3 + none) % 65536 ≡ stop_place ZeroDivisor % 65536 → (at + 2 + 1 + 2 + 2 + 3 + 2 + 3 + 3 + by) % 65536 ≡ place % 65536
       → (at + 2 + 1 + 2 + 2 + 3 + 2 + 3 + 3 + 2 + 3 + stop) % 65536 ≡ stop_place Overflow % 65536
-      → ((x y : ℤ) → FitsWord x → FitsWord y → y ≢ pos 0 → (quiet : ℕ → Bool) → InLibrary quiet → WordRoutine (Quiet quiet) c.image place bound count x y (scaled_quotient x y s))
+      → ((x y : ℤ) → FitsWord x → FitsWord y → y ≢ pos 0 → (quiet : ℕ → Bool) → InLibrary quiet → WordRoutine (Quiet quiet) c.image.bytes place bound count x y (scaled_quotient x y s))
       → operand_words operands < level c.acts → All OperandFits operands → DivideCode at none by stop count line → LandedWith c memory input output at true operands p
       → DoesHere c memory input output (20 + bound) to true line p (perform c.program.limits.area (Divide s) (words operands memory input output))
   divides {p} {at} to place bound count none by stop line s operands small e arrives0 arrives1 arrives2 law roomy fits i =
@@ -118,7 +117,7 @@ module _ (c : Setting) (memory : List ℤ) (input output : List ℕ) where
       → DoesHere c memory input output 46 to true line p (perform c.program.limits.area (Divide (pos k)) (words operands memory input output))
   divides_up to none by stop line k operands small e few arrives0 arrives1 arrives2 roomy fits i l =
       divides to quotient_up_place 26 k none by stop line (pos k) operands small e arrives0 arrives1 arrives2
-      (λ x y fx fy ne quiet in_library. c.rows.routines.quotient_up quiet c.image c.library in_library x y k fx fy ne few) roomy fits i l
+      (λ x y fx fy ne quiet in_library. c.rows.routines.quotient_up quiet c.image.bytes c.library in_library x y k fx fy ne few) roomy fits i l
 
   pub divides_down : {p : Watched} {at : ℕ} (to none by stop line j : ℕ) (operands : List Operand) → line < 65536 → at + 25 ≡ to → j < 15
       → (at + 2 + 1 + 2 + 2 + 3 + none) % 65536 ≡ stop_place ZeroDivisor % 65536 → (at + 2 + 1 + 2 + 2 + 3 + 2 + 3 + 3 + by) % 65536 ≡ quotient_down_place % 65536
@@ -129,5 +128,5 @@ module _ (c : Setting) (memory : List ℤ) (input output : List ℕ) where
       let count : suc j ≡ j + 1 = omega arith in
       divides to quotient_down_place 24 (j + 1) none by stop line (negsuc j) operands small e arrives0 arrives1 arrives2
       (λ x y fx fy ne quiet in_library.
-      subst (λ n. WordRoutine (Quiet quiet) c.image quotient_down_place 24 n x y (scaled_quotient x y (negsuc j))) count
-      (c.rows.routines.quotient_down quiet c.image c.library in_library x y j fx fy ne few)) roomy fits i l
+      subst (λ n. WordRoutine (Quiet quiet) c.image.bytes quotient_down_place 24 n x y (scaled_quotient x y (negsuc j))) count
+      (c.rows.routines.quotient_down quiet c.image.bytes c.library in_library x y j fx fy ne few)) roomy fits i l

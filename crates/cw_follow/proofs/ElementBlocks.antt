@@ -1,5 +1,5 @@
 -- Blocks of an element whose index is in memory: its word is fetched, assigned or used.
-use Rattle.std.proofs.Common.{◌≡◌, inl, inr, ℕ, suc, ◌+◌, ◌*◌, ◌<◌, ◌≤◌, Bool, true, false, ℤ, pos, List, [], ◌∷◌, ◌++◌, drop, set, Some, None, refl, sym, ap, ◌∙◌, subst, arith, lit<, lit≤, append_assoc}
+use Rattle.std.proofs.Common.{length, ◌≡◌, inl, inr, ℕ, suc, ◌+◌, ◌*◌, ◌<◌, ◌≤◌, Bool, true, false, ℤ, pos, List, [], ◌∷◌, ◌++◌, drop, set, Some, None, refl, sym, ap, ◌∙◌, subst, arith, lit<, lit≤, append_assoc}
 use Rattle.std.specs.Prelude.{slice_get}
 use Rattle.std.proofs.lemmas.Bool.{lt-ltb, cases_lt}
 use Rattle.cw_word.specs.FixedPoint.{FitsWord, scaled_product}
@@ -18,11 +18,11 @@ use Rattle.cw_order.specs.declared.order.Place.{Place}
 use Rattle.cw_order.specs.declared.order.Place.TheVariants as cell
 use Rattle.cw_tmpl.specs.declared.blocks.Element.{Element}
 use Rattle.cw_tmpl.specs.declared.blocks.Test.{Test}
+use Rattle.cw_tmpl.specs.declared.blocks.Test.TheVariants as test
 use Rattle.cw_tmpl.specs.declared.blocks.Simple.TheVariants as simple
 use Rattle.cw_tmpl.specs.declared.blocks.Use.{Use}
 use Rattle.cw_tmpl.specs.declared.blocks.Use.TheVariants as uses
 use Rattle.cw_i86.specs.declared.instr.Instr.{Instr}
-use Rattle.cw_run86.specs.Views.{Has}
 use Rattle.cw_rows86.specs.Locations.{InData}
 use Rattle.cw_rows86.specs.Acts.{Into, OutOf}
 use Rattle.cw_tmpl.specs.declared.pieces.Coded.{Coded}
@@ -32,9 +32,10 @@ use Rattle.cw_tmpl.specs.declared.blocks.Block.TheVariants as block
 use Rattle.cw_tmpl.specs.Blocks.{element_orders, operand_orders, order_of, block_at, orders_left, left_at}
 use Rattle.cw_tmpl.specs.Library.{overflow_entry}
 use Rattle.cw_tmpl.specs.Mnemonics.{at_si, load, store, multiply}
-use Rattle.cw_tmpl.specs.Templates.{checked, element_address, element_size, block_size}
+use Rattle.cw_tmpl.specs.Templates.{checked, element_tested, element_address, block_pieces, element_size, block_size}
+use Rattle.cw_tmpl.specs.ReferenceCode.{names_of}
 use Rattle.cw_tmpl.proofs.Shapes.{TestNear, IsNear}
-use Rattle.cw_tmpl.proofs.Sizes.{element_long_as, size_to}
+use Rattle.cw_tmpl.proofs.Sizes.{element_long_as, size_to, own_place}
 use Rattle.cw_follow.specs.Placing.{base_of}
 use Rattle.std.specs.List.{All}
 use Rattle.std.proofs.lemmas.List.Elements.{All-head}
@@ -43,7 +44,7 @@ use Rattle.cw_follow.proofs.Watched.{Watched, watched_step}
 use Rattle.cw_follow.proofs.Chains.{Is, view, last, move as moved_to}
 use Rattle.cw_run86.specs.Views.{put_word}
 use Rattle.cw_follow.proofs.Acting.{act}
-use Rattle.cw_follow.proofs.Standing.{HasPieces, order_place, stand_both, appended_long}
+use Rattle.cw_follow.proofs.Standing.{HasPieces, order_place, stand_both, appended_long, Has, HasPiecesFrom, stand_behind, first_of}
 use Rattle.cw_follow.proofs.Shifts.{leads_then}
 use Rattle.cw_follow.proofs.Stacks.{level, record_of, StackIs, OperandsAre}
 use Rattle.cw_follow.proofs.Routines.{leads_on}
@@ -51,13 +52,13 @@ use Rattle.cw_follow.proofs.Operating.{word_named}
 use Rattle.cw_follow.proofs.Orders.{Landed, Does, Chooses, later, further, landed, kept_stored}
 use Rattle.cw_follow.proofs.UseBlocks as UseBlocks
 use Rattle.cw_follow.proofs.States.{Given, Sound}
-use Rattle.cw_follow.proofs.Steps.{Follow, setting, calls, order_here, weight_is, line_fits, start_place, block_code, block_ends, did_as, does, chosen, start, two_roomy}
+use Rattle.cw_follow.proofs.Steps.{Follow, setting, calls, order_here, weight_is, line_fits, start_place, block_code, block_ends, did_as, does, chosen, start, two_roomy, FollowFrom, begins_block, begun_block}
 use Rattle.cw_follow.proofs.BlockOrders.{code_end, room_in, within_block, inner_follows, modes, saved, step_in}
 use Rattle.cw_follow.proofs.InBlocks.{loaded_then, loaded_silently, silently}
 use Rattle.cw_follow.proofs.Indexed.{element_steps, few_element}
 use Rattle.cw_follow.proofs.Operands.{words, with_cells}
 use Rattle.cw_follow.proofs.ElementTests.{address_order, tail_list, formed_list, formed_list_is, homes, none_inside, over_inside, HasElement, KnownTest, order_there, known_behind, known_saved, Before, AtAddress, room_above, forms_there, saved_there, behind_there, next_there, tail_mode, fetched_mode, formed_many, fetched_many}
-use Rattle.cw_follow.proofs.ElementOrders.{LeadsTo, one_behind, after_forms, ComesTo, start_room, at_start, comes_at_once, plain_inner, saved_inner}
+use Rattle.cw_follow.proofs.ElementOrders.{LeadsTo, one_behind, after_forms, ComesTo, start_room, at_start, comes_at_once, plain_inner, saved_inner, at_begun, comes_begun}
 
 module _ (known : Given) where
   open known use {rows, p, image, all, coded, few, low}
@@ -73,10 +74,19 @@ module _ (known : Given) where
     mode_taken (cell.Word f n) = refl
     mode_taken (cell.Frame n) = refl
 
+    address_some : (e : Element) → 0 < length (element_address e)
+    address_some e = of_test e.test e.index
+      where
+        of_test : (t : Test) (x : Place) → 0 < length (element_tested (record e { index = x }) t)
+        of_test (test.Address origin) (cell.Word f n) = lit< tt
+        of_test (test.Address origin) (cell.Frame n) = lit< tt
+        of_test (test.Bounds upper line) (cell.Word f n) = lit< tt
+        of_test (test.Bounds upper line) (cell.Frame n) = lit< tt
+
     -- the instruction behind the address
-    last_there : (e : Element) (i : Instr) → HasPieces image (all.stands g s.orders s.unit).value (start_place known s) (element_address e ++ pieces.Whole i ∷ []) → Has image (start_place known s + element_size e e.test) i
-    last_there e i h =
-        subst (λ n. Has image (start_place known s + n) i) (element_long_as e) (stand_both image (all.stands g s.orders s.unit).value (start_place known s) (element_address e) (pieces.Whole i ∷ []) h).1.0
+    last_there : (first : Bool) (e : Element) (i : Instr) → HasPiecesFrom first image (all.stands g s.orders s.unit).value (start_place known s) (element_address e ++ pieces.Whole i ∷ []) → Has image (start_place known s + element_size e e.test) i
+    last_there first e i h =
+        subst (λ n. Has image (start_place known s + n) i) (element_long_as e) (stand_behind first image (all.stands g s.orders s.unit).value (start_place known s) (element_address e) (pieces.Whole i ∷ []) (address_some e) h).0
 
     half_of : (at : ℕ) → at < p.limits.area → at < 32768
     half_of at within = omega arith
@@ -85,25 +95,34 @@ module _ (known : Given) where
     fetched_there : (at : ℕ) (v : Words) → at < p.limits.area → unrefused (perform p.limits.area (Fetch None) (put (pos at) v)) ≡ Changed (put (word_at v.memory at) v)
     fetched_there at v within = ap (λ b. unrefused (through b (λ i u. Changed (put (word_at u.memory i) u)) (pos at) v)) (lt-ltb at p.limits.area within)
 
+    -- the code of a block that begins with the address of the place of the index
+    pub begun_code : (e : Element) (os : List Order) (b : Block) → drop s.from s.orders.list ≡ address_order e.index ∷ os → block_at 0 (drop s.from s.orders.list) ≡ b
+        → HasPiecesFrom (begins_block known s) image (all.stands g s.orders s.unit).value (start_place known s) (block_pieces (names_of s.orders) (own_place s.orders.list s.from) b (address_order e.index))
+    begun_code e os b list is = subst (λ f. HasPiecesFrom f image (all.stands g s.orders s.unit).value (start_place known s) (block_pieces (names_of s.orders) (own_place s.orders.list s.from) b (address_order e.index))) (begins e.index) (block_code known s b (address_order e.index) os list is)
+      where
+        begins : (x : Place) → first_of (address_order x) (begins_block known s) ≡ begins_block known s
+        begins (cell.Word f n) = refl
+        begins (cell.Frame n) = refl
+
     fetch_does : (e : Element) (l : Before known s false) (at to : ℕ) → at < p.limits.area → LeadsTo known s e e.test at → start_place known s + (element_size e e.test + 2) ≡ to
-        → HasPieces image (all.stands g s.orders s.unit).value (start_place known s) (element_address e ++ pieces.Whole (load 0 at_si) ∷ [])
-        → Does p image 8 to g true 0 acts s.before.output q (Changed (put (word_at s.before.memory at) s.before))
+        → HasPiecesFrom (begins_block known s) image (all.stands g s.orders s.unit).value (start_place known s) (element_address e ++ pieces.Whole (load 0 at_si) ∷ [])
+        → Does p image 8 to g true 0 acts s.before.output (begun_block known s) (Changed (put (word_at s.before.memory at) s.before))
     fetch_does e l at to within leads end h =
         let r = room_above known s false l.stacked.ax l.stack l.top s.before.operands (room_in known s) l.operands in
         let few = few_element e e.test in
         let half = half_of at within in
-        let i = last_there e (load 0 at_si) h in
+        let i = last_there _ e (load 0 at_si) h in
         let there : start_place known s + element_size e e.test + 2 ≡ to = omega arith in
         let under : StackIs p acts l.stack (suc r.above) s.before.operands = subst (λ n. StackIs p acts l.stack n s.before.operands) r.is l.operands in
         further (element_steps e e.test + 1) (omega arith) (omega arith)
-        (leads_then (leads false l (pieces.Whole (load 0 at_si) ∷ []) (start_place known s) r.above l.stacked.ax l.stacked.cx q (at_start known s l r) h)
+        (leads_then (leads (begins_block known s) false l (pieces.Whole (load 0 at_si) ∷ []) (start_place known s) r.above l.stacked.ax l.stacked.cx (begun_block known s) (at_begun known s l r) h)
         (λ t a.
         last rows a.is l.kept.wrote
         (landed rows p image g acts true to (suc r.above) (Word (word_at s.before.memory at) ∷ s.before.operands) s.before.memory s.before.input s.before.output there (l.kept.words at within, under) l.kept
-        (act rows (Into 0 at_si (InData at) (l.cells at)) refl (lit< tt) i ((refl, refl, half, refl), refl) a.is).is)))
+        (act rows (Into 0 at_si (InData at) (l.cells at)) (lit< tt) i ((refl, refl, half, refl), refl) a.is).is)))
 
     fetch_element_last : (e : Element) (rest : List Order) (z : KnownTest known s e e.test) → s.done ≡ suc (suc (homes e.test)) → drop s.from s.orders.list ≡ formed_list e e.test (order.Load ∷ rest) → block_at 0 (drop s.from s.orders.list) ≡ block.FetchElement e
-        → orders_left (block.FetchElement e) ≡ suc (suc (homes e.test)) → Follow known (at_order g place loaded acts w Running) q
+        → orders_left (block.FetchElement e) ≡ suc (suc (homes e.test)) → FollowFrom known (begun_block known s) (at_order g place loaded acts w Running) q
     fetch_element_last e rest z is_done list is many =
         let n = suc (suc (homes e.test)) in
         let os = tail_list e e.test (order.Load ∷ rest) in
@@ -113,15 +132,15 @@ module _ (known : Given) where
         let ends = block_ends known s b (address_order e.index) os n is_done list is (ap (λ m. size_to m os n) many ∙ none_inside n os) (ap (λ m. left_at m os n) many ∙ over_inside (suc (homes e.test)) os order.Load there) in
         let before = modes known s false true true (address_order e.index) (suc (homes e.test)) os is_done list (mode_free e.index) (mode_taken e.index) (tail_mode e e.test (order.Load ∷ rest)) in
         let paid : 8 ≤ weight p (at_order g place loaded acts w Running) = let x = weight_is known s order.Load here in omega arith in
-        let h = block_code known s b (address_order e.index) os list is in
+        let h = begun_code e os b list is in
         let made = after_forms known s e e.test (order.Load ∷ rest) z w (did_as known s n _ is_done list) in
         let size : block_size b (address_order e.index) ≡ element_size e e.test + 2 = omega (arith, appended_long (element_address e) (pieces.Whole (load 0 at_si) ∷ []), element_long_as e) in
         let end : start_place known s + (element_size e e.test + 2) ≡ code_end known s = omega (arith, ends.behind, size) in
         let d = fetch_does e before.landed made.at (code_end known s) made.within made.leads end h in
         let goes : unrefused (perform p.limits.area (Fetch None) w) ≡ Changed (put (word_at s.before.memory made.at) s.before) = ap (λ v. unrefused (perform p.limits.area (Fetch None) v)) made.is ∙ fetched_there made.at s.before made.within in
         does known s true 0 (unrefused (perform p.limits.area (Fetch None) w)) 8 ends.begins (step_in known s true order.Load before.now here) paid
-        (subst (λ o. Does p image 8 (code_end known s) g true 0 acts w.output q o) (sym goes)
-        (subst (λ o. Does p image 8 (code_end known s) g true 0 acts o q (Changed (put (word_at s.before.memory made.at) s.before))) s.wrote d))
+        (subst (λ o. Does p image 8 (code_end known s) g true 0 acts w.output (begun_block known s) o) (sym goes)
+        (subst (λ o. Does p image 8 (code_end known s) g true 0 acts o (begun_block known s) (Changed (put (word_at s.before.memory made.at) s.before))) s.wrote d))
 
     saved_mode : (e : Element) (t : Test) (behind : List Order) → loaded_silently (suc (suc (homes t))) (formed_list e t behind) false ≡ Some true
     saved_mode e t behind = ap (λ o. loaded_then o (loaded_silently (suc (homes t)) (tail_list e t behind))) (mode_free e.index) ∙ tail_mode e t behind
@@ -132,7 +151,7 @@ module _ (known : Given) where
         record { list = list; near = near; lower = coded.codes g (s.from + k) (order.Element e.lower e.span e.line) (order_there known s k (order.Element e.lower e.span e.line) (pre ++ formed_list e t behind) list there) }
 
     pub fetch_element_follows : (e : Element) (rest : List Order) → drop s.from s.orders.list ≡ element_orders e ++ order.Load ∷ rest → IsNear e → block_at 0 (drop s.from s.orders.list) ≡ block.FetchElement e
-        → Follow known (at_order g place loaded acts w Running) q
+        → FollowFrom known (begun_block known s) (at_order g place loaded acts w Running) q
     fetch_element_follows e rest shape near is = cases s.done refl
       where
         list : drop s.from s.orders.list ≡ formed_list e e.test (order.Load ∷ rest)
@@ -144,11 +163,11 @@ module _ (known : Given) where
         many : orders_left (block.FetchElement e) ≡ suc (suc (homes e.test))
         many = formed_many e e.index e.test
 
-        cases : (k : ℕ) → s.done ≡ k → Follow known (at_order g place loaded acts w Running) q
-        cases k is_done = elim (cases_lt k (suc (suc (homes e.test)))) as (λ _. Follow known (at_order g place loaded acts w Running) q) [
+        cases : (k : ℕ) → s.done ≡ k → FollowFrom known (begun_block known s) (at_order g place loaded acts w Running) q
+        cases k is_done = elim (cases_lt k (suc (suc (homes e.test)))) as (λ _. FollowFrom known (begun_block known s) (at_order g place loaded acts w Running) q) [
           | inl lt ↦ (
-              let h = block_code known s (block.FetchElement e) (address_order e.index) _ list is in
-              plain_inner known s e e.test z (block.FetchElement e) (order.Load ∷ rest) (start_place known s) k (comes_at_once known s e _ h) is_done list is (omega arith) (omega (arith, many)))
+              let h = begun_code e _ (block.FetchElement e) list is in
+              plain_inner known s e e.test z (block.FetchElement e) (order.Load ∷ rest) (start_place known s) k (comes_begun known s e _ h) is_done list is (omega arith) (omega (arith, many)))
           | inr ge ↦ (
               let le = within_block known s (block.FetchElement e) (suc (suc (homes e.test))) is many in
               fetch_element_last e rest z (omega arith) list is many)
@@ -179,18 +198,18 @@ module _ (known : Given) where
         let r = room_above known s true l.stacked.ax l.stack l.top s.before.operands (room_in known s) l.operands in
         let few = few_element e e.test in
         let half = half_of at within in
-        let i = last_there e (store at_si 0) h in
+        let i = last_there _ e (store at_si 0) h in
         let there : start_place known s + element_size e e.test + 2 ≡ to = omega arith in
         let under : StackIs p acts l.stack (suc r.above) rest = subst (λ n. StackIs p acts l.stack n rest) r.is k.operands.1 in
         let stored : unrefused (perform p.limits.area (Store None) (put (pos at) (words (Word x ∷ rest) s.before.memory s.before.input s.before.output))) ≡ Changed (words rest (set s.before.memory at x) s.before.input s.before.output) =
         ap (λ b. unrefused (through b (λ j t. Changed (with_memory t (set t.memory j x))) (pos at) (words rest s.before.memory s.before.input s.before.output))) (lt-ltb at p.limits.area within) in
         subst (λ o. Does p image 8 to g false 0 acts s.before.output q o) (sym stored)
         (further (element_steps e e.test + 1) (omega arith) (omega arith)
-        (leads_then (leads true l (pieces.Whole (store at_si 0) ∷ []) (start_place known s) r.above l.stacked.ax l.stacked.cx q (at_start known s l r) h)
+        (leads_then (leads false true l (pieces.Whole (store at_si 0) ∷ []) (start_place known s) r.above l.stacked.ax l.stacked.cx q (at_start known s l r) h)
         (λ t a.
         last rows a.is l.kept.wrote
         (landed rows p image g acts false to (suc r.above) rest (set s.before.memory at x) s.before.input s.before.output there under (kept_stored at x within l.kept)
-        (with_cells (ap (put_word l.cells at) k.operands.0) (act rows (OutOf 0 at_si (InData at)) refl (lit< tt) i ((refl, refl, half, refl), tt) a.is).is)))))
+        (with_cells (ap (put_word l.cells at) k.operands.0) (act rows (OutOf 0 at_si (InData at)) (lit< tt) i ((refl, refl, half, refl), tt) a.is).is)))))
 
     assign_element_last : (e : Element) (rest : List Order) (z : KnownTest known s e e.test) → s.done ≡ suc (suc (suc (homes e.test))) → drop s.from s.orders.list ≡ order.Save ∷ formed_list e e.test (order.Store ∷ rest)
         → block_at 0 (drop s.from s.orders.list) ≡ block.AssignElement e → orders_left (block.AssignElement e) ≡ suc (suc (suc (homes e.test))) → Follow known (at_order g place loaded acts w Running) q
@@ -256,7 +275,7 @@ module _ (known : Given) where
     -- where the code of the address begins
     pub record Begun (e : Element) : Type 0 where
       pub at : ℕ
-      pub comes : ComesTo known s s.landed e e.test at
+      pub comes : ComesTo known s q s.landed e e.test at
 
     with_tail : (e : Element) (ps qs : List Coded) → HasPieces image (all.stands g s.orders s.unit).value (start_place known s) ((element_address e ++ ps) ++ qs) → Begun e
     with_tail e ps qs h =
@@ -278,6 +297,7 @@ module _ (known : Given) where
             low = r.low;
             steps = 1;
             few_steps = lit≤ tt;
+            first = false;
             comes = last rows a.is s.landed.kept.wrote (record { dx = a.dx; bx = a.bx; si = a.si; overflow = a.overflow; is = moved_to rows 1 0 h.0 a.is });
             tail = last_pieces ++ checked line;
             stands = subst (HasPieces image (all.stands g s.orders s.unit).value (start_place known s + 2)) (append_assoc (element_address e) last_pieces (checked line)) h.1;
@@ -299,7 +319,7 @@ module _ (known : Given) where
         leads_on
         (λ t a.
         word_named (setting known s) s.before.memory s.before.input s.before.output 2 at at_si (word_at s.before.memory at) x rest k.operands.0 (l.kept.words at within) (refl, refl, half, refl) (λ op. refl) (lit< tt) (omega arith) under l.kept a.is)
-        (leads true l tail (start_place known s) r.above l.stacked.ax l.stacked.cx q (at_start known s l r) h)
+        (leads false true l tail (start_place known s) r.above l.stacked.ax l.stacked.cx q (at_start known s l r) h)
 
     memory_fits : (at : ℕ) → at < p.limits.area → FitsWord (word_at s.before.memory at)
     memory_fits at within = let long = s.landed.kept.long in s.fits_before.memory at (pos 0) (omega arith)
@@ -348,8 +368,8 @@ module _ (known : Given) where
             let end : behind + 2 + 2 + 7 ≡ UseBlocks.block_end known s = omega arith in
             later p image 15 (UseBlocks.block_end known s) g true line acts (1 + (element_steps e e.test + 1)) 24 (put_value (scaled_product x y (pos 0)) (words rest s.before.memory s.before.input s.before.output)) (omega arith)
             (leads_then (last rows a.is l.kept.wrote moved) (λ t b.
-            leads_then (leads true l (last_pieces ++ checked line) (start + 2) r.above l.stacked.ax l.stacked.ax t b tail_there) (λ u d.
-            last rows {Target = AtProduct l (behind + 2) (l.cells at) l.stacked.ax r.above} d.is l.kept.wrote (record { dx = b.dx; bx = d.bx; si = 2 * at; overflow = d.overflow; is = (act rows (Into 0 at_si (InData at) (l.cells at)) refl (lit< tt) rest_there.0 ((refl, refl, half, refl), refl) d.is).is }))))
+            leads_then (leads false true l (last_pieces ++ checked line) (start + 2) r.above l.stacked.ax l.stacked.ax t b tail_there) (λ u d.
+            last rows {Target = AtProduct l (behind + 2) (l.cells at) l.stacked.ax r.above} d.is l.kept.wrote (record { dx = b.dx; bx = d.bx; si = 2 * at; overflow = d.overflow; is = (act rows (Into 0 at_si (InData at) (l.cells at)) (lit< tt) rest_there.0 ((refl, refl, half, refl), refl) d.is).is }))))
             (λ t d.
             UseBlocks.other_multiplies (setting known s) s.before.memory s.before.input s.before.output x rest fx room k (UseBlocks.block_end known s) (UseBlocks.call_of known s (behind + 2 + 2)) line small y fy
             (subst (λ n. Is image (behind + 2) (view n (unsigned x) d.dx d.bx (2 * l.top) (record_of acts) d.si p.limits.area d.overflow l.cells l.stack l.input l.told) t) (l.kept.words at within)

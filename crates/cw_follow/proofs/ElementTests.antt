@@ -32,8 +32,8 @@ use Rattle.cw_tmpl.proofs.Shapes.{TestNear}
 use Rattle.cw_tmpl.proofs.Sizes.{index_long, size_to}
 use Rattle.cw_follow.specs.Placing.{base_of}
 use Rattle.cw_follow.proofs.Watched.{Watched}
-use Rattle.cw_follow.proofs.Chains.{Is, Leads, view}
-use Rattle.cw_follow.proofs.Standing.{HasPieces, order_place, stand_both}
+use Rattle.cw_follow.proofs.Chains.{Is, Leads, view, IsAt}
+use Rattle.cw_follow.proofs.Standing.{HasPieces, order_place, stand_both, HasPiecesFrom, stand_behind}
 use Rattle.cw_follow.proofs.Shifts.{leads_then}
 use Rattle.cw_follow.proofs.Stacks.{level, record_of, OperandsAre, top_is}
 use Rattle.cw_follow.proofs.Orders.{Landed, below_area, later}
@@ -375,12 +375,15 @@ module _ (known : Given) where
     Before m = Landed p image (order_place (base_of p g) s.orders.list s.from) g m acts s.before q
 
     -- where the code of the address stands: AX is as the block found it, and CX may be the same
-    pub record AtAddress {m : Bool} (l : Before m) (at top ax cx : ℕ) (r : Watched) : Type 0 where
+    pub record AtAddressFrom (first : Bool) {m : Bool} (l : Before m) (at top ax cx : ℕ) (r : Watched) : Type 0 where
       pub dx : ℕ
       pub bx : ℕ
       pub si : ℕ
       pub overflow : Bool
-      pub is : Is image at (view ax cx dx bx (2 * suc top) (record_of acts) si p.limits.area overflow l.cells l.stack l.input l.told) r
+      pub is : IsAt first image at (view ax cx dx bx (2 * suc top) (record_of acts) si p.limits.area overflow l.cells l.stack l.input l.told) r
+
+    abbrev pub AtAddress : {m : Bool} (l : Before m) (at top ax cx : ℕ) (r : Watched) → Type 0
+    AtAddress l at top ax cx r = AtAddressFrom false l at top ax cx r
 
     -- an operand on the stack leaves room above it, for the place of a call
     pub record HasRoom (top : ℕ) : Type 0 where
@@ -411,10 +414,18 @@ module _ (known : Given) where
     abbrev SummedAt : {m : Bool} → Before m → (at top ax cx dx : ℕ) → ℕ → Watched → Type 0
     SummedAt l at top ax cx dx b t = Summed (setting known s) s.before.memory s.before.input s.before.output at ax cx dx b top l.cells l.stack l.input l.told t
 
-    summed : {m : Bool} (l : Before m) (e : Element) (origin : ℕ) (rest : List Coded) (r : IndexRead e.index s.before) (at top ax cx : ℕ) (q' : Watched) (a : AtAddress l at top ax cx q')
-        → HasPieces image (all.stands g s.orders s.unit).value at (index_added e.index e.family origin ++ rest)
+    added_some : (x : Place) (f n : ℕ) → 0 < length (index_added x f n)
+    added_some (cell.Word g n) f o = lit< tt
+    added_some (cell.Frame n) f o = lit< tt
+
+    loaded_some : (x : Place) → 0 < length (index_loaded x)
+    loaded_some (cell.Word f n) = lit< tt
+    loaded_some (cell.Frame n) = lit< tt
+
+    summed : {first m : Bool} (l : Before m) (e : Element) (origin : ℕ) (rest : List Coded) (r : IndexRead e.index s.before) (at top ax cx : ℕ) (q' : Watched) (a : AtAddressFrom first l at top ax cx q')
+        → HasPiecesFrom first image (all.stands g s.orders s.unit).value at (index_added e.index e.family origin ++ rest)
         → Leads s.before.output (index_steps e.index) q' (SummedAt l (at + index_size e.index) top ax cx a.dx (word_sum (zero_at e origin) (unsigned (word_at s.before.memory r.at))))
-    summed l e origin rest r at top ax cx q' a h = cases e.index r.stands h
+    summed {first} l e origin rest r at top ax cx q' a h = cases e.index r.stands h
       where
         i : ℤ
         i = word_at s.before.memory r.at
@@ -425,7 +436,7 @@ module _ (known : Given) where
         half : r.at < 32768
         half = let within = r.within in omega arith
 
-        cases : (x : Place) → place_address p g acts x ≡ Some r.at → HasPieces image (all.stands g s.orders s.unit).value at (index_added x e.family origin ++ rest)
+        cases : (x : Place) → place_address p g acts x ≡ Some r.at → HasPiecesFrom first image (all.stands g s.orders s.unit).value at (index_added x e.family origin ++ rest)
             → Leads s.before.output (index_steps x) q' (SummedAt l (at + index_size x) top ax cx a.dx (word_sum (zero_at e origin) (unsigned (word_at s.before.memory r.at))))
         cases (cell.Word f n) stands h =
             let st = all.stands g s.orders s.unit in
@@ -451,24 +462,24 @@ module _ (known : Given) where
     abbrev tested : Element → List Coded
     tested e = pieces.Whole (compare si_register di) ∷ pieces.Whole (jump_if_below 5) ∷ (call_stop address_entry e.line ++ pieces.Whole (double si_register) ∷ [])
 
-    address_parts : (e : Element) (origin : ℕ) (tail : List Coded) (at : ℕ) → HasPieces image (all.stands g s.orders s.unit).value at (address_tested e origin ++ tail)
-        → HasPieces image (all.stands g s.orders s.unit).value at (index_added e.index e.family origin ++ (tested e ++ tail)) × HasPieces image (all.stands g s.orders s.unit).value (at + index_size e.index) (tested e ++ tail)
-    address_parts e origin tail at h =
+    address_parts : (first : Bool) (e : Element) (origin : ℕ) (tail : List Coded) (at : ℕ) → HasPiecesFrom first image (all.stands g s.orders s.unit).value at (address_tested e origin ++ tail)
+        → HasPiecesFrom first image (all.stands g s.orders s.unit).value at (index_added e.index e.family origin ++ (tested e ++ tail)) × HasPieces image (all.stands g s.orders s.unit).value (at + index_size e.index) (tested e ++ tail)
+    address_parts first e origin tail at h =
         let st = all.stands g s.orders s.unit in
-        let whole : HasPieces image st.value at (index_added e.index e.family origin ++ (tested e ++ tail)) =
-        subst (HasPieces image st.value at) (append_assoc (index_added e.index e.family origin) (tested e) tail) h in
-        (whole, subst (λ n. HasPieces image st.value (at + n) (tested e ++ tail)) (index_long e.index e.family origin) (stand_both image st.value at (index_added e.index e.family origin) (tested e ++ tail) whole).1)
+        let whole : HasPiecesFrom first image st.value at (index_added e.index e.family origin ++ (tested e ++ tail)) =
+        subst (HasPiecesFrom first image st.value at) (append_assoc (index_added e.index e.family origin) (tested e) tail) h in
+        (whole, subst (λ n. HasPieces image st.value (at + n) (tested e ++ tail)) (index_long e.index e.family origin) (stand_behind first image st.value at (index_added e.index e.family origin) (tested e ++ tail) (added_some e.index e.family origin) whole))
 
     -- the address, where it is one of the area
     abbrev pub AddressedAt : {m : Bool} → Before m → (at top ax cx dx k : ℕ) → Watched → Type 0
     AddressedAt l at top ax cx dx k t = Addressed (setting known s) s.before.memory s.before.input s.before.output at ax cx dx k top l.cells l.stack l.input l.told t
 
-    pub addressed : {m : Bool} (l : Before m) (e : Element) (origin : ℕ) (tail : List Coded) (z : ZeroWord e origin) (r : IndexRead e.index s.before) (at top ax cx k : ℕ) (q' : Watched) (a : AtAddress l at top ax cx q')
-        → HasPieces image (all.stands g s.orders s.unit).value at (address_tested e origin ++ tail) → address_in e origin r ≡ pos k → k < p.limits.area
+    pub addressed : {first m : Bool} (l : Before m) (e : Element) (origin : ℕ) (tail : List Coded) (z : ZeroWord e origin) (r : IndexRead e.index s.before) (at top ax cx k : ℕ) (q' : Watched) (a : AtAddressFrom first l at top ax cx q')
+        → HasPiecesFrom first image (all.stands g s.orders s.unit).value at (address_tested e origin ++ tail) → address_in e origin r ≡ pos k → k < p.limits.area
         → Leads s.before.output (index_steps e.index + 3) q' (AddressedAt l (at + (index_size e.index + 11)) top ax cx a.dx k)
     addressed l e origin tail z r at top ax cx k q' a h is within =
         let st = all.stands g s.orders s.unit in
-        let parts = address_parts e origin tail at h in
+        let parts = address_parts _ e origin tail at h in
         let there : at + index_size e.index + 2 + 2 + 5 + 2 ≡ at + (index_size e.index + 11) = omega arith in
         leads_then (summed l e origin (tested e ++ tail) r at top ax cx q' a parts.0)
         (λ t u.
@@ -476,12 +487,12 @@ module _ (known : Given) where
         (test_passes (setting known s) s.before.memory s.before.input s.before.output st.value e.line tail top (zero_at e origin) (word_at s.before.memory r.at) z.inside (index_fits e r) l.kept parts.1 u.is k is within))
 
     -- and the way to the stop, where it is none
-    pub address_stops : {b : Bool} (l : Before b) (e : Element) (origin : ℕ) (tail : List Coded) (z : ZeroWord e origin) (r : IndexRead e.index s.before) (at top ax cx to : ℕ) (m : Bool) (q' : Watched) → AtAddress l at top ax cx q'
-        → HasPieces image (all.stands g s.orders s.unit).value at (address_tested e origin ++ tail) → e.line < 65536 → top < level acts → is_below (address_in e origin r) p.limits.area ≡ false
+    pub address_stops : {first b : Bool} (l : Before b) (e : Element) (origin : ℕ) (tail : List Coded) (z : ZeroWord e origin) (r : IndexRead e.index s.before) (at top ax cx to : ℕ) (m : Bool) (q' : Watched) → AtAddressFrom first l at top ax cx q'
+        → HasPiecesFrom first image (all.stands g s.orders s.unit).value at (address_tested e origin ++ tail) → e.line < 65536 → top < level acts → is_below (address_in e origin r) p.limits.area ≡ false
         → DoesHere (setting known s) s.before.memory s.before.input s.before.output 20 to m e.line q' (Refused AddressRange)
     address_stops l e origin tail z r at top ax cx to m q' a h small low_top none =
         let st = all.stands g s.orders s.unit in
-        let parts = address_parts e origin tail at h in
+        let parts = address_parts _ e origin tail at h in
         let few_first = few_index e.index in
         later p image 15 to g m e.line acts (index_steps e.index) 20 (Refused AddressRange) (omega arith)
         (summed l e origin (tested e ++ tail) r at top ax cx q' a parts.0)
@@ -492,15 +503,15 @@ module _ (known : Given) where
     -- ---- the code that compares an index with its bounds
 
     -- the index
-    indexed : {m : Bool} (l : Before m) (e : Element) (rest : List Coded) (r : IndexRead e.index s.before) (at top ax cx : ℕ) (q' : Watched) (a : AtAddress l at top ax cx q')
-        → HasPieces image (all.stands g s.orders s.unit).value at (index_loaded e.index ++ rest)
+    indexed : {first m : Bool} (l : Before m) (e : Element) (rest : List Coded) (r : IndexRead e.index s.before) (at top ax cx : ℕ) (q' : Watched) (a : AtAddressFrom first l at top ax cx q')
+        → HasPiecesFrom first image (all.stands g s.orders s.unit).value at (index_loaded e.index ++ rest)
         → Leads s.before.output (loaded_steps e.index) q' (SummedAt l (at + loaded_size e.index) top ax cx a.dx (unsigned (word_at s.before.memory r.at)))
-    indexed l e rest r at top ax cx q' a h = cases e.index r.stands h
+    indexed {first} l e rest r at top ax cx q' a h = cases e.index r.stands h
       where
         half : r.at < 32768
         half = let within = r.within in omega arith
 
-        cases : (x : Place) → place_address p g acts x ≡ Some r.at → HasPieces image (all.stands g s.orders s.unit).value at (index_loaded x ++ rest)
+        cases : (x : Place) → place_address p g acts x ≡ Some r.at → HasPiecesFrom first image (all.stands g s.orders s.unit).value at (index_loaded x ++ rest)
             → Leads s.before.output (loaded_steps x) q' (SummedAt l (at + loaded_size x) top ax cx a.dx (unsigned (word_at s.before.memory r.at)))
         cases (cell.Word f n) stands h =
             let st = all.stands g s.orders s.unit in
@@ -519,8 +530,8 @@ module _ (known : Given) where
                 (index_by_frame (setting known s) s.before.memory s.before.input s.before.output st.value rest top r.at (word_at s.before.memory r.at) half (l.kept.words r.at r.within) l.kept a.is n b under are index h)
 
     -- and its number from the lower bound on
-    numbered : {m : Bool} (l : Before m) (e : Element) (rest : List Coded) (r : IndexRead e.index s.before) (at top ax cx : ℕ) (q' : Watched) (a : AtAddress l at top ax cx q')
-        → HasPieces image (all.stands g s.orders s.unit).value at (index_loaded e.index ++ (from_lower e.lower ++ rest)) → HasPieces image (all.stands g s.orders s.unit).value (at + loaded_size e.index) (from_lower e.lower ++ rest)
+    numbered : {first m : Bool} (l : Before m) (e : Element) (rest : List Coded) (r : IndexRead e.index s.before) (at top ax cx : ℕ) (q' : Watched) (a : AtAddressFrom first l at top ax cx q')
+        → HasPiecesFrom first image (all.stands g s.orders s.unit).value at (index_loaded e.index ++ (from_lower e.lower ++ rest)) → HasPieces image (all.stands g s.orders s.unit).value (at + loaded_size e.index) (from_lower e.lower ++ rest)
         → Leads s.before.output (loaded_steps e.index + lower_steps e.lower) q' (SummedAt l (at + loaded_size e.index + lower_size e.lower) top ax cx a.dx (from_word e.lower (word_at s.before.memory r.at)))
     numbered l e rest r at top ax cx q' a h h' =
         leads_then (indexed l e (from_lower e.lower ++ rest) r at top ax cx q' a h)
@@ -533,19 +544,19 @@ module _ (known : Given) where
         pieces.Whole (operate_number 7 si_register (indexes_between (upper -ℤ e.lower))) ∷ pieces.Whole (jump_if_below 5)
         ∷ (call_stop bounds_entry line ++ pieces.Sum si_register (target.Word e.family e.first) ∷ pieces.Whole (double si_register) ∷ [])
 
-    record IndexParts (e : Element) (upper : ℤ) (line : ℕ) (tail : List Coded) (at : ℕ) : Type 0 where
-      pub whole : HasPieces image (all.stands g s.orders s.unit).value at (index_loaded e.index ++ (from_lower e.lower ++ (compared_index e upper line ++ tail)))
+    record IndexParts (first : Bool) (e : Element) (upper : ℤ) (line : ℕ) (tail : List Coded) (at : ℕ) : Type 0 where
+      pub whole : HasPiecesFrom first image (all.stands g s.orders s.unit).value at (index_loaded e.index ++ (from_lower e.lower ++ (compared_index e upper line ++ tail)))
       pub behind : HasPieces image (all.stands g s.orders s.unit).value (at + loaded_size e.index) (from_lower e.lower ++ (compared_index e upper line ++ tail))
       pub tests : HasPieces image (all.stands g s.orders s.unit).value (at + loaded_size e.index + lower_size e.lower) (compared_index e upper line ++ tail)
 
-    index_parts : (e : Element) (upper : ℤ) (line : ℕ) (tail : List Coded) (at : ℕ) → HasPieces image (all.stands g s.orders s.unit).value at (index_tested e upper line ++ tail) → IndexParts e upper line tail at
-    index_parts e upper line tail at h =
+    index_parts : (first : Bool) (e : Element) (upper : ℤ) (line : ℕ) (tail : List Coded) (at : ℕ) → HasPiecesFrom first image (all.stands g s.orders s.unit).value at (index_tested e upper line ++ tail) → IndexParts first e upper line tail at
+    index_parts first e upper line tail at h =
         let v = (all.stands g s.orders s.unit).value in
         let A = index_loaded e.index in
         let B = from_lower e.lower in
         let C = compared_index e upper line in
-        let whole : HasPieces image v at (A ++ (B ++ (C ++ tail))) = subst (HasPieces image v at) (append_assoc A (B ++ C) tail ∙ ap (λ l. A ++ l) (append_assoc B C tail)) h in
-        let behind : HasPieces image v (at + loaded_size e.index) (B ++ (C ++ tail)) = subst (λ n. HasPieces image v (at + n) (B ++ (C ++ tail))) (loaded_long e.index) (stand_both image v at A (B ++ (C ++ tail)) whole).1 in
+        let whole : HasPiecesFrom first image v at (A ++ (B ++ (C ++ tail))) = subst (HasPiecesFrom first image v at) (append_assoc A (B ++ C) tail ∙ ap (λ l. A ++ l) (append_assoc B C tail)) h in
+        let behind : HasPieces image v (at + loaded_size e.index) (B ++ (C ++ tail)) = subst (λ n. HasPieces image v (at + n) (B ++ (C ++ tail))) (loaded_long e.index) (stand_behind first image v at A (B ++ (C ++ tail)) (loaded_some e.index) whole) in
         record {
           whole = whole;
           behind = behind;
@@ -558,12 +569,12 @@ module _ (known : Given) where
         ap indexes_between z.last_is ∙ many_between z.last (omega arith)
 
     -- the address, where the index is between its bounds
-    pub index_addressed : {m : Bool} (l : Before m) (e : Element) (upper : ℤ) (line : ℕ) (tail : List Coded) (z : BoundsWords e upper) (r : IndexRead e.index s.before) (holds : is_between e upper r ≡ true) (at top ax cx : ℕ) (q' : Watched) (a : AtAddress l at top ax cx q')
-        → HasPieces image (all.stands g s.orders s.unit).value at (index_tested e upper line ++ tail)
+    pub index_addressed : {first m : Bool} (l : Before m) (e : Element) (upper : ℤ) (line : ℕ) (tail : List Coded) (z : BoundsWords e upper) (r : IndexRead e.index s.before) (holds : is_between e upper r ≡ true) (at top ax cx : ℕ) (q' : Watched) (a : AtAddressFrom first l at top ax cx q')
+        → HasPiecesFrom first image (all.stands g s.orders s.unit).value at (index_tested e upper line ++ tail)
         → Leads s.before.output (loaded_steps e.index + lower_steps e.lower + 4) q' (AddressedAt l (at + (index_size e.index + lower_size e.lower + 14)) top ax cx a.dx (home_word p.addresses g e.family e.first + (number_between e upper z r holds).number))
     index_addressed l e upper line tail z r holds at top ax cx q' a h =
         let st = all.stands g s.orders s.unit in
-        let parts = index_parts e upper line tail at h in
+        let parts = index_parts _ e upper line tail at h in
         let n = number_between e upper z r holds in
         let few_numbers = n.within in
         let inside = z.inside in
@@ -580,12 +591,12 @@ module _ (known : Given) where
         base (base + n.number) (st.fills.homes e.family e.first (from + 4 + 2 + 5 + 4)) (omega arith) (omega arith) (omega arith)))
 
     -- and the way to the stop, where it is not
-    pub bounds_stop : {b : Bool} (l : Before b) (e : Element) (upper : ℤ) (line : ℕ) (tail : List Coded) (z : BoundsWords e upper) (r : IndexRead e.index s.before) (at top ax cx to : ℕ) (m : Bool) (q' : Watched) → AtAddress l at top ax cx q'
-        → HasPieces image (all.stands g s.orders s.unit).value at (index_tested e upper line ++ tail) → line < 65536 → top < level acts → is_between e upper r ≡ false
+    pub bounds_stop : {first b : Bool} (l : Before b) (e : Element) (upper : ℤ) (line : ℕ) (tail : List Coded) (z : BoundsWords e upper) (r : IndexRead e.index s.before) (at top ax cx to : ℕ) (m : Bool) (q' : Watched) → AtAddressFrom first l at top ax cx q'
+        → HasPiecesFrom first image (all.stands g s.orders s.unit).value at (index_tested e upper line ++ tail) → line < 65536 → top < level acts → is_between e upper r ≡ false
         → DoesHere (setting known s) s.before.memory s.before.input s.before.output 18 to m line q' (Refused IndexRange)
     bounds_stop l e upper line tail z r at top ax cx to m q' a h small low_top fails =
         let st = all.stands g s.orders s.unit in
-        let parts = index_parts e upper line tail at h in
+        let parts = index_parts _ e upper line tail at h in
         let few_first = few_loaded e.index in
         let few_next = few_lower e.lower in
         let past = past_bounds e.lower upper (word_at s.before.memory r.at) z.last z.lower z.upper_fits (index_fits e r) z.last_is fails in

@@ -45,7 +45,7 @@ use Rattle.cw_follow.proofs.Stacks.{start_small}
 use Rattle.cw_tmpl.proofs.Growing.{mask_small}
 use Rattle.cw_tmpl.proofs.Filling.{size_with}
 use Rattle.cw_routines.specs.Ways.{HasWord}
-use Rattle.cw_follow.proofs.Standing.{HasPiece, HasPieces}
+use Rattle.cw_follow.proofs.Bytes.{HasPiece, HasPieces}
 use Rattle.cw_follow.proofs.Halves.{part_of, few_places}
 use Rattle.cw_i86.specs.declared.instr.Instr.TheVariants as i86
 use Rattle.cw_i86.specs.declared.instr.Imm.TheVariants as imm
@@ -657,7 +657,7 @@ module _ (p : OrderProgram) (segment next : ℕ) (value : Filling) (fills : Fill
       ((dx_register, fits.2), (argument_fine 6 (k + 1) (lit< tt) (few_next k fits.1), (argument_fine 3 k is_bx (few_more k fits.1), (is_bx, tt))))
   template_fine names place order.Drop fits = tt
   template_fine names place order.Mark fits = tt
-  template_fine names place (order.Start n) fits = (lit< tt, tt)
+  template_fine names place (order.Start n) fits = tt
 
   field_fine : (n : ℕ) → 2 * n % 65536 < 65536
   field_fine n = omega arith

@@ -29,7 +29,7 @@ use Rattle.cw_follow.specs.Showing.{shown_as}
 use Rattle.cw_order.specs.Starting.{starts}
 use Rattle.cw_follow.specs.Passing.{passes, PlacesStand}
 use Rattle.cw_follow.specs.Placing.{IsImage, Codable, BeginsWith, NeverStuck, startup_cost, base_of}
-use Rattle.cw_follow.proofs.Standing.{order_place, AllStand}
+use Rattle.cw_follow.proofs.Standing.{order_place, AllStand, Image}
 use Rattle.cw_follow.proofs.Rows.{Rows}
 use Rattle.cw_follow.proofs.Watched.{Watched}
 use Rattle.cw_follow.proofs.Chains.{Is, Leads, view, seen, near, more}
@@ -57,7 +57,7 @@ module _ (laws : WordLaws) (p : OrderProgram) (words : List ℕ) (memory : List 
       subst FitsWord (sym (get_or_default memory k d (pos 0) lt ∙ begins.same k within)) (laws.signed_fits (slice_index words k) (small_words words k begins.are_words))
 
 -- from the first instruction of an image on
-pub following : Rows → (p : OrderProgram) (image words : List ℕ) (memory : List ℤ) (input : List ℕ) (s : State) (places : List StatementPlace)
+pub following : Rows → (p : OrderProgram) (image : Image) (words : List ℕ) (memory : List ℤ) (input : List ℕ) (s : State) (places : List StatementPlace)
     → AllStand p image → IsImage p image → PlacesStand p image places → Codable p → BeginsWith p memory words → NeverStuck p memory input → IsStart image words s → All (λ b. b < 256) input
     → TracksAfter (λ o. is_running o.0) startup_cost (watched (order_machine p) (starts p)) (order_start p memory input, []) (watched (processor_machine shown_as) (passes places p.limits.area)) (processor_start s input, [])
 following rows p image words memory input s places all is stand coded begins never starts_so bytes = cases (slice_get p.units 0) refl

@@ -11,14 +11,14 @@ use Rattle.cw_order.specs.OrderChanges.{put_address}
 use Rattle.cw_order.specs.OrderState.{OrderActivation, frame_word}
 use Rattle.cw_order.specs.OrderMachine.{unrefused}
 use Rattle.cw_tmpl.specs.Mnemonics.{ax, bx, slot, base_slot, field, load, store}
-use Rattle.cw_routines.specs.Ways.{HasAll}
 use Rattle.cw_follow.proofs.Rows.{Rows}
 use Rattle.cw_follow.proofs.Chains.{done}
-use Rattle.cw_follow.proofs.Straight.{LoadSlot, LoadWord, StoreField, straight}
+use Rattle.cw_follow.proofs.Straight.{LoadSlot, LoadWord, StoreField, straight, straight_from}
 use Rattle.cw_follow.proofs.Routines.{with_ax}
 use Rattle.cw_follow.proofs.Stacks.{level, record_of}
-use Rattle.cw_follow.proofs.Orders.{kept_stored, Landed, landed, Does, below_area, further}
+use Rattle.cw_follow.proofs.Orders.{kept_stored, Landed, landed, Does, below_area, further, LandedAt}
 use Rattle.cw_follow.proofs.InBlocks.{chain}
+use Rattle.cw_follow.proofs.Standing.{HasAll, Image, HasFrom}
 
 -- a word of the frame of an activation, where it is one of the data area
 pub frame_word_inside : (area : ℕ) (a : OrderActivation) (acts : List OrderActivation) (n k : ℕ) → frame_word area (a ∷ acts) n ≡ Some k → (k ≡ a.frame_base + n) × (k < area)
@@ -28,12 +28,12 @@ frame_word_inside area a acts n k e = cases (nat_lt (a.frame_base + n) area) ref
     cases false is e = absurd (cc)
     cases true is e = let same : a.frame_base + n ≡ k = cc in let lt = ltb-true (a.frame_base + n) area is in (sym same, omega arith)
 
-module _ (rows : Rows) (prog : OrderProgram) (image : List ℕ) where
+module _ (rows : Rows) (prog : OrderProgram) (image : Image) where
   -- the word comes to AX
-  fetches_frame : {q : Watched} {at : ℕ} (g to n : ℕ) (a : OrderActivation) (acts : List OrderActivation) (w : Words) → prog.limits.area ≤ 32768 → a.frame_base + n < prog.limits.area → at + 7 ≡ to
-      → HasAll image at (load bx (slot base_slot) ∷ load ax (field (2 * n % 65536)) ∷ []) → Landed prog image at g false (a ∷ acts) w q
+  fetches_frame : {q : Watched} {first : Bool} {at : ℕ} (g to n : ℕ) (a : OrderActivation) (acts : List OrderActivation) (w : Words) → prog.limits.area ≤ 32768 → a.frame_base + n < prog.limits.area → at + 7 ≡ to
+      → HasFrom first image at (load bx (slot base_slot) ∷ load ax (field (2 * n % 65536)) ∷ []) → LandedAt first prog image at g false (a ∷ acts) w q
       → Does prog image 2 to g true 0 (a ∷ acts) w.output q (unrefused (perform prog.limits.area (Fetch None) (put (signed (a.frame_base + n)) w)))
-  fetches_frame {q} {at} g to n a acts w low inside e i l = cases (is_below (signed m) prog.limits.area) refl
+  fetches_frame {q} {first} {at} g to n a acts w low inside e i l = cases (is_below (signed m) prog.limits.area) refl
     where
       m : ℕ
       m = a.frame_base + n
@@ -56,7 +56,7 @@ module _ (rows : Rows) (prog : OrderProgram) (image : List ℕ) where
           let address : (2 * a.frame_base % 65536 + 2 * n % 65536) % 65536 ≡ 2 * k = omega arith in
           let end : at + 3 + 4 ≡ to = omega arith in
           further 2 (lit≤ tt) (lit< tt)
-          (straight rows (LoadSlot 3 0xFA (r + 1) (2 * a.frame_base % 65536) ∷ LoadWord 0 (2 * n % 65536) k (unsigned (word_at w.memory k)) ∷ []) {n = 0} c.wrote i
+          (straight_from rows (LoadSlot 3 0xFA (r + 1) (2 * a.frame_base % 65536)) (LoadWord 0 (2 * n % 65536) k (unsigned (word_at w.memory k)) ∷ []) {n = 0} c.wrote i
           ((base, slot_base, c.piled.0.base_is), ((k_low, address, c.words k within), tt)) s.is (λ q u.
           done (landed rows prog image g (a ∷ acts) true to l.top (Word (word_at w.memory k) ∷ w.operands) w.memory w.input w.output end (refl, l.operands) c u)))
 
@@ -96,11 +96,11 @@ module _ (rows : Rows) (prog : OrderProgram) (image : List ℕ) where
           done (landed rows prog image g (a ∷ acts) false to l.top rest (set memory k z) input output end l.operands.1 (kept_stored k z within c) u)))
 
   -- a segment's body has no frame, and a word that is not in the data area is none of a frame
-  pub fetches_word : {q : Watched} {at : ℕ} (g to n : ℕ) (acts : List OrderActivation) (w : Words) → prog.limits.area ≤ 32768 → at + 7 ≡ to
-      → HasAll image at (load bx (slot base_slot) ∷ load ax (field (2 * n % 65536)) ∷ []) → Landed prog image at g false acts w q
+  pub fetches_word : {q : Watched} {first : Bool} {at : ℕ} (g to n : ℕ) (acts : List OrderActivation) (w : Words) → prog.limits.area ≤ 32768 → at + 7 ≡ to
+      → HasFrom first image at (load bx (slot base_slot) ∷ load ax (field (2 * n % 65536)) ∷ []) → LandedAt first prog image at g false acts w q
       → Does prog image 2 to g true 0 acts w.output q (chain (chain (put_address (frame_word prog.limits.area acts n) w) Changed) (λ v. unrefused (perform prog.limits.area (Fetch None) v)))
   fetches_word g to n [] w low e i l = tt
-  fetches_word {q} g to n (a ∷ acts) w low e i l = cases (nat_lt (a.frame_base + n) prog.limits.area) refl
+  fetches_word {q} {first} g to n (a ∷ acts) w low e i l = cases (nat_lt (a.frame_base + n) prog.limits.area) refl
     where
       cases : (b : Bool) → nat_lt (a.frame_base + n) prog.limits.area ≡ b
           → Does prog image 2 to g true 0 (a ∷ acts) w.output q (chain (chain (put_address (if b then Some (a.frame_base + n) else None) w) Changed) (λ v. unrefused (perform prog.limits.area (Fetch None) v)))

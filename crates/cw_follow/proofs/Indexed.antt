@@ -6,7 +6,7 @@ use Rattle.std.proofs.lemmas.Bool.Decides.{nat_tests}
 use Rattle.std.proofs.lemmas.Int.{ints}
 use Rattle.std.specs.Prelude.{nat_lt, int_le, ◌&&◌, if◌then◌else◌, min}
 use Rattle.cw_run86.specs.Processor.{Told}
-use Rattle.cw_run86.specs.Views.{View, Has, word_sum, word_difference, sum_overflows, difference_overflows, double_overflows}
+use Rattle.cw_run86.specs.Views.{View, word_sum, word_difference, sum_overflows, difference_overflows, double_overflows}
 use Rattle.cw_word.specs.FixedPoint.{FitsWord, fits_word}
 use Rattle.cw_word.specs.Word.{signed, unsigned}
 use Rattle.cw_unit.specs.Stop.{AddressRange, IndexRange}
@@ -27,8 +27,8 @@ use Rattle.cw_tmpl.specs.Pieces.{Filling, blanks}
 use Rattle.cw_tmpl.specs.Templates.{call_stop, index_added, index_loaded, indexes_between, from_lower, index_size, lower_size}
 use Rattle.cw_order.specs.OrderState.{OrderActivation}
 use Rattle.cw_follow.proofs.Watched.{Watched, watched_step}
-use Rattle.cw_follow.proofs.Standing.{HasPieces}
-use Rattle.cw_follow.proofs.Chains.{Is, IsCompared, Leads, view, compared, compared_more, jumps_below, passes_above, jump_below, pass_above, number, add_at, double as doubled, more, last, done}
+use Rattle.cw_follow.proofs.Standing.{HasPieces, Has, HasPiecesFrom}
+use Rattle.cw_follow.proofs.Chains.{Is, IsCompared, Leads, view, compared, compared_more, jumps_below, passes_above, jump_below, pass_above, number, add_at, double as doubled, more, last, done, IsAt}
 use Rattle.cw_i86.specs.declared.instr.Place.TheVariants as places
 use Rattle.cw_i86.specs.declared.instr.Rm.TheVariants as rms
 use Rattle.cw_rows86.specs.Locations.{InData, InRegister}
@@ -36,7 +36,7 @@ use Rattle.cw_rows86.specs.Operations.{Add, Subtract, Compare}
 use Rattle.cw_rows86.specs.Acts.{Operate, OperateNumberOnto, Into}
 use Rattle.cw_follow.proofs.Acting.{act}
 use Rattle.cw_follow.proofs.Shifts.{leads_then}
-use Rattle.cw_follow.proofs.Straight.{LoadSlot, Number, straight}
+use Rattle.cw_follow.proofs.Straight.{LoadSlot, Number, straight, straight_from}
 use Rattle.cw_follow.proofs.Stacks.{level, record_of, base_word}
 use Rattle.cw_follow.proofs.Orders.{Kept, further}
 use Rattle.cw_follow.proofs.Operands.{Setting, allowed, DoesHere, calls_stop}
@@ -346,11 +346,11 @@ module _ (c : Setting) (memory : List ℤ) (input output : List ℕ) where
     pub overflow : Bool
     pub is : Is c.image at (view ax cx dx bx (2 * suc top) (record_of c.acts) sum c.program.limits.area overflow cells stack left told) q
 
-  module _ (value : Filling) (family zero_at : ℕ) (rest : List Coded) {p : Watched} {at ax cx dx bx si : ℕ} {overflow : Bool} {cells stack : ℕ → ℕ} {left : List ℕ} {told : Told} (top z k : ℕ) (i : ℤ)
+  module _ (value : Filling) (family zero_at : ℕ) (rest : List Coded) {p : Watched} {first : Bool} {at ax cx dx bx si : ℕ} {overflow : Bool} {cells stack : ℕ → ℕ} {left : List ℕ} {told : Told} (top z k : ℕ) (i : ℤ)
       (named : (after : ℕ) → value 1 family zero_at after ≡ z) (low : k < 32768) (holds : cells k ≡ unsigned i) (kept : Kept c.program c.g c.acts memory input output cells stack left told)
-      (s : Is c.image at (view ax cx dx bx (2 * suc top) (record_of c.acts) si c.program.limits.area overflow cells stack left told) p) where
+      (s : IsAt first c.image at (view ax cx dx bx (2 * suc top) (record_of c.acts) si c.program.limits.area overflow cells stack left told) p) where
     -- by a word of a family
-    pub sum_by_word : (f n : ℕ) → ((after : ℕ) → value 2 f n after ≡ 2 * k) → HasPieces c.image value at (index_added (cell.Word f n) family zero_at ++ rest)
+    pub sum_by_word : (f n : ℕ) → ((after : ℕ) → value 2 f n after ≡ 2 * k) → HasPiecesFrom first c.image value at (index_added (cell.Word f n) family zero_at ++ rest)
         → Leads output 2 p (Summed (at + 3 + 4) ax cx dx (word_sum z (unsigned i)) top cells stack left told)
     sum_by_word f n index h =
         let word = value 1 family zero_at (at + 3) in
@@ -363,7 +363,7 @@ module _ (c : Setting) (memory : List ℤ) (input output : List ℕ) where
         }))
 
     -- by a word of the frame of an activation
-    pub sum_by_frame : (n : ℕ) (a : OrderActivation) (under : List OrderActivation) → c.acts ≡ a ∷ under → k ≡ a.frame_base + n → HasPieces c.image value at (index_added (cell.Frame n) family zero_at ++ rest)
+    pub sum_by_frame : (n : ℕ) (a : OrderActivation) (under : List OrderActivation) → c.acts ≡ a ∷ under → k ≡ a.frame_base + n → HasPiecesFrom first c.image value at (index_added (cell.Frame n) family zero_at ++ rest)
         → Leads output 3 p (Summed (at + 3 + 3 + 4) ax cx dx (word_sum z (unsigned i)) top cells stack left told)
     sum_by_frame n a under acts_are index h =
         let word = value 1 family zero_at (at + 3 + 3) in
@@ -375,10 +375,10 @@ module _ (c : Setting) (memory : List ℤ) (input output : List ℕ) where
         let base_is : base_word c.program c.acts ≡ twice = ap (base_word c.program) acts_are in
         let address : (twice + 2 * n % 65536) % 65536 ≡ 2 * k = omega arith in
         leads_then
-        (straight c.rows (LoadSlot bx_register 0xFA (r + 1) twice ∷ Number si_register word ∷ []) {n = 0} kept.wrote (h.0, (h.1.0, tt)) ((base, slot_base, kept.piled.0.base_is ∙ base_is), (tt, tt)) s
+        (straight_from c.rows (LoadSlot bx_register 0xFA (r + 1) twice) (Number si_register word ∷ []) {n = 0} kept.wrote (h.0, (h.1.0, tt)) ((base, slot_base, kept.piled.0.base_is ∙ base_is), (tt, tt)) s
         (λ q t. done {Target = Is c.image (at + 3 + 3) (view ax cx dx twice (2 * suc top) (record_of c.acts) word c.program.limits.area overflow cells stack left told)} t))
         (λ q t.
-        let added = act c.rows (Operate Add si_register (field (2 * n % 65536)) (InData k) (cells k)) refl (lit< tt) h.1.1.0 ((refl, refl, low, address), refl) t in
+        let added = act c.rows (Operate Add si_register (field (2 * n % 65536)) (InData k) (cells k)) (lit< tt) h.1.1.0 ((refl, refl, low, address), refl) t in
         last c.rows t kept.wrote (record {
           bx = twice;
           overflow = sum_overflows word (cells k);
@@ -388,22 +388,22 @@ module _ (c : Setting) (memory : List ℤ) (input output : List ℕ) where
 
   -- ---- the index, and its test
 
-  module _ (value : Filling) (rest : List Coded) {p : Watched} {at ax cx dx bx si : ℕ} {overflow : Bool} {cells stack : ℕ → ℕ} {left : List ℕ} {told : Told} (top k : ℕ) (i : ℤ)
+  module _ (value : Filling) (rest : List Coded) {p : Watched} {first : Bool} {at ax cx dx bx si : ℕ} {overflow : Bool} {cells stack : ℕ → ℕ} {left : List ℕ} {told : Told} (top k : ℕ) (i : ℤ)
       (low : k < 32768) (holds : cells k ≡ unsigned i) (kept : Kept c.program c.g c.acts memory input output cells stack left told)
-      (s : Is c.image at (view ax cx dx bx (2 * suc top) (record_of c.acts) si c.program.limits.area overflow cells stack left told) p) where
+      (s : IsAt first c.image at (view ax cx dx bx (2 * suc top) (record_of c.acts) si c.program.limits.area overflow cells stack left told) p) where
     -- the index from a word of a family
-    pub index_by_word : (f n : ℕ) → ((after : ℕ) → value 2 f n after ≡ 2 * k) → HasPieces c.image value at (index_loaded (cell.Word f n) ++ rest)
+    pub index_by_word : (f n : ℕ) → ((after : ℕ) → value 2 f n after ≡ 2 * k) → HasPiecesFrom first c.image value at (index_loaded (cell.Word f n) ++ rest)
         → Leads output 1 p (Summed (at + 4) ax cx dx (unsigned i) top cells stack left told)
     index_by_word f n index h =
         last c.rows s kept.wrote (record {
           bx = bx;
           overflow = overflow;
           is = subst (λ b. Is c.image (at + 4) (view ax cx dx bx (2 * suc top) (record_of c.acts) b c.program.limits.area overflow cells stack left told) (watched_step p)) holds
-              (act c.rows (Into si_register (memory_at (places.Direct (value 2 f n (at + 4)))) (InData k) (cells k)) refl (lit< tt) h.0 ((refl, refl, low, index (at + 4)), refl) s).is;
+              (act c.rows (Into si_register (memory_at (places.Direct (value 2 f n (at + 4)))) (InData k) (cells k)) (lit< tt) h.0 ((refl, refl, low, index (at + 4)), refl) s).is;
         })
 
     -- and from a word of the frame of an activation
-    pub index_by_frame : (n : ℕ) (a : OrderActivation) (under : List OrderActivation) → c.acts ≡ a ∷ under → k ≡ a.frame_base + n → HasPieces c.image value at (index_loaded (cell.Frame n) ++ rest)
+    pub index_by_frame : (n : ℕ) (a : OrderActivation) (under : List OrderActivation) → c.acts ≡ a ∷ under → k ≡ a.frame_base + n → HasPiecesFrom first c.image value at (index_loaded (cell.Frame n) ++ rest)
         → Leads output 2 p (Summed (at + 3 + 4) ax cx dx (unsigned i) top cells stack left told)
     index_by_frame n a under acts_are index h =
         let r = level c.acts in
@@ -414,14 +414,14 @@ module _ (c : Setting) (memory : List ℤ) (input output : List ℕ) where
         let base_is : base_word c.program c.acts ≡ twice = ap (base_word c.program) acts_are in
         let address : (twice + 2 * n % 65536) % 65536 ≡ 2 * k = omega arith in
         leads_then
-        (straight c.rows (LoadSlot bx_register 0xFA (r + 1) twice ∷ []) {n = 0} kept.wrote (h.0, tt) ((base, slot_base, kept.piled.0.base_is ∙ base_is), tt) s
+        (straight_from c.rows (LoadSlot bx_register 0xFA (r + 1) twice) [] {n = 0} kept.wrote (h.0, tt) ((base, slot_base, kept.piled.0.base_is ∙ base_is), tt) s
         (λ q t. done {Target = Is c.image (at + 3) (view ax cx dx twice (2 * suc top) (record_of c.acts) si c.program.limits.area overflow cells stack left told)} t))
         (λ q t.
         last c.rows t kept.wrote (record {
           bx = twice;
           overflow = overflow;
           is = subst (λ b. Is c.image (at + 3 + 4) (view ax cx dx twice (2 * suc top) (record_of c.acts) b c.program.limits.area overflow cells stack left told) (watched_step q)) holds
-              (act c.rows (Into si_register (field (2 * n % 65536)) (InData k) (cells k)) refl (lit< tt) h.1.0 ((refl, refl, low, address), refl) t).is;
+              (act c.rows (Into si_register (field (2 * n % 65536)) (InData k) (cells k)) (lit< tt) h.1.0 ((refl, refl, low, address), refl) t).is;
         }))
 
   module _ (value : Filling) (rest : List Coded) {p : Watched} {at ax cx dx bx : ℕ} {overflow : Bool} {cells stack : ℕ → ℕ} {left : List ℕ} {told : Told} (top word : ℕ) (small : word < 65536)
@@ -432,7 +432,7 @@ module _ (c : Setting) (memory : List ℤ) (input output : List ℕ) where
         last c.rows s kept.wrote (record {
           bx = bx;
           overflow = difference_overflows word n;
-          is = (act c.rows (OperateNumberOnto Subtract n (rms.Reg si_register) (InRegister si_register) word) refl (lit< tt) h (refl, tt, refl) s).is;
+          is = (act c.rows (OperateNumberOnto Subtract n (rms.Reg si_register) (InRegister si_register) word) (lit< tt) h (refl, tt, refl) s).is;
         })
 
     -- the lower bound is taken from it
@@ -462,7 +462,7 @@ module _ (c : Setting) (memory : List ℤ) (input output : List ℕ) where
 
     index_compared : IndexCompared (watched_step p)
     index_compared =
-        let t = act c.rows (OperateNumberOnto Compare count (rms.Reg si_register) (InRegister si_register) word) refl (lit< tt) h.0 (refl, tt, refl) s in
+        let t = act c.rows (OperateNumberOnto Compare count (rms.Reg si_register) (InRegister si_register) word) (lit< tt) h.0 (refl, tt, refl) s in
         record { is = t.is; flags = c.rows.as_compared word count p.processor.state.flags (watched_step p).processor t.flags }
 
     pub index_passes : (base k : ℕ) → value 1 family first (at + 4 + 2 + 5 + 4) ≡ base → word < count → word_sum word base ≡ k → k < 32768 → Leads output 4 p (Addressed (at + 4 + 2 + 5 + 4 + 2) ax cx dx k top cells stack left told)
@@ -477,7 +477,7 @@ module _ (c : Setting) (memory : List ℤ) (input output : List ℕ) where
         more c.rows {to = at + 4 + 2 + 5} {w = index_there over word} t.is kept.wrote (jump_below c.rows 5 lt h.1.0 t) (λ q u.
         more c.rows {to = at + 4 + 2 + 5 + 4} {w = index_there (sum_overflows word offset) k} u kept.wrote
         (subst (λ b. Is c.image (at + 4 + 2 + 5 + 4) (index_there (sum_overflows word offset) b) (watched_step q)) sum_is
-        (act c.rows (OperateNumberOnto Add offset (rms.Reg si_register) (InRegister si_register) word) refl (lit< tt) onward.0 (refl, tt, refl) u).is) (λ q v.
+        (act c.rows (OperateNumberOnto Add offset (rms.Reg si_register) (InRegister si_register) word) (lit< tt) onward.0 (refl, tt, refl) u).is) (λ q v.
         last c.rows v kept.wrote (record { bx = bx; overflow = double_overflows k; is = doubled c.rows 6 low onward.1.0 v }))))
 
     pub index_stops : (to : ℕ) (loaded : Bool) → line < 65536 → top < level c.acts → ((k : ℕ) → (k + value 7 bounds_entry 0 k) % 65536 ≡ stop_place IndexRange % 65536) → count ≤ word

@@ -1,11 +1,11 @@
 -- What the code of the input does.
-use Rattle.std.proofs.Common.{◌≡◌, ℕ, zero, suc, ◌+◌, ◌*◌, ◌%◌, ◌<◌, true, false, ℤ, pos, negsuc, List, [], ◌∷◌, drop, refl, sym, ap, ◌∙◌, subst, arith}
+use Rattle.std.proofs.Common.{Bool, ◌≡◌, ℕ, zero, suc, ◌+◌, ◌*◌, ◌%◌, ◌<◌, true, false, ℤ, pos, negsuc, List, [], ◌∷◌, drop, refl, sym, ap, ◌∙◌, subst, arith}
 use Rattle.std.specs.List.{All}
 use Rattle.std.proofs.lemmas.List.Elements.{All-head}
 use Rattle.cw_track.proofs.Paths.{join}
 use Rattle.cw_i86.specs.declared.instr.Instr.TheVariants as i86
 use Rattle.cw_run86.specs.Processor.{Told}
-use Rattle.cw_run86.specs.Views.{Has, put_word}
+use Rattle.cw_run86.specs.Views.{put_word}
 use Rattle.cw_word.specs.Word.{unsigned}
 use Rattle.cw_unit.specs.Words.{Operand, Word, read_byte}
 use Rattle.cw_unit.specs.Operation.{ReadByte, perform}
@@ -14,13 +14,14 @@ use Rattle.cw_order.specs.OrderMachine.{unrefused}
 use Rattle.cw_tmpl.specs.Library.{read_place}
 use Rattle.cw_routines.specs.Results.{next_word}
 use Rattle.cw_follow.proofs.Watched.{Watched, watched_machine}
-use Rattle.cw_follow.proofs.Chains.{Is, Leads, view, to_place, call, last}
+use Rattle.cw_follow.proofs.Chains.{Is, Leads, view, to_place, call, last, IsAt}
 use Rattle.cw_follow.proofs.Routines.{leads_on, put_at, quiet_in, quiet_library, flags_of, arrives}
 use Rattle.cw_follow.proofs.Stacks.{level, record_of, StackIs, top_is, same_put, stack_same}
-use Rattle.cw_follow.proofs.Orders.{Kept, kept_under, Landed, landed, Leading}
+use Rattle.cw_follow.proofs.Orders.{Kept, kept_under, Landed, landed, Leading, LandedAt}
 use Rattle.cw_follow.proofs.Operands.{Setting, words, LandedWith, DoesHere}
 use Rattle.cw_follow.proofs.Called.{Returned, comes_back}
 use Rattle.cw_follow.proofs.Numbers.{unsigned_pos}
+use Rattle.cw_follow.proofs.Standing.{Has, HasAt}
 
 module _ (c : Setting) (memory : List ℤ) (output : List ℕ) where
   -- what has been read is in AX
@@ -41,10 +42,10 @@ module _ (c : Setting) (memory : List ℤ) (output : List ℕ) where
       landed c.rows c.program c.image c.g c.acts true to n (Word (pos b) ∷ operands) memory rest output refl (ax, h)
       (record { words = k.words; long = k.long; piled = k.piled; read = gone; wrote = k.wrote; kind = k.kind }) (to_place same r.is)
 
-  pub reads : {p : Watched} {at : ℕ} (to by : ℕ) (operands : List Operand) (input : List ℕ) → at + 3 ≡ to → (at + 3 + by) % 65536 ≡ read_place % 65536 → operand_words operands < level c.acts
-      → Has c.image at (i86.Call by) → All (λ b. b < 256) input → LandedWith c memory input output at false operands p
+  pub reads : {p : Watched} {first : Bool} {at : ℕ} (to by : ℕ) (operands : List Operand) (input : List ℕ) → at + 3 ≡ to → (at + 3 + by) % 65536 ≡ read_place % 65536 → operand_words operands < level c.acts
+      → HasAt first c.image at (i86.Call by) → All (λ b. b < 256) input → LandedAt first c.program c.image at c.g false c.acts (words operands memory input output) p
       → DoesHere c memory input output 7 to true 0 p (unrefused (perform c.program.limits.area ReadByte (words operands memory input output)))
-  reads {p} {at} to by operands input e arrives_there room i bytes l = from l.top refl
+  reads {p} {first} {at} to by operands input e arrives_there room i bytes l = from l.top refl
     where
       from : (top : ℕ) → l.top ≡ top → Leading output 7 p (Landed c.program c.image to c.g true c.acts (read_byte input (words operands memory input output)))
       from zero is = let t = top_is c.program c.acts l.stack l.top operands l.operands in absurd (omega arith)
@@ -65,13 +66,13 @@ module _ (c : Setting) (memory : List ℤ) (output : List ℕ) where
           let kept = kept_under n back low l.kept in
           let under = stack_same c.program c.acts l.stack stack' (suc n) operands (same_put l.stack n back (suc n) (omega arith)) h in
           let input_fits : All (λ b. b < 256) l.input = subst (All (λ b. b < 256)) (sym l.kept.read) bytes in
-          let at_n : Is c.image at (view s.ax s.cx s.dx s.bx (2 * suc n) bp s.si area s.overflow l.cells l.stack l.input l.told) p =
-          subst (λ t. Is c.image at (view s.ax s.cx s.dx s.bx (2 * t) bp s.si area s.overflow l.cells l.stack l.input l.told) p) is s.is in
+          let at_n : IsAt first c.image at (view s.ax s.cx s.dx s.bx (2 * suc n) bp s.si area s.overflow l.cells l.stack l.input l.told) p =
+          subst (λ t. IsAt first c.image at (view s.ax s.cx s.dx s.bx (2 * t) bp s.si area s.overflow l.cells l.stack l.input l.told) p) is s.is in
           let lead : Leads output 1 p (Is c.image read_place (view s.ax s.cx s.dx s.bx (2 * n) bp s.si area s.overflow l.cells stack' l.input l.told)) =
           last c.rows at_n l.kept.wrote (to_place arrives_there (call c.rows by n back lt sp refl i at_n)) in
           let q = lead.reached in
           let read =
-          c.rows.routines.read (quiet_in q.places) c.image c.library (quiet_library lead.there.ignores) n back s.ax s.cx s.dx s.bx bp s.si area (flags_of q) l.cells stack' l.input l.told q.processor
+          c.rows.routines.read (quiet_in q.places) c.image.bytes c.library (quiet_library lead.there.ignores) n back s.ax s.cx s.dx s.bx bp s.si area (flags_of q) l.cells stack' l.input l.told q.processor
           input_fits lt' (put_at l.stack n back) small (arrives lead.there) in
           let within = read.within in
           let behind : Leads output read.spent q (Landed c.program c.image to c.g true c.acts (read_byte input (words operands memory input output))) =

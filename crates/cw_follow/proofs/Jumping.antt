@@ -20,7 +20,7 @@ use Rattle.cw_tmpl.specs.ReferenceCode.{mark_starts, names_of}
 use Rattle.cw_follow.specs.Placing.{base_of, label_place, definition_place}
 use Rattle.cw_tmpl.proofs.Sizes.{own_place, mark_start, jump_arrives}
 use Rattle.cw_follow.proofs.Watched.{Watched}
-use Rattle.cw_follow.proofs.Standing.{order_place}
+use Rattle.cw_follow.proofs.Standing.{order_place, Image}
 use Rattle.cw_follow.proofs.Chains.{Is, Leads, view, to_place, near, more}
 use Rattle.cw_follow.proofs.Routines.{leads_on}
 use Rattle.cw_follow.proofs.Stacks.{drop_all, record_of}
@@ -29,9 +29,9 @@ use Rattle.cw_follow.proofs.States.{Given, Sound}
 use Rattle.cw_follow.proofs.Leaving.{past, kept_below, restores, goes_special}
 use Rattle.cw_follow.proofs.Calling.{left_for}
 use Rattle.cw_follow.proofs.Naming.{argument_stands, label_listed, label_start_is, mark_listed, start_is}
-use Rattle.cw_follow.proofs.Steps.{Follow, step_is, weight_is, stuck_here, Alone, code}
+use Rattle.cw_follow.proofs.Steps.{Follow, step_is, weight_is, stuck_here, Alone, code, FollowFrom, begun_here, landed_here}
 
-pub landed_at : {p : OrderProgram} {image : List ℕ} {at to g : ℕ} {loaded : Bool} {acts : List OrderActivation} {w : Words} {q : Watched} → at % 65536 ≡ to % 65536
+pub landed_at : {p : OrderProgram} {image : Image} {at to g : ℕ} {loaded : Bool} {acts : List OrderActivation} {w : Words} {q : Watched} → at % 65536 ≡ to % 65536
     → Landed p image at g loaded acts w q → Landed p image to g loaded acts w q
 landed_at e l =
     let s = l.stacked in
@@ -73,11 +73,11 @@ module _ (known : Given) where
       (restores rows p image to g' (base_of p to + mark_starts o e.mark) by number acts memory left output none is_number few' (jump_arrives (base_of p to) (landing_start (names_of o) l) 15 (mark_starts o e.mark)) kept i here)
 
   -- a label of the body of a segment
-  pub goes_to_landing : {q : Watched} {g place : ℕ} {loaded : Bool} {acts : List OrderActivation} {w : Words} (s : Sound p image g place loaded acts w q) (by_itself : Alone p image g place loaded acts w q s.orders.list) (steps to l n : ℕ) (e : LabelEntry)
+  pub goes_to_landing : {first q : Watched} {g place : ℕ} {loaded : Bool} {acts : List OrderActivation} {w : Words} (s : Sound p image g place loaded acts w q) (by_itself : Alone p image g place loaded acts w q s.orders.list) (steps to l n : ℕ) (e : LabelEntry)
       → e.in_procedure ≡ false → label_at p to l ≡ Some e
       → step p (at g place loaded acts w Running) ≡ leave_for (place_of p to e.mark) to (length acts) g place false acts w → steps + 5 ≤ weight p (at g place loaded acts w Running)
-      → Leads w.output steps q (Landed p image (label_place p to l) (segment_below n g acts) false (drop n acts) (with_operands w [])) → Follow known (at g place loaded acts w Running) q
-  goes_to_landing {q} {g} {place} {loaded} {acts} {w} s by_itself steps to l n e body is goes paid way =
+      → Leads w.output steps first (Landed p image (label_place p to l) (segment_below n g acts) false (drop n acts) (with_operands w [])) → FollowFrom known first (at g place loaded acts w Running) q
+  goes_to_landing {first} {q} {g} {place} {loaded} {acts} {w} s by_itself steps to l n e body is goes paid way =
       left_for known s by_itself to e.mark (length acts) (steps + 5) goes paid (λ k o unit there within.
       further (steps + 5) (let x : steps + 5 ≤ steps + 5 = omega arith in x) (let x : 0 < steps + 5 = omega arith in x)
       (past way (λ r d.
@@ -88,11 +88,11 @@ module _ (known : Given) where
       (subst (λ ys. Kept p g' ys w.memory w.input w.output d.cells d.stack d.input d.told) ending (kept_below m d.kept)) d.stacked.is)))
 
   -- a label that stands in a procedure
-  pub goes_to_owner : {q : Watched} {g place : ℕ} {loaded : Bool} {acts : List OrderActivation} {w : Words} (s : Sound p image g place loaded acts w q) (by_itself : Alone p image g place loaded acts w q s.orders.list) (steps to l n : ℕ) (e : LabelEntry)
+  pub goes_to_owner : {first q : Watched} {g place : ℕ} {loaded : Bool} {acts : List OrderActivation} {w : Words} (s : Sound p image g place loaded acts w q) (by_itself : Alone p image g place loaded acts w q s.orders.list) (steps to l n : ℕ) (e : LabelEntry)
       → e.in_procedure ≡ true → label_at p to l ≡ Some e → segment_below n g acts ≡ to
       → step p (at g place loaded acts w Running) ≡ leave_for (place_of p to e.mark) to n g place false acts w → 0 < steps → steps ≤ weight p (at g place loaded acts w Running)
-      → Leads w.output steps q (Landed p image (label_place p to l) (segment_below n g acts) false (drop n acts) (with_operands w [])) → Follow known (at g place loaded acts w Running) q
-  goes_to_owner {q} {g} {place} {loaded} {acts} {w} s by_itself steps to l n e inside is same goes some paid way =
+      → Leads w.output steps first (Landed p image (label_place p to l) (segment_below n g acts) false (drop n acts) (with_operands w [])) → FollowFrom known first (at g place loaded acts w Running) q
+  goes_to_owner {first} {q} {g} {place} {loaded} {acts} {w} s by_itself steps to l n e inside is same goes some paid way =
       left_for known s by_itself to e.mark n steps goes paid (λ k o unit there within.
       let at_mark : label_start (names_of o) l ≡ own_place o.list k = label_start_is known to l o e true inside unit is ∙ mark_start o e.mark k (mark_listed known to e.mark k o unit there) within in
       let at_label : label_place p to l ≡ order_place (base_of p to) o.list k % 65536 = start_is known to o (λ u. label_start (names_of u) l) unit ∙ ap (λ m. (base_of p to + m) % 65536) at_mark in
@@ -101,14 +101,14 @@ module _ (known : Given) where
       (leads_on (λ r d. landed_at arrives (subst (λ m. Landed p image (label_place p to l) m false (drop n acts) (with_operands w []) r) same d)) way))
 
   -- by an entry of the labels
-  pub goes_by_entry : {q : Watched} {g place : ℕ} {loaded : Bool} {acts : List OrderActivation} {w : Words} (s : Sound p image g place loaded acts w q) (by_itself : Alone p image g place loaded acts w q s.orders.list) (steps to l owner : ℕ)
+  pub goes_by_entry : {first q : Watched} {g place : ℕ} {loaded : Bool} {acts : List OrderActivation} {w : Words} (s : Sound p image g place loaded acts w q) (by_itself : Alone p image g place loaded acts w q s.orders.list) (steps to l owner : ℕ)
       → 0 < steps → OwnsLabel p owner g acts to l
       → step p (at g place loaded acts w Running) ≡ go_to p (Some (LabelControl to l owner)) g place false acts w → steps + 5 ≤ weight p (at g place loaded acts w Running)
-      → Leads w.output steps q (Landed p image (label_place p to l) (segment_below (length acts - owner) g acts) false (drop (length acts - owner) acts) (with_operands w []))
-      → Follow known (at g place loaded acts w Running) q
-  goes_by_entry {q} {g} {place} {loaded} {acts} {w} s by_itself steps to l owner some owns goes paid way = cases (label_at p to l) refl
+      → Leads w.output steps first (Landed p image (label_place p to l) (segment_below (length acts - owner) g acts) false (drop (length acts - owner) acts) (with_operands w []))
+      → FollowFrom known first (at g place loaded acts w Running) q
+  goes_by_entry {first} {q} {g} {place} {loaded} {acts} {w} s by_itself steps to l owner some owns goes paid way = cases (label_at p to l) refl
     where
-      inside : (e : LabelEntry) → label_at p to l ≡ Some e → (b : Bool) → e.in_procedure ≡ b → Follow known (at g place loaded acts w Running) q
+      inside : (e : LabelEntry) → label_at p to l ≡ Some e → (b : Bool) → e.in_procedure ≡ b → FollowFrom known first (at g place loaded acts w Running) q
       inside e is true b =
           goes_to_owner s by_itself steps to l (length acts - owner) e b is (owns e is b)
           (goes ∙ ap (λ x. go_to_entry p x to owner g place false acts w) is ∙ ap (λ x. leave_for (place_of p to e.mark) to (dropped_by x owner acts) g place false acts w) b) some (omega arith) way
@@ -116,14 +116,14 @@ module _ (known : Given) where
           goes_to_landing s by_itself steps to l (length acts - owner) e b is
           (goes ∙ ap (λ x. go_to_entry p x to owner g place false acts w) is ∙ ap (λ x. leave_for (place_of p to e.mark) to (dropped_by x owner acts) g place false acts w) b) paid way
 
-      cases : (x : Option LabelEntry) → label_at p to l ≡ x → Follow known (at g place loaded acts w Running) q
+      cases : (x : Option LabelEntry) → label_at p to l ≡ x → FollowFrom known first (at g place loaded acts w Running) q
       cases None is = absurd (stuck_here known s (goes ∙ ap (λ x. go_to_entry p x to owner g place false acts w) is))
       cases (Some e) is = inside e is e.in_procedure refl
 
   -- a label parameter
   pub goes_by_parameter : {q : Watched} {g place : ℕ} {a : OrderActivation} {acts : List OrderActivation} {w : Words} (s : Sound p image g place false (a ∷ acts) w q) (by_itself : Alone p image g place false (a ∷ acts) w q s.orders.list) (k : ℕ)
       → slice_get s.orders.list place ≡ Some (order.GoSpecial k)
-      → (x : Option Operand) → argument_behind k a.arguments ≡ x → Follow known (at g place false (a ∷ acts) w Running) q
+      → (x : Option Operand) → argument_behind k a.arguments ≡ x → FollowFrom known (begun_here known s) (at g place false (a ∷ acts) w Running) q
   goes_by_parameter {q} {g} {place} {a} {acts} {w} s by_itself k e None is =
       absurd (stuck_here known s (step_is known s (Some (order.GoSpecial k)) e ∙ ap (λ x. go_to p (control_in x) g place false (a ∷ acts) w) is))
   goes_by_parameter {q} {g} {place} {a} {acts} {w} s by_itself k e (Some (Word z)) is =
@@ -141,11 +141,11 @@ module _ (known : Given) where
       let owns : OwnsLabel p owner g (a ∷ acts) to l = λ x isx inx. sym (ap (λ m. segment_below m g (a ∷ acts)) one_more) ∙ stands.1 x isx inx in
       let paid = weight_is known s o e in
       goes_by_entry s by_itself 6 to l owner (lit< tt) owns (step_is known s (Some o) e ∙ ap (λ x. go_to p (control_in x) g place false (a ∷ acts) w) is) (omega arith)
-      (goes_special rows p image g k to l owner (length (a ∷ acts) - owner) a acts w is stands refl (code known s by_itself o e) by_itself.landed)
+      (goes_special rows p image g k to l owner (length (a ∷ acts) - owner) a acts w is stands refl (code known s by_itself o e) (landed_here known s by_itself))
 
   -- a label of a descriptor
   pub goes_common : {q : Watched} {g place : ℕ} {acts : List OrderActivation} {w : Words} (s : Sound p image g place false acts w q) (by_itself : Alone p image g place false acts w q s.orders.list) (d : ℕ)
-      → slice_get s.orders.list place ≡ Some (order.GoCommon d) → (x : Option (ℕ × Def)) → defined_at p g d ≡ x → Follow known (at g place false acts w Running) q
+      → slice_get s.orders.list place ≡ Some (order.GoCommon d) → (x : Option (ℕ × Def)) → defined_at p g d ≡ x → FollowFrom known (begun_here known s) (at g place false acts w Running) q
   goes_common {q} {g} {place} {acts} {w} s by_itself d e None is =
       absurd (stuck_here known s (step_is known s (Some (order.GoCommon d)) e ∙ ap (λ x. go_to p (with_label_owner (length acts) (label_of_def x)) g place false acts w) is))
   goes_common {q} {g} {place} {acts} {w} s by_itself d e (Some (to, def.Proc n)) is =
@@ -157,7 +157,7 @@ module _ (known : Given) where
       goes : step p (at g place false acts w Running) ≡ go_to_entry p (label_at p to l) to (length acts) g place false acts w
       goes = step_is known s (Some (order.GoCommon d)) e ∙ ap (λ x. go_to p (with_label_owner (length acts) (label_of_def x)) g place false acts w) is
 
-      cases : (x : Option LabelEntry) → label_at p to l ≡ x → Follow known (at g place false acts w Running) q
+      cases : (x : Option LabelEntry) → label_at p to l ≡ x → FollowFrom known (begun_here known s) (at g place false acts w Running) q
       cases None isx = absurd (stuck_here known s (goes ∙ ap (λ x. go_to_entry p x to (length acts) g place false acts w) isx))
       cases (Some x) isx =
           let o = order.GoCommon d in
@@ -169,7 +169,7 @@ module _ (known : Given) where
           let arrives : (here + 3 + by) % 65536 ≡ label_place p to l % 65536 = omega arith in
           let body : x.in_procedure ≡ false = coded.callable.labels g d to l x is isx in
           let paid = weight_is known s o e in
-          let d' = by_itself.landed in
+          let d' = landed_here known s by_itself in
           let z = d'.stacked in
           left_for known s by_itself to x.mark (length acts) 6 (goes ∙ ap (λ y. go_to_entry p y to (length acts) g place false acts w) isx ∙ ap (λ y. leave_for (place_of p to x.mark) to (dropped_by y (length acts) acts) g place false acts w) body) (omega arith) (λ k u unit there within.
           further 6 (lit≤ tt) (lit< tt)

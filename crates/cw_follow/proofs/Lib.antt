@@ -1,6 +1,8 @@
+pub mod Bytes
 pub mod Standing
 pub mod WordLaws
 pub mod Halves
+pub mod Sized
 pub mod Fine
 pub mod Placement
 pub mod Fields
@@ -43,6 +45,8 @@ pub mod BoundedBlocks
 pub mod PartBlocks
 pub mod NumberBlocks
 pub mod Bodies
+pub mod Owed
+pub mod Opening
 pub mod Dispatch
 pub mod Leaving
 pub mod Tables
@@ -59,4 +63,5 @@ pub mod Loops
 pub mod Within
 pub mod Passed
 pub mod StatementPlaces
+pub mod Strong
 pub mod Following

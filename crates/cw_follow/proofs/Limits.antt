@@ -12,7 +12,7 @@ use Rattle.cw_order.specs.OrderChanges.{way_of_two, way_past_limit, to_mark_if}
 use Rattle.cw_order.specs.OrderState.{operand_words}
 use Rattle.cw_order.specs.FittingWords.{OperandFits}
 use Rattle.cw_tmpl.specs.Library.{exhausted_place}
-use Rattle.cw_routines.specs.Ways.{HasAll, Within, Back}
+use Rattle.cw_routines.specs.Ways.{Within, Back}
 use Rattle.cw_routines.specs.Results.{Quiet}
 use Rattle.cw_follow.proofs.Watched.{Watched}
 use Rattle.cw_follow.proofs.Chains.{to_place}
@@ -22,6 +22,7 @@ use Rattle.cw_follow.proofs.Stacks.{level, record_of}
 use Rattle.cw_follow.proofs.Orders.{Leading, landed, jumps, Chooses, further_on}
 use Rattle.cw_follow.proofs.Operands.{Setting, words, LandedWith}
 use Rattle.cw_follow.proofs.Variables.{holds, reaches, runs}
+use Rattle.cw_follow.proofs.Standing.{HasAll}
 
 module _ (c : Setting) (memory : List ℤ) (input output : List ℕ) where
   -- the call of the routine, and the jump behind it
@@ -45,12 +46,13 @@ module _ (c : Setting) (memory : List ℤ) (input output : List ℕ) where
         let back = (at + 3) % 65536 in (
           r.told.output,
           record {
+            watches = r.is.overlooks;
             silent = r.is.silent;
             wrote = r.kept.wrote;
             U = _;
             law =
-                subst (λ b. Within (Quiet (quiet_in q.places)) c.image r.told.output 15 q.processor (Back c.image (if b then back else (back + 3)) (2 * suc (suc r.top)) (record_of c.acts) c.program.limits.area r.cells r.stack r.left r.told (λ ax f. Unit {0}))) is
-                (c.rows.routines.exhausted (quiet_in q.places) c.image c.library (quiet_library r.is.ignores) c.program.limits.area n (record_of c.acts) r.top back r.cx l.stacked.dx l.stacked.bx r.si x
+                subst (λ b. Within (Quiet (quiet_in q.places)) c.image.bytes r.told.output 15 q.processor (Back c.image.bytes (if b then back else (back + 3)) (2 * suc (suc r.top)) (record_of c.acts) c.program.limits.area r.cells r.stack r.left r.told (λ ax f. Unit {0}))) is
+                (c.rows.routines.exhausted (quiet_in q.places) c.image.bytes c.library (quiet_library r.is.ignores) c.program.limits.area n (record_of c.acts) r.top back r.cx l.stacked.dx l.stacked.bx r.si x
                 (flags_of q) r.cells r.stack r.left r.told memory q.processor
                 fx within (holds c memory input output all r.kept) (omega arith) r.way r.under.0 (omega arith) (arrives (with_ax (unsigned_pos n (omega arith)) r.is)));
             means = λ u e. landed c.rows c.program c.image c.g c.acts false to (suc (suc r.top)) rest memory input output refl r.under.1 r.kept (to_place comes (returned q r.is.ignores e.is));

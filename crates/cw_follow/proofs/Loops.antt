@@ -17,8 +17,7 @@ use Rattle.cw_tmpl.specs.Templates.{order_size, distance, mark_words, loop_way}
 use Rattle.cw_tmpl.specs.ReferenceCode.{mark_starts, names_of}
 use Rattle.cw_follow.specs.Placing.{base_of}
 use Rattle.cw_tmpl.proofs.Sizes.{own_place, jump_arrives, listed as size_listed}
-use Rattle.cw_routines.specs.Ways.{HasWord}
-use Rattle.cw_follow.proofs.Standing.{HasPieces}
+use Rattle.cw_follow.proofs.Standing.{HasPieces, HasWord}
 use Rattle.cw_follow.proofs.Stacks.{words_split}
 use Rattle.cw_follow.proofs.States.{Given, Sound}
 use Rattle.cw_follow.proofs.Steps.{Follow, step_is, line_fits, has_code, start, chosen, does, by, calls, setting, cheap, low_room, Alone, here, next, code, behind, begins_next, Roomy, if_roomy}

@@ -8,7 +8,7 @@ use Rattle.cw_i86.specs.declared.instr.Instr.TheVariants as i86
 use Rattle.cw_i86.specs.declared.instr.Imm.TheVariants as imm
 use Rattle.cw_i86.specs.declared.instr.Rm.TheVariants as rms
 use Rattle.cw_run86.specs.Processor.{Told}
-use Rattle.cw_run86.specs.Views.{Has, sum_overflows}
+use Rattle.cw_run86.specs.Views.{sum_overflows}
 use Rattle.cw_rows86.specs.Locations.{InRegister}
 use Rattle.cw_rows86.specs.Operations.{Add}
 use Rattle.cw_rows86.specs.Acts.{OperateNumberOnto}
@@ -21,7 +21,7 @@ use Rattle.cw_order.specs.OrderChanges.{Way, Onward, ToMark, Barred, Nowhere, to
 use Rattle.cw_order.specs.OrderState.{OrderActivation, operand_words, frame_word}
 use Rattle.cw_tmpl.specs.Mnemonics.{bx, slot, base_slot, load, operate_number}
 use Rattle.cw_tmpl.specs.Library.{next_step_place}
-use Rattle.cw_routines.specs.Ways.{HasAll, HasWord, Within}
+use Rattle.cw_routines.specs.Ways.{Within}
 use Rattle.cw_routines.specs.Results.{Quiet, Answered, AtMost, GoesOn}
 use Rattle.cw_follow.proofs.Watched.{Watched, fresh}
 use Rattle.cw_follow.proofs.Chains.{Is, Leads, view, to_place, number, near, not_at_most, jump_if, pass_if, more, last}
@@ -33,6 +33,7 @@ use Rattle.cw_follow.proofs.Orders.{Kept, Landed, Leading, Chooses, with_bx, lan
 use Rattle.cw_follow.proofs.Operands.{Setting, words, LandedWith, tells}
 use Rattle.cw_follow.proofs.FrameBlocks.{frame_word_inside}
 use Rattle.cw_follow.proofs.Variables.{holds as holds_memory, AtRoutine, reaches, runs, Stores, step_stores}
+use Rattle.cw_follow.proofs.Standing.{Has, HasAll, HasWord}
 
 -- twice the address of a word of the frame, from the word in the record
 frame_doubled : (p : OrderProgram) (acts : List OrderActivation) (n a : ℕ) → p.limits.area ≤ 32768 → frame_word p.limits.area acts n ≡ Some a → (base_word p acts + 2 * n % 65536) % 65536 ≡ 2 * a
@@ -141,7 +142,7 @@ module _ (c : Setting) (memory : List ℤ) (input output : List ℕ) where
         stack = l.stack;
         left = l.input;
         told = l.told;
-        is = with_bx (frame_doubled c.program c.acts n a c.low e) (act c.rows (OperateNumberOnto Add (2 * n % 65536) (rms.Reg 3) (InRegister 3) word) refl (lit< tt) i.1.0 (refl, tt, refl) t).is;
+        is = with_bx (frame_doubled c.program c.acts n a c.low e) (act c.rows (OperateNumberOnto Add (2 * n % 65536) (rms.Reg 3) (InRegister 3) word) (lit< tt) i.1.0 (refl, tt, refl) t).is;
         under = l.operands;
         kept = k;
       }))
@@ -214,25 +215,26 @@ module _ (c : Setting) (memory : List ℤ) (input output : List ℕ) where
         reaches c memory input output next_step_place by (at + 3) operands l.top room there (omega arith) i.0 l.under l.kept l.is
 
     law : (x : Way) → chosen ≡ x → (q : Watched) (r : Called q)
-        → Within (Quiet (quiet_in q.places)) c.image r.told.output 28 q.processor
-        (GoesOn c.image r.told.output c.program.limits.area (at + 3) (2 * suc r.top) (record_of c.acts) (c.g + 1) line r.stack r.left r.told x)
+        → Within (Quiet (quiet_in q.places)) c.image.bytes r.told.output 28 q.processor
+        (GoesOn c.image.bytes r.told.output c.program.limits.area (at + 3) (2 * suc r.top) (record_of c.acts) (c.g + 1) line r.stack r.left r.told x)
     law x is q r =
         let low = r.low in
         subst
-        (λ y. Within (Quiet (quiet_in q.places)) c.image r.told.output 28 q.processor
-        (GoesOn c.image r.told.output c.program.limits.area (at + 3) (2 * suc r.top) (record_of c.acts) (c.g + 1) line r.stack r.left r.told y)) is
-        (c.rows.routines.next_step (quiet_in q.places) c.image c.library (quiet_library r.is.ignores) c.program.limits.area a m line (record_of c.acts) r.top (level c.acts + 3) (c.g + 1) (at + 3) l.ax
+        (λ y. Within (Quiet (quiet_in q.places)) c.image.bytes r.told.output 28 q.processor
+        (GoesOn c.image.bytes r.told.output c.program.limits.area (at + 3) (2 * suc r.top) (record_of c.acts) (c.g + 1) line r.stack r.left r.told y)) is
+        (c.rows.routines.next_step (quiet_in q.places) c.image.bytes c.library (quiet_library r.is.ignores) c.program.limits.area a m line (record_of c.acts) r.top (level c.acts + 3) (c.g + 1) (at + 3) l.ax
         r.cx l.dx r.si (flags_of q) r.cells r.stack r.left r.told (words operands memory input output) q.processor inside (holds_memory c memory input output all r.kept) line_there small (omega arith) r.way
         back_small (tells c memory input output r.kept) (arrives r.is))
 
     returns : (b : Bool) (v : Words) → ((q : Watched) (r : Called q)
-        → Within (Quiet (quiet_in q.places)) c.image r.told.output 28 q.processor (Answered c.image c.program.limits.area (at + 3) (2 * suc r.top) (record_of c.acts) r.stack r.left r.told v (AtMost b)))
+        → Within (Quiet (quiet_in q.places)) c.image.bytes r.told.output 28 q.processor (Answered c.image.bytes c.program.limits.area (at + 3) (2 * suc r.top) (record_of c.acts) r.stack r.left r.told v (AtMost b)))
         → Leading output 29 p (Turned (at + 3) b v.memory operands)
     returns b v each =
         runs c memory input output 0 28 29 (lit≤ tt) called (λ q r.
         let k = r.kept in (
           r.told.output,
           record {
+            watches = r.is.overlooks;
             silent = r.is.silent;
             wrote = k.wrote;
             U = _;
@@ -264,6 +266,7 @@ module _ (c : Setting) (memory : List ℤ) (input output : List ℕ) where
         runs c memory input output 0 28 31 (lit≤ tt) called (λ q r. (
           r.told.output,
           record {
+            watches = r.is.overlooks;
             silent = r.is.silent;
             wrote = r.kept.wrote;
             U = _;

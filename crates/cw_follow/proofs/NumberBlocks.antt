@@ -2,7 +2,7 @@
 use Rattle.std.proofs.Common.{◌≡◌, ℕ, suc, ◌+◌, ◌*◌, ◌%◌, ◌^◌, ◌<◌, ◌≤◌, Bool, true, false, ℤ, pos, ◌+ℤ◌, ◌-ℤ◌, List, ◌∷◌, length, drop, Some, refl, sym, ap, ap₂, ◌∙◌, subst, arith, lit<, lit≤, pow_mono}
 use Rattle.std.proofs.lemmas.Int.{ints}
 use Rattle.std.specs.List.{All}
-use Rattle.cw_run86.specs.Views.{Has, word_sum, word_difference, sum_overflows, difference_overflows, word_down_signed}
+use Rattle.cw_run86.specs.Views.{word_sum, word_difference, sum_overflows, difference_overflows, word_down_signed}
 use Rattle.cw_rows86.specs.Operations.{DownSigned}
 use Rattle.cw_rows86.specs.Acts.{Count}
 use Rattle.cw_word.specs.FixedPoint.{FitsWord, floor_div, scaled_product}
@@ -26,7 +26,7 @@ use Rattle.cw_tmpl.specs.declared.pieces.Coded.TheVariants as pieces
 use Rattle.cw_tmpl.specs.Templates.{shifted_down_signed, counted, checked, block_size}
 use Rattle.cw_follow.specs.Placing.{base_of}
 use Rattle.cw_follow.proofs.Watched.{Watched}
-use Rattle.cw_follow.proofs.Standing.{HasPieces, order_place}
+use Rattle.cw_follow.proofs.Standing.{HasPieces, order_place, Has}
 use Rattle.cw_follow.proofs.Chains.{Is, view, last}
 use Rattle.cw_follow.proofs.Acting.{act}
 use Rattle.cw_follow.proofs.Routines.{leads_on}
@@ -62,7 +62,7 @@ module _ (c : Setting) (memory : List ℤ) (input output : List ℕ) where
           later c.program c.image 14 to c.g true line c.acts
           {T = Is c.image (at + 1) (view (word_difference (unsigned x) 1) l.cx l.dx l.bx (2 * suc l.top) (record_of c.acts) l.si c.program.limits.area (difference_overflows (unsigned x) 1) l.cells l.stack l.left l.told)}
           1 15 (put_value (x -ℤ pos 1) (words rest memory input output)) (lit≤ tt)
-          (last c.rows l.is l.kept.wrote (act c.rows (Count true 0) refl (lit< tt) h tt l.is).is)
+          (last c.rows l.is l.kept.wrote (act c.rows (Count true 0) (lit< tt) h tt l.is).is)
           (λ q t.
           checks c.rows c.program c.image c.g c.acts Overflow to (suc l.top) by line (x -ℤ pos 1) rest memory input output tt c.library c.few some small e' arrives (difference_overflows_is c.rows.words x (pos 1) fx one_fits)
           (difference_is c.rows.words x (pos 1) fx one_fits) l.under l.kept i t)
@@ -75,7 +75,7 @@ module _ (c : Setting) (memory : List ℤ) (input output : List ℕ) where
           later c.program c.image 14 to c.g true line c.acts
           {T = Is c.image (at + 1) (view (word_sum (unsigned x) 1) l.cx l.dx l.bx (2 * suc l.top) (record_of c.acts) l.si c.program.limits.area (sum_overflows (unsigned x) 1) l.cells l.stack l.left l.told)}
           1 15 (put_value (x +ℤ pos 1) (words rest memory input output)) (lit≤ tt)
-          (last c.rows l.is l.kept.wrote (act c.rows (Count false 0) refl (lit< tt) h tt l.is).is)
+          (last c.rows l.is l.kept.wrote (act c.rows (Count false 0) (lit< tt) h tt l.is).is)
           (λ q t.
           checks c.rows c.program c.image c.g c.acts Overflow to (suc l.top) by line (x +ℤ pos 1) rest memory input output tt c.library c.few some small e' arrives (sum_overflows_is c.rows.words x (pos 1) fx one_fits)
           (sum_is c.rows.words x (pos 1) fx one_fits) l.under l.kept i t)

@@ -4,7 +4,6 @@ use Rattle.std.specs.List.{All}
 use Rattle.std.proofs.lemmas.List.Elements.{All-head, All-tail}
 use Rattle.cw_i86.specs.declared.instr.Instr.TheVariants as i86
 use Rattle.cw_run86.specs.Processor.{Told}
-use Rattle.cw_run86.specs.Views.{Has}
 use Rattle.cw_word.specs.FixedPoint.{FitsWord}
 use Rattle.cw_word.specs.Word.{unsigned}
 use Rattle.cw_unit.specs.Stop.{StopKind, Stopped}
@@ -14,7 +13,6 @@ use Rattle.cw_order.specs.OrderState.{OrderActivation, operand_words}
 use Rattle.cw_order.specs.OrderMachine.{unrefused}
 use Rattle.cw_order.specs.FittingWords.{OperandFits}
 use Rattle.cw_tmpl.specs.Library.{stop_place}
-use Rattle.cw_routines.specs.Ways.{HasWord}
 use Rattle.cw_routines.specs.Results.{Stands, Tells}
 use Rattle.cw_follow.proofs.Watched.{Watched}
 use Rattle.cw_follow.proofs.Rows.{Rows}
@@ -22,12 +20,13 @@ use Rattle.cw_follow.proofs.Chains.{Is, Leads, view, no_overflow, passes, more, 
 use Rattle.cw_follow.proofs.Routines.{HasLine, Over, stops, with_ax}
 use Rattle.cw_follow.proofs.Stacks.{level, record_of, StackIs, top_is}
 use Rattle.cw_follow.proofs.Orders.{Kept, Landed, Does, Check, later, further, landed}
+use Rattle.cw_follow.proofs.Standing.{Has, HasWord, Image}
 
 -- where an order is carried out
 pub record Setting : Type 0 where
   pub rows : Rows
-  pub image : List ℕ
-  pub library : Stands image
+  pub image : Image
+  pub library : Stands image.bytes
   pub program : OrderProgram
   pub low : program.limits.area ≤ 32768
   pub g : ℕ
@@ -42,7 +41,7 @@ abbrev pub allowed : Bool → StopKind → Outcome → Outcome
 allowed true kind o = o
 allowed false kind o = Refused kind
 
-pub with_cells : {image : List ℕ} {at ax bx cx dx sp bp si di : ℕ} {overflow : Bool} {cells cells' stack : ℕ → ℕ} {input : List ℕ} {told : Told} {p : Watched} → cells ≡ cells'
+pub with_cells : {image : Image} {at ax bx cx dx sp bp si di : ℕ} {overflow : Bool} {cells cells' stack : ℕ → ℕ} {input : List ℕ} {told : Told} {p : Watched} → cells ≡ cells'
     → Is image at (view ax cx dx bx sp bp si di overflow cells stack input told) p → Is image at (view ax cx dx bx sp bp si di overflow cells' stack input told) p
 with_cells {image} {at} {ax} {bx} {cx} {dx} {sp} {bp} {si} {di} {overflow} {cells} {cells'} {stack} {input} {told} {p} e s =
     subst (λ x. Is image at (view ax cx dx bx sp bp si di overflow x stack input told) p) e s

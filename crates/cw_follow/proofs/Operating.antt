@@ -10,7 +10,7 @@ use Rattle.cw_i86.specs.declared.instr.Instr.{Instr}
 use Rattle.cw_i86.specs.declared.instr.Instr.TheVariants as i86
 use Rattle.cw_i86.specs.declared.instr.Rm.{Rm}
 use Rattle.cw_run86.specs.Processor.{Told}
-use Rattle.cw_run86.specs.Views.{View, Has, condition_of, product_low, product_overflows, word_sum, word_difference, sum_overflows, difference_overflows, with_number}
+use Rattle.cw_run86.specs.Views.{View, condition_of, product_low, product_overflows, word_sum, word_difference, sum_overflows, difference_overflows, with_number}
 use Rattle.cw_rows86.specs.Locations.{InRegister, InData, Denotes}
 use Rattle.cw_rows86.specs.Operations.{WordOperation, Add, Or, And, Subtract, Xor, Compare, number_of, operated_on, flags_after}
 use Rattle.cw_rows86.specs.Acts.{Operate, OperateNumber}
@@ -23,7 +23,6 @@ use Rattle.cw_order.specs.declared.order.Comparator.{Comparator}
 use Rattle.cw_order.specs.OrderChanges.{to_mark_if, comparison}
 use Rattle.cw_tmpl.specs.Library.{stop_place}
 use Rattle.cw_tmpl.specs.Templates.{opposite_of}
-use Rattle.cw_routines.specs.Ways.{HasAll}
 use Rattle.cw_follow.proofs.Watched.{Watched, watched_step}
 use Rattle.cw_follow.proofs.Chains.{Is, IsCompared, view, last}
 use Rattle.cw_follow.proofs.Acting.{act}
@@ -32,6 +31,7 @@ use Rattle.cw_follow.proofs.Orders.{Kept, Landed, Chooses, Check, later, further
 use Rattle.cw_follow.proofs.Operands.{Setting, words, DoesHere}
 use Rattle.cw_follow.proofs.Numbers.{sum_overflows_is, difference_overflows_is, sum_is, difference_is}
 use Rattle.cw_follow.proofs.Bits.{ands, ors, xors}
+use Rattle.cw_follow.proofs.Standing.{Has, HasAll}
 
 module _ (c : Setting) (memory : List ℤ) (input output : List ℕ) where
   -- The top operand x is in AX, and an operation of the arithmetic unit on AX and y is this instruction, of so many bytes.
@@ -80,13 +80,13 @@ module _ (c : Setting) (memory : List ℤ) (input output : List ℕ) where
         kept = l.kept;
         step =
             λ op h.
-            let a = act c.rows (OperateNumber op n) refl (lit< tt) h tt here in
+            let a = act c.rows (OperateNumber op n) (lit< tt) h tt here in
             (subst (λ m. Is c.image (at + 3) (operated_on op (InRegister 0) (unsigned x) m v) (watched_step p)) e a.is, (p.processor.state.flags, a.flags ∙ ap (λ m. flags_after op (unsigned x) m p.processor.state.flags) e));
       }
 
   -- a word of the data area
   pub word_named : {p : Watched} {at ax cx dx bx si top : ℕ} {overflow : Bool} {cells stack : ℕ → ℕ} {left : List ℕ} {told : Told} (size k : ℕ) (rm : Rm) (y x : ℤ) (rest : List Operand)
-      → ax ≡ unsigned x → cells k ≡ unsigned y → Denotes c.image (ax ∷ cx ∷ dx ∷ bx ∷ 2 * top ∷ record_of c.acts ∷ si ∷ c.program.limits.area ∷ []) rm (InData k)
+      → ax ≡ unsigned x → cells k ≡ unsigned y → Denotes c.image.bytes (ax ∷ cx ∷ dx ∷ bx ∷ 2 * top ∷ record_of c.acts ∷ si ∷ c.program.limits.area ∷ []) rm (InData k)
       → ((op : WordOperation) → length (bytes_of (i86.AluRm (number_of op) true true 0 rm)) ≡ size) → 0 < size → 0 < top
       → StackIs c.program c.acts stack top rest → Kept c.program c.g c.acts memory input output cells stack left told
       → Is c.image at (view ax cx dx bx (2 * top) (record_of c.acts) si c.program.limits.area overflow cells stack left told) p
@@ -94,7 +94,7 @@ module _ (c : Setting) (memory : List ℤ) (input output : List ℕ) where
   word_named {p} {at} {ax} {cx} {dx} {bx} {si} {top} {overflow} {cells} {stack} {left} {told} size k rm y x rest ea ey denotes long lt some under kept s =
       let V : ℕ → View = λ a. view a cx dx bx (2 * top) (record_of c.acts) si c.program.limits.area overflow cells stack left told in
       let here : Is c.image at (V (unsigned x)) p = subst (λ a. Is c.image at (V a) p) ea s in
-      let named = subst (λ a. Denotes c.image (a ∷ cx ∷ dx ∷ bx ∷ 2 * top ∷ record_of c.acts ∷ si ∷ c.program.limits.area ∷ []) rm (InData k)) ea denotes in
+      let named = subst (λ a. Denotes c.image.bytes (a ∷ cx ∷ dx ∷ bx ∷ 2 * top ∷ record_of c.acts ∷ si ∷ c.program.limits.area ∷ []) rm (InData k)) ea denotes in
       record {
         cx = cx;
         dx = dx;
@@ -113,7 +113,7 @@ module _ (c : Setting) (memory : List ℤ) (input output : List ℕ) where
         step =
             λ op h.
             let bytes : 0 < length (bytes_of (i86.AluRm (number_of op) true true 0 rm)) = subst (λ n. 0 < n) (sym (long op)) lt in
-            let a = act c.rows (Operate op 0 rm (InData k) (unsigned y)) refl bytes h (named, ey) here in (
+            let a = act c.rows (Operate op 0 rm (InData k) (unsigned y)) bytes h (named, ey) here in (
               subst (λ n. Is c.image (at + n) (operated_on op (InRegister 0) (unsigned x) (unsigned y) (V (unsigned x))) (watched_step p)) (long op) a.is,
               (p.processor.state.flags, a.flags),
             );

@@ -12,7 +12,7 @@ use Rattle.cw_i86.specs.declared.instr.Instr.TheVariants as i86
 use Rattle.cw_i86.specs.declared.instr.Rm.TheVariants as rms
 use Rattle.cw_image.specs.Begun.{StatementPlace}
 use Rattle.cw_run86.specs.Processor.{processor_step, Told}
-use Rattle.cw_run86.specs.Views.{View, Has, put_word, word_sum, word_difference, sum_overflows, difference_overflows, with_other, double_overflows, condition_of, words_compare}
+use Rattle.cw_run86.specs.Views.{View, put_word, word_sum, word_difference, sum_overflows, difference_overflows, with_other, double_overflows, condition_of, words_compare}
 use Rattle.cw_word.specs.FixedPoint.{FitsWord, fits_word}
 use Rattle.cw_word.specs.Word.{signed, unsigned}
 use Rattle.cw_unit.specs.Begun.{Begun}
@@ -28,17 +28,15 @@ use Rattle.cw_order.specs.OrderMachine.{unrefused}
 use Rattle.cw_tmpl.specs.Mnemonics.{at_bx, nothing}
 use Rattle.cw_tmpl.specs.Library.{stop_place}
 use Rattle.cw_tmpl.specs.Templates.{opposite_of}
-use Rattle.cw_routines.specs.Ways.{HasWord}
 use Rattle.cw_routines.specs.Results.{Stands}
-use Rattle.cw_follow.specs.Passing.{Ignores}
-use Rattle.cw_follow.proofs.Watched.{Watched, watched_step, watched_machine}
-use Rattle.cw_routines.specs.Ways.{HasAll}
+use Rattle.cw_follow.proofs.Watched.{Watched, watched_step, watched_machine, over}
 use Rattle.cw_follow.proofs.WordLaws.{WordLaws}
 use Rattle.cw_follow.proofs.Rows.{Rows}
-use Rattle.cw_follow.proofs.Chains.{Is, IsCompared, Leads, at_work, view, seen, to_place, move, exchange, push, pop, load, store, load_at, store_at, idle, add, subtract, negate, double, no_overflow, passes, near, compare, compared_jumps, compared_passes, out, shows, more, compared_more, last, done}
-use Rattle.cw_follow.proofs.Routines.{HasLine, Stacked, Over, stops, put_at, put_off, with_ax}
+use Rattle.cw_follow.proofs.Chains.{IsAt, Is, over_is, IsCompared, Leads, at_work, view, seen, to_place, move, exchange, push, pop, load, store, load_at, store_at, add, subtract, negate, double, no_overflow, passes, near, compare, compared_jumps, compared_passes, out, shows, more, compared_more, last, done}
+use Rattle.cw_follow.proofs.Routines.{HasLine, StackedAt, Stacked, Over, stops, put_at, put_off, with_ax}
 use Rattle.cw_follow.proofs.Stacks.{level, record_of, code_place, StackIs, OperandsAre, Piled, top_is, SameFrom, same_put, stack_pushed, piled_same}
 use Rattle.cw_follow.proofs.Numbers.{sum_overflows_is, difference_overflows_is, negative_overflows_is, sum_is, difference_is, negative_is, opposite_is, fits_tested, unsigned_pos}
+use Rattle.cw_follow.proofs.Standing.{Has, HasWord, HasAll, Image, Ignores, HasAt}
 
 -- ---- what is kept from order to order
 
@@ -94,15 +92,33 @@ kept_stored {prog} {memory = memory} {cells = cells} n z lt k =
     }
 
 -- the processor at a place of the code, with these words, the accumulator loaded or free
-pub record Landed (prog : OrderProgram) (image : List ℕ) (at g : ℕ) (loaded : Bool) (acts : List OrderActivation) (w : Words) (p : Watched) : Type 0 where
+pub record LandedAt (first : Bool) (prog : OrderProgram) (image : Image) (at g : ℕ) (loaded : Bool) (acts : List OrderActivation) (w : Words) (p : Watched) : Type 0 where
   pub top : ℕ
   pub cells : ℕ → ℕ
   pub stack : ℕ → ℕ
   pub input : List ℕ
   pub told : Told
-  pub stacked : Stacked image at top (record_of acts) prog.limits.area cells stack input told p
+  pub stacked : StackedAt first image at top (record_of acts) prog.limits.area cells stack input told p
   pub operands : OperandsAre prog acts loaded stacked.ax stack top w.operands
   pub kept : Kept prog g acts w.memory w.input w.output cells stack input told
+
+abbrev pub Landed : (prog : OrderProgram) (image : Image) (at g : ℕ) (loaded : Bool) (acts : List OrderActivation) (w : Words) (p : Watched) → Type 0
+Landed prog image at g loaded acts w p = LandedAt false prog image at g loaded acts w p
+
+-- the same before the first instruction of a block, where what begins there is overlooked or is not
+pub over_landed : (first : Bool) {prog : OrderProgram} {image : Image} {at g : ℕ} {loaded : Bool} {acts : List OrderActivation} {w : Words} {p : Watched} → Landed prog image at g loaded acts w p → LandedAt first prog image at g loaded acts w (over first p)
+over_landed first l =
+    let s = l.stacked in
+    record {
+      top = l.top;
+      cells = l.cells;
+      stack = l.stack;
+      input = l.input;
+      told = l.told;
+      stacked = record { ax = s.ax; cx = s.cx; dx = s.dx; bx = s.bx; si = s.si; overflow = s.overflow; is = over_is first s.is };
+      operands = l.operands;
+      kept = l.kept;
+    }
 
 -- so many instructions at most, and some
 pub record Leading (output : List ℕ) (limit : ℕ) (p : Watched) (Target : Watched → Type 0) : Type 0 where
@@ -112,14 +128,14 @@ pub record Leading (output : List ℕ) (limit : ℕ) (p : Watched) (Target : Wat
   pub leads : Leads output spent p Target
 
 -- an order does within so many instructions what its operation does: it goes on at a place, the accumulator loaded or free, or stops at a line
-abbrev pub Does : (prog : OrderProgram) (image : List ℕ) (limit to g : ℕ) (loaded : Bool) (line : ℕ) (acts : List OrderActivation) (output : List ℕ) (p : Watched) → Outcome → Type 0
+abbrev pub Does : (prog : OrderProgram) (image : Image) (limit to g : ℕ) (loaded : Bool) (line : ℕ) (acts : List OrderActivation) (output : List ℕ) (p : Watched) → Outcome → Type 0
 Does prog image limit to g loaded line acts output p (Changed v) = Leading output limit p (Landed prog image to g loaded acts v)
 Does prog image limit to g loaded line acts output p (Refused kind) = Leading output limit p (Over (record { output = output; end = Stopped kind (g + 1) line }))
 Does prog image limit to g loaded line acts output p Impossible = Unit {0}
 
 -- The processor stands where a procedure is called: the place to come back to is on top of the stack, above it are the arguments and the
 -- operands of the caller, DX has the line of the call, and the caller's record is at work.
-pub record CalledAt (prog : OrderProgram) (image : List ℕ) (to : ℕ) (a : OrderActivation) (acts : List OrderActivation) (w : Words) (q : Watched) : Type 0 where
+pub record CalledAt (prog : OrderProgram) (image : Image) (to : ℕ) (a : OrderActivation) (acts : List OrderActivation) (w : Words) (q : Watched) : Type 0 where
   pub ax : ℕ
   pub cx : ℕ
   pub bx : ℕ
@@ -137,7 +153,7 @@ pub record CalledAt (prog : OrderProgram) (image : List ℕ) (to : ℕ) (a : Ord
   pub kept : Kept prog a.segment acts w.memory w.input w.output cells stack input told
 
 -- what an order does after so many instructions
-pub later : (prog : OrderProgram) (image : List ℕ) (limit to g : ℕ) (loaded : Bool) (line : ℕ) (acts : List OrderActivation) {output : List ℕ} {p : Watched} {T : Watched → Type 0} (n bound : ℕ) (o : Outcome) → n + limit ≤ bound → Leads output n p T → ((q : Watched) → T q → Does prog image limit to g loaded line acts output q o) → Does prog image bound to g loaded line acts output p o
+pub later : (prog : OrderProgram) (image : Image) (limit to g : ℕ) (loaded : Bool) (line : ℕ) (acts : List OrderActivation) {output : List ℕ} {p : Watched} {T : Watched → Type 0} (n bound : ℕ) (o : Outcome) → n + limit ≤ bound → Leads output n p T → ((q : Watched) → T q → Does prog image limit to g loaded line acts output q o) → Does prog image bound to g loaded line acts output p o
 later prog image limit to g loaded line acts {output = output} {p = p} n bound (Changed v) le l on =
     let d = on l.reached l.there in
     let some = d.some in
@@ -163,18 +179,18 @@ later prog image limit to g loaded line acts n bound Impossible le l on = tt
 pub further : {output : List ℕ} {limit : ℕ} {p : Watched} {Target : Watched → Type 0} (n : ℕ) → n ≤ limit → 0 < n → Leads output n p Target → Leading output limit p Target
 further n le some l = record { spent = n; some = some; within = le; leads = l }
 
-pub with_bx : {image : List ℕ} {at ax bx x cx dx sp bp si di : ℕ} {overflow : Bool} {cells stack : ℕ → ℕ} {input : List ℕ} {told : Told} {p : Watched} → bx ≡ x
+pub with_bx : {image : Image} {at ax bx x cx dx sp bp si di : ℕ} {overflow : Bool} {cells stack : ℕ → ℕ} {input : List ℕ} {told : Told} {p : Watched} → bx ≡ x
     → Is image at (view ax cx dx bx sp bp si di overflow cells stack input told) p → Is image at (view ax cx dx x sp bp si di overflow cells stack input told) p
 with_bx {image} {at} {ax} {bx} {x} {cx} {dx} {sp} {bp} {si} {di} {overflow} {cells} {stack} {input} {told} {p} e s =
     subst (λ b. Is image at (view ax cx dx b sp bp si di overflow cells stack input told) p) e s
 
-with_overflow : {image : List ℕ} {at ax bx cx dx sp bp si di : ℕ} {o o' : Bool} {cells stack : ℕ → ℕ} {input : List ℕ} {told : Told} {p : Watched} → o ≡ o'
+with_overflow : {image : Image} {at ax bx cx dx sp bp si di : ℕ} {o o' : Bool} {cells stack : ℕ → ℕ} {input : List ℕ} {told : Told} {p : Watched} → o ≡ o'
     → Is image at (view ax cx dx bx sp bp si di o cells stack input told) p → Is image at (view ax cx dx bx sp bp si di o' cells stack input told) p
 with_overflow {image} {at} {ax} {bx} {cx} {dx} {sp} {bp} {si} {di} {o} {o'} {cells} {stack} {input} {told} {p} e s =
     subst (λ b. Is image at (view ax cx dx bx sp bp si di b cells stack input told) p) e s
 
 -- an order leads within so many instructions on its way: to the next order, to where the code of a mark starts, or to a stop at a line
-abbrev pub Chooses : (prog : OrderProgram) (image : List ℕ) (limit to : ℕ) (start : ℕ → ℕ) (g : ℕ) (loaded : Bool) (line : ℕ) (acts : List OrderActivation) (output : List ℕ) (p : Watched) → Way → Type 0
+abbrev pub Chooses : (prog : OrderProgram) (image : Image) (limit to : ℕ) (start : ℕ → ℕ) (g : ℕ) (loaded : Bool) (line : ℕ) (acts : List OrderActivation) (output : List ℕ) (p : Watched) → Way → Type 0
 Chooses prog image limit to start g loaded line acts output p (Onward v) = Leading output limit p (Landed prog image to g loaded acts v)
 Chooses prog image limit to start g loaded line acts output p (ToMark m v) = Leading output limit p (Landed prog image (start m) g loaded acts v)
 Chooses prog image limit to start g loaded line acts output p (Barred kind) = Leading output limit p (Over (record { output = output; end = Stopped kind (g + 1) line }))
@@ -189,7 +205,7 @@ pub record Telling (before after : List ℕ) (limit : ℕ) (p : Watched) (Target
   pub path : Path (λ o. (o ≡ at_work before) ⊎ (o ≡ at_work after)) watched_machine spent p reached
   pub there : Target reached
 
-abbrev pub Tells : (prog : OrderProgram) (image : List ℕ) (limit to g : ℕ) (loaded : Bool) (acts : List OrderActivation) (output : List ℕ) (p : Watched) → Outcome → Type 0
+abbrev pub Tells : (prog : OrderProgram) (image : Image) (limit to g : ℕ) (loaded : Bool) (acts : List OrderActivation) (output : List ℕ) (p : Watched) → Outcome → Type 0
 Tells prog image limit to g loaded acts output p (Changed v) = Telling output v.output limit p (Landed prog image to g loaded acts v)
 Tells prog image limit to g loaded acts output p (Refused kind) = ⊥
 Tells prog image limit to g loaded acts output p Impossible = Unit {0}
@@ -207,7 +223,7 @@ further_on {p = p} n limit bound le l on =
       leads = record { reached = d.leads.reached; path = join _ watched_machine n d.spent (n + d.spent) p l.reached d.leads.reached refl l.path d.leads.path; there = d.leads.there };
     }
 
-pub sooner : (prog : OrderProgram) (image : List ℕ) (limit to : ℕ) (start : ℕ → ℕ) (g : ℕ) (loaded : Bool) (line : ℕ) (acts : List OrderActivation) {output : List ℕ} {p : Watched} {T : Watched → Type 0} (n bound : ℕ) (way : Way) → n + limit ≤ bound → Leads output n p T → ((q : Watched) → T q → Chooses prog image limit to start g loaded line acts output q way) → Chooses prog image bound to start g loaded line acts output p way
+pub sooner : (prog : OrderProgram) (image : Image) (limit to : ℕ) (start : ℕ → ℕ) (g : ℕ) (loaded : Bool) (line : ℕ) (acts : List OrderActivation) {output : List ℕ} {p : Watched} {T : Watched → Type 0} (n bound : ℕ) (way : Way) → n + limit ≤ bound → Leads output n p T → ((q : Watched) → T q → Chooses prog image limit to start g loaded line acts output q way) → Chooses prog image bound to start g loaded line acts output p way
 sooner prog image limit to start g loaded line acts n bound (Onward v) le l on = further_on n limit bound le l on
 sooner prog image limit to start g loaded line acts n bound (ToMark m v) le l on = further_on n limit bound le l on
 sooner prog image limit to start g loaded line acts n bound (Barred kind) le l on = further_on n limit bound le l on
@@ -241,10 +257,10 @@ below_area laws area n low small is = cases (signed n) refl
         record { within = omega arith; same = number ∙ same }
 
 -- a stop is called where the overflow flag is set
-abbrev pub Check : (image : List ℕ) → (at by line : ℕ) → Type 0
+abbrev pub Check : (image : Image) → (at by line : ℕ) → Type 0
 Check image at by line = Has image at (i86.JumpIf 1 5) × (Has image (at + 2) (i86.Call by) × (HasWord image (at + 2 + 3) line × Unit {0}))
 
-module _ (rows : Rows) (prog : OrderProgram) (image : List ℕ) (g : ℕ) (acts : List OrderActivation) where
+module _ (rows : Rows) (prog : OrderProgram) (image : Image) (g : ℕ) (acts : List OrderActivation) where
   -- the word on the stack into AX, and into BX
   pub pop_ax : {p : Watched} {at ax cx dx bx bp si di : ℕ} {overflow : Bool} {cells stack : ℕ → ℕ} {input : List ℕ} {told : Told} (top : ℕ) → top < 32764 → Has image at (i86.Pop 0)
       → Is image at (view ax cx dx bx (2 * top) bp si di overflow cells stack input told) p → Is image (at + 1) (view (stack top) cx dx bx (2 * suc top) bp si di overflow cells stack input told) (watched_step p)
@@ -295,19 +311,19 @@ module _ (rows : Rows) (prog : OrderProgram) (image : List ℕ) (g : ℕ) (acts 
   -- ---- words that are put
 
   -- by one instruction a word comes into AX, which is free
-  pub puts : {p : Watched} {at : ℕ} (to x : ℕ) (z : ℤ) (w : Words) → x ≡ unsigned z → (l : Landed prog image at g false acts w p)
-      → ((q : Watched) (ax cx dx bx sp si di : ℕ) (overflow : Bool) (stack : ℕ → ℕ) → Is image at (view ax cx dx bx sp (record_of acts) si di overflow l.cells stack l.input l.told) q → Is image to (view x cx dx bx sp (record_of acts) si di overflow l.cells stack l.input l.told) (watched_step q))
+  pub puts : {p : Watched} {first : Bool} {at : ℕ} (to x : ℕ) (z : ℤ) (w : Words) → x ≡ unsigned z → (l : LandedAt first prog image at g false acts w p)
+      → ((q : Watched) (ax cx dx bx sp si di : ℕ) (overflow : Bool) (stack : ℕ → ℕ) → IsAt first image at (view ax cx dx bx sp (record_of acts) si di overflow l.cells stack l.input l.told) q → Is image to (view x cx dx bx sp (record_of acts) si di overflow l.cells stack l.input l.told) (watched_step q))
       → Leading w.output 1 p (Landed prog image to g true acts (put z w))
-  puts {p} to x z w value l brings =
+  puts {p} {first} to x z w value l brings =
       let s = l.stacked in
       further 1 (lit≤ tt) (lit< tt)
       (last rows s.is l.kept.wrote (landed true to l.top (Word z ∷ w.operands) w.memory w.input w.output refl (value, l.operands) l.kept (brings p s.ax s.cx s.dx s.bx (2 * l.top) s.si prog.limits.area s.overflow l.stack s.is)))
 
   -- a word of the data area
-  pub fetches : {p : Watched} {at : ℕ} (to offset n line : ℕ) (w : Words) → prog.limits.area ≤ 32768 → n < 65536 → offset ≡ 2 * n % 65536 → at + 3 ≡ to
-      → Has image at (i86.MovAcc false true false offset) → Landed prog image at g false acts w p
+  pub fetches : {p : Watched} {first : Bool} {at : ℕ} (to offset n line : ℕ) (w : Words) → prog.limits.area ≤ 32768 → n < 65536 → offset ≡ 2 * n % 65536 → at + 3 ≡ to
+      → HasAt first image at (i86.MovAcc false true false offset) → LandedAt first prog image at g false acts w p
       → Does prog image 1 to g true line acts w.output p (unrefused (perform prog.limits.area (Fetch None) (put (signed n) w)))
-  fetches {p} {at} to offset n line w low small there e i l = cases (is_below (signed n) prog.limits.area) refl
+  fetches {p} {first} {at} to offset n line w low small there e i l = cases (is_below (signed n) prog.limits.area) refl
     where
       cases : (b : Bool) → is_below (signed n) prog.limits.area ≡ b → Does prog image 1 to g true line acts w.output p (unrefused (through b (λ i v. Changed (put (word_at v.memory i) v)) (signed n) w))
       cases false is = tt
@@ -324,7 +340,7 @@ module _ (rows : Rows) (prog : OrderProgram) (image : List ℕ) (g : ℕ) (acts 
 
   -- one that may have overflowed
   pub checks : {p : Watched} {at ax cx dx bx si : ℕ} {overflow : Bool} {cells stack : ℕ → ℕ} {left : List ℕ} {told : Told} (kind : StopKind) (to top by line : ℕ) (z : ℤ) (operands : List Operand) (memory : List ℤ) (input output : List ℕ)
-      → HasLine kind → Stands image → g < 255 → 0 < top → line < 65536
+      → HasLine kind → Stands image.bytes → g < 255 → 0 < top → line < 65536
       → at + 2 + 3 + 2 ≡ to → (at + 2 + 3 + by) % 65536 ≡ stop_place kind % 65536 → overflow ≡ not (fits_word z) → (FitsWord z → ax ≡ unsigned z)
       → StackIs prog acts stack top operands → Kept prog g acts memory input output cells stack left told → Check image at by line
       → Is image at (view ax cx dx bx (2 * top) (record_of acts) si prog.limits.area overflow cells stack left told) p
@@ -353,7 +369,7 @@ module _ (rows : Rows) (prog : OrderProgram) (image : List ℕ) (g : ℕ) (acts 
 
   -- ---- sums, differences and negatives
 
-  pub adds : {p : Watched} {at : ℕ} (to by line : ℕ) (operands : List Operand) (memory : List ℤ) (input output : List ℕ) → Stands image → g < 255 → line < 65536 → at + 10 ≡ to → (at + 1 + 2 + 2 + 3 + by) % 65536 ≡ stop_place Overflow % 65536
+  pub adds : {p : Watched} {at : ℕ} (to by line : ℕ) (operands : List Operand) (memory : List ℤ) (input output : List ℕ) → Stands image.bytes → g < 255 → line < 65536 → at + 10 ≡ to → (at + 1 + 2 + 2 + 3 + by) % 65536 ≡ stop_place Overflow % 65536
       → All OperandFits operands → Has image at (i86.Pop 3) × (Has image (at + 1) (i86.AluRm 0 true true 0 (rms.Reg 3)) × Check image (at + 1 + 2) by line)
       → Landed prog image at g true acts (record { operands = operands; memory = memory; input = input; output = output }) p
       → Does prog image 16 to g true line acts output p (perform prog.limits.area Add (record { operands = operands; memory = memory; input = input; output = output }))
@@ -381,7 +397,7 @@ module _ (rows : Rows) (prog : OrderProgram) (image : List ℕ) (g : ℕ) (acts 
       done t)))
       (λ q t. checks Overflow to (suc l.top) by line (x +ℤ y) rest memory input output tt library few some small e' arrives o v h.1.1 k i.1.1 t)
 
-  pub subtracts : {p : Watched} {at : ℕ} (to by line : ℕ) (operands : List Operand) (memory : List ℤ) (input output : List ℕ) → Stands image → g < 255 → line < 65536 → at + 12 ≡ to → (at + 2 + 1 + 2 + 2 + 3 + by) % 65536 ≡ stop_place Overflow % 65536
+  pub subtracts : {p : Watched} {at : ℕ} (to by line : ℕ) (operands : List Operand) (memory : List ℤ) (input output : List ℕ) → Stands image.bytes → g < 255 → line < 65536 → at + 12 ≡ to → (at + 2 + 1 + 2 + 2 + 3 + by) % 65536 ≡ stop_place Overflow % 65536
       → All OperandFits operands → Has image at (i86.Mov true true 3 (rms.Reg 0)) × (Has image (at + 2) (i86.Pop 0) × (Has image (at + 2 + 1) (i86.AluRm 5 true true 0 (rms.Reg 3)) × Check image (at + 2 + 1 + 2) by line))
       → Landed prog image at g true acts (record { operands = operands; memory = memory; input = input; output = output }) p
       → Does prog image 17 to g true line acts output p (perform prog.limits.area Subtract (record { operands = operands; memory = memory; input = input; output = output }))
@@ -409,7 +425,7 @@ module _ (rows : Rows) (prog : OrderProgram) (image : List ℕ) (g : ℕ) (acts 
       done t))))
       (λ q t. checks Overflow to (suc l.top) by line (x -ℤ y) rest memory input output tt library few some small e' arrives o v h.1.1 k i.1.1.1 t)
 
-  pub negates : {p : Watched} {at : ℕ} (to by line : ℕ) (operands : List Operand) (memory : List ℤ) (input output : List ℕ) → Stands image → g < 255 → line < 65536 → operand_words operands < level acts → at + 9 ≡ to → (at + 2 + 2 + 3 + by) % 65536 ≡ stop_place Overflow % 65536
+  pub negates : {p : Watched} {at : ℕ} (to by line : ℕ) (operands : List Operand) (memory : List ℤ) (input output : List ℕ) → Stands image.bytes → g < 255 → line < 65536 → operand_words operands < level acts → at + 9 ≡ to → (at + 2 + 2 + 3 + by) % 65536 ≡ stop_place Overflow % 65536
       → All OperandFits operands → Has image at (i86.Unary 3 true (rms.Reg 0)) × Check image (at + 2) by line
       → Landed prog image at g true acts (record { operands = operands; memory = memory; input = input; output = output }) p
       → Does prog image 15 to g true line acts output p (perform prog.limits.area Negate (record { operands = operands; memory = memory; input = input; output = output }))
@@ -519,21 +535,6 @@ module _ (rows : Rows) (prog : OrderProgram) (image : List ℕ) (g : ℕ) (acts 
   -- ---- the start of a statement
 
   -- whatever the observer has noted
-  pub idles : {p : Watched} {at : ℕ} (places : List StatementPlace) (area : ℕ) (begun : List Begun) (to : ℕ) (loaded : Bool) (w : Words) → Ignores image places → begun ≡ [] → at + 1 ≡ to → Has image at nothing → Landed prog image at g loaded acts w p
-      → Landed prog image to g loaded acts w (record { places = places; area = area; processor = processor_step p.processor; begun = begun })
-  idles places area begun to loaded w ignores silent e i l =
-      let s = l.stacked in
-      record {
-        top = l.top;
-        cells = l.cells;
-        stack = l.stack;
-        input = l.input;
-        told = l.told;
-        stacked = record { ax = s.ax; cx = s.cx; dx = s.dx; bx = s.bx; si = s.si; overflow = s.overflow; is = seen e refl (idle rows places area begun ignores silent i s.is) };
-        operands = l.operands;
-        kept = l.kept;
-      }
-
   -- ---- output
 
   -- the byte in AX is written
@@ -589,7 +590,7 @@ module _ (rows : Rows) (prog : OrderProgram) (image : List ℕ) (g : ℕ) (acts 
 
   -- ---- jumps
 
-  pub jumps : {p : Watched} {at : ℕ} (to by : ℕ) (loaded : Bool) (w : Words) → (at + 3 + by) % 65536 ≡ to % 65536 → Has image at (i86.Jump by) → Landed prog image at g loaded acts w p
+  pub jumps : {p : Watched} {first : Bool} {at : ℕ} (to by : ℕ) (loaded : Bool) (w : Words) → (at + 3 + by) % 65536 ≡ to % 65536 → HasAt first image at (i86.Jump by) → LandedAt first prog image at g loaded acts w p
       → Leading w.output 1 p (Landed prog image to g loaded acts w)
   jumps to by loaded w arrives i l =
       let s = l.stacked in

@@ -30,17 +30,16 @@ use Rattle.cw_tmpl.specs.declared.pieces.Coded.{Coded}
 use Rattle.cw_tmpl.specs.declared.pieces.Coded.TheVariants as pieces
 use Rattle.cw_tmpl.specs.Blocks.{address_orders, is_part, block_at}
 use Rattle.cw_tmpl.specs.Mnemonics.{slot, base_slot, field, load}
-use Rattle.cw_routines.specs.Ways.{HasAll}
 use Rattle.cw_tmpl.specs.Pieces.{Filling, blanks}
 use Rattle.cw_tmpl.specs.Templates.{shifted_up, part_taken, address_pieces, operate_place, change_place}
 use Rattle.cw_follow.specs.Placing.{base_of}
 use Rattle.cw_follow.proofs.Watched.{Watched}
-use Rattle.cw_follow.proofs.Standing.{HasPieces, order_place}
+use Rattle.cw_follow.proofs.Standing.{HasPieces, order_place, HasAll, HasFrom}
 use Rattle.cw_follow.proofs.Chains.{Is, Leads, view}
 use Rattle.cw_follow.proofs.Straight.{LoadSlot, straight}
 use Rattle.cw_follow.proofs.Routines.{with_ax, leads_on}
 use Rattle.cw_follow.proofs.Stacks.{level, record_of, StackIs, base_word}
-use Rattle.cw_follow.proofs.Orders.{Kept, Landed, Does, below_area, landed, kept_stored, further, fetches}
+use Rattle.cw_follow.proofs.Orders.{Kept, Landed, Does, below_area, landed, kept_stored, further, fetches, LandedAt, over_landed}
 use Rattle.cw_follow.proofs.Operands.{Setting, words, with_cells, LandedWith, DoesHere}
 use Rattle.cw_follow.proofs.Bits.{part, part_of_word, stored_is}
 use Rattle.cw_follow.proofs.Halves.{part_of}
@@ -48,7 +47,7 @@ use Rattle.cw_follow.proofs.Shifts.{shift_steps, part_steps, few_steps, few_part
 use Rattle.cw_follow.proofs.FrameBlocks.{fetches_word}
 use Rattle.cw_follow.proofs.States.{Given, Sound}
 use Rattle.cw_follow.proofs.InBlocks.{chain}
-use Rattle.cw_follow.proofs.Steps.{Follow, setting, weight_is, block_code, block_ends, start_place, order_here, last_does}
+use Rattle.cw_follow.proofs.Steps.{Follow, setting, weight_is, block_code, block_ends, start_place, order_here, last_does, FollowFrom, begins_block, begun_block}
 use Rattle.cw_follow.proofs.BlockOrders.{place_puts, block_follows, modes, saved, step_in}
 
 -- what stores a part, with its bits where they belong in AX
@@ -189,7 +188,7 @@ module _ (known : Given) where
     words_of = (all.stands g s.orders s.unit).value
 
     fetch_part_last : (x : Place) (t b : ℕ) (is_signed : Bool) (rest : List Order) → s.done ≡ length (address_orders x) → drop s.from s.orders.list ≡ address_orders x ++ order.LoadPart t b is_signed ∷ rest → is_part t b ≡ true
-        → block_at 0 (drop s.from s.orders.list) ≡ block.FetchPart x t b is_signed → Follow known (at g place loaded acts w Running) q
+        → block_at 0 (drop s.from s.orders.list) ≡ block.FetchPart x t b is_signed → FollowFrom known (begun_block known s) (at g place loaded acts w Running) q
     fetch_part_last (cell.Word f n) t b is_signed rest is_done e part_is is =
         let o = order.LoadPart t b is_signed in
         let B = block.FetchPart (cell.Word f n) t b is_signed in
@@ -206,8 +205,8 @@ module _ (known : Given) where
         let behind = ends.behind in
         let last_end : from_here + 3 + length (blanks (part_taken t b is_signed)) ≡ block_end = omega arith in
         last_does known s true 0 (λ v. unrefused (perform p.limits.area (Fetch (part t b (not is_signed))) v)) 5 1 _ is_done e ends.begins (step_in known s true o before.now here) paid
-        (part_behind (setting known s) words_of v.memory v.input v.output s.fits_before.memory before.landed.kept.long t b bits.0 bits.1 q (from_here + 3) 1 block_end is_signed (signed word) v.operands last_end code.1
-        (fetches rows p image g acts (from_here + 3) (st.value 2 f n (from_here + 3)) word 0 v low small (st.fills.bytes f n (from_here + 3)) refl code.0 before.landed))
+        (part_behind (setting known s) words_of v.memory v.input v.output s.fits_before.memory before.landed.kept.long t b bits.0 bits.1 (begun_block known s) (from_here + 3) 1 block_end is_signed (signed word) v.operands last_end code.1
+        (fetches rows p image g acts (from_here + 3) (st.value 2 f n (from_here + 3)) word 0 v low small (st.fills.bytes f n (from_here + 3)) refl code.0 (over_landed (begins_block known s) before.landed)))
     fetch_part_last (cell.Frame n) t b is_signed rest is_done e part_is is =
         let o = order.LoadPart t b is_signed in
         let B = block.FetchPart (cell.Frame n) t b is_signed in
@@ -220,30 +219,30 @@ module _ (known : Given) where
         let behind = ends.behind in
         let last_end : from_here + 3 + 4 + length (blanks (part_taken t b is_signed)) ≡ block_end = omega arith in
         last_does known s true 0 (λ v. unrefused (perform p.limits.area (Fetch (part t b (not is_signed))) v)) 6 1 _ is_done e ends.begins (step_in known s true o before.now here) paid
-        (frame_part acts refl t b is_signed n bits.0 bits.1 last_end (code.0, (code.1.0, tt)) code.1.1 before.landed)
+        (frame_part acts refl t b is_signed n bits.0 bits.1 last_end (code.0, (code.1.0, tt)) code.1.1 (over_landed (begins_block known s) before.landed))
       where
         frame_part : (xs : List OrderActivation) → acts ≡ xs → (t b : ℕ) (is_signed : Bool) (n : ℕ) → 1 ≤ t → t + b ≤ 16 → from_here + 3 + 4 + length (blanks (part_taken t b is_signed)) ≡ block_end
-            → HasAll image from_here (load 3 (slot base_slot) ∷ load 0 (field (2 * n % 65536)) ∷ []) → HasPieces image words_of (from_here + 3 + 4) (part_taken t b is_signed) → Landed p image from_here g false acts s.before q
-            → Does p image 6 block_end g true 0 acts s.before.output q (chain (chain (put_address (frame_word p.limits.area xs n) s.before) Changed) (λ v. unrefused (perform p.limits.area (Fetch (part t b (not is_signed))) v)))
+            → HasFrom (begins_block known s) image from_here (load 3 (slot base_slot) ∷ load 0 (field (2 * n % 65536)) ∷ []) → HasPieces image words_of (from_here + 3 + 4) (part_taken t b is_signed) → LandedAt (begins_block known s) p image from_here g false acts s.before (begun_block known s)
+            → Does p image 6 block_end g true 0 acts s.before.output (begun_block known s) (chain (chain (put_address (frame_word p.limits.area xs n) s.before) Changed) (λ v. unrefused (perform p.limits.area (Fetch (part t b (not is_signed))) v)))
         frame_part [] is t b is_signed n some room e i code l = tt
         frame_part (a ∷ under) is t b is_signed n some room e i code l =
             cases (nat_lt (a.frame_base + n) p.limits.area)
-            (subst (λ xs. Does p image 2 (from_here + 3 + 4) g true 0 acts s.before.output q (chain (chain (put_address (frame_word p.limits.area xs n) s.before) Changed) (λ v. unrefused (perform p.limits.area (Fetch None) v)))) is
+            (subst (λ xs. Does p image 2 (from_here + 3 + 4) g true 0 acts s.before.output (begun_block known s) (chain (chain (put_address (frame_word p.limits.area xs n) s.before) Changed) (λ v. unrefused (perform p.limits.area (Fetch None) v)))) is
             (fetches_word rows p image g (from_here + 3 + 4) n acts s.before low there i l))
           where
             there : from_here + 7 ≡ from_here + 3 + 4
             there = omega arith
 
             cases : (inside : Bool)
-                → Does p image 2 (from_here + 3 + 4) g true 0 acts s.before.output q (chain (chain (put_address (if inside then Some (a.frame_base + n) else None) s.before) Changed) (λ v. unrefused (perform p.limits.area (Fetch None) v)))
-                → Does p image 6 block_end g true 0 acts s.before.output q (chain (chain (put_address (if inside then Some (a.frame_base + n) else None) s.before) Changed) (λ v. unrefused (perform p.limits.area (Fetch (part t b (not is_signed))) v)))
+                → Does p image 2 (from_here + 3 + 4) g true 0 acts s.before.output (begun_block known s) (chain (chain (put_address (if inside then Some (a.frame_base + n) else None) s.before) Changed) (λ v. unrefused (perform p.limits.area (Fetch None) v)))
+                → Does p image 6 block_end g true 0 acts s.before.output (begun_block known s) (chain (chain (put_address (if inside then Some (a.frame_base + n) else None) s.before) Changed) (λ v. unrefused (perform p.limits.area (Fetch (part t b (not is_signed))) v)))
             cases false d = tt
             cases true d =
                 let v = s.before in
-                part_behind (setting known s) words_of v.memory v.input v.output s.fits_before.memory l.kept.long t b some room q (from_here + 3 + 4) 2 block_end is_signed (signed (a.frame_base + n)) v.operands e code d
+                part_behind (setting known s) words_of v.memory v.input v.output s.fits_before.memory l.kept.long t b some room (begun_block known s) (from_here + 3 + 4) 2 block_end is_signed (signed (a.frame_base + n)) v.operands e code d
 
     pub fetch_part_follows : (x : Place) (t b : ℕ) (is_signed : Bool) (rest : List Order) → drop s.from s.orders.list ≡ address_orders x ++ order.LoadPart t b is_signed ∷ rest → is_part t b ≡ true
-        → block_at 0 (drop s.from s.orders.list) ≡ block.FetchPart x t b is_signed → Follow known (at g place loaded acts w Running) q
+        → block_at 0 (drop s.from s.orders.list) ≡ block.FetchPart x t b is_signed → FollowFrom known (begun_block known s) (at g place loaded acts w Running) q
     fetch_part_follows x t b is_signed rest e part_is is =
         block_follows known s (block.FetchPart x t b is_signed) (order.LoadPart t b is_signed) rest (place_puts known s x) e is refl (λ is_done. fetch_part_last x t b is_signed rest is_done e part_is is)
 

@@ -16,7 +16,7 @@ use Rattle.cw_order.specs.OrderProgram.{OrderProgram}
 use Rattle.cw_tmpl.specs.ReferenceCode.{entry_size, order_places}
 use Rattle.cw_tmpl.proofs.Sizes.{places_are}
 use Rattle.cw_follow.specs.Passing.{at_work, passes}
-use Rattle.cw_follow.proofs.Standing.{order_place}
+use Rattle.cw_follow.proofs.Standing.{order_place, Image}
 use Rattle.cw_follow.proofs.WordLaws.{WordLaws}
 use Rattle.cw_follow.proofs.Watched.{Watched}
 use Rattle.cw_follow.proofs.Orders.{Landed}
@@ -38,7 +38,7 @@ words_are laws s first (z ∷ zs) fit same =
     (λ k lt. let next : first + 1 + k ≡ first + suc k = omega arith in ap (λ n. word_in s.memory data_segment (2 * n)) next ∙ same (suc k) (omega arith)))
 
 -- at a place where one statement begins it is noted with the words of the data area
-pub notes_one : WordLaws → (p : OrderProgram) {image : List ℕ} {at g : ℕ} {loaded : Bool} {acts : List OrderActivation} {w : Words} {t : Watched} (segment n : ℕ) → at < 65536 → p.limits.area ≤ 32768 → t.area ≡ p.limits.area
+pub notes_one : WordLaws → (p : OrderProgram) {image : Image} {at g : ℕ} {loaded : Bool} {acts : List OrderActivation} {w : Words} {t : Watched} (segment n : ℕ) → at < 65536 → p.limits.area ≤ 32768 → t.area ≡ p.limits.area
     → lines_at t.places at ≡ (segment, n) ∷ [] → All FitsWord w.memory → Landed p image at g loaded acts w t → passes t.places t.area t.processor ≡ (segment, n, w.memory) ∷ []
 notes_one laws p {at = at} {w = w} {t = t} segment n short low area one fit l =
     let sees = l.stacked.is.sees in

@@ -20,7 +20,7 @@ use Rattle.cw_follow.proofs.Fine.{AllFine, pieces_there, OrderFits, NumberFits, 
 use Rattle.cw_tmpl.proofs.Growing.{blanks-append}
 use Rattle.cw_tmpl.proofs.Filling.{filled-append, length-filled}
 use Rattle.cw_tmpl.proofs.Sizes.{in_middle, own_place, size_to, size_of_templates, size_of_landings, size_of_switch, landings_at}
-use Rattle.cw_follow.proofs.Standing.{HasPieces, order_place, pieces_at, Stands, AllStand}
+use Rattle.cw_follow.proofs.Bytes.{HasPieces, order_place, pieces_at, Stands, AllStand}
 
 -- ---- one segment
 
@@ -93,6 +93,11 @@ switch_in_middle names at (x ∷ xs) (suc k) gs e =
           (behind_first (switch_pieces names at x) (switches names next xs) (switch_size x) i.0 (switch_pieces names (next + i.0) gs) (size_of_switch names at x) i.2),
     )
 
+whole_within : (all : List Coded) (offset : ℕ) (part : List Coded) → InMiddle all offset part → offset + length (blanks part) ≤ length (blanks all)
+whole_within all offset part m =
+    let long = m.long in
+    omega (arith, ap (λ l. length (blanks l)) m.is, ap length (blanks-append m.before (part ++ m.rest)) ∙ length-append (blanks m.before) (blanks (part ++ m.rest)), ap length (blanks-append part m.rest) ∙ length-append (blanks part) (blanks m.rest))
+
 regroup : (a b c d e : List ℕ) → a ++ ((b ++ (c ++ d)) ++ e) ≡ (a ++ b) ++ (c ++ (d ++ e))
 regroup a b c d e = simp append_assoc
 
@@ -139,36 +144,41 @@ module _ (p : OrderProgram) (image before behind : List ℕ) (g next : ℕ) (val
         (before_others orders_code (landings_code ++ switches_code) (size_to 0 o.list k) (pieces_at o k order) (order_in_middle names entry_size 0 o.list k order e)))
         (block_fine p g next value fills near names (own_place o.list k) (block_at (left_at 0 o.list k) (drop k o.list)) order (fits_at (left_at 0 o.list k) o.list k order e fits))
 
-    landing_there : (l : ℕ) (m : LabelMark) → slice_get o.labels l ≡ Some m → HasPieces image value (base_of p g + landing_start names l) (landing_pieces names (landing_start names l) m)
-    landing_there l m e =
+    landing_placed : (l : ℕ) (m : LabelMark) → slice_get o.labels l ≡ Some m → InMiddle (pieces_of o) (landing_start names l) (landing_pieces names (landing_start names l) m)
+    landing_placed l m e =
         let part = landing_pieces names (landing_start names l) m in
         let size = size_of_templates names entry_size 0 o.list in
         let begins = landings_at o in
-        part_there (landing_start names l) part
-        (at_offset (pieces_of o) (entry_size + (size_to 0 o.list (length o.list) + 15 * l)) (landing_start names l) part (omega arith)
+        at_offset (pieces_of o) (entry_size + (size_to 0 o.list (length o.list) + 15 * l)) (landing_start names l) part (omega arith)
         (behind_first entry_pieces (orders_code ++ (landings_code ++ switches_code)) entry_size (size_to 0 o.list (length o.list) + 15 * l) part refl
         (behind_first orders_code (landings_code ++ switches_code) (size_to 0 o.list (length o.list)) (15 * l) part size
-        (before_others landings_code switches_code (15 * l) part (landing_in_middle names (landings_place o) o.labels l m e)))))
-        (base_fine p g next value fills near (landing_start names l) (mark_place names m.mark))
+        (before_others landings_code switches_code (15 * l) part (landing_in_middle names (landings_place o) o.labels l m e))))
 
-    switch_there : (n : ℕ) (gs : List Goal) → slice_get o.switches n ≡ Some gs → HasPieces image value (base_of p g + switch_start names n) (switch_pieces names (switch_start names n) gs)
-    switch_there n gs e =
+    landing_there : (l : ℕ) (m : LabelMark) → slice_get o.labels l ≡ Some m → HasPieces image value (base_of p g + landing_start names l) (landing_pieces names (landing_start names l) m)
+    landing_there l m e = part_there (landing_start names l) (landing_pieces names (landing_start names l) m) (landing_placed l m e) (base_fine p g next value fills near (landing_start names l) (mark_place names m.mark))
+
+    switch_placed : (n : ℕ) (gs : List Goal) → slice_get o.switches n ≡ Some gs → (switches_place o ≤ switch_start names n) × InMiddle (pieces_of o) (switch_start names n) (switch_pieces names (switch_start names n) gs)
+    switch_placed n gs e =
         let i = switch_in_middle names (switches_place o) o.switches n gs e in
         let start = switches_place o + i.0 in
         let part = switch_pieces names start gs in
         let size = size_of_templates names entry_size 0 o.list in
         let begins = landings_at o in
         let landed = size_of_landings names (landings_place o) o.labels in
-        subst (λ k. HasPieces image value (base_of p g + k) (switch_pieces names k gs)) (sym i.1)
-        (part_there start part
-        (at_offset (pieces_of o) (entry_size + (size_to 0 o.list (length o.list) + (15 * length o.labels + i.0))) start part (omega arith)
+        subst (λ k. (switches_place o ≤ k) × InMiddle (pieces_of o) k (switch_pieces names k gs)) (sym i.1)
+        ((omega arith),
+        at_offset (pieces_of o) (entry_size + (size_to 0 o.list (length o.list) + (15 * length o.labels + i.0))) start part (omega arith)
         (behind_first entry_pieces (orders_code ++ (landings_code ++ switches_code)) entry_size (size_to 0 o.list (length o.list) + (15 * length o.labels + i.0)) part refl
         (behind_first orders_code (landings_code ++ switches_code) (size_to 0 o.list (length o.list)) (15 * length o.labels + i.0) part size
         (behind_first landings_code switches_code (15 * length o.labels) i.0 part landed i.2))))
-        (switch_fine p g next value fills near names start gs (let x = few n gs e in let y : length gs < 65536 = omega arith in y)))
+
+    switch_there : (n : ℕ) (gs : List Goal) → slice_get o.switches n ≡ Some gs → HasPieces image value (base_of p g + switch_start names n) (switch_pieces names (switch_start names n) gs)
+    switch_there n gs e =
+        part_there (switch_start names n) (switch_pieces names (switch_start names n) gs) (switch_placed n gs e).1
+        (switch_fine p g next value fills near names (switch_start names n) gs (let x = few n gs e in let y : length gs < 65536 = omega arith in y))
 
     abbrev stands_here : Stands p image g o
-    stands_here = record { value = value; next_place = next; fills = fills; entry = entry_there; orders = order_there; landings = landing_there; switches = switch_there }
+    stands_here = record { value = value; next_place = next; fills = fills; entry = entry_there; orders = order_there; landings = landing_there; landings_within = λ l m e. whole_within (pieces_of o) (landing_start names l) (landing_pieces names (landing_start names l) m) (landing_placed l m e); switches_within = λ n gs e. ((switch_placed n gs e).0, whole_within (pieces_of o) (switch_start names n) (switch_pieces names (switch_start names n) gs) (switch_placed n gs e).1); switches = switch_there }
 
 -- ---- all segments
 

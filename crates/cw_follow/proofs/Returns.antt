@@ -17,18 +17,19 @@ use Rattle.cw_order.specs.OrderChanges.{bind}
 use Rattle.cw_order.specs.OrderMachine.{unrefused}
 use Rattle.cw_tmpl.specs.Mnemonics.{slot, base_slot, argument, field, shift_down_once}
 use Rattle.cw_tmpl.proofs.Sizes.{own_place}
-use Rattle.cw_routines.specs.Ways.{HasAll, QuietAll}
+use Rattle.cw_routines.specs.Ways.{QuietAll}
 use Rattle.cw_routines.specs.Results.{Quiet, leave}
 use Rattle.cw_follow.proofs.Watched.{Watched}
 use Rattle.cw_follow.proofs.Rows.{Rows}
 use Rattle.cw_follow.proofs.Acting.{act}
 use Rattle.cw_follow.proofs.Chains.{Is, Leads, view, seen, to_place, load_argument, store_at, more, last, done}
-use Rattle.cw_follow.proofs.Straight.{LoadArgument, LoadSlot, StoreField, SumNumber, straight}
-use Rattle.cw_follow.proofs.Routines.{quiet_in, quiet_at, flags_of, arrives, returned, lifted, leads_on, with_ax}
+use Rattle.cw_follow.proofs.Straight.{LoadArgument, LoadSlot, StoreField, SumNumber, straight, straight_from}
+use Rattle.cw_follow.proofs.Routines.{quiet_in, quiet_all, there_all, flags_of, arrives, returned, lifted, leads_on, with_ax}
 use Rattle.cw_follow.proofs.Stacks.{start_small, level, record_of, code_place, StackIs, top_is, behind_arguments, argument_words}
-use Rattle.cw_follow.proofs.Orders.{Kept, kept_stored, Landed, landed, Leading, Does, further}
+use Rattle.cw_follow.proofs.Orders.{Kept, kept_stored, Landed, landed, Leading, Does, further, LandedAt}
+use Rattle.cw_follow.proofs.Standing.{HasAll, Image, HasFrom}
 
-module _ (rows : Rows) (prog : OrderProgram) (image : List ℕ) where
+module _ (rows : Rows) (prog : OrderProgram) (image : Image) where
   -- ---- the way back
 
   module _ (g : ℕ) (a : OrderActivation) (acts : List OrderActivation) (n : ℕ) (memory : List ℤ) (input output : List ℕ) where
@@ -56,13 +57,10 @@ module _ (rows : Rows) (prog : OrderProgram) (image : List ℕ) where
         let small = start_small prog a.segment (slice_get prog.units a.segment) (λ o. own_place o.list a.place) in
         let there : place % 65536 ≡ to % 65536 = omega arith in
         let start = seen refl (ap (λ b. view ax cx dx bx sp b si area overflow cells stack left told) record_at) s in
-        let quiet : QuietAll (Quiet (quiet_in q.places)) at (leave n) = (
-          quiet_at q.places at (s.ignores.others at (i86.Mov true true 4 (rms.Reg 5)) i.0 refl),
-          (quiet_at q.places (at + 2) (s.ignores.others (at + 2) (i86.Pop 5) i.1.0 refl), (quiet_at q.places (at + 2 + 1) (s.ignores.others (at + 2 + 1) (i86.RetAdd (2 * n)) i.1.1.0 refl), tt)),
-        ) in
+        let quiet : QuietAll (Quiet (quiet_in q.places)) at (leave n) = quiet_all s.ignores at (leave n) i in
         subst (λ o. Leads o 3 q (Is image to (view ax cx dx bx (2 * (r + 6 + n)) (record_of acts) si area (flags_of q).of cells stack left told))) k.wrote
-        (lifted rows s.silent
-        (rows.routines.leaving (quiet_in q.places) image at n quiet i (r + 4) (record_of acts) place ax cx dx bx sp si area (flags_of q) cells stack left told q.processor low c.caller back small (arrives start))
+        (lifted rows s.overlooks s.silent
+        (rows.routines.leaving (quiet_in q.places) image.bytes at n quiet (there_all image at (leave n) i) (r + 4) (record_of acts) place ax cx dx bx sp si area (flags_of q) cells stack left told q.processor low c.caller back small (arrives start))
         (λ u z. seen refl (ap (λ m. view ax cx dx bx m (record_of acts) si area (flags_of q).of cells stack left told) end) (to_place there (returned q s.ignores z))))
 
     kept_back : {cells stack : ℕ → ℕ} {left : List ℕ} {told : Told} → Kept prog g (a ∷ acts) memory input output cells stack left told
@@ -91,10 +89,10 @@ module _ (rows : Rows) (prog : OrderProgram) (image : List ℕ) where
 
   -- ---- the words of the frame
 
-  pub frame_homes : {q : Watched} {at : ℕ} (g to n : ℕ) (a : OrderActivation) (acts : List OrderActivation) (z : ℤ) (w : Words) → prog.limits.area ≤ 32768 → a.frame_base + n < prog.limits.area → at + 8 ≡ to → a.frame_base + n ≡ unsigned z
-      → HasAll image at (i86.Mov true true 0 (slot base_slot) ∷ shift_down_once 0 ∷ with_number 0 n ∷ []) → Landed prog image at g false (a ∷ acts) w q
+  pub frame_homes : {q : Watched} {first : Bool} {at : ℕ} (g to n : ℕ) (a : OrderActivation) (acts : List OrderActivation) (z : ℤ) (w : Words) → prog.limits.area ≤ 32768 → a.frame_base + n < prog.limits.area → at + 8 ≡ to → a.frame_base + n ≡ unsigned z
+      → HasFrom first image at (i86.Mov true true 0 (slot base_slot) ∷ shift_down_once 0 ∷ with_number 0 n ∷ []) → LandedAt first prog image at g false (a ∷ acts) w q
       → Leading w.output 3 q (Landed prog image to g true (a ∷ acts) (put z w))
-  frame_homes {q} {at} g to n a acts z w low_area inside e value i l =
+  frame_homes {q} {first} {at} g to n a acts z w low_area inside e value i l =
       let s = l.stacked in
       let k = l.kept in
       let r = level (a ∷ acts) in
@@ -105,8 +103,8 @@ module _ (rows : Rows) (prog : OrderProgram) (image : List ℕ) where
       let sum : word_sum (twice / 2 ^ 1) n ≡ unsigned z = omega (arith, value) in
       let end : at + 3 + 2 + 3 ≡ to = omega arith in
       further 3 (lit≤ tt) (lit< tt)
-      (straight rows (LoadSlot 0 0xFA (r + 1) twice ∷ []) {n = 2} k.wrote (i.0, tt) ((low, slot_base, k.piled.0.base_is), tt) s.is (λ q u.
-      more rows u k.wrote (act rows (Shift Down false (rms.Reg 0) (InRegister 0) twice) refl (lit< tt) i.1.0 ((refl, tt, refl), small) u).is (λ q u.
+      (straight_from rows (LoadSlot 0 0xFA (r + 1) twice) [] {n = 2} k.wrote (i.0, tt) ((low, slot_base, k.piled.0.base_is), tt) s.is (λ q u.
+      more rows u k.wrote (act rows (Shift Down false (rms.Reg 0) (InRegister 0) twice) (lit< tt) i.1.0 ((refl, tt, refl), small) u).is (λ q u.
       straight rows (SumNumber n ∷ []) {n = 0} k.wrote (i.1.1.0, tt) (tt, tt) u (λ q u.
       done (landed rows prog image g (a ∷ acts) true to l.top (Word z ∷ w.operands) w.memory w.input w.output end (sum, l.operands) k u)))))
 

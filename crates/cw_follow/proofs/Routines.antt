@@ -1,25 +1,28 @@
 -- The routines of the library for the processor that is watched, and what is called in all places: the stops.
-use Rattle.std.proofs.Common.{◌≡◌, ◌≢◌, ℕ, suc, ◌+◌, ◌*◌, ◌%◌, ◌<◌, Bool, true, false, List, [], ◌∷◌, refl, sym, ap, ◌∙◌, subst, arith}
+use Rattle.std.proofs.Common.{◌≡◌, ◌≢◌, ℕ, suc, ◌+◌, ◌*◌, ◌%◌, ◌<◌, Bool, true, false, List, [], ◌∷◌, length, lit<, refl, sym, ap, ap₂, ◌∙◌, subst, arith}
 use Rattle.std.proofs.lemmas.Bool.{false≢true}
 use Rattle.std.proofs.lemmas.Bool.Decides.{nat_tests}
 use Rattle.cw_track.proofs.Paths.{Path, stay, next}
 use Rattle.cw_i86.specs.declared.flags.Flags.{Flags}
+use Rattle.cw_i86.specs.Encoding.{bytes_of}
+use Rattle.cw_i86.specs.declared.instr.Instr.{Instr}
 use Rattle.cw_i86.specs.declared.instr.Instr.TheVariants as i86
 use Rattle.cw_i86.specs.MachineRun as run
 use Rattle.cw_i86.specs.MachineRun.{Running, end_told}
 use Rattle.cw_image.specs.Begun.{StatementPlace, lines_at}
 use Rattle.cw_run86.specs.Processor.{Processor, Told, processor_step, observed}
-use Rattle.cw_run86.specs.Views.{View, Sees, Has, put_word}
+use Rattle.cw_run86.specs.Views as ways
+use Rattle.cw_run86.specs.Views.{View, Sees, put_word}
 use Rattle.cw_unit.specs.Stop.{StopKind, Overflow, ZeroDivisor, SwitchRange, AddressRange, FramesFull, DepthReached, IndexRange, stop_number, Stopped, Ended}
 use Rattle.cw_unit.specs.Behaviour.{Observation}
-use Rattle.cw_tmpl.specs.Library.{stop_place}
-use Rattle.cw_routines.specs.Ways.{At, HasWord, Way, stay as stays, go, Leads as Goes, Over as Rests, view as processor_view}
+use Rattle.cw_tmpl.specs.Library.{stop_place, library_bytes}
+use Rattle.cw_routines.specs.Ways.{HasAll as WayHasAll, QuietAll, At, Way, stay as stays, go, Leads as Goes, Over as Rests, view as processor_view}
 use Rattle.cw_routines.specs.Results.{Stands, Quiet, InLibrary, Tells}
-use Rattle.cw_follow.specs.Passing.{Ignores}
 use Rattle.cw_follow.specs.Showing.{shown_as}
 use Rattle.cw_follow.proofs.Watched.{Watched, watched_step, watched_machine, step_silent, fresh}
 use Rattle.cw_follow.proofs.Rows.{Rows}
-use Rattle.cw_follow.proofs.Chains.{Is, Leads, at_work, view, placed, has, to_place, call, silently, more, last}
+use Rattle.cw_follow.proofs.Chains.{IsAt, Is, Leads, at_work, view, placed, has, to_place, call, silently, more, last}
+use Rattle.cw_follow.proofs.Standing.{Has, HasWord, Image, Ignores, HasAll}
 
 -- ---- words
 
@@ -68,7 +71,7 @@ quiet_in places k = no_lines (lines_at places k)
 pub quiet_at : (places : List StatementPlace) (k : ℕ) → lines_at places k ≡ [] → quiet_in places k ≡ true
 quiet_at places k e = ap no_lines e
 
-pub quiet_library : {image : List ℕ} {places : List StatementPlace} → Ignores image places → InLibrary (quiet_in places)
+pub quiet_library : {image : Image} {places : List StatementPlace} → Ignores image places → InLibrary (quiet_in places)
 quiet_library {places = places} i k lt = quiet_at places k (i.library k lt)
 
 -- ---- ways of the processor are paths of the processor that is watched
@@ -76,7 +79,7 @@ quiet_library {places = places} i k lt = quiet_at places k (i.library k lt)
 one_step : (places : List StatementPlace) (area : ℕ) (p : Processor) → lines_at places p.state.instruction_pointer ≡ [] → watched_step (fresh places area p) ≡ fresh places area (processor_step p)
 unfolding watched_step
 one_step places area p none =
-    ap (λ es. record { places = places; area = area; processor = processor_step p; begun = es }) (step_silent (fresh places area p) none refl)
+    ap (λ es. record { places = places; area = area; processor = processor_step p; overlooks = false; begun = es }) (step_silent (fresh places area p) none refl)
 
 lifts : Rows → (code output : List ℕ) (places : List StatementPlace) (area n : ℕ) (p q : Processor) → Way (Quiet (quiet_in places)) code output n p q → Path (λ o. o ≡ at_work output) watched_machine n (fresh places area p) (fresh places area q)
 lifts rows code output places area n p q (stays same z) = stay (ap (fresh places area) same) z
@@ -92,24 +95,24 @@ abbrev pub flags_of : Watched → Flags
 flags_of p = p.processor.state.flags
 
 -- the view of a routine's law
-pub arrives : {image : List ℕ} {at ax cx dx bx sp bp si di : ℕ} {overflow : Bool} {cells stack : ℕ → ℕ} {input : List ℕ} {told : Told} {p : Watched} → Is image at (view ax cx dx bx sp bp si di overflow cells stack input told) p
-    → At image at (processor_view ax cx dx bx sp bp si di cells stack input told) (flags_of p) p.processor
+pub arrives : {image : Image} {at ax cx dx bx sp bp si di : ℕ} {overflow : Bool} {cells stack : ℕ → ℕ} {input : List ℕ} {told : Told} {p : Watched} → Is image at (view ax cx dx bx sp bp si di overflow cells stack input told) p
+    → At image.bytes at (processor_view ax cx dx bx sp bp si di cells stack input told) (flags_of p) p.processor
 arrives {image} {at} {ax} {cx} {dx} {bx} {sp} {bp} {si} {di} {overflow} {cells} {stack} {input} {told} {p} s =
-    record { sees = subst (λ o. Sees image (placed at (view ax cx dx bx sp bp si di o cells stack input told)) p.processor) (sym s.sees.overflow) s.sees; flags = refl }
+    record { sees = subst (λ o. Sees image.bytes (placed at (view ax cx dx bx sp bp si di o cells stack input told)) p.processor) (sym s.sees.overflow) s.sees; flags = refl }
 
 -- back from a routine, nothing noted
-pub returned : {image : List ℕ} {at ax cx dx bx sp bp si di : ℕ} {flags : Flags} {cells stack : ℕ → ℕ} {input : List ℕ} {told : Told} {q : Processor} (p : Watched) → Ignores image p.places
-    → At image at (processor_view ax cx dx bx sp bp si di cells stack input told) flags q → Is image at (view ax cx dx bx sp bp si di flags.of cells stack input told) (fresh p.places p.area q)
-returned p ignores s = record { sees = s.sees; ignores = ignores; silent = refl }
+pub returned : {image : Image} {at ax cx dx bx sp bp si di : ℕ} {flags : Flags} {cells stack : ℕ → ℕ} {input : List ℕ} {told : Told} {q : Processor} (p : Watched) → Ignores image p.places
+    → At image.bytes at (processor_view ax cx dx bx sp bp si di cells stack input told) flags q → Is image at (view ax cx dx bx sp bp si di flags.of cells stack input told) (fresh p.places p.area q)
+returned p ignores s = record { sees = s.sees; ignores = ignores; overlooks = refl; silent = refl }
 
 -- so many instructions of a routine
-pub lifted : Rows → {image output : List ℕ} {n : ℕ} {p : Watched} {T : Processor → Type 0} {U : Watched → Type 0} → p.begun ≡ [] → Goes (Quiet (quiet_in p.places)) image output n p.processor T
+pub lifted : Rows → {code output : List ℕ} {n : ℕ} {p : Watched} {T : Processor → Type 0} {U : Watched → Type 0} → p.overlooks ≡ false → p.begun ≡ [] → Goes (Quiet (quiet_in p.places)) code output n p.processor T
     → ((q : Processor) → T q → U (fresh p.places p.area q)) → Leads output n p U
-lifted rows {image} {output} {n} {p} silent l on =
-    let same : fresh p.places p.area p.processor ≡ p = ap (λ b. record { places = p.places; area = p.area; processor = p.processor; begun = b }) (sym silent) in
+lifted rows {code} {output} {n} {p} sees silent l on =
+    let same : fresh p.places p.area p.processor ≡ p = ap₂ (λ x b. record { places = p.places; area = p.area; processor = p.processor; overlooks = x; begun = b }) (sym sees) (sym silent) in
     record {
       reached = fresh p.places p.area l.reached;
-      path = subst (λ t. Path (λ o. o ≡ at_work output) watched_machine n t (fresh p.places p.area l.reached)) same (lifts rows image output p.places p.area n p.processor l.reached l.way);
+      path = subst (λ t. Path (λ o. o ≡ at_work output) watched_machine n t (fresh p.places p.area l.reached)) same (lifts rows code output p.places p.area n p.processor l.reached l.way);
       there = on l.reached l.there;
     }
 
@@ -118,20 +121,23 @@ over {output} {kind} {segment} {line} p r = record { shows = ap shown_as r.shows
 
 -- ---- views
 
-pub with_ax : {image : List ℕ} {at ax x cx dx bx sp bp si di : ℕ} {overflow : Bool} {cells stack : ℕ → ℕ} {input : List ℕ} {told : Told} {p : Watched} → ax ≡ x
+pub with_ax : {image : Image} {at ax x cx dx bx sp bp si di : ℕ} {overflow : Bool} {cells stack : ℕ → ℕ} {input : List ℕ} {told : Told} {p : Watched} → ax ≡ x
     → Is image at (view ax cx dx bx sp bp si di overflow cells stack input told) p → Is image at (view x cx dx bx sp bp si di overflow cells stack input told) p
 with_ax {image} {at} {ax} {x} {cx} {dx} {bx} {sp} {bp} {si} {di} {overflow} {cells} {stack} {input} {told} {p} e s =
     subst (λ a. Is image at (view a cx dx bx sp bp si di overflow cells stack input told) p) e s
 
 -- the processor with BP at a record, SP at a word of the stack, and the words of the data area in DI
-pub record Stacked (image : List ℕ) (at top bp area : ℕ) (cells stack : ℕ → ℕ) (input : List ℕ) (told : Told) (p : Watched) : Type 0 where
+pub record StackedAt (first : Bool) (image : Image) (at top bp area : ℕ) (cells stack : ℕ → ℕ) (input : List ℕ) (told : Told) (p : Watched) : Type 0 where
   pub ax : ℕ
   pub cx : ℕ
   pub dx : ℕ
   pub bx : ℕ
   pub si : ℕ
   pub overflow : Bool
-  pub is : Is image at (view ax cx dx bx (2 * top) bp si area overflow cells stack input told) p
+  pub is : IsAt first image at (view ax cx dx bx (2 * top) bp si area overflow cells stack input told) p
+
+abbrev pub Stacked : (image : Image) (at top bp area : ℕ) (cells stack : ℕ → ℕ) (input : List ℕ) (told : Told) (p : Watched) → Type 0
+Stacked image at top bp area cells stack input told p = StackedAt false image at top bp area cells stack input told p
 
 pub leads_on : {output : List ℕ} {n : ℕ} {p : Watched} {T U : Watched → Type 0} → ((q : Watched) → T q → U q) → Leads output n p T → Leads output n p U
 leads_on f l = record { reached = l.reached; path = l.path; there = f l.reached l.there }
@@ -146,26 +152,39 @@ HasLine AddressRange = Unit {0}
 HasLine IndexRange = Unit {0}
 HasLine _ = ⊥
 
+-- an instruction of the library
+pub in_library : {image : Image} {places : List StatementPlace} → Ignores image places → (place : ℕ) (i : Instr) → place < length library_bytes → ways.Has image.bytes place i → Has image place i
+in_library i place it lt h = record { there = h; free = λ e. ap (λ ps. lines_at ps place) (sym i.told) ∙ i.library place lt }
+
+-- instructions of the code, for the laws of pieces of it
+pub there_all : (image : Image) (place : ℕ) (is : List Instr) → HasAll image place is → WayHasAll image.bytes place is
+there_all image place [] h = tt
+there_all image place (i ∷ is) h = (h.0.there, there_all image (place + length (bytes_of i)) is h.1)
+
+pub quiet_all : {image : Image} {places : List StatementPlace} → Ignores image places → (place : ℕ) (is : List Instr) → HasAll image place is → QuietAll (Quiet (quiet_in places)) place is
+quiet_all i place [] h = tt
+quiet_all {places = places} i place (it ∷ is) h = (quiet_at places place (ap (λ ps. lines_at ps place) i.told ∙ h.0.free refl), quiet_all i (place + length (bytes_of it)) is h.1)
+
 module _ (rows : Rows) where
   -- a stop, with the place of its line on the stack
-  stops_at : {image : List ℕ} {p : Watched} (kind : StopKind) (at line n r segment ax cx dx bx bp si di : ℕ) (overflow : Bool) (cells stack : ℕ → ℕ) (input : List ℕ) (told : Told)
-      → HasLine kind → Stands image → n < 32768 → stack n ≡ at → HasWord image at line → line < 65536 → Tells stack bp r segment
+  stops_at : {image : Image} {p : Watched} (kind : StopKind) (at line n r segment ax cx dx bx bp si di : ℕ) (overflow : Bool) (cells stack : ℕ → ℕ) (input : List ℕ) (told : Told)
+      → HasLine kind → Stands image.bytes → n < 32768 → stack n ≡ at → HasWord image at line → line < 65536 → Tells stack bp r segment
       → Is image (stop_place kind) (view ax cx dx bx (2 * n) bp si di overflow cells stack input told) p → Leads told.output 12 p (Over (record { output = told.output; end = Stopped kind segment line }))
   stops_at {image} {p} Overflow at line n r segment ax cx dx bx bp si di overflow cells stack input told has library low there word small tells s =
-      lifted rows s.silent (rows.routines.overflow (quiet_in p.places) image library (quiet_library s.ignores) at line n r segment ax cx dx bx bp si di (flags_of p) cells stack input told p.processor low there word small tells (arrives s)) (λ q t. over p t)
+      lifted rows s.overlooks s.silent (rows.routines.overflow (quiet_in p.places) image.bytes library (quiet_library s.ignores) at line n r segment ax cx dx bx bp si di (flags_of p) cells stack input told p.processor low there word small tells (arrives s)) (λ q t. over p t)
   stops_at {image} {p} ZeroDivisor at line n r segment ax cx dx bx bp si di overflow cells stack input told has library low there word small tells s =
-      lifted rows s.silent (rows.routines.zero_divisor (quiet_in p.places) image library (quiet_library s.ignores) at line n r segment ax cx dx bx bp si di (flags_of p) cells stack input told p.processor low there word small tells (arrives s)) (λ q t. over p t)
+      lifted rows s.overlooks s.silent (rows.routines.zero_divisor (quiet_in p.places) image.bytes library (quiet_library s.ignores) at line n r segment ax cx dx bx bp si di (flags_of p) cells stack input told p.processor low there word small tells (arrives s)) (λ q t. over p t)
   stops_at {image} {p} AddressRange at line n r segment ax cx dx bx bp si di overflow cells stack input told has library low there word small tells s =
-      lifted rows s.silent (rows.routines.address (quiet_in p.places) image library (quiet_library s.ignores) at line n r segment ax cx dx bx bp si di (flags_of p) cells stack input told p.processor low there word small tells (arrives s)) (λ q t. over p t)
+      lifted rows s.overlooks s.silent (rows.routines.address (quiet_in p.places) image.bytes library (quiet_library s.ignores) at line n r segment ax cx dx bx bp si di (flags_of p) cells stack input told p.processor low there word small tells (arrives s)) (λ q t. over p t)
   stops_at {image} {p} IndexRange at line n r segment ax cx dx bx bp si di overflow cells stack input told has library low there word small tells s =
-      lifted rows s.silent (rows.routines.bounds (quiet_in p.places) image library (quiet_library s.ignores) at line n r segment ax cx dx bx bp si di (flags_of p) cells stack input told p.processor low there word small tells (arrives s)) (λ q t. over p t)
+      lifted rows s.overlooks s.silent (rows.routines.bounds (quiet_in p.places) image.bytes library (quiet_library s.ignores) at line n r segment ax cx dx bx bp si di (flags_of p) cells stack input told p.processor low there word small tells (arrives s)) (λ q t. over p t)
   stops_at SwitchRange at line n r segment ax cx dx bx bp si di overflow cells stack input told has library low there word small tells s = absurd has
   stops_at FramesFull at line n r segment ax cx dx bx bp si di overflow cells stack input told has library low there word small tells s = absurd has
   stops_at DepthReached at line n r segment ax cx dx bx bp si di overflow cells stack input told has library low there word small tells s = absurd has
 
   -- a call of a stop, with the line behind it
-  pub stops : {image : List ℕ} {p : Watched} (kind : StopKind) (at by line n r segment ax cx dx bx bp si di : ℕ) (overflow : Bool) (cells stack : ℕ → ℕ) (input : List ℕ) (told : Told)
-      → HasLine kind → Stands image → Has image at (i86.Call by) → HasWord image (at + 3) line → line < 65536 → (at + 3 + by) % 65536 ≡ stop_place kind % 65536 → r < 32768 → n < r → (sp : ℕ) → sp ≡ 2 * suc n % 65536
+  pub stops : {image : Image} {p : Watched} (kind : StopKind) (at by line n r segment ax cx dx bx bp si di : ℕ) (overflow : Bool) (cells stack : ℕ → ℕ) (input : List ℕ) (told : Told)
+      → HasLine kind → Stands image.bytes → Has image at (i86.Call by) → HasWord image (at + 3) line → line < 65536 → (at + 3 + by) % 65536 ≡ stop_place kind % 65536 → r < 32768 → n < r → (sp : ℕ) → sp ≡ 2 * suc n % 65536
       → (bp + 65534) % 65536 ≡ 2 * r → stack r ≡ segment → segment < 256
       → Is image at (view ax cx dx bx sp bp si di overflow cells stack input told) p → Leads told.output 13 p (Over (record { output = told.output; end = Stopped kind segment line }))
   stops {image} {p} kind at by line n r segment ax cx dx bx bp si di overflow cells stack input told has_line library h word small to high low sp top there number few s =
@@ -180,13 +199,13 @@ module _ (rows : Rows) where
       (record { there = there; low = high; number = put_off stack n (at + 3) r other ∙ number; few = few }) s)
 
   -- behind HLT
-  halted : {image : List ℕ} {at : ℕ} {v : View} {p : Watched} {shown : Observation} → Has image (at % 65536) i86.Hlt → Is image at v p
+  halted : {image : Image} {at : ℕ} {v : View} {p : Watched} {shown : Observation} → Has image (at % 65536) i86.Hlt → Is image at v p
       → shown_as (record { output = v.told.output; end = end_told v.told.kind v.told.segment (v.told.line_low + 256 * v.told.line_high) }) ≡ shown → Over shown (watched_step p)
   unfolding watched_step
-  halted {image} {at} {v} {p} h s e = record { shows = ap shown_as (rows.halts image (placed at v) p.processor h s.sees) ∙ e; still = rows.rests image (placed at v) p.processor h s.sees; silent = silently i86.Hlt refl h s }
+  halted {image} {at} {v} {p} h s e = record { shows = ap shown_as (rows.halts image.bytes (placed at v) p.processor h.there s.sees) ∙ e; still = rows.rests image.bytes (placed at v) p.processor h.there s.sees; silent = silently i86.Hlt h s }
 
   -- the end of the program
-  pub ends : {image : List ℕ} {p : Watched} {at : ℕ} {v : View} {output : List ℕ} → Stands image → at % 65536 ≡ 3 % 65536 → v.told.kind ≡ 0 → v.told.output ≡ output → Is image at v p → Leads output 1 p (Over (record { output = output; end = Ended }))
+  pub ends : {image : Image} {p : Watched} {at : ℕ} {v : View} {output : List ℕ} → Stands image.bytes → at % 65536 ≡ 3 % 65536 → v.told.kind ≡ 0 → v.told.output ≡ output → Is image at v p → Leads output 1 p (Over (record { output = output; end = Ended }))
   ends {image} {p} {at} {v} {output} library there kind wrote s' =
       let s : Is image 3 v p = to_place there s' in
-      last rows s wrote (halted library.0.1.0 s (end_shows v.told.output output v.told.kind v.told.segment (v.told.line_low + 256 * v.told.line_high) wrote kind))
+      last rows s wrote (halted (in_library s.ignores 3 i86.Hlt (lit< tt) library.0.1.0) s (end_shows v.told.output output v.told.kind v.told.segment (v.told.line_low + 256 * v.told.line_high) wrote kind))

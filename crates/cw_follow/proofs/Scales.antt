@@ -16,7 +16,6 @@ use Rattle.cw_unit.specs.Words.{Operand, Words, Changed, put, put_if, put_value}
 use Rattle.cw_unit.specs.Operation.{Rescale, Multiply, perform}
 use Rattle.cw_order.specs.FittingWords.{OperandFits}
 use Rattle.cw_tmpl.specs.Library.{stop_place, product_place}
-use Rattle.cw_routines.specs.Ways.{HasAll}
 use Rattle.cw_routines.specs.Results.{Quiet, InLibrary, WordRoutine}
 use Rattle.cw_follow.proofs.Chains.{seen, done}
 use Rattle.cw_follow.proofs.Straight.{Pop, Number, Move, DownSigned, Product, straight}
@@ -29,6 +28,7 @@ use Rattle.cw_follow.proofs.Called.{Then, parts, by_routine}
 use Rattle.cw_follow.proofs.Numbers.{fits_tested}
 use Rattle.cw_follow.proofs.Facts.{fits_true, stays_out}
 use Rattle.cw_follow.proofs.Addresses.{CheckThen, check_of, times_code, test_place, product_overflows_is, product_is, times_tested, multiplied}
+use Rattle.cw_follow.proofs.Standing.{HasAll}
 
 up_is : (from to : ℕ) → from ≤ to → pos to -ℤ pos from ≡ pos (to - from)
 up_is from to le = omega (arith, ints)
@@ -242,11 +242,11 @@ module _ (c : Setting) (memory : List ℤ) (input output : List ℕ) where
           let w = words rest memory input output in
           let count : suc j ≡ j + 1 = omega arith in
           let e' : at + 1 + 13 ≡ to = omega arith in
-          let law : (quiet : ℕ → Bool) → InLibrary quiet → WordRoutine (Quiet quiet) c.image product_place 15 (j + 1) y x z =
+          let law : (quiet : ℕ → Bool) → InLibrary quiet → WordRoutine (Quiet quiet) c.image.bytes product_place 15 (j + 1) y x z =
           λ quiet in_library.
-          subst (λ n. WordRoutine (Quiet quiet) c.image product_place 15 n y x z) count
-          (subst (λ v. WordRoutine (Quiet quiet) c.image product_place 15 (suc j) y x (floor_scaled v (negsuc j))) (other_way x y)
-          (c.rows.routines.product quiet c.image c.library in_library y x j fy fx few)) in
+          subst (λ n. WordRoutine (Quiet quiet) c.image.bytes product_place 15 n y x z) count
+          (subst (λ v. WordRoutine (Quiet quiet) c.image.bytes product_place 15 (suc j) y x (floor_scaled v (negsuc j))) (other_way x y)
+          (c.rows.routines.product quiet c.image.bytes c.library in_library y x j fy fx few)) in
           later c.program c.image 31 to c.g true line c.acts 1 32 (put_value z w) (lit≤ tt)
           (straight c.rows (Pop 3 (suc l.top) (unsigned x) ∷ []) l.kept.wrote (i.0, tt) (l.next, tt) l.is (λ q t. done t))
           (λ q t. by_routine c memory input output to product_place 15 (j + 1) by stop line (suc l.top) y x z rest e' arrives1 arrives2 small l.low law i.1 l.under l.kept t)

@@ -10,7 +10,7 @@ use Rattle.cw_i86.specs.declared.instr.Instr.TheVariants as i86
 use Rattle.cw_i86.specs.declared.instr.Rm.{Rm}
 use Rattle.cw_i86.specs.declared.instr.Rm.TheVariants as rms
 use Rattle.cw_run86.specs.Processor.{Told}
-use Rattle.cw_run86.specs.Views.{View, Has, put_word, with_number, word_up, word_down_signed}
+use Rattle.cw_run86.specs.Views.{View, put_word, with_number, word_up, word_down_signed}
 use Rattle.cw_rows86.specs.Locations.{InRegister, InData, Denotes}
 use Rattle.cw_rows86.specs.Operations.{And, Xor, Shifting, Up, Down, DownSigned, shift_number, shifted_word}
 use Rattle.cw_rows86.specs.Acts.{Shift, Operate, OperateOnto, OperateNumber}
@@ -19,7 +19,7 @@ use Rattle.cw_tmpl.specs.Pieces.{Filling, blanks}
 use Rattle.cw_tmpl.specs.Templates.{shifted, shifted_up, shifted_down, shifted_down_signed, lowest_if, part_taken}
 use Rattle.cw_track.proofs.Paths.{join}
 use Rattle.cw_follow.proofs.Watched.{Watched, watched_machine, watched_step}
-use Rattle.cw_follow.proofs.Standing.{HasPieces}
+use Rattle.cw_follow.proofs.Standing.{HasPieces, Has, Image}
 use Rattle.cw_follow.proofs.Rows.{Rows}
 use Rattle.cw_follow.proofs.Chains.{Is, Leads, view, seen, number, more, last, done}
 use Rattle.cw_follow.proofs.Acting.{act}
@@ -97,7 +97,7 @@ abbrev pub part_word : (w t b : ℕ) → (is_signed : Bool) → ℕ
 part_word w t b true = word_down_signed (word_up w (16 - (t + b))) (16 - t)
 part_word w t b false = bit_and (w / 2 ^ b) (2 ^ t - 1)
 
-module _ (rows : Rows) (image : List ℕ) (value : Filling) (to : ℕ) (output : List ℕ) where
+module _ (rows : Rows) (image : Image) (value : Filling) (to : ℕ) (output : List ℕ) where
   -- code that stands at a place and ends there
   abbrev pub Code : (at : ℕ) → List Coded → Type 0
   Code at ps = HasPieces image value at ps × (at + length (blanks ps) ≡ to)
@@ -118,7 +118,7 @@ module _ (rows : Rows) (image : List ℕ) (value : Filling) (to : ℕ) (output :
       let e : suc m ≡ 1 + m = omega arith in
       let h = code.0 in
       let ends = code.1 in
-      let t = act rows (Shift op false (rms.Reg 0) (InRegister 0) a) refl (lit< tt) h.0 ((refl, tt, refl), small) s in
+      let t = act rows (Shift op false (rms.Reg 0) (InRegister 0) a) (lit< tt) h.0 ((refl, tt, refl), small) s in
       subst (λ k. Leads output k p Target) e (more rows s wrote t.is (λ q u. on q (at + 2) (shifted_word op a 1) cx _ refl (h.1, omega arith) u))
   shifts op (suc (suc n)) {at} {a} {cx} {overflow = overflow} {p = p} {m = m} {Target = Target} rest few small wrote code s on =
       let k = suc (suc n) in
@@ -128,7 +128,7 @@ module _ (rows : Rows) (image : List ℕ) (value : Filling) (to : ℕ) (output :
       let count : k % 256 ≡ k = omega arith in
       subst (λ k. Leads output k p Target) e
       (more rows s wrote (number rows 1 k h.0 s) (λ q u.
-      more rows u wrote (act rows (Shift op true (rms.Reg 0) (InRegister 0) a) refl (lit< tt) h.1.0 ((refl, tt, refl), small) u).is
+      more rows u wrote (act rows (Shift op true (rms.Reg 0) (InRegister 0) a) (lit< tt) h.1.0 ((refl, tt, refl), small) u).is
       (λ r v. on r (at + 3 + 2) (shifted_word op a (k % 256)) k _ (ap (shifted_word op a) count) (h.1.1, omega arith) v)))
 
   -- the lowest bits
@@ -142,7 +142,7 @@ module _ (rows : Rows) (image : List ℕ) (value : Filling) (to : ℕ) (output :
       let h = code.0 in
       let ends = code.1 in
       subst (λ k. Leads output k p Target) e
-      (more rows s wrote (act rows (OperateNumber And (2 ^ t - 1)) refl (lit< tt) h.0 tt s).is (λ q u. on q (at + 3) (bit_and a (2 ^ t - 1)) cx false refl (h.1, omega arith) u))
+      (more rows s wrote (act rows (OperateNumber And (2 ^ t - 1)) (lit< tt) h.0 tt s).is (λ q u. on q (at + 3) (bit_and a (2 ^ t - 1)) cx false refl (h.1, omega arith) u))
 
   -- a part of the word in AX
   pub takes_part : (t b : ℕ) (is_signed : Bool) {at w cx dx bx sp bp si di : ℕ} {overflow : Bool} {cells stack : ℕ → ℕ} {input : List ℕ} {told : Told} {p : Watched} {m : ℕ} {Target : Watched → Type 0} (rest : List Coded) → t + b ≤ 16 → w < 65536 → told.output ≡ output
@@ -198,8 +198,8 @@ module _ (rows : Rows) (image : List ℕ) (value : Filling) (to : ℕ) (output :
 -- ---- bits of a word of the data area
 
 -- The bits of a word in which AX differs are turned, of those that a mask has. Two instructions name the word, whatever AX holds.
-pub turns : Rows → {image : List ℕ} {p : Watched} {output : List ℕ} {at a cx dx bx sp bp si di : ℕ} {overflow : Bool} {cells stack : ℕ → ℕ} {input : List ℕ} {told : Told} (size k mask m : ℕ) (reads writes : Rm) → told.output ≡ output → cells k ≡ m
-    → ((x : ℕ) → Denotes image (x ∷ cx ∷ dx ∷ bx ∷ sp ∷ bp ∷ si ∷ di ∷ []) reads (InData k)) → ((x : ℕ) → Denotes image (x ∷ cx ∷ dx ∷ bx ∷ sp ∷ bp ∷ si ∷ di ∷ []) writes (InData k))
+pub turns : Rows → {image : Image} {p : Watched} {output : List ℕ} {at a cx dx bx sp bp si di : ℕ} {overflow : Bool} {cells stack : ℕ → ℕ} {input : List ℕ} {told : Told} (size k mask m : ℕ) (reads writes : Rm) → told.output ≡ output → cells k ≡ m
+    → ((x : ℕ) → Denotes image.bytes (x ∷ cx ∷ dx ∷ bx ∷ sp ∷ bp ∷ si ∷ di ∷ []) reads (InData k)) → ((x : ℕ) → Denotes image.bytes (x ∷ cx ∷ dx ∷ bx ∷ sp ∷ bp ∷ si ∷ di ∷ []) writes (InData k))
     → length (bytes_of (i86.AluRm 6 true true 0 reads)) ≡ size → length (bytes_of (i86.AluRm 6 true false 0 writes)) ≡ size → 0 < size
     → Has image at (i86.AluRm 6 true true 0 reads) → Has image (at + size) (with_number 4 mask) → Has image (at + size + 3) (i86.AluRm 6 true false 0 writes)
     → Is image at (view a cx dx bx sp bp si di overflow cells stack input told) p
@@ -211,8 +211,8 @@ turns rows {image} {p} {output} {at} {a} {cx} {dx} {bx} {sp} {bp} {si} {di} {ove
     let bytes' : 0 < length (bytes_of (i86.AluRm 6 true false 0 writes)) = subst (λ n. 0 < n) (sym long') some in
     let V : ℕ → Bool → (ℕ → ℕ) → View = λ w o c. view w cx dx bx sp bp si di o c stack input told in
     let first : Is image (at + size) (V x false cells) (watched_step p) =
-    subst (λ n. Is image (at + n) (V x false cells) (watched_step p)) long (act rows (Operate Xor 0 reads (InData k) m) refl bytes h1 (is_read a, there) s).is in
+    subst (λ n. Is image (at + n) (V x false cells) (watched_step p)) long (act rows (Operate Xor 0 reads (InData k) m) bytes h1 (is_read a, there) s).is in
     more rows s wrote first (λ q u.
-    more rows u wrote (act rows (OperateNumber And mask) refl (lit< tt) h2 tt u).is (λ r v.
+    more rows u wrote (act rows (OperateNumber And mask) (lit< tt) h2 tt u).is (λ r v.
     last rows v wrote
-    (subst (λ n. Is image (at + size + 3 + n) (V y false (put_word cells k (bit_xor m y))) (watched_step r)) long' (act rows (OperateOnto Xor 0 writes (InData k) m) refl bytes' h3 (is_written y, tt, there) v).is)))
+    (subst (λ n. Is image (at + size + 3 + n) (V y false (put_word cells k (bit_xor m y))) (watched_step r)) long' (act rows (OperateOnto Xor 0 writes (InData k) m) bytes' h3 (is_written y, tt, there) v).is)))

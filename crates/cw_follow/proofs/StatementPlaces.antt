@@ -1,30 +1,34 @@
--- The places of the statements of an image: at a Start begins its statement, and at no other instruction any.
-use Rattle.std.proofs.Common.{◌≡◌, ℕ, zero, suc, ◌+◌, ◌-◌, ◌<◌, ◌≤◌, Bool, true, false, List, [], ◌∷◌, ◌++◌, length, take, drop, drop-cons, Some, refl, sym, ap, ap₂, ◌∙◌, subst, inl, inr, arith, length-append}
-use Rattle.std.proofs.lemmas.Bool.{cases_order, eq-eqb, ne_eqb, false≢true}
+-- The places of the statements of an image: where the code of the order behind a Start begins, its statement does, and nowhere else any.
+use Rattle.std.proofs.Common.{◌≡◌, ◌⊎◌, ⊎_elim, ℕ, zero, suc, ◌+◌, ◌-◌, ◌<◌, ◌≤◌, Bool, true, false, List, [], ◌∷◌, ◌++◌, length, take, drop, Option, None, Some, refl, sym, ap, ap₂, ◌∙◌, subst, inl, inr, arith, length-append, lit<}
+use Rattle.std.proofs.lemmas.Bool.{cases_order, eq-eqb, ne_eqb}
 use Rattle.std.proofs.lemmas.List.{append-nil}
 use Rattle.std.proofs.lemmas.Option.{slice_get_within}
 use Rattle.std.specs.Prelude.{◌==◌, if◌then◌else◌, slice_get, slice_index}
-use Rattle.cw_i86.specs.Encoding.{bytes_of, IsInstr, BeginsWith}
-use Rattle.cw_i86.specs.declared.instr.Instr.{Instr}
-use Rattle.cw_run86.specs.Views.{Has}
 use Rattle.cw_image.specs.Begun.{StatementPlace, lines_at}
+use Rattle.cw_order.specs.BeginsStatement.{BeginsStatement}
 use Rattle.cw_order.specs.declared.order.Order.{Order}
 use Rattle.cw_order.specs.declared.order.Order.TheVariants as order
 use Rattle.cw_order.specs.declared.order.Orders.{Orders}
-use Rattle.cw_order.specs.OrderProgram.{OrderProgram}
+use Rattle.cw_order.specs.declared.order.Place.{Place}
+use Rattle.cw_order.specs.declared.order.Place.TheVariants as cell
+use Rattle.cw_order.specs.OrderProgram.{OrderProgram, order_in}
+use Rattle.cw_tmpl.specs.declared.blocks.Element.{Element}
+use Rattle.cw_tmpl.specs.declared.blocks.Block.{Block}
 use Rattle.cw_tmpl.specs.declared.blocks.Block.TheVariants as block
-use Rattle.cw_tmpl.specs.Mnemonics.{nothing}
-use Rattle.cw_tmpl.specs.Pieces.{blanks}
-use Rattle.cw_tmpl.specs.Blocks.{block_at, left_at}
-use Rattle.cw_tmpl.specs.Templates.{block_pieces, block_size, entry_pieces}
+use Rattle.cw_tmpl.specs.declared.pieces.Coded.{Coded}
+use Rattle.cw_tmpl.specs.declared.pieces.Coded.TheVariants as coded
+use Rattle.cw_tmpl.specs.Mnemonics.{at_si, ax, load}
+use Rattle.cw_tmpl.specs.Pieces.{blanks, bytes_with}
+use Rattle.cw_tmpl.specs.Blocks.{is_part, fetched, fetched_from, fetched_or, element_orders, element_fetched, element_at, block_at, orders_left, left_at}
+use Rattle.cw_tmpl.specs.Templates.{address_pieces, load_place, part_taken, element_address, block_size, order_size, entry_pieces}
 use Rattle.cw_tmpl.specs.ReferenceCode.{templates, landings, switches, entry_size, order_places, landings_place, switches_place, names_of, pieces_of, orders_code, statements_from}
-use Rattle.cw_follow.specs.Placing.{total_size, base_of}
-use Rattle.cw_follow.specs.Passing.{moved_places, places_from, statement_places, does_nothing, PlacesStand}
+use Rattle.cw_follow.specs.Placing.{total_size, base_of, StandsBehind, Codable}
+use Rattle.cw_follow.specs.Passing.{moved_places, places_from, statement_places, NotBehindStart, PlacesStand}
 use Rattle.cw_tmpl.proofs.Growing.{blanks-append}
-use Rattle.cw_tmpl.proofs.Sizes.{size_to, size_next, places_are, own_place, size_of_templates}
-use Rattle.cw_follow.proofs.Standing.{HasPieces, order_place, AllStand}
 use Rattle.cw_tmpl.proofs.Shapes.{front_is}
+use Rattle.cw_tmpl.proofs.Sizes.{size_to, size_next, left_next, places_are, own_place, size_of_templates, landings_at}
 use Rattle.cw_follow.proofs.InBlocks.{size_split, begins_at}
+use Rattle.cw_follow.proofs.Sized.{piece_some}
 
 -- ---- lists of places
 
@@ -87,7 +91,7 @@ module _ (base n : ℕ) (places : List ℕ) where
 
 -- ---- the segments
 
-total_next : (os : List Orders) (g : ℕ) (o : Orders) → slice_get os g ≡ Some o → total_size (take (suc g) os) ≡ total_size (take g os) + length (blanks (pieces_of o))
+pub total_next : (os : List Orders) (g : ℕ) (o : Orders) → slice_get os g ≡ Some o → total_size (take (suc g) os) ≡ total_size (take g os) + length (blanks (pieces_of o))
 total_next [] g o e = absurd (cc)
 total_next (x ∷ os) zero o e = let same : x ≡ o = cc in let size : length (blanks (pieces_of x)) ≡ length (blanks (pieces_of o)) = ap (λ y. length (blanks (pieces_of y))) same in omega arith
 total_next (x ∷ os) (suc g) o e = omega (arith, total_next os g o e)
@@ -135,24 +139,14 @@ module _ (p : OrderProgram) where
 from_zero : (n : ℕ) → 0 + n ≡ n
 from_zero n = omega arith
 
--- ---- the places of Starts
+-- ---- the places of orders that have code
 
--- an order that begins a statement
-abbrev IsStart : Order → Type 0
-IsStart (order.Start line) = Unit {0}
-IsStart _ = ⊥
+-- the bytes of the code that begins with the order at a place of a list
+abbrev size_here : List Order → (place : ℕ) → Order → ℕ
+size_here list k a = block_size (block_at (left_at 0 list k) (drop k list)) a
 
--- it is a block by itself, of one byte
-alone : (list : List Order) (k : ℕ) (a : Order) → slice_get list k ≡ Some a → IsStart a → block_at (left_at 0 list k) (drop k list) ≡ block.Single
-alone list k (order.Start line) e starts = ap (λ n. block_at n (drop k list)) (begins_at list k (order.Start line) e (λ x. x)) ∙ ap (block_at 0) (front_is list k (order.Start line) e)
-alone list k _ e starts = absurd starts
-
-one_byte : (a : Order) → IsStart a → block_size block.Single a ≡ 1
-one_byte (order.Start line) starts = refl
-one_byte _ starts = absurd starts
-
-size_behind : (list : List Order) (k : ℕ) (a : Order) → slice_get list k ≡ Some a → IsStart a → size_to 0 list (suc k) ≡ size_to 0 list k + 1
-size_behind list k a e starts = size_next 0 list k a e ∙ ap (λ n. size_to 0 list k + n) (ap (λ b. block_size b a) (alone list k a e starts) ∙ one_byte a starts)
+size_behind : (list : List Order) (k : ℕ) (a : Order) → slice_get list k ≡ Some a → size_to 0 list (suc k) ≡ size_to 0 list k + size_here list k a
+size_behind list k a e = size_next 0 list k a e
 
 sizes_rise : (list : List Order) (k m : ℕ) → k ≤ m → size_to 0 list k ≤ size_to 0 list m
 sizes_rise list k m le =
@@ -160,8 +154,118 @@ sizes_rise list k m le =
     let same = ap (size_to 0 list) e in
     omega (arith, size_split 0 list k (m - k))
 
-own_is : (list : List Order) (k : ℕ) (a : Order) → slice_get list k ≡ Some a → slice_index (order_places list) k ≡ own_place list k
+pub own_is : (list : List Order) (k : ℕ) (a : Order) → slice_get list k ≡ Some a → slice_index (order_places list) k ≡ own_place list k
 own_is list k a e = let inside = slice_get_within list k a e in places_are entry_size 0 list k (omega arith)
+
+-- an order that begins a block wherever it stands
+here_is : (list : List Order) (k : ℕ) (a : Order) → slice_get list k ≡ Some a → (StandsBehind a → ⊥) → size_here list k a ≡ block_size (block_at 0 (a ∷ drop (suc k) list)) a
+here_is list k a e never = ap (λ b. block_size b a) (ap₂ block_at (begins_at list k a e never) (front_is list k a e))
+
+-- a Start has no code, so the code of the next order begins where it stands
+start_size : (list : List Order) (k line : ℕ) → slice_get list k ≡ Some (order.Start line) → size_here list k (order.Start line) ≡ 0
+start_size list k line e = here_is list k (order.Start line) e (λ x. x)
+
+pieces_some : (p : Coded) (ps : List Coded) → 0 < length (blanks (p ∷ ps))
+pieces_some p ps = let some = piece_some p in omega (arith, length-append (bytes_with 0 p) (blanks ps))
+
+behind_some : (xs : List Coded) (p : Coded) (ps : List Coded) → 0 < length (blanks (xs ++ p ∷ ps))
+behind_some xs p ps = let some = pieces_some p ps in omega (arith, ap length (blanks-append xs (p ∷ ps)) ∙ length-append (blanks xs) (blanks (p ∷ ps)))
+
+-- an order with which a statement begins has code, alone and at the beginning of a block
+single_some : (a : Order) → BeginsStatement a → 0 < order_size a
+single_some (order.Const zero) b = lit< tt
+single_some (order.Const (suc w)) b = lit< tt
+single_some (order.Home f n) b = lit< tt
+single_some (order.FrameHome n) b = lit< tt
+single_some order.ReadByte b = lit< tt
+single_some (order.Jump m) b = lit< tt
+single_some (order.GoMain m) b = lit< tt
+single_some (order.GoCommon d) b = lit< tt
+single_some (order.GoSpecial k) b = lit< tt
+single_some (order.CallProc q line) b = lit< tt
+single_some (order.CallCommon d line) b = lit< tt
+single_some (order.CallSpecial k line) b = lit< tt
+single_some (order.LabelOut l) b = lit< tt
+single_some (order.LabelCommon d) b = lit< tt
+single_some (order.SwitchOut n) b = lit< tt
+single_some (order.SwitchCommon d) b = lit< tt
+single_some (order.ProcOut q) b = lit< tt
+single_some (order.ProcCommon d) b = lit< tt
+single_some (order.SpecialOut k) b = lit< tt
+single_some _ b = absurd b
+
+-- the blocks that begin with the address of a place
+abbrev Addresses : Block → Type 0
+Addresses block.Single = Unit {0}
+Addresses (block.Fetch x) = Unit {0}
+Addresses (block.FetchPart x t b is_signed) = Unit {0}
+Addresses (block.FetchElement e) = Unit {0}
+Addresses _ = ⊥
+
+fetched_addresses : (x : Place) (o : Option Order) → Addresses (fetched x o)
+fetched_addresses x None = tt
+fetched_addresses x (Some order.Load) = tt
+fetched_addresses x (Some (order.LoadPart t b is_signed)) = part (is_part t b)
+  where
+    part : (c : Bool) → Addresses (if c then block.FetchPart x t b is_signed else block.Single)
+    part true = tt
+    part false = tt
+fetched_addresses x (Some _) = tt
+
+element_addresses : (e : Element) (o : Option Order) (other : Block) → Addresses other → Addresses (element_fetched e o other)
+element_addresses e None other h = h
+element_addresses e (Some order.Load) other h = tt
+element_addresses e (Some _) other h = h
+
+or_addresses : (e : Option Element) (os : List Order) (other : Block) → Addresses other → Addresses (fetched_or e os other)
+or_addresses None os other h = h
+or_addresses (Some e) os other h = element_addresses e (slice_get os (length (element_orders e))) other h
+
+begins_addresses : (a : Order) (os : List Order) → BeginsStatement a → Addresses (block_at 0 (a ∷ os))
+begins_addresses (order.Home f n) os b =
+    let l = order.Home f n ∷ os in
+    or_addresses (element_at (Some (cell.Word f n)) l) l (fetched_from (Some (cell.Word f n)) l) (fetched_addresses (cell.Word f n) (slice_get l 1))
+begins_addresses (order.FrameHome n) os b =
+    let l = order.FrameHome n ∷ os in
+    or_addresses (element_at (Some (cell.Frame n)) l) l (fetched_from (Some (cell.Frame n)) l) (fetched_addresses (cell.Frame n) (slice_get l 1))
+begins_addresses (order.Const w) os b = tt
+begins_addresses order.ReadByte os b = tt
+begins_addresses (order.Jump m) os b = tt
+begins_addresses (order.GoMain m) os b = tt
+begins_addresses (order.GoCommon d) os b = tt
+begins_addresses (order.GoSpecial k) os b = tt
+begins_addresses (order.CallProc q line) os b = tt
+begins_addresses (order.CallCommon d line) os b = tt
+begins_addresses (order.CallSpecial k line) os b = tt
+begins_addresses (order.LabelOut l) os b = tt
+begins_addresses (order.LabelCommon d) os b = tt
+begins_addresses (order.SwitchOut n) os b = tt
+begins_addresses (order.SwitchCommon d) os b = tt
+begins_addresses (order.ProcOut q) os b = tt
+begins_addresses (order.ProcCommon d) os b = tt
+begins_addresses (order.SpecialOut k) os b = tt
+begins_addresses _ os b = absurd b
+
+addresses_some : (b : Block) (a : Order) → Addresses b → 0 < order_size a → 0 < block_size b a
+addresses_some block.Single a h some = some
+addresses_some (block.Fetch x) a h some = behind_some (address_pieces x) (load_place x) []
+addresses_some (block.FetchPart x t b is_signed) a h some = behind_some (address_pieces x) (load_place x) (part_taken t b is_signed)
+addresses_some (block.FetchElement e) a h some = behind_some (element_address e) (coded.Whole (load ax at_si)) []
+addresses_some _ a h some = absurd h
+
+begins_some : (a : Order) (os : List Order) → BeginsStatement a → 0 < block_size (block_at 0 (a ∷ os)) a
+begins_some a os b = addresses_some (block_at 0 (a ∷ os)) a (begins_addresses a os b) (single_some a b)
+
+-- at the beginning of a block
+pub statement_here : (list : List Order) (k : ℕ) (a : Order) → slice_get list k ≡ Some a → left_at 0 list k ≡ 0 → BeginsStatement a → 0 < size_here list k a
+statement_here list k a e first begins = subst (λ n. 0 < n) (sym (ap (λ b. block_size b a) (ap₂ block_at first (front_is list k a e)))) (begins_some a (drop (suc k) list) begins)
+
+-- and so it is behind a Start
+behind_a_start : (list : List Order) (k line : ℕ) → slice_get list k ≡ Some (order.Start line) → left_at 0 list (suc k) ≡ 0
+behind_a_start list k line e = left_next 0 list k (order.Start line) e ∙ ap orders_left (ap₂ block_at (begins_at list k (order.Start line) e (λ x. x)) (front_is list k (order.Start line) e))
+
+statement_size : (list : List Order) (k line : ℕ) (a : Order) → slice_get list k ≡ Some (order.Start line) → slice_get list (suc k) ≡ Some a → BeginsStatement a → 0 < size_here list (suc k) a
+statement_size list k line a start e begins = statement_here list (suc k) a e (behind_a_start list k line start) begins
 
 -- the code of the orders lies in that of their segment
 orders_within : (o : Orders) → own_place o.list (length o.list) ≤ length (blanks (pieces_of o))
@@ -173,21 +277,16 @@ orders_within o =
     let second = ap length (blanks-append T R) ∙ length-append (blanks T) (blanks R) in
     omega (arith, first, second, size_of_templates N entry_size 0 o.list)
 
--- a Start at a place of the list of a segment
-record StartAt (p : OrderProgram) (g k : ℕ) : Type 0 where
-  orders : Orders
-  start : Order
-  unit : slice_get p.units g ≡ Some orders
-  listed : slice_get orders.list k ≡ Some start
-  is_start : IsStart start
+-- the order at a place of the list of a segment has code there
+record CodeAt (p : OrderProgram) (g k : ℕ) (o : Orders) (a : Order) : Type 0 where
+  unit : slice_get p.units g ≡ Some o
+  listed : slice_get o.list k ≡ Some a
+  some : 0 < size_here o.list k a
 
 module _ (p : OrderProgram) where
   -- where the code of an order begins
   abbrev code_place : (g : ℕ) (o : Orders) (k : ℕ) → ℕ
   code_place g o k = base_of p g + slice_index (order_places o.list) k
-
-  abbrev place_of : {g k : ℕ} → StartAt p g k → ℕ
-  place_of {g} {k} s = code_place g s.orders k
 
   bases_rise : (g h : ℕ) → g ≤ h → base_of p g ≤ base_of p h
   bases_rise g h le =
@@ -195,103 +294,132 @@ module _ (p : OrderProgram) where
       let same = ap (λ n. total_size (take n p.units)) e in
       omega (arith, total_rises p.units g (h - g))
 
-  before_next : {g k : ℕ} (s : StartAt p g k) → place_of s < base_of p (suc g)
-  before_next {g} {k} s =
-      let inside = slice_get_within s.orders.list k s.start s.listed in
-      omega (arith, own_is s.orders.list k s.start s.listed, size_behind s.orders.list k s.start s.listed s.is_start, sizes_rise s.orders.list (suc k) (length s.orders.list) inside, orders_within s.orders, total_next p.units g s.orders s.unit)
+  before_next : {g k : ℕ} {o : Orders} {a : Order} → CodeAt p g k o a → code_place g o k + size_here o.list k a ≤ base_of p (suc g)
+  before_next {g} {k} {o} {a} s =
+      let inside = slice_get_within o.list k a s.listed in
+      omega (arith, own_is o.list k a s.listed, size_behind o.list k a s.listed, sizes_rise o.list (suc k) (length o.list) inside, orders_within o, total_next p.units g o s.unit)
 
-  segment_below : {g k h m : ℕ} (s : StartAt p g k) (t : StartAt p h m) → g < h → place_of s < place_of t
-  segment_below {g} {k} {h} {m} s t lt = omega (arith, before_next s, bases_rise (suc g) h lt)
+  order_below : (g : ℕ) {k m : ℕ} {o : Orders} {a b : Order} → CodeAt p g k o a → slice_get o.list m ≡ Some b → k < m → code_place g o k + size_here o.list k a ≤ code_place g o m
+  order_below g {k} {m} {o} {a} {b} s listed lt =
+      omega (arith, own_is o.list k a s.listed, own_is o.list m b listed, size_behind o.list k a s.listed, sizes_rise o.list (suc k) m lt)
 
-  same_segment : {g k h m : ℕ} (s : StartAt p g k) (t : StartAt p h m) → place_of s ≡ place_of t → g ≡ h
-  same_segment {g} {k} {h} {m} s t e = elim (cases_order g h) [
-    | inl same ↦ same
-    | inr (inl lt) ↦ absurd (let x = segment_below s t lt in omega arith)
-    | inr (inr gt) ↦ absurd (let x = segment_below t s gt in omega arith)
+  -- no code begins in that of another order
+  same_code : {g k h m : ℕ} {o u : Orders} {a b : Order} (n : ℕ) → CodeAt p g k o a → CodeAt p h m u b → n < size_here o.list k a → code_place h u m ≡ code_place g o k + n → (g ≡ h) × (k ≡ m)
+  same_code {g} {k} {h} {m} {o} {u} {a} {b} n s t lt e = elim (cases_order g h) [
+    | inl same ↦
+        let here : slice_get p.units g ≡ Some u = ap (slice_get p.units) same ∙ t.unit in
+        let orders : u ≡ o = let unit = s.unit in cc in
+        let there : slice_get o.list m ≡ Some b = ap (λ x. slice_get x.list m) (sym orders) ∙ t.listed in
+        let at : code_place g o m ≡ code_place g o k + n = sym (ap (λ x. code_place x u m) (sym same) ∙ ap (λ x. code_place g x m) orders) ∙ e in
+        let some : 0 < size_here o.list m b = subst (λ x. 0 < size_here x.list m b) orders t.some in
+        let code : CodeAt p g m o b = record { unit = s.unit; listed = there; some = some } in
+        (same, elim (cases_order k m) [
+          | inl is ↦ is
+          | inr (inl less) ↦ absurd (let x = order_below g s there less in omega arith)
+          | inr (inr more) ↦ absurd (let x = order_below g code s.listed more in omega arith)
+        ])
+    | inr (inl less) ↦ absurd (let x = before_next s in let y = bases_rise (suc g) h less in omega arith)
+    | inr (inr more) ↦ absurd (let x = before_next t in let y = bases_rise (suc h) g more in let z = t.some in omega arith)
   ]
 
-  order_below : (g : ℕ) {k m : ℕ} (o : Orders) (a b : Order) → slice_get o.list k ≡ Some a → slice_get o.list m ≡ Some b → IsStart a → k < m → code_place g o k < code_place g o m
-  order_below g {k} {m} o a b ea eb sets lt =
-      omega (arith, own_is o.list k a ea, own_is o.list m b eb, size_behind o.list k a ea sets, sizes_rise o.list (suc k) m lt)
+  -- behind each Start stands an order with code
+  abbrev StartsHaveCode : Type 0
+  StartsHaveCode = (g k line : ℕ) (o : Orders) → slice_get p.units g ≡ Some o → slice_get o.list k ≡ Some (order.Start line) → (a : Order) × CodeAt p g (suc k) o a
 
-  same_order : (g : ℕ) {k m : ℕ} (o : Orders) (a b : Order) → slice_get o.list k ≡ Some a → slice_get o.list m ≡ Some b → IsStart a → IsStart b → code_place g o k ≡ code_place g o m → k ≡ m
-  same_order g {k} {m} o a b ea eb sa sb e = elim (cases_order k m) [
-    | inl same ↦ same
-    | inr (inl lt) ↦ absurd (let x = order_below g o a b ea eb sa lt in omega arith)
-    | inr (inr gt) ↦ absurd (let x = order_below g o b a eb ea sb gt in omega arith)
-  ]
+  start_place : (g k line : ℕ) (o : Orders) (a : Order) → slice_get o.list k ≡ Some (order.Start line) → slice_get o.list (suc k) ≡ Some a → code_place g o k ≡ code_place g o (suc k)
+  start_place g k line o a listed next =
+      omega (arith, own_is o.list k (order.Start line) listed, own_is o.list (suc k) a next, size_behind o.list k (order.Start line) listed, start_size o.list k line listed)
 
-  -- at one place of the image one statement begins
-  same_place : (g k h m : ℕ) (o u : Orders) (a b : Order) → slice_get p.units g ≡ Some o → slice_get o.list k ≡ Some a → IsStart a → slice_get p.units h ≡ Some u → slice_get u.list m ≡ Some b → IsStart b
-      → code_place g o k ≡ code_place h u m → (g ≡ h) × (k ≡ m) × (a ≡ b)
-  same_place g k h m o u a b unit listed sets unit' listed' sets' e =
-      let s : StartAt p g k = record { orders = o; start = a; unit = unit; listed = listed; is_start = sets } in
-      let t : StartAt p h m = record { orders = u; start = b; unit = unit'; listed = listed'; is_start = sets' } in
-      let segments : g ≡ h = same_segment s t e in
-      let here : slice_get p.units g ≡ Some u = ap (slice_get p.units) segments ∙ unit' in
-      let orders : u ≡ o = cc in
-      let there : slice_get o.list m ≡ Some b = ap (λ x. slice_get x.list m) (sym orders) ∙ listed' in
-      let at : code_place g o k ≡ code_place g o m = e ∙ ap (λ x. code_place x u m) (sym segments) ∙ ap (λ x. code_place g x m) orders in
-      let places : k ≡ m = same_order g o a b listed there sets sets' at in
-      let both : slice_get o.list k ≡ Some b = ap (slice_get o.list) places ∙ there in
-      let same : a ≡ b = cc in
-      (segments, places, same)
-
-  -- no Start has its code at this place of the image
+  -- no Start stands at this place of the image
   none_begins : (at : ℕ) → ((g k line : ℕ) (o : Orders) → slice_get p.units g ≡ Some o → slice_get o.list k ≡ Some (order.Start line) → code_place g o k ≡ at → ⊥) → lines_at (statement_places p) at ≡ []
   none_begins at none = none_in p at 0 p.units (λ g o unit. ap (begun_in p at o) (from_zero g) ∙ none_there (base_of p g) (g + 1) (order_places o.list) 0 o.list at (λ k line listed e. none g k line o unit listed (ap (code_place g o) (sym (from_zero k)) ∙ e)))
 
-  -- the one at this place has its code there
-  one_begins : (g k line : ℕ) (o : Orders) → slice_get p.units g ≡ Some o → slice_get o.list k ≡ Some (order.Start line) → lines_at (statement_places p) (code_place g o k) ≡ (g + 1, line) ∷ []
-  one_begins g k line o unit listed =
-      let at = code_place g o k in
-      let only : (i l : ℕ) → slice_get o.list i ≡ Some (order.Start l) → code_place g o (0 + i) ≡ at → i ≡ k =
-      λ i l f e. (same_place g i g k o o (order.Start l) (order.Start line) unit f tt unit listed tt (ap (code_place g o) (sym (from_zero i)) ∙ e)).1 in
-      let here : begun_in p at o g ≡ (g + 1, line) ∷ [] = one_there (base_of p g) (g + 1) (order_places o.list) 0 o.list at k line listed (ap (code_place g o) (from_zero k)) only in
-      let others : (h : ℕ) (u : Orders) → slice_get p.units h ≡ Some u → (h ≡ g → ⊥) → begun_in p at u (0 + h) ≡ [] = λ h u unit' other.
-      ap (begun_in p at u) (from_zero h) ∙ none_there (base_of p h) (h + 1) (order_places u.list) 0 u.list at (λ i l f e. other (same_place h i g k u o (order.Start l) (order.Start line) unit' f tt unit listed tt (ap (code_place h u) (sym (from_zero i)) ∙ e)).0) in
-      one_in p at 0 p.units g o ((g + 1, line) ∷ []) unit (ap (begun_in p at o) (from_zero g) ∙ here) others
+  module _ (have : StartsHaveCode) where
+    -- two Starts with the same place are one
+    same_start : (g k line h m line' : ℕ) (o u : Orders) → slice_get p.units g ≡ Some o → slice_get o.list k ≡ Some (order.Start line) → slice_get p.units h ≡ Some u → slice_get u.list m ≡ Some (order.Start line')
+        → code_place h u m ≡ code_place g o k → (g ≡ h) × (k ≡ m)
+    same_start g k line h m line' o u unit listed unit' listed' e =
+        let s = have g k line o unit listed in
+        let t = have h m line' u unit' listed' in
+        let here = start_place g k line o s.0 listed s.1.listed in
+        let there = start_place h m line' u t.0 listed' t.1.listed in
+        let both = same_code 0 s.1 t.1 s.1.some (let x : code_place h u (suc m) ≡ code_place g o (suc k) + 0 = omega arith in x) in
+        let places = both.1 in
+        (both.0, (let x : k ≡ m = omega arith in x))
 
--- ---- the instructions of the image
+    -- the one at this place
+    one_begins : (g k line : ℕ) (o : Orders) → slice_get p.units g ≡ Some o → slice_get o.list k ≡ Some (order.Start line) → lines_at (statement_places p) (code_place g o k) ≡ (g + 1, line) ∷ []
+    one_begins g k line o unit listed =
+        let at = code_place g o k in
+        let only : (i l : ℕ) → slice_get o.list i ≡ Some (order.Start l) → code_place g o (0 + i) ≡ at → i ≡ k =
+        λ i l f e. sym (same_start g k line g i l o o unit listed unit f (ap (code_place g o) (sym (from_zero i)) ∙ e)).1 in
+        let here : begun_in p at o g ≡ (g + 1, line) ∷ [] = one_there (base_of p g) (g + 1) (order_places o.list) 0 o.list at k line listed (ap (code_place g o) (from_zero k)) only in
+        let others : (h : ℕ) (u : Orders) → slice_get p.units h ≡ Some u → (h ≡ g → ⊥) → begun_in p at u (0 + h) ≡ [] = λ h u unit' other.
+        ap (begun_in p at u) (from_zero h) ∙ none_there (base_of p h) (h + 1) (order_places u.list) 0 u.list at (λ i l f e. other (sym (same_start g k line h i l o u unit listed unit' f (ap (code_place h u) (sym (from_zero i)) ∙ e)).0)) in
+        one_in p at 0 p.units g o ((g + 1, line) ∷ []) unit (ap (begun_in p at o) (from_zero g) ∙ here) others
 
--- bytes begin with at most one instruction
-abbrev pub OneInstr : Type 0
-OneInstr = (bytes : List ℕ) (i j : Instr) → IsInstr i → IsInstr j → BeginsWith bytes i → BeginsWith bytes j → i ≡ j
+    -- in the code of an order, but at its first byte, none begins
+    none_inside : (g k n : ℕ) (o : Orders) (a : Order) → CodeAt p g k o a → 0 < n → n < size_here o.list k a → lines_at (statement_places p) (code_place g o k + n) ≡ []
+    none_inside g k n o a s some lt = none_begins (code_place g o k + n) (λ h m line u unit listed e.
+        let t = have h m line u unit listed in
+        let there = start_place h m line u t.0 listed t.1.listed in
+        let both = same_code n s t.1 lt (let x : code_place h u (suc m) ≡ code_place g o k + n = omega arith in x) in
+        let here : slice_get p.units g ≡ Some u = ap (slice_get p.units) both.0 ∙ unit in
+        let orders : u ≡ o = let x = s.unit in cc in
+        let at : code_place h u (suc m) ≡ code_place g o k = ap (λ x. code_place x u (suc m)) (sym both.0) ∙ ap (λ x. code_place g x (suc m)) orders ∙ ap (code_place g o) (sym both.1) in
+        omega arith)
 
-bytes_begin : (image bytes : List ℕ) (place : ℕ) → place + length bytes ≤ length image → ((k : ℕ) → k < length bytes → slice_index image (place + k) ≡ slice_index bytes k) → (rest : List ℕ) × (drop place image ≡ bytes ++ rest)
-bytes_begin image [] place inside is = (drop place image, refl)
-bytes_begin image (b ∷ bytes) place inside is =
-    let next : (k : ℕ) → suc place + k ≡ place + suc k = λ k. omega arith in
-    let behind = bytes_begin image bytes (suc place) (omega arith) (λ k lt. ap (slice_index image) (next k) ∙ is (suc k) (omega arith)) in
-    let first : slice_index image place ≡ b = ap (slice_index image) (let e : place ≡ place + 0 = omega arith in e) ∙ is 0 (omega arith) in
-    (behind.0, drop-cons image place 0 (omega arith) ∙ ap₂ (λ x xs. x ∷ xs) first behind.1)
+    -- nor at its first byte, where it does not stand behind a Start
+    none_at : (g k : ℕ) (o : Orders) (a : Order) → CodeAt p g k o a → NotBehindStart o.list k → lines_at (statement_places p) (code_place g o k) ≡ []
+    none_at g k o a s not_behind = none_begins (code_place g o k) (λ h m line u unit listed e.
+        let t = have h m line u unit listed in
+        let there = start_place h m line u t.0 listed t.1.listed in
+        let both = same_code 0 s t.1 s.some (let x : code_place h u (suc m) ≡ code_place g o k + 0 = omega arith in x) in
+        let here : slice_get p.units g ≡ Some u = ap (slice_get p.units) both.0 ∙ unit in
+        let orders : u ≡ o = let x = s.unit in cc in
+        not_behind m line both.1 (ap (λ x. slice_get x.list m) (sym orders) ∙ listed))
 
-begins_there : (image : List ℕ) (place : ℕ) (i : Instr) → Has image place i → BeginsWith (drop place image) i
-begins_there image place i has = bytes_begin image (bytes_of i) place has.within has.bytes
+    -- nor before the code of the orders of a segment, nor behind it
+    none_around : (g at : ℕ) (o : Orders) → slice_get p.units g ≡ Some o → base_of p g ≤ at → at < base_of p (suc g) → (at < base_of p g + entry_size) ⊎ (base_of p g + own_place o.list (length o.list) ≤ at) → lines_at (statement_places p) at ≡ []
+    none_around g at o unit from to outside = none_begins at (λ h m line u unit' listed e.
+        let t = have h m line u unit' listed in
+        let there = start_place h m line u t.0 listed t.1.listed in
+        let inside = slice_get_within u.list (suc m) t.0 t.1.listed in
+        let own = own_is u.list (suc m) t.0 t.1.listed in
+        let size = size_behind u.list (suc m) t.0 t.1.listed in
+        let rise = sizes_rise u.list (suc (suc m)) (length u.list) inside in
+        let some = t.1.some in
+        let end = before_next t.1 in
+        elim (cases_order g h) [
+          | inl same ↦
+              let here : slice_get p.units g ≡ Some u = ap (slice_get p.units) same ∙ unit' in
+              let orders : u ≡ o = cc in
+              let base : base_of p h ≡ base_of p g = ap (base_of p) (sym same) in
+              let last : own_place u.list (length u.list) ≡ own_place o.list (length o.list) = ap (λ x. own_place x.list (length x.list)) orders in
+              ⊎_elim (λ (l : at < base_of p g + entry_size). omega arith) (λ (l : base_of p g + own_place o.list (length o.list) ≤ at). omega arith) outside
+          | inr (inl less) ↦ let x = bases_rise (suc g) h less in omega arith
+          | inr (inr more) ↦ let x = bases_rise (suc h) g more in omega arith
+        ])
 
 -- ---- the whole
 
-module _ (one : OneInstr) (p : OrderProgram) (image : List ℕ) (all : AllStand p image) where
-  -- where the code of a Start is, an instruction stands that does nothing
-  idle_there : (g k line : ℕ) (o : Orders) → slice_get p.units g ≡ Some o → slice_get o.list k ≡ Some (order.Start line) → Has image (code_place p g o k) nothing
-  idle_there g k line o unit listed =
-      let st = all.stands g o unit in
-      let pieces = st.orders k (order.Start line) listed in
-      let alone_there = subst (λ b. HasPieces image st.value (order_place (base_of p g) o.list k) (block_pieces (names_of o) (own_place o.list k) b (order.Start line))) (alone o.list k (order.Start line) listed tt) pieces in
-      subst (λ n. Has image (base_of p g + n) nothing) (sym (own_is o.list k (order.Start line) listed)) alone_there.0
-
-  nothing_else : (place : ℕ) (i : Instr) → Has image place i → does_nothing i ≡ false → lines_at (statement_places p) place ≡ []
-  nothing_else place i has does = none_begins p place (λ g k line o unit listed e.
-      let there : Has image place nothing = subst (λ n. Has image n nothing) e (idle_there g k line o unit listed) in
-      let same : i ≡ nothing = one (drop place image) i nothing has.is_instr there.is_instr (begins_there image place i has) (begins_there image place nothing there) in
-      let both : false ≡ true = sym does ∙ ap does_nothing same in
-      false≢true both)
+module _ (p : OrderProgram) (image : List ℕ) (coded : Codable p) where
+  have_code : StartsHaveCode p
+  have_code g k line o unit listed =
+      let b = coded.begins g k line (ap (λ u. order_in u k) unit ∙ listed) in
+      let next : k + 1 ≡ suc k = omega arith in
+      let there : slice_get o.list (suc k) ≡ Some b.0 = ap (slice_get o.list) (sym next) ∙ sym (ap (λ u. order_in u (k + 1)) unit) ∙ b.1 in
+      (b.0, record { unit = unit; listed = there; some = statement_size o.list k line b.0 listed there b.2 })
 
   pub places_stand : PlacesStand p image (statement_places p)
   places_stand = record {
-    starts = one_begins p;
-    ignores = record {
-      library = λ place below. none_begins p place (λ g k line o unit listed e. omega arith);
-      others = nothing_else;
-    };
+    starts = λ g k line o unit listed.
+        let c = have_code g k line o unit listed in
+        ap (lines_at (statement_places p)) (sym (start_place p g k line o c.0 listed c.1.listed)) ∙ one_begins p have_code g k line o unit listed;
+    others = λ g k o a unit listed some not_behind. none_at p have_code g k o a (record { unit = unit; listed = listed; some = some }) not_behind;
+    inside = λ g k n o a unit listed some lt. none_inside p have_code g k n o a (record { unit = unit; listed = listed; some = omega arith }) some lt;
+    around = λ g at o unit from to outside.
+        none_around p have_code g at o unit from to
+        (⊎_elim (λ (l : at < base_of p g + entry_size). inl l) (λ (l : base_of p g + landings_place o ≤ at). inr (let e = landings_at o in let x : base_of p g + own_place o.list (length o.list) ≤ at = omega arith in x)) outside);
+    library = λ place below. none_begins p place (λ g k line o unit listed e. omega arith);
   }

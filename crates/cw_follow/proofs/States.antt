@@ -16,10 +16,9 @@ use Rattle.cw_order.specs.OrderMachine.{go_on, after, carry_out, step, order_mac
 use Rattle.cw_order.specs.FittingWords.{WordsFit, ActivationFits, StateFits}
 use Rattle.cw_order.specs.Activations.{ActivationsStand, Beginning, StateStands}
 use Rattle.cw_tmpl.specs.Blocks.{block_at, orders_left, left_at}
-use Rattle.cw_image.specs.Begun.{StatementPlace}
 use Rattle.cw_follow.specs.Placing.{base_of, Codable}
 use Rattle.cw_follow.specs.Passing.{PlacesStand}
-use Rattle.cw_follow.proofs.Standing.{order_place, AllStand}
+use Rattle.cw_follow.proofs.Standing.{order_place, AllStand, Image}
 use Rattle.cw_follow.proofs.InBlocks.{silently, loaded_silently}
 use Rattle.cw_follow.proofs.Rows.{Rows}
 use Rattle.cw_follow.proofs.Routines.{Over}
@@ -29,13 +28,12 @@ use Rattle.cw_follow.proofs.Orders.{Landed, CalledAt}
 pub record Given : Type 0 where
   pub rows : Rows
   pub p : OrderProgram
-  pub image : List ℕ
+  pub image : Image
   pub all : AllStand p image
   pub coded : Codable p
   pub few : length p.units ≤ 255
   pub low : p.limits.area ≤ 32768
-  pub places : List StatementPlace
-  pub places_stand : PlacesStand p image places
+  pub places_stand : PlacesStand p image.bytes image.places
 
 -- ---- states that match
 
@@ -49,7 +47,7 @@ ComesBack p (a ∷ acts) = ((o : Orders) → slice_get p.units a.segment ≡ Som
 
 -- The processor stands before a block, with the words and the accumulator as they are before it, and the first orders of the block are done.
 -- All activations have been begun, and the orders do not get stuck.
-pub record Sound (p : OrderProgram) (image : List ℕ) (g place : ℕ) (loaded : Bool) (acts : List OrderActivation) (w : Words) (q : Watched) : Type 0 where
+pub record Sound (p : OrderProgram) (image : Image) (g place : ℕ) (loaded : Bool) (acts : List OrderActivation) (w : Words) (q : Watched) : Type 0 where
   pub orders : Orders
   pub unit : slice_get p.units g ≡ Some orders
   pub from : ℕ
@@ -73,8 +71,12 @@ pub record Sound (p : OrderProgram) (image : List ℕ) (g place : ℕ) (loaded :
   pub comes_back : ComesBack p acts
   pub never : Never p (at g place loaded acts w Running)
 
+-- The same, where no order of the block is done.
+abbrev pub Arrived : (p : OrderProgram) (image : Image) (g place : ℕ) (loaded : Bool) (acts : List OrderActivation) (w : Words) (q : Watched) → Type 0
+Arrived p image g place loaded acts w q = (m : Sound p image g place loaded acts w q) × (m.done ≡ 0)
+
 -- The processor stands before the Enter of a call.
-pub record Starting (p : OrderProgram) (image : List ℕ) (g place : ℕ) (loaded : Bool) (a : OrderActivation) (acts : List OrderActivation) (w : Words) (q : Watched) : Type 0 where
+pub record Starting (p : OrderProgram) (image : Image) (g place : ℕ) (loaded : Bool) (a : OrderActivation) (acts : List OrderActivation) (w : Words) (q : Watched) : Type 0 where
   pub orders : Orders
   pub unit : slice_get p.units g ≡ Some orders
   pub begins : left_at 0 orders.list place ≡ 0
@@ -85,11 +87,11 @@ pub record Starting (p : OrderProgram) (image : List ℕ) (g place : ℕ) (loade
   pub comes_back : ComesBack p (a ∷ acts)
   pub never : Never p (at g place loaded (a ∷ acts) w Running)
 
-abbrev pub LastStarts : OrderProgram → List ℕ → (g place : ℕ) → (loaded : Bool) → List OrderActivation → Words → Watched → Type 0
+abbrev pub LastStarts : OrderProgram → Image → (g place : ℕ) → (loaded : Bool) → List OrderActivation → Words → Watched → Type 0
 LastStarts p image g place loaded [] w q = ⊥
 LastStarts p image g place loaded (a ∷ acts) w q = Starting p image g place loaded a acts w q
 
-abbrev pub Matches : OrderProgram → List ℕ → OrderState → Watched → Type 0
+abbrev pub Matches : OrderProgram → Image → OrderState → Watched → Type 0
 Matches p image (at g place loaded acts w Running) q = Sound p image g place loaded acts w q ⊎ LastStarts p image g place loaded acts w q
 Matches p image (at g place loaded acts w Ended) q = Over (record { output = w.output; end = Ended }) q
 Matches p image (at g place loaded acts w (Stopped kind s l)) q = Over (record { output = w.output; end = Stopped kind s l }) q

@@ -3,18 +3,17 @@ use Rattle.std.proofs.Common.{◌≡◌, inl, inr, ℕ, zero, suc, ◌+◌, ◌-
 use Rattle.std.specs.Prelude.{slice_get, nat_le}
 use Rattle.std.proofs.lemmas.Bool.{false≢true, le-leb, cases_lt}
 use Rattle.std.proofs.lemmas.Option.{slice_get_within}
-use Rattle.cw_track.specs.Machine.{Machine}
-use Rattle.cw_track.specs.Watching.{noted}
-use Rattle.cw_track.proofs.Paths.{stay, weaken}
-use Rattle.cw_track.proofs.Simulations.{Quiet, Followed}
-use Rattle.cw_follow.proofs.Watched.{Watched, watched_machine}
+use Rattle.cw_track.proofs.Paths.{Path, weaken}
+use Rattle.cw_track.proofs.Simulations.{Quiet}
+use Rattle.cw_follow.proofs.Watched.{Watched, watched_machine, over}
 use Rattle.cw_unit.specs.Begun.{Begun}
 use Rattle.cw_unit.specs.Behaviour.{Observation}
-use Rattle.cw_unit.specs.Stop.{StopKind, Running, Stopped, Stuck}
+use Rattle.cw_unit.specs.Stop.{StopKind, Running, Ended, Stopped, Stuck}
 use Rattle.cw_unit.specs.Words.{Operand, Word, Held, Words, Outcome, Changed, Refused, Impossible, with_operands}
 use Rattle.cw_unit.specs.Operation.{holds}
 use Rattle.cw_order.specs.declared.order.Comparator.{Comparator}
 use Rattle.cw_order.specs.declared.order.Order.{Order}
+use Rattle.cw_order.specs.declared.order.Order.TheVariants as order
 use Rattle.cw_order.specs.HasCode.{HasCode}
 use Rattle.cw_order.specs.OrderProgram.{OrderProgram, order_in, order_at, mark_in}
 use Rattle.cw_order.specs.OrderChanges.{Way, Onward, ToMark, Barred, Nowhere, way_of_two, to_mark_if, comparison}
@@ -23,7 +22,7 @@ use Rattle.cw_order.specs.OrderCosts.{weight_of, weight_at}
 use Rattle.cw_order.specs.Loading.{loaded_after}
 use Rattle.cw_order.specs.OrderLines.{line_of}
 use Rattle.cw_order.specs.OrderActions.{action_of}
-use Rattle.cw_order.specs.OrderMachine.{go_at, branch, after, act, carry_with, carry_out, step, weight, shown, order_machine}
+use Rattle.cw_order.specs.OrderMachine.{go_at, branch, after, act, carry_with, carry_out, step, weight, shown}
 use Rattle.cw_order.specs.FittingWords.{StateFits}
 use Rattle.cw_order.specs.Activations.{StateStands}
 use Rattle.cw_tmpl.specs.declared.blocks.Block.{Block}
@@ -34,14 +33,14 @@ use Rattle.cw_tmpl.specs.Templates.{template, block_pieces, block_size, order_si
 use Rattle.cw_tmpl.specs.ReferenceCode.{mark_starts, names_of}
 use Rattle.cw_follow.specs.Placing.{base_of}
 use Rattle.cw_tmpl.proofs.Sizes.{size_to, size_next, left_next, own_place, mark_start}
-use Rattle.cw_follow.proofs.Standing.{HasPieces, order_place}
+use Rattle.cw_follow.proofs.Standing.{HasPiecesFrom, first_of, behind_start, order_place, Image}
 use Rattle.cw_follow.proofs.InBlocks.{slice_drop, size_split, left_split, begins_at, chain, puts_word, silently, silently_next, never_writes, loaded_then, loaded_silently, loaded_next}
 use Rattle.cw_follow.proofs.Chains.{at_work}
-use Rattle.cw_follow.proofs.Routines.{leads_on}
+use Rattle.cw_follow.proofs.Routines.{Over, leads_on}
 use Rattle.cw_follow.proofs.Stacks.{level, words_split}
-use Rattle.cw_follow.proofs.Orders.{Landed, Leading, Does, Tells, Chooses}
+use Rattle.cw_follow.proofs.Orders.{Landed, Leading, Does, Tells, Chooses, LandedAt, over_landed}
 use Rattle.cw_follow.proofs.Operands.{Setting}
-use Rattle.cw_follow.proofs.States.{Given, Never, Sound, Matches, length_in, left, never_on, not_stuck, went_on}
+use Rattle.cw_follow.proofs.States.{Given, Never, Sound, Arrived, LastStarts, length_in, left, never_on, not_stuck, went_on}
 
 -- ---- places
 
@@ -75,8 +74,16 @@ above a b h = elim (cases_lt b a) as (λ _. b < a) [
   | inr ge ↦ let yes : nat_le a b ≡ true = le-leb a b ge in absurd (false≢true (sym h ∙ yes))
 ]
 
+-- an order that may have no code
+abbrev pub is_codeless : Order → Bool
+is_codeless order.Mark = true
+is_codeless (order.Start n) = true
+is_codeless order.Drop = true
+is_codeless (order.Take t b) = true
+is_codeless _ = false
+
 -- before an order that is a block of its own
-pub record Alone (p : OrderProgram) (image : List ℕ) (g place : ℕ) (loaded : Bool) (acts : List OrderActivation) (w : Words) (q : Watched) (list : List Order) : Type 0 where
+pub record Alone (p : OrderProgram) (image : Image) (g place : ℕ) (loaded : Bool) (acts : List OrderActivation) (w : Words) (q : Watched) (list : List Order) : Type 0 where
   pub begins : left_at 0 list place ≡ 0
   pub single : block_at 0 (drop place list) ≡ block.Single
   pub landed : Landed p image (order_place (base_of p g) list place) g loaded acts w q
@@ -106,26 +113,42 @@ way_after _ f = Nowhere
 module _ (known : Given) where
   open known use {rows, p, image, all, coded, few, low}
 
-  -- the machine of the orders, where nothing is noted
-  abbrev pub unnoted_orders : Machine (Observation × List Begun)
-  unnoted_orders = noted (order_machine p) (λ s. [])
+  -- a state that matches where the processor has come to the beginning of a block, or to the Enter of a call
+  abbrev pub Arrives : OrderState → Watched → Type 0
+  Arrives (at g place loaded acts w Running) q = Arrived p image g place loaded acts w q ⊎ LastStarts p image g place loaded acts w q
+  Arrives (at g place loaded acts w Ended) q = Over (record { output = w.output; end = Ended }) q
+  Arrives (at g place loaded acts w (Stopped kind s l)) q = Over (record { output = w.output; end = Stopped kind s l }) q
+  Arrives (at g place loaded acts w Stuck) q = ⊥
+
+  -- the order that a state is to do, its segment and its place
+  abbrev pub order_of : OrderState → Option Order
+  order_of (at g place loaded acts w e) = order_at p g place
+
+  abbrev pub segment_of : OrderState → ℕ
+  segment_of (at g place loaded acts w e) = g
+
+  abbrev pub number_of : OrderState → ℕ
+  number_of (at g place loaded acts w e) = place
+
+  -- What the processor does for an order, where it stands like this one and what begins at its first instruction may be overlooked. Nothing: in
+  -- the middle of a block, or for an order without code. Or the code of a block.
+  pub data FollowFrom (first : Watched) (s : OrderState) (q : Watched) : Type 0 where
+    waits : {loaded : Bool} {acts : List OrderActivation} {w : Words} → step p s ≡ at (segment_of s) (number_of s + 1) loaded acts w Running → (m : Sound p image (segment_of s) (number_of s + 1) loaded acts w q) → 0 < m.done
+        → left p (step p s) < left p s → FollowFrom first s q
+    passes_on : (o : Order) → order_of s ≡ Some o → is_codeless o ≡ true → Arrives (step p s) q → left p (step p s) < left p s → FollowFrom first s q
+    moves : {spent : ℕ} {reached : Watched} → 0 < spent → spent ≤ weight p s → Path (Quiet (shown s, []) (shown (step p s), [])) watched_machine spent first reached → Arrives (step p s) reached → FollowFrom first s q
 
   abbrev pub Follow : OrderState → Watched → Type 0
-  Follow s q = Followed unnoted_orders watched_machine (Matches p image) (left p) s q
+  Follow s q = FollowFrom q s q
 
   -- a way on that is paid for
-  pub leads_to : {q : Watched} (g place : ℕ) (loaded : Bool) (acts : List OrderActivation) (w : Words) (t : OrderState) (limit : ℕ) → step p (at g place loaded acts w Running) ≡ t → limit ≤ weight p (at g place loaded acts w Running) → Leading w.output limit q (Matches p image t) → Follow (at g place loaded acts w Running) q
-  leads_to {q} g place loaded acts w t limit e paid l =
+  pub leads_to : {first q : Watched} (g place : ℕ) (loaded : Bool) (acts : List OrderActivation) (w : Words) (t : OrderState) (limit : ℕ) → step p (at g place loaded acts w Running) ≡ t → limit ≤ weight p (at g place loaded acts w Running) → Leading w.output limit first (Arrives t) → FollowFrom first (at g place loaded acts w Running) q
+  leads_to {first} g place loaded acts w t limit e paid l =
       let s = at g place loaded acts w Running in
       let within = l.within in
-      record {
-        spent = l.spent;
-        reached = l.leads.reached;
-        path = weaken (λ o. o ≡ at_work w.output) (Quiet (shown s, []) (shown (step p s), [])) watched_machine l.spent q l.leads.reached (λ o x. inl x) l.leads.path;
-        within = omega arith;
-        matched = subst (λ x. Matches p image x l.leads.reached) (sym e) l.leads.there;
-        progress = inl l.some;
-      }
+      moves l.some (let x : l.spent ≤ weight p s = omega arith in x)
+      (weaken (λ o. o ≡ at_work w.output) (Quiet (shown s, []) (shown (step p s), [])) watched_machine l.spent first l.leads.reached (λ o x. inl x) l.leads.path)
+      (subst (λ x. Arrives x l.leads.reached) (sym e) l.leads.there)
 
   pub onward : {output : List ℕ} {limit : ℕ} {q : Watched} {T U : Watched → Type 0} → ((r : Watched) → T r → U r) → Leading output limit q T → Leading output limit q U
   onward f l = record { spent = l.spent; some = l.some; within = l.within; leads = leads_on f l.leads }
@@ -162,8 +185,8 @@ module _ (known : Given) where
 
     -- before another block
     pub sound_at : (to : ℕ) (m : Bool) (v : Words) (r : Watched) → left_at 0 s.orders.list to ≡ 0 → stack_words v.operands acts ≤ p.room → step p (at g place loaded acts w Running) ≡ at g to m acts v Running
-        → Landed p image (order_place (base_of p g) s.orders.list to) g m acts v r → Sound p image g to m acts v r
-    sound_at to m v r begins room e l = record {
+        → Landed p image (order_place (base_of p g) s.orders.list to) g m acts v r → Arrived p image g to m acts v r
+    sound_at to m v r begins room e l = (record {
       orders = s.orders;
       unit = s.unit;
       from = to;
@@ -186,11 +209,11 @@ module _ (known : Given) where
       working = s.working;
       comes_back = s.comes_back;
       never = never_on p (at g place loaded acts w Running) (at g to m acts v Running) e s.never;
-    }
+    }, refl)
 
     -- an operation that leaves the accumulator so, and may stop at a line
-    pub does : (m : Bool) (line : ℕ) (o : Outcome) (limit : ℕ) → left_at 0 s.orders.list (place + 1) ≡ 0 → step p (at g place loaded acts w Running) ≡ after p.room line o g place m acts w → limit ≤ weight p (at g place loaded acts w Running)
-        → Does p image limit (order_place (base_of p g) s.orders.list (place + 1)) g m line acts w.output q o → Follow (at g place loaded acts w Running) q
+    pub does : {first : Watched} (m : Bool) (line : ℕ) (o : Outcome) (limit : ℕ) → left_at 0 s.orders.list (place + 1) ≡ 0 → step p (at g place loaded acts w Running) ≡ after p.room line o g place m acts w → limit ≤ weight p (at g place loaded acts w Running)
+        → Does p image limit (order_place (base_of p g) s.orders.list (place + 1)) g m line acts w.output first o → FollowFrom first (at g place loaded acts w Running) q
     does m line (Changed v) limit begins e paid d =
         let on = went_on p g place loaded m line acts w v e s.never in
         leads_to g place loaded acts w (at g (place + 1) m acts v Running) limit on.goes paid (onward (λ r l. inl (sound_at (place + 1) m v r begins on.room on.goes l)) d)
@@ -198,22 +221,17 @@ module _ (known : Given) where
     does m line Impossible limit begins e paid d = absurd (not_stuck p g place m acts w (never_next (at g place m acts w Stuck) e))
 
     -- the same, where on the way a byte is written
-    pub tells : (m : Bool) (o : Outcome) (limit : ℕ) → left_at 0 s.orders.list (place + 1) ≡ 0 → step p (at g place loaded acts w Running) ≡ after p.room 0 o g place m acts w → limit ≤ weight p (at g place loaded acts w Running)
-        → Tells p image limit (order_place (base_of p g) s.orders.list (place + 1)) g m acts w.output q o → Follow (at g place loaded acts w Running) q
+    pub tells : {first : Watched} (m : Bool) (o : Outcome) (limit : ℕ) → left_at 0 s.orders.list (place + 1) ≡ 0 → step p (at g place loaded acts w Running) ≡ after p.room 0 o g place m acts w → limit ≤ weight p (at g place loaded acts w Running)
+        → Tells p image limit (order_place (base_of p g) s.orders.list (place + 1)) g m acts w.output first o → FollowFrom first (at g place loaded acts w Running) q
     tells m (Changed v) limit begins e paid d =
         let here = at g place loaded acts w Running in
         let on = went_on p g place loaded m 0 acts w v e s.never in
         let within = d.within in
-        let shows_next : unnoted_orders.shown (step p here) ≡ at_work v.output = ap unnoted_orders.shown on.goes in
-        record {
-          spent = d.spent;
-          reached = d.reached;
-          path = weaken (λ o. (o ≡ at_work w.output) ⊎ (o ≡ at_work v.output)) (Quiet (shown here, []) (shown (step p here), [])) watched_machine d.spent q d.reached
-              (λ o x. elim x [ inl before ↦ inl before | inr after ↦ inr (after ∙ sym shows_next) ]) d.path;
-          within = omega arith;
-          matched = subst (λ x. Matches p image x d.reached) (sym on.goes) (inl (sound_at (place + 1) m v d.reached begins on.room on.goes d.there));
-          progress = inl d.some;
-        }
+        let shows_next : ◌≡◌ {A = Observation × List Begun} (shown (step p here), []) (at_work v.output) = ap (λ x. (shown x, [])) on.goes in
+        moves d.some (let x : d.spent ≤ weight p here = omega arith in x)
+        (weaken (λ o. (o ≡ at_work w.output) ⊎ (o ≡ at_work v.output)) (Quiet (shown here, []) (shown (step p here), [])) watched_machine d.spent _ d.reached
+        (λ o x. elim x [ inl before ↦ inl before | inr after ↦ inr (after ∙ sym shows_next) ]) d.path)
+        (subst (λ x. Arrives x d.reached) (sym on.goes) (inl (sound_at (place + 1) m v d.reached begins on.room on.goes d.there)))
     tells m (Refused kind) limit begins e paid d = absurd d
     tells m Impossible limit begins e paid d = absurd (not_stuck p g place m acts w (never_next (at g place m acts w Stuck) e))
 
@@ -225,7 +243,7 @@ module _ (known : Given) where
     start_place = order_place (base_of p g) s.orders.list s.from
 
     pub block_code : (b : Block) (o : Order) (os : List Order) → drop s.from s.orders.list ≡ o ∷ os → block_at 0 (drop s.from s.orders.list) ≡ b
-        → HasPieces image (all.stands g s.orders s.unit).value (order_place (base_of p g) s.orders.list s.from) (block_pieces (names_of s.orders) (own_place s.orders.list s.from) b o)
+        → HasPiecesFrom (first_of o (behind_start s.orders.list s.from)) image (all.stands g s.orders s.unit).value (order_place (base_of p g) s.orders.list s.from) (block_pieces (names_of s.orders) (own_place s.orders.list s.from) b o)
     block_code b o os e is =
         let st = all.stands g s.orders s.unit in
         let place = order_place (base_of p g) s.orders.list s.from in
@@ -233,7 +251,7 @@ module _ (known : Given) where
         let here : s.from + 0 ≡ s.from = omega arith in
         let first : slice_get s.orders.list s.from ≡ Some o = ap (slice_get s.orders.list) (sym here) ∙ sym (slice_drop s.orders.list s.from 0) ∙ ap (λ l. slice_get l 0) e in
         let same : block_at (left_at 0 s.orders.list s.from) (drop s.from s.orders.list) ≡ b = ap (λ n. block_at n (drop s.from s.orders.list)) s.begins ∙ is in
-        subst (λ x. HasPieces image st.value place (block_pieces (names_of s.orders) own x o)) same (st.orders s.from o first)
+        subst (λ x. HasPiecesFrom (first_of o (behind_start s.orders.list s.from)) image st.value place (block_pieces (names_of s.orders) own x o)) same (st.orders s.from o first)
 
     -- where it ends
     pub record Ends (b : Block) (o : Order) : Type 0 where
@@ -263,11 +281,11 @@ module _ (known : Given) where
         ap (slice_get s.orders.list) there ∙ sym (slice_drop s.orders.list s.from n) ∙ ap (λ l. slice_get l n) e ∙ is
 
     -- an order that is not the last of its block; where it stops, it pays for the way to the stop
-    pub silent_in : (o : Order) (m : Bool) (line : ℕ) → slice_get s.orders.list place ≡ Some o → loaded_after o loaded ≡ Some m
+    pub silent_in : {first : Watched} (o : Order) (m : Bool) (line : ℕ) → slice_get s.orders.list place ≡ Some o → loaded_after o loaded ≡ Some m
         → act p (action_of p g acts o) g place m acts w ≡ after p.room line (puts_word p g acts o w) g place m acts w
-        → ((kind : StopKind) → puts_word p g acts o w ≡ Refused kind → step p (at g place loaded acts w Running) ≡ at g place m acts w (Stopped kind (g + 1) line) → Follow (at g place loaded acts w Running) q)
-        → s.done + 1 ≤ orders_left (block_at 0 (drop s.from s.orders.list)) → Follow (at g place loaded acts w Running) q
-    silent_in o m line e mode goes_so refused more = cases (puts_word p g acts o w) refl
+        → ((kind : StopKind) → puts_word p g acts o w ≡ Refused kind → step p (at g place loaded acts w Running) ≡ at g place m acts w (Stopped kind (g + 1) line) → FollowFrom first (at g place loaded acts w Running) q)
+        → s.done + 1 ≤ orders_left (block_at 0 (drop s.from s.orders.list)) → FollowFrom first (at g place loaded acts w Running) q
+    silent_in {first} o m line e mode goes_so refused more = cases (puts_word p g acts o w) refl
       where
         here : OrderState
         here = at g place loaded acts w Running
@@ -278,7 +296,7 @@ module _ (known : Given) where
         there : slice_get (drop s.from s.orders.list) s.done ≡ Some o
         there = slice_drop s.orders.list s.from s.done ∙ ap (slice_get s.orders.list) s.place_is ∙ e
 
-        cases : (x : Outcome) → puts_word p g acts o w ≡ x → Follow (at g place loaded acts w Running) q
+        cases : (x : Outcome) → puts_word p g acts o w ≡ x → FollowFrom first (at g place loaded acts w Running) q
         cases (Refused kind) is = refused kind is (goes_as (Refused kind) is)
         cases Impossible is = absurd (not_stuck p g place m acts w (never_on p (at g place loaded acts w Running) (at g place m acts w Stuck) (goes_as Impossible is) s.never))
         cases (Changed v) is =
@@ -316,14 +334,7 @@ module _ (known : Given) where
             let within = slice_get_within s.orders.list place o e in
             let long : length_in (slice_get p.units g) ≡ length s.orders.list = ap length_in s.unit in
             let falls : left p (at g (place + 1) m acts v Running) < left p (at g place loaded acts w Running) = omega arith in
-            record {
-              spent = 0;
-              reached = q;
-              path = stay refl refl;
-              within = (let z : 0 ≤ weight p (at g place loaded acts w Running) = omega arith in z);
-              matched = subst (λ x. Matches p image x q) (sym on.goes) (inl matched);
-              progress = inr (subst (λ x. left p x < left p (at g place loaded acts w Running)) (sym on.goes) falls);
-            }
+            waits on.goes matched (let x : 0 < s.done + 1 = omega arith in x) (subst (λ x. left p x < left p (at g place loaded acts w Running)) (sym on.goes) falls)
 
     -- what the orders before the last one did
     pub did_as : (n : ℕ) (os : List Order) → s.done ≡ n → drop s.from s.orders.list ≡ os → silently p g acts n os s.before ≡ Changed w
@@ -334,21 +345,21 @@ module _ (known : Given) where
     moded_as n os is_done e = sym (ap₂ (λ m r. loaded_silently m r s.loaded_before) is_done e) ∙ s.moded
 
     -- the last order of a block, whose code does what all its orders do
-    pub last_does : (m : Bool) (line : ℕ) (f : Words → Outcome) (limit n : ℕ) (os : List Order) → s.done ≡ n → drop s.from s.orders.list ≡ os → left_at 0 s.orders.list (place + 1) ≡ 0
+    pub last_does : {first : Watched} (m : Bool) (line : ℕ) (f : Words → Outcome) (limit n : ℕ) (os : List Order) → s.done ≡ n → drop s.from s.orders.list ≡ os → left_at 0 s.orders.list (place + 1) ≡ 0
         → step p (at g place loaded acts w Running) ≡ after p.room line (f w) g place m acts w → limit ≤ weight p (at g place loaded acts w Running)
-        → Does p image limit (order_place (base_of p g) s.orders.list (place + 1)) g m line acts s.before.output q (chain (silently p g acts n os s.before) f) → Follow (at g place loaded acts w Running) q
-    last_does m line f limit n os is_done e begins goes paid d =
+        → Does p image limit (order_place (base_of p g) s.orders.list (place + 1)) g m line acts s.before.output first (chain (silently p g acts n os s.before) f) → FollowFrom first (at g place loaded acts w Running) q
+    last_does {first} m line f limit n os is_done e begins goes paid d =
         does m line (f w) limit begins goes paid
-        (subst (λ o. Does p image limit (order_place (base_of p g) s.orders.list (place + 1)) g m line acts o q (f w)) s.wrote
-        (subst (λ x. Does p image limit (order_place (base_of p g) s.orders.list (place + 1)) g m line acts s.before.output q (chain x f)) (did_as n os is_done e) d))
+        (subst (λ o. Does p image limit (order_place (base_of p g) s.orders.list (place + 1)) g m line acts o first (f w)) s.wrote
+        (subst (λ x. Does p image limit (order_place (base_of p g) s.orders.list (place + 1)) g m line acts s.before.output first (chain x f)) (did_as n os is_done e) d))
 
-    pub last_tells : (m : Bool) (f : Words → Outcome) (limit n : ℕ) (os : List Order) → s.done ≡ n → drop s.from s.orders.list ≡ os → left_at 0 s.orders.list (place + 1) ≡ 0
+    pub last_tells : {first : Watched} (m : Bool) (f : Words → Outcome) (limit n : ℕ) (os : List Order) → s.done ≡ n → drop s.from s.orders.list ≡ os → left_at 0 s.orders.list (place + 1) ≡ 0
         → step p (at g place loaded acts w Running) ≡ after p.room 0 (f w) g place m acts w → limit ≤ weight p (at g place loaded acts w Running)
-        → Tells p image limit (order_place (base_of p g) s.orders.list (place + 1)) g m acts s.before.output q (chain (silently p g acts n os s.before) f) → Follow (at g place loaded acts w Running) q
-    last_tells m f limit n os is_done e begins goes paid d =
+        → Tells p image limit (order_place (base_of p g) s.orders.list (place + 1)) g m acts s.before.output first (chain (silently p g acts n os s.before) f) → FollowFrom first (at g place loaded acts w Running) q
+    last_tells {first} m f limit n os is_done e begins goes paid d =
         tells m (f w) limit begins goes paid
-        (subst (λ o. Tells p image limit (order_place (base_of p g) s.orders.list (place + 1)) g m acts o q (f w)) s.wrote
-        (subst (λ x. Tells p image limit (order_place (base_of p g) s.orders.list (place + 1)) g m acts s.before.output q (chain x f)) (did_as n os is_done e) d))
+        (subst (λ o. Tells p image limit (order_place (base_of p g) s.orders.list (place + 1)) g m acts o first (f w)) s.wrote
+        (subst (λ x. Tells p image limit (order_place (base_of p g) s.orders.list (place + 1)) g m acts s.before.output first (chain x f)) (did_as n os is_done e) d))
 
     -- a call of an entry of the library
     abbrev pub by : (entry c : ℕ) → ℕ
@@ -398,15 +409,15 @@ module _ (known : Given) where
     ]
 
     -- the way on that an order chooses
-    pub chosen : (l : Bool) (line : ℕ) (way : Way) (limit : ℕ) → left_at 0 s.orders.list (place + 1) ≡ 0 → Roomy acts p.room way → step p (at g place loaded acts w Running) ≡ branch p line way g place l acts w → limit ≤ weight p (at g place loaded acts w Running)
-        → Chooses p image limit (order_place (base_of p g) s.orders.list (place + 1)) start g l line acts w.output q way → Follow (at g place loaded acts w Running) q
+    pub chosen : {first : Watched} (l : Bool) (line : ℕ) (way : Way) (limit : ℕ) → left_at 0 s.orders.list (place + 1) ≡ 0 → Roomy acts p.room way → step p (at g place loaded acts w Running) ≡ branch p line way g place l acts w → limit ≤ weight p (at g place loaded acts w Running)
+        → Chooses p image limit (order_place (base_of p g) s.orders.list (place + 1)) start g l line acts w.output first way → FollowFrom first (at g place loaded acts w Running) q
     chosen l line (Onward v) limit begins room e paid d = leads_to g place loaded acts w (at g (place + 1) l acts v Running) limit e paid (onward (λ r t. inl (sound_at (place + 1) l v r begins room e t)) d)
-    chosen l line (ToMark m v) limit begins room e paid d = cases (slice_get s.orders.marks m) refl
+    chosen {first} l line (ToMark m v) limit begins room e paid d = cases (slice_get s.orders.marks m) refl
       where
         goes : (k : Option ℕ) → slice_get s.orders.marks m ≡ k → step p (at g place loaded acts w Running) ≡ go_at k g place l acts w v
         goes k is = e ∙ ap (λ x. go_at x g place l acts w v) (ap (λ u. mark_in u m) s.unit ∙ is)
 
-        cases : (k : Option ℕ) → slice_get s.orders.marks m ≡ k → Follow (at g place loaded acts w Running) q
+        cases : (k : Option ℕ) → slice_get s.orders.marks m ≡ k → FollowFrom first (at g place loaded acts w Running) q
         cases None none = absurd (not_stuck p g place l acts w (never_on p (at g place loaded acts w Running) (at g place l acts w Stuck) (goes None none) s.never))
         cases (Some to) is =
             let there : start m ≡ order_place (base_of p g) s.orders.list to = ap (λ n. base_of p g + n) (mark_start s.orders m to is (goes_within to l v (goes (Some to) is))) in
@@ -415,13 +426,13 @@ module _ (known : Given) where
     chosen l line (Barred kind) limit begins room e paid d = leads_to g place loaded acts w (at g place l acts w (Stopped kind (g + 1) line)) limit e paid d
     chosen l line Nowhere limit begins room e paid d = absurd (not_stuck p g place l acts w (never_next (at g place l acts w Stuck) e))
 
-    pub last_chooses : (l : Bool) (line : ℕ) (f : Words → Way) (limit n : ℕ) (os : List Order) → s.done ≡ n → drop s.from s.orders.list ≡ os → left_at 0 s.orders.list (place + 1) ≡ 0 → Roomy acts p.room (f w)
+    pub last_chooses : {first : Watched} (l : Bool) (line : ℕ) (f : Words → Way) (limit n : ℕ) (os : List Order) → s.done ≡ n → drop s.from s.orders.list ≡ os → left_at 0 s.orders.list (place + 1) ≡ 0 → Roomy acts p.room (f w)
         → step p (at g place loaded acts w Running) ≡ branch p line (f w) g place l acts w → limit ≤ weight p (at g place loaded acts w Running)
-        → Chooses p image limit (order_place (base_of p g) s.orders.list (place + 1)) start g l line acts s.before.output q (way_after (silently p g acts n os s.before) f) → Follow (at g place loaded acts w Running) q
-    last_chooses l line f limit n os is_done e begins room goes paid d =
+        → Chooses p image limit (order_place (base_of p g) s.orders.list (place + 1)) start g l line acts s.before.output first (way_after (silently p g acts n os s.before) f) → FollowFrom first (at g place loaded acts w Running) q
+    last_chooses {first} l line f limit n os is_done e begins room goes paid d =
         chosen l line (f w) limit begins room goes paid
-        (subst (λ o. Chooses p image limit (order_place (base_of p g) s.orders.list (place + 1)) start g l line acts o q (f w)) s.wrote
-        (subst (λ x. Chooses p image limit (order_place (base_of p g) s.orders.list (place + 1)) start g l line acts s.before.output q (way_after x f)) (did_as n os is_done e) d))
+        (subst (λ o. Chooses p image limit (order_place (base_of p g) s.orders.list (place + 1)) start g l line acts o first (f w)) s.wrote
+        (subst (λ x. Chooses p image limit (order_place (base_of p g) s.orders.list (place + 1)) start g l line acts s.before.output first (way_after x f)) (did_as n os is_done e) d))
 
     pub low_room : operand_words w.operands < level acts
     low_room = let room = s.room in let most = coded.room in let split = words_split w.operands acts in omega arith
@@ -448,7 +459,24 @@ module _ (known : Given) where
               (subst (λ n. Landed p image (order_place (base_of p g) s.orders.list n) g s.loaded_before acts s.before q) here s.landed));
         }
 
+    -- whether a statement may begin where the code of the order does, and the processor there, where what begins is overlooked
+    abbrev pub begins_here : Bool
+    begins_here = behind_start s.orders.list place
+
+    abbrev pub begun_here : Watched
+    begun_here = over (behind_start s.orders.list place) q
+
+    -- the same where the code of the block does
+    abbrev pub begins_block : Bool
+    begins_block = behind_start s.orders.list s.from
+
+    abbrev pub begun_block : Watched
+    begun_block = over (behind_start s.orders.list s.from) q
+
     module _ (a : Alone p image g place loaded acts w q s.orders.list) where
+      pub landed_here : LandedAt (behind_start s.orders.list place) p image (order_place (base_of p g) s.orders.list place) g loaded acts w (over (behind_start s.orders.list place) q)
+      landed_here = over_landed (behind_start s.orders.list place) a.landed
+
       -- where its code begins and ends
       abbrev pub here : ℕ
       here = order_place (base_of p g) s.orders.list place
@@ -459,11 +487,11 @@ module _ (known : Given) where
       pub alone_is : block_at (left_at 0 s.orders.list place) (drop place s.orders.list) ≡ block.Single
       alone_is = ap (λ n. block_at n (drop place s.orders.list)) a.begins ∙ a.single
 
-      pub code : (o : Order) → slice_get s.orders.list place ≡ Some o → HasPieces image (all.stands g s.orders s.unit).value (order_place (base_of p g) s.orders.list place) (template (names_of s.orders) (own_place s.orders.list place) o)
+      pub code : (o : Order) → slice_get s.orders.list place ≡ Some o → HasPiecesFrom (first_of o (behind_start s.orders.list place)) image (all.stands g s.orders s.unit).value (order_place (base_of p g) s.orders.list place) (template (names_of s.orders) (own_place s.orders.list place) o)
       code o e =
           let st = all.stands g s.orders s.unit in
           let here = order_place (base_of p g) s.orders.list place in
-          subst (λ x. HasPieces image st.value here (block_pieces (names_of s.orders) (own_place s.orders.list place) x o)) alone_is (st.orders place o e)
+          subst (λ x. HasPiecesFrom (first_of o (behind_start s.orders.list place)) image st.value here (block_pieces (names_of s.orders) (own_place s.orders.list place) x o)) alone_is (st.orders place o e)
 
       pub behind : (o : Order) → slice_get s.orders.list place ≡ Some o → order_place (base_of p g) s.orders.list place + order_size o ≡ order_place (base_of p g) s.orders.list (place + 1)
       behind o e =
@@ -477,22 +505,15 @@ module _ (known : Given) where
           ap (left_at 0 s.orders.list) next ∙ left_next 0 s.orders.list place o e ∙ ap orders_left alone_is
 
       -- an order without code
-      pub silent : (o : Order) (m : Bool) (v : Words) → slice_get s.orders.list place ≡ Some o → step p (at g place loaded acts w Running) ≡ at g (place + 1) m acts v Running → stack_words v.operands acts ≤ p.room → order_size o ≡ 0
+      pub silent : (o : Order) (m : Bool) (v : Words) → slice_get s.orders.list place ≡ Some o → step p (at g place loaded acts w Running) ≡ at g (place + 1) m acts v Running → stack_words v.operands acts ≤ p.room → order_size o ≡ 0 → is_codeless o ≡ true
           → ((at : ℕ) → Landed p image at g loaded acts w q → Landed p image at g m acts v q) → Follow (at g place loaded acts w Running) q
-      silent o m v e goes room none turned =
+      silent o m v e goes room none codeless turned =
           let here = order_place (base_of p g) s.orders.list place in
           let next = behind o e in
           let to : here ≡ order_place (base_of p g) s.orders.list (place + 1) = omega arith in
           let there : Landed p image (order_place (base_of p g) s.orders.list (place + 1)) g m acts v q = subst (λ a. Landed p image a g m acts v q) to (turned here a.landed) in
-          let matched : Matches p image (at g (place + 1) m acts v Running) q = inl (sound_at (place + 1) m v q (begins_next o e) room goes there) in
+          let matched : Arrives (at g (place + 1) m acts v Running) q = inl (sound_at (place + 1) m v q (begins_next o e) room goes there) in
           let within = slice_get_within s.orders.list place o e in
           let long : length_in (slice_get p.units g) ≡ length s.orders.list = ap length_in s.unit in
           let falls : left p (at g (place + 1) m acts v Running) < left p (at g place loaded acts w Running) = omega arith in
-          record {
-            spent = 0;
-            reached = q;
-            path = stay refl refl;
-            within = (let z : 0 ≤ weight p (at g place loaded acts w Running) = omega arith in z);
-            matched = subst (λ x. Matches p image x q) (sym goes) matched;
-            progress = inr (subst (λ x. left p x < left p (at g place loaded acts w Running)) (sym goes) falls);
-          }
+          passes_on o (order_is (Some o) e) codeless (subst (λ x. Arrives x q) (sym goes) matched) (subst (λ x. left p x < left p (at g place loaded acts w Running)) (sym goes) falls)

@@ -1,5 +1,5 @@
 -- Straight pieces of code: instructions that go on at the next one, and what they leave of a view.
-use Rattle.std.proofs.Common.{◌≡◌, ℕ, suc, ◌+◌, ◌*◌, ◌%◌, ◌<◌, true, false, List, [], ◌∷◌, length, refl, ap, ◌∙◌, subst, arith, lit<}
+use Rattle.std.proofs.Common.{◌≡◌, ℕ, suc, ◌+◌, ◌*◌, ◌%◌, ◌<◌, true, Bool, false, List, [], ◌∷◌, length, refl, ap, ◌∙◌, subst, arith, lit<}
 use Rattle.std.specs.Prelude.{bit_and, bit_or, bit_xor}
 use Rattle.cw_i86.specs.Encoding.{bytes_of}
 use Rattle.cw_i86.specs.State.{sign_extended}
@@ -9,13 +9,13 @@ use Rattle.cw_i86.specs.declared.instr.Imm.TheVariants as imm
 use Rattle.cw_i86.specs.declared.instr.Rm.TheVariants as rms
 use Rattle.cw_i86.specs.declared.instr.Place.TheVariants as places
 use Rattle.cw_run86.specs.Processor.{Processor, processor_step}
-use Rattle.cw_follow.specs.Passing.{does_nothing}
 use Rattle.cw_follow.proofs.Watched.{Watched, watched_step}
-use Rattle.cw_run86.specs.Views.{View, Sees, Has, IsTop, register, with_place, with_register, with_result, with_pair, with_overflow, with_cell, with_stack, double_overflows, sum_overflows, difference_overflows, word_sum, word_difference, word_down_signed, shift_overflow, product_low, product_high, product_overflows, sign_of, with_number}
+use Rattle.cw_run86.specs.Views as view
+use Rattle.cw_run86.specs.Views.{View, Sees, IsTop, register, with_place, with_register, with_result, with_pair, with_overflow, with_cell, with_stack, double_overflows, sum_overflows, difference_overflows, word_sum, word_difference, word_down_signed, shift_overflow, product_low, product_high, product_overflows, sign_of, with_number}
 use Rattle.cw_tmpl.specs.Mnemonics.{at_bx, slot}
-use Rattle.cw_routines.specs.Ways.{HasAll}
+use Rattle.cw_follow.proofs.Standing.{Image, HasAt, HasFrom, HasAll}
 use Rattle.cw_follow.proofs.Rows.{Rows}
-use Rattle.cw_follow.proofs.Chains.{Is, Leads, placed, moved, has, more}
+use Rattle.cw_follow.proofs.Chains.{IsAt, Is, Leads, placed, moved, has, more}
 
 -- an instruction, with what is known of the words that it reads: the number of the stack's word, and that word
 pub data Act : Type 0 where
@@ -130,16 +130,12 @@ behind [] at = at
 behind (a ∷ acts) at = behind acts (at + length (bytes_of (instruction a)))
 
 module _ (rows : Rows) where
-  -- one of them takes up some bytes, and does something
+  -- one of them takes up some bytes
   takes_bytes : (a : Act) → 0 < length (bytes_of (instruction a))
   takes_bytes (Number r w) = lit< tt
   takes_bytes _ = lit< tt
 
-  does : (a : Act) → does_nothing (instruction a) ≡ false
-  does (Number r w) = refl
-  does _ = refl
-
-  effect : (a : Act) {image : List ℕ} (at : ℕ) (v : View) {p : Processor} → Has image (at % 65536) (instruction a) → Needs a v → Sees image (placed at v) p → Sees image (with_place ((at % 65536 + length (bytes_of (instruction a))) % 65536) (after a v)) (processor_step p)
+  effect : (a : Act) {image : List ℕ} (at : ℕ) (v : View) {p : Processor} → view.Has image (at % 65536) (instruction a) → Needs a v → Sees image (placed at v) p → Sees image (with_place ((at % 65536 + length (bytes_of (instruction a))) % 65536) (after a v)) (processor_step p)
   effect (Number r w) {image} at v {p} h n s = rows.number image (placed at v) r w h p s
   effect (Move r q) {image} at v {p} h n s = rows.move image (placed at v) r q h p s
   effect Exchange {image} at v {p} h n s = rows.exchange image (placed at v) 3 h p s
@@ -169,10 +165,10 @@ module _ (rows : Rows) where
   effect (Product r) {image} at v {p} h n s = rows.multiply image (placed at v) r h p s
   effect Sign {image} at v {p} h n s = rows.extend image (placed at v) h p s
 
-  step : (a : Act) {image : List ℕ} {at : ℕ} {v : View} {p : Watched} → Has image at (instruction a) → Needs a v → Is image at v p → Is image (at + length (bytes_of (instruction a))) (after a v) (watched_step p)
+  pub step : (a : Act) {image : Image} {at : ℕ} {v : View} {p : Watched} {first : Bool} → HasAt first image at (instruction a) → Needs a v → IsAt first image at v p → Is image (at + length (bytes_of (instruction a))) (after a v) (watched_step p)
   step a {image} {at} {v} h needs s =
       let here = has (instruction a) (takes_bytes a) h s in
-      moved at (instruction a) (after a v) (does a) here s (effect a at v here needs s.sees)
+      moved at (instruction a) (after a v) here s (effect a at v here.there needs s.sees)
 
   -- none of them tells anything
   quiet : (a : Act) (v : View) → (after a v).told ≡ v.told
@@ -181,10 +177,20 @@ module _ (rows : Rows) where
   quiet _ v = refl
 
   -- all of them, and the way on
-  pub straight : (acts : List Act) {image : List ℕ} {at n : ℕ} {v : View} {p : Watched} {output : List ℕ} {Target : Watched → Type 0} → v.told.output ≡ output → HasAll image at (codes acts) → NeedsAll acts v → Is image at v p
+  pub straight : (acts : List Act) {image : Image} {at n : ℕ} {v : View} {p : Watched} {output : List ℕ} {Target : Watched → Type 0} → v.told.output ≡ output → HasAll image at (codes acts) → NeedsAll acts v → Is image at v p
       → ((q : Watched) → Is image (behind acts at) (after_all acts v) q → Leads output n q Target) → Leads output (length acts + n) p Target
   straight [] {n = n} {p = p} {output = output} {Target = Target} wrote h needs s on = let e : n ≡ 0 + n = omega arith in subst (λ m. Leads output m p Target) e (on p s)
   straight (a ∷ acts) {n = n} {v = v} {p = p} {output = output} {Target = Target} wrote h needs s on =
+      let t = step a h.0 needs.0 s in
+      let told : (after a v).told.output ≡ output = ap (λ x. x.output) (quiet a v) ∙ wrote in
+      let e : suc (length acts + n) ≡ suc (length acts) + n = omega arith in
+      subst (λ m. Leads output m p Target) e (more rows s wrote t (λ q u. straight acts told h.1 needs.1 u on))
+
+  -- the same, from the first instruction of a block on
+  pub straight_from : {first : Bool} (a : Act) (acts : List Act) {image : Image} {at n : ℕ} {v : View} {p : Watched} {output : List ℕ} {Target : Watched → Type 0} → v.told.output ≡ output → HasFrom first image at (codes (a ∷ acts))
+      → NeedsAll (a ∷ acts) v → IsAt first image at v p
+      → ((q : Watched) → Is image (behind (a ∷ acts) at) (after_all (a ∷ acts) v) q → Leads output n q Target) → Leads output (length (a ∷ acts) + n) p Target
+  straight_from a acts {n = n} {v = v} {p = p} {output = output} {Target = Target} wrote h needs s on =
       let t = step a h.0 needs.0 s in
       let told : (after a v).told.output ≡ output = ap (λ x. x.output) (quiet a v) ∙ wrote in
       let e : suc (length acts + n) ≡ suc (length acts) + n = omega arith in

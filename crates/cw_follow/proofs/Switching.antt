@@ -31,10 +31,9 @@ use Rattle.cw_tmpl.specs.Names.{switch_start}
 use Rattle.cw_tmpl.specs.Templates.{distance, goal_words, switch_pieces}
 use Rattle.cw_tmpl.specs.ReferenceCode.{names_of}
 use Rattle.cw_tmpl.proofs.Sizes.{own_place, jump_arrives}
-use Rattle.cw_routines.specs.Ways.{HasAll, HasWord}
 use Rattle.cw_follow.specs.Placing.{base_of, label_place, switch_place, definition_place}
 use Rattle.cw_follow.proofs.Watched.{Watched}
-use Rattle.cw_follow.proofs.Standing.{HasPieces, order_place}
+use Rattle.cw_follow.proofs.Standing.{HasPieces, order_place, HasAll, HasWord}
 use Rattle.cw_follow.proofs.Chains.{Is, Leads, view, to_place, jump_to, near, last}
 use Rattle.cw_follow.proofs.Straight.{Number, Move, LoadArgument, straight}
 use Rattle.cw_follow.proofs.Routines.{with_ax}

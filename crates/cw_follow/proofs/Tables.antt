@@ -30,9 +30,8 @@ use Rattle.cw_tmpl.specs.Pieces.{Filling}
 use Rattle.cw_tmpl.specs.Names.{Names, mark_place, label_start}
 use Rattle.cw_tmpl.specs.Templates.{mark_words, goal_words}
 use Rattle.cw_tmpl.specs.Library.{stop_place}
-use Rattle.cw_routines.specs.Ways.{HasAll, HasWord}
 use Rattle.cw_routines.specs.Results.{Stands}
-use Rattle.cw_follow.proofs.Standing.{HasPieces}
+use Rattle.cw_follow.proofs.Standing.{HasPieces, HasAll, HasWord, Image}
 use Rattle.cw_follow.proofs.Rows.{Rows}
 use Rattle.cw_follow.proofs.Chains.{Is, IsCompared, Leads, view, seen, to_place, call, near, compare_number, jump_below, pass_above, not_zero, jump_if, pass_if, through_table, more, compared_more, last}
 use Rattle.cw_follow.proofs.Acting.{act}
@@ -67,10 +66,10 @@ not_within (x ∷ xs) (suc k) e = omega (arith, not_within xs k e)
 
 -- ---- tables
 
-word_anywhere : (image : List ℕ) (m n v w : ℕ) → m ≡ n → v ≡ w → HasWord image m v → HasWord image n w
+word_anywhere : (image : Image) (m n v w : ℕ) → m ≡ n → v ≡ w → HasWord image m v → HasWord image n w
 word_anywhere image m n v w e f h = subst (λ x. HasWord image x w) e (subst (λ x. HasWord image m x) f h)
 
-pub mark_word_is : (image : List ℕ) (value : Filling) (names : Names) (at : ℕ) (ms : List ℕ) (k m : ℕ) → HasPieces image value at (mark_words names ms) → slice_get ms k ≡ Some m
+pub mark_word_is : (image : Image) (value : Filling) (names : Names) (at : ℕ) (ms : List ℕ) (k m : ℕ) → HasPieces image value at (mark_words names ms) → slice_get ms k ≡ Some m
     → HasWord image (at + 2 * k) (value 3 0 (mark_place names m % 65536) (at + 2 * k + 2))
 mark_word_is image value names at [] k m h is = absurd (cc)
 mark_word_is image value names at (x ∷ xs) zero m h is =
@@ -91,7 +90,7 @@ abbrev pub goal_value : Filling → Names → Goal → ℕ → ℕ
 goal_value value names (goal.Own l) after = value 3 0 (label_start names l % 65536) after
 goal_value value names (goal.Common d) after = value 4 d 0 after
 
-pub goal_word_is : (image : List ℕ) (value : Filling) (names : Names) (at : ℕ) (gs : List Goal) (k : ℕ) (x : Goal) → HasPieces image value at (goal_words names gs) → slice_get gs k ≡ Some x
+pub goal_word_is : (image : Image) (value : Filling) (names : Names) (at : ℕ) (gs : List Goal) (k : ℕ) (x : Goal) → HasPieces image value at (goal_words names gs) → slice_get gs k ≡ Some x
     → HasWord image (at + 2 * k) (goal_value value names x (at + 2 * k + 2))
 goal_word_is image value names at [] k x h is = absurd (cc)
 goal_word_is image value names at (goal.Own l ∷ gs) zero x h is =
@@ -117,7 +116,7 @@ goal_word_is image value names at (goal.Common d ∷ gs) (suc k) x h is =
     let f : at + 2 + 2 * k + 2 ≡ at + 2 * suc k + 2 = omega arith in
     word_anywhere image (at + 2 + 2 * k) (at + 2 * suc k) (goal_value value names x (at + 2 + 2 * k + 2)) (goal_value value names x (at + 2 * suc k + 2)) e (ap (goal_value value names x) f) w
 
-module _ (rows : Rows) (prog : OrderProgram) (image : List ℕ) where
+module _ (rows : Rows) (prog : OrderProgram) (image : Image) where
   -- ---- the number
 
   -- a number in AX, counted from 1, is compared as one counted from 0
@@ -209,7 +208,7 @@ module _ (rows : Rows) (prog : OrderProgram) (image : List ℕ) where
 
     counts : (b : Bool) → (word_difference (unsigned z) 1 == 0) ≡ b → Counted b (watched_step q)
     counts b is =
-        let a = act rows (Count true 0) refl (lit< tt) i.0 tt (with_ax l.operands.0 l.stacked.is) in
+        let a = act rows (Count true 0) (lit< tt) i.0 tt (with_ax l.operands.0 l.stacked.is) in
         (a.is, not_zero (watched_step q).processor.state.flags ∙ ap (λ f. not (holds f 4)) a.flags ∙ ap not (rows.counted_zero true (unsigned z) q.processor.state.flags ∙ is))
 
     one_to : (to : ℕ) → (word_difference (unsigned z) 1 == 0) ≡ true → (at + 6 + by) % 65536 ≡ to % 65536
@@ -277,7 +276,7 @@ module _ (rows : Rows) (prog : OrderProgram) (image : List ℕ) where
         (through_table rows table (at + 29 + 2 * k) to entry within word.is d.1.1.1.0 there))))))
 
     -- one that it has not: the way back that the call leaves on the stack is of no use
-    pub switches_stop : (m : ℕ) → n ≤ word_difference (unsigned z) 1 → Stands image → line < 65536 → (at + 10 + 3 + by) % 65536 ≡ stop_place SwitchRange % 65536 → top ≡ suc m → top ≤ level acts
+    pub switches_stop : (m : ℕ) → n ≤ word_difference (unsigned z) 1 → Stands image.bytes → line < 65536 → (at + 10 + 3 + by) % 65536 ≡ stop_place SwitchRange % 65536 → top ≡ suc m → top ≤ level acts
         → Leads output 15 q (Over (record { output = output; end = Stopped SwitchRange (g + 1) line }))
     switches_stop m le library small arrives_at top_is low =
         let v = word_difference (unsigned z) 1 in
@@ -296,6 +295,6 @@ module _ (rows : Rows) (prog : OrderProgram) (image : List ℕ) where
         compared_more rows {Between = Is image (at + 3 + 2 + 3 + 2) (view v cx line v (2 * top) bp si area o cells stack left told)} c.is wrote (pass_above rows 3 le i.1.1.1.0 c) (λ r t.
         more rows {to = stop_place SwitchRange} {w = view v cx line v (2 * m) bp si area o cells pushed left told} t wrote (to_place there (call rows by m back fits sp refl i.1.1.1.1.0 t)) (λ r t.
         subst (λ x. Leads x 10 r (Over (record { output = x; end = Stopped SwitchRange (g + 1) line }))) wrote
-        (lifted rows t.silent
-        (rows.routines.switch (quiet_in r.places) image library (quiet_library t.ignores) line (level acts + 3) (g + 1) v cx v (2 * m) bp si area (flags_of r) cells pushed left told r.processor small
+        (lifted rows t.overlooks t.silent
+        (rows.routines.switch (quiet_in r.places) image.bytes library (quiet_library t.ignores) line (level acts + 3) (g + 1) v cx v (2 * m) bp si area (flags_of r) cells pushed left told r.processor small
         (record { there = (let e : (bp + 65534) % 65536 ≡ 2 * (level acts + 3) = omega arith in e); low = omega arith; number = (kept_under m back under kept).piled.0.number_is; few = omega arith }) (arrives t)) (λ p u. over r u)))))

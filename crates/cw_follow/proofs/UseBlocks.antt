@@ -10,7 +10,7 @@ use Rattle.cw_i86.specs.declared.instr.Instr.TheVariants as i86
 use Rattle.cw_i86.specs.declared.instr.Imm.TheVariants as imm
 use Rattle.cw_i86.specs.declared.instr.Rm.TheVariants as rms
 use Rattle.cw_i86.specs.declared.instr.Place.TheVariants as places
-use Rattle.cw_run86.specs.Views.{Has, condition_of, with_number, with_memory, product_low, product_overflows}
+use Rattle.cw_run86.specs.Views.{condition_of, with_number, with_memory, product_low, product_overflows}
 use Rattle.cw_rows86.specs.Operations.{WordOperation, Add, Or, And, Subtract, Xor, Compare, number_of}
 use Rattle.cw_word.specs.FixedPoint.{FitsWord, fits_word, scaled_product}
 use Rattle.cw_word.specs.Word.{signed, unsigned}
@@ -46,10 +46,9 @@ use Rattle.cw_tmpl.specs.Pieces.{Filling, blanks}
 use Rattle.cw_tmpl.specs.Names.{no_names, mark_place}
 use Rattle.cw_tmpl.specs.Templates.{distance, opposite_of, with_operand, checked, branch, pieces_size, element_size, element_address, operated, block_size}
 use Rattle.cw_tmpl.specs.ReferenceCode.{names_of, mark_starts}
-use Rattle.cw_routines.specs.Ways.{HasAll}
 use Rattle.cw_follow.specs.Placing.{base_of}
 use Rattle.cw_tmpl.proofs.Sizes.{own_place, element_long_as}
-use Rattle.cw_follow.proofs.Standing.{HasPieces, appended_long, stand_both, order_place}
+use Rattle.cw_follow.proofs.Standing.{HasPieces, appended_long, stand_both, order_place, Has, HasAll, Image}
 use Rattle.cw_follow.proofs.Watched.{Watched}
 use Rattle.cw_follow.proofs.Chains.{Is, Leads, view, done, more, load_at, move as moved_to}
 use Rattle.cw_follow.proofs.Straight.{Number, Move, Product, LoadSlot, LoadWord, straight}
@@ -87,7 +86,7 @@ naming w (simple.Contents (cell.Frame n)) op = i86.AluRm (number_of op) true tru
 naming w (simple.Element e) op = i86.AluRm (number_of op) true true ax at_si
 
 -- what comes before it
-abbrev pub Addressed : List ℕ → Filling → Simple → ℕ → Type 0
+abbrev pub Addressed : Image → Filling → Simple → ℕ → Type 0
 Addressed image value (simple.Element e) from = HasPieces image value from (element_address e)
 Addressed image value (simple.Contents (cell.Frame n)) from = HasAll image from (load bx (slot base_slot) ∷ [])
 Addressed image value s from = Unit {0}
@@ -101,7 +100,7 @@ offset_at value s from = 0
 element_operation : (e : Element) (op : ℕ) → length (blanks (with_operand op (simple.Element e))) ≡ element_size e e.test + 2
 element_operation e op = omega (arith, appended_long (element_address e) (pieces.Whole (operate op ax at_si) ∷ []), element_long_as e)
 
-pub operand_code : (image : List ℕ) (value : Filling) (from : ℕ) (s : Simple) (op : WordOperation) (rest : List Coded) → HasPieces image value from (with_operand (number_of op) s ++ rest)
+pub operand_code : (image : Image) (value : Filling) (from : ℕ) (s : Simple) (op : WordOperation) (rest : List Coded) → HasPieces image value from (with_operand (number_of op) s ++ rest)
     → Addressed image value s from × Has image (named_at s from) (naming (offset_at value s from) s op) × HasPieces image value (named_at s from + named_size s) rest
 operand_code image value from (simple.Number x) op rest h = (tt, h.0, h.1)
 operand_code image value from (simple.Contents (cell.Word f n)) op rest h = (tt, h.0, h.1)
@@ -114,7 +113,7 @@ operand_code image value from (simple.Element e) op rest h =
     (address.0, subst (λ n. Has image (from + n) (operate o ax at_si)) (element_long_as e) address.1.0, subst (λ n. HasPieces image value n rest) size both.1)
 
 -- the same without more behind it
-alone_code : (image : List ℕ) (value : Filling) (from : ℕ) (s : Simple) (op : ℕ) → HasPieces image value from (with_operand op s) → HasPieces image value from (with_operand op s ++ [])
+alone_code : (image : Image) (value : Filling) (from : ℕ) (s : Simple) (op : ℕ) → HasPieces image value from (with_operand op s) → HasPieces image value from (with_operand op s ++ [])
 alone_code image value from (simple.Number x) op h = h
 alone_code image value from (simple.Contents (cell.Word f n)) op h = h
 alone_code image value from (simple.Contents (cell.Frame n)) op h = h

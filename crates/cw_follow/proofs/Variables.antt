@@ -7,7 +7,7 @@ use borrow.Author.Tests.{ltb-true}
 use Rattle.cw_track.proofs.Paths.{join}
 use Rattle.cw_i86.specs.declared.instr.Instr.TheVariants as i86
 use Rattle.cw_run86.specs.Processor.{Processor, Told}
-use Rattle.cw_run86.specs.Views.{Has, put_word}
+use Rattle.cw_run86.specs.Views.{put_word}
 use Rattle.cw_word.specs.FixedPoint.{FitsWord, fits_word}
 use Rattle.cw_word.specs.Word.{unsigned}
 use Rattle.cw_unit.specs.Stop.{AddressRange, Stopped}
@@ -18,7 +18,7 @@ use Rattle.cw_order.specs.OrderChanges.{if_inside, set_variable, add_step, put_v
 use Rattle.cw_order.specs.OrderState.{operand_words}
 use Rattle.cw_tmpl.specs.Mnemonics.{dx, set_word}
 use Rattle.cw_tmpl.specs.Library.{set_variable_place, add_step_place, put_variable_place}
-use Rattle.cw_routines.specs.Ways.{HasAll, Within}
+use Rattle.cw_routines.specs.Ways.{Within}
 use Rattle.cw_routines.specs.Results.{Quiet, Holds, Ends, Fetched, Fetches}
 use Rattle.cw_follow.proofs.Watched.{Watched, watched_machine, fresh}
 use Rattle.cw_follow.proofs.Chains.{Is, Leads, view, to_place, call, last}
@@ -28,6 +28,7 @@ use Rattle.cw_follow.proofs.Numbers.{unsigned_pos}
 use Rattle.cw_follow.proofs.Stacks.{level, record_of, StackIs, top_is, same_put, stack_same}
 use Rattle.cw_follow.proofs.Orders.{Kept, kept_same, kept_under, Landed, Leading, landed}
 use Rattle.cw_follow.proofs.Operands.{Setting, words, LandedWith, DoesHere, tells}
+use Rattle.cw_follow.proofs.Standing.{Has, HasAll}
 
 module _ (c : Setting) (memory : List ℤ) (input output : List ℕ) where
   -- ---- routines
@@ -95,10 +96,11 @@ module _ (c : Setting) (memory : List ℤ) (input output : List ℕ) where
 
   -- what a routine does from here on, and what that means for the processor that is watched
   pub record Runs (o : List ℕ) (limit : ℕ) (q : Watched) (V : Watched → Type 0) : Type 1 where
+    pub watches : q.overlooks ≡ false
     pub silent : q.begun ≡ []
     pub wrote : o ≡ output
     pub U : Processor → Type 0
-    pub law : Within (Quiet (quiet_in q.places)) c.image o limit q.processor U
+    pub law : Within (Quiet (quiet_in q.places)) c.image.bytes o limit q.processor U
     pub means : (r : Processor) → U r → V (fresh q.places q.area r)
 
   -- so many instructions, and the routine
@@ -108,7 +110,7 @@ module _ (c : Setting) (memory : List ℤ) (input output : List ℕ) where
       let r = (on l.reached l.there).1 in
       let k = r.law.spent in
       let within = r.law.within in
-      let rest : Leads output k l.reached V = subst (λ x. Leads x k l.reached V) r.wrote (lifted c.rows r.silent r.law.leads r.means) in
+      let rest : Leads output k l.reached V = subst (λ x. Leads x k l.reached V) r.wrote (lifted c.rows r.watches r.silent r.law.leads r.means) in
       record {
         spent = suc n + k;
         some = omega arith;
@@ -144,8 +146,8 @@ module _ (c : Setting) (memory : List ℤ) (input output : List ℕ) where
     top : ℕ
     under : StackIs c.program c.acts r.stack top rest
     law :
-        Within (Quiet (quiet_in q.places)) c.image r.told.output limit q.processor
-        (Ends c.image r.told.output c.program.limits.area (to % 65536) (2 * top) (record_of c.acts) (c.g + 1) line r.stack r.left r.told o)
+        Within (Quiet (quiet_in q.places)) c.image.bytes r.told.output limit q.processor
+        (Ends c.image.bytes r.told.output c.program.limits.area (to % 65536) (2 * top) (record_of c.acts) (c.g + 1) line r.stack r.left r.told o)
 
   stored : {p : Watched} {place ax bx : ℕ} {operands : List Operand} (to line limit bound : ℕ) (rest : List Operand) (o : Outcome) → Stores rest o → 2 + limit ≤ bound
       → Leads output 2 p (AtRoutine place (to % 65536) line ax bx operands) → ((q : Watched) (r : AtRoutine place (to % 65536) line ax bx operands q) → Stored to line limit rest o r)
@@ -156,6 +158,7 @@ module _ (c : Setting) (memory : List ℤ) (input output : List ℕ) where
       let k = r.kept in (
         r.told.output,
         record {
+          watches = r.is.overlooks;
           silent = r.is.silent;
           wrote = k.wrote;
           U = _;
@@ -172,6 +175,7 @@ module _ (c : Setting) (memory : List ℤ) (input output : List ℕ) where
       let t = each q r in (
         r.told.output,
         record {
+          watches = r.is.overlooks;
           silent = r.is.silent;
           wrote = r.kept.wrote;
           U = _;
@@ -221,7 +225,7 @@ module _ (c : Setting) (memory : List ℤ) (input output : List ℕ) where
             top = suc (suc r.top);
             under = r.under.1;
             law =
-                c.rows.routines.set_variable (quiet_in q.places) c.image c.library (quiet_library r.is.ignores) c.program.limits.area n line (record_of c.acts) r.top (level c.acts + 3) (c.g + 1)
+                c.rows.routines.set_variable (quiet_in q.places) c.image.bytes c.library (quiet_library r.is.ignores) c.program.limits.area n line (record_of c.acts) r.top (level c.acts + 3) (c.g + 1)
                 (to % 65536) r.cx l.stacked.bx r.si x (flags_of q) r.cells r.stack r.left r.told
                 (words rest memory input output) q.processor fx within (holds all r.kept) small (omega arith) r.way r.under.0 (omega arith) (tells c memory input output r.kept)
                 (arrives (with_ax same r.is));
@@ -243,7 +247,7 @@ module _ (c : Setting) (memory : List ℤ) (input output : List ℕ) where
         top = suc r.top;
         under = r.under;
         law =
-            c.rows.routines.add_step (quiet_in q.places) c.image c.library (quiet_library r.is.ignores) c.program.limits.area n line (record_of c.acts) r.top (level c.acts + 3) (c.g + 1) (to % 65536)
+            c.rows.routines.add_step (quiet_in q.places) c.image.bytes c.library (quiet_library r.is.ignores) c.program.limits.area n line (record_of c.acts) r.top (level c.acts + 3) (c.g + 1) (to % 65536)
             r.cx l.stacked.bx r.si (flags_of q) r.cells r.stack r.left r.told
             (words rest memory input output) q.processor (omega arith) (holds all r.kept) small (omega arith) r.way (omega arith) (tells c memory input output r.kept) (arrives (with_ax same r.is));
       }))
@@ -270,14 +274,14 @@ module _ (c : Setting) (memory : List ℤ) (input output : List ℕ) where
 
       -- what it leaves where the address of the variable is of the area or not
       Left : (n : ℕ) → Bool → {q : Watched} → At q → Processor → Type 0
-      Left n b r = Fetches r.told.output b (c.g + 1) line (Fetched c.image (to % 65536) r.top (record_of c.acts) n (unsigned (word_at memory (number_of (word_at memory n)))) area r.cells r.stack r.left r.told)
+      Left n b r = Fetches r.told.output b (c.g + 1) line (Fetched c.image.bytes (to % 65536) r.top (record_of c.acts) n (unsigned (word_at memory (number_of (word_at memory n)))) area r.cells r.stack r.left r.told)
 
       law : (n : ℕ) → n < area → unsigned a ≡ n → (b : Bool) → is_below (word_at memory n) area ≡ b → (q : Watched) (r : At q)
-          → Within (Quiet (quiet_in q.places)) c.image r.told.output 16 q.processor (Left n b r)
+          → Within (Quiet (quiet_in q.places)) c.image.bytes r.told.output 16 q.processor (Left n b r)
       law n within same b is q r =
           let low = r.low in
-          subst (λ x. Within (Quiet (quiet_in q.places)) c.image r.told.output 16 q.processor (Left n x r)) is
-          (c.rows.routines.put_variable (quiet_in q.places) c.image c.library (quiet_library r.is.ignores) area n line (record_of c.acts) r.top (level c.acts + 3) (c.g + 1) (to % 65536) r.cx l.stacked.bx r.si
+          subst (λ x. Within (Quiet (quiet_in q.places)) c.image.bytes r.told.output 16 q.processor (Left n x r)) is
+          (c.rows.routines.put_variable (quiet_in q.places) c.image.bytes c.library (quiet_library r.is.ignores) area n line (record_of c.acts) r.top (level c.acts + 3) (c.g + 1) (to % 65536) r.cx l.stacked.bx r.si
           (flags_of q) r.cells r.stack r.left r.told
           memory q.processor within (holds all r.kept) small (omega arith) r.way (omega arith) (tells c memory input output r.kept) (arrives (with_ax same r.is)))
 
@@ -287,6 +291,7 @@ module _ (c : Setting) (memory : List ℤ) (input output : List ℕ) where
           runs 1 16 18 (lit≤ tt) (reaches_at_line to put_variable_place by line a rest e there room i l) (λ q r. (
             r.told.output,
             record {
+              watches = r.is.overlooks;
               silent = r.is.silent;
               wrote = r.kept.wrote;
               U = _;
@@ -304,6 +309,7 @@ module _ (c : Setting) (memory : List ℤ) (input output : List ℕ) where
           runs 1 16 18 (lit≤ tt) (reaches_at_line to put_variable_place by line a rest e there room i l) (λ q r. (
             r.told.output,
             record {
+              watches = r.is.overlooks;
               silent = r.is.silent;
               wrote = r.kept.wrote;
               U = _;

@@ -8,7 +8,7 @@ use Rattle.cw_order.specs.OrderState.{OrderActivation, at, operand_words, argume
 use Rattle.cw_order.specs.OrderMachine.{enter_with}
 use Rattle.cw_follow.proofs.Watched.{Watched}
 use Rattle.cw_follow.proofs.States.{Given, Sound}
-use Rattle.cw_follow.proofs.Steps.{Follow, step_is, stuck_here, Alone}
+use Rattle.cw_follow.proofs.Steps.{Follow, step_is, stuck_here, Alone, FollowFrom, begun_here}
 use Rattle.cw_follow.proofs.Activities.{comes_back_false, comes_back_true, frames_home, binds_static, binds_in_frame, hands_special, calls_parameter}
 use Rattle.cw_follow.proofs.Jumping.{goes_by_parameter}
 use Rattle.cw_follow.proofs.Switching.{switches_by_parameter}
@@ -17,7 +17,7 @@ module _ (known : Given) where
   open known use {rows, p, image, all, coded, few, low}
 
   pub frame_home : {q : Watched} {g place : ℕ} (acts : List OrderActivation) {w : Words} (s : Sound p image g place false acts w q) (by_itself : Alone p image g place false acts w q s.orders.list) (n : ℕ)
-      → slice_get s.orders.list place ≡ Some (order.FrameHome n) → Follow known (at g place false acts w Running) q
+      → slice_get s.orders.list place ≡ Some (order.FrameHome n) → FollowFrom known (begun_here known s) (at g place false acts w Running) q
   frame_home [] s by_itself n e = absurd (stuck_here known s (step_is known s (Some (order.FrameHome n)) e))
   frame_home (a ∷ acts) s by_itself n e = frames_home known s by_itself n e
 
@@ -47,17 +47,17 @@ module _ (known : Given) where
       absurd (stuck_here known s (step_is known s (Some (order.Enter size)) e ∙ ap (λ x. enter_with x (nat_lt (length acts) p.limits.depth) (nat_le (a.frame_base + size) p.limits.area) size a g place false acts w) s.working.0))
 
   pub hand_on : {q : Watched} {g place : ℕ} (acts : List OrderActivation) {w : Words} (s : Sound p image g place false acts w q) (by_itself : Alone p image g place false acts w q s.orders.list) (k : ℕ)
-      → slice_get s.orders.list place ≡ Some (order.SpecialOut k) → Follow known (at g place false acts w Running) q
+      → slice_get s.orders.list place ≡ Some (order.SpecialOut k) → FollowFrom known (begun_here known s) (at g place false acts w Running) q
   hand_on [] s by_itself k e = absurd (stuck_here known s (step_is known s (Some (order.SpecialOut k)) e))
   hand_on (a ∷ acts) s by_itself k e = hands_special known s by_itself k e (argument_behind k a.arguments) refl
 
   pub call_special : {q : Watched} {g place : ℕ} (acts : List OrderActivation) {w : Words} (s : Sound p image g place false acts w q) (by_itself : Alone p image g place false acts w q s.orders.list) (k line : ℕ)
-      → slice_get s.orders.list place ≡ Some (order.CallSpecial k line) → Follow known (at g place false acts w Running) q
+      → slice_get s.orders.list place ≡ Some (order.CallSpecial k line) → FollowFrom known (begun_here known s) (at g place false acts w Running) q
   call_special [] s by_itself k line e = absurd (stuck_here known s (step_is known s (Some (order.CallSpecial k line)) e))
   call_special (a ∷ acts) s by_itself k line e = calls_parameter known s by_itself k line e (argument_behind k a.arguments) refl
 
   pub go_special : {q : Watched} {g place : ℕ} (acts : List OrderActivation) {w : Words} (s : Sound p image g place false acts w q) (by_itself : Alone p image g place false acts w q s.orders.list) (k : ℕ)
-      → slice_get s.orders.list place ≡ Some (order.GoSpecial k) → Follow known (at g place false acts w Running) q
+      → slice_get s.orders.list place ≡ Some (order.GoSpecial k) → FollowFrom known (begun_here known s) (at g place false acts w Running) q
   go_special [] s by_itself k e = absurd (stuck_here known s (step_is known s (Some (order.GoSpecial k)) e))
   go_special (a ∷ acts) s by_itself k e = goes_by_parameter known s by_itself k e (argument_behind k a.arguments) refl
 

@@ -17,7 +17,7 @@ use Rattle.cw_tmpl.specs.Templates.{template, order_size, times_if, product_star
 use Rattle.cw_tmpl.specs.ReferenceCode.{names_of}
 use Rattle.cw_tmpl.proofs.Sizes.{own_place}
 use Rattle.cw_follow.proofs.Watched.{Watched}
-use Rattle.cw_follow.proofs.Standing.{HasPieces}
+use Rattle.cw_follow.proofs.Standing.{HasPieces, HasPiecesFrom, first_of, behind_start, Image}
 use Rattle.cw_follow.proofs.States.{Given, Sound}
 use Rattle.cw_follow.proofs.Facts.{not_below}
 use Rattle.cw_follow.proofs.Orders.{Check}
@@ -29,7 +29,7 @@ use Rattle.cw_follow.proofs.Divisions.{divides_up, divides_down}
 use Rattle.cw_follow.proofs.Steps.{Follow, Alone, step_is, does, by, calls, setting, cheap, has_code, line_fits, low_room, here, next, code, behind, begins_next, above}
 
 -- A multiplication by a number, whose code hangs on whether that is 32,768: where it stands, its parts do, and where it ends.
-module _ (image : List ℕ) (value : Filling) (begin entry line n : ℕ) where
+module _ (image : Image) (value : Filling) (begin entry line n : ℕ) where
   times_check : (b : Bool) → HasPieces image value begin (times_if b entry line n)
       → Then image begin (times_code b n) (λ k. Check image k (value 7 entry 0 (test_place b begin + 2 + 3)) line)
   times_check true h = h
@@ -55,11 +55,11 @@ module _ (known : Given) where
       pub stands : HasPieces image words_of (here known s a) (F b)
       pub ends : here known s a + length (blanks (F b)) ≡ next known s a
 
-    tested : (o : Order) (F : Bool → List Coded) (t b : Bool) → slice_get s.orders.list place ≡ Some o → template (names_of s.orders) (own_place s.orders.list place) o ≡ F t
+    tested : (o : Order) (F : Bool → List Coded) (t b : Bool) → first_of o (behind_start s.orders.list place) ≡ false → slice_get s.orders.list place ≡ Some o → template (names_of s.orders) (own_place s.orders.list place) o ≡ F t
         → order_size o ≡ length (blanks (F t)) → t ≡ b → Tested F b
-    tested o F t b e same long is =
+    tested o F t b plain e same long is =
         let after_it = behind known s a o e in
-        let code_t : HasPieces image words_of (here known s a) (F t) = subst (HasPieces image words_of (here known s a)) same (code known s a o e) in
+        let code_t : HasPieces image words_of (here known s a) (F t) = subst (HasPieces image words_of (here known s a)) same (subst (λ f. HasPiecesFrom f image words_of (here known s a) (template (names_of s.orders) (own_place s.orders.list place) o)) plain (code known s a o e)) in
         let end_t : here known s a + length (blanks (F t)) ≡ next known s a = omega arith in
         subst (Tested F) is (record { stands = code_t; ends = end_t })
 
@@ -72,14 +72,14 @@ module _ (known : Given) where
         let n = 2 ^ (to - from) in
         let b = n == 32768 in
         let c = test_place b (here known s a) + 2 + 3 in
-        let t = tested o (λ t. rescale_if t b line from to) (nat_le from to) true e refl refl is in
+        let t = tested o (λ t. rescale_if t b line from to) (nat_le from to) true refl e refl refl is in
         does known s true line (perform p.limits.area (Rescale from to) w) 17 (begins_next known s a o e) (step_is known s (Some o) e) (cheap known s o 17 (lit≤ tt) e)
         (rescales_up (setting known s) w.memory w.input w.output b (next known s a) (by known s overflow_entry c) line from to w.operands (line_fits known s o e) (leb-true from to is) (has_code known s o e).1 refl
         (times_ends (here known s a) overflow_entry line n (next known s a) b t.ends) (calls known s overflow_entry c (lit< tt)) (low_room known s) s.fits.operands
         (times_check image words_of (here known s a) overflow_entry line n b t.stands) a.landed)
     rescaling from to line e false is =
         let o = order.Rescale from to line in
-        let t = tested o (λ t. rescale_if t (2 ^ (to - from) == 32768) line from to) (nat_le from to) false e refl refl is in
+        let t = tested o (λ t. rescale_if t (2 ^ (to - from) == 32768) line from to) (nat_le from to) false refl e refl refl is in
         does known s true line (perform p.limits.area (Rescale from to) w) 2 (begins_next known s a o e) (step_is known s (Some o) e) (cheap known s o 2 (lit≤ tt) e)
         (rescales_down (setting known s) w.memory w.input w.output (next known s a) line from to w.operands (above from to is) (has_code known s o e).0 t.ends (low_room known s) s.fits.operands t.stands a.landed)
 
@@ -105,7 +105,7 @@ module _ (known : Given) where
     multiplying_down : (n line : ℕ) → slice_get s.orders.list place ≡ Some (order.Mul (negsuc n) line) → (b : Bool) → nat_lt n 15 ≡ b → Follow known (at g place true acts w Running) q
     multiplying_down n line e true is =
         let o = order.Mul (negsuc n) line in
-        let t = tested o (λ t. product_down line t n) (nat_lt n 15) true e refl refl is in
+        let t = tested o (λ t. product_down line t n) (nat_lt n 15) true refl e refl refl is in
         let c = here known s a + 1 + 3 + 3 in
         let d = c + 2 + 3 in
         does known s true line (perform p.limits.area (Multiply (negsuc n)) w) 32 (begins_next known s a o e) (step_is known s (Some o) e) (cheap known s o 32 (lit≤ tt) e)
@@ -113,7 +113,7 @@ module _ (known : Given) where
         (calls known s product_entry c (lit< tt)) (calls known s overflow_entry d (lit< tt)) (low_room known s) s.fits.operands t.stands a.landed)
     multiplying_down n line e false is =
         let o = order.Mul (negsuc n) line in
-        let t = tested o (λ t. product_down line t n) (nat_lt n 15) false e refl refl is in
+        let t = tested o (λ t. product_down line t n) (nat_lt n 15) false refl e refl refl is in
         does known s true line (perform p.limits.area (Multiply (negsuc n)) w) 5 (begins_next known s a o e) (step_is known s (Some o) e) (cheap known s o 5 (lit≤ tt) e)
         (products_far_down (setting known s) w.memory w.input w.output (next known s a) line n w.operands t.ends (not_below n 15 is) (has_code known s o e) (low_room known s) s.fits.operands t.stands a.landed)
 

@@ -7,7 +7,6 @@ use Rattle.std.specs.Prelude.{slice_get, bit_and, bit_or, bit_xor}
 use Rattle.std.specs.Int.Bits.{xor_self}
 use Rattle.cw_i86.specs.declared.instr.Instr.TheVariants as i86
 use Rattle.cw_i86.specs.declared.instr.Imm.TheVariants as imm
-use Rattle.cw_run86.specs.Views.{Has}
 use Rattle.cw_word.specs.BitField.{unsigned_field}
 use Rattle.cw_word.specs.Word.{signed, unsigned, word_difference}
 use Rattle.cw_unit.specs.declared.unit.LogicOp.TheVariants as logic
@@ -27,13 +26,14 @@ use Rattle.cw_follow.proofs.Watched.{Watched}
 use Rattle.cw_follow.proofs.Chains.{seen, number, done}
 use Rattle.cw_follow.proofs.Orders.{Landed, Tells, landed, further, puts, saves, adds, subtracts, negates, loads, stores, writes}
 use Rattle.cw_follow.proofs.States.{Given, Sound, went_on, never_on, not_stuck}
-use Rattle.cw_follow.proofs.Straight.{Both, Either, One, straight}
+use Rattle.cw_follow.proofs.Straight.{Both, Either, One, straight, straight_from}
 use Rattle.cw_follow.proofs.Operands.{words}
 use Rattle.cw_follow.proofs.Bits.{part, drops, combines, differs, ands, ors, xors, lesses, takes, takes_all, loads_part, stores_part}
 use Rattle.cw_follow.proofs.Shifts.{part_steps, without_steps}
 use Rattle.cw_follow.proofs.Addresses.{indexes_less, in_areas, BoundsCode, bounds_kept, bounds_from_zero}
 use Rattle.cw_follow.proofs.Inputs.{reads}
-use Rattle.cw_follow.proofs.Steps.{Follow, Alone, leads_to, onward, few_segments, order_is, step_is, sound_at, does, tells, by, calls, setting, cheap, has_code, line_fits, low_room, here, next, code, behind, begins_next, silent}
+use Rattle.cw_follow.proofs.Steps.{Follow, Alone, leads_to, onward, few_segments, order_is, step_is, sound_at, does, tells, by, calls, setting, cheap, has_code, line_fits, low_room, here, next, code, behind, begins_next, silent, FollowFrom, begins_here, begun_here, landed_here}
+use Rattle.cw_follow.proofs.Standing.{Has, HasAt}
 
 module _ (known : Given) where
   open known use {rows, p, image, all, coded, few, low}
@@ -43,22 +43,22 @@ module _ (known : Given) where
   module _ {q : Watched} {g place : ℕ} {acts : List OrderActivation} {w : Words} (s : Sound p image g place false acts w q) (a : Alone p image g place false acts w q s.orders.list) where
     -- a word that one instruction puts
     put_is : (o : Order) (x : ℕ) (z : ℤ) → slice_get s.orders.list place ≡ Some o → carry_out p (Some o) g place false acts w ≡ after p.room 0 (Changed (put z w)) g place true acts w → 1 ≤ weight_of o
-        → x ≡ unsigned z → here known s a + 3 ≡ next known s a → Has image (here known s a) (i86.MovImm 0 (imm.Word x)) → Follow known (at g place false acts w Running) q
+        → x ≡ unsigned z → here known s a + 3 ≡ next known s a → HasAt (begins_here known s) image (here known s a) (i86.MovImm 0 (imm.Word x)) → FollowFrom known (begun_here known s) (at g place false acts w Running) q
     put_is o x z e goes_so cheap_enough value there i =
         does known s true 0 (Changed (put z w)) 1 (begins_next known s a o e) (step_is known s (Some o) e ∙ goes_so) (cheap known s o 1 cheap_enough e)
-        (puts rows p image g acts (next known s a) x z w value a.landed (λ q ax cx dx bx sp si di overflow stack t. seen there refl (number rows 0 x i t)))
+        (puts rows p image g acts (next known s a) x z w value (landed_here known s a) (λ q ax cx dx bx sp si di overflow stack t. seen there refl (number rows 0 x i t)))
 
-    zero_follows : slice_get s.orders.list place ≡ Some (order.Const 0) → Follow known (at g place false acts w Running) q
+    zero_follows : slice_get s.orders.list place ≡ Some (order.Const 0) → FollowFrom known (begun_here known s) (at g place false acts w Running) q
     zero_follows e =
         let o = order.Const 0 in
-        let l = a.landed in
+        let l = landed_here known s a in
         let t = l.stacked in
         does known s true 0 (Changed (put (signed 0) w)) 1 (begins_next known s a o e) (step_is known s (Some o) e) (cheap known s o 1 (lit≤ tt) e)
         (further 1 (lit≤ tt) (lit< tt)
-        (straight rows (One 0 0 ∷ []) {n = 0} l.kept.wrote (code known s a o e) (tt, tt) t.is (λ q u.
+        (straight_from rows (One 0 0) [] {n = 0} l.kept.wrote (code known s a o e) (tt, tt) t.is (λ q u.
         done (landed rows p image g acts true (next known s a) l.top (Word (signed 0) ∷ w.operands) w.memory w.input w.output (behind known s a o e) (xor_self t.ax, l.operands) l.kept u))))
 
-    pub const_follows : (n : ℕ) → slice_get s.orders.list place ≡ Some (order.Const n) → Follow known (at g place false acts w Running) q
+    pub const_follows : (n : ℕ) → slice_get s.orders.list place ≡ Some (order.Const n) → FollowFrom known (begun_here known s) (at g place false acts w Running) q
     const_follows zero e = zero_follows e
     const_follows (suc k) e =
         let n = suc k in
@@ -66,7 +66,7 @@ module _ (known : Given) where
         let small : n < 65536 = coded.constants g place n (order_is known s (Some o) e) in
         put_is o n (signed n) e refl (lit≤ tt) (sym (rows.words.forth n small)) (behind known s a o e) (code known s a o e).0
 
-    pub home_follows : (family offset : ℕ) → slice_get s.orders.list place ≡ Some (order.Home family offset) → Follow known (at g place false acts w Running) q
+    pub home_follows : (family offset : ℕ) → slice_get s.orders.list place ≡ Some (order.Home family offset) → FollowFrom known (begun_here known s) (at g place false acts w Running) q
     home_follows family offset e =
         let o = order.Home family offset in
         let st = all.stands g s.orders s.unit in
@@ -75,13 +75,13 @@ module _ (known : Given) where
         put_is o (st.value 1 family offset (here known s a + 3)) (signed word) e refl (lit≤ tt) (st.fills.homes family offset (here known s a + 3) ∙ sym (rows.words.forth word small))
         (behind known s a o e) (code known s a o e).0
 
-    pub read_follows : slice_get s.orders.list place ≡ Some order.ReadByte → Follow known (at g place false acts w Running) q
+    pub read_follows : slice_get s.orders.list place ≡ Some order.ReadByte → FollowFrom known (begun_here known s) (at g place false acts w Running) q
     read_follows e =
         let o = order.ReadByte in
         let c = here known s a + 3 in
         does known s true 0 (unrefused (perform p.limits.area ReadByte w)) 7 (begins_next known s a o e) (step_is known s (Some o) e) (cheap known s o 7 (lit≤ tt) e)
         (reads (setting known s) w.memory w.output (next known s a) (by known s read_entry c) w.operands w.input (behind known s a o e) (calls known s read_entry c (lit< tt)) (low_room known s)
-        (code known s a o e).0 s.fits.input a.landed)
+        (code known s a o e).0 s.fits.input (landed_here known s a))
 
     pub write_follows : slice_get s.orders.list place ≡ Some order.WriteByte → Follow known (at g place false acts w Running) q
     write_follows e =
@@ -122,7 +122,7 @@ module _ (known : Given) where
             let v = with_operands w rest in
             let on = went_on p g place true false 0 acts w v (goes (Word z ∷ rest) is) s.never in
             let whole : w ≡ words (Word z ∷ rest) w.memory w.input w.output = ap (λ xs. words xs w.memory w.input w.output) is in
-            silent known s a order.Drop false v e on.goes on.room refl (λ at l. drops (setting known s) w.memory w.input w.output z rest at (subst (λ x. Landed p image at g true acts x q) whole l))
+            silent known s a order.Drop false v e on.goes on.room refl refl (λ at l. drops (setting known s) w.memory w.input w.output z rest at (subst (λ x. Landed p image at g true acts x q) whole l))
 
     pub add_follows : (line : ℕ) → slice_get s.orders.list place ≡ Some (order.Add line) → Follow known (at g place true acts w Running) q
     add_follows line e =
@@ -196,7 +196,7 @@ module _ (known : Given) where
             let on = went_on p g place true true 0 acts w v (goes (Word z ∷ rest) is) s.never in
             let whole : w ≡ words (Word z ∷ rest) w.memory w.input w.output = ap (λ xs. words xs w.memory w.input w.output) is in
             let fz = All-head OperandFits (Word z) rest (subst (All OperandFits) is s.fits.operands) in
-            silent known s a (order.Take 16 0) true v e on.goes on.room refl (λ at l. takes_all (setting known s) w.memory w.input w.output at z rest fz (subst (λ x. Landed p image at g true acts x q) whole l))
+            silent known s a (order.Take 16 0) true v e on.goes on.room refl refl (λ at l. takes_all (setting known s) w.memory w.input w.output at z rest fz (subst (λ x. Landed p image at g true acts x q) whole l))
 
     pub take_follows : (t b : ℕ) → slice_get s.orders.list place ≡ Some (order.Take t b) → Follow known (at g place true acts w Running) q
     take_follows t b e = elim (cases_lt 0 (part_steps t b false)) [

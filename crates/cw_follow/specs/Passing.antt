@@ -1,16 +1,16 @@
 -- The statements that the processor begins in the image of a program of orders.
-use Rattle.std.specs.Prelude.{◌≡◌, ℕ, zero, ◌+◌, ◌<◌, ℤ, Bool, true, false, List, [], ◌∷◌, ◌++◌, length, map, Some, slice_get, slice_index}
-use Rattle.cw_i86.specs.declared.instr.Instr.{Instr}
-use Rattle.cw_i86.specs.declared.instr.Instr.TheVariants as i86
+use Rattle.std.specs.Prelude.{◌≡◌, ◌⊎◌, ℕ, suc, ◌+◌, ◌<◌, ◌≤◌, ℤ, List, [], ◌∷◌, ◌++◌, length, drop, map, Some, slice_get, slice_index}
 use Rattle.cw_i86.specs.MachineRun.{End, Running}
 use Rattle.cw_image.specs.Begun.{StatementPlace, lines_at, beginning}
 use Rattle.cw_run86.specs.Processor.{Processor}
-use Rattle.cw_run86.specs.Views.{Has}
+use Rattle.cw_order.specs.declared.order.Order.{Order}
 use Rattle.cw_order.specs.declared.order.Order.TheVariants as order
 use Rattle.cw_order.specs.declared.order.Orders.{Orders}
 use Rattle.cw_order.specs.OrderProgram.{OrderProgram}
 use Rattle.cw_tmpl.specs.Library.{library_bytes}
-use Rattle.cw_tmpl.specs.ReferenceCode.{order_places, orders_code}
+use Rattle.cw_tmpl.specs.Blocks.{block_at, left_at}
+use Rattle.cw_tmpl.specs.Templates.{block_size}
+use Rattle.cw_tmpl.specs.ReferenceCode.{entry_size, order_places, landings_place, orders_code}
 use Rattle.cw_follow.specs.Placing.{base_of}
 
 -- at a processor that has halted, nothing begins
@@ -34,17 +34,19 @@ module _ (p : OrderProgram) where
   abbrev pub statement_places : List StatementPlace
   statement_places = places_from 0 p.units
 
--- The instruction does nothing, as that of a Start, and as no other of the code.
-abbrev pub does_nothing : Instr → Bool
-does_nothing (i86.XchgAx zero) = true
-does_nothing _ = false
+-- the order before a place of a list is no Start
+abbrev pub NotBehindStart : List Order → (place : ℕ) → Type 0
+NotBehindStart list place = (j line : ℕ) → place ≡ suc j → slice_get list j ≡ Some (order.Start line) → ⊥
 
--- at no place of the library does a statement begin, and at no place of the code where an instruction stands that does something
-pub record Ignores (image : List ℕ) (places : List StatementPlace) : Type 0 where
-  pub library : (place : ℕ) → place < length library_bytes → lines_at places place ≡ []
-  pub others : (place : ℕ) (i : Instr) → Has image place i → does_nothing i ≡ false → lines_at places place ≡ []
+-- the bytes of the code that begins with the order at a place of a list
+abbrev pub size_at : List Order → (place : ℕ) → Order → ℕ
+size_at list k o = block_size (block_at (left_at 0 list k) (drop k list)) o
 
--- The list of places is one of the image. At the code of a Start its statement begins, and none at another instruction.
+-- The list of places is one of the image. A Start has no code, and its statement begins where the code of the next order does; none begins
+-- at the code of another order, strictly inside the code of a block, outside the code of the orders of a segment, and in the library.
 pub record PlacesStand (p : OrderProgram) (image : List ℕ) (places : List StatementPlace) : Type 0 where
-  pub starts : (g k line : ℕ) (o : Orders) → slice_get p.units g ≡ Some o → slice_get o.list k ≡ Some (order.Start line) → lines_at places (base_of p g + slice_index (order_places o.list) k) ≡ (g + 1, line) ∷ []
-  pub ignores : Ignores image places
+  pub starts : (g k line : ℕ) (o : Orders) → slice_get p.units g ≡ Some o → slice_get o.list k ≡ Some (order.Start line) → lines_at places (base_of p g + slice_index (order_places o.list) (suc k)) ≡ (g + 1, line) ∷ []
+  pub others : (g k : ℕ) (o : Orders) (a : Order) → slice_get p.units g ≡ Some o → slice_get o.list k ≡ Some a → 0 < size_at o.list k a → NotBehindStart o.list k → lines_at places (base_of p g + slice_index (order_places o.list) k) ≡ []
+  pub inside : (g k n : ℕ) (o : Orders) (a : Order) → slice_get p.units g ≡ Some o → slice_get o.list k ≡ Some a → 0 < n → n < size_at o.list k a → lines_at places (base_of p g + slice_index (order_places o.list) k + n) ≡ []
+  pub around : (g at : ℕ) (o : Orders) → slice_get p.units g ≡ Some o → base_of p g ≤ at → at < base_of p (suc g) → (at < base_of p g + entry_size) ⊎ (base_of p g + landings_place o ≤ at) → lines_at places at ≡ []
+  pub library : (place : ℕ) → place < length library_bytes → lines_at places place ≡ []

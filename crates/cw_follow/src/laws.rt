@@ -14,7 +14,6 @@ ghost use Rattle.cw_follow.specs.Showing.{shown_as};
 ghost use Rattle.cw_follow.specs.Passing.{passes, statement_places, PlacesStand};
 ghost use Rattle.cw_follow.specs.Placing.{IsImage, Codable, BeginsWith, NeverStuck, startup_cost};
 
-use cw_dec86::no_instruction_begins_another;
 use cw_order::laws::{activations, words};
 use cw_routines::laws::{
     bodies, calls, loops, numbers as products_and_quotients, pieces, standing,
@@ -78,6 +77,5 @@ pub fn code_follows_orders()
 pub fn places_stand()
     ensures { (p : OrderProgram) (image : List ℕ) → IsImage p image → Codable p → PlacesStand p image (statement_places p) }
 {
-    no_instruction_begins_another();
     standing();
 }

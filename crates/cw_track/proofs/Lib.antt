@@ -4,3 +4,4 @@ pub mod Composition
 pub mod Budgets
 pub mod Clocks
 pub mod Watching
+pub mod Owing

@@ -61,10 +61,27 @@ module _ {O : Type 0} (A : Machine O) where
         (let l : A.weight s + cost A (suc m) u ≤ A.weight s + cost A (suc a.0) (A.step s) = omega (arith, a.3, ap (cost A (suc a.0)) e) in l),
       )
 
+-- the same where the rank is one of the states that match, and need not be one of A's state alone
+pub record LeaptRanked {O : Type 0} (A B : Machine O) (Matches : ℕ → A.State → B.State → Type 0) (rank : ℕ) (s : A.State) (t : B.State) : Type 0 where
+  pub to : A.State
+  pub way : Way A s to
+  pub spent : ℕ
+  pub reached : B.State
+  pub rank_behind : ℕ
+  pub path : Path (Quiet (A.shown s) (A.shown to)) B spent t reached
+  pub within : spent ≤ A.weight s
+  pub matched : Matches rank_behind to reached
+  pub progress : (0 < spent) ⊎ (rank_behind < rank)
+
+pub record RankedSimulation {O : Type 0} (is_running : O → Bool) (A B : Machine O) (Matches : ℕ → A.State → B.State → Type 0) : Type 0 where
+  pub agrees : (rank : ℕ) (s : A.State) (t : B.State) → Matches rank s t → B.shown t ≡ A.shown s
+  pub rests : (rank : ℕ) (s : A.State) (t : B.State) → Matches rank s t → is_running (A.shown s) ≡ false → (A.step s ≡ s) × (B.step t ≡ t)
+  pub follows : (rank : ℕ) (s : A.State) (t : B.State) → Matches rank s t → is_running (A.shown s) ≡ true → LeaptRanked A B Matches rank s t
+
 -- A moment of B in the middle of a path has as its moment of A the one before the way under way, or the one after it. For
 -- the moments of B the induction is on the moment first (a path that costs something has at least one step), and then, at
 -- the same moment, on the rank
-module _ {O : Type 0} (is_running : O → Bool) (A B : Machine O) (Matches : A.State → B.State → Type 0) (rank : A.State → ℕ) (simulation : Leaping is_running A B Matches rank) where
+module _ {O : Type 0} (is_running : O → Bool) (A B : Machine O) (Matches : ℕ → A.State → B.State → Type 0) (simulation : RankedSimulation is_running A B Matches) where
   le_cases : (a b : ℕ) → a ≤ b → (a < b) ⊎ (a ≡ b)
   le_cases a b le = ⊎_elim (λ (lt : a < b). inl lt) (λ (ge : b ≤ a). inr (omega arith)) (cases_lt a b)
 
@@ -103,26 +120,26 @@ module _ {O : Type 0} (is_running : O → Bool) (A B : Machine O) (Matches : A.S
       let a = all_behind w m r u t v way (e ∙ sym same) shown_there (λ m' lt. behind m' (omega arith)) in
       (a.0, a.1 ∙ ap (shown_after A m) (sym st), (let l : cost B a.0 t ≤ 0 + (A.weight s + cost A m (A.step s)) = omega (arith, a.2, fits, ap (cost A m) st) in l))
 
-  all_step : (m : ℕ) → ((m' : ℕ) → m' < m → (s : A.State) (t : B.State) → Matches s t → AllAt 0 m' s t) → (s : A.State) (t : B.State) → Matches s t → AllAt 0 m s t
+  all_step : (m : ℕ) → ((m' : ℕ) → m' < m → (n : ℕ) (s : A.State) (t : B.State) → Matches n s t → AllAt 0 m' s t) → (n : ℕ) (s : A.State) (t : B.State) → Matches n s t → AllAt 0 m s t
   unfolding AllAt
-  all_step m before s t r =
+  all_step m before n s t r =
       ⊎_elim
       (λ (on : is_running (A.shown s) ≡ true).
-      let f = simulation.follows s t r on in
-      all_along f.spent m s f.to t f.reached f.within f.way (simulation.agrees s t r) f.path (λ m' lt. before m' lt f.to f.reached f.matched))
+      let f = simulation.follows n s t r on in
+      all_along f.spent m s f.to t f.reached f.within f.way (simulation.agrees n s t r) f.path (λ m' lt. before m' lt f.rank_behind f.to f.reached f.matched))
       (λ (off : is_running (A.shown s) ≡ false). resting m off)
       (cases_Bool (is_running (A.shown s)))
     where
       resting : (m : ℕ) → is_running (A.shown s) ≡ false → (k : ℕ) × (shown_after B k t ≡ shown_after A m s) × (cost B k t ≤ 0 + cost A m s)
-      resting zero off = (0, simulation.agrees s t r, (let l : 0 ≤ 0 + 0 = omega arith in l))
+      resting zero off = (0, simulation.agrees n s t r, (let l : 0 ≤ 0 + 0 = omega arith in l))
       resting (suc m) off =
-          let e = (simulation.rests s t r off).0 in
+          let e = (simulation.rests n s t r off).0 in
           let a = resting m off in
           (a.0, a.1 ∙ ap (shown_after A m) (sym e), (let l : cost B a.0 t ≤ 0 + (A.weight s + cost A m (A.step s)) = omega (arith, a.2, ap (cost A m) e) in l))
 
-  all_below : (n m : ℕ) → m < n → (s : A.State) (t : B.State) → Matches s t → AllAt 0 m s t
-  all_below zero m lt s t r = absurd (omega arith)
-  all_below (suc n) m lt s t r = all_step m (λ m' lt'. all_below n m' (omega arith)) s t r
+  all_below : (j m : ℕ) → m < j → (n : ℕ) (s : A.State) (t : B.State) → Matches n s t → AllAt 0 m s t
+  all_below zero m lt n s t r = absurd (omega arith)
+  all_below (suc j) m lt n s t r = all_step m (λ m' lt'. all_below j m' (omega arith)) n s t r
 
   -- the moment k of B from t, where the first step of A from s has already paid so much for B's steps before t
   OnlyAt : (before k : ℕ) → A.State → B.State → Type 0
@@ -161,42 +178,71 @@ module _ {O : Type 0} (is_running : O → Bool) (A B : Machine O) (Matches : A.S
       )
 
   -- one moment, from the moments before it and from a lower rank at the same moment
-  only_step : (k : ℕ) → ((k' : ℕ) → k' < k → (s : A.State) (t : B.State) → Matches s t → OnlyAt 0 k' s t) → (s : A.State) (t : B.State) → Matches s t → ((r : A.State) (u : B.State) → Matches r u → rank r < rank s → OnlyAt 0 k r u) → OnlyAt 0 k s t
+  only_step : (k : ℕ) → ((k' : ℕ) → k' < k → (n : ℕ) (s : A.State) (t : B.State) → Matches n s t → OnlyAt 0 k' s t) → (n : ℕ) (s : A.State) (t : B.State) → Matches n s t → ((n' : ℕ) (r : A.State) (u : B.State) → Matches n' r u → n' < n → OnlyAt 0 k r u) → OnlyAt 0 k s t
   unfolding OnlyAt
-  only_step k before s t r lower =
+  only_step k before n s t r lower =
       ⊎_elim
       (λ (on : is_running (A.shown s) ≡ true).
-      let f = simulation.follows s t r on in
+      let f = simulation.follows n s t r on in
       let fits : 0 + f.spent ≤ A.weight s = omega (arith, f.within) in
       let later : (k' : ℕ) → k' ≤ k → (0 < f.spent → k' < k) → OnlyAt 0 k' f.to f.reached = λ k' le lt.
       ⊎_elim
-      (λ (less : k' < k). before k' less f.to f.reached f.matched)
-      (λ (same : k' ≡ k). subst (λ n. OnlyAt 0 n f.to f.reached) (sym same) (lower f.to f.reached f.matched
-      (⊎_elim (λ (p : 0 < f.spent). absurd (let x : k' < k = lt p in omega arith)) (λ (q : rank f.to < rank s). q) f.progress)))
+      (λ (less : k' < k). before k' less f.rank_behind f.to f.reached f.matched)
+      (λ (same : k' ≡ k). subst (λ j. OnlyAt 0 j f.to f.reached) (sym same) (lower f.rank_behind f.to f.reached f.matched
+      (⊎_elim (λ (p : 0 < f.spent). absurd (let x : k' < k = lt p in omega arith)) (λ (q : f.rank_behind < n). q) f.progress)))
       (le_cases k' k le) in
       only_along s f.to f.spent 0 t f.reached f.way f.path fits k later)
       (λ (off : is_running (A.shown s) ≡ false).
-      let e = still t (simulation.rests s t r off).1 k ∙ simulation.agrees s t r in
+      let e = still t (simulation.rests n s t r off).1 k ∙ simulation.agrees n s t r in
       (0, e, inr (ap is_running e ∙ off)))
       (cases_Bool (is_running (A.shown s)))
 
-  only_at : (k : ℕ) → ((k' : ℕ) → k' < k → (s : A.State) (t : B.State) → Matches s t → OnlyAt 0 k' s t) → (bound : ℕ) (s : A.State) (t : B.State) → Matches s t → rank s ≤ bound → OnlyAt 0 k s t
-  only_at k before zero s t r le = only_step k before s t r (λ x u r' lt. absurd (omega arith))
-  only_at k before (suc bound) s t r le = only_step k before s t r (λ x u r' lt. only_at k before bound x u r' (omega arith))
+  only_at : (k : ℕ) → ((k' : ℕ) → k' < k → (n : ℕ) (s : A.State) (t : B.State) → Matches n s t → OnlyAt 0 k' s t) → (bound n : ℕ) (s : A.State) (t : B.State) → Matches n s t → n ≤ bound → OnlyAt 0 k s t
+  only_at k before zero n s t r le = only_step k before n s t r (λ n' x u r' lt. absurd (omega arith))
+  only_at k before (suc bound) n s t r le = only_step k before n s t r (λ n' x u r' lt. only_at k before bound n' x u r' (omega arith))
 
-  only_below : (n k : ℕ) → k < n → (s : A.State) (t : B.State) → Matches s t → OnlyAt 0 k s t
-  only_below zero k lt s t r = absurd (omega arith)
-  only_below (suc n) k lt s t r = only_at k (λ k' lt'. only_below n k' (omega arith)) (rank s) s t r (omega arith)
+  only_below : (j k : ℕ) → k < j → (n : ℕ) (s : A.State) (t : B.State) → Matches n s t → OnlyAt 0 k s t
+  only_below zero k lt n s t r = absurd (omega arith)
+  only_below (suc j) k lt n s t r = only_at k (λ k' lt'. only_below j k' (omega arith)) n n s t r (omega arith)
+
+  -- from states that match, B tracks A
+  pub tracks_ranked : (n : ℕ) (s : A.State) (t : B.State) → Matches n s t → Tracks is_running A s B t
+  unfolding OnlyAt AllAt
+  tracks_ranked n s t r = record {
+    shows_only = λ k.
+        let a = only_below (suc k) k (omega arith) n s t r in
+        (a.0, a.1, ⊎_elim (λ (l : 0 + cost B (suc k) t ≤ cost A (suc a.0) s). inl (let l' : cost B (suc k) t ≤ 0 + cost A (suc a.0) s = omega arith in l')) (λ (off : is_running (shown_after B k t) ≡ false). inr off) a.2);
+    shows_all = λ m. all_below (suc m) m (omega arith) n s t r;
+  }
+
+-- also where the rank is one of A's state
+module _ {O : Type 0} (is_running : O → Bool) (A B : Machine O) (Matches : A.State → B.State → Type 0) (rank : A.State → ℕ) (simulation : Leaping is_running A B Matches rank) where
+  abbrev MatchesRanked : ℕ → A.State → B.State → Type 0
+  MatchesRanked n s t = Matches s t × (n ≡ rank s)
+
+  ranked : RankedSimulation is_running A B MatchesRanked
+  ranked = record {
+    agrees = λ n s t r. simulation.agrees s t r.0;
+    rests = λ n s t r off. simulation.rests s t r.0 off;
+    follows = λ n s t r on.
+        let f = simulation.follows s t r.0 on in
+        let same : rank s ≡ n = sym r.1 in
+        record {
+          to = f.to;
+          way = f.way;
+          spent = f.spent;
+          reached = f.reached;
+          rank_behind = rank f.to;
+          path = f.path;
+          within = f.within;
+          matched = (f.matched, refl);
+          progress = ⊎_elim (λ (p : 0 < f.spent). inl p) (λ (q : rank f.to < rank s). inr (subst (λ m. rank f.to < m) same q)) f.progress;
+        };
+  }
 
   -- from states that match, B tracks A
   pub tracks_leaping : (s : A.State) (t : B.State) → Matches s t → Tracks is_running A s B t
-  unfolding OnlyAt AllAt
-  tracks_leaping s t r = record {
-    shows_only = λ k.
-        let a = only_below (suc k) k (omega arith) s t r in
-        (a.0, a.1, ⊎_elim (λ (l : 0 + cost B (suc k) t ≤ cost A (suc a.0) s). inl (let l' : cost B (suc k) t ≤ 0 + cost A (suc a.0) s = omega arith in l')) (λ (off : is_running (shown_after B k t) ≡ false). inr off) a.2);
-    shows_all = λ m. all_below (suc m) m (omega arith) s t r;
-  }
+  tracks_leaping s t r = tracks_ranked is_running A B MatchesRanked ranked (rank s) s t (r, refl)
 
 -- also where B follows each single step
 module _ {O : Type 0} (is_running : O → Bool) (A B : Machine O) (Matches : A.State → B.State → Type 0) (rank : A.State → ℕ) where
