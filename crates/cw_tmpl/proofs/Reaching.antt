@@ -1,14 +1,15 @@
 -- A short jump reaches its mark.
-use Rattle.std.proofs.Common.{◌≡◌, ℕ, zero, suc, ◌+◌, ◌<◌, ◌≤◌, Bool, true, false, List, [], ◌∷◌, length, drop, get_or, Some, refl, sym, ap, ◌∙◌, arith}
+use Rattle.std.proofs.Common.{◌≡◌, ℕ, zero, suc, ◌+◌, ◌%◌, ◌<◌, ◌≤◌, Bool, true, false, List, [], ◌∷◌, length, drop, get_or, Some, refl, sym, ap, ◌∙◌, arith}
 use Rattle.std.specs.Prelude.{slice_get, slice_index, nat_le, nat_lt, ◌&&◌, if◌then◌else◌}
 use Rattle.std.proofs.lemmas.Bool.{and_from, leb-true, leb-false, le-leb, ltb-true, ltb-false}
 use Rattle.cw_i86.specs.State.{sign_extended}
 use Rattle.cw_order.specs.declared.order.Order.{Order}
 use Rattle.cw_order.specs.declared.order.Orders.{Orders}
+use Rattle.cw_tmpl.specs.declared.blocks.Block.{Block}
 use Rattle.cw_tmpl.specs.Blocks.{block_at, orders_left, left_at}
-use Rattle.cw_tmpl.specs.Templates.{Forms, all_near, distance, short_distance, is_close, reaches, is_short, jump_of}
+use Rattle.cw_tmpl.specs.Templates.{Forms, all_near, block_size, distance, short_distance, is_close, reaches, is_short, jump_of}
 use Rattle.cw_tmpl.specs.ReferenceCode.{places_from, places_by, longest_places, entry_size, reach_of, order_places, mark_starts}
-use Rattle.cw_tmpl.proofs.Sizes.{size_to, size_by, shorter_by, places_are}
+use Rattle.cw_tmpl.proofs.Sizes.{size_to, size_by, size_next, shorter_by, places_are, own_place, jump_arrives}
 
 -- ---- places that are close
 
@@ -119,3 +120,22 @@ close o k m x listed jumps short =
     let chosen : reaches (reach_of o) k (Some m) ≡ true = ap (reaches (reach_of o) k) (sym jumps) ∙ short in
     let far = close_is (slice_index (longest_places o.list) (k + 1)) (slice_index (longest_places o.list) (slice_index o.marks m)) chosen in
     is_close_where (slice_index (order_places o) (k + 1)) (mark_starts o m) (stays (is_short (reach_of o)) o.list (k + 1) (slice_index o.marks m) (next_within o.list k x listed) far)
+
+-- from where the block that begins with an order of the list stands: its end is that of its jump
+pub closes : (o : Orders) (k m : ℕ) (b : Block) (x : Order) → slice_get o.list k ≡ Some x → block_at (left_at 0 o.list k) (drop k o.list) ≡ b → jump_of b x ≡ Some m → is_short (reach_of o) k b x ≡ true
+    → is_close (own_place o k + block_size true b x) (mark_starts o m) ≡ true
+closes o k m b x listed same jumps short =
+    let c = block_at (left_at 0 o.list k) (drop k o.list) in
+    let forms = is_short (reach_of o) in
+    let here : jump_of c x ≡ Some m = ap (λ y. jump_of y x) same ∙ jumps in
+    let chosen : is_short (reach_of o) k c x ≡ true = ap (λ y. is_short (reach_of o) k y x) same ∙ short in
+    let next : k + 1 ≡ suc k = omega arith in
+    let sized : size_by forms k c x ≡ block_size true b x = ap (λ y. size_by forms k y x) same ∙ ap (λ t. block_size t b x) short in
+    let size = size_next forms 0 0 o.list k k x (omega arith) listed in
+    let behind : size_to forms 0 0 o.list (k + 1) ≡ size_to forms 0 0 o.list (suc k) = ap (size_to forms 0 0 o.list) next in
+    let end : slice_index (order_places o) (k + 1) ≡ own_place o k + block_size true b x = omega (arith, places_are forms entry_size 0 0 o.list (k + 1) (next_within o.list k x listed), behind, size, sized) in
+    ap (λ n. is_close n (mark_starts o m)) (sym end) ∙ close o k m x listed here chosen
+
+-- a short jump by the distance to a place
+pub short_arrives : (base own n to : ℕ) → is_close (own + n) to ≡ true → (base + own + n + sign_extended (short_distance (own + n) to)) % 65536 ≡ (base + to) % 65536
+short_arrives base own n to c = ap (λ d. (base + own + n + d) % 65536) (as_far (own + n) to c) ∙ jump_arrives base own n to
