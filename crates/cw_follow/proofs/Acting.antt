@@ -1,5 +1,5 @@
 -- Acts of the processor that is watched: instructions that go on at the next one, each with what it leaves of a view and of the flags.
-use Rattle.std.proofs.Common.{◌≡◌, ℕ, ◌+◌, ◌%◌, ◌<◌, Bool, List, length}
+use Rattle.std.proofs.Common.{◌≡◌, ℕ, ◌+◌, ◌%◌, ◌<◌, Bool, length}
 use Rattle.cw_i86.specs.Encoding.{bytes_of}
 use Rattle.cw_run86.specs.Views.{View}
 use Rattle.cw_rows86.specs.Acts.{Act, instruction, Needs, after, flags_of}

@@ -17,7 +17,7 @@ use Rattle.cw_order.specs.OrderMachine.{after, unrefused, return_with, call, ste
 use Rattle.cw_follow.specs.Placing.{base_of}
 use Rattle.cw_tmpl.proofs.Sizes.{own_place}
 use Rattle.cw_follow.proofs.Watched.{Watched}
-use Rattle.cw_follow.proofs.Standing.{order_place, Has, HasAt}
+use Rattle.cw_follow.proofs.Standing.{order_place, HasAt}
 use Rattle.cw_follow.proofs.Stacks.{code_place}
 use Rattle.cw_follow.proofs.Orders.{Landed}
 use Rattle.cw_follow.proofs.States.{Given, Sound, has_unit}

@@ -91,30 +91,33 @@ module _ (known : Given) where
         let base : a.frame_base ≤ p.limits.area = omega arith in
         let working : ActivationsStand p g (a' ∷ acts) = (refl, base, top, s.beginning.arguments, s.beginning.operands_stand, s.beginning.callers) in
         leads_to known g place false (a ∷ acts) w t 19 goes enter_weight
-        (onward known (λ r l. inl ((record {
-          orders = s.orders;
-          unit = s.unit;
-          from = place + 1;
-          done = 0;
-          before = w;
-          loaded_before = false;
-          place_is = omega arith;
-          begins = begins_behind;
-          inside = omega arith;
-          did = refl;
-          moded = refl;
-          landed = subst (λ n. Landed p image n g false (a' ∷ acts) w r) next l;
-          fits = fit.words;
-          acts_fit = fit.activations;
-          fits_before = fit.words;
-          room = room_there;
-          room_before = room_there;
-          wrote = refl;
-          stands = stands_there t goes;
-          working = working;
-          comes_back = s.comes_back;
-          never = never_on p T t goes s.never;
-        }, refl))) d)
+        (onward known (λ r l. inl ((
+          record {
+            orders = s.orders;
+            unit = s.unit;
+            from = place + 1;
+            done = 0;
+            before = w;
+            loaded_before = false;
+            place_is = omega arith;
+            begins = begins_behind;
+            inside = omega arith;
+            did = refl;
+            moded = refl;
+            landed = subst (λ n. Landed p image n g false (a' ∷ acts) w r) next l;
+            fits = fit.words;
+            acts_fit = fit.activations;
+            fits_before = fit.words;
+            room = room_there;
+            room_before = room_there;
+            wrote = refl;
+            stands = stands_there t goes;
+            working = working;
+            comes_back = s.comes_back;
+            never = never_on p T t goes s.never;
+          },
+          refl,
+        ))) d)
 
     begins_free : Follow known T q
     begins_free =

@@ -179,31 +179,33 @@ module _ (known : Given) where
             let first : u.entry ≡ 0 = coded.entries (g + 1) u is in
             let place_is : base_of p (g + 1) + 11 ≡ order_place (base_of p (g + 1)) u.list 0 = omega arith in
             let there : base_of p (g + 1) + 11 ≡ order_place (base_of p (g + 1)) u.list u.entry = place_is ∙ ap (order_place (base_of p (g + 1)) u.list) (sym first) in
-            let fit = (fits_next known s (at (g + 1) u.entry false [] (with_operands w []) Running) goes).words in
-            (record {
-              orders = u;
-              unit = is;
-              from = u.entry;
-              done = 0;
-              before = with_operands w [];
-              loaded_before = false;
-              place_is = omega arith;
-              begins = ap (left_at 0 u.list) first;
-              inside = omega arith;
-              did = refl;
-              moded = refl;
-              room = omega arith;
-              room_before = omega arith;
-              wrote = refl;
-              stands = stands_next known s (at (g + 1) u.entry false [] (with_operands w []) Running) goes;
-              working = tt;
-              comes_back = tt;
-              fits_before = fit;
-              landed = begun_landed p (order_place (base_of p (g + 1)) u.list u.entry) w.memory w.input w.output there (few_next u is) coded.frames k.words k.long k.read k.wrote k.kind b;
-              fits = fit;
-              acts_fit = All-nil ActivationFits;
-              never = never_on p (at g place false acts w Running) (at (g + 1) u.entry false [] (with_operands w []) Running) goes s.never;
-            }, refl)
+            let fit = (fits_next known s (at (g + 1) u.entry false [] (with_operands w []) Running) goes).words in (
+              record {
+                orders = u;
+                unit = is;
+                from = u.entry;
+                done = 0;
+                before = with_operands w [];
+                loaded_before = false;
+                place_is = omega arith;
+                begins = ap (left_at 0 u.list) first;
+                inside = omega arith;
+                did = refl;
+                moded = refl;
+                room = omega arith;
+                room_before = omega arith;
+                wrote = refl;
+                stands = stands_next known s (at (g + 1) u.entry false [] (with_operands w []) Running) goes;
+                working = tt;
+                comes_back = tt;
+                fits_before = fit;
+                landed = begun_landed p (order_place (base_of p (g + 1)) u.list u.entry) w.memory w.input w.output there (few_next u is) coded.frames k.words k.long k.read k.wrote k.kind b;
+                fits = fit;
+                acts_fit = All-nil ActivationFits;
+                never = never_on p (at g place false acts w Running) (at (g + 1) u.entry false [] (with_operands w []) Running) goes s.never;
+              },
+              refl,
+            )
 
     pub ends_or_not : slice_get s.orders.list place ≡ Some order.NextBody → (others : List OrderActivation) → acts ≡ others → Follow known (at g place false acts w Running) q
     ends_or_not e [] is = ends_body e is (slice_get p.units (g + 1)) refl

@@ -6,7 +6,6 @@ use Rattle.cw_i86.specs.declared.flags.Flags.{Flags}
 use Rattle.cw_i86.specs.declared.instr.Instr.{Instr}
 use Rattle.cw_i86.specs.declared.instr.Instr.TheVariants as i86
 use Rattle.cw_i86.specs.declared.instr.Imm.TheVariants as imm
-use Rattle.cw_i86.specs.declared.instr.Rm.TheVariants as rms
 use Rattle.cw_run86.specs.Processor.{Told}
 use Rattle.cw_run86.specs.Views.{put_word}
 use Rattle.cw_word.specs.FixedPoint.{fits_word}

@@ -24,7 +24,7 @@ use Rattle.cw_tmpl.specs.ReferenceCode.{mark_starts, names_of}
 use Rattle.cw_follow.specs.Placing.{base_of, start_in, procedure_place, definition_place}
 use Rattle.cw_tmpl.proofs.Sizes.{own_place, mark_start, jump_arrives}
 use Rattle.cw_follow.proofs.Watched.{Watched}
-use Rattle.cw_follow.proofs.Standing.{order_place, HasAll, HasFrom}
+use Rattle.cw_follow.proofs.Standing.{order_place, HasFrom}
 use Rattle.cw_follow.proofs.Chains.{to_place}
 use Rattle.cw_follow.proofs.Stacks.{record_of, code_place, control_place, OwnerIs}
 use Rattle.cw_follow.proofs.Orders.{Landed, Leading, CalledAt, LandedAt}
@@ -32,7 +32,7 @@ use Rattle.cw_follow.proofs.States.{Given, ComesBack, Sound, Arrived, has_unit, 
 use Rattle.cw_follow.proofs.Calls.{calls}
 use Rattle.cw_follow.proofs.Leaving.{controls, goes_main}
 use Rattle.cw_follow.proofs.Naming.{taken_dropped, both_true, some_same, mark_listed, procedure_is, start_is, begins_there}
-use Rattle.cw_follow.proofs.Steps.{Follow, leads_to, onward, few_segments, step_is, weight_is, fits_next, stands_next, never_next, stuck_here, does, line_fits, start, Alone, code, behind, begins_next, FollowFrom, begins_here, begun_here, landed_here}
+use Rattle.cw_follow.proofs.Steps.{leads_to, onward, few_segments, step_is, weight_is, fits_next, stands_next, never_next, stuck_here, does, line_fits, start, Alone, code, behind, begins_next, FollowFrom, begins_here, begun_here, landed_here}
 
 module _ (known : Given) where
   open known use {rows, p, image, all, coded, few, low}
@@ -48,31 +48,33 @@ module _ (known : Given) where
     sound_in g' to m acts' v r o unit begins e working comes_back l =
         let t = at g' to m acts' v Running in
         let fit = fits_next known s t e in
-        let stands = stands_next known s t e in
-        (record {
-          orders = o;
-          unit = unit;
-          from = to;
-          done = 0;
-          before = v;
-          loaded_before = m;
-          place_is = omega arith;
-          begins = begins;
-          inside = omega arith;
-          did = refl;
-          moded = refl;
-          landed = l;
-          fits = fit.words;
-          acts_fit = fit.activations;
-          fits_before = fit.words;
-          room = stands.room;
-          room_before = stands.room;
-          wrote = refl;
-          stands = stands;
-          working = working;
-          comes_back = comes_back;
-          never = never_next known s t e;
-        }, refl)
+        let stands = stands_next known s t e in (
+          record {
+            orders = o;
+            unit = unit;
+            from = to;
+            done = 0;
+            before = v;
+            loaded_before = m;
+            place_is = omega arith;
+            begins = begins;
+            inside = omega arith;
+            did = refl;
+            moded = refl;
+            landed = l;
+            fits = fit.words;
+            acts_fit = fit.activations;
+            fits_before = fit.words;
+            room = stands.room;
+            room_before = stands.room;
+            wrote = refl;
+            stands = stands;
+            working = working;
+            comes_back = comes_back;
+            never = never_next known s t e;
+          },
+          refl,
+        )
 
     -- words are put, with room
     pub puts_with : {first : Watched} (o : Order) (m : Bool) (v : Words) (limit : ℕ) → slice_get s.orders.list place ≡ Some o → step p S ≡ after p.room 0 (Changed v) g place m acts w → limit ≤ weight p S

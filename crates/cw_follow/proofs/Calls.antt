@@ -20,7 +20,7 @@ use Rattle.cw_follow.proofs.Chains.{Is, Leads, view, seen, to_place, number, cal
 use Rattle.cw_follow.proofs.Routines.{Over, quiet_in, quiet_library, flags_of, arrives, returned, lifted, over, put_at}
 use Rattle.cw_follow.proofs.Stacks.{level, record_of, code_place, base_word, words_behind, StackIs, Piled, words_split, words_append, top_is, SameFrom, same_put, same_above, stack_same, piled_same}
 use Rattle.cw_follow.proofs.Orders.{Kept, kept_under, kept_same, Landed, Leading, CalledAt, further, LandedAt}
-use Rattle.cw_follow.proofs.Standing.{Has, HasAll, HasWord, Image, Ignores, HasFrom}
+use Rattle.cw_follow.proofs.Standing.{Has, HasWord, Image, Ignores, HasFrom}
 
 -- no more than so many instructions
 pub record Few (output : List ℕ) (limit : ℕ) (p : Watched) (Target : Watched → Type 0) : Type 0 where

@@ -18,9 +18,9 @@ use Rattle.cw_run86.specs.Views.{View, Sees, IsTop, register, on, with_place, wi
 use Rattle.cw_unit.specs.Stop.{Running}
 use Rattle.cw_unit.specs.Begun.{Begun}
 use Rattle.cw_unit.specs.Behaviour.{Observation}
-use Rattle.cw_image.specs.Begun.{StatementPlace, lines_at}
+use Rattle.cw_image.specs.Begun.{lines_at}
 use Rattle.std.specs.Prelude.{slice_index}
-use Rattle.cw_tmpl.specs.Mnemonics.{slot, at_bx, argument, entry_of_table, nothing}
+use Rattle.cw_tmpl.specs.Mnemonics.{slot, at_bx, argument, entry_of_table}
 use Rattle.cw_follow.specs.Showing.{shown_as}
 use Rattle.cw_follow.proofs.Rows.{Rows}
 

@@ -80,8 +80,8 @@ module _ (known : Given) where
         of_test : (t : Test) (x : Place) → 0 < length (element_tested (record e { index = x }) t)
         of_test (test.Address origin) (cell.Word f n) = lit< tt
         of_test (test.Address origin) (cell.Frame n) = lit< tt
-        of_test (test.Bounds upper line) (cell.Word f n) = lit< tt
-        of_test (test.Bounds upper line) (cell.Frame n) = lit< tt
+        of_test (test.Bounds upper line) (cell.Word f n) = omega arith
+        of_test (test.Bounds upper line) (cell.Frame n) = omega arith
 
     -- the instruction behind the address
     last_there : (first : Bool) (e : Element) (i : Instr) → HasPiecesFrom first image (all.stands g s.orders s.unit).value (start_place known s) (element_address e ++ pieces.Whole i ∷ []) → Has image (start_place known s + element_size e e.test) i

@@ -31,7 +31,7 @@ use Rattle.cw_follow.proofs.Stacks.{level, record_of}
 use Rattle.cw_follow.proofs.Routines.{Over}
 use Rattle.cw_follow.proofs.Orders.{Leading, Does, later}
 use Rattle.cw_follow.proofs.States.{Given, Sound}
-use Rattle.cw_follow.proofs.Steps.{Follow, order_here, weight_is, line_fits, leads_to, stuck_here, step_is, silent_in, start_place, did_as, FollowFrom, begins_block, begun_block}
+use Rattle.cw_follow.proofs.Steps.{order_here, weight_is, line_fits, leads_to, stuck_here, step_is, silent_in, start_place, did_as, FollowFrom, begins_block, begun_block}
 use Rattle.cw_follow.proofs.BlockOrders.{room_in, inner_follows}
 use Rattle.cw_follow.proofs.InBlocks.{chain, Puts, puts_word, silently, silently_next}
 use Rattle.cw_follow.proofs.Indexed.{element_steps}

@@ -32,7 +32,7 @@ use Rattle.cw_tmpl.proofs.Shapes.{TestNear}
 use Rattle.cw_tmpl.proofs.Sizes.{index_long, size_to}
 use Rattle.cw_follow.specs.Placing.{base_of}
 use Rattle.cw_follow.proofs.Watched.{Watched}
-use Rattle.cw_follow.proofs.Chains.{Is, Leads, view, IsAt}
+use Rattle.cw_follow.proofs.Chains.{Leads, view, IsAt}
 use Rattle.cw_follow.proofs.Standing.{HasPieces, order_place, stand_both, HasPiecesFrom, stand_behind}
 use Rattle.cw_follow.proofs.Shifts.{leads_then}
 use Rattle.cw_follow.proofs.Stacks.{level, record_of, OperandsAre, top_is}

@@ -6,8 +6,7 @@ use Rattle.std.proofs.lemmas.List.{get_or_default}
 use Rattle.std.proofs.lemmas.List.Elements.{All-head, All-nil, All-tail}
 use Rattle.cw_track.specs.Tracking.{TracksAfter}
 use Rattle.cw_track.specs.Watching.{watched}
-use Rattle.cw_track.proofs.Simulations.{tracks_leaping}
-use Rattle.cw_track.proofs.Watching.{simulation_watched}
+use Rattle.cw_track.proofs.Owing.{tracks_owing}
 use Rattle.cw_track.proofs.Budgets.{starts_up}
 use Rattle.cw_i86.specs.State.{State}
 use Rattle.cw_i86.specs.MachineRun.{IsStart}
@@ -29,15 +28,19 @@ use Rattle.cw_follow.specs.Showing.{shown_as}
 use Rattle.cw_order.specs.Starting.{starts}
 use Rattle.cw_follow.specs.Passing.{passes, PlacesStand}
 use Rattle.cw_follow.specs.Placing.{IsImage, Codable, BeginsWith, NeverStuck, startup_cost, base_of}
-use Rattle.cw_follow.proofs.Standing.{order_place, AllStand, Image}
+use Rattle.cw_follow.proofs.Bytes as raw
+use Rattle.cw_follow.proofs.Standing.{Image, Ignores, order_place, AllStand}
+use Rattle.cw_follow.proofs.Strong.{all_strong}
+use Rattle.cw_order.proofs.Unbegun.{not_behind_first}
+use Rattle.cw_i86.specs.declared.instr.Instr.TheVariants as i86
 use Rattle.cw_follow.proofs.Rows.{Rows}
 use Rattle.cw_follow.proofs.Watched.{Watched}
 use Rattle.cw_follow.proofs.Chains.{Is, Leads, view, seen, near, more}
-use Rattle.cw_follow.proofs.Routines.{leads_on}
+use Rattle.cw_follow.proofs.Routines.{in_library, leads_on}
 use Rattle.cw_follow.proofs.Bodies.{Begun, begun_landed, enters}
 use Rattle.cw_order.specs.Activations.{OperandStands}
-use Rattle.cw_follow.proofs.States.{Given, Sound, left, not_stuck, never_on}
-use Rattle.cw_follow.proofs.Dispatch.{watch, MatchesWatched, simulates, watched_way}
+use Rattle.cw_follow.proofs.States.{Given, Arrived, left, not_stuck, never_on}
+use Rattle.cw_follow.proofs.Dispatch.{watch, MatchesOwing, simulates, watched_way}
 
 -- ---- the start
 
@@ -57,10 +60,10 @@ module _ (laws : WordLaws) (p : OrderProgram) (words : List ℕ) (memory : List 
       subst FitsWord (sym (get_or_default memory k d (pos 0) lt ∙ begins.same k within)) (laws.signed_fits (slice_index words k) (small_words words k begins.are_words))
 
 -- from the first instruction of an image on
-pub following : Rows → (p : OrderProgram) (image : Image) (words : List ℕ) (memory : List ℤ) (input : List ℕ) (s : State) (places : List StatementPlace)
-    → AllStand p image → IsImage p image → PlacesStand p image places → Codable p → BeginsWith p memory words → NeverStuck p memory input → IsStart image words s → All (λ b. b < 256) input
+pub following : Rows → (p : OrderProgram) (code words : List ℕ) (memory : List ℤ) (input : List ℕ) (s : State) (places : List StatementPlace)
+    → raw.AllStand p code → IsImage p code → PlacesStand p code places → Codable p → BeginsWith p memory words → NeverStuck p memory input → IsStart code words s → All (λ b. b < 256) input
     → TracksAfter (λ o. is_running o.0) startup_cost (watched (order_machine p) (starts p)) (order_start p memory input, []) (watched (processor_machine shown_as) (passes places p.limits.area)) (processor_start s input, [])
-following rows p image words memory input s places all is stand coded begins never starts_so bytes = cases (slice_get p.units 0) refl
+following rows p code words memory input s places there is stand coded begins never starts_so bytes = cases (slice_get p.units 0) refl
   where
     cases : (u : Option Orders) → slice_get p.units 0 ≡ u → TracksAfter (λ o. is_running o.0) startup_cost (watched (order_machine p) (starts p)) (order_start p memory input, []) (watched (processor_machine shown_as) (passes places p.limits.area)) (processor_start s input, [])
     cases None none =
@@ -75,44 +78,49 @@ following rows p image words memory input s places all is stand coded begins nev
         let few = is.few in
         let area = begins.area in
         let short_words : length words ≤ 32768 = let f = begins.few in omega arith in
+        let image : Image = record { bytes = code; places = places } in
+        let all : AllStand p image = all_strong p image coded stand there in
         let su = all.stands 0 u some in
-        let known : Given = record { rows = rows; p = p; image = image; all = all; coded = coded; few = few; low = area; places = places; places_stand = stand } in
+        let known : Given = record { rows = rows; p = p; image = image; all = all; coded = coded; few = few; low = area; places_stand = stand } in
         let begin = watch known (processor_start s input) in
-        let from : Is image 0 (view 0 0 0 0 0 0 0 0 false (slice_index words) (λ k. 0) input nothing_told) begin = record { sees = rows.starts image words input s is.fits short_words starts_so; ignores = stand.ignores; silent = refl } in
-        let at_entry : (q : Watched) → Begun image (base_of p 0 + 11) 1 p.limits.depth p.limits.frames p.limits.area (slice_index words) input nothing_told q → Sound p image 0 first false [] begun q = λ q b.
+        let ignores : Ignores image places = record { told = refl; library = stand.library } in
+        let from : Is image 0 (view 0 0 0 0 0 0 0 0 false (slice_index words) (λ k. 0) input nothing_told) begin = record { sees = rows.starts code words input s is.fits short_words starts_so; ignores = ignores; overlooks = refl; silent = refl } in
+        let at_entry : (q : Watched) → Begun image (base_of p 0 + 11) 1 p.limits.depth p.limits.frames p.limits.area (slice_index words) input nothing_told q → Arrived p image 0 first false [] begun q = λ q b.
         let place_is : base_of p 0 + 11 ≡ order_place (base_of p 0) u.list 0 = omega arith in
-        let there : base_of p 0 + 11 ≡ order_place (base_of p 0) u.list first = place_is ∙ ap (order_place (base_of p 0) u.list) (sym is_zero) in
-        record {
-          orders = u;
-          unit = some;
-          from = first;
-          done = 0;
-          before = begun;
-          loaded_before = false;
-          place_is = omega arith;
-          begins = ap (left_at 0 u.list) is_zero;
-          inside = omega arith;
-          did = refl;
-          moded = refl;
-          room = omega arith;
-          room_before = omega arith;
-          wrote = refl;
-          fits_before = record { operands = All-nil OperandFits; memory = memory_fits rows.words p words memory begins; input = bytes };
-          landed = begun_landed p (order_place (base_of p 0) u.list first) memory input [] there (lit< tt) coded.frames (cells_begin rows.words p words memory begins) begins.long refl refl refl b;
-          acts_fit = All-nil ActivationFits;
-          fits = record { operands = All-nil OperandFits; memory = memory_fits rows.words p words memory begins; input = bytes };
-          stands = record { room = omega arith; last = tt; operands = All-nil (OperandStands p 0 []) };
-          working = tt;
-          comes_back = tt;
-          never = never;
-        } in
+        let there : base_of p 0 + 11 ≡ order_place (base_of p 0) u.list first = place_is ∙ ap (order_place (base_of p 0) u.list) (sym is_zero) in (
+          record {
+            orders = u;
+            unit = some;
+            from = first;
+            done = 0;
+            before = begun;
+            loaded_before = false;
+            place_is = omega arith;
+            begins = ap (left_at 0 u.list) is_zero;
+            inside = omega arith;
+            did = refl;
+            moded = refl;
+            room = omega arith;
+            room_before = omega arith;
+            wrote = refl;
+            fits_before = record { operands = All-nil OperandFits; memory = memory_fits rows.words p words memory begins; input = bytes };
+            landed = begun_landed p (order_place (base_of p 0) u.list first) memory input [] there (lit< tt) coded.frames (cells_begin rows.words p words memory begins) begins.long refl refl refl b;
+            acts_fit = All-nil ActivationFits;
+            fits = record { operands = All-nil OperandFits; memory = memory_fits rows.words p words memory begins; input = bytes };
+            stands = record { room = omega arith; last = tt; operands = All-nil (OperandStands p 0 []) };
+            working = tt;
+            comes_back = tt;
+            never = never;
+          },
+          refl,
+        ) in
         let base_is : 430 ≡ base_of p 0 = refl in
-        let way : Leads [] 12 begin (Sound p image 0 first false [] begun) =
-        more rows {to = base_of p 0} {w = view 0 0 0 0 0 0 0 0 false (slice_index words) (λ k. 0) input nothing_told} from refl (seen base_is refl (near rows 427 all.library.0.0 from)) (λ q t.
+        let way : Leads [] 12 begin (Arrived p image 0 first false [] begun) =
+        more rows {to = base_of p 0} {w = view 0 0 0 0 0 0 0 0 false (slice_index words) (λ k. 0) input nothing_told} from refl (seen base_is refl (near rows 427 (in_library ignores 0 (i86.Jump 427) (lit< tt) all.library.0.0) from)) (λ q t.
         leads_on at_entry
         (enters rows p 0 su.next_place su.value (base_of p 0) 0 0 0 0 0 0 0 32767 false (slice_index words) (λ k. 0) input nothing_told all.library su.fills su.entry (lit< tt) (lit< tt) area coded.frames coded.depth 0 refl t)) in
-        let start = watched_way known (processor_start s input) (at 0 first false [] begun Running) (leads_on (λ q m. inl m) way) in
+        let start = watched_way known (processor_start s input) (at 0 first false [] begun Running) (not_behind_first p 0 first is_zero, tt) (leads_on (λ q m. inl m) way) in
         let A = watched (order_machine p) (starts p) in
         let B = watched (processor_machine shown_as) (passes places p.limits.area) in
         starts_up (λ o. is_running o.0) A B (order_start p memory input, []) 0 12 12 (processor_start s input, []) (start.0, []) refl start.1
-        (tracks_leaping (λ o. is_running o.0) A B _ _ (simulation_watched is_running (order_machine p) (processor_machine shown_as) (starts p) (passes places p.limits.area) (MatchesWatched known) (left p) (simulates known)) (order_start p memory input, []) (start.0, []) (start.2, refl))
+        (tracks_owing is_running (order_machine p) (processor_machine shown_as) (starts p) (passes places p.limits.area) (MatchesOwing known) (left p) (simulates known) (order_start p memory input) start.0 start.2)

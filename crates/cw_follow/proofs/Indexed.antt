@@ -36,7 +36,7 @@ use Rattle.cw_rows86.specs.Operations.{Add, Subtract, Compare}
 use Rattle.cw_rows86.specs.Acts.{Operate, OperateNumberOnto, Into}
 use Rattle.cw_follow.proofs.Acting.{act}
 use Rattle.cw_follow.proofs.Shifts.{leads_then}
-use Rattle.cw_follow.proofs.Straight.{LoadSlot, Number, straight, straight_from}
+use Rattle.cw_follow.proofs.Straight.{LoadSlot, Number, straight_from}
 use Rattle.cw_follow.proofs.Stacks.{level, record_of, base_word}
 use Rattle.cw_follow.proofs.Orders.{Kept, further}
 use Rattle.cw_follow.proofs.Operands.{Setting, allowed, DoesHere, calls_stop}

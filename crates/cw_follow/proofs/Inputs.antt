@@ -18,10 +18,10 @@ use Rattle.cw_follow.proofs.Chains.{Is, Leads, view, to_place, call, last, IsAt}
 use Rattle.cw_follow.proofs.Routines.{leads_on, put_at, quiet_in, quiet_library, flags_of, arrives}
 use Rattle.cw_follow.proofs.Stacks.{level, record_of, StackIs, top_is, same_put, stack_same}
 use Rattle.cw_follow.proofs.Orders.{Kept, kept_under, Landed, landed, Leading, LandedAt}
-use Rattle.cw_follow.proofs.Operands.{Setting, words, LandedWith, DoesHere}
+use Rattle.cw_follow.proofs.Operands.{Setting, words, DoesHere}
 use Rattle.cw_follow.proofs.Called.{Returned, comes_back}
 use Rattle.cw_follow.proofs.Numbers.{unsigned_pos}
-use Rattle.cw_follow.proofs.Standing.{Has, HasAt}
+use Rattle.cw_follow.proofs.Standing.{HasAt}
 
 module _ (c : Setting) (memory : List ℤ) (output : List ℕ) where
   -- what has been read is in AX

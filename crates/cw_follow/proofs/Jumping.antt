@@ -29,7 +29,7 @@ use Rattle.cw_follow.proofs.States.{Given, Sound}
 use Rattle.cw_follow.proofs.Leaving.{past, kept_below, restores, goes_special}
 use Rattle.cw_follow.proofs.Calling.{left_for}
 use Rattle.cw_follow.proofs.Naming.{argument_stands, label_listed, label_start_is, mark_listed, start_is}
-use Rattle.cw_follow.proofs.Steps.{Follow, step_is, weight_is, stuck_here, Alone, code, FollowFrom, begun_here, landed_here}
+use Rattle.cw_follow.proofs.Steps.{step_is, weight_is, stuck_here, Alone, code, FollowFrom, begun_here, landed_here}
 
 pub landed_at : {p : OrderProgram} {image : Image} {at to g : ℕ} {loaded : Bool} {acts : List OrderActivation} {w : Words} {q : Watched} → at % 65536 ≡ to % 65536
     → Landed p image at g loaded acts w q → Landed p image to g loaded acts w q

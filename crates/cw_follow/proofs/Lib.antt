@@ -45,6 +45,9 @@ pub mod BoundedBlocks
 pub mod PartBlocks
 pub mod NumberBlocks
 pub mod Bodies
+pub mod Passed
+pub mod StatementPlaces
+pub mod Strong
 pub mod Owed
 pub mod Opening
 pub mod Dispatch
@@ -61,7 +64,4 @@ pub mod Jumping
 pub mod Switching
 pub mod Loops
 pub mod Within
-pub mod Passed
-pub mod StatementPlaces
-pub mod Strong
 pub mod Following

@@ -1,5 +1,5 @@
 -- The first instruction of a block with which a statement may begin shows nothing.
-use Rattle.std.proofs.Common.{◌≡◌, ℕ, zero, suc, ◌+◌, ◌*◌, ◌/◌, ◌%◌, ◌<◌, ◌≤◌, Bool, true, false, List, [], ◌∷◌, ◌++◌, drop, Some, refl, sym, ap, ◌∙◌, subst, arith, lit<}
+use Rattle.std.proofs.Common.{◌≡◌, ℕ, zero, suc, ◌+◌, ◌*◌, ◌/◌, ◌%◌, ◌<◌, Bool, true, false, List, ◌∷◌, ◌++◌, drop, Some, refl, ap, ◌∙◌, arith, lit<}
 use Rattle.std.specs.Prelude.{slice_get}
 use Rattle.std.proofs.lemmas.Bool.{false≢true}
 use Rattle.cw_i86.specs.declared.instr.Instr.TheVariants as i86
@@ -11,7 +11,6 @@ use Rattle.cw_rows86.specs.Locations.{InData}
 use Rattle.cw_run86.specs.Processor.{processor_step, observed}
 use Rattle.cw_run86.specs.Views.{View}
 use Rattle.cw_unit.specs.Stop.{Running}
-use Rattle.cw_unit.specs.Behaviour.{Observation}
 use Rattle.cw_unit.specs.Words.{Words}
 use Rattle.cw_order.specs.declared.order.Order.{Order}
 use Rattle.cw_order.specs.declared.order.Order.TheVariants as order
@@ -32,13 +31,13 @@ use Rattle.cw_follow.specs.Showing.{shown_as}
 use Rattle.cw_follow.proofs.Acting.{act}
 use Rattle.cw_follow.proofs.Chains.{Is, shows, number, near, push, call, load_at}
 use Rattle.cw_follow.proofs.ElementBlocks.{begun_code}
-use Rattle.cw_follow.proofs.ElementTests.{address_order, formed_list_is}
+use Rattle.cw_follow.proofs.ElementTests.{formed_list_is}
 use Rattle.cw_follow.proofs.Orders.{LandedAt, over_landed}
 use Rattle.cw_follow.proofs.Rows.{Rows}
-use Rattle.cw_follow.proofs.Stacks.{level, record_of, top_is}
+use Rattle.cw_follow.proofs.Stacks.{record_of, top_is}
 use Rattle.cw_follow.proofs.Standing.{Image, HasAt, HasPiecesFrom, may_begin}
 use Rattle.cw_follow.proofs.States.{Given, Sound}
-use Rattle.cw_follow.proofs.Steps.{Alone, wrong_way, code, block_code, start_place, landed_here, begins_here, begun_here, begins_block, begun_block}
+use Rattle.cw_follow.proofs.Steps.{Alone, wrong_way, code, block_code, start_place, landed_here, begins_block, begun_block}
 use Rattle.cw_follow.proofs.Straight.{One, LoadSlot, LoadArgument, step}
 use Rattle.cw_follow.proofs.Watched.{Watched, watched_step}
 
@@ -106,8 +105,8 @@ module _ (known : Given) where
   open known use {rows, p, image, all, coded, few, low}
 
   module _ {q : Watched} {g place : ℕ} {acts : List OrderActivation} {w : Words} where
-    low_top : (s : Sound p image g place false acts w q) (a : Alone p image g place false acts w q s.orders.list) → a.landed.top < 32768
-    low_top s a = let t = top_is p acts a.landed.stack a.landed.top w.operands a.landed.operands in omega arith
+    low_top : (s : Sound p image g place false acts w q) (a : Alone p image g place false acts w q s.orders.list) → (landed_here known s a).top < 32768
+    low_top s a = let l = landed_here known s a in let t = top_is p acts l.stack l.top w.operands l.operands in omega arith
 
     pub single_opens : (loaded : Bool) (s : Sound p image g place loaded acts w q) (a : Alone p image g place loaded acts w q s.orders.list) (o : Order) → slice_get s.orders.list place ≡ Some o → may_begin o ≡ true
         → shown_as (observed (processor_step q.processor)) ≡ record { output = w.output; end = Running }

@@ -10,12 +10,10 @@ use Rattle.std.proofs.lemmas.Int.{ints}
 use Rattle.cw_track.proofs.Paths.{Path, stay, next, join}
 use Rattle.cw_i86.specs.declared.instr.Instr.TheVariants as i86
 use Rattle.cw_i86.specs.declared.instr.Rm.TheVariants as rms
-use Rattle.cw_image.specs.Begun.{StatementPlace}
-use Rattle.cw_run86.specs.Processor.{processor_step, Told}
+use Rattle.cw_run86.specs.Processor.{Told}
 use Rattle.cw_run86.specs.Views.{View, put_word, word_sum, word_difference, sum_overflows, difference_overflows, with_other, double_overflows, condition_of, words_compare}
 use Rattle.cw_word.specs.FixedPoint.{FitsWord, fits_word}
 use Rattle.cw_word.specs.Word.{signed, unsigned}
-use Rattle.cw_unit.specs.Begun.{Begun}
 use Rattle.cw_unit.specs.Stop.{StopKind, Overflow, Stopped}
 use Rattle.cw_unit.specs.Words.{Operand, Word, Held, Words, Outcome, Changed, Refused, Impossible, with_memory, put, put_if, put_value, through, is_below, number_of, word_at, byte_of}
 use Rattle.cw_unit.specs.Operation.{Fetch, Store, Add, Subtract, Negate, WriteByte, perform, holds}
@@ -25,7 +23,7 @@ use Rattle.cw_order.specs.OrderProgram.{OrderProgram}
 use Rattle.cw_order.specs.OrderState.{OrderActivation, operand_words}
 use Rattle.cw_order.specs.OrderChanges.{Way, Onward, ToMark, Barred, Nowhere, way_of_two, to_mark_if, comparison}
 use Rattle.cw_order.specs.OrderMachine.{unrefused}
-use Rattle.cw_tmpl.specs.Mnemonics.{at_bx, nothing}
+use Rattle.cw_tmpl.specs.Mnemonics.{at_bx}
 use Rattle.cw_tmpl.specs.Library.{stop_place}
 use Rattle.cw_tmpl.specs.Templates.{opposite_of}
 use Rattle.cw_routines.specs.Results.{Stands}
@@ -33,10 +31,10 @@ use Rattle.cw_follow.proofs.Watched.{Watched, watched_step, watched_machine, ove
 use Rattle.cw_follow.proofs.WordLaws.{WordLaws}
 use Rattle.cw_follow.proofs.Rows.{Rows}
 use Rattle.cw_follow.proofs.Chains.{IsAt, Is, over_is, IsCompared, Leads, at_work, view, seen, to_place, move, exchange, push, pop, load, store, load_at, store_at, add, subtract, negate, double, no_overflow, passes, near, compare, compared_jumps, compared_passes, out, shows, more, compared_more, last, done}
-use Rattle.cw_follow.proofs.Routines.{HasLine, StackedAt, Stacked, Over, stops, put_at, put_off, with_ax}
+use Rattle.cw_follow.proofs.Routines.{HasLine, StackedAt, Over, stops, put_at, put_off, with_ax}
 use Rattle.cw_follow.proofs.Stacks.{level, record_of, code_place, StackIs, OperandsAre, Piled, top_is, SameFrom, same_put, stack_pushed, piled_same}
 use Rattle.cw_follow.proofs.Numbers.{sum_overflows_is, difference_overflows_is, negative_overflows_is, sum_is, difference_is, negative_is, opposite_is, fits_tested, unsigned_pos}
-use Rattle.cw_follow.proofs.Standing.{Has, HasWord, HasAll, Image, Ignores, HasAt}
+use Rattle.cw_follow.proofs.Standing.{Has, HasWord, HasAll, Image, HasAt}
 
 -- ---- what is kept from order to order
 

@@ -1,8 +1,8 @@
 -- A block that is carried out while a statement is owed: its first instruction notes it.
-use Rattle.std.proofs.Common.{◌≡◌, ◌⊎◌, inl, inr, ℕ, zero, suc, ◌+◌, ◌<◌, ◌≤◌, Bool, true, false, List, [], refl, sym, ap, ◌∙◌, subst, arith, lit<}
+use Rattle.std.proofs.Common.{◌≡◌, ◌⊎◌, ℕ, ◌+◌, ◌<◌, ◌≤◌, true, List, [], refl, sym, subst, arith, lit<}
 use Rattle.cw_track.specs.Machine.{Machine}
 use Rattle.cw_track.specs.Watching.{noted}
-use Rattle.cw_track.proofs.Paths.{Path, stay, next, weaken}
+use Rattle.cw_track.proofs.Paths.{Path, stay, next}
 use Rattle.cw_track.proofs.Simulations.{Quiet}
 use Rattle.cw_track.proofs.Watching.{Unnoted}
 use Rattle.cw_track.proofs.Owing.{FollowedOwing, goes}
@@ -14,12 +14,11 @@ use Rattle.cw_follow.specs.Showing.{shown_as}
 use Rattle.cw_follow.specs.Passing.{passes}
 use Rattle.cw_follow.proofs.Watched.{Watched, watched_step, watched_machine, over, fresh, unwatched}
 
--- what the processor does after the first instruction of a block: nothing is noted, and where it goes on, the first instruction showed nothing
+-- what the processor does after the first instruction of a block: nothing is noted
 pub record Behind (P : Observation → Type 0) (places : List StatementPlace) (area spent : ℕ) (q reached : Processor) : Type 0 where
   pub rest : ℕ
   pub spent_is : spent ≡ 1 + rest
   pub path : Path (Unnoted P) (noted (processor_machine shown_as) (passes places area)) rest (processor_step q) reached
-  pub shows : (reached ≡ processor_step q) ⊎ P (shown_as (observed (processor_step q)))
 
 pub behind_first : (P : Observation → Type 0) (places : List StatementPlace) (area spent : ℕ) (q : Processor) (u : Watched) → 0 < spent → u.begun ≡ [] → Path (Unnoted P) watched_machine spent (over true (fresh places area q)) u → Behind P places area spent q u.processor
 unfolding watched_step
@@ -27,11 +26,7 @@ behind_first P places area spent q u some silent (stay tu z) = absurd (omega ari
 behind_first P places area spent q u some silent (next {w' = w'} {t' = t'} a st we p) =
     let after = watched_step (over true (fresh places area q)) in
     let path : Path (Unnoted P) watched_machine w' after u = subst (λ x. Path (Unnoted P) watched_machine w' x u) (sym st) p in
-    record { rest = w'; spent_is = we; path = unwatched P w' after u refl path silent; shows = shows after path }
-  where
-    shows : (t : Watched) {w : ℕ} → Path (Unnoted P) watched_machine w t u → (u.processor ≡ t.processor) ⊎ P (shown_as (observed t.processor))
-    shows t (stay tu z) = inl (ap (λ x. x.processor) (sym tu))
-    shows t (next a st we p) = inr a.0
+    record { rest = w'; spent_is = we; path = unwatched P w' after u refl path silent }
 
 -- so a block is followed where a statement is owed, and where nothing is: what is noted at its first instruction is what is owed, and where
 -- anything is, that instruction shows nothing

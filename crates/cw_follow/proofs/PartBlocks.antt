@@ -34,7 +34,7 @@ use Rattle.cw_tmpl.specs.Pieces.{Filling, blanks}
 use Rattle.cw_tmpl.specs.Templates.{shifted_up, part_taken, address_pieces, operate_place, change_place}
 use Rattle.cw_follow.specs.Placing.{base_of}
 use Rattle.cw_follow.proofs.Watched.{Watched}
-use Rattle.cw_follow.proofs.Standing.{HasPieces, order_place, HasAll, HasFrom}
+use Rattle.cw_follow.proofs.Standing.{HasPieces, order_place, HasFrom}
 use Rattle.cw_follow.proofs.Chains.{Is, Leads, view}
 use Rattle.cw_follow.proofs.Straight.{LoadSlot, straight}
 use Rattle.cw_follow.proofs.Routines.{with_ax, leads_on}

@@ -1,4 +1,4 @@
--- What the observer of the processor notes at a Start.
+-- What the observer of the processor notes where a statement begins.
 use Rattle.std.proofs.Common.{◌≡◌, ℕ, suc, ◌+◌, ◌*◌, ◌%◌, ◌<◌, ◌≤◌, Bool, ℤ, List, [], ◌∷◌, length, Some, refl, sym, ap, ap₂, ◌∙◌, arith}
 use Rattle.std.specs.Prelude.{map, slice_get, slice_index}
 use Rattle.std.specs.List.{All}

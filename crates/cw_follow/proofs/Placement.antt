@@ -165,12 +165,13 @@ module _ (p : OrderProgram) (image before behind : List ℕ) (g next : ℕ) (val
         let size = size_of_templates names entry_size 0 o.list in
         let begins = landings_at o in
         let landed = size_of_landings names (landings_place o) o.labels in
-        subst (λ k. (switches_place o ≤ k) × InMiddle (pieces_of o) k (switch_pieces names k gs)) (sym i.1)
-        ((omega arith),
-        at_offset (pieces_of o) (entry_size + (size_to 0 o.list (length o.list) + (15 * length o.labels + i.0))) start part (omega arith)
-        (behind_first entry_pieces (orders_code ++ (landings_code ++ switches_code)) entry_size (size_to 0 o.list (length o.list) + (15 * length o.labels + i.0)) part refl
-        (behind_first orders_code (landings_code ++ switches_code) (size_to 0 o.list (length o.list)) (15 * length o.labels + i.0) part size
-        (behind_first landings_code switches_code (15 * length o.labels) i.0 part landed i.2))))
+        subst (λ k. (switches_place o ≤ k) × InMiddle (pieces_of o) k (switch_pieces names k gs)) (sym i.1) (
+          (omega arith),
+          at_offset (pieces_of o) (entry_size + (size_to 0 o.list (length o.list) + (15 * length o.labels + i.0))) start part (omega arith)
+              (behind_first entry_pieces (orders_code ++ (landings_code ++ switches_code)) entry_size (size_to 0 o.list (length o.list) + (15 * length o.labels + i.0)) part refl
+              (behind_first orders_code (landings_code ++ switches_code) (size_to 0 o.list (length o.list)) (15 * length o.labels + i.0) part size
+              (behind_first landings_code switches_code (15 * length o.labels) i.0 part landed i.2))),
+        )
 
     switch_there : (n : ℕ) (gs : List Goal) → slice_get o.switches n ≡ Some gs → HasPieces image value (base_of p g + switch_start names n) (switch_pieces names (switch_start names n) gs)
     switch_there n gs e =

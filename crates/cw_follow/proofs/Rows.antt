@@ -29,7 +29,6 @@ pub record Rows : Type 0 where
   pub number : (code : List ℕ) (v : View) (r w : ℕ) → Has code v.place (i86.MovImm r (imm.Word w)) → Goes code v (with_register r w (on (i86.MovImm r (imm.Word w)) v))
   pub move : (code : List ℕ) (v : View) (r q : ℕ) → Has code v.place (i86.Mov true true r (rms.Reg q)) → Goes code v (with_register r (register v q) (on (i86.Mov true true r (rms.Reg q)) v))
   pub exchange : (code : List ℕ) (v : View) (r : ℕ) → Has code v.place (i86.XchgAx r) → Goes code v (with_register 0 (register v r) (with_register r (register v 0) (on (i86.XchgAx r) v)))
-  pub nothing : (code : List ℕ) (v : View) → Has code v.place (i86.XchgAx 0) → Goes code v (on (i86.XchgAx 0) v)
   -- stacking
   pub push : (code : List ℕ) (v : View) (r n : ℕ) → Has code v.place (i86.Push r) → n < 32768 → IsTop v (suc n) → Goes code v (with_register 4 (2 * n) (with_stack n (register v r) (on (i86.Push r) v)))
   pub pop : (code : List ℕ) (v : View) (r n : ℕ) → Has code v.place (i86.Pop r) → n < 32768 → IsTop v n → Goes code v (with_register r (v.stack n) (with_register 4 (2 * suc n % 65536) (on (i86.Pop r) v)))

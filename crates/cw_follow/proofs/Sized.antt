@@ -1,6 +1,6 @@
 -- Each instruction has a byte, and each piece of code.
 use Rattle.std.proofs.Common.{ℕ, ◌+◌, ◌*◌, ◌<◌, Bool, true, false, List, ◌∷◌, [], length, length-append, arith, lit<}
-use Rattle.cw_i86.specs.Encoding.{bytes_of, with_rm, with_mem, prefixed, place_bytes, imm_bytes, is_word, bit}
+use Rattle.cw_i86.specs.Encoding.{bytes_of, with_rm, prefixed, place_bytes, imm_bytes, is_word, bit}
 use Rattle.cw_i86.specs.declared.instr.Instr.{Instr}
 use Rattle.cw_i86.specs.declared.instr.Instr.TheVariants as i86
 use Rattle.cw_i86.specs.declared.instr.Rm.{Rm}
@@ -22,7 +22,7 @@ acc_some : (cs : Bool) (bytes : List ℕ) (opcode : ℕ) → 0 < length (prefixe
 acc_some true bytes opcode = omega arith
 acc_some false bytes opcode = omega arith
 
-instr_some : (i : Instr) → 0 < length (bytes_of i)
+pub instr_some : (i : Instr) → 0 < length (bytes_of i)
 instr_some (i86.AluRm op wide to_reg reg rm) = rm_some (8 * op + 2 * bit to_reg + bit wide) reg rm
 instr_some (i86.AluImm op rm imm) = omega (arith, length-append (with_rm (0x80 + bit (is_word imm)) op rm) (imm_bytes imm), rm_some (0x80 + bit (is_word imm)) op rm)
 instr_some (i86.AluShort op rm imm) = omega (arith, length-append (with_rm 0x83 op rm) (imm ∷ []), rm_some 0x83 op rm)
@@ -44,4 +44,3 @@ instr_some _ = omega arith
 pub piece_some : (p : Coded) → 0 < size_of p
 piece_some (coded.Whole i) = instr_some i
 piece_some _ = lit< tt
-

@@ -76,9 +76,6 @@ HasPieceAt first code w place (coded.Word t) = HasWord code place w
 HasPieceAt first code w place (coded.Data n) = HasWord code place n
 HasPieceAt first code w place (coded.Way t) = HasAt first code place (i86.JumpRm (entry_of_table w))
 
-abbrev pub HasPiece : Image → (word place : ℕ) → Coded → Type 0
-HasPiece code w place p = HasPieceAt false code w place p
-
 -- these pieces stand one after another from a place
 abbrev pub HasPiecesFrom : Bool → Image → Filling → ℕ → List Coded → Type 0
 HasPiecesFrom first code value at [] = Unit {0}

@@ -23,7 +23,7 @@ use Rattle.cw_tmpl.specs.Blocks.{is_part, fetched, fetched_from, fetched_or, ele
 use Rattle.cw_tmpl.specs.Templates.{address_pieces, load_place, part_taken, element_address, block_size, order_size, entry_pieces}
 use Rattle.cw_tmpl.specs.ReferenceCode.{templates, landings, switches, entry_size, order_places, landings_place, switches_place, names_of, pieces_of, orders_code, statements_from}
 use Rattle.cw_follow.specs.Placing.{total_size, base_of, StandsBehind, Codable}
-use Rattle.cw_follow.specs.Passing.{moved_places, places_from, statement_places, NotBehindStart, PlacesStand}
+use Rattle.cw_follow.specs.Passing.{size_at, moved_places, places_from, statement_places, NotBehindStart, PlacesStand}
 use Rattle.cw_tmpl.proofs.Growing.{blanks-append}
 use Rattle.cw_tmpl.proofs.Shapes.{front_is}
 use Rattle.cw_tmpl.proofs.Sizes.{size_to, size_next, left_next, places_are, own_place, size_of_templates, landings_at}
@@ -141,11 +141,7 @@ from_zero n = omega arith
 
 -- ---- the places of orders that have code
 
--- the bytes of the code that begins with the order at a place of a list
-abbrev size_here : List Order → (place : ℕ) → Order → ℕ
-size_here list k a = block_size (block_at (left_at 0 list k) (drop k list)) a
-
-size_behind : (list : List Order) (k : ℕ) (a : Order) → slice_get list k ≡ Some a → size_to 0 list (suc k) ≡ size_to 0 list k + size_here list k a
+size_behind : (list : List Order) (k : ℕ) (a : Order) → slice_get list k ≡ Some a → size_to 0 list (suc k) ≡ size_to 0 list k + size_at list k a
 size_behind list k a e = size_next 0 list k a e
 
 sizes_rise : (list : List Order) (k m : ℕ) → k ≤ m → size_to 0 list k ≤ size_to 0 list m
@@ -158,11 +154,11 @@ pub own_is : (list : List Order) (k : ℕ) (a : Order) → slice_get list k ≡ 
 own_is list k a e = let inside = slice_get_within list k a e in places_are entry_size 0 list k (omega arith)
 
 -- an order that begins a block wherever it stands
-here_is : (list : List Order) (k : ℕ) (a : Order) → slice_get list k ≡ Some a → (StandsBehind a → ⊥) → size_here list k a ≡ block_size (block_at 0 (a ∷ drop (suc k) list)) a
+here_is : (list : List Order) (k : ℕ) (a : Order) → slice_get list k ≡ Some a → (StandsBehind a → ⊥) → size_at list k a ≡ block_size (block_at 0 (a ∷ drop (suc k) list)) a
 here_is list k a e never = ap (λ b. block_size b a) (ap₂ block_at (begins_at list k a e never) (front_is list k a e))
 
 -- a Start has no code, so the code of the next order begins where it stands
-start_size : (list : List Order) (k line : ℕ) → slice_get list k ≡ Some (order.Start line) → size_here list k (order.Start line) ≡ 0
+start_size : (list : List Order) (k line : ℕ) → slice_get list k ≡ Some (order.Start line) → size_at list k (order.Start line) ≡ 0
 start_size list k line e = here_is list k (order.Start line) e (λ x. x)
 
 pieces_some : (p : Coded) (ps : List Coded) → 0 < length (blanks (p ∷ ps))
@@ -257,14 +253,14 @@ begins_some : (a : Order) (os : List Order) → BeginsStatement a → 0 < block_
 begins_some a os b = addresses_some (block_at 0 (a ∷ os)) a (begins_addresses a os b) (single_some a b)
 
 -- at the beginning of a block
-pub statement_here : (list : List Order) (k : ℕ) (a : Order) → slice_get list k ≡ Some a → left_at 0 list k ≡ 0 → BeginsStatement a → 0 < size_here list k a
+pub statement_here : (list : List Order) (k : ℕ) (a : Order) → slice_get list k ≡ Some a → left_at 0 list k ≡ 0 → BeginsStatement a → 0 < size_at list k a
 statement_here list k a e first begins = subst (λ n. 0 < n) (sym (ap (λ b. block_size b a) (ap₂ block_at first (front_is list k a e)))) (begins_some a (drop (suc k) list) begins)
 
 -- and so it is behind a Start
 behind_a_start : (list : List Order) (k line : ℕ) → slice_get list k ≡ Some (order.Start line) → left_at 0 list (suc k) ≡ 0
 behind_a_start list k line e = left_next 0 list k (order.Start line) e ∙ ap orders_left (ap₂ block_at (begins_at list k (order.Start line) e (λ x. x)) (front_is list k (order.Start line) e))
 
-statement_size : (list : List Order) (k line : ℕ) (a : Order) → slice_get list k ≡ Some (order.Start line) → slice_get list (suc k) ≡ Some a → BeginsStatement a → 0 < size_here list (suc k) a
+statement_size : (list : List Order) (k line : ℕ) (a : Order) → slice_get list k ≡ Some (order.Start line) → slice_get list (suc k) ≡ Some a → BeginsStatement a → 0 < size_at list (suc k) a
 statement_size list k line a start e begins = statement_here list (suc k) a e (behind_a_start list k line start) begins
 
 -- the code of the orders lies in that of their segment
@@ -281,7 +277,7 @@ orders_within o =
 record CodeAt (p : OrderProgram) (g k : ℕ) (o : Orders) (a : Order) : Type 0 where
   unit : slice_get p.units g ≡ Some o
   listed : slice_get o.list k ≡ Some a
-  some : 0 < size_here o.list k a
+  some : 0 < size_at o.list k a
 
 module _ (p : OrderProgram) where
   -- where the code of an order begins
@@ -294,30 +290,32 @@ module _ (p : OrderProgram) where
       let same = ap (λ n. total_size (take n p.units)) e in
       omega (arith, total_rises p.units g (h - g))
 
-  before_next : {g k : ℕ} {o : Orders} {a : Order} → CodeAt p g k o a → code_place g o k + size_here o.list k a ≤ base_of p (suc g)
+  before_next : {g k : ℕ} {o : Orders} {a : Order} → CodeAt p g k o a → code_place g o k + size_at o.list k a ≤ base_of p (suc g)
   before_next {g} {k} {o} {a} s =
       let inside = slice_get_within o.list k a s.listed in
       omega (arith, own_is o.list k a s.listed, size_behind o.list k a s.listed, sizes_rise o.list (suc k) (length o.list) inside, orders_within o, total_next p.units g o s.unit)
 
-  order_below : (g : ℕ) {k m : ℕ} {o : Orders} {a b : Order} → CodeAt p g k o a → slice_get o.list m ≡ Some b → k < m → code_place g o k + size_here o.list k a ≤ code_place g o m
+  order_below : (g : ℕ) {k m : ℕ} {o : Orders} {a b : Order} → CodeAt p g k o a → slice_get o.list m ≡ Some b → k < m → code_place g o k + size_at o.list k a ≤ code_place g o m
   order_below g {k} {m} {o} {a} {b} s listed lt =
       omega (arith, own_is o.list k a s.listed, own_is o.list m b listed, size_behind o.list k a s.listed, sizes_rise o.list (suc k) m lt)
 
   -- no code begins in that of another order
-  same_code : {g k h m : ℕ} {o u : Orders} {a b : Order} (n : ℕ) → CodeAt p g k o a → CodeAt p h m u b → n < size_here o.list k a → code_place h u m ≡ code_place g o k + n → (g ≡ h) × (k ≡ m)
+  same_code : {g k h m : ℕ} {o u : Orders} {a b : Order} (n : ℕ) → CodeAt p g k o a → CodeAt p h m u b → n < size_at o.list k a → code_place h u m ≡ code_place g o k + n → (g ≡ h) × (k ≡ m)
   same_code {g} {k} {h} {m} {o} {u} {a} {b} n s t lt e = elim (cases_order g h) [
     | inl same ↦
         let here : slice_get p.units g ≡ Some u = ap (slice_get p.units) same ∙ t.unit in
         let orders : u ≡ o = let unit = s.unit in cc in
         let there : slice_get o.list m ≡ Some b = ap (λ x. slice_get x.list m) (sym orders) ∙ t.listed in
         let at : code_place g o m ≡ code_place g o k + n = sym (ap (λ x. code_place x u m) (sym same) ∙ ap (λ x. code_place g x m) orders) ∙ e in
-        let some : 0 < size_here o.list m b = subst (λ x. 0 < size_here x.list m b) orders t.some in
-        let code : CodeAt p g m o b = record { unit = s.unit; listed = there; some = some } in
-        (same, elim (cases_order k m) [
-          | inl is ↦ is
-          | inr (inl less) ↦ absurd (let x = order_below g s there less in omega arith)
-          | inr (inr more) ↦ absurd (let x = order_below g code s.listed more in omega arith)
-        ])
+        let some : 0 < size_at o.list m b = subst (λ x. 0 < size_at x.list m b) orders t.some in
+        let code : CodeAt p g m o b = record { unit = s.unit; listed = there; some = some } in (
+          same,
+          elim (cases_order k m) [
+            | inl is ↦ is
+            | inr (inl less) ↦ absurd (let x = order_below g s there less in omega arith)
+            | inr (inr more) ↦ absurd (let x = order_below g code s.listed more in omega arith)
+          ],
+        )
     | inr (inl less) ↦ absurd (let x = before_next s in let y = bases_rise (suc g) h less in omega arith)
     | inr (inr more) ↦ absurd (let x = before_next t in let y = bases_rise (suc h) g more in let z = t.some in omega arith)
   ]
@@ -359,7 +357,7 @@ module _ (p : OrderProgram) where
         one_in p at 0 p.units g o ((g + 1, line) ∷ []) unit (ap (begun_in p at o) (from_zero g) ∙ here) others
 
     -- in the code of an order, but at its first byte, none begins
-    none_inside : (g k n : ℕ) (o : Orders) (a : Order) → CodeAt p g k o a → 0 < n → n < size_here o.list k a → lines_at (statement_places p) (code_place g o k + n) ≡ []
+    none_inside : (g k n : ℕ) (o : Orders) (a : Order) → CodeAt p g k o a → 0 < n → n < size_at o.list k a → lines_at (statement_places p) (code_place g o k + n) ≡ []
     none_inside g k n o a s some lt = none_begins (code_place g o k + n) (λ h m line u unit listed e.
         let t = have h m line u unit listed in
         let there = start_place h m line u t.0 listed t.1.listed in

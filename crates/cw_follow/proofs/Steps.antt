@@ -186,30 +186,33 @@ module _ (known : Given) where
     -- before another block
     pub sound_at : (to : ℕ) (m : Bool) (v : Words) (r : Watched) → left_at 0 s.orders.list to ≡ 0 → stack_words v.operands acts ≤ p.room → step p (at g place loaded acts w Running) ≡ at g to m acts v Running
         → Landed p image (order_place (base_of p g) s.orders.list to) g m acts v r → Arrived p image g to m acts v r
-    sound_at to m v r begins room e l = (record {
-      orders = s.orders;
-      unit = s.unit;
-      from = to;
-      done = 0;
-      before = v;
-      loaded_before = m;
-      place_is = omega arith;
-      begins = begins;
-      inside = omega arith;
-      did = refl;
-      moded = refl;
-      landed = l;
-      fits = (fits_next (at g to m acts v Running) e).words;
-      acts_fit = (fits_next (at g to m acts v Running) e).activations;
-      fits_before = (fits_next (at g to m acts v Running) e).words;
-      room = room;
-      room_before = room;
-      wrote = refl;
-      stands = stands_next (at g to m acts v Running) e;
-      working = s.working;
-      comes_back = s.comes_back;
-      never = never_on p (at g place loaded acts w Running) (at g to m acts v Running) e s.never;
-    }, refl)
+    sound_at to m v r begins room e l = (
+      record {
+        orders = s.orders;
+        unit = s.unit;
+        from = to;
+        done = 0;
+        before = v;
+        loaded_before = m;
+        place_is = omega arith;
+        begins = begins;
+        inside = omega arith;
+        did = refl;
+        moded = refl;
+        landed = l;
+        fits = (fits_next (at g to m acts v Running) e).words;
+        acts_fit = (fits_next (at g to m acts v Running) e).activations;
+        fits_before = (fits_next (at g to m acts v Running) e).words;
+        room = room;
+        room_before = room;
+        wrote = refl;
+        stands = stands_next (at g to m acts v Running) e;
+        working = s.working;
+        comes_back = s.comes_back;
+        never = never_on p (at g place loaded acts w Running) (at g to m acts v Running) e s.never;
+      },
+      refl,
+    )
 
     -- an operation that leaves the accumulator so, and may stop at a line
     pub does : {first : Watched} (m : Bool) (line : ℕ) (o : Outcome) (limit : ℕ) → left_at 0 s.orders.list (place + 1) ≡ 0 → step p (at g place loaded acts w Running) ≡ after p.room line o g place m acts w → limit ≤ weight p (at g place loaded acts w Running)

@@ -19,7 +19,7 @@ use Rattle.cw_order.specs.BeginsStatement.{BeginsStatement}
 use Rattle.cw_order.specs.declared.order.Order.TheVariants as order
 use Rattle.cw_order.specs.OrderProgram.{order_in}
 use Rattle.cw_follow.specs.Placing.{base_of, Codable}
-use Rattle.cw_follow.proofs.Sized.{piece_some}
+use Rattle.cw_follow.proofs.Sized.{instr_some, piece_some}
 use Rattle.cw_follow.specs.Passing.{size_at, NotBehindStart, PlacesStand}
 use Rattle.cw_follow.proofs.Bytes as raw
 use Rattle.cw_follow.proofs.Standing.{Image, HasPieceAt, HasPiecesFrom, may_begin, first_of, is_start, behind_start, order_place, pieces_at, Stands, AllStand}
@@ -49,16 +49,37 @@ pieces_strong first image value at (p ∷ ps) h free =
     let w = word_before value (at + size_of p) (target_of p) in
     let none : at + 0 ≡ at = omega arith in
     let long : length (blanks (p ∷ ps)) ≡ size_of p + length (blanks ps) = length-append _ (blanks ps) in
-    let some = piece_some p in
-    (one_strong first image w at p h.0 (λ e. ap (lines_at image.places) (sym none) ∙ free 0 (omega arith) (λ z. e)),
-    pieces_strong false image value (at + size_of p) ps h.1 (λ n lt no.
-    let there : at + (size_of p + n) ≡ at + size_of p + n = omega arith in
-    ap (lines_at image.places) (sym there) ∙ free (size_of p + n) (omega arith) (λ z. absurd (omega arith))))
+    let some = piece_some p in (
+      one_strong first image w at p h.0 (λ e. ap (lines_at image.places) (sym none) ∙ free 0 (omega arith) (λ z. e)),
+      pieces_strong false image value (at + size_of p) ps h.1 (λ n lt no.
+          let there : at + (size_of p + n) ≡ at + size_of p + n = omega arith in
+          ap (lines_at image.places) (sym there) ∙ free (size_of p + n) (omega arith) (λ z. absurd (omega arith))),
+    )
 
 -- ---- the whole
 
+-- pieces that stand there begin in the image
+piece_below : (first : Bool) (image : Image) (w place : ℕ) (p : Coded) → HasPieceAt first image w place p → place < length image.bytes
+piece_below first image w place (coded.Word t) h = let within = h.within in omega arith
+piece_below first image w place (coded.Data n) h = let within = h.within in omega arith
+piece_below first image w place (coded.Whole i) h = let within = h.there.within in let some = instr_some i in omega arith
+piece_below first image w place (coded.Move reg t) h = let within = h.there.within in omega arith
+piece_below first image w place (coded.Sum reg t) h = let within = h.there.within in omega arith
+piece_below first image w place (coded.Fetch reg t) h = let within = h.there.within in omega arith
+piece_below first image w place (coded.Load t) h = let within = h.there.within in omega arith
+piece_below first image w place (coded.Store t) h = let within = h.there.within in omega arith
+piece_below first image w place (coded.Operate op reg t) h = let within = h.there.within in omega arith
+piece_below first image w place (coded.Change op reg t) h = let within = h.there.within in omega arith
+piece_below first image w place (coded.Call t) h = let within = h.there.within in omega arith
+piece_below first image w place (coded.Jump t) h = let within = h.there.within in omega arith
+piece_below first image w place (coded.Way t) h = let within = h.there.within in omega arith
+
+pub pieces_below : (first : Bool) (image : Image) (value : Filling) (at : ℕ) (ps : List Coded) → 0 < length (blanks ps) → HasPiecesFrom first image value at ps → at < length image.bytes
+pieces_below first image value at [] some h = absurd (omega arith)
+pieces_below first image value at (p ∷ ps) some h = piece_below first image (word_before value (at + size_of p) (target_of p)) at p h.0
+
 -- a statement may begin with each of these
-may_of : (a : Order) → BeginsStatement a → may_begin a ≡ true
+pub may_of : (a : Order) → BeginsStatement a → may_begin a ≡ true
 may_of (order.Const w) b = refl
 may_of (order.Home f n) b = refl
 may_of (order.FrameHome n) b = refl

@@ -1,6 +1,5 @@
 -- A processor that is watched by an observer who is told at which places of the code statements begin.
-use Rattle.std.proofs.Common.{◌<◌, ◌+◌, arith, ◌≡◌, ℕ, Bool, true, false, List, [], ◌++◌, refl, sym, ap, ap₂, ◌∙◌, subst}
-use Rattle.std.proofs.lemmas.List.{append-nil}
+use Rattle.std.proofs.Common.{◌<◌, arith, ◌≡◌, ℕ, Bool, true, false, List, [], ◌++◌, refl, sym, ap, ap₂, ◌∙◌, subst}
 use Rattle.std.specs.Prelude.{map}
 use Rattle.cw_track.specs.Machine.{Machine}
 use Rattle.cw_track.specs.Watching.{noted}
@@ -23,11 +22,12 @@ pub record Watched : Type 0 where
   pub overlooks : Bool
   pub begun : List Begun
 
--- before an instruction is noted what begins
+-- nothing, where it is overlooked
 abbrev pub unless : Bool → List Begun → List Begun
 unless true begun = []
 unless false begun = begun
 
+-- before an instruction is noted what begins
 unfoldable pub watched_step : Watched → Watched
 watched_step t = record { places = t.places; area = t.area; processor = processor_step t.processor; overlooks = false; begun = t.begun ++ unless t.overlooks (passes t.places t.area t.processor) }
 

@@ -26,14 +26,14 @@ use Rattle.cw_follow.proofs.Watched.{Watched}
 use Rattle.cw_follow.proofs.Chains.{seen, number, done}
 use Rattle.cw_follow.proofs.Orders.{Landed, Tells, landed, further, puts, saves, adds, subtracts, negates, loads, stores, writes}
 use Rattle.cw_follow.proofs.States.{Given, Sound, went_on, never_on, not_stuck}
-use Rattle.cw_follow.proofs.Straight.{Both, Either, One, straight, straight_from}
+use Rattle.cw_follow.proofs.Straight.{Both, Either, One, straight_from}
 use Rattle.cw_follow.proofs.Operands.{words}
 use Rattle.cw_follow.proofs.Bits.{part, drops, combines, differs, ands, ors, xors, lesses, takes, takes_all, loads_part, stores_part}
 use Rattle.cw_follow.proofs.Shifts.{part_steps, without_steps}
 use Rattle.cw_follow.proofs.Addresses.{indexes_less, in_areas, BoundsCode, bounds_kept, bounds_from_zero}
 use Rattle.cw_follow.proofs.Inputs.{reads}
 use Rattle.cw_follow.proofs.Steps.{Follow, Alone, leads_to, onward, few_segments, order_is, step_is, sound_at, does, tells, by, calls, setting, cheap, has_code, line_fits, low_room, here, next, code, behind, begins_next, silent, FollowFrom, begins_here, begun_here, landed_here}
-use Rattle.cw_follow.proofs.Standing.{Has, HasAt}
+use Rattle.cw_follow.proofs.Standing.{HasAt}
 
 module _ (known : Given) where
   open known use {rows, p, image, all, coded, few, low}

@@ -72,8 +72,8 @@ pub fn code_follows_orders()
     standing();
 }
 
-/// The places of statements that the code of orders tells stand in their image: at a Start begins its statement, and nowhere else
-/// does any.
+/// The places of statements that the code of orders tells stand in their image: where the code of the order behind a Start begins, its
+/// statement does, and nowhere else does any.
 pub fn places_stand()
     ensures { (p : OrderProgram) (image : List ℕ) → IsImage p image → Codable p → PlacesStand p image (statement_places p) }
 {

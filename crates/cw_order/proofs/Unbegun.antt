@@ -2,7 +2,7 @@
 use Rattle.std.proofs.Common.{◌≡◌, ℕ, zero, suc, ◌+◌, Bool, true, false, List, [], ◌∷◌, drop, Option, Some, None, refl, ap, ◌∙◌, arith}
 use Rattle.std.specs.Prelude.{slice_get, nat_le, nat_lt, nat_eq, ◌&&◌, length}
 use Rattle.cw_unit.specs.declared.unit.Goal.{Goal}
-use Rattle.cw_unit.specs.Stop.{Running, Ended, Stopped, Stuck}
+use Rattle.cw_unit.specs.Stop.{Running}
 use Rattle.cw_unit.specs.Words.{Operand, Word, Held, Control, LabelControl, SwitchControl, ProcedureControl, Words, Outcome, Changed, Refused, Impossible}
 use Rattle.cw_unit.specs.Operation.{perform}
 use Rattle.cw_unit.specs.Step.{with_label_owner, goal_at}

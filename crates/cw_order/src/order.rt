@@ -244,7 +244,7 @@ pub enum Order {
     ReadByte,
     /// Takes a word from the stack, as a call takes an argument, and writes its low byte to the output.
     WriteByte,
-    /// The place where a statement of this line begins. Does nothing.
+    /// A statement of this line begins with the next order. Does nothing.
     Start(u16),
     /// Goes on with the body of the next segment; where there is none, the program ends.
     NextBody,

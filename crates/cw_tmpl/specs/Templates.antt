@@ -1,4 +1,5 @@
--- The code of blocks of orders. Each order has code, but for Mark, which only names a place, and Drop, behind which AX is free.
+-- The code of blocks of orders. Each order has code, but for Mark, which only names a place, Start, whose statement begins with the code of the
+-- next order, and Drop, behind which AX is free.
 --
 -- The top operand is in AX, or AX is free, as the orders have it; all others are on the stack of the processor. Addresses of the data area
 -- are in words, and DI has their number. A stop is called in the library, with the line behind the call; a routine that may stop, and a call,

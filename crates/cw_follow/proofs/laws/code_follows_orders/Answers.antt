@@ -65,7 +65,6 @@ returns c =
       extend = c.multiplying.ensures.extend;
       quotient = c.pieces.ensures.quotient;
       quotient_fits = c.pieces.ensures.quotient_fits;
-      nothing = c.pieces.ensures.nothing;
       move = c.moves.ensures.register;
       push = c.stacking.ensures.push;
       pop = c.stacking.ensures.pop;
