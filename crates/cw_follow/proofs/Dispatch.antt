@@ -107,6 +107,7 @@ begins_statement (order.Const w) may = tt
 begins_statement (order.Home f n) may = tt
 begins_statement (order.FrameHome n) may = tt
 begins_statement order.ReadByte may = tt
+begins_statement order.WriteByte may = tt
 begins_statement (order.Jump m) may = tt
 begins_statement (order.GoMain m) may = tt
 begins_statement (order.GoCommon d) may = tt

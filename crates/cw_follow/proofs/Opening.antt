@@ -29,7 +29,7 @@ use Rattle.cw_tmpl.specs.Mnemonics.{slot, argument, load, memory}
 use Rattle.cw_tmpl.specs.Templates.{element_tested, template_by}
 use Rattle.cw_follow.specs.Showing.{shown_as}
 use Rattle.cw_follow.proofs.Acting.{act}
-use Rattle.cw_follow.proofs.Chains.{Is, shows, number, near, push, call, load_at, short}
+use Rattle.cw_follow.proofs.Chains.{Is, shows, number, near, push, pop, call, load_at, short}
 use Rattle.cw_follow.proofs.ElementBlocks.{begun_code}
 use Rattle.cw_follow.proofs.ElementTests.{formed_list_is}
 use Rattle.cw_follow.proofs.Orders.{LandedAt, over_landed}
@@ -100,6 +100,11 @@ module _ (rows : Rows) (prog : OrderProgram) (image : Image) {first : Bool} {at 
       let top : 2 * l.top ≡ 2 * suc n % 65536 = omega arith in
       opens l.kept.wrote (push rows r n lt top h l.stacked.is)
 
+  pop_opens : l.top < 32768 → (r : ℕ) → HasAt first image at (i86.Pop r) → ShowsNothing
+  pop_opens low r h =
+      let top : 2 * l.top ≡ 2 * l.top % 65536 = omega arith in
+      opens l.kept.wrote (pop rows r l.top (2 * suc l.top % 65536) low top refl h l.stacked.is)
+
   call_opens : l.top < 32768 → (by : ℕ) → HasAt first image at (i86.Call by) → ShowsNothing
   call_opens low by h =
       let n = (l.top + 32767) % 32768 in
@@ -128,6 +133,7 @@ module _ (known : Given) where
     single_opens false s a (order.Home f n) e may = number_opens rows p image (landed_here known s a) 0 _ (code known s a (order.Home f n) e).0
     single_opens false s a (order.FrameHome n) e may = slot_opens rows p image (landed_here known s a) 0 (code known s a (order.FrameHome n) e).0
     single_opens false s a order.ReadByte e may = call_opens rows p image (landed_here known s a) (low_top s a) _ (code known s a order.ReadByte e).0
+    single_opens false s a order.WriteByte e may = pop_opens rows p image (landed_here known s a) (low_top s a) 0 (code known s a order.WriteByte e).0
     single_opens false s a (order.CallProc n line) e may = number_opens rows p image (landed_here known s a) 2 _ (code known s a (order.CallProc n line) e).0
     single_opens false s a (order.CallCommon d line) e may = number_opens rows p image (landed_here known s a) 2 _ (code known s a (order.CallCommon d line) e).0
     single_opens false s a (order.CallSpecial k line) e may = number_opens rows p image (landed_here known s a) 2 _ (code known s a (order.CallSpecial k line) e).0
@@ -145,6 +151,7 @@ module _ (known : Given) where
     single_opens true s a (order.Home f n) e may = absurd (wrong_way known s (order.Home f n) e refl)
     single_opens true s a (order.FrameHome n) e may = absurd (wrong_way known s (order.FrameHome n) e refl)
     single_opens true s a order.ReadByte e may = absurd (wrong_way known s order.ReadByte e refl)
+    single_opens true s a order.WriteByte e may = absurd (wrong_way known s order.WriteByte e refl)
     single_opens true s a (order.CallProc n line) e may = absurd (wrong_way known s (order.CallProc n line) e refl)
     single_opens true s a (order.CallCommon d line) e may = absurd (wrong_way known s (order.CallCommon d line) e refl)
     single_opens true s a (order.CallSpecial k line) e may = absurd (wrong_way known s (order.CallSpecial k line) e refl)

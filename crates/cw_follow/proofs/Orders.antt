@@ -34,7 +34,7 @@ use Rattle.cw_follow.proofs.Chains.{IsAt, Is, over_is, IsCompared, Leads, at_wor
 use Rattle.cw_follow.proofs.Routines.{HasLine, StackedAt, Over, stops, put_at, put_off, with_ax}
 use Rattle.cw_follow.proofs.Stacks.{level, record_of, code_place, StackIs, OperandsAre, Piled, top_is, SameFrom, same_put, stack_pushed, piled_same}
 use Rattle.cw_follow.proofs.Numbers.{sum_overflows_is, difference_overflows_is, negative_overflows_is, sum_is, difference_is, negative_is, opposite_is, fits_tested, unsigned_pos, comparison_is}
-use Rattle.cw_follow.proofs.Standing.{Has, HasWord, HasAll, Image, HasAt}
+use Rattle.cw_follow.proofs.Standing.{Has, HasWord, HasAll, HasFrom, Image, HasAt}
 use Rattle.cw_follow.proofs.Branches.{branch_size, goes_by, branch_code}
 use Rattle.cw_i86.specs.State.{sign_extended}
 
@@ -262,8 +262,8 @@ Check image at by line = Has image at (i86.JumpIf 1 5) × (Has image (at + 2) (i
 
 module _ (rows : Rows) (prog : OrderProgram) (image : Image) (g : ℕ) (acts : List OrderActivation) where
   -- the word on the stack into AX, and into BX
-  pub pop_ax : {p : Watched} {at ax cx dx bx bp si di : ℕ} {overflow : Bool} {cells stack : ℕ → ℕ} {input : List ℕ} {told : Told} (top : ℕ) → top < 32764 → Has image at (i86.Pop 0)
-      → Is image at (view ax cx dx bx (2 * top) bp si di overflow cells stack input told) p → Is image (at + 1) (view (stack top) cx dx bx (2 * suc top) bp si di overflow cells stack input told) (watched_step p)
+  pub pop_ax : {p : Watched} {first : Bool} {at ax cx dx bx bp si di : ℕ} {overflow : Bool} {cells stack : ℕ → ℕ} {input : List ℕ} {told : Told} (top : ℕ) → top < 32764 → HasAt first image at (i86.Pop 0)
+      → IsAt first image at (view ax cx dx bx (2 * top) bp si di overflow cells stack input told) p → Is image (at + 1) (view (stack top) cx dx bx (2 * suc top) bp si di overflow cells stack input told) (watched_step p)
   pop_ax top lt i s = pop rows 0 top (2 * suc top) (top_low top lt) (top_whole top lt) (top_next top lt) i s
 
   pub pop_bx : {p : Watched} {at ax cx dx bx bp si di : ℕ} {overflow : Bool} {cells stack : ℕ → ℕ} {input : List ℕ} {told : Told} (top : ℕ) → top < 32764 → Has image at (i86.Pop 3)
@@ -547,8 +547,8 @@ module _ (rows : Rows) (prog : OrderProgram) (image : Image) (g : ℕ) (acts : L
       (record { words = k.words; long = k.long; piled = k.piled; read = k.read; wrote = ap (λ o. o ++ byte_of x ∷ []) k.wrote; kind = k.kind }) (out rows 0x12 i s)
 
   -- the argument is on the stack
-  pub writes : {p : Watched} {at : ℕ} (to : ℕ) (operands : List Operand) (memory : List ℤ) (input output : List ℕ) → at + 3 ≡ to → HasAll image at (i86.Pop 0 ∷ i86.Out 0x12 ∷ [])
-      → Landed prog image at g false acts (record { operands = operands; memory = memory; input = input; output = output }) p
+  pub writes : {p : Watched} {first : Bool} {at : ℕ} (to : ℕ) (operands : List Operand) (memory : List ℤ) (input output : List ℕ) → at + 3 ≡ to → HasFrom first image at (i86.Pop 0 ∷ i86.Out 0x12 ∷ [])
+      → LandedAt first prog image at g false acts (record { operands = operands; memory = memory; input = input; output = output }) p
       → Tells prog image 2 to g false acts output p (perform prog.limits.area WriteByte (record { operands = operands; memory = memory; input = input; output = output }))
   writes to [] memory input output e i l = tt
   writes to (Held c ∷ rest) memory input output e i l = tt
@@ -559,14 +559,14 @@ module _ (rows : Rows) (prog : OrderProgram) (image : Image) (g : ℕ) (acts : L
       let t = top_is prog acts l.stack (suc l.top) rest h.1 in
       let lt : l.top < 32764 = omega arith in
       let e' : at + 1 + 2 ≡ to = omega arith in
-      let first : Is image (at + 1) (view (unsigned x) s.cx s.dx s.bx (2 * suc l.top) (record_of acts) s.si prog.limits.area s.overflow l.cells l.stack l.input l.told) (watched_step p) = with_ax h.0 (pop_ax l.top lt i.0 s.is) in
+      let popped : Is image (at + 1) (view (unsigned x) s.cx s.dx s.bx (2 * suc l.top) (record_of acts) s.si prog.limits.area s.overflow l.cells l.stack l.input l.told) (watched_step p) = with_ax h.0 (pop_ax l.top lt i.0 s.is) in
       record {
         spent = 2;
         some = lit< tt;
         within = lit≤ tt;
         reached = watched_step (watched_step p);
-        path = next (inl (shows rows s.is k.wrote)) refl (let c : 2 ≡ 1 + 1 = omega arith in c) (next (inl (shows rows first k.wrote)) refl (let c : 1 ≡ 1 + 0 = omega arith in c) (stay refl refl));
-        there = out_low x to (suc l.top) rest memory input output e' i.1.0 h.1 k first;
+        path = next (inl (shows rows s.is k.wrote)) refl (let c : 2 ≡ 1 + 1 = omega arith in c) (next (inl (shows rows popped k.wrote)) refl (let c : 1 ≡ 1 + 0 = omega arith in c) (stay refl refl));
+        there = out_low x to (suc l.top) rest memory input output e' i.1.0 h.1 k popped;
       }
 
   -- the argument is in the accumulator

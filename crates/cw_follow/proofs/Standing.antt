@@ -116,6 +116,7 @@ may_begin (order.Const w) = true
 may_begin (order.Home f n) = true
 may_begin (order.FrameHome n) = true
 may_begin order.ReadByte = true
+may_begin order.WriteByte = true
 may_begin (order.CallProc q line) = true
 may_begin (order.CallCommon d line) = true
 may_begin (order.CallSpecial k line) = true

@@ -177,6 +177,7 @@ single_some (order.Const (suc w)) b = lit< tt
 single_some (order.Home f n) b = lit< tt
 single_some (order.FrameHome n) b = lit< tt
 single_some order.ReadByte b = lit< tt
+single_some order.WriteByte b = lit< tt
 single_some (order.Jump m) b = lit< tt
 single_some (order.GoMain m) b = lit< tt
 single_some (order.GoCommon d) b = lit< tt
@@ -229,6 +230,7 @@ begins_addresses (order.FrameHome n) os b =
     or_addresses (element_at (Some (cell.Frame n)) l) l (fetched_from (Some (cell.Frame n)) l) (fetched_addresses (cell.Frame n) (slice_get l 1))
 begins_addresses (order.Const w) os b = tt
 begins_addresses order.ReadByte os b = tt
+begins_addresses order.WriteByte os b = tt
 begins_addresses (order.Jump m) os b = tt
 begins_addresses (order.GoMain m) os b = tt
 begins_addresses (order.GoCommon d) os b = tt

@@ -84,6 +84,7 @@ may_of (order.Const w) b = refl
 may_of (order.Home f n) b = refl
 may_of (order.FrameHome n) b = refl
 may_of order.ReadByte b = refl
+may_of order.WriteByte b = refl
 may_of (order.Jump m) b = refl
 may_of (order.GoMain m) b = refl
 may_of (order.GoCommon d) b = refl

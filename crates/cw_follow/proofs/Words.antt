@@ -83,17 +83,17 @@ module _ (known : Given) where
         (reads (setting known s) w.memory w.output (next known s a) (by known s read_entry c) w.operands w.input (behind known s a o e) (calls known s read_entry c (lit< tt)) (low_room known s)
         (code known s a o e).0 s.fits.input (landed_here known s a))
 
-    pub write_follows : slice_get s.orders.list place ≡ Some order.WriteByte → Follow known (at g place false acts w Running) q
+    pub write_follows : slice_get s.orders.list place ≡ Some order.WriteByte → FollowFrom known (begun_here known s) (at g place false acts w Running) q
     write_follows e =
         let o = order.WriteByte in
         let n = next known s a in
         tells known s false (unrefused (perform p.limits.area WriteByte w)) 2 (begins_next known s a o e) (step_is known s (Some o) e) (cheap known s o 2 (lit≤ tt) e)
-        (never_refused (perform p.limits.area WriteByte w) (writes rows p image g acts n w.operands w.memory w.input w.output (behind known s a o e) (code known s a o e) a.landed))
+        (never_refused _ (perform p.limits.area WriteByte w) (writes rows p image g acts n w.operands w.memory w.input w.output (behind known s a o e) (code known s a o e) (landed_here known s a)))
       where
-        never_refused : (x : Outcome) → Tells p image 2 (next known s a) g false acts w.output q x → Tells p image 2 (next known s a) g false acts w.output q (unrefused x)
-        never_refused (Changed v) t = t
-        never_refused (Refused kind) t = absurd t
-        never_refused Impossible t = t
+        never_refused : (r : Watched) (x : Outcome) → Tells p image 2 (next known s a) g false acts w.output r x → Tells p image 2 (next known s a) g false acts w.output r (unrefused x)
+        never_refused r (Changed v) t = t
+        never_refused r (Refused kind) t = absurd t
+        never_refused r Impossible t = t
 
   -- ---- the accumulator loaded
 

@@ -274,16 +274,20 @@ module _ (s : Scope) (c : ListProperty s.layout) (who : Option ℕ) (answer : �
   layer : (n : ℕ) → Below n → (x : Stmt-F Stmt) → depth_layer x ≤ n → Holds c (statement_layer s who answer x)
   layer n below (statement.Put line r e) le =
       let h = at_line line s in
-      begun line (both c (value_holds h c e (out-Ref r).f) (both c (saves c) (both c (reference_holds h c r) (lists c (store_orders (out-Ref r).field) (store_plain (out-Ref r).field))))) (record { at = λ place next. leads_before _ _ ((value_leads h e (out-Ref r).f).at place next) })
+      begun line (both c (value_holds h c e (out-Ref r).f) (both c (saves c) (both c (reference_holds h c r) (lists c (store_orders (out-Ref r).field) (store_plain (out-Ref r).field)))))
+      (record { at = λ place next. leads_before _ _ ((value_leads h e (out-Ref r).f).at place next) })
   layer n below (statement.PutBits line t b r e) le =
       let h = at_line line s in
-      begun line (both c (value_holds h c e 0) (both c (saves c) (both c (reference_holds h c r) (lists c (order.StorePart t b ∷ []) (tt, tt))))) (record { at = λ place next. leads_before _ _ ((value_leads h e 0).at place next) })
+      begun line (both c (value_holds h c e 0) (both c (saves c) (both c (reference_holds h c r) (lists c (order.StorePart t b ∷ []) (tt, tt)))))
+      (record { at = λ place next. leads_before _ _ ((value_leads h e 0).at place next) })
   layer n below (statement.Go line d) le = begun line (jump_piece_holds (at_line line s) c who d) (jump_leads (at_line line s) who d)
   layer n below (statement.Call line t args) le =
       let h = at_line line s in
-      begun line (both c (arguments_hold h c args) (lists c (call_order h t ∷ after_statement_call t) (call_plain h t, after_call_plain t))) (call_statement_leads h t args (after_statement_call t))
+      begun line (both c (arguments_hold h c args) (lists c (call_order h t ∷ after_statement_call t) (call_plain h t, after_call_plain t)))
+      (call_statement_leads h t args (after_statement_call t))
   layer n below (statement.Answer line e) le =
-      begun line (both c (value_holds (at_line line s) c e answer) (lists c (order.Return (argument_words s.parameters) true ∷ []) (tt, tt))) (record { at = λ place next. leads_before _ _ ((value_leads (at_line line s) e answer).at place next) })
+      begun line (both c (value_holds (at_line line s) c e answer) (lists c (order.Return (argument_words s.parameters) true ∷ []) (tt, tt)))
+      (record { at = λ place next. leads_before _ _ ((value_leads (at_line line s) e answer).at place next) })
   layer n below (statement.If line d a b) le =
       begun line
       (chosen c (condition_piece (at_line line s) d) (statement_piece s who answer a) (statement_piece s who answer b) (λ m. condition_holds (at_line line s) c d false m) (below a (let z : depth a < n = omega (arith, le) in z)) (below b (let z : depth b < n = omega (arith, le) in z)))
