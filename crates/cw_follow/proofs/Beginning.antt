@@ -16,7 +16,7 @@ use Rattle.cw_order.specs.Activations.{ActivationsStand, StateStands}
 use Rattle.cw_tmpl.specs.declared.blocks.Block.TheVariants as block
 use Rattle.cw_tmpl.specs.Blocks.{block_at, orders_left, left_at}
 use Rattle.cw_tmpl.specs.Library.{enter_entry, enter_place}
-use Rattle.cw_tmpl.specs.Templates.{block_size, block_pieces, is_short}
+use Rattle.cw_tmpl.specs.Templates.{is_short}
 use Rattle.cw_tmpl.specs.ReferenceCode.{names_of, reach_of}
 use Rattle.cw_follow.specs.Placing.{base_of}
 use Rattle.cw_tmpl.proofs.Sizes.{own_place, left_next, pieces_by, size_by}

@@ -32,7 +32,7 @@ use Rattle.cw_tmpl.specs.declared.blocks.Block.TheVariants as block
 use Rattle.cw_tmpl.specs.Blocks.{element_orders, operand_orders, order_of, block_at, orders_left, left_at}
 use Rattle.cw_tmpl.specs.Library.{overflow_entry}
 use Rattle.cw_tmpl.specs.Mnemonics.{at_si, load, store, multiply}
-use Rattle.cw_tmpl.specs.Templates.{checked, element_tested, element_address, block_pieces, element_size, block_size, is_short}
+use Rattle.cw_tmpl.specs.Templates.{checked, element_tested, element_address, element_size, block_size, is_short}
 use Rattle.cw_tmpl.specs.ReferenceCode.{names_of, reach_of}
 use Rattle.cw_tmpl.proofs.Shapes.{TestNear, IsNear}
 use Rattle.cw_tmpl.proofs.Sizes.{element_long_as, size_to, own_place, pieces_by}

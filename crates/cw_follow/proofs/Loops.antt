@@ -13,7 +13,7 @@ use Rattle.cw_order.specs.OrderActions.{home_word}
 use Rattle.cw_order.specs.OrderChanges.{Way, Onward, ToMark, Barred, Nowhere, set_variable, add_step, put_variable, way_of_one, to_mark_in, mark_of_number, way_of_two, way_past_limit, next_step}
 use Rattle.cw_order.specs.OrderState.{OrderActivation, at, stack_words, frame_word}
 use Rattle.cw_tmpl.specs.Library.{set_variable_entry, add_step_entry, put_variable_entry, exhausted_entry, next_step_entry}
-use Rattle.cw_tmpl.specs.Templates.{order_size, distance, mark_words, loop_way, template_by, is_close, short_distance, block_size}
+use Rattle.cw_tmpl.specs.Templates.{distance, mark_words, loop_way, template_by, is_close, short_distance, block_size}
 use Rattle.cw_tmpl.specs.ReferenceCode.{mark_starts, names_of}
 use Rattle.cw_follow.specs.Placing.{base_of}
 use Rattle.cw_tmpl.proofs.Sizes.{own_place, jump_arrives, listed as size_listed}

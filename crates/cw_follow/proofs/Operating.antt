@@ -10,7 +10,7 @@ use Rattle.cw_i86.specs.declared.instr.Instr.{Instr}
 use Rattle.cw_i86.specs.declared.instr.Instr.TheVariants as i86
 use Rattle.cw_i86.specs.declared.instr.Rm.{Rm}
 use Rattle.cw_run86.specs.Processor.{Told}
-use Rattle.cw_run86.specs.Views.{View, condition_of, product_low, product_overflows, word_sum, word_difference, sum_overflows, difference_overflows, with_number}
+use Rattle.cw_run86.specs.Views.{View, product_low, product_overflows, word_sum, word_difference, sum_overflows, difference_overflows, with_number}
 use Rattle.cw_rows86.specs.Locations.{InRegister, InData, Denotes}
 use Rattle.cw_rows86.specs.Operations.{WordOperation, Add, Or, And, Subtract, Xor, Compare, number_of, operated_on, flags_after}
 use Rattle.cw_rows86.specs.Acts.{Operate, OperateNumber}
@@ -22,7 +22,6 @@ use Rattle.cw_unit.specs.Operation.{holds}
 use Rattle.cw_order.specs.declared.order.Comparator.{Comparator}
 use Rattle.cw_order.specs.OrderChanges.{to_mark_if, comparison}
 use Rattle.cw_tmpl.specs.Library.{stop_place}
-use Rattle.cw_tmpl.specs.Templates.{opposite_of}
 use Rattle.cw_follow.proofs.Watched.{Watched, watched_step}
 use Rattle.cw_follow.proofs.Chains.{Is, IsCompared, view, last}
 use Rattle.cw_follow.proofs.Acting.{act}

@@ -23,7 +23,7 @@ use Rattle.cw_tmpl.specs.Names.{landing_start, switch_start}
 use Rattle.cw_tmpl.specs.Library.{entry_place, library_bytes}
 use Rattle.cw_routines.specs.Ways as ways
 use Rattle.cw_routines.specs.Results.{Stands as LibraryStands}
-use Rattle.cw_tmpl.specs.Templates.{block_pieces, entry_pieces, landing_pieces, switch_pieces}
+use Rattle.cw_tmpl.specs.Templates.{entry_pieces, landing_pieces, switch_pieces}
 use Rattle.cw_tmpl.proofs.Growing.{blanks-append}
 use Rattle.cw_tmpl.specs.Blocks.{block_at, left_at}
 use Rattle.cw_tmpl.specs.ReferenceCode.{names_of}

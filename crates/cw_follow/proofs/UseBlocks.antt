@@ -10,7 +10,7 @@ use Rattle.cw_i86.specs.declared.instr.Instr.TheVariants as i86
 use Rattle.cw_i86.specs.declared.instr.Imm.TheVariants as imm
 use Rattle.cw_i86.specs.declared.instr.Rm.TheVariants as rms
 use Rattle.cw_i86.specs.declared.instr.Place.TheVariants as places
-use Rattle.cw_run86.specs.Views.{condition_of, with_number, with_memory, product_low, product_overflows}
+use Rattle.cw_run86.specs.Views.{with_number, with_memory, product_low, product_overflows}
 use Rattle.cw_rows86.specs.Operations.{WordOperation, Add, Or, And, Subtract, Xor, Compare, number_of}
 use Rattle.cw_word.specs.FixedPoint.{FitsWord, fits_word, scaled_product}
 use Rattle.cw_word.specs.Word.{signed, unsigned}
@@ -44,7 +44,7 @@ use Rattle.cw_tmpl.specs.Library.{overflow_entry, stop_place}
 use Rattle.cw_tmpl.specs.Mnemonics.{ax, bx, cx, slot, base_slot, field, at_si, operate, load, move}
 use Rattle.cw_tmpl.specs.Pieces.{Filling, blanks}
 use Rattle.cw_tmpl.specs.Names.{no_names, mark_place}
-use Rattle.cw_tmpl.specs.Templates.{distance, opposite_of, with_operand, checked, branch, pieces_size, element_size, element_address, operated, block_size, is_short, is_close, branch_by}
+use Rattle.cw_tmpl.specs.Templates.{with_operand, checked, pieces_size, element_size, element_address, operated, block_size, is_short, is_close, branch_by}
 use Rattle.cw_tmpl.specs.ReferenceCode.{names_of, mark_starts, reach_of}
 use Rattle.cw_follow.specs.Placing.{base_of}
 use Rattle.cw_tmpl.proofs.Sizes.{own_place, element_long_as, compared_long, size_by}
@@ -61,7 +61,7 @@ use Rattle.cw_follow.proofs.Scales.{turned_overflows, turned_is}
 use Rattle.cw_follow.proofs.Indexed.{element_steps, few_element}
 use Rattle.cw_follow.proofs.States.{Given, Sound}
 use Rattle.cw_follow.proofs.InBlocks.{chain}
-use Rattle.cw_follow.proofs.Steps.{Follow, setting, weight_is, line_fits, block_code, block_ends, start_place, order_here, last_does, by, calls, start, last_chooses, arrives_at, two_roomy, way_after, reaches_mark}
+use Rattle.cw_follow.proofs.Steps.{Follow, setting, weight_is, line_fits, block_code, block_ends, start_place, order_here, last_does, by, calls, start, last_chooses, two_roomy, way_after, reaches_mark}
 use Rattle.cw_follow.proofs.BlockOrders.{WithoutAddress, room_in, operand_puts, block_follows, saved, step_in, number_small}
 use Rattle.cw_follow.proofs.Branches.{branch_size, goes_by, branch_code, jump_word, branch_arrives, branch_stands}
 

@@ -13,7 +13,7 @@ use Rattle.cw_order.specs.OrderState.{OrderActivation, at}
 use Rattle.cw_tmpl.specs.declared.pieces.Coded.{Coded}
 use Rattle.cw_tmpl.specs.Pieces.{Filling, blanks}
 use Rattle.cw_tmpl.specs.Library.{overflow_entry, zero_divisor_entry, address_entry, product_entry, quotient_down_entry, quotient_up_entry}
-use Rattle.cw_tmpl.specs.Templates.{template, order_size, times_if, product_start, rescale_if, product_down, is_short, template_by}
+use Rattle.cw_tmpl.specs.Templates.{times_if, product_start, rescale_if, product_down, is_short, template_by}
 use Rattle.cw_tmpl.specs.ReferenceCode.{names_of, reach_of}
 use Rattle.cw_tmpl.proofs.Sizes.{own_place, size_by}
 use Rattle.cw_follow.proofs.Watched.{Watched}
